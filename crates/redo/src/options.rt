@@ -1,0 +1,229 @@
+//! The command line.
+
+ghost use Rattle.std.specs.Prelude.{◌≤◌};
+
+use clap::{Arg, ArgAction, ArgMatches, Command, value_parser};
+use redo_path::{Path, PathFault, resolve};
+use redo_run::Options;
+use redo_step::Limits;
+use std::alloc::{AllocError, AllocFailed, Global};
+use thiserror::Error;
+
+/// The program's limits: 65,536 targets, and 16 MiB a file.
+const TARGETS: u32 = 65_536;
+const FILE_BYTES: u32 = 16_777_216;
+
+/// What the command line asks for, over a bundle on standard input.
+#[derive(Drop)]
+pub(crate) enum Call {
+    Build(Options),
+    Whichdo(Path),
+}
+
+/// Why the words of the command line, each good by itself, can't be served together.
+#[derive(Clone, Copy, Debug, PartialEq, Eq, Error)]
+pub(crate) enum Refusal {
+    #[error("-k is required")]
+    NoKeepGoing,
+    #[error("--bundle and -C exclude each other")]
+    BundleAndDirectory,
+    #[error("--whichdo takes no targets")]
+    TargetsBesideWhichdo,
+    #[error("bad target")]
+    BadTarget,
+    #[error("a directory is not served yet")]
+    Directory,
+    #[error("out of memory")]
+    Memory,
+}
+
+impl From<AllocError> for Refusal {
+    fn from(_error: AllocError) -> Refusal {
+        Refusal::Memory
+    }
+}
+
+impl<T: Drop> From<AllocFailed<T>> for Refusal {
+    fn from(_error: AllocFailed<T>) -> Refusal {
+        Refusal::Memory
+    }
+}
+
+impl From<PathFault> for Refusal {
+    fn from(fault: PathFault) -> Refusal {
+        match fault {
+            PathFault::Memory => Refusal::Memory,
+            _ => Refusal::BadTarget,
+        }
+    }
+}
+
+/// The command line's forms.
+pub(crate) fn command<'a>(alloc: Global) -> Result<Command<'a>, AllocError> {
+    let jobs = Arg::new(alloc, "jobs")
+        .short('j')
+        .long("jobs")
+        .value_name("N")
+        .value_parser(value_parser!(usize).range(1..=64))
+        .help("Run at most N scripts side by side, 1 to 64 [default: 1]");
+    let keep_going = Arg::new(alloc, "keep-going")
+        .short('k')
+        .long("keep-going")
+        .action(ArgAction::SetTrue)
+        .help("Keep going though targets fail; required when targets are built");
+    let bundle = Arg::new(alloc, "bundle")
+        .long("bundle")
+        .action(ArgAction::SetTrue)
+        .help("Read the tree as a bundle from standard input");
+    let directory = Arg::new(alloc, "directory")
+        .short('C')
+        .value_name("DIR")
+        .help("Read the tree from a directory [default: .]");
+    let whichdo = Arg::new(alloc, "whichdo")
+        .long("whichdo")
+        .value_name("TARGET")
+        .help("Print where the rule of TARGET is looked for, and build nothing");
+    let targets = Arg::new(alloc, "targets")
+        .value_name("TARGETS")
+        .action(ArgAction::Append)
+        .help("What to build [default: all]");
+    Command::new(alloc, "redo")
+        .about("Builds targets by their .do scripts, in parallel")
+        .arg(jobs)?
+        .arg(keep_going)?
+        .arg(bundle)?
+        .arg(directory)?
+        .arg(whichdo)?
+        .arg(targets)
+}
+
+/// What the words ask for together. Of several refusals it is the first in the order of the enum.
+pub(crate) fn call_of(alloc: Global, matches: &ArgMatches<'_>) -> Result<Call, Refusal> {
+    let whichdo = matches.get_str("whichdo");
+    let bundle = matches.get_flag("bundle");
+    if whichdo.is_none() && !matches.get_flag("keep-going") {
+        return Err(Refusal::NoKeepGoing);
+    }
+    if bundle && matches.contains_id("directory") {
+        return Err(Refusal::BundleAndDirectory);
+    }
+    if whichdo.is_some() && matches.contains_id("targets") {
+        return Err(Refusal::TargetsBesideWhichdo);
+    }
+    let call = match whichdo {
+        Some(word) => Call::Whichdo(target(alloc, word)?),
+        None => Call::Build(options(alloc, matches)?),
+    };
+    if !bundle {
+        return Err(Refusal::Directory);
+    }
+    Ok(call)
+}
+
+/// The path that a word names, from the top.
+fn target(alloc: Global, word: &str) -> Result<Path, PathFault> {
+    resolve(alloc, &Path::root(), word.as_bytes())
+}
+
+fn options(alloc: Global, matches: &ArgMatches<'_>) -> Result<Options, Refusal> {
+    let mut targets = Vec::new(alloc);
+    if let Some(words) = matches.get_strs("targets") {
+        for word in words {
+            targets.push(target(alloc, word)?)?;
+        }
+    }
+    let workers = match matches.get_one::<usize>("jobs") {
+        Some(jobs) => jobs.clamp(1, 64),
+        None => 1,
+    };
+    match Limits::new(TARGETS, FILE_BYTES) {
+        Some(limits) => Ok(Options {
+            targets,
+            workers,
+            limits,
+        }),
+        None => unreachable!(),
+    }
+}
+
+#[cfg(test)]
+mod tests {
+    use super::{Call, Refusal, call_of, command};
+    use std::alloc::Global;
+    use std::test::Fail;
+
+    /// What the words come to: a call, a refusal of the program's own, or (`None`) one of the parse.
+    fn read(alloc: Global, words: &[&str]) -> Result<Option<Result<Call, Refusal>>, Fail> {
+        match command(alloc)?.try_get_matches_from(words) {
+            Ok(matches) => Ok(Some(call_of(alloc, &matches))),
+            Err(_) => Ok(None),
+        }
+    }
+
+    #[test]
+    fn refuses_words_in_the_order_of_the_manual(rt: HostRuntime) -> Result<(), Fail> {
+        let alloc = rt.alloc();
+        let rows: [(&[&str], Refusal); 10] = [
+            (&["redo"], Refusal::NoKeepGoing),
+            (&["redo", "--bundle", "-C", "d", "/x"], Refusal::NoKeepGoing),
+            (&["redo", "-k", "--bundle", "-C", "d", "/x"], Refusal::BundleAndDirectory),
+            (&["redo", "--whichdo", "/x", "--bundle", "y"], Refusal::TargetsBesideWhichdo),
+            (&["redo", "-k", "--bundle", "/x"], Refusal::BadTarget),
+            (&["redo", "-k", "--bundle", "a", "../x"], Refusal::BadTarget),
+            (&["redo", "-k", "--bundle", ""], Refusal::BadTarget),
+            (&["redo", "--whichdo", "../x", "--bundle"], Refusal::BadTarget),
+            (&["redo", "-k", "/x"], Refusal::BadTarget),
+            (&["redo", "-k", "-C", "d", "x"], Refusal::Directory),
+        ];
+        for (words, refusal) in rows {
+            let Some(Err(found)) = read(alloc, words)? else {
+                return Err("no refusal".into());
+            };
+            assert_eq!(rt; found, refusal);
+        }
+        Ok(())
+    }
+
+    #[test]
+    fn refuses_what_it_does_not_know(rt: HostRuntime) -> Result<(), Fail> {
+        let alloc = rt.alloc();
+        let rows: [&[&str]; 5] = [
+            &["redo", "-j", "0", "-k", "--bundle"],
+            &["redo", "-j", "65", "-k", "--bundle"],
+            &["redo", "-j", "many", "-k", "--bundle"],
+            &["redo", "-x"],
+            &["redo", "--whichdo"],
+        ];
+        for words in rows {
+            assert!(rt; read(alloc, words)?.is_none());
+        }
+        Ok(())
+    }
+
+    #[test]
+    fn reads_calls(rt: HostRuntime) -> Result<(), Fail> {
+        let alloc = rt.alloc();
+        let Some(Ok(Call::Build(options))) =
+            read(alloc, &["redo", "-j", "64", "-k", "--bundle", "a", "./b"])?
+        else {
+            return Err("no build".into());
+        };
+        assert_eq!(rt; options.workers, 64);
+        assert_eq!(rt; options.targets.len(), 2);
+        assert_eq!(rt; options.targets[1].text(), b"b".as_slice());
+        assert_eq!(rt; options.limits.targets(), 65_536);
+        assert_eq!(rt; options.limits.file_bytes(), 16_777_216);
+        let Some(Ok(Call::Build(options))) = read(alloc, &["redo", "-k", "--bundle"])? else {
+            return Err("no build".into());
+        };
+        assert_eq!(rt; options.workers, 1);
+        assert_eq!(rt; options.targets.len(), 0);
+        let Some(Ok(Call::Whichdo(target))) =
+            read(alloc, &["redo", "--whichdo", "a//x", "--bundle"])?
+        else {
+            return Err("no search".into());
+        };
+        assert_eq!(rt; target.text(), b"a/x".as_slice());
+        Ok(())
+    }
+}

@@ -1,0 +1,5 @@
+pub mod Canonical
+pub mod Cuts
+mod Examples
+pub mod Parts
+pub mod Steps

@@ -1,0 +1,103 @@
+//! What a word names, read from a directory: part by part, as a shell reads it.
+
+ghost use Rattle.std.specs.Prelude.{◌≡◌, Err, IfErr, IfOk, IsOk, MatchOption, position};
+ghost use Rattle.std.specs.List.{AllByRecursion};
+ghost use Rattle.redo_path.specs.declared.PathFault.TheVariants.{Memory};
+ghost use Rattle.redo_path.specs.Names.{IsName, IsPart, child_of, is_control, names};
+ghost use Rattle.redo_path.specs.Resolve.{Answers, Leads, resolved, step, up_from, word_fault};
+
+use crate::{Path, PathFault, name_start, share};
+use std::alloc::Global;
+
+/// The most bytes that a name has.
+const LONGEST_NAME: usize = 255;
+
+/// The most bytes that a path has.
+const LONGEST_PATH: usize = 1024;
+
+/// Goes up to the directory that holds the path.
+fn leave(text: &mut Vec<u8>) -> Result<(), PathFault>
+    requires { AllByRecursion IsName (names text.old.items) }
+    ensures { Leads result (names text.new.items) (up_from (names text.old.items)) }
+{
+    if text.is_empty() {
+        return Err(PathFault::Above);
+    }
+    let end = name_start(text).saturating_sub(1);
+    text.truncate(end);
+    Ok(())
+}
+
+/// Goes down to a name in the directory.
+fn enter(text: &mut Vec<u8>, name: &[u8]) -> Result<(), PathFault>
+    ensures entered { IfOk result (λ _. text.new.items ≡ child_of text.old.items name.now) }
+    ensures memory { IfErr result (λ fault. fault ≡ Memory) }
+{
+    if !text.is_empty() {
+        text.push(b'/')?;
+    }
+    text.extend_from_slice(name)?;
+    Ok(())
+}
+
+/// Follows one part of a word from the path with this text.
+fn follow(text: &mut Vec<u8>, part: &[u8]) -> Result<(), PathFault>
+    requires names { AllByRecursion IsName (names text.old.items) }
+    requires part { IsPart part.now }
+    ensures step { Leads result (names text.new.items) (step (names text.old.items) part.now) }
+    ensures names { IfOk result (λ _. AllByRecursion IsName (names text.new.items)) }
+{
+    if part.is_empty() || part == b".".as_slice() {
+        return Ok(());
+    }
+    if part == b"..".as_slice() {
+        return leave(text);
+    }
+    if part.len() > LONGEST_NAME {
+        return Err(PathFault::LongName);
+    }
+    enter(text, part)
+}
+
+/// Refuses what no path is, wherever it is read from.
+fn check_word(word: &[u8]) -> Result<(), PathFault>
+    ensures { MatchOption (word_fault word.now) (IsOk result) (λ fault. result ≡ Err fault) }
+{
+    match word.first() {
+        None => return Err(PathFault::Empty),
+        Some(b'/') => return Err(PathFault::Absolute),
+        Some(_) => {}
+    }
+    match control_place(word) {
+        Some(place) => Err(PathFault::BadByte(place)),
+        None => Ok(()),
+    }
+}
+
+/// Where the first control byte stands.
+fn control_place(bytes: &[u8]) -> Option<usize>
+    ensures { result ≡ position is_control bytes.now }
+{
+    bytes.iter().position(|byte| *byte < 32 || *byte == 127)
+}
+
+/// The path that a word names, read from a directory. Empty names and `.` stay where they are,
+/// and `..` goes up, whatever stands on a disk.
+///
+/// A word without bytes, one that begins with a slash and one with a control byte are refused in
+/// this order, wherever the fault stands. Then the first name decides that leads above the top
+/// directory or has more than 255 bytes, and last the length of the whole path, which has at most
+/// 1,024 bytes. Bytes from 128 on are free.
+pub fn resolve(alloc: Global, base: &Path, word: &[u8]) -> Result<Path, PathFault>
+    ensures { Answers result (resolved base.now word.now) }
+{
+    check_word(word)?;
+    let mut text = Vec::from_slice(alloc, base.text())?;
+    for part in word.split(|byte| *byte == b'/') {
+        follow(&mut text, part)?;
+    }
+    if text.len() > LONGEST_PATH {
+        return Err(PathFault::LongPath);
+    }
+    Ok(share(text)?)
+}

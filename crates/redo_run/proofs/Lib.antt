@@ -1,0 +1,2 @@
+pub mod Progressed
+pub mod Told

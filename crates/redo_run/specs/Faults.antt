@@ -1,0 +1,17 @@
+-- Faults of the parts of a run, as those of the run.
+use Rattle.redo_tree.specs.declared.faults.BundleFault.{BundleFault}
+use Rattle.redo_tree.specs.declared.faults.BundleFault.TheVariants as bundle
+use Rattle.redo_run.specs.declared.build.BuildFault.{BuildFault}
+use Rattle.redo_run.specs.declared.build.BuildFault.TheVariants as build
+use Rattle.redo_run.specs.declared.bundle.RunIoFault.{RunIoFault}
+use Rattle.redo_run.specs.declared.bundle.RunIoFault.TheVariants as run
+
+-- want of memory is that of the run; any other fault is the bundle's
+abbrev pub of_bundle : BundleFault → RunIoFault
+of_bundle bundle.Memory = run.Memory
+of_bundle fault = run.Bundle fault
+
+abbrev pub of_build : BuildFault → RunIoFault
+of_build build.TooMany = run.TooMany
+of_build build.Asks = run.Asks
+of_build build.Memory = run.Memory

@@ -1,0 +1,4 @@
+pub mod Build
+pub mod Faults
+pub mod Report
+pub mod Runs

@@ -1,0 +1,20 @@
+pub mod Words
+pub mod ReadOn
+pub mod Rows
+mod Bits
+mod OneByte
+mod OnlyTokens
+mod FoundTokens
+mod Names
+mod OneToken
+mod OnlyScripts
+mod FoundScripts
+mod WholeScripts
+mod Spelled
+mod Statements
+mod Numbers
+mod Interpreters
+mod ReadTokens
+mod ReadTexts
+mod StopsTokens
+mod OpenQuotes

@@ -1,0 +1,9 @@
+use Rattle.redo_script.proofs.ReadTexts.{given_found, given_only}
+use Rattle.redo_script.proofs.reader.parse.Goals as goal
+
+pub returns : goal.returns
+returns c = record {
+  found = given_found _ c.args.text.now c.read.result c.read.ensures;
+  only = given_only _ c.args.text.now c.read.result c.read.ensures;
+  exact = c.read.ensures;
+}

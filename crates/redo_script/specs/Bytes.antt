@@ -1,0 +1,60 @@
+-- The bytes of a script by name, and their classes.
+use Rattle.std.specs.Prelude.{ℕ, Bool, false, ◌&&◌, ◌||◌, ◌==◌, nat_le, List, [], ◌∷◌, codes}
+
+-- the bytes that mean something, each by its name
+abbrev pub tab : ℕ
+tab = 9
+
+abbrev pub newline : ℕ
+newline = 10
+
+abbrev pub space : ℕ
+space = 32
+
+abbrev pub bang : ℕ
+bang = 33
+
+abbrev pub double_quote : ℕ
+double_quote = 34
+
+abbrev pub hash : ℕ
+hash = 35
+
+abbrev pub dollar : ℕ
+dollar = 36
+
+abbrev pub single_quote : ℕ
+single_quote = 39
+
+abbrev pub semicolon : ℕ
+semicolon = 59
+
+abbrev pub greater : ℕ
+greater = 62
+
+abbrev pub backslash : ℕ
+backslash = 92
+
+abbrev pub backquote : ℕ
+backquote = 96
+
+-- 0 to 9
+abbrev pub is_digit : ℕ → Bool
+is_digit b = nat_le 48 b && nat_le b 57
+
+-- a letter of ASCII
+abbrev pub is_letter : ℕ → Bool
+is_letter b = (nat_le 97 b && nat_le b 122) || (nat_le 65 b && nat_le b 90)
+
+-- one of these bytes
+abbrev pub is_among : List ℕ → ℕ → Bool
+is_among [] b = false
+is_among (c ∷ cs) b = (b == c) || is_among cs b
+
+-- a byte that stands for itself outside quotes
+unfoldable pub is_plain : ℕ → Bool
+is_plain b = is_letter b || is_digit b || is_among (codes "_-./+,:=@%!") b
+
+-- a byte that only separates words
+abbrev pub is_blank : ℕ → Bool
+is_blank b = (b == space) || (b == tab)

@@ -1,0 +1,29 @@
+-- What contracts see of the lexer.
+use Rattle.std.specs.Prelude.{◌++◌, map}
+use Rattle.redo_script.specs.declared.token.Token.{Token as TokenTree}
+use Rattle.redo_script.specs.declared.token.Token.TheVariants as trees
+use Rattle.redo_script.specs.declared.lexer.Lexer.{Lexer}
+use Rattle.redo_script.specs.Syntax.{byte}
+use Rattle.redo_script.specs.View.{symbols_of, word_of}
+use Rattle.redo_script.specs.Tokens.{Token, word, semicolon, newline, redirect}
+use Rattle.redo_script.specs.Reading.{Reader}
+
+-- a token, with its word by its symbols
+abbrev pub token_of : TokenTree → Token
+token_of (trees.Word line is_plain w) = word line is_plain (word_of w)
+token_of (trees.Semicolon line) = semicolon line
+token_of (trees.Newline line) = newline line
+token_of (trees.Redirect line appends) = redirect line appends
+
+-- where the lexer stands
+abbrev pub reader_of : Lexer → Reader
+reader_of l = record {
+  mode = l.mode;
+  line = l.line;
+  opened = l.opened;
+  word_line = l.word_line;
+  is_plain = l.is_plain;
+  is_number = l.is_number;
+  word = symbols_of l.parts.items ++ map byte l.literal.items;
+  tokens = map token_of l.tokens.items;
+}

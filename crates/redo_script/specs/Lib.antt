@@ -1,0 +1,12 @@
+pub mod Syntax
+pub mod Bytes
+pub mod View
+pub mod Faults
+pub mod Tokens
+pub mod Reading
+pub mod Grammar
+pub mod Parsing
+pub mod Texts
+pub mod Lexer
+pub mod Parser
+pub mod Places

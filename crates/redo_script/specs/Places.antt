@@ -1,0 +1,44 @@
+-- Where the tokens of a text stop.
+use Rattle.std.specs.Prelude.{◌≡◌, ℕ, List, [], ◌∷◌, ◌++◌, ◌⊎◌}
+use Rattle.redo_script.specs.declared.fault.ScriptFault.{ScriptFault}
+use Rattle.redo_script.specs.declared.fault.Reason.TheVariants as reasons
+use Rattle.redo_script.specs.Bytes as bytes
+use Rattle.redo_script.specs.Tokens.{Token, AreTokens, line_after}
+
+-- the line behind these bytes, of which the first is in this line
+abbrev pub line_from : ℕ → List ℕ → ℕ
+line_from line [] = line
+line_from line (b ∷ bs) = line_from (line_after line b) bs
+
+-- a text that begins with these bytes has tokens
+pub record CanGoOn (bs : List ℕ) : Type 0 where
+  pub more : List ℕ
+  pub tokens : List Token
+  pub are_tokens : AreTokens (bs ++ more) tokens
+
+-- the fault is Unsupported, at the first byte that can't stand where it stands: without it the text can still go on
+pub record StopsAtByte (text : List ℕ) (fault : ScriptFault) : Type 0 where
+  pub before : List ℕ
+  pub byte : ℕ
+  pub after : List ℕ
+  pub is : text ≡ before ++ byte ∷ after
+  pub can_go_on : CanGoOn before
+  pub stops : CanGoOn (before ++ byte ∷ []) → ⊥
+  pub fault_is : fault ≡ record { line = line_from 1 before; why = reasons.Unsupported }
+
+-- The fault is OpenQuote, in the line of a quote: up to it the text has tokens, and no longer beginning of the text has.
+pub record QuoteIsOpen (text : List ℕ) (fault : ScriptFault) : Type 0 where
+  pub before : List ℕ
+  pub quote : ℕ
+  pub inside : List ℕ
+  pub is : text ≡ before ++ quote ∷ inside
+  pub is_quote : (quote ≡ bytes.single_quote) ⊎ (quote ≡ bytes.double_quote)
+  pub tokens : List Token
+  pub has_tokens : AreTokens before tokens
+  pub is_longest : (x y : List ℕ) (ts : List Token) → inside ≡ x ++ y → AreTokens (before ++ quote ∷ x) ts → ⊥
+  pub fault_is : fault ≡ record { line = line_from 1 before; why = reasons.OpenQuote }
+
+-- the text can still go on, but ends in a quote, or behind a `$` that lacks its digit
+pub record StopsAtEnd (text : List ℕ) (fault : ScriptFault) : Type 0 where
+  pub can_go_on : CanGoOn text
+  pub fault_is : QuoteIsOpen text fault ⊎ (fault ≡ record { line = line_from 1 text; why = reasons.Unsupported })

@@ -1,0 +1,94 @@
+//! The syntax tree of a script: a subset of the POSIX shell command language, with redo-ifchange(1)
+//! and redo-ifcreate(1).
+
+/// An argument of a script: `$1`, `$2` or `$3`.
+#[derive(Clone, Copy, Debug, PartialEq, Eq)]
+pub enum Parameter {
+    One,
+    Two,
+    Three,
+}
+
+/// A piece of a word.
+#[derive(Debug, Drop)]
+pub enum Part {
+    /// Bytes that stand for themselves.
+    Lit(Vec<u8>),
+    /// A parameter in double quotes.
+    Quoted(Parameter),
+    /// A parameter outside quotes, whose value must be plain bytes and not empty
+    /// ([`is_plain_byte`](crate::is_plain_byte)).
+    Bare(Parameter),
+}
+
+/// A word of a command, without its quotes. An empty pair of quotes is a word with no part.
+#[derive(Debug, Drop)]
+pub struct Word {
+    pub parts: Vec<Part>,
+}
+
+/// Where a command's output goes: `> word`, or `>> word` where it is appended.
+#[derive(Debug, Drop)]
+pub struct Redirection {
+    pub appends: bool,
+    pub word: Word,
+}
+
+/// What test(1) looks at.
+#[derive(Debug, Drop)]
+pub enum Test {
+    /// `test -f W`
+    IsFile(Word),
+    /// `test W = W`
+    Equal(Word, Word),
+    /// `test W != W`
+    Differ(Word, Word),
+}
+
+/// A command that writes bytes.
+#[derive(Debug, Drop)]
+pub enum Writer {
+    /// `echo W*`
+    Echo(Vec<Word>),
+    /// `printf W W*`: the format and its operands.
+    Printf(Word, Vec<Word>),
+    /// `cat W W*`
+    Cat(Vec<Word>),
+}
+
+/// A simple command.
+#[derive(Debug, Drop)]
+pub enum Command {
+    Write(Writer, Option<Redirection>),
+    Test(Test),
+    /// `redo-ifchange W*`
+    Change(Vec<Word>),
+    /// `redo-ifcreate W*`
+    Create(Vec<Word>),
+    True,
+    False,
+    /// `exit N`
+    Exit(u8),
+}
+
+/// The command behind `if`.
+#[derive(Debug, Drop)]
+pub enum Condition {
+    Test(Test),
+    True,
+    False,
+}
+
+/// A statement, with the line that its first word begins on, counted from 1.
+#[derive(Debug, Drop)]
+pub enum Stmt {
+    Simple(u64, Command),
+    /// The condition and the two branches. Without `else` the second is empty, and otherwise neither is.
+    If(u64, Condition, Vec<Stmt>, Vec<Stmt>),
+}
+
+/// A whole script.
+#[derive(Debug, Drop)]
+pub struct Script {
+    pub stmts: Vec<Stmt>,
+}

@@ -1,0 +1,115 @@
+//! A command as far as it was read.
+
+ghost use Rattle.std.specs.Prelude.{◌≡◌, Ok};
+ghost use Rattle.redo_script.specs.Faults.{Gives, Leaves};
+ghost use Rattle.redo_script.specs.Parsing.{begun, with_word, with_redirect, is_unfinished, ended_command, ended_condition};
+ghost use Rattle.redo_script.specs.View.{command_of, condition_of};
+ghost use Rattle.redo_script.specs.Parser.{item_of, begun_of};
+
+use crate::ast::{Command, Condition, Redirection};
+use crate::fault::{Reason, ScriptFault};
+use crate::form::{command_of_items, condition_of_items};
+use crate::item::Item;
+use std::alloc::Global;
+
+/// What was read of a command.
+#[derive(Debug, Drop)]
+pub struct Begun {
+    line: u64,
+    name: Item,
+    items: Vec<Item>,
+    redirection: Option<Redirection>,
+    /// Something stands where no form has it.
+    is_ill: bool,
+    /// A redirection whose word is to come, and whether it appends.
+    awaits: Option<bool>,
+}
+
+impl Begun {
+    pub fn new(alloc: Global, line: u64, name: Item) -> Begun
+        ensures { begun_of result ≡ begun line (item_of name) }
+    {
+        Begun {
+            line,
+            name,
+            items: Vec::new(alloc),
+            redirection: None,
+            is_ill: false,
+            awaits: None,
+        }
+    }
+
+    pub fn push_word(&mut self, item: Item) -> Result<(), ScriptFault>
+        ensures { Leaves begun_of self.new result (Ok (with_word (begun_of self.old) (item_of item))) }
+    {
+        if let Some(appends) = self.awaits {
+            self.awaits = None;
+            self.redirection = Some(Redirection {
+                appends,
+                word: item.word,
+            });
+        } else if self.redirection.is_some() {
+            self.is_ill = true;
+        } else {
+            self.items.push(item)?;
+        }
+        Ok(())
+    }
+
+    pub fn push_redirect(&mut self, appends: bool)
+        ensures { begun_of self.new ≡ with_redirect (begun_of self.old) appends }
+    {
+        if self.awaits.is_some() || self.redirection.is_some() {
+            self.is_ill = true;
+        } else {
+            self.awaits = Some(appends);
+        }
+    }
+
+    fn is_unfinished(&self) -> bool
+        ensures { result ≡ is_unfinished (begun_of self.now) }
+    {
+        self.is_ill || self.awaits.is_some()
+    }
+
+    pub fn line(&self) -> u64
+        ensures { result ≡ self.now.line }
+    {
+        self.line
+    }
+
+    /// The command that ends here.
+    pub fn command(self, alloc: Global) -> Result<Command, ScriptFault>
+        ensures { Gives command_of result (ended_command (begun_of self)) }
+    {
+        let shape = ScriptFault {
+            line: self.line,
+            why: Reason::Shape,
+        };
+        if self.is_unfinished() {
+            return Err(shape);
+        }
+        let Begun {
+            name,
+            items,
+            redirection,
+            ..
+        } = self;
+        command_of_items(alloc, &name, items, redirection)?.ok_or(shape)
+    }
+
+    /// The condition that ends here.
+    pub fn condition(self) -> Result<Condition, ScriptFault>
+        ensures { Gives condition_of result (ended_condition (begun_of self)) }
+    {
+        let shape = ScriptFault {
+            line: self.line,
+            why: Reason::Shape,
+        };
+        if self.is_unfinished() || self.redirection.is_some() {
+            return Err(shape);
+        }
+        let Begun { name, items, .. } = self;
+        condition_of_items(&name, items).ok_or(shape)
+    }
+}

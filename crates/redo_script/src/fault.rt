@@ -1,0 +1,69 @@
+//! Why a text is no script.
+
+ghost use Rattle.std.specs.Prelude.{◌≡◌};
+ghost use Rattle.redo_script.specs.Faults.{no_memory};
+
+use std::alloc::{AllocError, AllocFailed};
+use thiserror::Error;
+
+/// What is wrong with a text. Each is printed as one word, as reports have it.
+#[derive(Clone, Copy, Debug, PartialEq, Eq, Error)]
+pub enum Reason {
+    /// A byte 0.
+    #[error("nul")]
+    Nul,
+    /// A first line that begins with `#!` and isn't `#!/bin/sh -e`.
+    #[error("interpreter")]
+    Interpreter,
+    /// A quote that isn't closed, at the line of the quote.
+    #[error("openquote")]
+    OpenQuote,
+    /// A byte or a word of the shell that the subset leaves out.
+    #[error("unsupported")]
+    Unsupported,
+    /// A command's name that the subset doesn't know.
+    #[error("unknowncommand")]
+    UnknownCommand,
+    /// A command whose operands or redirection aren't of its form, or a separator or redirection
+    /// where a command must stand.
+    #[error("shape")]
+    Shape,
+    /// An `if`, `then`, `else` or `fi` out of place, or an `if` that isn't ended.
+    #[error("ifshape")]
+    IfShape,
+    /// An `if` inside 16 others.
+    #[error("toodeep")]
+    TooDeep,
+    /// Want of memory, which says nothing of the text.
+    #[error("memory")]
+    Memory,
+}
+
+/// What is wrong, and in which line, counted from 1 by newline bytes. Want of memory has the line 0.
+#[derive(Clone, Copy, Debug, PartialEq, Eq, Error)]
+#[error("line {line}: {why}")]
+pub struct ScriptFault {
+    pub line: u64,
+    pub why: Reason,
+}
+
+const NO_MEMORY: ScriptFault = ScriptFault {
+    line: 0,
+    why: Reason::Memory,
+};
+
+impl From<AllocError> for ScriptFault {
+    ghost from_gives = { λ _ e. e ≡ no_memory };
+
+    fn from(_e: AllocError) -> ScriptFault {
+        NO_MEMORY
+    }
+}
+
+impl<T: Drop> From<AllocFailed<T>> for ScriptFault {
+    ghost from_gives = { λ _ e. e ≡ no_memory };
+
+    fn from(_e: AllocFailed<T>) -> ScriptFault {
+        NO_MEMORY
+    }
+}

@@ -1,0 +1,190 @@
+//! Commands by their forms.
+
+ghost use Rattle.std.specs.Prelude.{◌≡◌, map, option_map, IfOk};
+ghost use Rattle.redo_script.specs.Grammar.{alone, lone, test_form, print_form, cat_form, exit_form, bare_form, command_form, condition_form, item_words};
+ghost use Rattle.redo_script.specs.View.{command_of, condition_of, redirection_of, test_of, words_of};
+ghost use Rattle.redo_script.specs.Parser.{item_of};
+
+use crate::ast::{Command, Condition, Redirection, Test, Word, Writer};
+use crate::item::{Item, word_spells};
+use crate::number::status_of_item;
+use std::alloc::{AllocError, Global};
+
+/// What `test` looks at, where its operands are of a form.
+pub fn test_operands(mut items: Vec<Item>) -> Option<Test>
+    ensures { option_map test_of result ≡ test_form (map item_of items.items) }
+{
+    let Some(last) = items.pop() else {
+        return None;
+    };
+    let Some(middle) = items.pop() else {
+        return None;
+    };
+    match items.pop() {
+        None => {
+            if word_spells(&middle.word, b"-f") {
+                return Some(Test::IsFile(last.word));
+            }
+            None
+        }
+        Some(first) => {
+            if !items.is_empty() {
+                return None;
+            }
+            if word_spells(&middle.word, b"=") {
+                return Some(Test::Equal(first.word, last.word));
+            }
+            if word_spells(&middle.word, b"!=") {
+                return Some(Test::Differ(first.word, last.word));
+            }
+            None
+        }
+    }
+}
+
+/// The words of operands.
+#[tactic(auto, using(crate::proofs::Statements::words_push))]
+pub fn words_of_items(alloc: Global, items: Vec<Item>) -> Result<Vec<Word>, AllocError>
+    ensures { IfOk result (λ words. words_of words.items ≡ item_words (map item_of items.items)) }
+{
+    let mut words = Vec::with_capacity(alloc, items.len())?;
+    for item in items {
+        words.push(item.word)?;
+    }
+    Ok(words)
+}
+
+/// The condition, where it has no operands.
+fn lone(mut items: Vec<Item>, condition: Condition) -> Option<Condition>
+    ensures { option_map condition_of result ≡ alone (condition_of condition) (map item_of items.items) }
+{
+    if items.pop().is_some() {
+        return None;
+    }
+    Some(condition)
+}
+
+/// The condition of an `if`, where its words are of a form.
+#[tactic(auto, using(crate::proofs::Names::condition_test, crate::proofs::Names::condition_true, crate::proofs::Names::condition_false, crate::proofs::Names::no_condition))]
+pub fn condition_of_items(name: &Item, items: Vec<Item>) -> Option<Condition>
+    ensures { option_map condition_of result ≡ condition_form (item_of name.now) (map item_of items.items) }
+{
+    if name.is_named(b"test") {
+        return test_operands(items).map(Condition::Test);
+    }
+    if name.is_named(b"true") {
+        return lone(items, Condition::True);
+    }
+    if name.is_named(b"false") {
+        return lone(items, Condition::False);
+    }
+    None
+}
+
+/// `printf` with these operands, of which the first is the format.
+fn printf_of_items(
+    alloc: Global,
+    items: Vec<Item>,
+    redirection: Option<Redirection>,
+) -> Result<Option<Command>, AllocError>
+    ensures { IfOk result (λ command.
+        option_map command_of command ≡ print_form (map item_of items.items) (option_map redirection_of redirection)) }
+{
+    let mut words = words_of_items(alloc, items)?;
+    if words.is_empty() {
+        return Ok(None);
+    }
+    let format = words.remove(0);
+    Ok(Some(Command::Write(Writer::Printf(format, words), redirection)))
+}
+
+/// `cat` with these operands.
+fn cat_of_items(
+    alloc: Global,
+    items: Vec<Item>,
+    redirection: Option<Redirection>,
+) -> Result<Option<Command>, AllocError>
+    ensures { IfOk result (λ command.
+        option_map command_of command ≡ cat_form (map item_of items.items) (option_map redirection_of redirection)) }
+{
+    if items.is_empty() {
+        return Ok(None);
+    }
+    let words = words_of_items(alloc, items)?;
+    Ok(Some(Command::Write(Writer::Cat(words), redirection)))
+}
+
+/// The command, where it has no operands.
+fn lone_command(mut items: Vec<Item>, command: Command) -> Option<Command>
+    ensures { option_map command_of result ≡ lone (command_of command) (map item_of items.items) }
+{
+    if items.pop().is_some() {
+        return None;
+    }
+    Some(command)
+}
+
+/// `exit` with these operands.
+fn exit_of_items(mut items: Vec<Item>) -> Option<Command>
+    ensures { option_map command_of result ≡ exit_form (map item_of items.items) }
+{
+    let Some(item) = items.pop() else {
+        return None;
+    };
+    if !items.is_empty() {
+        return None;
+    }
+    status_of_item(&item).map(Command::Exit)
+}
+
+/// A command that takes no redirection, where its operands are of its form.
+fn bare_command(alloc: Global, name: &Item, items: Vec<Item>) -> Result<Option<Command>, AllocError>
+    ensures { IfOk result (λ command.
+        option_map command_of command ≡ bare_form (item_of name.now) (map item_of items.items)) }
+{
+    if name.is_named(b"test") {
+        return Ok(test_operands(items).map(Command::Test));
+    }
+    if name.is_named(b"redo-ifchange") {
+        return Ok(Some(Command::Change(words_of_items(alloc, items)?)));
+    }
+    if name.is_named(b"redo-ifcreate") {
+        return Ok(Some(Command::Create(words_of_items(alloc, items)?)));
+    }
+    if name.is_named(b"true") {
+        return Ok(lone_command(items, Command::True));
+    }
+    if name.is_named(b"false") {
+        return Ok(lone_command(items, Command::False));
+    }
+    if name.is_named(b"exit") {
+        return Ok(exit_of_items(items));
+    }
+    Ok(None)
+}
+
+/// The command of this name, where its operands and redirection are of its form.
+pub fn command_of_items(
+    alloc: Global,
+    name: &Item,
+    items: Vec<Item>,
+    redirection: Option<Redirection>,
+) -> Result<Option<Command>, AllocError>
+    ensures { IfOk result (λ command.
+        option_map command_of command ≡ command_form (item_of name.now) (map item_of items.items) (option_map redirection_of redirection)) }
+{
+    if name.is_named(b"echo") {
+        let words = words_of_items(alloc, items)?;
+        return Ok(Some(Command::Write(Writer::Echo(words), redirection)));
+    }
+    if name.is_named(b"printf") {
+        return printf_of_items(alloc, items, redirection);
+    }
+    if name.is_named(b"cat") {
+        return cat_of_items(alloc, items, redirection);
+    }
+    if redirection.is_some() {
+        return Ok(None);
+    }
+    bare_command(alloc, name, items)
+}

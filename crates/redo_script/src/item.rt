@@ -1,0 +1,82 @@
+//! Words of a command, as they are written.
+
+ghost use Rattle.std.specs.Prelude.{◌≡◌, ◌++◌, true, false};
+ghost use Rattle.std.specs.Option.{MatchOption};
+ghost use Rattle.redo_script.specs.Syntax.{Word as Symbols};
+ghost use Rattle.redo_script.specs.Grammar.{spells, is_named};
+ghost use Rattle.redo_script.specs.Parsing.{is_one_of, commands, words_outside};
+ghost use Rattle.redo_script.specs.View.{symbols_of_part, word_of};
+ghost use Rattle.redo_script.specs.Parser.{item_of};
+
+use crate::ast::{Part, Word};
+
+/// A word of a command, and whether it is written with plain bytes alone.
+#[derive(Debug, Drop)]
+pub struct Item {
+    pub is_plain: bool,
+    pub word: Word,
+}
+
+/// What is left of a name behind a part of a word.
+fn past_part<'a>(part: &Part, name: &'a [u8]) -> Option<&'a [u8]>
+    ensures { MatchOption result
+        ((w : Symbols) → spells (symbols_of_part part.now ++ w) name.now ≡ false)
+        (λ rest. (w : Symbols) → spells (symbols_of_part part.now ++ w) name.now ≡ spells w rest.now) }
+{
+    match part {
+        Part::Lit(bytes) => name.strip_prefix(bytes.as_slice()),
+        Part::Quoted(_) | Part::Bare(_) => None,
+    }
+}
+
+/// Whether a word's bytes are this name, with no parameter among them.
+pub fn word_spells(word: &Word, name: &[u8]) -> bool
+    ensures { result ≡ spells (word_of word.now) name.now }
+{
+    let mut left = name;
+    for part in &word.parts {
+        match past_part(part, left) {
+            Some(rest) => left = rest,
+            None => return false,
+        }
+    }
+    left.is_empty()
+}
+
+impl Item {
+    pub fn is_named(&self, name: &[u8]) -> bool
+        ensures { result ≡ is_named name.now (item_of self.now) }
+    {
+        self.is_plain && word_spells(&self.word, name)
+    }
+
+    /// Whether a command of the subset has this name.
+    pub fn is_command(&self) -> bool
+        ensures { result ≡ is_one_of commands (item_of self.now) }
+    {
+        self.is_named(b"echo")
+            || self.is_named(b"printf")
+            || self.is_named(b"cat")
+            || self.is_named(b"test")
+            || self.is_named(b"redo-ifchange")
+            || self.is_named(b"redo-ifcreate")
+            || self.is_named(b"true")
+            || self.is_named(b"false")
+            || self.is_named(b"exit")
+    }
+
+    /// Whether this is a word of the shell that the subset leaves out.
+    pub fn is_outside(&self) -> bool
+        ensures { result ≡ is_one_of words_outside (item_of self.now) }
+    {
+        self.is_named(b"!")
+            || self.is_named(b"elif")
+            || self.is_named(b"while")
+            || self.is_named(b"until")
+            || self.is_named(b"for")
+            || self.is_named(b"do")
+            || self.is_named(b"done")
+            || self.is_named(b"case")
+            || self.is_named(b"esac")
+    }
+}

@@ -1,0 +1,52 @@
+//! What ties the grammar to the functions that read.
+
+ghost use Rattle.std.specs.Prelude.{◌≡◌, ◌⊎◌, ℕ, List, Ok, Err};
+ghost use Rattle.redo_script.specs.declared.fault.ScriptFault.{ScriptFault};
+ghost use Rattle.redo_script.specs.Tokens.{AreTokens, Token};
+ghost use Rattle.redo_script.specs.Places.{StopsAtByte, StopsAtEnd};
+ghost use Rattle.redo_script.specs.Reading.{tokens_of};
+ghost use Rattle.redo_script.specs.Syntax.{Script};
+ghost use Rattle.redo_script.specs.Grammar.{IsProgram};
+ghost use Rattle.redo_script.specs.Parsing.{statements_of};
+ghost use Rattle.redo_script.specs.Texts.{IsScript, script_in};
+
+/// Bytes that have tokens by the grammar are read as these.
+pub fn tokens_are_read()
+    ensures { (text : List ℕ) (ts : List Token) → AreTokens text ts → tokens_of text ≡ Ok ts }
+{}
+
+/// Bytes that are read have these tokens by the grammar.
+pub fn read_tokens_are_right()
+    ensures { (text : List ℕ) (ts : List Token) → tokens_of text ≡ Ok ts → AreTokens text ts }
+{}
+
+/// Tokens that are a program by the grammar are read as its tree.
+pub fn programs_are_read()
+    ensures { (ts : List Token) (script : Script) → IsProgram ts script → statements_of ts ≡ Ok script }
+{}
+
+/// Tokens that are read are a program by the grammar, with this tree.
+pub fn read_programs_are_right()
+    ensures { (ts : List Token) (script : Script) → statements_of ts ≡ Ok script → IsProgram ts script }
+{}
+
+/// A text that is a script by the grammar is read, with its tree.
+pub fn scripts_are_read()
+    ensures { (text : List ℕ) (script : Script) → IsScript text script → script_in text ≡ Ok script }
+{}
+
+/// A text that is read is a script by the grammar, with this tree.
+pub fn read_scripts_are_right()
+    ensures { (text : List ℕ) (script : Script) → script_in text ≡ Ok script → IsScript text script }
+{}
+
+/// A text has at most one tree.
+pub fn one_tree()
+    ensures { (text : List ℕ) (s t : Script) → IsScript text s → IsScript text t → s ≡ t }
+{}
+
+/// A fault of the tokens stands at the first byte past which the text can't go on, or at the end of the text.
+pub fn tokens_stop_at_their_fault()
+    ensures { (text : List ℕ) (fault : ScriptFault) →
+        tokens_of text ≡ Err fault → StopsAtByte text fault ⊎ StopsAtEnd text fault }
+{}

@@ -1,0 +1,35 @@
+//! The reader of build scripts, the `.do` files of redo: from bytes to a syntax tree.
+//!
+//! A script is written in a small subset of the POSIX shell command language. [`parse`] reads
+//! exactly the texts of its grammar, each with its one tree, and answers for any other text what is
+//! wrong first, and in which line. The crate stands on no other crate of this repository; running a
+//! script is the work of the crates above.
+//!
+//! - `ast`: the tree that is read.
+//! - `fault`: what can be wrong.
+//! - `reader`: the passes over a text, and `parse`.
+//! - `bytes`, `token`, `lexer`: from bytes to tokens.
+//! - `item`, `number`, `form`, `begun`, `parser`: from tokens to statements.
+//! - `laws`: what ties the grammar to the functions that say which fault a text has. Each is a
+//!   function with nothing to run, whose contract is the law.
+#![tactic(auto)]
+
+mod ast;
+mod begun;
+mod bytes;
+mod fault;
+mod form;
+mod item;
+pub mod laws;
+mod lexer;
+mod number;
+mod parser;
+mod reader;
+#[cfg(test)]
+mod tests;
+mod token;
+
+pub use ast::{Command, Condition, Parameter, Part, Redirection, Script, Stmt, Test, Word, Writer};
+pub use bytes::is_plain_byte;
+pub use fault::{Reason, ScriptFault};
+pub use reader::parse;

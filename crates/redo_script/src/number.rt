@@ -1,0 +1,80 @@
+//! The status that `exit` is given.
+
+ghost use Rattle.std.specs.Prelude.{◌≡◌, ◌∷◌, ◌++◌, ◌≤◌, None};
+ghost use Rattle.std.specs.Option.{MatchOption};
+ghost use Rattle.redo_script.specs.Syntax.{Word as Symbols, byte as byte_symbol};
+ghost use Rattle.redo_script.specs.Grammar.{status_of};
+ghost use Rattle.redo_script.specs.View.{symbols_of_part};
+ghost use Rattle.redo_script.specs.Parser.{item_of, status_on};
+
+use crate::ast::Part;
+use crate::item::Item;
+
+/// A number as far as it was read, and how many digits it has so far.
+#[derive(Clone, Copy, Debug)]
+struct Number {
+    digits: u8,
+    value: u8,
+    ghost few: { digits ≤ 3 },
+}
+
+impl Number {
+    fn new() -> Number
+        ensures digits { result.digits ≡ 0 }
+        ensures value { result.value ≡ 0 }
+    {
+        Number {
+            digits: 0,
+            value: 0,
+        }
+    }
+
+    /// With one digit more, where the number then has at most three and is at most 255.
+    fn past_digit(self, byte: u8) -> Option<Number>
+        ensures { MatchOption result
+            ((w : Symbols) → status_on self.digits self.value (byte_symbol byte ∷ w) ≡ None)
+            (λ number. (w : Symbols) → status_on self.digits self.value (byte_symbol byte ∷ w) ≡ status_on number.digits number.value w) }
+    {
+        if self.digits >= 3 || !byte.is_ascii_digit() {
+            return None;
+        }
+        let value = self.value.checked_mul(10)?.checked_add(byte - b'0')?;
+        Some(Number {
+            digits: self.digits + 1,
+            value,
+        })
+    }
+
+    /// With the digits of this part, where it is digits alone.
+    fn past_part(self, part: &Part) -> Option<Number>
+        ensures { MatchOption result
+            ((w : Symbols) → status_on self.digits self.value (symbols_of_part part.now ++ w) ≡ None)
+            (λ number. (w : Symbols) → status_on self.digits self.value (symbols_of_part part.now ++ w) ≡ status_on number.digits number.value w) }
+    {
+        let Part::Lit(bytes) = part else {
+            return None;
+        };
+        let mut number = self;
+        for byte in bytes {
+            number = number.past_digit(*byte)?;
+        }
+        Some(number)
+    }
+}
+
+/// The status that a word of one to three plain digits stands for, where it is at most 255.
+pub fn status_of_item(item: &Item) -> Option<u8>
+    ensures { result ≡ status_of (item_of item.now) }
+{
+    if !item.is_plain {
+        return None;
+    }
+    let mut number = Number::new();
+    for part in &item.word.parts {
+        number = number.past_part(part)?;
+    }
+    if number.digits == 0 {
+        return None;
+    }
+    Some(number.value)
+}

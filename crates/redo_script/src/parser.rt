@@ -1,0 +1,357 @@
+//! From tokens to statements.
+
+ghost use Rattle.std.specs.Prelude.{◌≡◌, Ok, ◌∷◌, map};
+ghost use Rattle.redo_script.specs.Faults.{Gives, Leaves, fault_at};
+ghost use Rattle.redo_script.specs.Parsing.{with_command, with_condition, if_opened, at_else, at_fi, then_word, condition_word, first_word, a_word, a_redirect, a_separator, next_token, unless_open, end_by_phase, at_first, statements_of};
+ghost use Rattle.redo_script.specs.View.{condition_of, script_of};
+ghost use Rattle.redo_script.specs.Lexer.{token_of};
+ghost use Rattle.redo_script.specs.Parser.{item_of, begun_of, open_of, parser_of};
+
+use crate::ast::{Condition, Script, Stmt};
+use crate::begun::Begun;
+use crate::fault::{Reason, ScriptFault};
+use crate::item::Item;
+use crate::token::Token;
+use std::alloc::Global;
+use std::mem;
+
+/// What is expected next.
+#[derive(Debug, Drop)]
+pub enum Phase {
+    AtCommand,
+    InCommand(Begun),
+    /// Behind `if`, which stands in this line.
+    BehindIf(u64),
+    InCondition(Begun),
+    BeforeThen(u64, Condition),
+    BehindFi(u64),
+}
+
+/// An open `if`.
+#[derive(Debug, Drop)]
+pub struct Open {
+    line: u64,
+    condition: Condition,
+    /// The first branch, once `else` was read.
+    first: Option<Vec<Stmt>>,
+    /// The statements before the `if`.
+    before: Vec<Stmt>,
+}
+
+/// Reads statements token by token.
+#[derive(Drop)]
+pub struct Parser {
+    alloc: Global,
+    phase: Phase,
+    opens: Vec<Open>,
+    so_far: Vec<Stmt>,
+}
+
+impl Parser {
+    fn fault<T>(line: u64, why: Reason) -> Result<T, ScriptFault>
+        ensures { result ≡ fault_at line why }
+    {
+        Err(ScriptFault { line, why })
+    }
+
+    /// `else`, where this `if` is the innermost open one.
+    #[tactic(auto, using(crate::proofs::Statements::stack_push, crate::proofs::Statements::script_empty))]
+    fn begin_second(&mut self, line: u64, innermost: Open) -> Result<(), ScriptFault>
+        ensures { Leaves parser_of self.new result
+            (at_else (parser_of self.old) line (open_of innermost ∷ (parser_of self.old).opens)) }
+    {
+        if innermost.first.is_some() || self.so_far.is_empty() {
+            return Parser::fault(line, Reason::IfShape);
+        }
+        let first = mem::replace(&mut self.so_far, Vec::new(self.alloc));
+        self.opens.push(Open {
+            line: innermost.line,
+            condition: innermost.condition,
+            first: Some(first),
+            before: innermost.before,
+        })?;
+        self.phase = Phase::AtCommand;
+        Ok(())
+    }
+
+    /// `else`
+    fn else_word(&mut self, line: u64) -> Result<(), ScriptFault>
+        ensures { Leaves parser_of self.new result (at_else (parser_of self.old) line (parser_of self.old).opens) }
+    {
+        match self.opens.pop() {
+            Some(open) => self.begin_second(line, open),
+            None => Parser::fault(line, Reason::IfShape),
+        }
+    }
+
+    /// Ends the `if` that was the innermost open one.
+    #[tactic(auto, using(crate::proofs::Statements::script_empty, crate::proofs::Statements::if_push))]
+    fn close(&mut self, line: u64, innermost: Open) -> Result<(), ScriptFault>
+        ensures { Leaves parser_of self.new result
+            (at_fi (parser_of self.old) line (open_of innermost ∷ (parser_of self.old).opens)) }
+    {
+        if self.so_far.is_empty() {
+            return Parser::fault(line, Reason::IfShape);
+        }
+        let Open {
+            line: if_line,
+            condition,
+            first,
+            before,
+        } = innermost;
+        let branch = mem::replace(&mut self.so_far, before);
+        match first {
+            None => self
+                .so_far
+                .push(Stmt::If(if_line, condition, branch, Vec::new(self.alloc)))?,
+            Some(first) => self
+                .so_far
+                .push(Stmt::If(if_line, condition, first, branch))?,
+        }
+        self.phase = Phase::BehindFi(line);
+        Ok(())
+    }
+
+    /// `fi`
+    fn fi_word(&mut self, line: u64) -> Result<(), ScriptFault>
+        ensures { Leaves parser_of self.new result (at_fi (parser_of self.old) line (parser_of self.old).opens) }
+    {
+        match self.opens.pop() {
+            Some(open) => self.close(line, open),
+            None => Parser::fault(line, Reason::IfShape),
+        }
+    }
+
+    /// `if` in a command's place.
+    #[tactic(auto, using(crate::proofs::Statements::stack_length))]
+    fn if_word(&mut self, line: u64) -> Result<(), ScriptFault>
+        ensures { Leaves parser_of self.new result (if_opened (parser_of self.old) line) }
+    {
+        if self.opens.len() >= 16 {
+            return Parser::fault(line, Reason::TooDeep);
+        }
+        self.phase = Phase::BehindIf(line);
+        Ok(())
+    }
+
+    /// A word where `then` must stand.
+    #[tactic(auto, using(crate::proofs::Statements::stack_push))]
+    fn then_word(
+        &mut self,
+        line: u64,
+        condition: Condition,
+        at: u64,
+        item: Item,
+    ) -> Result<(), ScriptFault>
+        ensures { Leaves parser_of self.new result
+            (then_word (parser_of self.old) line (condition_of condition) at (item_of item)) }
+    {
+        if !item.is_named(b"then") {
+            return Parser::fault(at, Reason::IfShape);
+        }
+        let before = mem::replace(&mut self.so_far, Vec::new(self.alloc));
+        self.opens.push(Open {
+            line,
+            condition,
+            first: None,
+            before,
+        })?;
+        self.phase = Phase::AtCommand;
+        Ok(())
+    }
+
+    /// A word behind `if`.
+    fn condition_word(&mut self, line: u64, item: Item) -> Result<(), ScriptFault>
+        ensures { Leaves parser_of self.new result (condition_word (parser_of self.old) line (item_of item)) }
+    {
+        if !(item.is_named(b"test") || item.is_named(b"true") || item.is_named(b"false")) {
+            return Parser::fault(line, Reason::IfShape);
+        }
+        self.phase = Phase::InCondition(Begun::new(self.alloc, line, item));
+        Ok(())
+    }
+
+    /// A word in a command's place.
+    fn first_word(&mut self, line: u64, item: Item) -> Result<(), ScriptFault>
+        ensures { Leaves parser_of self.new result (first_word (parser_of self.old) line (item_of item)) }
+    {
+        if item.is_named(b"if") {
+            return self.if_word(line);
+        }
+        if item.is_named(b"then") {
+            return Parser::fault(line, Reason::IfShape);
+        }
+        if item.is_named(b"else") {
+            return self.else_word(line);
+        }
+        if item.is_named(b"fi") {
+            return self.fi_word(line);
+        }
+        if !item.is_command() {
+            if item.is_outside() {
+                return Parser::fault(line, Reason::Unsupported);
+            }
+            return Parser::fault(line, Reason::UnknownCommand);
+        }
+        self.phase = Phase::InCommand(Begun::new(self.alloc, line, item));
+        Ok(())
+    }
+
+    fn word(&mut self, line: u64, item: Item) -> Result<(), ScriptFault>
+        ensures { Leaves parser_of self.new result
+            (a_word (parser_of self.old).phase (parser_of self.old) line (item_of item)) }
+    {
+        match mem::replace(&mut self.phase, Phase::AtCommand) {
+            Phase::AtCommand => self.first_word(line, item),
+            Phase::InCommand(mut begun) => {
+                begun.push_word(item)?;
+                self.phase = Phase::InCommand(begun);
+                Ok(())
+            }
+            Phase::BehindIf(if_line) => self.condition_word(if_line, item),
+            Phase::InCondition(mut begun) => {
+                begun.push_word(item)?;
+                self.phase = Phase::InCondition(begun);
+                Ok(())
+            }
+            Phase::BeforeThen(if_line, condition) => self.then_word(if_line, condition, line, item),
+            Phase::BehindFi(fi_line) => Parser::fault(fi_line, Reason::IfShape),
+        }
+    }
+
+    /// `>` or `>>`
+    fn redirect(&mut self, line: u64, appends: bool) -> Result<(), ScriptFault>
+        ensures { Leaves parser_of self.new result
+            (a_redirect (parser_of self.old).phase (parser_of self.old) line appends) }
+    {
+        match mem::replace(&mut self.phase, Phase::AtCommand) {
+            Phase::AtCommand => Parser::fault(line, Reason::Shape),
+            Phase::InCommand(mut begun) => {
+                begun.push_redirect(appends);
+                self.phase = Phase::InCommand(begun);
+                Ok(())
+            }
+            Phase::BehindIf(if_line) => Parser::fault(if_line, Reason::IfShape),
+            Phase::InCondition(mut begun) => {
+                begun.push_redirect(appends);
+                self.phase = Phase::InCondition(begun);
+                Ok(())
+            }
+            Phase::BeforeThen(_, _) => Parser::fault(line, Reason::IfShape),
+            Phase::BehindFi(fi_line) => Parser::fault(fi_line, Reason::IfShape),
+        }
+    }
+
+    /// Ends a command that stands by itself.
+    #[tactic(auto, using(crate::proofs::Statements::simple_push))]
+    fn end_command(&mut self, begun: Begun) -> Result<(), ScriptFault>
+        ensures { Leaves parser_of self.new result (with_command (parser_of self.old) (begun_of begun)) }
+    {
+        let line = begun.line();
+        let command = begun.command(self.alloc)?;
+        self.so_far.push(Stmt::Simple(line, command))?;
+        self.phase = Phase::AtCommand;
+        Ok(())
+    }
+
+    /// Ends the command behind `if`.
+    fn end_condition(&mut self, begun: Begun) -> Result<(), ScriptFault>
+        ensures { Leaves parser_of self.new result (with_condition (parser_of self.old) (begun_of begun)) }
+    {
+        let line = begun.line();
+        let condition = begun.condition()?;
+        self.phase = Phase::BeforeThen(line, condition);
+        Ok(())
+    }
+
+    /// `;` or a newline
+    fn separator(&mut self, line: u64, is_newline: bool) -> Result<(), ScriptFault>
+        ensures { Leaves parser_of self.new result
+            (a_separator (parser_of self.old).phase (parser_of self.old) line is_newline) }
+    {
+        match mem::replace(&mut self.phase, Phase::AtCommand) {
+            Phase::AtCommand => {
+                if !is_newline {
+                    return Parser::fault(line, Reason::Shape);
+                }
+                Ok(())
+            }
+            Phase::InCommand(begun) => self.end_command(begun),
+            Phase::BehindIf(if_line) => Parser::fault(if_line, Reason::IfShape),
+            Phase::InCondition(begun) => self.end_condition(begun),
+            Phase::BeforeThen(if_line, condition) => {
+                if !is_newline {
+                    return Parser::fault(line, Reason::IfShape);
+                }
+                self.phase = Phase::BeforeThen(if_line, condition);
+                Ok(())
+            }
+            Phase::BehindFi(_) => Ok(()),
+        }
+    }
+
+    /// Reads one token more.
+    fn token(&mut self, token: Token) -> Result<(), ScriptFault>
+        ensures { Leaves parser_of self.new result (next_token (parser_of self.old) (token_of token)) }
+    {
+        match token {
+            Token::Word(line, is_plain, word) => self.word(line, Item { is_plain, word }),
+            Token::Semicolon(line) => self.separator(line, false),
+            Token::Newline(line) => self.separator(line, true),
+            Token::Redirect(line, appends) => self.redirect(line, appends),
+        }
+    }
+
+    fn new(alloc: Global) -> Parser
+        ensures { parser_of result ≡ at_first }
+    {
+        Parser {
+            alloc,
+            phase: Phase::AtCommand,
+            opens: Vec::new(alloc),
+            so_far: Vec::new(alloc),
+        }
+    }
+
+    /// The statements, where no `if` is open.
+    fn script(mut self) -> Result<Script, ScriptFault>
+        ensures { Gives (λ s. script_of s.stmts.items) result (unless_open (parser_of self).opens (parser_of self).so_far) }
+    {
+        match self.opens.pop() {
+            Some(open) => Parser::fault(open.line, Reason::IfShape),
+            None => Ok(Script { stmts: self.so_far }),
+        }
+    }
+
+    /// Ends the script.
+    fn finish(mut self) -> Result<Script, ScriptFault>
+        ensures { Gives (λ s. script_of s.stmts.items) result (end_by_phase (parser_of self).phase (parser_of self)) }
+    {
+        match mem::replace(&mut self.phase, Phase::AtCommand) {
+            Phase::AtCommand | Phase::BehindFi(_) => self.script(),
+            Phase::InCommand(begun) => {
+                self.end_command(begun)?;
+                self.script()
+            }
+            Phase::InCondition(begun) => {
+                let line = begun.line();
+                begun.condition()?;
+                Parser::fault(line, Reason::IfShape)
+            }
+            Phase::BehindIf(line) | Phase::BeforeThen(line, _) => {
+                Parser::fault(line, Reason::IfShape)
+            }
+        }
+    }
+}
+
+/// The statements that tokens stand for.
+pub fn statements(alloc: Global, tokens: Vec<Token>) -> Result<Script, ScriptFault>
+    ensures { Gives (λ s. script_of s.stmts.items) result (statements_of (map token_of tokens.items)) }
+{
+    let mut parser = Parser::new(alloc);
+    for token in tokens {
+        parser.token(token)?;
+    }
+    parser.finish()
+}

@@ -1,0 +1,91 @@
+//! From a whole text to its tree.
+
+ghost use Rattle.std.specs.Prelude.{◌≡◌, [], IfOk, Ok};
+ghost use Rattle.redo_script.specs.Faults.{Gives};
+ghost use Rattle.redo_script.specs.Syntax.{Script as ScriptTree};
+ghost use Rattle.redo_script.specs.View.{script_of};
+ghost use Rattle.redo_script.specs.Texts.{IsScript, same_bytes, first_line, nul_from, interpreter_is_fit, script_in};
+
+use crate::ast::Script;
+use crate::fault::{Reason, ScriptFault};
+use crate::lexer::tokenize;
+use crate::parser::statements;
+use std::alloc::Global;
+
+/// Looks for a byte 0.
+fn refuse_nul(text: &[u8]) -> Result<(), ScriptFault>
+    ensures { Gives (λ done. []) result (nul_from 1 text.now) }
+{
+    let mut line = 1;
+    for byte in text {
+        match *byte {
+            0 => {
+                return Err(ScriptFault {
+                    line,
+                    why: Reason::Nul,
+                });
+            }
+            b'\n' => line += 1,
+            _ => {}
+        }
+    }
+    Ok(())
+}
+
+/// Whether a line ends before these bytes.
+fn is_line_end(rest: &[u8]) -> bool
+    ensures { result ≡ same_bytes (first_line rest.now) [] }
+{
+    matches!(rest, [] | [b'\n', ..])
+}
+
+/// Whether the text begins with no `#!`, or with the one line of that kind that a script may have.
+fn has_fit_interpreter(text: &[u8]) -> bool
+    ensures { result ≡ interpreter_is_fit text.now }
+{
+    let Some(interpreter) = text.strip_prefix(b"#!") else {
+        return true;
+    };
+    match interpreter.strip_prefix(b"/bin/sh -e") {
+        Some(rest) => is_line_end(rest),
+        None => false,
+    }
+}
+
+/// The tree of a text, or the fault of the first pass that has one.
+fn read(alloc: Global, text: &[u8]) -> Result<Script, ScriptFault>
+    ensures { Gives (λ t. script_of t.stmts.items) result (script_in text.now) }
+{
+    refuse_nul(text)?;
+    if !has_fit_interpreter(text) {
+        return Err(ScriptFault {
+            line: 1,
+            why: Reason::Interpreter,
+        });
+    }
+    let tokens = tokenize(alloc, text)?;
+    statements(alloc, tokens)
+}
+
+/// Reads a script, in time that grows with its length alone, from any bytes whatever.
+///
+/// The grammar is a subset of the POSIX shell command language (its chapters on token recognition,
+/// quoting, simple commands, redirection and the `if` compound command), with the commands echo,
+/// printf, cat, test, true, false and exit, and with redo-ifchange(1) and redo-ifcreate(1). The
+/// only parameters are `$1`, `$2` and `$3`; an `if` may stand in at most 15 others.
+///
+/// A text is looked at in four passes: for a byte 0, for its interpreter line, for its tokens and
+/// for its commands. The first pass that finds a fault decides, and in a pass the fault that stands
+/// first.
+pub fn parse(alloc: Global, text: &[u8]) -> Result<Script, ScriptFault>
+    // What is read is in the grammar, with this tree.
+    ensures found { IfOk result (λ s. IsScript text.now (script_of s.stmts.items)) }
+
+    // What is in the grammar is read, with its tree, unless memory runs out.
+    ensures only { (s : ScriptTree) → IsScript text.now s → Gives (λ t. script_of t.stmts.items) result (Ok s) }
+
+    // What isn't in the grammar has this one fault, unless memory runs out.
+    ensures exact { Gives (λ t. script_of t.stmts.items) result (script_in text.now) }
+{
+    read(alloc, text)
+}

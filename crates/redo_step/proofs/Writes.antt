@@ -1,0 +1,27 @@
+-- Commands, from their parts.
+use Rattle.std.proofs.Common.{◌≡◌, ℕ, Bool, true, false, Option, Result, Ok, List, refl, sym, ap, subst}
+use Rattle.redo_script.specs.Syntax.{Word, Redirection, Writer}
+use Rattle.redo_step.specs.declared.stop.Stop.{Stop}
+use Rattle.redo_step.specs.declared.stop.Stop.TheVariants as stops
+use Rattle.redo_step.specs.Meaning.{Setting, Ask, State, End, exited, Run, goes, ends, ◌>>=◌, writer_texts, goal_of, bytes_of, put, written, with_state, with_status}
+use Rattle.redo_step.specs.Machine.{Stops, EndsBy, Runs}
+use Rattle.redo_step.specs.Writing.{put_bytes}
+
+module _ (setting : Setting) (ask : Ask) (line : ℕ) (w : Writer Word) (r : Option Redirection) (s : State) (texts : Writer (List ℕ)) (goal : Option Bool) (t : writer_texts setting line w ≡ Ok texts) (g : goal_of setting line r ≡ Ok goal) where
+  written_is : written setting ask line w r s ≡ (bytes_of setting ask s.entries line texts >>= put setting line s goal)
+  written_is = rw (t, g) refl
+
+  pub writes : {X : Type 0} (result : Result X Stop) (new : State) → Runs result (put_bytes setting ask line texts goal s) new → Runs result (with_state (written setting ask line w r s) s) new
+  writes result new runs = let P : Run → Type 0 = λ x. Runs result x new in subst P (sym (ap (λ y. with_state y s) written_is)) runs
+
+-- a test that stopped
+pub stops_status : (stop : Stop) (r : Result Bool End) (s : State) → Stops stop r → EndsBy stop (with_status r s) s
+stops_status (stops.Ended e) r s h = rw h refl
+stops_status (stops.Lacks ps) r s h = rw h refl
+stops_status stops.Memory r s h = tt
+
+pub status_true : (r : Result Bool End) (b : Bool) (s : State) → r ≡ Ok b → b ≡ true → with_status r s ≡ goes s
+status_true r b s h t = rw (h, t) refl
+
+pub status_false : (r : Result Bool End) (b : Bool) (s : State) → r ≡ Ok b → b ≡ false → with_status r s ≡ ends (exited 1) s
+status_false r b s h f = rw (h, f) refl

@@ -1,0 +1,6 @@
+use Rattle.std.proofs.Common.{◌≡◌, drop}
+use Rattle.redo_step.specs.Meaning.{with_entries}
+use Rattle.redo_step.proofs.declaring.declare.Given as goal
+
+abbrev pub invariant-loop-path : goal.invariant-loop-path
+invariant-loop-path l = with_entries l.deps l.kind (drop l.path-index l.paths) ≡ with_entries l.initial.deps l.kind l.paths

@@ -1,0 +1,19 @@
+use Rattle.std.proofs.Common.{◌+◌, ◌*◌}
+use Rattle.redo_script.specs.Syntax.{finish}
+use Rattle.redo_script.specs.View.{script_of, before}
+use Rattle.redo_step.proofs.Weight.{weight}
+use Rattle.redo_step.specs.Place.{skip}
+use Rattle.redo_step.specs.Reach.{Reaches}
+use Rattle.redo_step.specs.Machine.{state_of}
+use Rattle.redo_step.specs.Scene.{scene_setting}
+use Rattle.redo_step.proofs.machine.+running.Given as goal
+
+abbrev pub invariant-run_from-loop-index : goal.invariant-run_from-loop-index
+invariant-run_from-loop-index g l =
+    Reaches (scene_setting l.scene) (g.A.Answers.ask l.answers) (skip l.first (script_of l.stmts)) (state_of l.initial.effects) (skip l.index (script_of l.stmts)) (state_of l.effects)
+
+abbrev pub decreases-run_from : goal.decreases-run_from
+decreases-run_from g l = 2 * weight (script_of l.stmts.now) + 1
+
+abbrev pub decreases-run_stmt : goal.decreases-run_stmt
+decreases-run_stmt g l = 2 * weight (before l.stmt.now finish)

@@ -1,0 +1,16 @@
+use Rattle.std.proofs.Common.{None, Some}
+use Rattle.std.specs.Prelude.{option_map}
+use Rattle.redo_script.specs.View.{writer_of, redirection_of}
+use Rattle.redo_step.specs.Machine.{state_of}
+use Rattle.redo_step.specs.Scene.{scene_setting}
+use Rattle.redo_step.specs.Writing.{writing_of}
+use Rattle.redo_step.proofs.Writes.{writes}
+use Rattle.redo_step.proofs.scene.Scene.write.Goals as goal
+
+pub returns-in-None : goal.returns-in-None
+returns-in-None g c =
+    writes (scene_setting c.args.self.now) (g.A.Answers.ask c.args.answers.now) c.args.line (writer_of c.args.writer.now) (option_map redirection_of c.args.redirection.now) (state_of c.args.effects.now) (writing_of c.in_ok-writing.writing) None c.in_ok-writing.ensures (rw c.in-None.is at c.in_ok-goal.ensures) c.write_output.result _ c.write_output.ensures
+
+pub returns : goal.returns
+returns g c =
+    writes (scene_setting c.args.self.now) (g.A.Answers.ask c.args.answers.now) c.args.line (writer_of c.args.writer.now) (option_map redirection_of c.args.redirection.now) (state_of c.args.effects.now) (writing_of c.in_ok-writing.writing) (Some c.in-Some.appends) c.in_ok-writing.ensures (rw c.in-Some.is at c.in_ok-goal.ensures) c.write_third.result _ c.write_third.ensures

@@ -1,0 +1,34 @@
+-- What a run under one ask tells of the runs under others.
+use Rattle.std.specs.Prelude.{◌≡◌, true, false, List}
+use Rattle.redo_step.specs.declared.deps.DepKind.TheVariants as kinds
+use Rattle.redo_step.specs.Path.{Path}
+use Rattle.redo_step.specs.Meaning.{Setting, Ask, Entry, State, End, exited, faulted, stopped, Run, goes, ends, end_state, is_entered, lacks}
+use Rattle.redo_step.specs.Reach.{Extends}
+
+-- each operand of redo-ifchange among the entries is a source or has an answer
+pub record AreKnown (setting : Setting) (ask : Ask) (entries : List Entry) : Type 0 where
+  pub known : (p : Path) → is_entered entries kinds.Change p ≡ true → lacks setting ask p ≡ false
+
+-- A script stopped in this state under the first ask. Under another one it comes at least as far, and no further while
+-- an operand lacks its answer.
+pub record Awaits (setting : Setting) (ask later : Ask) (s : State) (run : Run) : Type 0 where
+  pub lacking : (p : Path) × (is_entered s.entries kinds.Change p ≡ true) × (lacks setting ask p ≡ true)
+  pub extends : Extends s.entries (end_state run).entries
+  pub stays : (p : Path) → is_entered s.entries kinds.Change p ≡ true → lacks setting later p ≡ true →
+      (ps : List Path) × (run ≡ ends (stopped ps) s)
+
+-- it ended, and lacks no answer
+abbrev pub IsEnd : End → Type 0
+IsEnd (exited n) = Unit {0}
+IsEnd (faulted w) = Unit {0}
+IsEnd (stopped ps) = ⊥
+
+abbrev pub Ends : Setting → Ask → Ask → End → State → Run → Type 0
+Ends setting ask later (exited n) s run = (run ≡ ends (exited n) s) × AreKnown setting ask s.entries
+Ends setting ask later (faulted w) s run = (run ≡ ends (faulted w) s) × AreKnown setting ask s.entries
+Ends setting ask later (stopped ps) s run = Awaits setting ask later s run
+
+-- The first run, under the first ask, is a beginning of the second, under the other: they are one unless it stopped.
+abbrev pub Begins : Setting → Ask → Ask → Run → Run → Type 0
+Begins setting ask later (goes s) run = (run ≡ goes s) × AreKnown setting ask s.entries
+Begins setting ask later (ends e s) run = Ends setting ask later e s run

@@ -1,0 +1,6 @@
+-- The bounds of limits.
+use Rattle.std.specs.Prelude.{ℕ, ◌≤◌, ◌^◌}
+
+-- at least one target and one byte, and at most 65,536 targets and a gibibyte
+abbrev pub AreLimits : ℕ → ℕ → Type 0
+AreLimits targets file_bytes = (1 ≤ targets) × (targets ≤ 65536) × (1 ≤ file_bytes) × (file_bytes ≤ 2 ^ 30)

@@ -1,0 +1,46 @@
+-- What a target's script is run in.
+use Rattle.std.specs.Prelude.{ℕ, Bool, true, false, List, Option, None, Some}
+use Rattle.redo_script.specs.declared.ast.Parameter.{Parameter}
+use Rattle.redo_script.specs.declared.ast.Parameter.TheVariants.{One, Two, Three}
+use Rattle.redo_tree.specs.Tree as tree_words
+use Rattle.redo_tree.specs.Tree.{Tree, Node, node_at, file_at}
+use Rattle.redo_which.specs.Rule.{Outcome as Found, Source, Directory, NoDirectory, NoRule, Rule, Arguments, found_of}
+use Rattle.redo_step.specs.Path.{Path, resolved}
+use Rattle.redo_step.specs.Meaning.{Setting}
+
+-- whether a directory stands there
+abbrev pub is_directory : Option Node → Bool
+is_directory None = false
+is_directory (Some tree_words.Directory) = true
+is_directory (Some (tree_words.File bytes)) = false
+
+-- whether the search found a rule
+abbrev pub is_rule : Found → Bool
+is_rule Source = false
+is_rule Directory = false
+is_rule NoDirectory = false
+is_rule (NoRule missing) = false
+is_rule (Rule do_file missing arguments) = true
+
+-- the bytes that a parameter stands for
+abbrev pub value_in : Arguments → Parameter → List ℕ
+value_in a One = a.one
+value_in a Two = a.two
+value_in a Three = a.three
+
+-- The setting of a target's script in a tree where the search finds this for each path, with the limit of a
+-- file's bytes.
+unfoldable pub setting_by : Tree → (Path → Found) → ℕ → Path → Arguments → Setting
+setting_by tree found limit target a = record {
+  source = file_at tree;
+  is_directory = λ p. is_directory (node_at tree p);
+  has_rule = λ p. is_rule (found p);
+  target = target;
+  directory = a.dir;
+  stands_for = value_in a;
+  third = resolved a.dir a.three;
+  limit = limit;
+}
+
+abbrev pub setting_of : Tree → ℕ → Path → Arguments → Setting
+setting_of tree limit target a = setting_by tree (found_of tree) limit target a

@@ -1,0 +1,115 @@
+//! What each command does.
+
+ghost use Rattle.redo_script.specs.View.{words_of, test_of, command_of, condition_of};
+ghost use Rattle.redo_step.specs.Meaning.{operands_of, free_operands, changed, created, tested_in, command_run, condition_result};
+ghost use Rattle.redo_step.specs.Machine.{Gives, Runs, state_of};
+ghost use Rattle.redo_step.specs.Scene.{scene_setting};
+
+use crate::answers::Answers;
+use crate::declaring::declare;
+use crate::deps::{DepKind, Deps};
+use crate::machine::Effects;
+use crate::scene::Scene;
+use crate::stop::Stop;
+use redo_script::{Command, Condition, Test, Word};
+
+impl Scene<'_> {
+    /// Runs a simple command.
+    pub(crate) fn command<A: Answers>(
+        &self,
+        answers: &A,
+        line: u64,
+        command: &Command,
+        effects: &mut Effects,
+    ) -> Result<(), Stop>
+        ensures { Runs result (command_run (scene_setting self.now) (A.ask answers.now) line (command_of command.now) (state_of effects.old)) (state_of effects.new) }
+    {
+        match command {
+            Command::Write(writer, redirection) => {
+                self.write(answers, line, writer, redirection, effects)
+            }
+            Command::Test(test) => {
+                if self.tested(answers, line, test, &effects.deps)? {
+                    Ok(())
+                } else {
+                    Err(Stop::exit(1))
+                }
+            }
+            Command::Change(words) => self.change(answers, line, words, effects),
+            Command::Create(words) => self.create(line, words, effects),
+            Command::True => Ok(()),
+            Command::False => Err(Stop::exit(1)),
+            Command::Exit(status) => Err(Stop::exit(*status)),
+        }
+    }
+
+    /// redo-ifchange(1): declares these words' paths, and waits until they are made.
+    fn change<A: Answers>(
+        &self,
+        answers: &A,
+        line: u64,
+        words: &[Word],
+        effects: &mut Effects,
+    ) -> Result<(), Stop>
+        ensures { Runs result (changed (scene_setting self.now) (A.ask answers.now) line (operands_of (scene_setting self.now) line (words_of words.now)) (state_of effects.old)) (state_of effects.new) }
+    {
+        let paths = self.operands(line, words)?;
+        declare(&mut effects.deps, DepKind::Change, &paths)?;
+        self.wait(answers, line, &paths)
+    }
+
+    /// redo-ifcreate(1): declares these words' paths, none of which may be there.
+    fn create(&self, line: u64, words: &[Word], effects: &mut Effects) -> Result<(), Stop>
+        ensures { Runs result (created (free_operands (scene_setting self.now) line (words_of words.now)) (state_of effects.old)) (state_of effects.new) }
+    {
+        let paths = self.operands(line, words)?;
+        self.check_free(line, &paths)?;
+        declare(&mut effects.deps, DepKind::Create, &paths)?;
+        Ok(())
+    }
+
+    /// What test(1) answers.
+    fn tested<A: Answers>(
+        &self,
+        answers: &A,
+        line: u64,
+        test: &Test,
+        declared: &Deps,
+    ) -> Result<bool, Stop>
+        ensures { Gives (λ holds. holds) result (tested_in (scene_setting self.now) (A.ask answers.now) declared.now line (test_of test.now)) }
+    {
+        match test {
+            Test::IsFile(word) => {
+                let text = self.text(line, word)?;
+                Ok(self.file(answers, line, declared, &text)?.is_some())
+            }
+            Test::Equal(first, second) => {
+                let first = self.text(line, first)?;
+                let second = self.text(line, second)?;
+                Ok(first.as_slice() == second.as_slice())
+            }
+            Test::Differ(first, second) => {
+                let first = self.text(line, first)?;
+                let second = self.text(line, second)?;
+                Ok(first.as_slice() != second.as_slice())
+            }
+        }
+    }
+
+    /// What the command after `if` says.
+    pub(crate) fn condition<A: Answers>(
+        &self,
+        answers: &A,
+        line: u64,
+        condition: &Condition,
+        effects: &Effects,
+    ) -> Result<bool, Stop>
+        ensures { Gives (λ holds. holds) result (condition_result (scene_setting self.now) (A.ask answers.now) line (condition_of condition.now) (state_of effects.now)) }
+    {
+        match condition {
+            Condition::Test(test) => self.tested(answers, line, test, &effects.deps),
+            Condition::True => Ok(true),
+            Condition::False => Ok(false),
+        }
+    }
+}

@@ -1,0 +1,232 @@
+//! A target's script that can stop and go on.
+
+ghost use Rattle.std.specs.Prelude.{◌≡◌, ◌+◌, ◌<◌, ◌^◌, IfOk, option_map, Some};
+ghost use Rattle.std.specs.Arc.{arc_value};
+ghost use Rattle.redo_step.specs.Meaning.{Ask as AskOf, result_of, ends};
+ghost use Rattle.redo_step.specs.Record.{outcome_of, search_deps};
+ghost use Rattle.redo_step.specs.Machine.{state_of, end_of};
+ghost use Rattle.redo_step.specs.Job.{begun, Advances};
+ghost use Rattle.redo_step.specs.Endings.{IsRefused, IsEnded, after_end, by_both};
+ghost use Rattle.redo_step.specs.JobView.{IsFit, record_so_far};
+
+use crate::answers::Answers;
+use crate::deps::Deps;
+use crate::limits::Limits;
+use crate::machine::{Effects, Progress, resume};
+use crate::outcome::{Outcome, Why};
+use crate::parsed::Parsed;
+use crate::place::Place;
+use crate::record::{search_record, whole_record};
+use crate::scene::Scene;
+use crate::stop::Ending;
+use redo_path::Path;
+use redo_script::ScriptFault;
+use redo_tree::{Content, Tree};
+use redo_which::Rule;
+use std::alloc::{AllocError, Global};
+use std::marker::Model;
+use std::sync::Arc;
+
+/// A target's script, the place that it stopped at, and what it has done.
+#[derive(Drop)]
+pub struct Job {
+    alloc: Global,
+    tree: Arc<Tree>,
+    target: Path,
+    rule: Rule,
+    parsed: Arc<Parsed>,
+    limits: Limits,
+    place: Place,
+    effects: Effects,
+    turn: u64,
+}
+
+impl Model for Job {
+    ghost use Rattle.std.specs.Arc.{arc_value};
+    ghost use Rattle.redo_which.specs.Views.{arguments_view};
+    ghost use Rattle.redo_step.specs.Machine.{state_of};
+    ghost use Rattle.redo_step.specs.JobView.{JobView};
+    ghost use Rattle.redo_script.specs.contracts.ast.Stmt as stmts;
+    ghost use Rattle.redo_step.specs.contracts.place.Place as places;
+    ghost use Rattle.std.specs.Coded.{codes};
+
+    ghost Value = { JobView };
+
+    ghost coded = { Prim.hlevel (codes, stmts.the_row.coded, places.the_row.coded) };
+
+    ghost view = { λ j. record { tree = arc_value j.tree; target = j.target; do_file = j.rule.do_file; missing = j.rule.missing.items; arguments = arguments_view j.rule.args; limits = j.limits; parsed = arc_value j.parsed; place = j.place; state = state_of j.effects; turn = j.turn } };
+}
+
+/// What became of a target whose script ended, with its record.
+#[derive(Drop)]
+pub struct Done {
+    pub outcome: Outcome,
+    pub deps: Deps,
+}
+
+/// What an advance came to.
+#[derive(Drop)]
+pub enum Step {
+    /// The script ended.
+    Ended(Done),
+    /// The script goes on once these paths have answers, each named once.
+    Asks { job: Job, paths: Vec<Path> },
+}
+
+impl Job {
+    /// A script before its first statement.
+    pub fn begin(
+        alloc: Global,
+        tree: Arc<Tree>,
+        target: Path,
+        rule: Rule,
+        parsed: Arc<Parsed>,
+        limits: Limits,
+    ) -> Result<Job, AllocError>
+        ensures job { IfOk result (λ job. job ≡ begun (arc_value tree) target rule (arc_value parsed) limits) }
+        ensures fits { IfOk result (λ job. (ask : AskOf) → IsFit job ask) }
+    {
+        Ok(Job {
+            alloc,
+            tree,
+            target,
+            rule,
+            parsed,
+            limits,
+            place: Place::Before(0),
+            effects: Effects {
+                output: Vec::new(alloc),
+                third: None,
+                deps: Deps::new(alloc),
+            },
+            turn: 0,
+        })
+    }
+
+    /// The target that the script makes.
+    pub fn target(&self) -> &Path
+        ensures { result.now ≡ self.now.target }
+    {
+        &self.target
+    }
+
+    /// How often the script has stopped.
+    pub fn turn(&self) -> u64
+        ensures { result ≡ self.now.turn }
+    {
+        self.turn
+    }
+
+    /// What the script itself has declared so far.
+    pub fn declared(&self) -> &Deps
+        ensures { result.now ≡ self.now.state.entries }
+    {
+        &self.effects.deps
+    }
+
+    /// The target's record as far as the script has come: that of the search, and then what it declared.
+    pub fn record(&self) -> Result<Deps, AllocError>
+        ensures { IfOk result (λ deps. deps ≡ record_so_far self.now) }
+    {
+        whole_record(self.alloc, &self.rule, &self.effects.deps)
+    }
+
+    /// Runs on until the script ends, or until an answer is missing.
+    pub fn advance<A: Answers>(self, answers: &A) -> Result<Step, AllocError>
+        requires fits { IsFit self (A.ask answers.now) }
+        requires turn { self.turn + 1 < 2 ^ 64 }
+        ensures { IfOk result (Advances (A.ask answers.now) self) }
+    {
+        let Job {
+            alloc,
+            tree,
+            target,
+            rule,
+            parsed,
+            limits,
+            place,
+            mut effects,
+            turn,
+        } = self;
+        let script = match &*parsed {
+            Parsed::Read(script) => script,
+            Parsed::Refused(fault) => return refused(alloc, &rule, *fault),
+        };
+        let scene = Scene {
+            alloc,
+            tree: &tree,
+            target: &target,
+            args: &rule.args,
+            limit: limits.file_bytes() as usize,
+        };
+        match resume(&scene, answers, &mut effects, &script.stmts, &place)? {
+            Progress::Finished => ended(alloc, &rule, Ending::Exited(0), effects),
+            Progress::Ended(ending) => ended(alloc, &rule, ending, effects),
+            Progress::Stopped(paths, place) => {
+                let job = Job {
+                    alloc,
+                    tree,
+                    target,
+                    rule,
+                    parsed,
+                    limits,
+                    place,
+                    effects,
+                    turn: turn + 1,
+                };
+                Ok(Step::Asks { job, paths })
+            }
+        }
+    }
+}
+
+/// A target whose script can't be read.
+fn refused(alloc: Global, rule: &Rule, fault: ScriptFault) -> Result<Step, AllocError>
+    ensures { IfOk result (λ step. IsRefused (search_deps rule.now.missing.items rule.now.do_file) fault step) }
+{
+    Ok(Step::Ended(Done {
+        outcome: Outcome::Failed(Why::Script(fault)),
+        deps: search_record(alloc, rule)?,
+    }))
+}
+
+/// What an ended script made of its target.
+fn ended(alloc: Global, rule: &Rule, ending: Ending, effects: Effects) -> Result<Step, AllocError>
+    ensures { IfOk result (λ step. IsEnded (search_deps rule.now.missing.items rule.now.do_file) (ends (end_of ending) (state_of effects)) step) }
+{
+    let Effects {
+        output,
+        third,
+        deps,
+    } = effects;
+    let deps = whole_record(alloc, rule, &deps)?;
+    let outcome = outcome_after(ending, output, third)?;
+    Ok(Step::Ended(Done { outcome, deps }))
+}
+
+/// What a target becomes by how its script ended and what it wrote.
+fn outcome_after(
+    ending: Ending,
+    output: Vec<u8>,
+    third: Option<Vec<u8>>,
+) -> Result<Outcome, AllocError>
+    ensures { IfOk result (λ outcome. Some outcome ≡ option_map outcome_of (result_of (after_end (end_of ending) output third))) }
+{
+    match ending {
+        Ending::Exited(0) => made(output, third),
+        Ending::Exited(status) => Ok(Outcome::Failed(Why::Exit(status))),
+        Ending::Faulted(why) => Ok(Outcome::Failed(why)),
+    }
+}
+
+/// What a script with status 0 made of its target.
+fn made(output: Vec<u8>, third: Option<Vec<u8>>) -> Result<Outcome, AllocError>
+    ensures { IfOk result (λ outcome. outcome ≡ outcome_of (by_both output third)) }
+{
+    match third {
+        None if output.is_empty() => Ok(Outcome::Built(None)),
+        None => Ok(Outcome::Built(Some(Content::new(output)?))),
+        Some(bytes) if output.is_empty() => Ok(Outcome::Built(Some(Content::new(bytes)?))),
+        Some(_) => Ok(Outcome::Failed(Why::BothOutputs)),
+    }
+}

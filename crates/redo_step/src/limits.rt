@@ -1,0 +1,64 @@
+//! How large a build may grow.
+
+ghost use Rattle.std.specs.Prelude.{◌≡◌, ◌≤◌, ◌^◌, SomeIff};
+
+use std::marker::Model;
+
+const MOST_TARGETS: u32 = 65_536;
+
+const MOST_BYTES: u32 = 1_073_741_824;
+
+/// How many targets a build may need, and how many bytes a file may have. In a contract it is this pair.
+#[derive(Clone, Copy, Debug, PartialEq, Eq)]
+pub struct Limits {
+    targets: u32,
+    file_bytes: u32,
+}
+
+impl Model for Limits {
+    ghost use Rattle.std.specs.Prelude.{ℕ, ◌≤◌};
+    ghost use Rattle.redo_step.specs.Limits.{AreLimits};
+
+    ghost Value = { ℕ × ℕ };
+
+    ghost view = { λ l. (l.targets, l.file_bytes) };
+
+    ghost invariant = { λ l. AreLimits l.targets l.file_bytes };
+
+    ghost inverse = { λ v. record { targets = v.0; file_bytes = v.1 } };
+}
+
+impl Limits {
+    ghost use Rattle.redo_step.specs.Limits.{AreLimits};
+
+    /// Limits from 1 up to 65,536 targets and a gibibyte; none for other numbers.
+    pub fn new(targets: u32, file_bytes: u32) -> Option<Limits>
+        ensures { SomeIff result (AreLimits targets file_bytes) (targets, file_bytes) }
+    {
+        if targets < 1 || targets > MOST_TARGETS || file_bytes < 1 || file_bytes > MOST_BYTES {
+            return None;
+        }
+        Some(Limits {
+            targets,
+            file_bytes,
+        })
+    }
+
+    /// How many targets a build may need.
+    pub fn targets(&self) -> u32
+        ensures value { result ≡ self.now.0 }
+        ensures least { 1 ≤ result }
+        ensures most { result ≤ 65536 }
+    {
+        self.targets
+    }
+
+    /// How many bytes standard output or `$3` of a script may have.
+    pub fn file_bytes(&self) -> u32
+        ensures value { result ≡ self.now.1 }
+        ensures least { 1 ≤ result }
+        ensures most { result ≤ 2 ^ 30 }
+    {
+        self.file_bytes
+    }
+}

@@ -1,0 +1,159 @@
+//! Runs a script until it ends, or until an answer is missing.
+
+ghost use Rattle.std.specs.Prelude.{◌≡◌, ◌+◌, ◌<◌, IfOk, IfSome, IfNone, length};
+ghost use Rattle.redo_script.specs.View.{script_of};
+ghost use Rattle.redo_script.specs.Syntax.{finish};
+ghost use Rattle.redo_step.specs.Place.{skip, left_at};
+ghost use Rattle.redo_step.specs.Machine.{state_of, Comes, IsStopBefore, IsWithin, IsPassed, HasBranch, HasNoBranch};
+ghost use Rattle.redo_step.specs.Scene.{scene_setting};
+
+use crate::answers::Answers;
+use crate::deps::Deps;
+use crate::place::{Branch, Place};
+use crate::scene::Scene;
+use crate::stop::{Ending, Stop};
+use redo_path::Path;
+use redo_script::Stmt;
+use std::alloc::{AllocError, Global};
+
+/// What a script has done so far.
+#[derive(Drop)]
+pub(crate) struct Effects {
+    pub(crate) output: Vec<u8>,
+    /// The bytes of `$3`, once a redirection made it.
+    pub(crate) third: Option<Vec<u8>>,
+    pub(crate) deps: Deps,
+}
+
+/// How far a list of statements was run.
+#[derive(Debug, Drop)]
+pub(crate) enum Progress {
+    Finished,
+    Ended(Ending),
+    /// Stopped at a place of the list, for want of the answers for these paths.
+    Stopped(Vec<Path>, Place),
+}
+
+/// Runs these statements from the one with this number on.
+#[cycle(running)]
+fn run_from<A: Answers>(
+    scene: &Scene,
+    answers: &A,
+    effects: &mut Effects,
+    stmts: &[Stmt],
+    first: usize,
+) -> Result<Progress, AllocError>
+    ensures { IfOk result (λ progress. Comes (scene_setting scene.now) (A.ask answers.now) (script_of stmts.now) (skip first (script_of stmts.now)) finish (state_of effects.old) progress (state_of effects.new)) }
+{
+    for index in first..stmts.len() {
+        match run_stmt(scene, answers, effects, &stmts[index], index)? {
+            Progress::Finished => {}
+            progress => return Ok(progress),
+        }
+    }
+    Ok(Progress::Finished)
+}
+
+/// Runs one statement, which has this number among those round it.
+#[cycle(running)]
+fn run_stmt<A: Answers>(
+    scene: &Scene,
+    answers: &A,
+    effects: &mut Effects,
+    stmt: &Stmt,
+    index: usize,
+) -> Result<Progress, AllocError>
+    ensures { IfOk result (λ progress. IsPassed (scene_setting scene.now) (A.ask answers.now) stmt.now index (state_of effects.old) progress (state_of effects.new)) }
+{
+    match stmt {
+        Stmt::Simple(line, command) => match scene.command(answers, *line, command, effects) {
+            Ok(()) => Ok(Progress::Finished),
+            Err(stop) => stop_before(stop, index),
+        },
+        Stmt::If(line, condition, first, second) => {
+            match scene.condition(answers, *line, condition, effects) {
+                Ok(true) => {
+                    let progress = run_from(scene, answers, effects, first, 0)?;
+                    within(scene.alloc, progress, index, Branch::First)
+                }
+                Ok(false) => {
+                    let progress = run_from(scene, answers, effects, second, 0)?;
+                    within(scene.alloc, progress, index, Branch::Second)
+                }
+                Err(stop) => stop_before(stop, index),
+            }
+        }
+    }
+}
+
+/// Runs what is left of these statements from a place on.
+pub(crate) fn resume<A: Answers>(
+    scene: &Scene,
+    answers: &A,
+    effects: &mut Effects,
+    stmts: &[Stmt],
+    place: &Place,
+) -> Result<Progress, AllocError>
+    ensures { IfOk result (λ progress. Comes (scene_setting scene.now) (A.ask answers.now) (script_of stmts.now) (left_at place.now (script_of stmts.now)) finish (state_of effects.old) progress (state_of effects.new)) }
+{
+    match place {
+        Place::Before(first) => run_from(scene, answers, effects, stmts, *first),
+        Place::Within(index, branch, inner) => {
+            // A place inside what is no `if` has nothing left.
+            let Some(part) = branch_at(stmts, *index, *branch) else {
+                return Ok(Progress::Finished);
+            };
+            let progress = resume(scene, answers, effects, part, inner)?;
+            match within(scene.alloc, progress, *index, *branch)? {
+                Progress::Finished => run_from(scene, answers, effects, stmts, *index + 1),
+                progress => Ok(progress),
+            }
+        }
+    }
+}
+
+/// The statements of a branch, where the statement with this number has branches.
+fn branch_at(stmts: &[Stmt], index: usize, branch: Branch) -> Option<&[Stmt]>
+    ensures found { IfSome result (λ part. HasBranch stmts.now index branch part.now) }
+    ensures none { IfNone result (HasNoBranch stmts.now index) }
+{
+    if index >= stmts.len() {
+        return None;
+    }
+    match &stmts[index] {
+        Stmt::Simple(_, _) => None,
+        Stmt::If(_, _, first, second) => match branch {
+            Branch::First => Some(first),
+            Branch::Second => Some(second),
+        },
+    }
+}
+
+/// Why a statement stopped, as the progress of the statements round it.
+fn stop_before(stop: Stop, index: usize) -> Result<Progress, AllocError>
+    ensures { IfOk result (IsStopBefore stop index) }
+{
+    match stop {
+        Stop::Ended(ending) => Ok(Progress::Ended(ending)),
+        Stop::Lacks(paths) => Ok(Progress::Stopped(paths, Place::Before(index))),
+        Stop::Memory => Err(AllocError),
+    }
+}
+
+/// The progress of a branch, as that of the statements round it.
+fn within(
+    alloc: Global,
+    progress: Progress,
+    index: usize,
+    branch: Branch,
+) -> Result<Progress, AllocError>
+    ensures { IfOk result (IsWithin progress index branch) }
+{
+    match progress {
+        Progress::Stopped(paths, place) => {
+            let place = Box::new(alloc, place)?;
+            Ok(Progress::Stopped(paths, Place::Within(index, branch, place)))
+        }
+        other => Ok(other),
+    }
+}

@@ -1,0 +1,28 @@
+//! A script that was read.
+
+ghost use Rattle.std.specs.Prelude.{◌≡◌, IfOk};
+ghost use Rattle.redo_script.specs.Texts.{script_in};
+ghost use Rattle.redo_step.specs.Parsed.{parsed_of};
+
+use redo_script::{Reason, Script, ScriptFault, parse};
+use std::alloc::{AllocError, Global};
+
+/// What reading a text came to: its script, or the fault that it has. Want of memory is none of these.
+#[derive(Debug, Drop)]
+pub enum Parsed {
+    Read(Script),
+    Refused(ScriptFault),
+}
+
+impl Parsed {
+    /// Reads a text.
+    pub fn of(alloc: Global, text: &[u8]) -> Result<Parsed, AllocError>
+        ensures { IfOk result (λ parsed. parsed_of parsed ≡ script_in text.now) }
+    {
+        match parse(alloc, text) {
+            Ok(script) => Ok(Parsed::Read(script)),
+            Err(ScriptFault { why: Reason::Memory, .. }) => Err(AllocError),
+            Err(fault) => Ok(Parsed::Refused(fault)),
+        }
+    }
+}

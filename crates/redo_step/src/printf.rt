@@ -1,0 +1,136 @@
+//! What `printf` prints, by printf(1) of POSIX: `%s`, `%%`, and three escapes.
+
+ghost use Rattle.std.specs.Prelude.{◌≡◌, ◌≤◌, ◌∷◌, IfOk, OnOk, IfSome, IfNone, None, Some, option_map, length};
+ghost use Rattle.redo_step.specs.Meaning.{or_else, faulted, sequence_of, with_piece, pieces_of, takes_operands, once, formatted, print_of};
+ghost use Rattle.redo_step.specs.Machine.{all_items};
+ghost use Rattle.redo_step.specs.Printing.{HasPlaces, Prints, PrintsOnce};
+ghost use Rattle.redo_step.specs.Sink.{Fills};
+ghost use Rattle.redo_step.specs.declared.outcome.Why.TheVariants.{Format};
+
+use crate::outcome::Why;
+use crate::sink::Sink;
+use crate::stop::Stop;
+use std::alloc::{AllocError, Global};
+
+/// A piece of a format.
+#[derive(Clone, Copy, Debug, PartialEq, Eq)]
+pub(crate) enum Piece {
+    /// A byte that stands for itself, or for which an escape stands.
+    Literal(u8),
+    /// The place of an operand.
+    Operand,
+}
+
+/// Prints operands by a format, as often as there are operands left.
+pub(crate) fn printf(
+    alloc: Global,
+    line: u64,
+    format: &[u8],
+    texts: &[Vec<u8>],
+    sink: &mut Sink,
+) -> Result<(), Stop>
+    ensures { Fills result (or_else (faulted (Format line)) (print_of format.now (all_items texts.now))) sink.old sink.new }
+{
+    let Some(pieces) = pieces(alloc, format)? else {
+        return Err(Stop::fault(Why::Format(line)));
+    };
+    if !texts.is_empty() && !takes_operands(&pieces) {
+        return Err(Stop::fault(Why::Format(line)));
+    }
+    print(&pieces, texts, sink)?;
+    Ok(())
+}
+
+/// The pieces of a format, unless another sequence stands in it.
+fn pieces(alloc: Global, format: &[u8]) -> Result<Option<Vec<Piece>>, AllocError>
+    ensures { IfOk result (λ pieces. option_map (λ v. v.items) pieces ≡ pieces_of format.now) }
+{
+    let mut pieces = Vec::new(alloc);
+    let mut rest = format;
+    while let Some((first, others)) = rest.split_first() {
+        let Some((piece, after)) = piece_at(*first, others) else {
+            return Ok(None);
+        };
+        pieces.push(piece)?;
+        rest = after;
+    }
+    Ok(Some(pieces))
+}
+
+/// The first piece of a format, and what is behind it.
+fn piece_at(first: u8, others: &[u8]) -> Option<(Piece, &[u8])>
+    ensures none { IfNone result (pieces_of (first ∷ others.now) ≡ None) }
+    ensures some { IfSome result (λ r. pieces_of (first ∷ others.now) ≡ with_piece (Some r.0) (pieces_of r.1.now)) }
+    ensures shorter { IfSome result (λ r. length r.1.now ≤ length others.now) }
+{
+    match first {
+        b'%' | b'\\' => {
+            let (second, after) = others.split_first()?;
+            let piece = sequence(first, *second)?;
+            Some((piece, after))
+        }
+        _ => Some((Piece::Literal(first), others)),
+    }
+}
+
+/// What two bytes stand for, of which the first is a percent sign or a backslash.
+fn sequence(first: u8, second: u8) -> Option<Piece>
+    ensures { result ≡ sequence_of first second }
+{
+    match (first, second) {
+        (b'%', b's') => Some(Piece::Operand),
+        (b'%', b'%') => Some(Piece::Literal(b'%')),
+        (b'\\', b'n') => Some(Piece::Literal(b'\n')),
+        (b'\\', b't') => Some(Piece::Literal(b'\t')),
+        (b'\\', b'\\') => Some(Piece::Literal(b'\\')),
+        _ => None,
+    }
+}
+
+/// Whether a format has a place for an operand.
+fn takes_operands(pieces: &[Piece]) -> bool
+    ensures { result ≡ takes_operands pieces.now }
+{
+    for piece in pieces {
+        if let Piece::Operand = piece {
+            return true;
+        }
+    }
+    false
+}
+
+/// Prints the format once, and then again while operands are left.
+fn print(pieces: &[Piece], texts: &[Vec<u8>], sink: &mut Sink) -> Result<(), AllocError>
+    requires { HasPlaces pieces.now (all_items texts.now) }
+    ensures { OnOk result (Prints (formatted pieces.now (all_items texts.now)) sink.old sink.new) }
+{
+    let mut left = print_once(pieces, texts, sink)?;
+    // What is too long already gets no longer by more rounds.
+    while !left.is_empty() && !sink.is_over {
+        left = print_once(pieces, left, sink)?;
+    }
+    Ok(())
+}
+
+/// Prints the format once, and answers the operands that are left.
+fn print_once<'t>(
+    pieces: &[Piece],
+    texts: &'t [Vec<u8>],
+    sink: &mut Sink,
+) -> Result<&'t [Vec<u8>], AllocError>
+    ensures { IfOk result (λ left. PrintsOnce (once pieces.now (all_items texts.now)) (all_items left.now) sink.old sink.new) }
+{
+    let mut left = texts;
+    for piece in pieces {
+        match piece {
+            Piece::Literal(byte) => sink.add(&[*byte])?,
+            Piece::Operand => {
+                if let Some((text, others)) = left.split_first() {
+                    sink.add(text)?;
+                    left = others;
+                }
+            }
+        }
+    }
+    Ok(left)
+}

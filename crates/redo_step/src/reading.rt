@@ -1,0 +1,62 @@
+//! What `cat` and `test -f` see of a path.
+
+ghost use Rattle.std.specs.Prelude.{◌≡◌, option_copied};
+ghost use Rattle.redo_step.specs.Meaning.{file_of, answered_file};
+ghost use Rattle.redo_step.specs.Machine.{Gives};
+ghost use Rattle.redo_step.specs.Scene.{scene_setting};
+
+use crate::answers::Answers;
+use crate::deps::{Dep, DepKind, Deps};
+use crate::outcome::Why;
+use crate::scene::Scene;
+use crate::stop::Stop;
+use redo_path::Path;
+
+impl Scene<'_> {
+    /// The file of a path that the script has declared.
+    pub(crate) fn file<'s, A: Answers>(
+        &'s self,
+        answers: &'s A,
+        line: u64,
+        declared: &Deps,
+        text: &[u8],
+    ) -> Result<Option<&'s [u8]>, Stop>
+        ensures { Gives option_copied result (file_of (scene_setting self.now) (A.ask answers.now) declared.now line text.now) }
+    {
+        let change = Dep {
+            kind: DepKind::Change,
+            path: self.path(line, text)?,
+        };
+        let is_changed = declared.contains(&change);
+        let create = Dep {
+            kind: DepKind::Create,
+            path: change.path,
+        };
+        if !is_changed && !declared.contains(&create) {
+            return Err(Stop::fault(Why::Undeclared(line)));
+        }
+        match self.source(&create.path) {
+            Some(bytes) => Ok(Some(bytes)),
+            None if is_changed => self.answered(answers, &create.path),
+            None => Ok(None),
+        }
+    }
+
+    /// The file of a path that redo-ifchange declared, and that is no source.
+    fn answered<'s, A: Answers>(
+        &self,
+        answers: &'s A,
+        path: &Path,
+    ) -> Result<Option<&'s [u8]>, Stop>
+        ensures { Gives option_copied result (answered_file path.now (A.ask answers.now path.now)) }
+    {
+        match answers.answer(path) {
+            Some(outcome) => Ok(outcome.file()),
+            None => {
+                let mut paths = Vec::new(self.alloc);
+                paths.push(path.clone()?)?;
+                Err(Stop::Lacks(paths))
+            }
+        }
+    }
+}

@@ -1,0 +1,110 @@
+//! What commands see: the tree, the rule's arguments, the limit of bytes.
+
+ghost use Rattle.std.specs.Prelude.{◌≡◌, IfOk, option_copied};
+ghost use Rattle.std.specs.Str.{bytes_eq};
+ghost use Rattle.redo_script.specs.View.{word_of};
+ghost use Rattle.redo_step.specs.Meaning.{text_of, path_of, is_third};
+ghost use Rattle.redo_step.specs.Machine.{Gives};
+ghost use Rattle.redo_step.specs.Scene.{scene_setting};
+
+use crate::outcome::Why;
+use crate::stop::Stop;
+use crate::value::word_value;
+use redo_path::{Path, PathFault, resolve};
+use redo_script::Word;
+use redo_tree::{Kind, Tree};
+use redo_which::lookup::find;
+use redo_which::{Args, Found};
+use std::alloc::{AllocError, Global};
+
+/// What a script's commands see, beside the answers.
+#[derive(Drop)]
+pub(crate) struct Scene<'a> {
+    pub(crate) alloc: Global,
+    pub(crate) tree: &'a Tree,
+    pub(crate) target: &'a Path,
+    pub(crate) args: &'a Args,
+    pub(crate) limit: usize,
+}
+
+impl Scene<'_> {
+    /// How many bytes standard output or `$3` may have.
+    #[tactic(auto, unfolding(crate::specs::Setting::setting_by))]
+    pub(crate) fn limit(&self) -> usize
+        ensures { result ≡ (scene_setting self.now).limit }
+    {
+        self.limit
+    }
+
+    /// The value of a word.
+    #[tactic(auto, unfolding(crate::specs::Setting::setting_by))]
+    pub(crate) fn text(&self, line: u64, word: &Word) -> Result<Vec<u8>, Stop>
+        ensures { Gives (λ t. t.items) result (text_of (scene_setting self.now) line (word_of word.now)) }
+    {
+        match word_value(self.alloc, self.args, word)? {
+            Some(text) => Ok(text),
+            None => Err(Stop::fault(Why::Unquoted(line))),
+        }
+    }
+
+    /// The path that a text names from the script's directory.
+    #[tactic(auto, unfolding(crate::specs::Setting::setting_by, crate::specs::Path::resolved))]
+    pub(crate) fn path(&self, line: u64, text: &[u8]) -> Result<Path, Stop>
+        ensures { Gives (λ p. p) result (path_of (scene_setting self.now) line text.now) }
+    {
+        match resolve(self.alloc, &self.args.dir, text) {
+            Ok(path) => Ok(path),
+            Err(PathFault::Memory) => Err(Stop::Memory),
+            Err(_) => Err(Stop::fault(Why::Outside(line))),
+        }
+    }
+
+    /// The bytes of a source.
+    #[tactic(auto, unfolding(crate::specs::Setting::setting_by))]
+    pub(crate) fn source(&self, path: &Path) -> Option<&[u8]>
+        ensures { option_copied result ≡ (scene_setting self.now).source path.now }
+    {
+        self.tree.file(path)
+    }
+
+    #[tactic(auto, unfolding(crate::specs::Setting::setting_by))]
+    pub(crate) fn is_directory(&self, path: &Path) -> bool
+        ensures { result ≡ (scene_setting self.now).is_directory path.now }
+    {
+        match self.tree.kind(path) {
+            Kind::Dir => true,
+            Kind::File | Kind::Nothing => false,
+        }
+    }
+
+    /// Whether a path is made by a rule.
+    #[tactic(auto, unfolding(crate::specs::Setting::setting_by))]
+    pub(crate) fn has_rule(&self, path: &Path) -> Result<bool, AllocError>
+        ensures { IfOk result (λ found. found ≡ (scene_setting self.now).has_rule path.now) }
+    {
+        match find(self.alloc, self.tree, path)? {
+            Found::Rule(_) => Ok(true),
+            _ => Ok(false),
+        }
+    }
+
+    /// Whether a path is the target's own.
+    #[tactic(auto, unfolding(crate::specs::Setting::setting_by))]
+    pub(crate) fn is_target(&self, path: &Path) -> bool
+        ensures { result ≡ bytes_eq path.now (scene_setting self.now).target }
+    {
+        path == self.target
+    }
+
+    /// Whether a path is that of `$3`.
+    #[tactic(auto, unfolding(crate::specs::Setting::setting_by, crate::specs::Path::resolved))]
+    pub(crate) fn is_third(&self, path: &Path) -> Result<bool, AllocError>
+        ensures { IfOk result (λ found. found ≡ is_third (scene_setting self.now).third path.now) }
+    {
+        match resolve(self.alloc, &self.args.dir, &self.args.three) {
+            Ok(third) => Ok(third == *path),
+            Err(PathFault::Memory) => Err(AllocError),
+            Err(_) => Ok(false),
+        }
+    }
+}

@@ -1,0 +1,232 @@
+//! What `echo`, `printf` and `cat` write, and where to.
+
+ghost use Rattle.std.specs.Prelude.{◌≡◌, ◌++◌, ◌∷◌, [], OnOk, None, Some, option_map};
+ghost use Rattle.redo_script.specs.View.{writer_of, redirection_of};
+ghost use Rattle.redo_step.specs.Meaning.{joined, contents_of, writer_texts, bytes_of, goal_of, written, with_state};
+ghost use Rattle.redo_step.specs.Machine.{Gives, Runs, all_items, state_of};
+ghost use Rattle.redo_step.specs.Scene.{scene_setting};
+ghost use Rattle.redo_step.specs.Sink.{Adds, Fills};
+ghost use Rattle.redo_step.specs.Writing.{writing_of, content_of, appended, Appends, put_bytes};
+
+use crate::answers::Answers;
+use crate::deps::Deps;
+use crate::machine::Effects;
+use crate::outcome::Why;
+use crate::printf::printf;
+use crate::scene::Scene;
+use crate::sink::Sink;
+use crate::stop::Stop;
+use redo_script::{Redirection, Writer};
+use std::alloc::AllocError;
+use std::mem;
+
+/// A command that writes, with the values of its words.
+#[derive(Debug, Drop)]
+enum Writing {
+    Echo(Vec<Vec<u8>>),
+    Printf(Vec<u8>, Vec<Vec<u8>>),
+    Cat(Vec<Vec<u8>>),
+}
+
+/// Adds these texts with one space between them, and a newline.
+fn echo(texts: &[Vec<u8>], sink: &mut Sink) -> Result<(), AllocError>
+    ensures { OnOk result (Adds (joined (all_items texts.now) ++ 10 ∷ []) sink.old sink.new) }
+{
+    add_joined(texts, sink)?;
+    sink.add(b"\n")
+}
+
+/// Adds these texts with one space between them.
+fn add_joined(texts: &[Vec<u8>], sink: &mut Sink) -> Result<(), AllocError>
+    ensures { OnOk result (Adds (joined (all_items texts.now)) sink.old sink.new) }
+{
+    let Some((first, others)) = texts.split_first() else {
+        return Ok(());
+    };
+    sink.add(first)?;
+    for text in others {
+        sink.add(b" ")?;
+        sink.add(text)?;
+    }
+    Ok(())
+}
+
+impl Scene<'_> {
+    /// The values of a command's words.
+    fn writing(&self, line: u64, writer: &Writer) -> Result<Writing, Stop>
+        ensures { Gives writing_of result (writer_texts (scene_setting self.now) line (writer_of writer.now)) }
+    {
+        match writer {
+            Writer::Echo(words) => Ok(Writing::Echo(self.texts(line, words)?)),
+            Writer::Printf(format, words) => {
+                let format = self.text(line, format)?;
+                let texts = self.texts(line, words)?;
+                Ok(Writing::Printf(format, texts))
+            }
+            Writer::Cat(words) => Ok(Writing::Cat(self.texts(line, words)?)),
+        }
+    }
+
+    /// Whether a redirection, if there is one, appends to `$3`.
+    fn goal(&self, line: u64, redirection: &Option<Redirection>) -> Result<Option<bool>, Stop>
+        ensures { Gives (λ goal. goal) result (goal_of (scene_setting self.now) line (option_map redirection_of redirection.now)) }
+    {
+        let Some(redirection) = redirection else {
+            return Ok(None);
+        };
+        let text = self.text(line, &redirection.word)?;
+        let path = self.path(line, &text)?;
+        if self.is_target(&path) {
+            return Err(Stop::fault(Why::Direct(line)));
+        }
+        if !self.is_third(&path)? {
+            return Err(Stop::fault(Why::Elsewhere(line)));
+        }
+        Ok(Some(redirection.appends))
+    }
+
+    /// Adds the files that these texts name.
+    fn cat<A: Answers>(
+        &self,
+        answers: &A,
+        line: u64,
+        texts: &[Vec<u8>],
+        declared: &Deps,
+        sink: &mut Sink,
+    ) -> Result<(), Stop>
+        ensures { Fills result (contents_of (scene_setting self.now) (A.ask answers.now) declared.now line (all_items texts.now)) sink.old sink.new }
+    {
+        for text in texts {
+            self.cat_one(answers, line, text, declared, sink)?;
+        }
+        Ok(())
+    }
+
+    /// Adds the file that a text names.
+    fn cat_one<A: Answers>(
+        &self,
+        answers: &A,
+        line: u64,
+        text: &[u8],
+        declared: &Deps,
+        sink: &mut Sink,
+    ) -> Result<(), Stop>
+        ensures { Fills result (content_of (scene_setting self.now) (A.ask answers.now) declared.now line text.now) sink.old sink.new }
+    {
+        match self.file(answers, line, declared, text)? {
+            Some(bytes) => {
+                sink.add(bytes)?;
+                Ok(())
+            }
+            None => Err(Stop::exit(1)),
+        }
+    }
+
+    /// Adds what a command writes.
+    fn fill<A: Answers>(
+        &self,
+        answers: &A,
+        line: u64,
+        writing: &Writing,
+        declared: &Deps,
+        sink: &mut Sink,
+    ) -> Result<(), Stop>
+        ensures { Fills result (bytes_of (scene_setting self.now) (A.ask answers.now) declared.now line (writing_of writing.now)) sink.old sink.new }
+    {
+        match writing {
+            Writing::Echo(texts) => {
+                echo(texts, sink)?;
+                Ok(())
+            }
+            Writing::Printf(format, texts) => printf(self.alloc, line, format, texts, sink),
+            Writing::Cat(texts) => self.cat(answers, line, texts, declared, sink),
+        }
+    }
+
+    /// Appends what a command writes. Where it stops, the bytes are those that were there.
+    fn append<A: Answers>(
+        &self,
+        answers: &A,
+        line: u64,
+        writing: &Writing,
+        declared: &Deps,
+        bytes: Vec<u8>,
+    ) -> (Vec<u8>, Result<(), Stop>)
+        ensures { Appends result.1 (appended (scene_setting self.now) (A.ask answers.now) declared.now line (writing_of writing.now) bytes.items) bytes.items result.0.items }
+    {
+        let length = bytes.len();
+        let mut sink = Sink::new(bytes, self.limit());
+        let end = self.fill(answers, line, writing, declared, &mut sink);
+        let Sink {
+            mut bytes, is_over, ..
+        } = sink;
+        let end = match end {
+            Ok(()) if is_over => Err(Stop::fault(Why::TooLarge(line))),
+            end => end,
+        };
+        if end.is_err() {
+            bytes.truncate(length);
+        }
+        (bytes, end)
+    }
+
+    /// Writes to standard output.
+    fn write_output<A: Answers>(
+        &self,
+        answers: &A,
+        line: u64,
+        writing: &Writing,
+        effects: &mut Effects,
+    ) -> Result<(), Stop>
+        ensures { Runs result (put_bytes (scene_setting self.now) (A.ask answers.now) line (writing_of writing.now) None (state_of effects.old)) (state_of effects.new) }
+    {
+        let bytes = mem::replace(&mut effects.output, Vec::new(self.alloc));
+        let (bytes, end) = self.append(answers, line, writing, &effects.deps, bytes);
+        effects.output = bytes;
+        end
+    }
+
+    /// Writes to `$3`.
+    fn write_third<A: Answers>(
+        &self,
+        answers: &A,
+        line: u64,
+        writing: &Writing,
+        appends: bool,
+        effects: &mut Effects,
+    ) -> Result<(), Stop>
+        ensures { Runs result (put_bytes (scene_setting self.now) (A.ask answers.now) line (writing_of writing.now) (Some appends) (state_of effects.old)) (state_of effects.new) }
+    {
+        if appends {
+            if let Some(bytes) = effects.third.take() {
+                let (bytes, end) = self.append(answers, line, writing, &effects.deps, bytes);
+                effects.third = Some(bytes);
+                return end;
+            }
+        }
+        let bytes = Vec::new(self.alloc);
+        let (bytes, end) = self.append(answers, line, writing, &effects.deps, bytes);
+        if end.is_ok() {
+            effects.third = Some(bytes);
+        }
+        end
+    }
+
+    /// Runs a command that writes.
+    pub(crate) fn write<A: Answers>(
+        &self,
+        answers: &A,
+        line: u64,
+        writer: &Writer,
+        redirection: &Option<Redirection>,
+        effects: &mut Effects,
+    ) -> Result<(), Stop>
+        ensures { Runs result (with_state (written (scene_setting self.now) (A.ask answers.now) line (writer_of writer.now) (option_map redirection_of redirection.now) (state_of effects.old)) (state_of effects.old)) (state_of effects.new) }
+    {
+        let writing = self.writing(line, writer)?;
+        match self.goal(line, redirection)? {
+            None => self.write_output(answers, line, &writing, effects),
+            Some(appends) => self.write_third(answers, line, &writing, appends, effects),
+        }
+    }
+}

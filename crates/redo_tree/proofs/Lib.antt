@@ -1,0 +1,13 @@
+pub mod Bodies
+mod Examples
+pub mod Every
+pub mod Grows
+pub mod Keys
+pub mod Lines
+pub mod Nodes
+pub mod Once
+pub mod Pieces
+pub mod Small
+pub mod Spelled
+pub mod Turns
+pub mod Written

@@ -1,0 +1,5 @@
+use Rattle.redo_tree.proofs.Written.{read_back}
+use Rattle.redo_tree.proofs.laws.a_written_tree_is_read_back.Goals as goal
+
+pub returns : goal.returns
+returns c = read_back

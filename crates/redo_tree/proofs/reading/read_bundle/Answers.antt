@@ -1,0 +1,37 @@
+use Rattle.std.proofs.Common.{arith, inr, Ok, sym, subst, IfSome}
+use Rattle.std.proofs.lemmas.Grind.{common_steps}
+use Rattle.std.proofs.lemmas.Result.{err_from_is_err_and}
+use Rattle.redo_tree.specs.Bundle.{Reads}
+use Rattle.redo_tree.proofs.Once.{reads_each}
+use Rattle.redo_tree.proofs.Turns.{Reached-next, Reached-long, nothing_held, reads_all, reads_fault}
+use Rattle.redo_tree.proofs.Small.{reached_small}
+use Rattle.redo_tree.proofs.reading.read_bundle.Goals as goal
+
+pub returns-in_err-read_next-clause-reads : goal.returns-in_err-read_next-clause-reads
+returns-in_err-read_next-clause-reads g c =
+    let p = err_from_is_err_and c.from_residual-in_err-read_next.result c.from_residual-in_err-read_next.ensures.1 in
+    rw (p.1, p.2) (reads_fault _ _ _ _ _ c.loop-number.invariant.reached c.in_err-read_next.ensures.fault)
+
+pub returns-in_err-read_next-clause-each : goal.returns-in_err-read_next-clause-each
+returns-in_err-read_next-clause-each g c =
+    reads_each _ (g.R.ByteIn.left c.args.reader.now) (returns-in_err-read_next-clause-reads g c)
+
+pub loop-number-preserved : goal.loop-number-preserved
+loop-number-preserved g c = record {
+  works = grind (arith, common_steps);
+  reached = Reached-next _ _ _ _ _ _ c.loop-number.invariant.reached (c.in_ok-read_next.ensures.entry (grind (arith, common_steps)));
+}
+
+pub returns-clause-read : goal.returns-clause-read
+returns-clause-read g c = λ h. inr (Reached-long _ _ _ _ c.loop-number.invariant.reached (grind (arith, common_steps)))
+
+pub returns-then-not-branch-clause-small : goal.returns-then-not-branch-clause-small
+returns-then-not-branch-clause-small g c =
+    reached_small _ _ c.loop-number.tree c.read_next.new.tree _ c.loop-number.invariant.reached (c.in_ok-read_next.ensures.end (grind (arith, common_steps))).0
+
+pub returns-then-not-branch-clause-each : goal.returns-then-not-branch-clause-each
+returns-then-not-branch-clause-each g c =
+    let before = c.loop-number.invariant.reached in
+    let (same, end, empty, past) = c.in_ok-read_next.ensures.end (grind (arith, common_steps)) in
+    reads_each (Ok c.read_next.new.tree) (g.R.ByteIn.left c.args.reader.now)
+    (subst (λ t. IfSome (g.R.ByteIn.left c.args.reader.now) (λ text. Reads (Ok t) text)) (sym same) (reads_all _ _ _ c.loop-number.tree _ before end (nothing_held _ _ empty past)))

@@ -1,0 +1,122 @@
+-- A tree: what stands at each path, in the order of the paths' texts.
+use Rattle.std.specs.Prelude.{◌≡◌, ◌&&◌, Bool, nat_eq, ℕ, List, [], ◌∷◌, filter_map, Option, Some, None, Result, Ok, Err, IsSome, option_and_then, option_map, refl}
+use Rattle.std.specs.BTreeMap.{insert_entry, is_at}
+use Rattle.std.specs.Cmp.{IsEquivalence, and_equiv, on_equiv}
+use Rattle.std.specs.Cmp.Lexicographic.{lists_equiv, nat_list_eq_equiv, options_equiv, pointwise, slice_cmp}
+use Rattle.std.specs.Coded.{Coded, code_by, coded_list, coded_option, coded_ℕ}
+use Rattle.std.specs.List.{AllByRecursion}
+use Rattle.std.specs.List.Sorted.{IsStrictlySortedBy}
+use Rattle.std.specs.Map.{keys_of, lookup}
+use Rattle.std.specs.Option.{option_eq, option_map_or, option_or}
+use Rattle.std.specs.Ordering.{nat_cmp}
+use Rattle.redo_path.specs.Names.{IsPath, parent_of}
+use Rattle.redo_tree.specs.declared.entries.Entry.{Entry}
+use Rattle.redo_tree.specs.declared.entries.Entry.TheVariants as entries
+use Rattle.redo_tree.specs.declared.entries.Kind.{Kind}
+use Rattle.redo_tree.specs.declared.entries.Kind.TheVariants as kinds
+use Rattle.redo_tree.specs.declared.faults.TreeFault.{TreeFault}
+use Rattle.redo_tree.specs.declared.faults.TreeFault.TheVariants.{NoDirectory, IsDirectory, IsFile, Twice, Memory}
+
+-- what stands at a path
+pub data Node : Type 0 where
+  Directory : Node
+  File : List ℕ → Node
+
+-- the pairs of a path and what stands there, the paths rising
+abbrev pub Tree : Type 0
+Tree = List (List ℕ × Node)
+
+-- the root alone
+abbrev pub top : Tree
+top = ([], Directory) ∷ []
+
+-- what stands at a path of a tree, if anything does
+abbrev pub node_at : Tree → List ℕ → Option Node
+node_at tree path = lookup (is_at (slice_cmp nat_cmp path)) tree
+
+-- the tree with a node at a path where nothing stands
+abbrev pub with_node : Tree → List ℕ → Node → Tree
+with_node tree path node = insert_entry (slice_cmp nat_cmp) tree path node
+
+abbrev pub kind_of : Option Node → Kind
+kind_of None = kinds.Nothing
+kind_of (Some Directory) = kinds.Dir
+kind_of (Some (File bytes)) = kinds.File
+
+abbrev pub bytes_of : Node → Option (List ℕ)
+bytes_of Directory = None
+bytes_of (File bytes) = Some bytes
+
+-- the bytes of the file at a path
+abbrev pub file_at : Tree → List ℕ → Option (List ℕ)
+file_at tree path = option_and_then bytes_of (node_at tree path)
+
+-- whether two entries are the same
+abbrev pub entry_eq : List ℕ × Node → List ℕ × Node → Bool
+entry_eq e f = pointwise nat_eq e.0 f.0 && option_eq (pointwise nat_eq) (bytes_of e.1) (bytes_of f.1)
+
+-- whether two trees are the same
+abbrev pub tree_eq : Tree → Tree → Bool
+tree_eq = pointwise entry_eq
+
+-- being the same is an equivalence
+abbrev pub trees_alike : IsEquivalence tree_eq
+trees_alike = lists_equiv (and_equiv (on_equiv (λ e. e.0) nat_list_eq_equiv) (on_equiv (λ e. bytes_of e.1) (options_equiv nat_list_eq_equiv)))
+
+-- the path of an entry that is a file
+abbrev pub file_path : List ℕ × Node → Option (List ℕ)
+file_path e = option_map (λ _. e.0) (bytes_of e.1)
+
+-- the paths of the files, in path order
+abbrev pub files_of : Tree → List (List ℕ)
+files_of tree = filter_map file_path tree
+
+-- why nothing goes below what stands in the parent's place
+abbrev pub parent_refusal : Option Node → Option TreeFault
+parent_refusal None = Some NoDirectory
+parent_refusal (Some (File bytes)) = Some IsFile
+parent_refusal (Some Directory) = None
+
+-- why a node can't take the place of what stands there
+abbrev pub place_refusal : Option Node → Node → Option TreeFault
+place_refusal None node = None
+place_refusal (Some Directory) Directory = Some Twice
+place_refusal (Some Directory) (File bytes) = Some IsDirectory
+place_refusal (Some (File bytes)) Directory = Some IsFile
+place_refusal (Some (File bytes)) (File others) = Some Twice
+
+-- why a node can't be added at a path: the parent is looked at first, and the root has none
+abbrev pub refusal : Tree → List ℕ → Node → Option TreeFault
+refusal tree path node =
+    option_or (option_and_then (λ dir. parent_refusal (node_at tree dir)) (parent_of path)) (place_refusal (node_at tree path) node)
+
+-- the tree with one more node, or why it can't be added
+abbrev pub added : Tree → List ℕ → Node → Result Tree TreeFault
+added tree path node = option_map_or Err (refusal tree path node) (Ok (with_node tree path node))
+
+-- a call that was to make this tree of the old one did, or was refused and changed nothing
+abbrev pub Adds : {A : Type 0} → Result A TreeFault → Tree → Tree → Result Tree TreeFault → Type 0
+Adds (Ok x) old new meant = meant ≡ Ok new
+Adds (Err Memory) old new meant = new ≡ old
+Adds (Err fault) old new meant = (meant ≡ Err fault) × (new ≡ old)
+
+-- a place was allowed or refused so, unless memory ran out
+abbrev pub Allows : {A : Type 0} → Result A TreeFault → Option TreeFault → Type 0
+Allows (Ok x) refused = refused ≡ None
+Allows (Err Memory) refused = Unit {0}
+Allows (Err fault) refused = refused ≡ Some fault
+
+-- what the code keeps at a path
+abbrev pub node_of : Entry → Node
+node_of entries.Directory = Directory
+node_of (entries.File content) = File content
+
+abbrev pub node_code : Coded Node
+node_code = code_by (Option (List ℕ)) (coded_option (coded_list coded_ℕ)) bytes_of (λ o. elim o [ None ↦ Directory | Some bytes ↦ File bytes ]) (elim [ Directory ↦ refl | File bytes ↦ refl ])
+
+-- the keys are paths and rise, the root is a directory, and so is the parent of all that stands in the tree
+pub record IsTree (tree : Tree) : Type 0 where
+  pub sorted : IsStrictlySortedBy (slice_cmp nat_cmp) (keys_of tree)
+  pub paths : AllByRecursion IsPath (keys_of tree)
+  pub root : node_at tree [] ≡ Some Directory
+  pub parents : (path dir : List ℕ) → IsSome (node_at tree path) → parent_of path ≡ Some dir → node_at tree dir ≡ Some Directory

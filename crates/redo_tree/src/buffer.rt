@@ -1,0 +1,74 @@
+//! What came from a reader and was not used yet.
+
+ghost use Rattle.std.specs.Prelude.{◌≡◌, ◌<◌, ◌≤◌, ℕ, List, [], length, drop, take, true, false, is_err, Ok, IfOk, OnOk};
+ghost use Rattle.std.specs.Io.KnownBytes.{Consumes, IsAtEnd, prepend_known};
+
+use crate::{Broken, ByteIn};
+use std::alloc::{AllocError, Global};
+use std::marker::Model;
+
+/// How much is asked of a reader in one call.
+const PIECE: usize = 65536;
+
+/// What came from a reader and was not used yet. In a contract it is these bytes.
+#[derive(Drop)]
+pub(crate) struct Held {
+    piece: Vec<u8>,
+    from: usize,
+    to: usize,
+}
+
+impl Model for Held {
+    ghost Value = { List ℕ };
+
+    ghost view = { λ h. drop h.from (take h.to h.piece.items) };
+
+    ghost invariant = { λ h. (h.from ≤ h.to) × (h.to ≤ length h.piece.items) × (0 < length h.piece.items) };
+}
+
+impl Held {
+    /// A buffer that holds nothing.
+    pub(crate) fn new(alloc: Global) -> Result<Held, AllocError>
+        ensures { IfOk result (λ held. held ≡ []) }
+    {
+        let mut piece = Vec::new(alloc);
+        piece.resize(PIECE, 0)?;
+        Ok(Held {
+            piece,
+            from: 0,
+            to: 0,
+        })
+    }
+
+    /// The bytes that are held.
+    pub(crate) fn bytes(&self) -> &[u8]
+        ensures { result.now ≡ self.now }
+    {
+        &self.piece[self.from..self.to]
+    }
+
+    /// Passes over the first bytes.
+    pub(crate) fn skip(&mut self, count: usize)
+        requires { count ≤ length self.old }
+        ensures { self.new ≡ drop count self.old }
+    {
+        self.from += count;
+    }
+
+    /// Reads a piece where nothing is held. At the end of the input nothing is held afterwards.
+    pub(crate) fn fill<R: ByteIn>(&mut self, reader: &mut R) -> Result<bool, Broken>
+        requires { R.has_failed reader.old ≡ false }
+        ensures more { result ≡ Ok true → 0 < length self.new }
+        ensures end { result ≡ Ok false → (self.new ≡ []) × IsAtEnd (R.left reader.new) }
+        ensures bytes { OnOk result (Consumes (prepend_known self.old (R.left reader.old)) (prepend_known self.new (R.left reader.new)) []) }
+        ensures failed { R.has_failed reader.new ≡ is_err result }
+    {
+        if self.from < self.to {
+            return Ok(true);
+        }
+        let count = reader.read(&mut self.piece)?;
+        self.from = 0;
+        self.to = count;
+        Ok(count > 0)
+    }
+}

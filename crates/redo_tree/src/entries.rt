@@ -1,0 +1,167 @@
+//! The tree: what stands at each path.
+
+ghost use Rattle.std.specs.Prelude.{◌≡◌, IfOk, option_copied, map, option_map};
+ghost use Rattle.std.specs.Cmp.{partial_equiv_from_equiv};
+ghost use Rattle.redo_path.specs.Names.{IsPath};
+ghost use Rattle.redo_tree.specs.Tree.{Directory, File, top, node_at, kind_of, file_at, files_of, node_of, refusal, added, tree_eq, trees_alike, Adds, Allows};
+
+use crate::{Content, TreeFault};
+use redo_path::Path;
+use std::alloc::{AllocError, Global};
+use std::collections::BTreeMap;
+use std::marker::Model;
+
+/// What stands at a path.
+#[derive(Clone, Copy, Debug, PartialEq, Eq)]
+pub enum Kind {
+    /// A file.
+    File,
+    /// A directory.
+    Dir,
+    /// Neither.
+    Nothing,
+}
+
+/// What is kept at a path.
+#[derive(Debug, PartialEq, Eq, Drop)]
+pub(crate) enum Entry {
+    Directory,
+    File(Content),
+}
+
+/// The top directory, and the directories and files below it. The parent of each is a directory of
+/// the tree. In a contract it is the list of its entries, in path order, the top directory among
+/// them.
+#[derive(Drop)]
+pub struct Tree {
+    pub(crate) entries: BTreeMap<Path, Entry>,
+    alloc: Global,
+}
+
+impl Model for Tree {
+    ghost use Rattle.std.specs.Prelude.{map};
+    ghost use Rattle.std.specs.Coded.{coded×, coded_list, coded_ℕ};
+    ghost use Rattle.redo_tree.specs.Tree.{Tree as Entries, node_of, node_code, IsTree};
+
+    ghost Value = { Entries };
+
+    ghost coded = { coded_list (coded× (coded_list coded_ℕ) node_code) };
+
+    ghost view = { λ t. map (λ e. (e.0, node_of e.1)) t.entries.entries };
+
+    ghost invariant = { λ t. IsTree (map (λ e. (e.0, node_of e.1)) t.entries.entries) };
+}
+
+impl Tree {
+    /// The top directory alone.
+    pub fn new(alloc: Global) -> Result<Tree, AllocError>
+        ensures { IfOk result (λ tree. tree ≡ top) }
+    {
+        let mut entries = BTreeMap::new(alloc);
+        entries.insert(Path::root(), Entry::Directory)?;
+        Ok(Tree { entries, alloc })
+    }
+
+    /// What is kept at a path.
+    fn entry(&self, path: &Path) -> Option<&Entry>
+        ensures { option_map node_of (option_copied result) ≡ node_at self.now path.now }
+    {
+        self.entries.get(path)
+    }
+
+    /// What stands at a path.
+    pub fn kind(&self, path: &Path) -> Kind
+        ensures { result ≡ kind_of (node_at self.now path.now) }
+    {
+        match self.entry(path) {
+            Some(Entry::File(_)) => Kind::File,
+            Some(Entry::Directory) => Kind::Dir,
+            None => Kind::Nothing,
+        }
+    }
+
+    /// The bytes of a file; none where no file stands.
+    pub fn file(&self, path: &Path) -> Option<&[u8]>
+        ensures { option_copied result ≡ file_at self.now path.now }
+    {
+        match self.entry(path) {
+            Some(Entry::File(content)) => Some(content.bytes()),
+            _ => None,
+        }
+    }
+
+    /// The paths of the files, in path order: that of the paths' bytes.
+    pub fn files(&self, alloc: Global) -> Result<Vec<&Path>, AllocError>
+        ensures { IfOk result (λ paths. map (λ p. p.now) paths.items ≡ files_of self.now) }
+    {
+        let mut paths = Vec::new(alloc);
+        for (path, entry) in &self.entries {
+            match entry {
+                Entry::File(_) => paths.push(path)?,
+                Entry::Directory => {}
+            }
+        }
+        Ok(paths)
+    }
+
+    /// Adds a directory, whose parent has to be one. After a refusal the tree is as it was.
+    pub fn add_dir(&mut self, path: &Path) -> Result<(), TreeFault>
+        ensures { Adds result self.old self.new (added self.old path.now Directory) }
+    {
+        self.add(path, Entry::Directory)
+    }
+
+    /// Adds a file with its bytes, which are taken over and not copied; its parent has to be a
+    /// directory. After a refusal the tree is as it was.
+    pub fn add_file(&mut self, path: &Path, bytes: Vec<u8>) -> Result<(), TreeFault>
+        ensures { Adds result self.old self.new (added self.old path.now (File bytes.items)) }
+    {
+        let content = Content::new(bytes)?;
+        self.add(path, Entry::File(content))
+    }
+
+    /// Whether an entry may stand at a path. The parent is looked at first.
+    fn check_place(&self, path: &Path, entry: &Entry) -> Result<(), TreeFault>
+        ensures path { IsPath path.now }
+        ensures place { Allows result (refusal self.now path.now (node_of entry.now)) }
+    {
+        if let Some(parent) = path.parent(self.alloc)? {
+            match self.kind(&parent) {
+                Kind::Dir => {}
+                Kind::File => return Err(TreeFault::IsFile),
+                Kind::Nothing => return Err(TreeFault::NoDirectory),
+            }
+        }
+        match (self.kind(path), entry) {
+            (Kind::Nothing, _) => Ok(()),
+            (Kind::Dir, Entry::File(_)) => Err(TreeFault::IsDirectory),
+            (Kind::File, Entry::Directory) => Err(TreeFault::IsFile),
+            _ => Err(TreeFault::Twice),
+        }
+    }
+
+    /// Adds an entry, where it may stand.
+    fn add(&mut self, path: &Path, entry: Entry) -> Result<(), TreeFault>
+        ensures { Adds result self.old self.new (added self.old path.now (node_of entry)) }
+    {
+        self.check_place(path, &entry)?;
+        let path = path.clone()?;
+        self.entries.insert(path, entry)?;
+        Ok(())
+    }
+}
+
+/// Two trees are equal that have the same entries. Trees of different sizes are told apart at once.
+impl PartialEq for Tree {
+    ghost eq = { tree_eq };
+
+    ghost laws = { partial_equiv_from_equiv trees_alike };
+
+    fn eq(&self, other: &Tree) -> bool {
+        self.entries.len() == other.entries.len() && self.entries == other.entries
+    }
+}
+
+impl Eq for Tree {
+    ghost laws = { trees_alike };
+}
