@@ -1,5 +1,5 @@
 -- From a job's advance to how far its target comes.
-use Rattle.std.proofs.Common.{◌≡◌, ◌∙◌, ◌++◌, ◌∷◌, [], List, ℕ, Bool, true, false, cond, map, ap, sym, refl, subst, Some, None, Option, append_assoc, arith, Bor}
+use Rattle.std.proofs.Common.{◌≡◌, ◌∙◌, ◌++◌, ◌∷◌, [], List, ℕ, true, false, cond, map, ap, sym, refl, subst, Some, None, Option, append_assoc, arith, Bor}
 use Rattle.std.specs.Prelude.{unwrap_or, All, filter, Contains}
 use Rattle.redo_script.specs.Texts.{script_in}
 use Rattle.redo_tree.specs.Tree.{Tree, file_at}

@@ -1,6 +1,6 @@
 -- What a run over a bundle tells of the text that it read.
 use Rattle.std.proofs.Common.{◌≡◌, ◌≤◌, ◌∙◌, List, ℕ, Option, Some, None, sym, subst, refl, length}
-use Rattle.std.specs.Prelude.{IfSome, Result, Err}
+use Rattle.std.specs.Prelude.{IfSome, Err}
 use Rattle.std.specs.Io.KnownBytes.{Appends}
 use Rattle.redo_tree.specs.Bundle.{IsBundle, Writes}
 use Rattle.redo_tree.specs.Tree.{Tree}

@@ -1,5 +1,5 @@
 -- What becomes of the requested paths, where no script asks for another target.
-use Rattle.std.specs.Prelude.{◌≡◌, ◌<◌, Contains, not, Bool, true, false, ℕ, List, [], Option, Some, None, filter, fold, is_some, length, map, unwrap_or}
+use Rattle.std.specs.Prelude.{◌≡◌, ◌<◌, Contains, not, Bool, ℕ, List, [], None, filter, fold, length, unwrap_or}
 use Rattle.std.specs.BTreeSet.{insert_key}
 use Rattle.std.specs.Cmp.Lexicographic.{slice_cmp}
 use Rattle.std.specs.Ordering.{nat_cmp}
@@ -9,7 +9,6 @@ use Rattle.redo_which.specs.Rule.{Outcome as Found, Source, Directory, NoDirecto
 use Rattle.redo_step.specs.Meaning.{Ask, with_entries}
 use Rattle.redo_step.specs.Record.{Progress, at_once, by_script, search_deps}
 use Rattle.redo_step.specs.Setting.{is_rule, setting_of}
-use Rattle.redo_step.specs.declared.deps.Dep.{Dep}
 use Rattle.redo_step.specs.declared.deps.DepKind.TheVariants.{Create}
 use Rattle.redo_step.specs.declared.outcome.Outcome.TheVariants as outcomes
 use Rattle.redo_step.specs.declared.outcome.Why.TheVariants as why

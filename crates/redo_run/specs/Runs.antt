@@ -1,5 +1,5 @@
 -- What a run over a bundle leaves on its writer.
-use Rattle.std.specs.Prelude.{◌≡◌, ◌≤◌, ◌↔◌, ◌++◌, ◌∷◌, [], ℕ, Bool, IsTrue, IsSome, List, Option, Some, None, Result, Ok, Err, codes, length, option_map}
+use Rattle.std.specs.Prelude.{◌≡◌, ◌≤◌, ◌↔◌, ◌++◌, ◌∷◌, [], ℕ, Bool, IsTrue, IsSome, List, Option, Result, Ok, Err, codes, length, option_map}
 use Rattle.std.specs.Io.KnownBytes.{Appends}
 use Rattle.redo_tree.specs.Bundle.{IsBundle, Reads}
 use Rattle.redo_tree.specs.Tree.{Tree}

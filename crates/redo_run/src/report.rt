@@ -69,12 +69,7 @@ fn push_number(alloc: Global, text: &mut Vec<u8>, number: u64) -> Result<(), All
 }
 
 /// Adds a word and the line of a script that it speaks of.
-fn push_word_at(
-    alloc: Global,
-    text: &mut Vec<u8>,
-    word: &[u8],
-    line: u64,
-) -> Result<(), AllocError>
+fn push_word_at(alloc: Global, text: &mut Vec<u8>, word: &[u8], line: u64) -> Result<(), AllocError>
     ensures { OnOk result (text.new.items ≡ text.old.items ++ word_at word.now line) }
 {
     text.extend_from_slice(word)?;

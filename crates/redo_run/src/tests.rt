@@ -20,12 +20,7 @@ const GOOD: Outcome = Ok(Exit::Good);
 
 const FAILED: Outcome = Ok(Exit::SomeFailed);
 
-fn options(
-    alloc: Global,
-    words: &[&[u8]],
-    targets: u32,
-    file_bytes: u32,
-) -> Result<Options, Fail> {
+fn options(alloc: Global, words: &[&[u8]], targets: u32, file_bytes: u32) -> Result<Options, Fail> {
     let root = Path::root();
     let mut paths = Vec::new(alloc);
     for word in words {
@@ -442,7 +437,11 @@ impl ByteOut for Sink {
         };
         if self.calls == self.fails_at || self.text.push(*byte).is_err() {
             self.broken = true;
-            return if self.takes_nothing { Ok(0) } else { Err(Broken) };
+            return if self.takes_nothing {
+                Ok(0)
+            } else {
+                Err(Broken)
+            };
         }
         self.calls = self.calls.saturating_add(1);
         Ok(1)

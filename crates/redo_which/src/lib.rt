@@ -1,4 +1,14 @@
-//! Which script makes a target, and what it is called with.
+//! Which script makes a target, where it is looked for, and what it is called with.
+//!
+//! For a target `D/name` the search goes over candidates, as redo-whichdo(1) prints them: `D/name.do`,
+//! and then in `D` and each directory above it `default<suffix>.do` for each suffix of the name that
+//! begins at a dot, longest first, and `default.do`. The first that is a file of the tree is the rule.
+//! The search ends at the top directory. Names that end in `.do`, and the top directory, have no
+//! candidates; one that is too long for a path is left out, and one that occurs twice stands at its
+//! first place. Stands on `redo_path` and `redo_tree`.
+//!
+//! - here: what the search finds, as plain data;
+//! - [`lookup`]: the search.
 #![tactic(auto)]
 
 pub mod lookup;
@@ -8,99 +18,62 @@ use redo_path::Path;
 /// A .do file that may have a target's rule.
 #[derive(Debug, Drop)]
 pub struct Candidate {
+    /// The path of the .do file.
     pub do_file: Path,
+    /// The directory of the .do file, in which the script runs.
     pub dir: Path,
-    /// How many bytes of the target's name it matches as a suffix.
+    /// How many bytes at the end of the target's name `default<suffix>.do` matches; 0 for `name.do`
+    /// and `default.do`.
     pub cut: usize,
 }
 
 /// What the search for a rule saw.
 #[derive(Debug, Drop)]
 pub struct Search {
+    /// The candidates before the chosen one, or all of them; each is no file of the tree.
     pub missing: Vec<Path>,
+    /// The first candidate that is a file of the tree.
     pub chosen: Option<Candidate>,
 }
 
-/// What a script is called with.
+/// What a script is called with, as redo(1) has it.
 #[derive(Debug, Drop)]
 pub struct Args {
+    /// The directory of the .do file, in which the script runs.
     pub dir: Path,
+    /// `$1`: the target, relative to the directory.
     pub one: Vec<u8>,
+    /// `$2`: the same without the suffix that `default<suffix>.do` matched.
     pub two: Vec<u8>,
+    /// `$3`: the temporary file, relative to the directory; `$1` and then `.redo.tmp`.
     pub three: Vec<u8>,
 }
 
 /// The script that makes a target.
 #[derive(Debug, Drop)]
 pub struct Rule {
+    /// The path of the script.
     pub do_file: Path,
+    /// The candidates before it, none of which is a file.
     pub missing: Vec<Path>,
+    /// What the script is called with.
     pub args: Args,
 }
 
-/// What a target is.
+/// What a target is: the first of these that holds.
 #[derive(Debug, Drop)]
 pub enum Found {
+    /// A file of the tree, which is not built.
     Source,
+    /// A directory of the tree.
     Directory,
+    /// Its parent is no directory of the tree.
     NoDirectory,
+    /// No candidate is a file.
     NoRule { missing: Vec<Path> },
+    /// A candidate is a file.
     Rule(Rule),
 }
 
 #[cfg(test)]
-mod tests {
-    use crate::lookup::{candidates, find};
-    use crate::Found;
-    use redo_path::{Path, PathFault, resolve};
-    use redo_tree::Tree;
-    use std::alloc::Global;
-    use std::test::Fail;
-
-    fn path(alloc: Global, text: &[u8]) -> Result<Path, PathFault> {
-        let root = Path::root();
-        resolve(alloc, &root, text)
-    }
-
-    /// A tree with a directory `a` and a rule at the top.
-    fn small_tree(alloc: Global) -> Result<Tree, Fail> {
-        let mut tree = Tree::new(alloc)?;
-        let dir = path(alloc, b"a")?;
-        tree.add_dir(&dir)?;
-        let rule = path(alloc, b"default.c.do")?;
-        let script = b"echo $1 $2 > $3\n".to_vec(alloc)?;
-        tree.add_file(&rule, script)?;
-        Ok(tree)
-    }
-
-    fn count(alloc: Global, text: &[u8]) -> Result<usize, Fail> {
-        let target = path(alloc, text)?;
-        Ok(candidates(alloc, &target)?.len())
-    }
-
-    #[test]
-    fn counts_candidates(rt: HostRuntime) -> Result<(), Fail> {
-        let alloc = rt.alloc();
-        assert_eq!(rt; count(alloc, b"a/x.y.c")?, 7);
-        assert_eq!(rt; count(alloc, b"x.")?, 3);
-        assert_eq!(rt; count(alloc, b"default.x")?, 2);
-        assert_eq!(rt; count(alloc, b"a.do")?, 0);
-        Ok(())
-    }
-
-    #[test]
-    fn finds_a_rule(rt: HostRuntime) -> Result<(), Fail> {
-        let alloc = rt.alloc();
-        let tree = small_tree(alloc)?;
-        let target = path(alloc, b"a/x.y.c")?;
-        let rule = match find(alloc, &tree, &target)? {
-            Found::Rule(rule) => rule,
-            _other => return Err("no rule".into()),
-        };
-        assert_eq!(rt; rule.do_file.text(), b"default.c.do".as_slice());
-        assert_eq!(rt; rule.missing.len(), 5);
-        assert_eq!(rt; rule.args.two.as_slice(), b"a/x.y".as_slice());
-        assert_eq!(rt; rule.args.three.as_slice(), b"a/x.y.c.redo.tmp".as_slice());
-        Ok(())
-    }
-}
+mod tests;

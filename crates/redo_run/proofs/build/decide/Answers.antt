@@ -1,9 +1,7 @@
-use Rattle.std.proofs.Common.{◌≡◌, ◌∙◌, ap, subst, sym, false}
+use Rattle.std.proofs.Common.{◌∙◌, ap, subst}
 use Rattle.std.specs.Arc.{arc_value}
 use Rattle.std.specs.Prelude.{IfOk}
 use Rattle.redo_which.specs.Rule.{found_of}
-use Rattle.redo_which.specs.Views.{found_view}
-use Rattle.redo_step.specs.Setting.{is_rule}
 use Rattle.redo_run.specs.Build.{progress_by}
 use Rattle.redo_run.specs.Report.{IsProgress}
 use Rattle.redo_run.proofs.Progressed.{no_rule, not_begun, on_ok}

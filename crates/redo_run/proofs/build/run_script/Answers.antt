@@ -3,9 +3,6 @@ use Rattle.std.specs.Prelude.{unwrap_or}
 use Rattle.redo_tree.specs.Tree.{file_at}
 use Rattle.std.specs.Arc.{arc_value}
 use Rattle.redo_step.specs.Parsed.{parsed_of}
-use Rattle.redo_run.specs.Build.{script_progress}
-use Rattle.redo_run.specs.Report.{IsProgress}
-use Rattle.redo_which.specs.Views.{arguments_view}
 use Rattle.redo_run.proofs.Progressed.{advanced_once, text_found}
 use Rattle.redo_run.proofs.build.run_script.Goals as goal
 

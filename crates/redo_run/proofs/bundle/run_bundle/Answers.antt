@@ -2,7 +2,7 @@ use Rattle.std.proofs.Common.{◌∙◌, ap}
 use Rattle.std.proofs.lemmas.Result.{err_from_is_err_and}
 use Rattle.std.specs.Arc.{arc_value}
 use Rattle.std.specs.Prelude.{Err}
-use Rattle.redo_run.specs.Report.{exit_of, report_text}
+use Rattle.redo_run.specs.Report.{exit_of}
 use Rattle.redo_run.proofs.Told.{explains_build, explains_device, reports}
 use Rattle.redo_run.proofs.bundle.run_bundle.Goals as goal
 

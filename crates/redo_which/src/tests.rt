@@ -1,0 +1,231 @@
+//! Candidates, searches and arguments, a table each.
+
+use crate::lookup::{candidates, find, search};
+use crate::{Found, Rule};
+use redo_path::{Path, PathFault, resolve};
+use redo_tree::Tree;
+use std::alloc::Global;
+use std::test::Fail;
+
+fn path(alloc: Global, word: &[u8]) -> Result<Path, PathFault> {
+    let root = Path::root();
+    resolve(alloc, &root, word)
+}
+
+/// A tree with these directories and these empty files.
+fn tree_of(alloc: Global, dirs: &[&str], files: &[&str]) -> Result<Tree, Fail> {
+    let mut tree = Tree::new(alloc)?;
+    for word in dirs {
+        let dir = path(alloc, word.as_bytes())?;
+        tree.add_dir(&dir)?;
+    }
+    for word in files {
+        let file = path(alloc, word.as_bytes())?;
+        tree.add_file(&file, Vec::new(alloc))?;
+    }
+    Ok(tree)
+}
+
+/// Each text of paths with a blank behind it.
+fn add_paths(text: &mut Vec<u8>, paths: &[Path]) -> Result<(), Fail> {
+    for path in paths {
+        text.extend_from_slice(path.text())?;
+        text.push(b' ')?;
+    }
+    Ok(())
+}
+
+/// The candidates of a target, each .do file with its directory and its cut.
+fn listed(alloc: Global, word: &[u8]) -> Result<Vec<u8>, Fail> {
+    let target = path(alloc, word)?;
+    let mut text = Vec::new(alloc);
+    for candidate in &candidates(alloc, &target)? {
+        text.extend_from_slice(candidate.do_file.text())?;
+        text.push(b':')?;
+        text.extend_from_slice(candidate.dir.text())?;
+        text.push(b':')?;
+        let cut = candidate.cut.to_string(alloc)?;
+        text.extend_from_slice(cut.as_bytes())?;
+        text.push(b' ')?;
+    }
+    Ok(text)
+}
+
+#[test]
+fn candidates_stand_in_the_order_of_the_search(rt: HostRuntime) -> Result<(), Fail> {
+    let alloc = rt.alloc();
+    for (word, meant) in [
+        ("x", "x.do::0 default.do::0 "),
+        (
+            "a/x.y.c",
+            "a/x.y.c.do:a:0 a/default.y.c.do:a:4 a/default.c.do:a:2 a/default.do:a:0 default.y.c.do::4 default.c.do::2 default.do::0 ",
+        ),
+        ("x.", "x..do::0 default..do::1 default.do::0 "),
+        (
+            "a..b",
+            "a..b.do::0 default..b.do::3 default.b.do::2 default.do::0 ",
+        ),
+        (".x", ".x.do::0 default.x.do::2 default.do::0 "),
+        ("default", "default.do::0 "),
+        ("default.x", "default.x.do::0 default.do::0 "),
+        (
+            "d/default.x",
+            "d/default.x.do:d:0 d/default.do:d:0 default.x.do::2 default.do::0 ",
+        ),
+        ("a.do", ""),
+        (".do", ""),
+        ("d/a.do", ""),
+        (".", ""),
+    ] {
+        let text = listed(alloc, word.as_bytes())?;
+        assert_eq!(rt; text.as_slice(), meant.as_bytes(), "{word}");
+    }
+    Ok(())
+}
+
+#[test]
+fn a_candidate_too_long_for_a_path_is_left_out(rt: HostRuntime) -> Result<(), Fail> {
+    let alloc = rt.alloc();
+    for (size, count) in [(252, 2), (253, 1), (255, 1)] {
+        let mut name = Vec::new(alloc);
+        name.resize(size, b'n')?;
+        let target = path(alloc, &name)?;
+        assert_eq!(rt; candidates(alloc, &target)?.len(), count, "{size} bytes");
+    }
+    for (size, count) in [(245, 3), (246, 2), (252, 2), (253, 1)] {
+        let mut name = b".".to_vec(alloc)?;
+        name.resize(size, b'n')?;
+        let target = path(alloc, &name)?;
+        assert_eq!(rt; candidates(alloc, &target)?.len(), count, "{size} bytes");
+    }
+    Ok(())
+}
+
+#[test]
+fn a_search_ends_at_the_first_file(rt: HostRuntime) -> Result<(), Fail> {
+    let alloc = rt.alloc();
+    let tree = tree_of(alloc, &["a", "t.do"], &["default.c.do", "src", "a/y.do"])?;
+    for (word, missing, chosen) in [
+        (
+            "a/x.y.c",
+            "a/x.y.c.do a/default.y.c.do a/default.c.do a/default.do default.y.c.do ",
+            Some("default.c.do"),
+        ),
+        ("a/y", "", Some("a/y.do")),
+        ("x.c", "x.c.do ", Some("default.c.do")),
+        ("src", "src.do default.do ", None),
+        ("a", "a.do default.do ", None),
+        ("t", "t.do default.do ", None),
+        (
+            "b/x.c",
+            "b/x.c.do b/default.c.do b/default.do ",
+            Some("default.c.do"),
+        ),
+        ("x.do", "", None),
+        (".", "", None),
+    ] {
+        let target = path(alloc, word.as_bytes())?;
+        let seen = search(alloc, &tree, &target)?;
+        let mut text = Vec::new(alloc);
+        add_paths(&mut text, &seen.missing)?;
+        assert_eq!(rt; text.as_slice(), missing.as_bytes(), "{word}");
+        let do_file = seen
+            .chosen
+            .as_ref()
+            .map(|candidate| candidate.do_file.text());
+        assert_eq!(rt; do_file, chosen.map(|text| text.as_bytes()), "{word}");
+    }
+    Ok(())
+}
+
+/// The script, what it is called with, and what is missing.
+fn rule_text(alloc: Global, rule: &Rule) -> Result<Vec<u8>, Fail> {
+    let mut text = b"rule ".to_vec(alloc)?;
+    for part in [
+        rule.do_file.text(),
+        rule.args.dir.text(),
+        rule.args.one.as_slice(),
+        rule.args.two.as_slice(),
+        rule.args.three.as_slice(),
+    ] {
+        text.extend_from_slice(part)?;
+        text.push(b':')?;
+    }
+    text.push(b' ')?;
+    add_paths(&mut text, &rule.missing)?;
+    Ok(text)
+}
+
+/// What a target is, in words.
+fn found_text(alloc: Global, tree: &Tree, word: &[u8]) -> Result<Vec<u8>, Fail> {
+    let target = path(alloc, word)?;
+    match find(alloc, tree, &target)? {
+        Found::Source => Ok(b"source".to_vec(alloc)?),
+        Found::Directory => Ok(b"directory".to_vec(alloc)?),
+        Found::NoDirectory => Ok(b"nodirectory".to_vec(alloc)?),
+        Found::NoRule { missing } => {
+            let mut text = b"norule ".to_vec(alloc)?;
+            add_paths(&mut text, &missing)?;
+            Ok(text)
+        }
+        Found::Rule(rule) => rule_text(alloc, &rule),
+    }
+}
+
+#[test]
+fn the_first_that_holds_is_found(rt: HostRuntime) -> Result<(), Fail> {
+    let alloc = rt.alloc();
+    let tree = tree_of(alloc, &["a", "x.d"], &["src", "src.do", "all.do"])?;
+    for (word, meant) in [
+        ("src", "source"),
+        ("src.do", "source"),
+        ("a", "directory"),
+        (".", "directory"),
+        ("b/x", "nodirectory"),
+        ("src/x", "nodirectory"),
+        ("a/b/x", "nodirectory"),
+        ("x", "norule x.do default.do "),
+        ("a/x", "norule a/x.do a/default.do default.do "),
+        ("new.do", "norule "),
+        ("all", "rule all.do::all:all:all.redo.tmp: "),
+    ] {
+        let text = found_text(alloc, &tree, word.as_bytes())?;
+        assert_eq!(rt; text.as_slice(), meant.as_bytes(), "{word}");
+    }
+    Ok(())
+}
+
+#[test]
+fn arguments_are_read_from_the_directory_of_the_script(rt: HostRuntime) -> Result<(), Fail> {
+    let alloc = rt.alloc();
+    let files = ["d/default.x.do", "d/e/f.do", "default.c.do", "default.x.do"];
+    let tree = tree_of(alloc, &["a", "d", "d/e"], &files)?;
+    for (word, meant) in [
+        (
+            "a/x.y.c",
+            "rule default.c.do::a/x.y.c:a/x.y:a/x.y.c.redo.tmp: a/x.y.c.do a/default.y.c.do a/default.c.do a/default.do default.y.c.do ",
+        ),
+        (
+            "d/q.x",
+            "rule d/default.x.do:d:q.x:q:q.x.redo.tmp: d/q.x.do ",
+        ),
+        ("d/e/f", "rule d/e/f.do:d/e:f:f:f.redo.tmp: "),
+        (
+            "d/e/q.x",
+            "rule d/default.x.do:d:e/q.x:e/q:e/q.x.redo.tmp: d/e/q.x.do d/e/default.x.do d/e/default.do ",
+        ),
+        (
+            "default.x",
+            "rule default.x.do::default.x:default.x:default.x.redo.tmp: ",
+        ),
+        (
+            "a/default.x",
+            "rule default.x.do::a/default.x:a/default:a/default.x.redo.tmp: a/default.x.do a/default.do ",
+        ),
+        (".x", "rule default.x.do::.x::.x.redo.tmp: .x.do "),
+    ] {
+        let text = found_text(alloc, &tree, word.as_bytes())?;
+        assert_eq!(rt; text.as_slice(), meant.as_bytes(), "{word}");
+    }
+    Ok(())
+}
