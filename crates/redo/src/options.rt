@@ -13,6 +13,9 @@ use thiserror::Error;
 const TARGETS: u32 = 65_536;
 const FILE_BYTES: u32 = 16_777_216;
 
+/// The most scripts that may run side by side.
+const MOST_JOBS: usize = 64;
+
 /// What the command line asks for, over a bundle on standard input.
 #[derive(Drop)]
 pub(crate) enum Call {
@@ -133,7 +136,7 @@ fn options(alloc: Global, matches: &ArgMatches<'_>) -> Result<Options, Refusal> 
         }
     }
     let workers = match matches.get_one::<usize>("jobs") {
-        Some(jobs) => jobs.clamp(1, 64),
+        Some(jobs) => jobs.clamp(1, MOST_JOBS),
         None => 1,
     };
     match Limits::new(TARGETS, FILE_BYTES) {

@@ -6,8 +6,8 @@ use Rattle.redo_tree.specs.Bundle.{IsBundle, Writes}
 use Rattle.redo_tree.specs.Tree.{Tree}
 use Rattle.redo_run.specs.declared.build.BuildFault.{BuildFault}
 use Rattle.redo_run.specs.declared.build.BuildFault.TheVariants as build
-use Rattle.redo_run.specs.declared.bundle.Options.{Options}
-use Rattle.redo_run.specs.declared.bundle.RunIoFault.TheVariants as run
+use Rattle.redo_run.specs.declared.options.Options.{Options}
+use Rattle.redo_run.specs.declared.fault.RunIoFault.TheVariants as run
 use Rattle.redo_run.specs.declared.report.Exit.{Exit}
 use Rattle.redo_run.specs.declared.report.Report.{Report}
 use Rattle.redo_run.specs.Build.{AsksForMore, IsTooMany, needed}

@@ -3,8 +3,8 @@ use Rattle.redo_tree.specs.declared.faults.BundleFault.{BundleFault}
 use Rattle.redo_tree.specs.declared.faults.BundleFault.TheVariants as bundle
 use Rattle.redo_run.specs.declared.build.BuildFault.{BuildFault}
 use Rattle.redo_run.specs.declared.build.BuildFault.TheVariants as build
-use Rattle.redo_run.specs.declared.bundle.RunIoFault.{RunIoFault}
-use Rattle.redo_run.specs.declared.bundle.RunIoFault.TheVariants as run
+use Rattle.redo_run.specs.declared.fault.RunIoFault.{RunIoFault}
+use Rattle.redo_run.specs.declared.fault.RunIoFault.TheVariants as run
 
 -- want of memory is that of the run; any other fault is the bundle's
 abbrev pub of_bundle : BundleFault → RunIoFault

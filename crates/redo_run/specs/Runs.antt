@@ -6,9 +6,9 @@ use Rattle.redo_tree.specs.Tree.{Tree}
 use Rattle.redo_which.specs.Rule.{chosen_of}
 use Rattle.redo_which.specs.Views.{place_of}
 use Rattle.redo_which.specs.declared.Search.{Search}
-use Rattle.redo_run.specs.declared.bundle.Options.{Options}
-use Rattle.redo_run.specs.declared.bundle.RunIoFault.{RunIoFault}
-use Rattle.redo_run.specs.declared.bundle.RunIoFault.TheVariants.{Bundle, TooMany, Asks, Device, Memory}
+use Rattle.redo_run.specs.declared.options.Options.{Options}
+use Rattle.redo_run.specs.declared.fault.RunIoFault.{RunIoFault}
+use Rattle.redo_run.specs.declared.fault.RunIoFault.TheVariants.{Bundle, TooMany, Asks, Device, Memory}
 use Rattle.redo_run.specs.declared.report.Exit.{Exit}
 use Rattle.redo_run.specs.declared.report.Report.{Report}
 use Rattle.redo_run.specs.Build.{AsksForMore, IsTooMany, needed}

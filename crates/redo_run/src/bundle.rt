@@ -9,99 +9,14 @@ ghost use Rattle.redo_run.specs.Runs.{Explains, ExplainsList, IsUntouched, Lists
 
 use crate::build::{BuildFault, build};
 use crate::report::{exit_after, push_path, text_of_report};
-use crate::{Exit, Report};
+use crate::{Exit, Options, Report, RunIoFault};
 use redo_path::{Path, resolve};
 use redo_step::Limits;
-use redo_tree::{Broken, BundleFault, ByteIn, ByteOut, Tree, read_bundle, write_all};
+use redo_tree::{ByteIn, ByteOut, Tree, read_bundle, write_all};
 use redo_which::Search;
 use redo_which::lookup::search;
-use std::alloc::{AllocError, AllocFailed, Global};
+use std::alloc::{AllocError, Global};
 use std::sync::Arc;
-use thiserror::Error;
-
-/// What to build, with how many workers, and how large it may grow.
-#[derive(Debug, Drop)]
-pub struct Options {
-    /// The requested paths; `all` where there are none.
-    pub targets: Vec<Path>,
-    /// How many scripts may run side by side, from 1 to 64. For now every number runs on one thread.
-    pub workers: usize,
-    pub limits: Limits,
-}
-
-/// Why a run over a bundle has no result.
-#[derive(Clone, Copy, Debug, PartialEq, Eq, Error)]
-pub enum RunIoFault {
-    #[error("the bundle is refused: {0}")]
-    Bundle(BundleFault),
-    #[error("more targets are needed than the limit allows")]
-    TooMany,
-    /// A script asks for another target, which isn't served yet.
-    #[error("a script asks for another target")]
-    Asks,
-    #[error("the writer failed")]
-    Device,
-    #[error("out of memory")]
-    Memory,
-}
-
-impl From<AllocError> for RunIoFault {
-    ghost use Rattle.redo_run.specs.declared.bundle.RunIoFault.TheVariants.{Memory};
-
-    ghost from_gives = { λ _ fault. fault ≡ Memory };
-
-    fn from(_error: AllocError) -> RunIoFault {
-        RunIoFault::Memory
-    }
-}
-
-impl<T: Drop> From<AllocFailed<T>> for RunIoFault {
-    ghost use Rattle.redo_run.specs.declared.bundle.RunIoFault.TheVariants.{Memory};
-
-    ghost from_gives = { λ _ fault. fault ≡ Memory };
-
-    fn from(_error: AllocFailed<T>) -> RunIoFault {
-        RunIoFault::Memory
-    }
-}
-
-impl From<Broken> for RunIoFault {
-    ghost use Rattle.redo_run.specs.declared.bundle.RunIoFault.TheVariants.{Device};
-
-    ghost from_gives = { λ _ fault. fault ≡ Device };
-
-    fn from(_error: Broken) -> RunIoFault {
-        RunIoFault::Device
-    }
-}
-
-/// A bundle's want of memory is that of the run.
-impl From<BundleFault> for RunIoFault {
-    ghost use Rattle.redo_run.specs.Faults.{of_bundle};
-
-    ghost from_gives = { λ error fault. fault ≡ of_bundle error };
-
-    fn from(error: BundleFault) -> RunIoFault {
-        match error {
-            BundleFault::Memory => RunIoFault::Memory,
-            fault => RunIoFault::Bundle(fault),
-        }
-    }
-}
-
-impl From<BuildFault> for RunIoFault {
-    ghost use Rattle.redo_run.specs.Faults.{of_build};
-
-    ghost from_gives = { λ error fault. fault ≡ of_build error };
-
-    fn from(error: BuildFault) -> RunIoFault {
-        match error {
-            BuildFault::TooMany => RunIoFault::TooMany,
-            BuildFault::Asks => RunIoFault::Asks,
-            BuildFault::Memory => RunIoFault::Memory,
-        }
-    }
-}
 
 /// The target that is built where none is named.
 fn default_target(alloc: Global) -> Result<Path, AllocError>

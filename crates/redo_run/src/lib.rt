@@ -7,14 +7,18 @@
 //!
 //! - `build`: what becomes of each requested path.
 //! - `report`: rows, begun scripts and files, and their text.
-//! - `bundle`: the two calls, their options and faults.
+//! - `bundle`: the two calls; `options` and `fault`: what they take and refuse.
 #![tactic(auto)]
 
 mod build;
 mod bundle;
+mod fault;
+mod options;
 mod report;
 
-pub use bundle::{Options, RunIoFault, run_bundle, whichdo_bundle};
+pub use bundle::{run_bundle, whichdo_bundle};
+pub use fault::RunIoFault;
+pub use options::Options;
 pub use report::{Exit, Report, Row};
 
 #[cfg(test)]

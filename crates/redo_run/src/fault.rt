@@ -1,0 +1,82 @@
+//! Why a run has no result.
+
+ghost use Rattle.std.specs.Prelude.{◌≡◌};
+
+use crate::build::BuildFault;
+use redo_tree::{Broken, BundleFault};
+use std::alloc::{AllocError, AllocFailed};
+use thiserror::Error;
+
+/// Why a run over a bundle has no result.
+#[derive(Clone, Copy, Debug, PartialEq, Eq, Error)]
+pub enum RunIoFault {
+    #[error("the bundle is refused: {0}")]
+    Bundle(BundleFault),
+    #[error("more targets are needed than the limit allows")]
+    TooMany,
+    /// A script asks for another target, which isn't served yet.
+    #[error("a script asks for another target")]
+    Asks,
+    #[error("the writer failed")]
+    Device,
+    #[error("out of memory")]
+    Memory,
+}
+
+impl From<AllocError> for RunIoFault {
+    ghost use Rattle.redo_run.specs.declared.fault.RunIoFault.TheVariants.{Memory};
+
+    ghost from_gives = { λ _ fault. fault ≡ Memory };
+
+    fn from(_error: AllocError) -> RunIoFault {
+        RunIoFault::Memory
+    }
+}
+
+impl<T: Drop> From<AllocFailed<T>> for RunIoFault {
+    ghost use Rattle.redo_run.specs.declared.fault.RunIoFault.TheVariants.{Memory};
+
+    ghost from_gives = { λ _ fault. fault ≡ Memory };
+
+    fn from(_error: AllocFailed<T>) -> RunIoFault {
+        RunIoFault::Memory
+    }
+}
+
+impl From<Broken> for RunIoFault {
+    ghost use Rattle.redo_run.specs.declared.fault.RunIoFault.TheVariants.{Device};
+
+    ghost from_gives = { λ _ fault. fault ≡ Device };
+
+    fn from(_error: Broken) -> RunIoFault {
+        RunIoFault::Device
+    }
+}
+
+/// A bundle's want of memory is that of the run.
+impl From<BundleFault> for RunIoFault {
+    ghost use Rattle.redo_run.specs.Faults.{of_bundle};
+
+    ghost from_gives = { λ error fault. fault ≡ of_bundle error };
+
+    fn from(error: BundleFault) -> RunIoFault {
+        match error {
+            BundleFault::Memory => RunIoFault::Memory,
+            fault => RunIoFault::Bundle(fault),
+        }
+    }
+}
+
+impl From<BuildFault> for RunIoFault {
+    ghost use Rattle.redo_run.specs.Faults.{of_build};
+
+    ghost from_gives = { λ error fault. fault ≡ of_build error };
+
+    fn from(error: BuildFault) -> RunIoFault {
+        match error {
+            BuildFault::TooMany => RunIoFault::TooMany,
+            BuildFault::Asks => RunIoFault::Asks,
+            BuildFault::Memory => RunIoFault::Memory,
+        }
+    }
+}

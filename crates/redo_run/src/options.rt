@@ -1,0 +1,18 @@
+//! What a run is to build.
+
+ghost use Rattle.std.specs.Prelude.{◌≤◌};
+
+use redo_path::Path;
+use redo_step::Limits;
+
+/// What to build, with how many workers, and how large it may grow.
+#[derive(Debug, Drop)]
+pub struct Options {
+    /// The requested paths; `all` where there are none.
+    pub targets: Vec<Path>,
+    /// How many scripts may run side by side, from 1 to 64. For now every number runs on one thread.
+    pub workers: usize,
+    pub limits: Limits,
+    ghost some_workers: { 1 ≤ workers },
+    ghost few_workers: { workers ≤ 64 },
+}
