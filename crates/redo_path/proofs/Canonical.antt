@@ -1,17 +1,17 @@
 -- A path's text names the path, and what a word names is a path.
-use Rattle.std.proofs.Common.{◌≡◌, ◌≢◌, ℕ, ◌+◌, ◌-◌, ◌<◌, ◌≤◌, Bool, true, false, cond, not, List, [], ◌∷◌, ◌++◌, length, get_or, take, drop, refl, sym, ap, subst, ◌∙◌, zero, suc, arith, Option, Some, None, nat_lt, ◌==◌, le-ltb, append_assoc, append-nil, codes, ◌||◌}
+use Rattle.std.proofs.Common.{◌≡◌, ◌≢◌, ℕ, ◌+◌, ◌-◌, ◌<◌, ◌≤◌, Bool, true, false, cond, not, List, [], ◌∷◌, ◌++◌, length, take, refl, sym, ap, subst, ◌∙◌, zero, suc, arith, Some, None, nat_lt, ◌==◌, append_assoc, append-nil, codes}
 use Rattle.std.proofs.lemmas.Grind.{common_steps}
 use Rattle.std.proofs.lemmas.List.Splits.{length-slice_split}
 use Rattle.std.proofs.lemmas.Slice.Eq.{bytes_eq-Decides}
 use Rattle.std.proofs.lemmas.Cmp.{tied_itself, nat_cmp_total}
 use Rattle.std.specs.Cmp.Lexicographic.{slice_cmp}
-use Rattle.std.specs.declared.cmp.Ordering.TheVariants.{Less, Equal, Greater}
+use Rattle.std.specs.declared.cmp.Ordering.TheVariants.{Less}
 use Rattle.std.specs.Ordering.{nat_cmp, ordering_then}
-use Rattle.std.specs.List.{AllByRecursion, onto_first, prefix_len, join_with_byte, position, before_last, suffix_len}
+use Rattle.std.specs.List.{AllByRecursion, onto_first, prefix_len, position, suffix_len}
 use Rattle.std.specs.Option.{option_map, option_map_or}
-use Rattle.std.specs.Prelude.{Result, Ok, Err}
+use Rattle.std.specs.Prelude.{Ok, Err}
 use Rattle.std.specs.Str.{bytes_eq}
-use Rattle.redo_path.specs.declared.PathFault.{PathFault}
+use Rattle.redo_path.proofs.Apart.{apart}
 use Rattle.redo_path.specs.declared.PathFault.TheVariants.{Absolute, BadByte, LongName, LongPath}
 use Rattle.redo_path.specs.Names.{is_slash, is_control, parts, names, text_of, parent_of, IsPart, IsName, IsPath}
 use Rattle.redo_path.specs.Resolve.{step, up_from, walk, word_fault, resolved, within_limit, ◌>>=◌}
@@ -110,13 +110,13 @@ AllByRecursion-take P (suc n) [] h = tt
 AllByRecursion-take P (suc n) (x ∷ xs) h = (h.0, AllByRecursion-take P n xs h.1)
 
 up_names : (ns to : List (List ℕ)) → AllByRecursion IsName ns → up_from ns ≡ Ok to → AllByRecursion IsName to
-up_names [] to h e = absurd (let no : Unit {0} ≡ ⊥ = cc in subst (λ (T : Type 0). T) no tt)
+up_names [] to h e = apart cc
 up_names (n ∷ ns) to h e =
     let same : take (length (n ∷ ns) - 1) (n ∷ ns) ≡ to = cc in
     subst (AllByRecursion IsName) same (AllByRecursion-take IsName (length (n ∷ ns) - 1) (n ∷ ns) h)
 
 step_in : (long : Bool) (ns to : List (List ℕ)) (part : List ℕ) → AllByRecursion IsName ns → (long ≡ false → IsName part) → cond long (Err LongName) (Ok (ns ++ part ∷ [])) ≡ Ok to → AllByRecursion IsName to
-step_in true ns to part h k e = absurd (let no : Unit {0} ≡ ⊥ = cc in subst (λ (T : Type 0). T) no tt)
+step_in true ns to part h k e = apart cc
 step_in false ns to part h k e = let same : ns ++ part ∷ [] ≡ to = cc in subst (AllByRecursion IsName) same (AllByRecursion-append IsName ns (part ∷ []) h (k refl, tt))
 
 step_to : (empty here parent : Bool) (ns to : List (List ℕ)) (part : List ℕ) → AllByRecursion IsName ns → (empty ≡ false → here ≡ false → parent ≡ false → nat_lt 255 (length part) ≡ false → IsName part)
@@ -140,7 +140,7 @@ walk_on-names ns to [] h k e = let same : ns ≡ to = cc in subst (AllByRecursio
 walk_on-names ns to (part ∷ rest) h k e =
     elim (step ns part) as (λ r. step ns part ≡ r → (r >>= λ on. walk on rest) ≡ Ok to → AllByRecursion IsName to) [
       | Ok next ↦ λ s w. walk_on-names next to rest (step-names ns next part h k.0 s) k.1 w
-      | Err fault ↦ λ s w. absurd (let no : Unit {0} ≡ ⊥ = cc in subst (λ (T : Type 0). T) no tt)
+      | Err fault ↦ λ s w. apart cc
     ] refl e
 
 -- the parts of a text of names are these names
@@ -159,7 +159,7 @@ names-text_of [] h = refl
 names-text_of (n ∷ ns) h = parts-names (text_of (n ∷ ns)) (some_text n ns h.0.nonempty) ∙ parts-text_of n ns h
 
 limited : (long : Bool) (text path : List ℕ) → nat_lt 1024 (length text) ≡ long → cond long (Err LongPath) (Ok text) ≡ Ok path → (text ≡ path) × (length text ≤ 1024)
-limited true text path l e = absurd (let no : Unit {0} ≡ ⊥ = cc in subst (λ (T : Type 0). T) no tt)
+limited true text path l e = apart cc
 limited false text path l e = (cc, ltb-false 1024 (length text) l)
 
 path_of_names : (ns : List (List ℕ)) (path : List ℕ) → AllByRecursion IsName ns → within_limit (text_of ns) ≡ Ok path → IsPath path
@@ -170,11 +170,11 @@ path_of_names ns path h e =
 pub path-resolved : (base word path : List ℕ) → IsPath base → resolved base word ≡ Ok path → IsPath path
 path-resolved base word path h e =
     elim (word_fault word) as (λ o. word_fault word ≡ o → option_map_or Err o (walk (names base) (parts word) >>= λ ns. within_limit (text_of ns)) ≡ Ok path → IsPath path) [
-      | Some fault ↦ λ f k. absurd (let no : Unit {0} ≡ ⊥ = cc in subst (λ (T : Type 0). T) no tt)
+      | Some fault ↦ λ f k. apart cc
       | None ↦ λ f k.
           elim (walk (names base) (parts word)) as (λ r. walk (names base) (parts word) ≡ r → (r >>= λ ns. within_limit (text_of ns)) ≡ Ok path → IsPath path) [
             | Ok ns ↦ λ w l. path_of_names ns path (walk_on-names (names base) ns (parts word) h.each (IsPart-parts word (printable-word word f)) w) l
-            | Err fault ↦ λ w l. absurd (let no : Unit {0} ≡ ⊥ = cc in subst (λ (T : Type 0). T) no tt)
+            | Err fault ↦ λ w l. apart cc
           ] refl k
     ] refl e
 
@@ -187,7 +187,7 @@ before_the_whole (suc n) (x ∷ xs) h =
     ap (λ o. ordering_then o (slice_cmp nat_cmp (take n xs) xs)) (tied_itself nat_cmp_total x) ∙ before_the_whole n xs (omega arith)
 
 pub parent_first : (path dir : List ℕ) → parent_of path ≡ Some dir → slice_cmp nat_cmp dir path ≡ Less
-parent_first [] dir h = absurd (let no : Unit {0} ≡ ⊥ = cc in subst (λ (T : Type 0). T) no tt)
+parent_first [] dir h = apart cc
 parent_first (b ∷ bs) dir h =
     let n = length (b ∷ bs) - suffix_len (λ x. not (is_slash x)) (b ∷ bs) - 1 in
     let same : take n (b ∷ bs) ≡ dir = cc in

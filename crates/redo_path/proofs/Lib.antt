@@ -1,3 +1,4 @@
+pub mod Apart
 pub mod Canonical
 pub mod Cuts
 mod Examples

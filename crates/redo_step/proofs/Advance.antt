@@ -1,8 +1,9 @@
 -- What an advance promises, from what running the rest came to.
-use Rattle.std.proofs.Common.{◌≡◌, ℕ, ◌+◌, Result, Ok, List, refl, sym, ap, ◌∙◌, subst}
+use Rattle.std.proofs.Common.{◌≡◌, ℕ, ◌+◌, Some, Result, Ok, List, refl, sym, ap, ◌∙◌, subst}
 use Rattle.redo_script.specs.Syntax.{Script, finish}
 use Rattle.redo_script.specs.View.{script_of}
 use Rattle.redo_script.specs.declared.ast.Script.{Script as ScriptTree}
+use Rattle.redo_step.specs.declared.outcome.Outcome.{Outcome}
 use Rattle.redo_step.specs.declared.job.Step.{Step}
 use Rattle.redo_step.specs.declared.job.Step.TheVariants as steps
 use Rattle.redo_step.specs.declared.parsed.Parsed.TheVariants.{Read, Refused}
@@ -95,3 +96,7 @@ module _ (ask : Ask) (job : JobView) (tree : ScriptTree) (fit : IsFit job ask) (
 pub refused : (ask : Ask) (job : JobView) (fault : ScriptFault) (step : Step) → job.parsed ≡ Refused fault → IsRefused (found_deps job) fault step → Advances ask job step
 refused ask job fault (steps.Ended done) is h = ap (λ p. by_script (job_setting job) (found_deps job) (parsed_of p) ask) is ∙ sym h
 refused ask job fault (steps.Asks later paths) is h = absurd h
+
+-- with more answers a job that asked goes on
+pub fits_more : (ask later : Ask) (job next : JobView) (paths : List Path) → AsksFor ask job next paths → ((p : Path) (o : Outcome) → ask p ≡ Some o → later p ≡ Some o) → IsFit next later
+fits_more ask later job next paths asks more = asks.fits later (record { same = λ p o n h e. more p o e })

@@ -18,3 +18,5 @@ pub mod Adding
 pub mod Rounds
 pub mod Formats
 pub mod Writes
+pub mod Asked
+pub mod Lawful

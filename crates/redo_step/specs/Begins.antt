@@ -23,6 +23,7 @@ IsEnd (exited n) = Unit {0}
 IsEnd (faulted w) = Unit {0}
 IsEnd (stopped ps) = ⊥
 
+-- a run that ended is the same run under the other ask; of one that stopped see above
 abbrev pub Ends : Setting → Ask → Ask → End → State → Run → Type 0
 Ends setting ask later (exited n) s run = (run ≡ ends (exited n) s) × AreKnown setting ask s.entries
 Ends setting ask later (faulted w) s run = (run ≡ ends (faulted w) s) × AreKnown setting ask s.entries

@@ -21,8 +21,10 @@ abbrev pub IsEnded : List Dep → Run → Step → Type 0
 IsEnded deps run (steps.Ended done) = record { outcome = Some done.outcome; deps = done.deps } ≡ after_run deps run
 IsEnded deps run (steps.Asks job paths) = ⊥
 
+-- what a script with status 0 made, by its outputs
 abbrev pub by_both : Vec ℕ Global → Option (Vec ℕ Global) → Made
 by_both output third = by_outputs output.items (option_map (λ v. v.items) third)
 
+-- a run that ended so, with these outputs
 abbrev pub after_end : End → Vec ℕ Global → Option (Vec ℕ Global) → Run
 after_end e output third = ends e (record { output = output.items; third = option_map (λ v. v.items) third; entries = [] })

@@ -47,6 +47,7 @@ pub record AsksFor (ask : Ask) (job later : JobView) (paths : List Path) : Type 
   pub fits : (ask' : Ask) → Keeps (job_setting job) later.state.entries ask ask' → IsFit later ask'
   pub progress : progress_of job ask ≡ record { outcome = None; deps = record_so_far later }
 
+-- what an advance came to
 abbrev pub Advances : Ask → JobView → Step → Type 0
 Advances ask job (steps.Ended done) = EndsAs ask job done
 Advances ask job (steps.Asks later paths) = AsksFor ask job later paths.items

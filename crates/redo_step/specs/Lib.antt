@@ -17,3 +17,4 @@ pub mod Endings
 pub mod Sink
 pub mod Printing
 pub mod Writing
+pub mod Asked

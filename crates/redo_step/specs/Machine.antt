@@ -19,9 +19,11 @@ use Rattle.redo_script.specs.View.{before, script_of}
 use Rattle.redo_step.specs.Place.{skip, inside, left_at}
 use Rattle.redo_step.specs.Reach.{Reaches}
 
+-- what a script has done so far
 abbrev pub state_of : Effects → State
 state_of e = record { output = e.output.items; third = option_map (λ v. v.items) e.third; entries = e.deps }
 
+-- how a script ends
 abbrev pub end_of : Ending → End
 end_of (endings.Exited n) = exited n
 end_of (endings.Faulted w) = faulted w
@@ -76,6 +78,7 @@ IsWithin (progress.Stopped ps place) index branch outer = (p : _) × (outer ≡ 
 pub record IsPassed (setting : Setting) (ask : Ask) (stmt : Stmt) (index : ℕ) (old : State) (progress : Progress) (new : State) : Type 0 where
   pub comes : (whole rest : Script) → skip index whole ≡ before stmt rest → Comes setting ask whole (before stmt rest) rest old progress new
 
+-- the branch, of these two
 abbrev pub picked : Branch → Script → Script → Script
 picked First a b = a
 picked Second a b = b

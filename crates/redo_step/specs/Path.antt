@@ -2,6 +2,7 @@
 use Rattle.std.specs.Prelude.{ℕ, List, Option, Some, None, Ok, Err}
 use Rattle.redo_path.specs.Resolve as paths
 
+-- a path's text
 abbrev pub Path : Type 0
 Path = List ℕ
 

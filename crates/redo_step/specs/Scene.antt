@@ -4,5 +4,6 @@ use Rattle.redo_step.specs.declared.scene.Scene.{Scene}
 use Rattle.redo_step.specs.Meaning.{Setting}
 use Rattle.redo_step.specs.Setting.{setting_of}
 
+-- the setting that commands see
 abbrev pub scene_setting : Scene → Setting
 scene_setting s = setting_of s.tree.now s.limit s.target.now (arguments_view s.args.now)

@@ -42,5 +42,6 @@ setting_by tree found limit target a = record {
   limit = limit;
 }
 
+-- the setting of a target's script in a tree
 abbrev pub setting_of : Tree → ℕ → Path → Arguments → Setting
 setting_of tree limit target a = setting_by tree (found_of tree) limit target a

@@ -64,7 +64,10 @@ impl Scene<'_> {
     fn has_failed<A: Answers>(&self, answers: &A, path: &Path) -> bool
         ensures { result ≡ has_failed (scene_setting self.now) (A.ask answers.now) path.now }
     {
-        self.source(path).is_none() && answers.answer(path).is_some_and(|outcome| outcome.has_failed())
+        self.source(path).is_none()
+            && answers
+                .answer(path)
+                .is_some_and(|outcome| outcome.has_failed())
     }
 
     /// Goes on once all these paths have answers, and none of them failed.

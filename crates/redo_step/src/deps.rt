@@ -71,7 +71,7 @@ impl Deps {
     pub fn is_empty(&self) -> bool
         ensures { result ≡ (length self.now == 0) }
     {
-        self.entries.len() == 0
+        self.len() == 0
     }
 
     pub fn as_slice(&self) -> &[Dep]

@@ -1,4 +1,16 @@
-//! A target's script as a job that stops where an answer is missing, and goes on once it is there.
+//! A target's script as a job: it runs until it ends, or until it lacks an answer that redo-ifchange(1) asked for,
+//! and goes on from there once the answers are there. However often it stops, it comes to what its whole text means
+//! under the answers that it got, with the same record.
+//!
+//! It stands on redo_path for the paths that words name, on redo_tree for sources, on redo_which for a target's rule
+//! and arguments, and on redo_script for the reader.
+//!
+//! - What a script is given: `limits`, `parsed`, `answers`.
+//! - What becomes of a target: `outcome`, `deps`, `record`.
+//! - A job and how it goes on: `job`, `machine`, `place`, `stop`.
+//! - Commands, one idea each: `scene` (what they see), `value` and `words`, `reading`, `printf`, `sink` and `writing`,
+//!   `declaring`, `commands`.
+//! - Laws over what scripts mean: `laws`.
 #![tactic(auto)]
 
 mod answers;
@@ -6,7 +18,6 @@ mod commands;
 mod declaring;
 mod deps;
 mod job;
-
 mod laws;
 mod limits;
 mod machine;
@@ -25,9 +36,11 @@ mod writing;
 
 pub use answers::Answers;
 pub use deps::{Dep, DepKind, Deps};
-
 pub use job::{Done, Job, Step};
-pub use laws::more_answers;
+pub use laws::{more_answers, progress_is_lawful};
 pub use limits::Limits;
 pub use outcome::{Outcome, Why};
 pub use parsed::Parsed;
+
+#[cfg(test)]
+mod tests;

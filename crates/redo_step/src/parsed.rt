@@ -21,7 +21,12 @@ impl Parsed {
     {
         match parse(alloc, text) {
             Ok(script) => Ok(Parsed::Read(script)),
-            Err(ScriptFault { why: Reason::Memory, .. }) => Err(AllocError),
+            Err(
+                ScriptFault {
+                    why: Reason::Memory,
+                    ..
+                },
+            ) => Err(AllocError),
             Err(fault) => Ok(Parsed::Refused(fault)),
         }
     }

@@ -158,7 +158,9 @@ impl Scene<'_> {
         let mut sink = Sink::new(bytes, self.limit());
         let end = self.fill(answers, line, writing, declared, &mut sink);
         let Sink {
-            mut bytes, is_over, ..
+            mut bytes,
+            is_over,
+            ..
         } = sink;
         let end = match end {
             Ok(()) if is_over => Err(Stop::fault(Why::TooLarge(line))),

@@ -5,6 +5,7 @@ use Rattle.std.specs.List.{list_any, before_first, after_first}
 use Rattle.std.specs.Option.{option_or}
 use Rattle.std.specs.Prelude.{Result, Ok, Err, codes, slice_index}
 use Rattle.std.specs.Str.{bytes_eq}
+use Rattle.redo_path.proofs.Apart.{apart}
 use Rattle.redo_path.specs.declared.PathFault.{PathFault}
 use Rattle.redo_path.specs.Names.{IsPath}
 use Rattle.redo_path.specs.Resolve.{resolved}
@@ -33,12 +34,12 @@ record Next (tree : Tree) (text : List ℕ) : Type 0 where
   whole : text ≡ spelling e ++ rest
 
 no_fault_yet : (b : Bool) (fault : BundleFault) (o : Option BundleFault) → cond b (Some fault) o ≡ None → (b ≡ false) × (o ≡ None)
-no_fault_yet true fault o h = absurd (let no : Unit {0} ≡ ⊥ = cc in subst (λ (T : Type 0). T) no tt)
+no_fault_yet true fault o h = apart cc
 no_fault_yet false fault o h = (refl, h)
 
 neither : (a b : Option BundleFault) → option_or a b ≡ None → (a ≡ None) × (b ≡ None)
 neither None b h = (refl, h)
-neither (Some fault) b h = absurd (let no : Unit {0} ≡ ⊥ = cc in subst (λ (T : Type 0). T) no tt)
+neither (Some fault) b h = apart cc
 
 was_true : (b : Bool) → not b ≡ false → b ≡ true
 was_true true h = refl
@@ -49,7 +50,7 @@ taken : (n : ℕ) (tree : Tree) (path : List ℕ) (node : Node) → tree_fault n
 taken n tree path node h =
     elim (added tree path node) as (λ (r : Result Tree TreeFault). added tree path node ≡ r → elim r [ Ok next ↦ None | Err fault ↦ Some (TreeAt n fault) ] ≡ None → (next : Tree) × (added tree path node ≡ Ok next)) [
       | Ok next ↦ λ e k. (next, e)
-      | Err fault ↦ λ e k. absurd (let no : Unit {0} ≡ ⊥ = cc in subst (λ (T : Type 0). T) no tt)
+      | Err fault ↦ λ e k. apart cc
     ] refl h
 
 root_path : IsPath []
@@ -57,17 +58,21 @@ root_path = record { each = tt; short = omega arith }
 
 meant_path : (n : ℕ) (path meant : List ℕ) (same : Bool) → bytes_eq meant path ≡ same → resolved [] path ≡ Ok meant → cond same None (Some (Line n)) ≡ None → resolved [] path ≡ Ok path
 meant_path n path meant true e r h = r ∙ ap Ok (same_bytes meant path e)
-meant_path n path meant false e r h = absurd (let no : Unit {0} ≡ ⊥ = cc in subst (λ (T : Type 0). T) no tt)
+meant_path n path meant false e r h = apart cc
+
+abbrev meant_fault : ℕ → List ℕ → Result (List ℕ) PathFault → Option BundleFault
+meant_fault n path (Ok meant) = cond (bytes_eq meant path) None (Some (Line n))
+meant_fault n path (Err fault) = Some (Path n fault)
+
+names_as : (n : ℕ) (path : List ℕ) (r : Result (List ℕ) PathFault) → resolved [] path ≡ r → meant_fault n path r ≡ None → resolved [] path ≡ Ok path
+names_as n path (Ok meant) e h = meant_path n path meant (bytes_eq meant path) refl e h
+names_as n path (Err fault) e h = apart cc
 
 names_itself : (n : ℕ) (path : List ℕ) → path_fault n path ≡ None → resolved [] path ≡ Ok path
-names_itself n path h =
-    elim (resolved [] path) as (λ (r : Result (List ℕ) PathFault). resolved [] path ≡ r → elim r [ Ok meant ↦ cond (bytes_eq meant path) None (Some (Line n)) | Err fault ↦ Some (Path n fault) ] ≡ None → resolved [] path ≡ Ok path) [
-      | Ok meant ↦ λ e k. meant_path n path meant (bytes_eq meant path) refl e k
-      | Err fault ↦ λ e k. absurd (let no : Unit {0} ≡ ⊥ = cc in subst (λ (T : Type 0). T) no tt)
-    ] refl h
+names_itself n path h = names_as n path (resolved [] path) refl h
 
 not_the_root : (n : ℕ) (path : List ℕ) → path_fault n path ≡ None → path ≢ []
-not_the_root n [] h e = let no : Unit {0} ≡ ⊥ = cc in subst (λ (T : Type 0). T) no tt
+not_the_root n [] h e = apart cc
 not_the_root n (b ∷ bs) h e = cc
 
 -- a path below the root
@@ -93,7 +98,7 @@ long_enough n size rest o h =
 
 ends_line : (n : ℕ) (b : Bool) (o : Option BundleFault) → cond b o (Some (Line n)) ≡ None → (b ≡ true) × (o ≡ None)
 ends_line n true o h = (refl, h)
-ends_line n false o h = absurd (let no : Unit {0} ≡ ⊥ = cc in subst (λ (T : Type 0). T) no tt)
+ends_line n false o h = apart cc
 
 file_next : (n : ℕ) (tree : Tree) (text line path rest : List ℕ) (size : ℕ) → text ≡ line ++ 10 ∷ rest → header_of line ≡ Some (Some size, path) → IsPlace path → body_fault n tree (Some size) path rest ≡ None → Next tree text
 file_next n tree text line path rest size whole header at h =
@@ -119,14 +124,18 @@ header_next : (n : ℕ) (tree : Tree) (text line rest : List ℕ) (header : Opti
 header_next n tree text line rest (None, path) whole header at h = directory_next n tree text line path rest whole header at h
 header_next n tree text line rest (Some size, path) whole header at h = file_next n tree text line path rest size whole header at h
 
+abbrev header_fault : ℕ → Tree → List ℕ → Option (Option ℕ × List ℕ) → Option BundleFault
+header_fault n tree rest None = Some (Line n)
+header_fault n tree rest (Some header) = option_or (path_fault n header.1) (body_fault n tree header.0 header.1 rest)
+
+said_next : (n : ℕ) (tree : Tree) (text line rest : List ℕ) (said : Option (Option ℕ × List ℕ)) → text ≡ line ++ 10 ∷ rest → header_of line ≡ said → header_fault n tree rest said ≡ None → Next tree text
+said_next n tree text line rest None whole e h = apart cc
+said_next n tree text line rest (Some header) whole e h =
+    let both = neither (path_fault n header.1) (body_fault n tree header.0 header.1 rest) h in
+    header_next n tree text line rest header whole e (place n header.1 both.0) both.1
+
 entry_next : (n : ℕ) (tree : Tree) (text line rest : List ℕ) → text ≡ line ++ 10 ∷ rest → entry_fault n tree line rest ≡ None → Next tree text
-entry_next n tree text line rest whole h =
-    elim (header_of line) as (λ (o : Option (Option ℕ × List ℕ)). header_of line ≡ o → elim o [ None ↦ Some (Line n) | Some header ↦ option_or (path_fault n header.1) (body_fault n tree header.0 header.1 rest) ] ≡ None → Next tree text) [
-      | None ↦ λ e k. absurd (let no : Unit {0} ≡ ⊥ = cc in subst (λ (T : Type 0). T) no tt)
-      | Some header ↦ λ e k.
-          let both = neither (path_fault n header.1) (body_fault n tree header.0 header.1 rest) k in
-          header_next n tree text line rest header whole e (place n header.1 both.0) both.1
-    ] refl h
+entry_next n tree text line rest whole h = said_next n tree text line rest (header_of line) whole refl h
 
 nothing_left : (rest : List ℕ) → nat_lt 0 (length rest) ≡ false → rest ≡ []
 nothing_left [] h = refl

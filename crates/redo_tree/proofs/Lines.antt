@@ -117,6 +117,10 @@ words_at words n h =
     let e = any_some is_space words (position_inside is_space words n h) in
     rw e (ap (λ k. option_map (λ size. (size, drop (k + 1) words)) (size_of (take k words))) (position_some is_space words n h))
 
+pub words_found : (words path : List ℕ) (n size : ℕ) → position is_space words ≡ Some n → size_of (take n words) ≡ Some size → path ≡ drop (n + 1) words → ◌≡◌ {A = Option (ℕ × List ℕ)} (Some (size, path)) (words_of words)
+words_found words path n size at sized rest =
+    (λ i. Some (size, rest i)) ∙ sym (words_at words n at ∙ ap (option_map {U = ℕ × List ℕ} (λ k. (k, drop (n + 1) words))) sized)
+
 pub header_none : (line : List ℕ) → bytes_eq (take 4 line) (codes "dir ") ≡ false → bytes_eq (take 5 line) (codes "file ") ≡ false → header_of line ≡ None
 header_none line d f = rw (d, f) refl
 

@@ -2,6 +2,7 @@
 use Rattle.std.proofs.Common.{◌≡◌, ℕ, ◌+◌, List, [], ◌∷◌, ◌++◌, length, refl, sym, ap, subst, ◌∙◌, arith, Option, Some, None, append_assoc, IfSome}
 use Rattle.std.specs.List.{AllByRecursion}
 use Rattle.std.specs.Prelude.{Result, Ok, Err, codes}
+use Rattle.redo_path.proofs.Apart.{apart}
 use Rattle.redo_tree.specs.declared.faults.BundleFault.{BundleFault}
 use Rattle.redo_tree.specs.declared.faults.BundleFault.TheVariants.{Line, Path, Tree as TreeAt, Truncated, Read, Memory}
 use Rattle.redo_tree.specs.declared.faults.TreeFault.{TreeFault}
@@ -34,7 +35,7 @@ first_of : (start tree : Tree) (e : List ℕ × Node) (es : List (List ℕ × No
 first_of start tree e es h =
     elim (added start e.0 e.1) as (λ r. added start e.0 e.1 ≡ r → onward es r ≡ Ok tree → First start e es tree) [
       | Ok next ↦ λ a g. record { next = next; adds = a; makes = g }
-      | Err fault ↦ λ a g. absurd (let no : Unit {0} ≡ ⊥ = cc in subst (λ (T : Type 0). T) no tt)
+      | Err fault ↦ λ a g. apart cc
     ] refl h
 
 no_end_first : (path : List ℕ) (node : Node) (rest : List ℕ) → codes "end\n" ≡ spelling (path, node) ++ rest → ⊥

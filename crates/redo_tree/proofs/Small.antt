@@ -8,6 +8,7 @@ use Rattle.std.specs.Option.{option_map_or}
 use Rattle.std.specs.Ordering.{nat_cmp, match_ordering}
 use Rattle.std.specs.Prelude.{Ok, Err, option_and_then}
 use Rattle.std.specs.declared.cmp.Ordering.TheVariants.{Less, Equal, Greater}
+use Rattle.redo_path.proofs.Apart.{apart}
 use Rattle.redo_tree.specs.declared.faults.TreeFault.{TreeFault}
 use Rattle.redo_tree.specs.Tree.{Node, Directory, File, Tree, top, added, refusal, with_node, node_at, bytes_of}
 use Rattle.redo_tree.specs.Bundle.{IsEntry, HasSmallFiles, grown}
@@ -40,11 +41,11 @@ small-grown old new [] h k e = let same : old ≡ new = cc in subst AllSmall sam
 small-grown old new (x ∷ xs) h k e =
     elim (added old x.0 x.1) as (λ r. added old x.0 x.1 ≡ r → onward xs r ≡ Ok new → AllSmall new) [
       | Ok next ↦ λ a g. small-grown next new xs (small-added old next x.0 x.1 h k.0.2 a) k.1 g
-      | Err fault ↦ λ a g. absurd (let no : Unit {0} ≡ ⊥ = cc in subst (λ (T : Type 0). T) no tt)
+      | Err fault ↦ λ a g. apart cc
     ] refl e
 
 small-lookup : (test : List ℕ → Bool) (es : Tree) (node : Node) → AllSmall es → lookup test es ≡ Some node → is_small node
-small-lookup test [] node h e = absurd (let no : Unit {0} ≡ ⊥ = cc in subst (λ (T : Type 0). T) no tt)
+small-lookup test [] node h e = apart cc
 small-lookup test (x ∷ xs) node h e =
     elim (test x.0) as (λ b. cond b (Some x.1) (lookup test xs) ≡ Some node → is_small node) [
       | true ↦ λ g. let same : x.1 ≡ node = cc in subst is_small same h.0
@@ -52,8 +53,8 @@ small-lookup test (x ∷ xs) node h e =
     ] e
 
 small-bytes : (o : Option Node) (bytes : List ℕ) → ((node : Node) → o ≡ Some node → is_small node) → option_and_then bytes_of o ≡ Some bytes → length bytes ≤ 2 ^ 30
-small-bytes None bytes h e = absurd (let no : Unit {0} ≡ ⊥ = cc in subst (λ (T : Type 0). T) no tt)
-small-bytes (Some Directory) bytes h e = absurd (let no : Unit {0} ≡ ⊥ = cc in subst (λ (T : Type 0). T) no tt)
+small-bytes None bytes h e = apart cc
+small-bytes (Some Directory) bytes h e = apart cc
 small-bytes (Some (File there)) bytes h e = let same : there ≡ bytes = cc in subst (λ b. length b ≤ 2 ^ 30) same (h (File there) refl)
 
 pub Reached-small : (start now : Option (List ℕ)) (tree : Tree) (n : ℕ) → Reached start now tree n → HasSmallFiles tree

@@ -12,6 +12,7 @@ use Rattle.std.specs.Ordering.{nat_cmp, is_eq, match_ordering, ordering_reverse}
 use Rattle.std.specs.Prelude.{Ok, option_and_then}
 use Rattle.std.specs.declared.cmp.Ordering.{Ordering}
 use Rattle.std.specs.declared.cmp.Ordering.TheVariants.{Less, Greater}
+use Rattle.redo_path.proofs.Apart.{apart}
 use Rattle.redo_path.specs.Names.{IsPath, parent_of}
 use Rattle.redo_path.proofs.Canonical.{parent_first}
 use Rattle.redo_tree.specs.Tree.{Node, Directory, File, Tree, IsTree, top, added, bytes_of, node_at, parent_refusal, place_refusal, with_node}
@@ -104,7 +105,7 @@ small_node Directory h = tt
 small_node (File bytes) h = h bytes refl
 
 below_root : (path : List ℕ) → cmp [] path ≡ Less → path ≢ []
-below_root [] h e = let no : Unit {0} ≡ ⊥ = cc in subst (λ (T : Type 0). T) no tt
+below_root [] h e = apart cc
 below_root (b ∷ bs) h e = cc
 
 entries_fit : (done rest : Tree) → IsTree (done ++ rest) → HasSmallFiles (done ++ rest) → AllByRecursion (λ q. cmp [] q ≡ Less) (keys_of rest) → AllByRecursion IsEntry rest
@@ -124,11 +125,11 @@ entries_fit done (e ∷ rest) is small below =
 
 no_root : (b : ℕ) (bs : List ℕ) (qs : Tree) → AllByRecursion (λ q. cmp (b ∷ bs) q ≡ Less) (keys_of qs) → node_at qs [] ≡ None
 no_root b bs [] h = refl
-no_root b bs (([], node) ∷ qs) h = absurd (let no : Unit {0} ≡ ⊥ = cc in subst (λ (T : Type 0). T) no tt)
+no_root b bs (([], node) ∷ qs) h = apart cc
 no_root b bs (((x ∷ xs), node) ∷ qs) h = no_root b bs qs h.1
 
 root_first : (tree : Tree) → IsTree tree → tree ≡ top ++ drop 1 tree
-root_first [] is = let e = is.root in absurd (let no : Unit {0} ≡ ⊥ = cc in subst (λ (T : Type 0). T) no tt)
+root_first [] is = let e = is.root in apart cc
 root_first (([], node) ∷ es) is = let e = is.root in let same : node ≡ Directory = cc in ap (λ n. ([], n) ∷ es) same
 root_first (((b ∷ bs), node) ∷ es) is =
     let e = is.root in

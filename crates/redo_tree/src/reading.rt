@@ -302,8 +302,8 @@ fn read_next<R: ByteIn>(
     Ok(true)
 }
 
-/// Reads a bundle to the end of the input, in pieces of 64 KiB; a file's bytes are copied once, and
-/// memory grows with the bytes that came, whatever length a header states.
+/// Reads a bundle to the end of the input, in pieces of 64 KiB. A file's bytes are copied once, out
+/// of the piece, and memory grows with the bytes that came, whatever length a header states.
 ///
 /// A bundle is entries and then the line `end`, with nothing behind it. An entry is a line
 /// `dir <path>`, or a line `file <length> <path>`, that many bytes (at most 1,073,741,824, in plain

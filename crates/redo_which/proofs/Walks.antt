@@ -6,6 +6,7 @@ use Rattle.std.specs.Option.{option_to_list}
 use Rattle.std.specs.Str.{bytes_eq}
 use Rattle.std.proofs.lemmas.List.{map-append}
 use Rattle.std.proofs.lemmas.List.Sums.{fold-append, take_while-cons}
+use Rattle.redo_path.proofs.Apart.{apart}
 use Rattle.redo_path.specs.Names.{name_of, parent_of}
 use Rattle.redo_path.specs.Resolve.{resolved}
 use Rattle.redo_tree.specs.Tree.{Tree}
@@ -17,7 +18,7 @@ use Rattle.redo_which.specs.Walk.{Walked, ends_at, start, walk_of, walk_on, walk
 use Rattle.redo_which.proofs.Places.{chosen_among-next, list_any-map, missing_among-next, place_at-ok, upward-first}
 
 neither : (a b : Bool) → (a || b) ≡ false → (a ≡ false) × (b ≡ false)
-neither true b h = absurd (let no : Unit {0} ≡ ⊥ = cc in subst (λ (T : Type 0). T) no tt)
+neither true b h = apart cc
 neither false b h = (refl, h)
 
 -- ---- once a file was found, nothing is added
@@ -221,10 +222,10 @@ none_found tree target places found is h =
 
 drop_last : (xs ys : List Place) (x y : Place) → xs ++ x ∷ [] ≡ ys ++ y ∷ [] → (xs ≡ ys) × (x ≡ y)
 drop_last [] [] x y h = (refl, cc)
-drop_last [] (b ∷ []) x y h = absurd (let no : Unit {0} ≡ ⊥ = cc in subst (λ (T : Type 0). T) no tt)
-drop_last [] (b ∷ c ∷ ys) x y h = absurd (let no : Unit {0} ≡ ⊥ = cc in subst (λ (T : Type 0). T) no tt)
-drop_last (a ∷ []) [] x y h = absurd (let no : Unit {0} ≡ ⊥ = cc in subst (λ (T : Type 0). T) no tt)
-drop_last (a ∷ c ∷ xs) [] x y h = absurd (let no : Unit {0} ≡ ⊥ = cc in subst (λ (T : Type 0). T) no tt)
+drop_last [] (b ∷ []) x y h = apart cc
+drop_last [] (b ∷ c ∷ ys) x y h = apart cc
+drop_last (a ∷ []) [] x y h = apart cc
+drop_last (a ∷ c ∷ xs) [] x y h = apart cc
 drop_last (a ∷ xs) (b ∷ ys) x y h =
     let tails : xs ++ x ∷ [] ≡ ys ++ y ∷ [] = cc in
     let heads : a ≡ b = cc in
@@ -255,8 +256,8 @@ answer-none tree target items found is h =
     record { missing = do_files-of items ∙ none.missing; chosen_one = none.chosen }
 
 no_last : (front : List Place) (place : Place) → [] ≡ front ++ place ∷ [] → ⊥
-no_last [] place e = let no : Unit {0} ≡ ⊥ = cc in subst (λ (T : Type 0). T) no tt
-no_last (p ∷ ps) place e = let no : Unit {0} ≡ ⊥ = cc in subst (λ (T : Type 0). T) no tt
+no_last [] place e = apart cc
+no_last (p ∷ ps) place e = apart cc
 
 nothing_found : (tree : Tree) (target : List ℕ) (found : Bool) → record { places = []; found = found } ≡ walk_of (Some tree) target → found ≡ true → ⊥
 nothing_found tree target found is h =

@@ -1,4 +1,4 @@
-use Rattle.std.proofs.Common.{◌≡◌, ◌-◌, ◌<◌, subst, arith, length, take, refl, ap, ◌∙◌, sym, [], ◌∷◌, ◌++◌}
+use Rattle.std.proofs.Common.{◌<◌, subst, arith, length, take, ap, ◌∙◌, sym, [], ◌∷◌, ◌++◌}
 use Rattle.std.proofs.lemmas.Grind.{common_steps}
 use Rattle.redo_path.specs.Names.{IsName, IsPath, names}
 use Rattle.redo_path.proofs.Parts.{AllByRecursion-up, parent_of-start, names-parent, name_of-start}

@@ -1,0 +1,151 @@
+//! Worked scripts: what each makes of its target.
+
+mod commands;
+mod records;
+mod turns;
+
+ghost use Rattle.std.specs.Prelude.{◌≡◌, ℕ, List, None, Some, IfOk, OnOk, nat_eq};
+ghost use Rattle.std.specs.Cmp.Lexicographic.{pointwise};
+ghost use Rattle.indexmap.specs.IndexMap.{get};
+ghost use Rattle.redo_step.specs.declared.outcome.Outcome.{Outcome as OutcomeTree};
+ghost use Rattle.redo_step.specs.JobView.{IsFit};
+ghost use Rattle.redo_step.specs.Meaning.{Ask as AskOf};
+
+use crate::{Answers, Dep, DepKind, Deps, Done, Job, Limits, Outcome, Parsed, Step, Why};
+use indexmap::IndexMap;
+use redo_path::{Path, resolve};
+use redo_tree::{Content, Tree};
+use redo_which::Found;
+use redo_which::lookup::find;
+use std::alloc::Global;
+use std::process::Abort;
+use std::sync::Arc;
+use std::test::Fail;
+
+/// What became of some paths.
+#[derive(Drop)]
+struct Known {
+    outcomes: IndexMap<Path, Outcome>,
+}
+
+impl Answers for Known {
+    ghost ask = { λ k. get (pointwise nat_eq) k.outcomes };
+
+    fn answer(&self, path: &Path) -> Option<&Outcome> {
+        self.outcomes.get(path)
+    }
+}
+
+impl Known {
+    fn nothing(alloc: Global) -> Known
+        ensures { (p : List ℕ) → get (pointwise nat_eq) result.outcomes p ≡ None }
+    {
+        Known {
+            outcomes: IndexMap::new(alloc),
+        }
+    }
+
+    /// Learns what became of a path, unless that is known.
+    fn learn(&mut self, path: Path, outcome: Outcome) -> Result<(), Fail>
+        ensures { OnOk result ((p : List ℕ) (o : OutcomeTree) → get (pointwise nat_eq) self.old.outcomes p ≡ Some o → get (pointwise nat_eq) self.new.outcomes p ≡ Some o) }
+    {
+        if self.outcomes.get(&path).is_none() {
+            self.outcomes.insert(path, outcome)?;
+        }
+        Ok(())
+    }
+}
+
+/// A path and its bytes; a directory where the path ends in a slash.
+type File<'a> = (&'a [u8], &'a [u8]);
+
+fn path(alloc: Global, text: &[u8]) -> Result<Path, Fail> {
+    let root = Path::root();
+    Ok(resolve(alloc, &root, text)?)
+}
+
+fn tree_of(alloc: Global, files: &[File]) -> Result<Tree, Fail> {
+    let mut tree = Tree::new(alloc)?;
+    for (name, bytes) in files {
+        if name.ends_with(b"/") {
+            tree.add_dir(&path(alloc, name)?)?;
+        } else {
+            tree.add_file(&path(alloc, name)?, Vec::from_slice(alloc, bytes)?)?;
+        }
+    }
+    Ok(tree)
+}
+
+fn begin(alloc: Global, files: &[File], target: &[u8], limits: Limits) -> Result<Job, Fail>
+    ensures turn { IfOk result (λ job. job.turn ≡ 0) }
+    ensures fits { IfOk result (λ job. (ask : AskOf) → IsFit job ask) }
+{
+    let tree = tree_of(alloc, files)?;
+    let target = path(alloc, target)?;
+    let Found::Rule(rule) = find(alloc, &tree, &target)? else {
+        return Err("no rule")?;
+    };
+    let parsed = Parsed::of(alloc, tree.file(&rule.do_file).unwrap_or(b""))?;
+    let tree = Arc::new(alloc, tree)?;
+    let parsed = Arc::new(alloc, parsed)?;
+    Ok(Job::begin(alloc, tree, target, rule, parsed, limits)?)
+}
+
+/// Runs a script that lacks no answer.
+fn run(
+    alloc: Global,
+    files: &[File],
+    target: &[u8],
+    known: &Known,
+    limits: Limits,
+) -> Result<Done, Fail> {
+    match begin(alloc, files, target, limits)?.advance(known)? {
+        Step::Ended(done) => Ok(done),
+        Step::Asks { .. } => Err("it asks")?,
+    }
+}
+
+/// An outcome in words: the bytes of its file, `none`, or why it failed.
+fn shown(alloc: Global, outcome: &Outcome) -> Result<Vec<u8>, Fail> {
+    match outcome {
+        Outcome::Built(Some(content)) => Ok([b"file ", content.bytes()].concat(alloc)?),
+        Outcome::Built(None) => Ok(Vec::from_slice(alloc, b"none")?),
+        Outcome::Failed(why) => {
+            let words = format!(in alloc; "{why}")?;
+            Ok(Vec::from_slice(alloc, words.as_bytes())?)
+        }
+        Outcome::Source => Ok(Vec::from_slice(alloc, b"source")?),
+        Outcome::Cyclic => Ok(Vec::from_slice(alloc, b"cyclic")?),
+    }
+}
+
+/// Knows these outcomes.
+fn learned(alloc: Global, outcomes: Vec<(&'static [u8], Outcome)>) -> Result<Known, Fail> {
+    let mut known = Known::nothing(alloc);
+    for (name, outcome) in outcomes {
+        known.learn(path(alloc, name)?, outcome)?;
+    }
+    Ok(known)
+}
+
+/// A script of `t`, and what it makes of it.
+type Row = (&'static [u8], &'static [u8]);
+
+/// Runs each script as that of `t`, beside these files.
+fn check_rows(
+    rt: &(impl Abort + Eprint),
+    alloc: Global,
+    files: &[File],
+    known: &Known,
+    limits: Limits,
+    rows: &[Row],
+) -> Result<(), Fail> {
+    for (script, want) in rows {
+        let mut all = Vec::from_slice(alloc, files)?;
+        all.push((b"t.do", script))?;
+        let done = run(alloc, &all, b"t", known, limits)?;
+        let got = shown(alloc, &done.outcome)?;
+        assert_eq!(rt; got.as_slice(), *want);
+    }
+    Ok(())
+}

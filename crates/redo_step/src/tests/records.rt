@@ -1,0 +1,167 @@
+//! The records of targets.
+
+use super::{File, Known, learned, run, shown};
+use crate::{Dep, DepKind, Deps, Limits, Outcome, Why};
+use redo_path::Path;
+use std::alloc::Global;
+use std::test::Fail;
+
+/// A record in the words of a report.
+fn listed(alloc: Global, deps: &Deps) -> Result<Vec<u8>, Fail> {
+    let mut text = Vec::new(alloc);
+    for dep in deps.as_slice() {
+        text.extend_from_slice(match dep.kind {
+            DepKind::Change => b"change ".as_slice(),
+            DepKind::Create => b"create ",
+        })?;
+        text.extend_from_slice(dep.path.text())?;
+        text.push(b'\n')?;
+    }
+    Ok(text)
+}
+
+/// A target, a rule's file with its script, and the record.
+type Row = (&'static [u8], &'static [u8], &'static [u8], &'static [u8]);
+
+const ROWS: &[Row] = &[
+    (b"hello", b"hello.do", b"echo hi\n", b"change hello.do\n"),
+    (
+        b"a/x.y.c",
+        b"default.c.do",
+        b"echo $1 $2 > $3\n",
+        b"create a/x.y.c.do\ncreate a/default.y.c.do\ncreate a/default.c.do\ncreate a/default.do\ncreate default.y.c.do\nchange default.c.do\n",
+    ),
+    (b"t", b"t.do", b"cat src\n", b"change t.do\n"),
+    (
+        b"t",
+        b"t.do",
+        b"redo-ifchange src\ncat src\n",
+        b"change t.do\nchange src\n",
+    ),
+    (
+        b"t",
+        b"t.do",
+        b"redo-ifcreate none\n",
+        b"change t.do\ncreate none\n",
+    ),
+    // Each pair of kind and path once, at its first place.
+    (
+        b"t",
+        b"t.do",
+        b"redo-ifchange src t.do src\nredo-ifchange src\n",
+        b"change t.do\nchange src\n",
+    ),
+    (
+        b"t",
+        b"t.do",
+        b"redo-ifcreate b\nredo-ifchange b src b\n",
+        b"change t.do\ncreate b\nchange b\nchange src\n",
+    ),
+    // A statement that is refused records none of its operands.
+    (b"t", b"t.do", b"redo-ifchange src ../x\n", b"change t.do\n"),
+    (b"t", b"t.do", b"redo-ifcreate none src\n", b"change t.do\n"),
+    // A script that failed keeps what it declared.
+    (
+        b"t",
+        b"t.do",
+        b"redo-ifchange src\nfalse\n",
+        b"change t.do\nchange src\n",
+    ),
+    (
+        b"t",
+        b"t.do",
+        b"redo-ifchange bad src\n",
+        b"change t.do\nchange bad\nchange src\n",
+    ),
+    // One that can't be read has the record of the search.
+    (
+        b"t",
+        b"t.do",
+        b"redo-ifchange src\necho a | b\n",
+        b"change t.do\n",
+    ),
+    (
+        b"d/t",
+        b"default.do",
+        b"fi\n",
+        b"create d/t.do\ncreate d/default.do\nchange default.do\n",
+    ),
+];
+
+#[test]
+fn records(rt: HostRuntime) -> Result<(), Fail> {
+    let alloc = rt.alloc();
+    let limits = Limits::new(100, 1000).ok_or("limits")?;
+    let known = learned(
+        alloc,
+        vec![in alloc;
+            (b"bad".as_slice(), Outcome::Failed(Why::Exit(1))),
+            (b"b", Outcome::Built(None)),
+        ]?,
+    )?;
+    for (target, do_file, script, want) in ROWS {
+        let files: &[File] = &[
+            (b"a/", b""),
+            (b"d/", b""),
+            (b"src", b"x\n"),
+            (do_file, script),
+        ];
+        let done = run(alloc, files, target, &known, limits)?;
+        assert_eq!(rt; listed(alloc, &done.deps)?.as_slice(), *want);
+    }
+    Ok(())
+}
+
+/// Scripts that can't be read.
+const REFUSED: &[(&[u8], &[u8])] = &[
+    (b"echo a 2> $3\n", b"script 1 unsupported"),
+    (b"true\nif cat x; then true; fi\n", b"script 2 ifshape"),
+    (b"exit 256\n", b"script 1 shape"),
+    (b"#!/bin/sh\necho a\n", b"script 1 interpreter"),
+    (b"true\ncat src | sort\n", b"script 2 unsupported"),
+    (b"echo \"a\n", b"script 1 openquote"),
+];
+
+#[test]
+fn refused_scripts(rt: HostRuntime) -> Result<(), Fail> {
+    let alloc = rt.alloc();
+    let limits = Limits::new(100, 1000).ok_or("limits")?;
+    let known = Known::nothing(alloc);
+    for (script, want) in REFUSED {
+        let done = run(alloc, &[(b"t.do", script)], b"t", &known, limits)?;
+        assert_eq!(rt; shown(alloc, &done.outcome)?.as_slice(), *want);
+    }
+    Ok(())
+}
+
+#[test]
+fn entries_and_limits(rt: HostRuntime) -> Result<(), Fail> {
+    let alloc = rt.alloc();
+    let mut deps = Deps::new(alloc);
+    assert!(rt; deps.is_empty());
+    let root = Dep {
+        kind: DepKind::Change,
+        path: Path::root(),
+    };
+    deps.insert(root.clone()?)?;
+    deps.insert(root.clone()?)?;
+    assert_eq!(rt; deps.len(), 1);
+    assert!(rt; deps.contains(&root));
+    assert!(rt;
+        !deps.contains(&Dep {
+            kind: DepKind::Create,
+            path: Path::root()
+        })
+    );
+    for (targets, file_bytes, fits) in [
+        (1, 1, true),
+        (65_536, 1_073_741_824, true),
+        (0, 1, false),
+        (1, 0, false),
+        (65_537, 1, false),
+        (1, 1_073_741_825, false),
+    ] {
+        assert_eq!(rt; Limits::new(targets, file_bytes).is_some(), fits);
+    }
+    Ok(())
+}
