@@ -2,6 +2,7 @@
 
 use crate::{Path, PathFault, resolve};
 use std::alloc::Global;
+use std::collections::HashSet;
 use std::test::Fail;
 
 /// The text of what a word names, read from a directory that is given by its own word.
@@ -200,5 +201,18 @@ fn paths_stand_in_the_order_of_their_bytes(rt: HostRuntime) -> Result<(), Fail> 
         assert!(rt; before < next, "{text}");
         before = next;
     }
+    Ok(())
+}
+
+#[test]
+fn a_copy_of_a_path_is_found_by_its_hash(rt: HostRuntime) -> Result<(), Fail> {
+    let alloc = rt.alloc();
+    let mut seen = HashSet::new(alloc);
+    let whole = path(alloc, "a/b")?;
+    let copy = whole.clone()?;
+    let other = path(alloc, "a/c")?;
+    seen.insert(whole)?;
+    assert!(rt; seen.contains(&copy));
+    assert!(rt; !seen.contains(&other));
     Ok(())
 }

@@ -1,6 +1,6 @@
 //! Trees that grow, and what is refused.
 
-use crate::{Kind, Tree, TreeFault};
+use crate::{Content, Kind, Tree, TreeFault};
 use redo_path::{Path, PathFault, resolve};
 use std::alloc::Global;
 use std::test::Fail;
@@ -104,5 +104,16 @@ fn trees_with_the_same_entries_are_equal(rt: HostRuntime) -> Result<(), Fail> {
         right.add_file(&second, bytes.as_bytes().to_vec(alloc)?)?;
         assert_eq!(rt; left == right, same, "{word}");
     }
+    Ok(())
+}
+
+#[test]
+fn a_clone_of_a_content_has_its_bytes(rt: HostRuntime) -> Result<(), Fail> {
+    let alloc = rt.alloc();
+    let content = Content::new(b"x\n".to_vec(alloc)?)?;
+    let copy = content.clone()?;
+    let other = Content::new(b"y\n".to_vec(alloc)?)?;
+    assert_eq!(rt; copy.bytes(), b"x\n".as_slice());
+    assert!(rt; copy == content && copy != other);
     Ok(())
 }

@@ -52,6 +52,17 @@ fn a_tree_is_written_in_path_order(rt: HostRuntime) -> Result<(), Fail> {
     Ok(())
 }
 
+#[test]
+fn a_directory_is_no_file_of_a_bundle(rt: HostRuntime) -> Result<(), Fail> {
+    let alloc = rt.alloc();
+    let tree = read(alloc, ROW.as_bytes())?;
+    let files = tree.files(alloc)?;
+    let names = files.first().map(|file| file.text());
+    assert_eq!(rt; files.len(), 1);
+    assert_eq!(rt; names, Some(b"default.c.do".as_slice()));
+    Ok(())
+}
+
 /// What a writer holds that stops at a call, and whether the call answered that it failed.
 fn stopped(alloc: Global, tree: &Tree, call: usize, answers: bool) -> Result<(Vec<u8>, bool), Fail>
     requires { HasSmallFiles tree.now }
