@@ -11,9 +11,8 @@ use redo_run::{Exit, run_bundle, whichdo_bundle};
 use redo_tree::Plain;
 use status::{status_of_fault, status_of_refusal};
 use std::alloc::Global;
-use std::env;
-use std::io;
 use std::process::ExitCode;
+use std::{env, io};
 
 fn main(rt: HostRuntime) -> ExitCode {
     let alloc = rt.alloc();

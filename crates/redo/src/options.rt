@@ -11,6 +11,7 @@ use thiserror::Error;
 
 /// The program's limits: 65,536 targets, and 16 MiB a file.
 const TARGETS: u32 = 65_536;
+
 const FILE_BYTES: u32 = 16_777_216;
 
 /// The most scripts that may run side by side.
@@ -169,12 +170,21 @@ mod tests {
         let rows: [(&[&str], Refusal); 10] = [
             (&["redo"], Refusal::NoKeepGoing),
             (&["redo", "--bundle", "-C", "d", "/x"], Refusal::NoKeepGoing),
-            (&["redo", "-k", "--bundle", "-C", "d", "/x"], Refusal::BundleAndDirectory),
-            (&["redo", "--whichdo", "/x", "--bundle", "y"], Refusal::TargetsBesideWhichdo),
+            (
+                &["redo", "-k", "--bundle", "-C", "d", "/x"],
+                Refusal::BundleAndDirectory,
+            ),
+            (
+                &["redo", "--whichdo", "/x", "--bundle", "y"],
+                Refusal::TargetsBesideWhichdo,
+            ),
             (&["redo", "-k", "--bundle", "/x"], Refusal::BadTarget),
             (&["redo", "-k", "--bundle", "a", "../x"], Refusal::BadTarget),
             (&["redo", "-k", "--bundle", ""], Refusal::BadTarget),
-            (&["redo", "--whichdo", "../x", "--bundle"], Refusal::BadTarget),
+            (
+                &["redo", "--whichdo", "../x", "--bundle"],
+                Refusal::BadTarget,
+            ),
             (&["redo", "-k", "/x"], Refusal::BadTarget),
             (&["redo", "-k", "-C", "d", "x"], Refusal::Directory),
         ];
@@ -206,8 +216,10 @@ mod tests {
     #[test]
     fn reads_calls(rt: HostRuntime) -> Result<(), Fail> {
         let alloc = rt.alloc();
-        let Some(Ok(Call::Build(options))) =
-            read(alloc, &["redo", "-j", "64", "-k", "--bundle", "a", "./b"])?
+        let Some(Ok(Call::Build(options))) = read(
+            alloc,
+            &["redo", "-j", "64", "-k", "--bundle", "a", "./b"],
+        )?
         else {
             return Err("no build".into());
         };
@@ -221,8 +233,10 @@ mod tests {
         };
         assert_eq!(rt; options.workers, 1);
         assert_eq!(rt; options.targets.len(), 0);
-        let Some(Ok(Call::Whichdo(target))) =
-            read(alloc, &["redo", "--whichdo", "a//x", "--bundle"])?
+        let Some(Ok(Call::Whichdo(target))) = read(
+            alloc,
+            &["redo", "--whichdo", "a//x", "--bundle"],
+        )?
         else {
             return Err("no search".into());
         };

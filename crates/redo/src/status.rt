@@ -87,7 +87,11 @@ mod tests {
     fn says_each_fault_with_its_status(rt: HostRuntime) -> Result<(), Fail> {
         let alloc = rt.alloc();
         let rows = [
-            (RunIoFault::Bundle(BundleFault::Line(2)), 3, "bundle: line 2"),
+            (
+                RunIoFault::Bundle(BundleFault::Line(2)),
+                3,
+                "bundle: line 2",
+            ),
             (
                 RunIoFault::Bundle(BundleFault::Path(3, PathFault::Above)),
                 3,

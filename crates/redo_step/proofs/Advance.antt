@@ -12,9 +12,9 @@ use Rattle.redo_step.specs.declared.place.Place.{Place, Before}
 use Rattle.redo_step.specs.Path.{Path}
 use Rattle.redo_step.specs.Parsed.{parsed_of}
 use Rattle.redo_step.specs.Place.{skip, left_at}
-use Rattle.redo_step.specs.Meaning.{Setting, Ask, Entry, State, End, exited, stopped, Run, goes, ends, start, run, meaning, result_of, end_state}
+use Rattle.redo_step.specs.Meaning.{Setting, Ask, Entry, State, End, exited, stopped, Run, goes, ends, start, run, meaning}
 use Rattle.redo_step.specs.Reach.{Keeps, Reaches, Fits}
-use Rattle.redo_step.specs.Record.{Progress, after_run, by_script}
+use Rattle.redo_step.specs.Record.{after_run, by_script}
 use Rattle.redo_step.specs.Endings.{IsEnded, IsRefused}
 use Rattle.redo_step.specs.JobView.{JobView, job_setting, whole_of, found_deps, progress_of, FitsWhole, IsFit}
 use Rattle.redo_step.specs.Job.{with_rest, AsksFor, Advances}

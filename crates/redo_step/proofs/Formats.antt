@@ -1,6 +1,5 @@
 -- The pieces of a format, one after the other.
 use Rattle.std.proofs.Common.{◌≡◌, ℕ, List, [], ◌∷◌, ◌++◌, Option, Some, None, refl, sym, ap, ◌∙◌, append_assoc}
-use Rattle.std.proofs.lemmas.List.{append-nil}
 use Rattle.redo_step.specs.declared.printf.Piece.{Piece}
 use Rattle.redo_step.specs.Meaning.{with_piece, pieces_of}
 

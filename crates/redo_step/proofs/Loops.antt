@@ -1,5 +1,5 @@
 -- Parts of a command, one after the other.
-use Rattle.std.proofs.Common.{◌≡◌, ℕ, suc, ◌+◌, ◌<◌, ◌≤◌, List, [], ◌∷◌, ◌++◌, length, drop, get_or, Result, Ok, Err, refl, sym, ap, ◌∙◌, arith, add-one, append_assoc, length-drop, map}
+use Rattle.std.proofs.Common.{◌≡◌, ℕ, suc, ◌+◌, ◌<◌, ◌≤◌, List, [], ◌∷◌, ◌++◌, length, drop, get_or, Result, Ok, Err, refl, sym, ap, ◌∙◌, arith, add-one, append_assoc, length-drop}
 use Rattle.std.proofs.Math.Seq.{drop-cons}
 use Rattle.std.proofs.lemmas.List.{nil_from_length, append-nil}
 use Rattle.redo_script.specs.declared.ast.Word.{Word as WordTree}
@@ -10,7 +10,7 @@ use Rattle.redo_step.specs.Path.{Path}
 use Rattle.redo_step.specs.declared.stop.Stop.{Stop}
 use Rattle.redo_step.specs.declared.stop.Stop.TheVariants as stops
 use Rattle.redo_step.specs.Meaning.{Setting, End, ◌>>=◌, text_of, texts_of, path_of, paths_of}
-use Rattle.redo_step.specs.Machine.{Stops, Gives, all_items}
+use Rattle.redo_step.specs.Machine.{Stops, all_items}
 
 -- a part that stopped stops what goes on from it
 pub stops_bind : {A B : Type 0} (stop : Stop) (r : Result A End) (f : A → Result B End) → Stops stop r → Stops stop (r >>= f)

@@ -1,5 +1,5 @@
 -- What loops over bytes to be written keep.
-use Rattle.std.proofs.Common.{◌≡◌, ℕ, zero, suc, ◌+◌, ◌<◌, ◌≤◌, Bool, true, false, cond, not, Option, Some, None, List, [], ◌∷◌, ◌++◌, length, drop, get_or, Result, Ok, Err, refl, sym, ap, ◌∙◌, arith, append_assoc, length-append, length-drop, add-one, subst, map, eqb-true}
+use Rattle.std.proofs.Common.{◌≡◌, ℕ, zero, suc, ◌+◌, ◌<◌, ◌≤◌, true, false, Option, Some, None, List, [], ◌∷◌, ◌++◌, length, drop, get_or, Result, Ok, Err, refl, sym, ap, ◌∙◌, arith, append_assoc, length-drop, add-one, subst, eqb-true}
 use Rattle.std.proofs.Math.Seq.{drop-cons}
 use Rattle.std.proofs.lemmas.List.{append-nil, nil_from_length}
 use Rattle.std.specs.declared.vec.Vec.{Vec}
@@ -9,12 +9,12 @@ use Rattle.redo_step.specs.declared.printf.Piece.TheVariants.{Literal, Operand}
 use Rattle.redo_step.specs.declared.sink.Sink.{Sink}
 use Rattle.redo_step.specs.declared.stop.Stop.{Stop}
 use Rattle.redo_step.specs.declared.stop.Stop.TheVariants as stops
-use Rattle.redo_step.specs.Meaning.{Setting, Ask, Entry, End, ◌>>=◌, or_else, exited, file_of, contents_of, with_piece, pieces_of, takes_operands, once, again, formatted, joined}
+use Rattle.redo_step.specs.Meaning.{Setting, Ask, Entry, End, ◌>>=◌, or_else, exited, file_of, contents_of, takes_operands, once, again, formatted, joined}
 use Rattle.redo_step.specs.Machine.{all_items, Stops}
 use Rattle.redo_step.specs.Printing.{HasPlaces, Prints, PrintsOnce}
-use Rattle.redo_step.specs.Sink.{Holds, Grows, Adds, Leaves, Fills}
+use Rattle.redo_step.specs.Sink.{Grows, Adds, Leaves, Fills}
 use Rattle.redo_step.specs.Writing.{content_of}
-use Rattle.redo_step.proofs.Adding.{grows-nil, grows-trans, adds-nil, adds-trans, adds-over, adds-same}
+use Rattle.redo_step.proofs.Adding.{grows-trans, adds-nil, adds-trans, adds-over, adds-same}
 use Rattle.std.specs.Prelude.{◌==◌}
 use Rattle.redo_step.proofs.Loops.{stops_bind}
 

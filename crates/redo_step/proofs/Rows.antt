@@ -2,7 +2,7 @@
 use Rattle.std.specs.Prelude.{◌≡◌, ℕ, Bool, true, false, List, [], ◌∷◌, ◌++◌, Option, Some, None, codes, refl, if◌then◌else◌}
 use Rattle.redo_script.specs.declared.ast.Parameter.{Parameter}
 use Rattle.redo_script.specs.declared.ast.Parameter.TheVariants.{One, Two, Three}
-use Rattle.redo_script.specs.Syntax.{byte, bare, Word, Redirection, equal, echo, printf, cat, write, change, create, always_false, if_test, Script, finish, simple, choice}
+use Rattle.redo_script.specs.Syntax.{byte, bare, Word, Redirection, is_file, equal, Writer, echo, printf, cat, write, change, create, always_false, exit, if_test, Script, finish, simple, choice}
 use Rattle.redo_script.specs.Bytes.{is_plain}
 use Rattle.redo_step.specs.declared.deps.DepKind.TheVariants as kinds
 use Rattle.redo_step.specs.declared.outcome.Why.TheVariants as why
@@ -10,7 +10,7 @@ use Rattle.std.specs.Str.{bytes_eq}
 use Rattle.redo_step.specs.declared.outcome.Outcome.{Outcome}
 use Rattle.redo_step.specs.declared.outcome.Outcome.TheVariants as outcomes
 use Rattle.redo_step.specs.Path.{Path, resolved}
-use Rattle.redo_step.specs.Meaning.{Setting, Ask, Entry, stopped, goes, ends, meaning, run, made, not_made, result_of}
+use Rattle.redo_step.specs.Meaning.{Setting, Ask, Entry, stopped, goes, ends, meaning, run, Made, made, not_made, result_of}
 
 abbrev word : List ℕ → Word
 word [] = []
@@ -127,3 +127,85 @@ depends = refl
 goes_on : result_of (meaning (setting (codes "t") no_source 1000) (knows_both (outcomes.Built None)) two_operands) ≡ Some (made (Some (120 ∷ 10 ∷ [])))
 unfolding meaning run resolved is_plain
 goes_on = refl
+
+-- a line
+abbrev writes : ℕ → Writer Word → Option Redirection → Script → Script
+writes line w r rest = simple line (write w r) rest
+
+abbrev result : ℕ → Script → Option Made
+result limit script = result_of (meaning (setting (codes "t") one_source limit) no_answers script)
+
+abbrev to : List ℕ → Option Redirection
+to path = Some (record { appends = false; word = word path })
+
+exactly_the_limit : result 3 (writes 1 (echo (word (codes "hi") ∷ [])) None finish) ≡ Some (made (Some (codes "hi" ++ 10 ∷ [])))
+unfolding meaning run resolved is_plain
+exactly_the_limit = refl
+
+-- a limit counts after the command's own work
+too_large_last : result 3 (simple 1 (change (word (codes "src") ∷ [])) (writes 2 (cat (word (codes "src") ∷ word (codes "src") ∷ word (codes "x") ∷ [])) None finish)) ≡ Some (not_made (why.Undeclared 2))
+unfolding meaning run resolved is_plain
+too_large_last = refl
+
+-- a redirection counts before it
+elsewhere_first : result 9 (writes 1 (cat (word (codes "src") ∷ [])) (to (codes "other")) finish) ≡ Some (not_made (why.Elsewhere 1))
+unfolding meaning run resolved is_plain
+elsewhere_first = refl
+
+outside_first : result 9 (writes 1 (cat (word (codes "src") ∷ [])) (to (codes "../y")) finish) ≡ Some (not_made (why.Outside 1))
+unfolding meaning run resolved is_plain
+outside_first = refl
+
+empty_third : result 9 (writes 1 (printf (word []) []) (to_third false) finish) ≡ Some (made (Some []))
+unfolding meaning run resolved is_plain
+empty_third = refl
+
+empty_third_and_output : result 9 (writes 1 (printf (word (codes "x")) []) None (writes 2 (printf (word []) []) (to_third false) finish)) ≡ Some (not_made why.BothOutputs)
+unfolding meaning run resolved is_plain
+empty_third_and_output = refl
+
+keeps_no_file : result 9 (writes 1 (echo (word (codes "a") ∷ [])) (to_third false) (simple 2 (exit 3) finish)) ≡ Some (not_made (why.Exit 3))
+unfolding meaning run resolved is_plain
+keeps_no_file = refl
+
+ends_well : result 9 (writes 1 (echo (word (codes "a") ∷ [])) None (simple 2 (exit 0) (simple 3 always_false finish))) ≡ Some (made (Some (97 ∷ 10 ∷ [])))
+unfolding meaning run resolved is_plain
+ends_well = refl
+
+all_are_resolved_first : result 9 (simple 1 (create (word (codes "src") ∷ word (codes "../x") ∷ [])) finish) ≡ Some (not_made (why.Outside 1))
+unfolding meaning run resolved is_plain
+all_are_resolved_first = refl
+
+there_already : result 9 (simple 1 (create (word (codes "none") ∷ word (codes "src") ∷ [])) finish) ≡ Some (not_made (why.Exists 1))
+unfolding meaning run resolved is_plain
+there_already = refl
+
+made_by_a_rule : result 9 (simple 1 (create (word (codes "none.do") ∷ word (codes "src") ∷ [])) finish) ≡ Some (not_made (why.Buildable 1))
+unfolding meaning run resolved is_plain
+made_by_a_rule = refl
+
+-- a path that was declared for its coming alone has no file
+no_file_yet : result 9 (simple 1 (create (word (codes "none") ∷ [])) (writes 2 (cat (word (codes "none") ∷ [])) None finish)) ≡ Some (not_made (why.Exit 1))
+unfolding meaning run resolved is_plain
+no_file_yet = refl
+
+-- a test that may not look is a fault, and no status
+undeclared_condition : result 9 (choice 1 (if_test (is_file (word (codes "src")))) finish finish finish) ≡ Some (not_made (why.Undeclared 1))
+unfolding meaning run resolved is_plain
+undeclared_condition = refl
+
+no_operands : result 9 (simple 1 (change []) (simple 2 (create []) finish)) ≡ Some (made None)
+unfolding meaning run resolved is_plain
+no_operands = refl
+
+one_round : result 9 (writes 1 (printf (word (codes "%s")) []) None finish) ≡ Some (made None)
+unfolding meaning run resolved is_plain
+one_round = refl
+
+last_round_filled : result 9 (writes 1 (printf (word (codes "%s%s")) (word (codes "a") ∷ word (codes "b") ∷ word (codes "c") ∷ [])) None finish) ≡ Some (made (Some (codes "abc")))
+unfolding meaning run resolved is_plain
+last_round_filled = refl
+
+lone_percent : result 9 (writes 1 (printf (word (codes "%s%")) []) None finish) ≡ Some (not_made (why.Format 1))
+unfolding meaning run resolved is_plain
+lone_percent = refl

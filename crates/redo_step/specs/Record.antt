@@ -1,5 +1,5 @@
 -- What becomes of a target by its script, and the record that is kept of it.
-use Rattle.std.specs.Prelude.{List, [], ◌∷◌, Option, Some, None, Result, Ok, Err, option_map}
+use Rattle.std.specs.Prelude.{List, [], ◌∷◌, Option, Some, Result, Ok, Err, option_map}
 use Rattle.redo_script.specs.declared.fault.ScriptFault.{ScriptFault}
 use Rattle.redo_script.specs.Syntax.{Script}
 use Rattle.redo_step.specs.declared.deps.Dep.{Dep}

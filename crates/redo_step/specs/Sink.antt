@@ -1,5 +1,5 @@
 -- Bytes that grow up to a limit.
-use Rattle.std.specs.Prelude.{◌≡◌, ℕ, true, false, not, nat_le, List, ◌++◌, length, Result, Ok, Err}
+use Rattle.std.specs.Prelude.{◌≡◌, ℕ, false, not, nat_le, List, ◌++◌, length, Result, Ok, Err}
 use Rattle.redo_step.specs.declared.sink.Sink.{Sink}
 use Rattle.redo_step.specs.declared.stop.Stop.{Stop}
 use Rattle.redo_step.specs.declared.stop.Stop.TheVariants as stops

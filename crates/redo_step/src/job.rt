@@ -8,6 +8,9 @@ ghost use Rattle.redo_step.specs.Machine.{state_of, end_of};
 ghost use Rattle.redo_step.specs.Job.{begun, Advances};
 ghost use Rattle.redo_step.specs.Endings.{IsRefused, IsEnded, after_end, by_both};
 ghost use Rattle.redo_step.specs.JobView.{IsFit, record_so_far};
+ghost use Rattle.redo_step.specs.Scene.{scene_setting};
+ghost use Rattle.redo_step.specs.Setting.{setting_of};
+ghost use Rattle.redo_which.specs.Views.{arguments_view};
 
 use crate::answers::Answers;
 use crate::deps::Deps;
@@ -27,15 +30,36 @@ use std::alloc::{AllocError, Global};
 use std::marker::Model;
 use std::sync::Arc;
 
-/// A target's script, the place that it stopped at, and what it has done.
+/// A target, and what its script is given.
 #[derive(Drop)]
-pub struct Job {
+struct Task {
     alloc: Global,
     tree: Arc<Tree>,
     target: Path,
     rule: Rule,
     parsed: Arc<Parsed>,
     limits: Limits,
+}
+
+impl Task {
+    /// What the script's commands see.
+    fn scene(&self) -> Scene<'_>
+        ensures { scene_setting result ≡ setting_of (arc_value self.now.tree) self.now.limits.1 self.now.target (arguments_view self.now.rule.args) }
+    {
+        Scene {
+            alloc: self.alloc,
+            tree: &self.tree,
+            target: &self.target,
+            args: &self.rule.args,
+            limit: self.limits.file_bytes() as usize,
+        }
+    }
+}
+
+/// A target's script, the place that it stopped at, and what it has done.
+#[derive(Drop)]
+pub struct Job {
+    task: Task,
     place: Place,
     effects: Effects,
     turn: u64,
@@ -54,7 +78,7 @@ impl Model for Job {
 
     ghost coded = { Prim.hlevel (codes, stmts.the_row.coded, places.the_row.coded) };
 
-    ghost view = { λ j. record { tree = arc_value j.tree; target = j.target; do_file = j.rule.do_file; missing = j.rule.missing.items; arguments = arguments_view j.rule.args; limits = j.limits; parsed = arc_value j.parsed; place = j.place; state = state_of j.effects; turn = j.turn } };
+    ghost view = { λ j. record { tree = arc_value j.task.tree; target = j.task.target; do_file = j.task.rule.do_file; missing = j.task.rule.missing.items; arguments = arguments_view j.task.rule.args; limits = j.task.limits; parsed = arc_value j.task.parsed; place = j.place; state = state_of j.effects; turn = j.turn } };
 }
 
 /// What became of a target whose script ended, with its record.
@@ -86,13 +110,16 @@ impl Job {
         ensures job { IfOk result (λ job. job ≡ begun (arc_value tree) target rule (arc_value parsed) limits) }
         ensures fits { IfOk result (λ job. (ask : AskOf) → IsFit job ask) }
     {
-        Ok(Job {
+        let task = Task {
             alloc,
             tree,
             target,
             rule,
             parsed,
             limits,
+        };
+        Ok(Job {
+            task,
             place: Place::Before(0),
             effects: Effects {
                 output: Vec::new(alloc),
@@ -107,7 +134,7 @@ impl Job {
     pub fn target(&self) -> &Path
         ensures { result.now ≡ self.now.target }
     {
-        &self.target
+        &self.task.target
     }
 
     /// How often the script has stopped.
@@ -128,51 +155,37 @@ impl Job {
     pub fn record(&self) -> Result<Deps, AllocError>
         ensures { IfOk result (λ deps. deps ≡ record_so_far self.now) }
     {
-        whole_record(self.alloc, &self.rule, &self.effects.deps)
+        whole_record(self.task.alloc, &self.task.rule, &self.effects.deps)
     }
 
-    /// Runs on until the script ends, or until an answer is missing.
+    /// Runs on until the script ends, or until redo-ifchange(1) lacks an answer. It asks that the job fits the answers: a
+    /// job just begun fits any, and one that stopped fits all that keep what it was told of its operands. Of sources the
+    /// tree alone is asked. On want of memory the job is lost.
     pub fn advance<A: Answers>(self, answers: &A) -> Result<Step, AllocError>
         requires fits { IsFit self (A.ask answers.now) }
         requires turn { self.turn + 1 < 2 ^ 64 }
         ensures { IfOk result (Advances (A.ask answers.now) self) }
     {
         let Job {
-            alloc,
-            tree,
-            target,
-            rule,
-            parsed,
-            limits,
+            task,
             place,
             mut effects,
             turn,
         } = self;
-        let script = match &*parsed {
+        let script = match &*task.parsed {
             Parsed::Read(script) => script,
-            Parsed::Refused(fault) => return refused(alloc, &rule, *fault),
+            Parsed::Refused(fault) => return refused(task.alloc, &task.rule, *fault),
         };
-        let scene = Scene {
-            alloc,
-            tree: &tree,
-            target: &target,
-            args: &rule.args,
-            limit: limits.file_bytes() as usize,
-        };
-        match resume(&scene, answers, &mut effects, &script.stmts, &place)? {
-            Progress::Finished => ended(alloc, &rule, Ending::Exited(0), effects),
-            Progress::Ended(ending) => ended(alloc, &rule, ending, effects),
+        match resume(&task.scene(), answers, &mut effects, &script.stmts, &place)? {
+            Progress::Finished => ended(task.alloc, &task.rule, Ending::Exited(0), effects),
+            Progress::Ended(ending) => ended(task.alloc, &task.rule, ending, effects),
             Progress::Stopped(paths, place) => {
+                let turn = turn + 1;
                 let job = Job {
-                    alloc,
-                    tree,
-                    target,
-                    rule,
-                    parsed,
-                    limits,
+                    task,
                     place,
                     effects,
-                    turn: turn + 1,
+                    turn,
                 };
                 Ok(Step::Asks { job, paths })
             }

@@ -11,10 +11,10 @@ ghost use Rattle.redo_step.specs.declared.outcome.Outcome.{Outcome as OutcomeTre
 ghost use Rattle.redo_step.specs.JobView.{IsFit};
 ghost use Rattle.redo_step.specs.Meaning.{Ask as AskOf};
 
-use crate::{Answers, Dep, DepKind, Deps, Done, Job, Limits, Outcome, Parsed, Step, Why};
+use crate::{Answers, Done, Job, Limits, Outcome, Parsed, Step};
 use indexmap::IndexMap;
 use redo_path::{Path, resolve};
-use redo_tree::{Content, Tree};
+use redo_tree::Tree;
 use redo_which::Found;
 use redo_which::lookup::find;
 use std::alloc::Global;

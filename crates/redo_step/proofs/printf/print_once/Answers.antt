@@ -1,4 +1,4 @@
-use Rattle.std.proofs.Common.{◌≡◌, ◌+◌, List, [], ◌∷◌, drop}
+use Rattle.std.proofs.Common.{◌≡◌, ◌+◌, [], ◌∷◌, drop}
 use Rattle.std.proofs.lemmas.List.{nil_from_length}
 use Rattle.redo_step.specs.declared.printf.Piece.TheVariants.{Literal, Operand}
 use Rattle.redo_step.specs.Machine.{all_items}

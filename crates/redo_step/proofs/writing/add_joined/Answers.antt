@@ -1,4 +1,4 @@
-use Rattle.std.proofs.Common.{◌≡◌, ◌+◌, [], ◌∷◌, ◌++◌, drop, sym}
+use Rattle.std.proofs.Common.{◌≡◌, ◌+◌, [], ◌∷◌, drop, sym}
 use Rattle.redo_step.specs.Machine.{all_items}
 use Rattle.redo_step.proofs.Adding.{adds-trans, adds-same}
 use Rattle.redo_step.proofs.Rounds.{drop_split, drop_end, joined-spaced, spaced, spaced_goes, spaced_done}

@@ -1,0 +1,62 @@
+-- What is begun is a work, or a fact.
+use Rattle.std.proofs.Common.{◌≡◌, ℕ, zero, ◌<◌, List, [], ◌∷◌, Option, Some, None, true, false, refl, sym, ap, subst, ◌∙◌, inl, inr, arith, lit<}
+use Rattle.std.specs.Prelude.{unwrap_or, option_copied}
+use Rattle.std.proofs.Common.{Bor}
+use Rattle.std.specs.Arc.{arc_value}
+use Rattle.redo_tree.specs.Tree.{Tree, file_at}
+use Rattle.redo_script.specs.Texts.{script_in}
+use Rattle.redo_step.specs.declared.deps.Dep.{Dep}
+use Rattle.redo_step.specs.declared.outcome.Outcome.{Outcome}
+use Rattle.redo_step.specs.declared.parsed.Parsed.{Parsed}
+use Rattle.redo_step.specs.Parsed.{parsed_of}
+use Rattle.redo_step.specs.Meaning.{Ask as Answers}
+use Rattle.redo_step.specs.Job.{begun}
+use Rattle.redo_step.specs.JobView.{JobView, IsFit}
+use Rattle.redo_which.specs.declared.Rule.{Rule as FoundRule}
+use Rattle.redo_which.specs.Rule.{Rule, found_of}
+use Rattle.redo_which.specs.Views.{arguments_view}
+use Rattle.redo_core.specs.Paths.{IsAmong}
+use Rattle.redo_core.specs.Rules.{Ask, Rules, AreLawful, operands}
+use Rattle.redo_core.specs.Outcomes.{outcome_at}
+use Rattle.redo_core.specs.Build.{rules_of}
+use Rattle.redo_core.specs.Schedule.{nothing_known, only}
+use Rattle.redo_core.specs.Turns.{IsFact, IsWork}
+use Rattle.redo_core.specs.Works.{job_deps, told_in, known_in, told_by, IsWorkWith}
+use Rattle.redo_core.specs.declared.facts.Facts.{Facts}
+use Rattle.redo_core.proofs.Lawful.{rules_lawful}
+
+-- without a rule no answer makes a difference
+pub unruled-fact : (r : Rules) (lawful : AreLawful r) (p : List ℕ) (o : Outcome) (deps : List Dep) → r.has_rule p ≡ false →
+    r.progress p nothing_known ≡ record { outcome = Some o; deps = deps } → IsFact r p o deps
+unruled-fact r lawful p o deps none is = record {
+  depth = 0;
+  is =
+      let same = lawful.local p nothing_known (outcome_at r 0) (λ q m.
+      (let P : List (List ℕ) → Type 0 = λ xs. IsAmong xs q in absurd (subst P (lawful.unruled p nothing_known none).0 m))) in
+      sym same ∙ is;
+}
+
+-- a job that was just begun is a work with no facts
+pub begun-work : (tree : Tree) (limits : ℕ × ℕ) (target : List ℕ) (rule : FoundRule) (parsed : Parsed) (facts : Facts) →
+    found_of tree target ≡ Rule rule.do_file rule.missing.items (arguments_view rule.args) →
+    parsed_of parsed ≡ script_in (unwrap_or (file_at tree rule.do_file) []) →
+    ((ask : Answers) → IsFit (begun tree target rule parsed limits) ask) → known_in facts ≡ [] → facts.gained ≡ 0 →
+    IsWorkWith tree limits (begun tree target rule parsed limits) facts
+begun-work tree limits target rule parsed facts found script fits none gained = record {
+  is_job = record { of_tree = refl; of_limits = refl; found = found; script = script };
+  is_work = record {
+    depth = 0;
+    came = record { answered = λ k q below m none'. absurd (omega (arith, below)); stopped = λ k below. absurd (omega (arith, below)) };
+    is = refl;
+    fed = λ q m none'. m;
+  };
+  exact = λ q. ap (λ xs. told_by xs q) none;
+  declared = λ q m. m;
+  goes_on = λ later keeps. fits later;
+  gained = gained;
+  few = omega arith;
+}
+
+pub unwrap-copied : (o : Option (Bor (List ℕ))) (d : Bor (List ℕ)) → (unwrap_or o d).now ≡ unwrap_or (option_copied o) d.now
+unwrap-copied None d = refl
+unwrap-copied (Some b) d = refl

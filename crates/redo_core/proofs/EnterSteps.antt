@@ -1,0 +1,284 @@
+-- Entering a path that is new.
+use Rattle.std.proofs.Common.{map, slice_get, ◌≡◌, ℕ, zero, suc, ◌+◌, ◌<◌, ◌≤◌, Bool, true, false, cond, ◌⊎◌, inl, inr, List, [], ◌∷◌, ◌++◌, length, length-append, append-nil, filter, Option, Some, None, refl, sym, ap, subst, ◌∙◌, arith}
+use Rattle.std.proofs.lemmas.Bool.{cases_Bool, both_ways}
+use Rattle.redo_tree.specs.Tree.{Tree}
+use Rattle.redo_core.specs.Paths.{IsAmong, is_among}
+use Rattle.redo_core.specs.Rules.{Ask, Rules, AreLawful, Extends, operands}
+use Rattle.redo_core.specs.Outcomes.{outcome_at}
+use Rattle.redo_core.specs.Build.{rules_of}
+use Rattle.redo_core.specs.Schedule.{Entry, outcomes_of, paths_of, entered, new_entry, nothing_known}
+use Rattle.redo_core.specs.Slots.{table_entries, entries_from, slot_entries, slot_entry, stage_deps, stage_outcome, path_at, is_stage_out, is_stage_ready, is_stage_waiting, Fits, AllFit, AllWatched, AllWatchersBelow, IsWatched, IsPlace, IsQueue, IsTable, IsTableOf, IsBegun, IsPushed, IsEnteredInto, IsFull}
+use Rattle.redo_core.specs.declared.table.Slot.{Slot}
+use Rattle.redo_core.specs.declared.table.Table.{Table}
+use Rattle.redo_core.specs.declared.table.Stage.{Stage}
+use Rattle.redo_core.specs.declared.table.Stage.TheVariants.{Waiting, Ready, Out, Decided}
+use Rattle.redo_core.proofs.PathLists.{is_among-true, is_among-from}
+use Rattle.redo_core.proofs.Entries.{outcomes_of-entry, outcomes_of-at, entry_of-entered_old}
+use Rattle.redo_core.proofs.SlotLemmas.{paths_of-slots, slice_get-below_some, slice_get-from}
+use Rattle.redo_core.proofs.TableLemmas.{Fits-more, place-append, place-left, place-right}
+use Rattle.redo_core.proofs.TableSteps.{once-push}
+use Rattle.redo_core.proofs.Lawful.{rules_lawful}
+use Rattle.redo_step.specs.declared.deps.Dep.{Dep}
+use Rattle.redo_step.specs.declared.outcome.Outcome.{Outcome}
+
+get-push_old : {A : Type 0} (xs : List A) (x y : A) (k : ℕ) → slice_get xs k ≡ Some y → slice_get (xs ++ x ∷ []) k ≡ Some y
+get-push_old [] x y k h = cc
+get-push_old (z ∷ xs) x y zero h = h
+get-push_old (z ∷ xs) x y (suc k) h = get-push_old xs x y k h
+
+get-push_end : {A : Type 0} (xs : List A) (x : A) → slice_get (xs ++ x ∷ []) (length xs) ≡ Some x
+get-push_end [] x = refl
+get-push_end (z ∷ xs) x = get-push_end xs x
+
+get-push_cases : (xs : List Slot) (x y : Slot) (k : ℕ) → slice_get (xs ++ x ∷ []) k ≡ Some y → ((k ≡ length xs) × (x ≡ y)) ⊎ (slice_get xs k ≡ Some y)
+get-push_cases [] x y zero h = inl (refl, (cc))
+get-push_cases [] x y (suc k) h = cc
+get-push_cases (z ∷ xs) x y zero h = inr h
+get-push_cases (z ∷ xs) x y (suc k) h = elim (get-push_cases xs x y k h) [ inl here ↦ inl (ap suc here.0, here.1) | inr old ↦ inr old ]
+
+slot_entries-push : (r : Rules) (a : Ask) (ps : List (List ℕ)) (slots : List Slot) (p : List ℕ) (slot : Slot) → length slots ≡ length ps →
+    slot_entries r a (ps ++ p ∷ []) (slots ++ slot ∷ []) ≡ slot_entries r a ps slots ++ slot_entry r a p slot ∷ []
+slot_entries-push r a [] [] p slot h = refl
+slot_entries-push r a [] (s ∷ slots) p slot h = absurd (omega arith)
+slot_entries-push r a (q ∷ ps) [] p slot h = absurd (omega arith)
+slot_entries-push r a (q ∷ ps) (s ∷ slots) p slot h = ap (λ es. slot_entry r a q s ∷ es) (slot_entries-push r a ps slots p slot (omega arith))
+
+entry-ruled : (r : Rules) (p : List ℕ) → r.has_rule p ≡ true → new_entry r p ≡ record { path = p; turn = 0; deps = []; outcome = None; is_out = false }
+entry-ruled r p h = rw h refl
+
+entry-unruled : (r : Rules) (p : List ℕ) (o : Outcome) (ds : List Dep) → r.has_rule p ≡ false → r.progress p nothing_known ≡ record { outcome = Some o; deps = ds } →
+    new_entry r p ≡ record { path = p; turn = 0; deps = ds; outcome = Some o; is_out = false }
+entry-unruled r p o ds h is = rw (h, is) refl
+
+begun-entry : (tree : Tree) (limits : ℕ × ℕ) (a : Ask) (p : List ℕ) (stage : Stage) → IsBegun tree limits p stage →
+    record { path = p; turn = 0; deps = stage_deps (rules_of tree limits) a p 0 stage; outcome = stage_outcome stage; is_out = is_stage_out stage } ≡ new_entry (rules_of tree limits) p
+begun-entry tree limits a p (Waiting parked) h = absurd h
+begun-entry tree limits a p (Ready work) h =
+    let E : List Dep → Entry = λ ds. record { path = p; turn = 0; deps = ds; outcome = None; is_out = false } in
+    ap E h.1 ∙ sym (entry-ruled (rules_of tree limits) p h.2)
+begun-entry tree limits a p Out h = absurd h
+begun-entry tree limits a p (Decided fact) h = sym (entry-unruled (rules_of tree limits) p _ _ h.3 h.4)
+
+begun-fits : (tree : Tree) (limits : ℕ × ℕ) (r : Rules) (a : Ask) (p : List ℕ) (stage : Stage) → IsBegun tree limits p stage → Fits r a tree limits p 0 stage
+begun-fits tree limits r a p (Waiting parked) h = absurd h
+begun-fits tree limits r a p (Ready work) h = (h.0, λ q m none. let P : List Dep → Type 0 = λ ds. IsAmong (operands r ds) q in absurd (subst P h.1 m))
+begun-fits tree limits r a p Out h = absurd h
+begun-fits tree limits r a p (Decided fact) h = (h.0, h.1, h.2)
+
+begun-inside : (tree : Tree) (limits : ℕ × ℕ) (p : List ℕ) (stage : Stage) → IsBegun tree limits p stage → (is_stage_out stage ≡ false) × (is_stage_waiting stage ≡ false)
+begun-inside tree limits p (Waiting parked) h = absurd h
+begun-inside tree limits p (Ready work) h = (refl, refl)
+begun-inside tree limits p Out h = absurd h
+begun-inside tree limits p (Decided fact) h = (refl, refl)
+
+count-push : (xs : List Slot) (x : Slot) → is_stage_out x.stage ≡ false →
+    length (filter (λ slot. is_stage_out slot.stage) (xs ++ x ∷ [])) ≡ length (filter (λ slot. is_stage_out slot.stage) xs)
+count-push [] x h = rw h refl
+count-push (y ∷ xs) x h =
+    let rest = count-push xs x h in
+    elim (cases_Bool (is_stage_out y.stage)) [ inl t ↦ rw t (ap suc rest) | inr f ↦ rw f rest ]
+
+module _ (slots : List Slot) (ready freed : List ℕ) (new : Slot) (queue : IsQueue slots ready freed) where
+  pub queue-push : IsQueue (slots ++ new ∷ []) ready (freed ++ cond (is_stage_ready new.stage) (length slots ∷ []) [])
+  queue-push =
+      let len : length (slots ++ new ∷ []) ≡ length slots + 1 = length-append slots (new ∷ []) in
+      let only : (k : ℕ) → IsPlace (cond (is_stage_ready new.stage) (length slots ∷ []) []) k → (k ≡ length slots) × (is_stage_ready new.stage ≡ true) = λ k m.
+      elim (cases_Bool (is_stage_ready new.stage)) [
+        | inl t ↦ elim (rw t at m) as (λ _. (k ≡ length slots) × (is_stage_ready new.stage ≡ true)) [ inl here ↦ (sym here, t) | inr none ↦ absurd none ]
+        | inr f ↦ absurd (rw f at m)
+      ] in
+      record {
+        ready_below = λ k m. omega (arith, queue.ready_below k m, len);
+        freed_below = λ k m. elim (place-append freed (cond (is_stage_ready new.stage) (length slots ∷ []) []) k m) [
+          | inl old ↦ omega (arith, queue.freed_below k old, len)
+          | inr end ↦ omega (arith, (only k end).0, len)
+        ];
+        ready_is = λ k x m g. elim (get-push_cases slots new x k g) [
+          | inl here ↦ elim m [
+            | inl l ↦ absurd (omega (arith, queue.ready_below k l, here.0))
+            | inr l ↦ elim (place-append freed (cond (is_stage_ready new.stage) (length slots ∷ []) []) k l) [
+              | inl f ↦ absurd (omega (arith, queue.freed_below k f, here.0))
+              | inr end ↦ sym (ap (λ (y : Slot). is_stage_ready y.stage) here.1) ∙ (only k end).1
+            ]
+          ]
+          | inr old ↦ elim m [
+            | inl l ↦ queue.ready_is k x (inl l) old
+            | inr l ↦ elim (place-append freed (cond (is_stage_ready new.stage) (length slots ∷ []) []) k l) [
+              | inl f ↦ queue.ready_is k x (inr f) old
+              | inr end ↦ absurd (omega (arith, (only k end).0, slice_get-below_some slots k x old))
+            ]
+          ]
+        ];
+        ready_in = λ k x g t. elim (get-push_cases slots new x k g) [
+          | inl here ↦
+              let now : is_stage_ready new.stage ≡ true = ap (λ (y : Slot). is_stage_ready y.stage) here.1 ∙ t in
+              inr (place-right freed (cond (is_stage_ready new.stage) (length slots ∷ []) []) k (rw now (inl (sym here.0))))
+          | inr old ↦ elim (queue.ready_in k x old t) [
+            | inl l ↦ inl l
+            | inr f ↦ inr (place-left freed (cond (is_stage_ready new.stage) (length slots ∷ []) []) k f)
+          ]
+        ];
+        apart = λ k m f. elim (place-append freed (cond (is_stage_ready new.stage) (length slots ∷ []) []) k f) [
+          | inl l ↦ queue.apart k m l
+          | inr end ↦ absurd (omega (arith, queue.ready_below k m, (only k end).0))
+        ];
+        once = elim (cases_Bool (is_stage_ready new.stage)) [
+          | inl t ↦ rw t (once-push freed (length slots) queue.once (λ m. absurd (let h = queue.freed_below (length slots) m in omega (arith, h))))
+          | inr f ↦ rw f (rw append-nil queue.once)
+        ];
+      }
+
+path_at-old : (ps : List (List ℕ)) (p : List ℕ) (k : ℕ) → k < length ps → path_at (ps ++ p ∷ []) k ≡ path_at ps k
+path_at-old ps p k h =
+    let found = slice_get-from ps k h in
+    rw (get-push_old ps p found.0 k found.1, found.1) refl
+
+path_at-end : (ps : List (List ℕ)) (p : List ℕ) → path_at (ps ++ p ∷ []) (length ps) ≡ p
+path_at-end ps p = rw (get-push_end ps p) refl
+
+not-among : (ps : List (List ℕ)) (p : List ℕ) → (IsAmong ps p → ⊥) → is_among ps p ≡ false
+not-among ps p out = elim (cases_Bool (is_among ps p)) [ inl t ↦ absurd (out (is_among-true ps p t)) | inr f ↦ f ]
+
+slots-length : (r : Rules) (a : Ask) (ps : List (List ℕ)) (slots : List Slot) → length slots ≡ length ps → length (slot_entries r a ps slots) ≡ length slots
+slots-length r a [] [] h = refl
+slots-length r a [] (slot ∷ slots) h = absurd (omega arith)
+slots-length r a (p ∷ ps) [] h = refl
+slots-length r a (p ∷ ps) (slot ∷ slots) h = ap suc (slots-length r a ps slots (omega arith))
+
+module _ (tree : Tree) (limits : ℕ × ℕ) (t u : Table) (freed freed' : List ℕ) (p : List ℕ) (table : IsTableOf tree limits t freed)
+    (room : length t.slots.items < limits.0) (out : IsAmong t.targets.keys p → ⊥) (w : IsPushed tree limits t u freed freed' p) where
+  abbrev r : Rules
+  r = rules_of tree limits
+
+  abbrev a : Ask
+  a = outcome_at (rules_of tree limits) limits.0
+
+  abbrev es : List Entry
+  es = table_entries (rules_of tree limits) limits.0 t
+
+  begun : IsBegun tree limits p w.new.stage
+  begun = w.begun
+
+  new-entry : slot_entry (rules_of tree limits) (outcome_at (rules_of tree limits) limits.0) p w.new ≡ new_entry (rules_of tree limits) p
+  new-entry =
+      let P : ℕ → Type 0 = λ n. record { path = p; turn = n; deps = stage_deps r a p n w.new.stage; outcome = stage_outcome w.new.stage; is_out = is_stage_out w.new.stage } ≡ new_entry r p in
+      subst P (sym w.turn) (begun-entry tree limits a p w.new.stage w.begun)
+
+  pushed : entries_from (rules_of tree limits) limits.0 (t.targets.keys ++ p ∷ []) (t.slots.items ++ w.new ∷ []) ≡ entered (rules_of tree limits) (table_entries (rules_of tree limits) limits.0 t) (p ∷ [])
+  pushed =
+      let raw = slot_entries-push r a t.targets.keys t.slots.items p w.new table.one_each in
+      let no : is_among (paths_of es) p ≡ false = (let P : List (List ℕ) → Type 0 = λ xs. is_among xs p ≡ false in
+      subst P (sym (paths_of-slots r a t.targets.keys t.slots.items table.one_each)) (not-among t.targets.keys p out)) in
+      raw ∙ ap (λ e. es ++ e ∷ []) new-entry ∙ sym (rw no refl)
+
+  more : Extends (rules_of tree limits) (outcomes_of (table_entries (rules_of tree limits) limits.0 t))
+      (outcomes_of (entries_from (rules_of tree limits) limits.0 (t.targets.keys ++ p ∷ []) (t.slots.items ++ w.new ∷ [])))
+  more =
+      let P : List Entry → Type 0 = λ xs. Extends r (outcomes_of es) (outcomes_of xs) in
+      subst P (sym pushed) (λ q o s h.
+      let at = outcomes_of-entry es q o h in
+      outcomes_of-at (entered r es (p ∷ [])) q at.0 (entry_of-entered_old r es (p ∷ []) q at.0 at.1) ∙ at.2)
+
+  fits-push : AllFit (rules_of tree limits) limits.0 tree limits (t.targets.keys ++ p ∷ []) (t.slots.items ++ w.new ∷ [])
+  fits-push k x g =
+      let b = outcomes_of (entries_from (rules_of tree limits) limits.0 (t.targets.keys ++ p ∷ []) (t.slots.items ++ w.new ∷ [])) in
+      elim (get-push_cases t.slots.items w.new x k g) [
+        | inl here ↦
+            let path : path_at (t.targets.keys ++ p ∷ []) k ≡ p = ap (path_at (t.targets.keys ++ p ∷ [])) (here.0 ∙ table.one_each) ∙ path_at-end t.targets.keys p in
+            let P : List ℕ → Type 0 = λ q. Fits r b tree limits q x.turn x.stage in
+            let Q : Slot → Type 0 = λ y. Fits r b tree limits p y.turn y.stage in
+            let R : ℕ → Type 0 = λ n. Fits r b tree limits p n w.new.stage in
+            subst P (sym path) (subst Q here.1 (subst R (sym w.turn) (begun-fits tree limits r b p w.new.stage w.begun)))
+        | inr old ↦
+            let path = path_at-old t.targets.keys p k (omega (arith, slice_get-below_some t.slots.items k x old, table.one_each)) in
+            let P : List ℕ → Type 0 = λ q. Fits r b tree limits q x.turn x.stage in
+            subst P (sym path) (Fits-more r (rules_lawful tree limits) (outcomes_of es) b tree limits (path_at t.targets.keys k) x.turn x.stage more (table.fits k x old))
+      ]
+
+  below-push : AllWatchersBelow (t.slots.items ++ w.new ∷ [])
+  below-push i k x g m =
+      let len = length-append t.slots.items (w.new ∷ []) in
+      elim (get-push_cases t.slots.items w.new x i g) [
+        | inl here ↦ absurd (
+            let P : List ℕ → Type 0 = λ xs. IsPlace xs k in
+            subst P w.watchers (let Q : Slot → Type 0 = λ y. IsPlace y.watchers.items k in subst Q (sym here.1) m))
+        | inr old ↦ omega (arith, table.watchers_below i k x old m, len)
+      ]
+
+  table-push : IsTable (rules_of tree limits) tree limits (t.targets.keys ++ p ∷ []) (t.slots.items ++ w.new ∷ []) t.ready.items t.out
+      (freed ++ cond (is_stage_ready w.new.stage) (length t.slots.items ∷ []) [])
+  table-push =
+      let len : length (t.slots.items ++ w.new ∷ []) ≡ length t.slots.items + 1 = length-append t.slots.items (w.new ∷ []) in
+      let keys : length (t.targets.keys ++ p ∷ []) ≡ length t.targets.keys + 1 = length-append t.targets.keys (p ∷ []) in
+      record {
+        one_each = omega (arith, len, keys, table.one_each);
+        within_limit = omega (arith, len, room);
+        few = table.few;
+        out_counted = table.out_counted ∙ sym (count-push t.slots.items w.new (begun-inside tree limits p w.new.stage w.begun).0);
+        fits = fits-push;
+        queue = queue-push t.slots.items t.ready.items freed w.new table.queue;
+        watchers_below = below-push;
+      }
+
+  watched-push : (pending : List ℕ) → AllWatched (rules_of tree limits) limits.0 t.targets.keys t.slots.items pending →
+      AllWatched (rules_of tree limits) limits.0 (t.targets.keys ++ p ∷ []) (t.slots.items ++ w.new ∷ []) pending
+  watched-push pending all k x g m = elim (get-push_cases t.slots.items w.new x k g) [
+    | inl here ↦ absurd (both_ways _ (begun-inside tree limits p w.new.stage w.begun).1 (ap (λ (y : Slot). is_stage_waiting y.stage) here.1 ∙ m))
+    | inr old ↦
+        let path = path_at-old t.targets.keys p k (omega (arith, slice_get-below_some t.slots.items k x old, table.one_each)) in
+        elim (all k x old m) [
+          | inl l ↦ inl l
+          | inr v ↦
+              let there = path_at-old t.targets.keys p v.at (omega (arith, slice_get-below_some t.slots.items v.at v.other v.there, table.one_each)) in
+              let P : List ℕ → Type 0 = λ q. IsWatched r (t.targets.keys ++ p ∷ []) (t.slots.items ++ w.new ∷ []) k (stage_deps r a q x.turn x.stage) in
+              let Q : List ℕ → Type 0 = λ q. IsAmong (operands r (stage_deps r a (path_at t.targets.keys k) x.turn x.stage)) q in
+              inr (subst P (sym path) (record {
+                at = v.at;
+                other = v.other;
+                there = get-push_old t.slots.items w.new v.other v.at v.there;
+                is_open = v.is_open;
+                listed = v.listed;
+                asked = subst Q (sym there) v.asked;
+              }))
+        ]
+  ]
+
+  pub entered-new : IsEnteredInto tree limits t u freed' p
+  entered-new = record {
+    table = rw (w.keys, w.slots, w.rest.0, w.rest.1, w.freed_is) table-push;
+    entries = rw (w.keys, w.slots) pushed;
+    rest = w.rest;
+    keys_kept = λ k q h. rw w.keys (get-push_old t.targets.keys p q k h);
+    slots_kept = λ k x h. rw w.slots (get-push_old t.slots.items w.new x k h);
+    watched = λ pending all. rw (w.keys, w.slots) (watched-push pending all);
+  }
+
+-- a path that is there already
+pub entered-old : (tree : Tree) (limits : ℕ × ℕ) (t : Table) (freed : List ℕ) (p : List ℕ) → IsTableOf tree limits t freed → IsAmong t.targets.keys p →
+    IsEnteredInto tree limits t t freed p
+entered-old tree limits t freed p table m = record {
+  table = table;
+  entries =
+      let P : List (List ℕ) → Type 0 = λ xs. is_among xs p ≡ true in
+      let yes' : is_among (paths_of (table_entries (rules_of tree limits) limits.0 t)) p ≡ true =
+      subst P (sym (paths_of-slots (rules_of tree limits) (outcome_at (rules_of tree limits) limits.0) t.targets.keys t.slots.items table.one_each)) (is_among-from t.targets.keys p m) in
+      sym (rw yes' refl);
+  rest = (refl, refl);
+  keys_kept = λ k q h. h;
+  slots_kept = λ k x h. h;
+  watched = λ pending all. all;
+}
+
+pub full : (tree : Tree) (limits : ℕ × ℕ) (t : Table) (freed : List ℕ) (p : List ℕ) → IsTableOf tree limits t freed → (IsAmong t.targets.keys p → ⊥) →
+    limits.0 ≤ length t.slots.items → IsFull (rules_of tree limits) limits.0 (table_entries (rules_of tree limits) limits.0 t) p
+full tree limits t freed p table out h =
+    let a = outcome_at (rules_of tree limits) limits.0 in
+    let es = table_entries (rules_of tree limits) limits.0 t in
+    let P : List (List ℕ) → Type 0 = λ xs. is_among xs p ≡ false in
+    let no : is_among (paths_of es) p ≡ false = subst P (sym (paths_of-slots (rules_of tree limits) a t.targets.keys t.slots.items table.one_each)) (not-among t.targets.keys p out) in
+    rw no (omega (
+      arith,
+      h,
+      length-append es (new_entry (rules_of tree limits) p ∷ []),
+      slots-length (rules_of tree limits) a t.targets.keys t.slots.items table.one_each,
+    ))

@@ -1,0 +1,152 @@
+-- The numbers freed, in order, are those of the entries that an event releases.
+use Rattle.std.proofs.Common.{map, slice_get, ◌≡◌, ℕ, zero, suc, ◌+◌, ◌<◌, ◌≤◌, Bool, true, false, not, ◌&&◌, is_none, ◌⊎◌, inl, inr, List, [], ◌∷◌, length, filter, Option, Some, None, refl, sym, ap, subst, ◌∙◌, arith}
+use Rattle.std.specs.List.{list_any}
+use Rattle.std.proofs.lemmas.Bool.{cases_Bool, both_ways, and_from, not_from_false}
+use Rattle.redo_tree.specs.Tree.{Tree}
+use Rattle.redo_core.specs.Paths.{IsAmong, AreDistinct, is_among}
+use Rattle.redo_core.specs.Rules.{Ask, Rules, operands}
+use Rattle.redo_core.specs.Outcomes.{outcome_at}
+use Rattle.redo_core.specs.Build.{rules_of}
+use Rattle.redo_core.specs.Schedule.{Entry, State, outcome_of, outcomes_of, paths_of, entry_of, is_free, lacks_none}
+use Rattle.redo_core.specs.Slots.{table_entries, state_from, slot_entries, slot_entry, stage_deps, stage_outcome, path_at, is_stage_out, is_stage_ready, is_stage_waiting, AllWatched, AllAnswered, IsPlace, IsQueue, IsTable, IsTableOf}
+use Rattle.redo_core.specs.declared.table.Slot.{Slot}
+use Rattle.redo_core.specs.declared.table.Table.{Table}
+use Rattle.redo_core.specs.declared.table.Stage.{Stage}
+use Rattle.redo_core.specs.declared.table.Stage.TheVariants.{Waiting, Ready, Out, Decided}
+use Rattle.redo_core.proofs.PathLists.{is_among-true, is_among-from, IsAmong-same}
+use Rattle.redo_core.proofs.Queues.{slice_get-among}
+use Rattle.redo_core.proofs.Soundness.{is_free-parts, lacks_none-true}
+use Rattle.redo_core.proofs.SlotLemmas.{entry_of-slots, slice_get-from, slice_get-below_some, ready-job}
+use Rattle.redo_core.proofs.TableLemmas.{slice_get-place, place-slice_get}
+use Rattle.redo_core.proofs.Places.{AscendFrom, PassAt, filter-places}
+use Rattle.redo_step.specs.declared.deps.Dep.{Dep}
+
+pub distinct-place : (ps : List (List ℕ)) (i j : ℕ) (p : List ℕ) → AreDistinct ps → slice_get ps i ≡ Some p → slice_get ps j ≡ Some p → i ≡ j
+distinct-place [] i j p d h g = cc
+distinct-place (x ∷ ps) zero zero p d h g = refl
+distinct-place (x ∷ ps) zero (suc j) p d h g = absurd (let is : p ≡ x = cc in d.0 (IsAmong-same ps p x is (slice_get-among ps j p g)))
+distinct-place (x ∷ ps) (suc i) zero p d h g = absurd (let is : p ≡ x = cc in d.0 (IsAmong-same ps p x is (slice_get-among ps i p h)))
+distinct-place (x ∷ ps) (suc i) (suc j) p d h g = ap suc (distinct-place ps i j p d.1 h g)
+
+slot-of-entry : (r : Rules) (a : Ask) (ps : List (List ℕ)) (slots : List Slot) (i : ℕ) (e : Entry) → slice_get (slot_entries r a ps slots) i ≡ Some e →
+    (slot : Slot) × (p : List ℕ) × (slice_get slots i ≡ Some slot) × (slice_get ps i ≡ Some p) × (slot_entry r a p slot ≡ e)
+slot-of-entry r a [] slots i e h = cc
+slot-of-entry r a (p ∷ ps) [] i e h = cc
+slot-of-entry r a (p ∷ ps) (s ∷ slots) zero e h = (s, p, refl, refl, (cc))
+slot-of-entry r a (p ∷ ps) (s ∷ slots) (suc i) e h = slot-of-entry r a ps slots i e h
+
+among-map : (f : ℕ → List ℕ) (xs : List ℕ) (p : List ℕ) → IsAmong (map f xs) p → (k : ℕ) × IsPlace xs k × (f k ≡ p)
+among-map f [] p m = absurd m
+among-map f (x ∷ xs) p m = elim m [
+  | inl here ↦ (x, inl refl, here)
+  | inr later ↦ let found = among-map f xs p later in (found.0, inr found.1, found.2)
+]
+
+map-among : (f : ℕ → List ℕ) (xs : List ℕ) (k : ℕ) → IsPlace xs k → IsAmong (map f xs) (f k)
+map-among f [] k m = absurd m
+map-among f (x ∷ xs) k m = elim m [ inl here ↦ inl (ap f here) | inr later ↦ inr (map-among f xs k later) ]
+
+none-lacks : (f : List ℕ → Option Rattle.redo_step.specs.declared.outcome.Outcome.Outcome) (qs : List (List ℕ)) → ((q : List ℕ) → IsAmong qs q → f q ≡ None → ⊥) → list_any (λ q. is_none (f q)) qs ≡ false
+none-lacks f [] h = refl
+none-lacks f (q ∷ qs) h =
+    let rest = none-lacks f qs (λ x m. h x (inr m)) in
+    elim (Rattle.redo_core.proofs.Depth.cases_Option (f q)) [
+      | inl none ↦ absurd (h q (inl refl) none)
+      | inr some ↦ rw (some.1, rest) refl
+    ]
+
+length-slots : (r : Rules) (a : Ask) (ps : List (List ℕ)) (slots : List Slot) → length slots ≡ length ps → length (slot_entries r a ps slots) ≡ length slots
+length-slots r a [] [] h = refl
+length-slots r a [] (slot ∷ slots) h = absurd (omega arith)
+length-slots r a (p ∷ ps) [] h = refl
+length-slots r a (p ∷ ps) (slot ∷ slots) h = ap suc (length-slots r a ps slots (omega arith))
+
+module _ (tree : Tree) (limits : ℕ × ℕ) (t : Table) (freed sorted : List ℕ) (table : IsTableOf tree limits t freed) (distinct : AreDistinct t.targets.keys)
+    (watched : AllWatched (rules_of tree limits) limits.0 t.targets.keys t.slots.items [])
+    (ascends : AscendFrom 0 sorted) (in' : (k : ℕ) → IsPlace sorted k → IsPlace freed k) (out : (k : ℕ) → IsPlace freed k → IsPlace sorted k) where
+  abbrev r : Rules
+  r = rules_of tree limits
+
+  abbrev a : Ask
+  a = outcome_at (rules_of tree limits) limits.0
+
+  abbrev s : State
+  s = state_from (rules_of tree limits) limits.0 t.targets.keys t.slots.items t.ready.items
+
+  key-at : (k : ℕ) → k < length t.slots.items → slice_get t.targets.keys k ≡ Some (path_at t.targets.keys k)
+  key-at k h =
+      let found = slice_get-from t.targets.keys k (omega (arith, table.one_each, h)) in
+      let is : path_at t.targets.keys k ≡ found.0 = rw found.1 refl in
+      found.1 ∙ ap Some (sym is)
+
+  free-there : (i : ℕ) (e : Entry) → slice_get s.entries i ≡ Some e → IsPlace freed i → is_free (rules_of tree limits) s e ≡ true
+  free-there i e h m =
+      let found = slot-of-entry r a t.targets.keys t.slots.items i e h in
+      let slot = found.0 in
+      let p = found.1 in
+      let ready = table.queue.ready_is i slot (inr m) found.2 in
+      let job = ready-job r (outcomes_of s.entries) tree limits (path_at t.targets.keys i) slot.turn slot.stage (table.fits i slot found.2) ready in
+      let outcome : e.outcome ≡ None = sym (ap (λ (x : Entry). x.outcome) found.4) ∙ (let O : Stage → Type 0 = λ st. stage_outcome st ≡ None in subst O (sym job.1) refl) in
+      let inside : e.is_out ≡ false = sym (ap (λ (x : Entry). x.is_out) found.4) ∙ (let I : Stage → Type 0 = λ st. is_stage_out st ≡ false in subst I (sym job.1) refl) in
+      let work = job.0 in
+      let D : Stage → Type 0 = λ st. stage_deps r a p slot.turn st ≡ work.deps in
+      let deps : e.deps ≡ job.0.deps = sym (ap (λ (x : Entry). x.deps) found.4) ∙ subst D (sym job.1) refl in
+      let path : e.path ≡ p = sym (ap (λ (x : Entry). x.path) found.4) in
+      let P : List Dep → Type 0 = λ ds. AllAnswered r (outcomes_of s.entries) ds in
+      let all : lacks_none r s.entries e ≡ true = not_from_false _ (none-lacks (outcomes_of s.entries) (operands r e.deps) (subst P (sym deps) job.3)) in
+      let away : is_among s.ready e.path ≡ false = elim (cases_Bool (is_among s.ready e.path)) [
+        | inl yes' ↦ absurd (
+            let at = among-map (path_at t.targets.keys) t.ready.items e.path (is_among-true s.ready e.path yes') in
+            let same : at.0 ≡ i = distinct-place t.targets.keys at.0 i p distinct
+            (key-at at.0 (table.queue.ready_below at.0 at.1) ∙ ap Some (at.2 ∙ path)) found.3 in
+            table.queue.apart at.0 at.1 (let Q : ℕ → Type 0 = IsPlace freed in subst Q (sym same) m))
+        | inr f ↦ f
+      ] in
+      and_from _ _ (and_from _ _ (and_from _ _ (let o : is_none e.outcome ≡ true = rw outcome refl in o) all) (not_from_false _ inside)) (not_from_false _ away)
+
+  free-alone : (i : ℕ) (e : Entry) → slice_get s.entries i ≡ Some e → is_free (rules_of tree limits) s e ≡ true → IsPlace freed i
+  free-alone i e h free =
+      let found = slot-of-entry r a t.targets.keys t.slots.items i e h in
+      let slot = found.0 in
+      let p = found.1 in
+      let parts = is_free-parts r s e free in
+      let path : e.path ≡ p = sym (ap (λ (x : Entry). x.path) found.4) in
+      let here : path_at t.targets.keys i ≡ p = rw found.3 refl in
+      let outcome : stage_outcome slot.stage ≡ None = ap (λ (x : Entry). x.outcome) found.4 ∙ parts.0 in
+      let inside : is_stage_out slot.stage ≡ false = ap (λ (x : Entry). x.is_out) found.4 ∙ parts.2 in
+      elim (three slot.stage outcome inside) [
+        | inl waits ↦ absurd (elim (watched i slot found.2 waits) [
+          | inl none ↦ none
+          | inr v ↦
+              let q = path_at t.targets.keys v.at in
+              let known = ap outcome_of (entry_of-slots r a t.targets.keys t.slots.items v.at q v.other distinct
+              (key-at v.at (slice_get-below_some t.slots.items v.at v.other v.there)) v.there) in
+              let D : List ℕ → Type 0 = λ x. IsAmong (operands r (stage_deps r a x slot.turn slot.stage)) q in
+              let E : Entry → Type 0 = λ x. IsAmong (operands r x.deps) q in
+              lacks_none-true r s.entries e parts.1 q (subst E found.4 (subst D here v.asked)) (known ∙ v.is_open)
+        ])
+        | inr ready ↦ elim (table.queue.ready_in i slot found.2 ready) [
+          | inl queued ↦ absurd (both_ways _ parts.3 (is_among-from s.ready e.path
+              (IsAmong-same s.ready (path_at t.targets.keys i) e.path (here ∙ sym path) (map-among (path_at t.targets.keys) t.ready.items i queued))))
+          | inr f ↦ f
+        ]
+      ]
+    where
+      three : (stage : Stage) → stage_outcome stage ≡ None → is_stage_out stage ≡ false → (is_stage_waiting stage ≡ true) ⊎ (is_stage_ready stage ≡ true)
+      three (Waiting parked) o i' = inl refl
+      three (Ready work) o i' = inr refl
+      three Out o i' = cc
+      three (Decided fact) o i' = cc
+
+  pub freed-paths : paths_of (filter (is_free (rules_of tree limits) s) s.entries) ≡ map (path_at t.targets.keys) sorted
+  freed-paths = filter-places (is_free r s) (path_at t.targets.keys) 0 s.entries sorted (record {
+    ascending = ascends;
+    within = λ k m. omega (arith, table.queue.freed_below k (in' k m), length-slots r a t.targets.keys t.slots.items table.one_each);
+    passes = λ i e h m. let P : ℕ → Type 0 = IsPlace sorted in let same : 0 + i ≡ i = omega arith in free-there i e h (in' i (subst P same m));
+    alone = λ i e h t'. let P : ℕ → Type 0 = IsPlace sorted in let same : i ≡ 0 + i = omega arith in subst P same (out i (free-alone i e h t'));
+    named = λ i e h.
+        let found = slot-of-entry r a t.targets.keys t.slots.items i e h in
+        let same : 0 + i ≡ i = omega arith in
+        let here : path_at t.targets.keys i ≡ found.1 = rw found.3 refl in
+        ap (path_at t.targets.keys) same ∙ here ∙ ap (λ (x : Entry). x.path) found.4;
+  })

@@ -1,0 +1,169 @@
+-- Noting how far a parked job was looked at keeps the entries.
+use Rattle.std.proofs.Common.{slice_get, slice_set, ◌≡◌, ℕ, ◌<◌, ◌≤◌, inl, inr, ◌⊎◌, List, ◌∷◌, ◌++◌, length, length-set, true, false, Some, None, refl, sym, ap, subst, ◌∙◌, arith}
+use Rattle.std.proofs.lemmas.Bool.{cases_lt}
+use Rattle.redo_tree.specs.Tree.{Tree}
+use Rattle.redo_step.specs.declared.deps.Dep.{Dep}
+use Rattle.redo_core.specs.Rules.{Rules}
+use Rattle.redo_core.specs.Outcomes.{outcome_at}
+use Rattle.redo_core.specs.Build.{rules_of}
+use Rattle.redo_core.specs.Schedule.{Entry, outcomes_of}
+use Rattle.redo_core.specs.Standing.{AreStanding}
+use Rattle.redo_core.specs.Slots.{table_entries, slot_entry, stage_deps, stage_outcome, is_stage_ready, is_stage_waiting, is_stage_decided, path_at, Fits, AllWatched, IsOperand, IsPlace, IsTable, IsTableOf, IsStandingTable, IsWaitingWith, IsLackingAt, IsHeldAt, IsWatchAdded, IsLookedAt}
+use Rattle.redo_core.specs.declared.table.Parked.{Parked}
+use Rattle.redo_core.specs.declared.table.Slot.{Slot}
+use Rattle.redo_core.specs.declared.table.Stage.{Stage}
+use Rattle.redo_core.specs.declared.table.Stage.TheVariants.{Waiting}
+use Rattle.redo_core.specs.declared.table.Table.{Table}
+use Rattle.redo_core.proofs.TableLemmas.{cases_place, get-set_same, get-set_other, watched-set, IsWatched-set}
+use Rattle.redo_core.proofs.TableSteps.{operand-path, decided-known, entries-same, table-same, queue-same, watch-table, watch-looked}
+
+module _ (tree : Tree) (limits : ℕ × ℕ) (t : Table) (freed : List ℕ) (table : IsTableOf tree limits t freed) (standing : IsStandingTable tree limits t)
+    (at : ℕ) (slot : Slot) (parked : Parked) (there : slice_get t.slots.items at ≡ Some slot) (is : slot.stage ≡ Waiting parked)
+    (v : Table) (i place : ℕ) (h : IsHeldAt t v at i) (l : IsLackingAt (rules_of tree limits) t parked.job.state.entries parked.held i place) where
+  abbrev r : Rules
+  r = rules_of tree limits
+
+  pub held : Parked
+  held = record parked { held = i }
+
+  same-slot : h.old ≡ slot
+  same-slot = let both : Some h.old ≡ Some slot = sym h.there ∙ there in cc
+
+  same-parked : h.parked ≡ parked
+  same-parked =
+      let stages : Waiting h.parked ≡ Waiting parked = sym h.was ∙ ap (λ (y : Slot). y.stage) same-slot ∙ is in cc
+
+  pub held-is : h.new.stage ≡ Waiting held
+  unfolding held
+  held-is = h.is ∙ ap (λ (p : Parked). Waiting (record p { held = i })) same-parked
+
+  turn-same : h.new.turn ≡ slot.turn
+  turn-same = h.turn ∙ ap (λ (y : Slot). y.turn) same-slot
+
+  new-open : stage_outcome h.new.stage ≡ None
+  new-open = rw held-is refl
+
+  old-open : stage_outcome slot.stage ≡ None
+  old-open = rw is refl
+
+  deps-same : (p : List ℕ) → stage_deps (rules_of tree limits) (outcome_at (rules_of tree limits) limits.0) p h.new.turn h.new.stage ≡ stage_deps (rules_of tree limits) (outcome_at (rules_of tree limits) limits.0) p slot.turn slot.stage
+  unfolding held
+  deps-same p =
+      let D : Stage → Type 0 = λ st. stage_deps r (outcome_at r limits.0) p h.new.turn st ≡ Rattle.redo_core.specs.Works.job_deps parked.job in
+      let E : Stage → Type 0 = λ st. stage_deps r (outcome_at r limits.0) p slot.turn st ≡ Rattle.redo_core.specs.Works.job_deps parked.job in
+      let one = subst D (sym held-is) refl in
+      let two = subst E (sym is) refl in
+      one ∙ sym two
+
+  same-entry : slot_entry (rules_of tree limits) (outcome_at (rules_of tree limits) limits.0) (path_at t.targets.keys at) h.new ≡
+      slot_entry (rules_of tree limits) (outcome_at (rules_of tree limits) limits.0) (path_at t.targets.keys at) slot
+  same-entry =
+      let E : ℕ → List Dep → Entry = λ n ds. record { path = path_at t.targets.keys at; turn = n; deps = ds; outcome = None; is_out = false } in
+      let D : ℕ → Stage → List Dep = λ n st. stage_deps r (outcome_at r limits.0) (path_at t.targets.keys at) n st in
+      let one : slot_entry r (outcome_at r limits.0) (path_at t.targets.keys at) h.new ≡ E h.new.turn (D h.new.turn h.new.stage) = rw held-is refl in
+      let two : slot_entry r (outcome_at r limits.0) (path_at t.targets.keys at) slot ≡ E slot.turn (D slot.turn slot.stage) = rw is refl in
+      one ∙ ap (λ n. E n (D h.new.turn h.new.stage)) turn-same ∙ ap (E slot.turn) (deps-same (path_at t.targets.keys at)) ∙ sym two
+
+  held-fits : Fits (rules_of tree limits) (outcomes_of (table_entries (rules_of tree limits) limits.0 t)) tree limits (path_at t.targets.keys at) h.new.turn h.new.stage
+  unfolding held
+  held-fits =
+      let a = outcomes_of (table_entries r limits.0 t) in
+      let P : Stage → Type 0 = Fits r a tree limits (path_at t.targets.keys at) slot.turn in
+      let w : IsWaitingWith r a tree limits (path_at t.targets.keys at) slot.turn parked = subst P is (table.fits at slot there) in
+      let Q : Stage → Type 0 = Fits r a tree limits (path_at t.targets.keys at) h.new.turn in
+      let R : ℕ → Type 0 = λ n. IsWaitingWith r a tree limits (path_at t.targets.keys at) n held in
+      subst Q (sym held-is) (subst R (sym turn-same) (record {
+        is_job = w.is_job;
+        of_target = w.of_target;
+        at_turn = w.at_turn;
+        stopped = w.stopped;
+        within = omega (arith, l.below);
+        answered = λ k d q below get o none. elim (cases_lt k parked.held) [
+          | inl before ↦ w.answered k d q before get o none
+          | inr after' ↦
+              let path = operand-path r d q o in
+              let O : List ℕ → Type 0 = λ x. IsOperand r d x in
+              let N : List ℕ → Type 0 = λ x. a x ≡ None in
+              decided-known tree limits t freed table standing d.path (l.before k d after' below get (subst O (sym path) o)) (subst N (sym path) none)
+        ];
+        told = w.told;
+        goes_on = w.goes_on;
+        gained_within = w.gained_within;
+        gained = w.gained;
+      }))
+
+  pub held-table : IsTableOf tree limits v freed
+  held-table =
+      let list = ap (λ (y : Rattle.std.specs.declared.vec.Vec.Vec ℕ Rattle.std.proofs.Common.Global). y.items) (h.watchers ∙ ap (λ (y : Slot). y.watchers) same-slot) in
+      let ready : is_stage_ready h.new.stage ≡ is_stage_ready slot.stage = ap is_stage_ready held-is ∙ sym (ap is_stage_ready is) in
+      let raw = table-same tree limits t freed table standing at slot h.new there old-open new-open same-entry freed
+      (queue-same t.slots.items t.ready.items freed at slot h.new there table.queue ready)
+      (λ k m. let L : List ℕ → Type 0 = λ xs. IsPlace xs k in table.watchers_below at k slot there (subst L list m)) held-fits in
+      let S : List Slot → Type 0 = λ xs. IsTable r tree limits t.targets.keys xs t.ready.items t.out freed in
+      rw (h.rest.0, h.rest.1, h.rest.2) (subst S (sym h.slots) raw)
+
+  pub held-entries : table_entries (rules_of tree limits) limits.0 v ≡ table_entries (rules_of tree limits) limits.0 t
+  held-entries = rw (h.rest.0, h.slots) (entries-same tree limits t freed table standing at slot h.new there old-open new-open same-entry)
+
+  pub held-standing : IsStandingTable tree limits v
+  held-standing = let S : List Entry → Type 0 = AreStanding r standing.0 in (standing.0, subst S (sym held-entries) standing.1)
+
+  held-watched : (pending : List ℕ) → AllWatched (rules_of tree limits) limits.0 t.targets.keys t.slots.items pending → AllWatched (rules_of tree limits) limits.0 v.targets.keys v.slots.items pending
+  held-watched pending all =
+      let list = ap (λ (y : Rattle.std.specs.declared.vec.Vec.Vec ℕ Rattle.std.proofs.Common.Global). y.items) (h.watchers ∙ ap (λ (y : Slot). y.watchers) same-slot) in
+      let more : (j : ℕ) → IsPlace slot.watchers.items j → IsPlace h.new.watchers.items j = λ j m. (let L : List ℕ → Type 0 = λ xs. IsPlace xs j in subst L (sym list) m) in
+      rw (h.rest.0, h.slots) (watched-set t.slots.items at slot h.new there r limits.0 t.targets.keys pending new-open more
+      (λ _. elim (all at slot there (rw is refl)) [
+        | inl m ↦ inl m
+        | inr w ↦
+            let W : List Dep → Type 0 = λ ds. Rattle.redo_core.specs.Slots.IsWatched r t.targets.keys (slice_set t.slots.items at h.new) at ds in
+            inr (subst W (sym (deps-same (path_at t.targets.keys at))) (IsWatched-set t.slots.items at slot h.new there r t.targets.keys at _ new-open more w))
+      ])
+      (λ k x other g m. all k x g m))
+
+  pub held-there : slice_get v.slots.items at ≡ Some h.new
+  held-there = rw h.slots (get-set_same t.slots.items at slot h.new there)
+
+  -- the entry that lacks an answer still does
+  pub held-lacks : IsLackingAt (rules_of tree limits) v held.job.state.entries i i place
+  unfolding held
+  held-lacks = elim (cases_place place at) [
+    | inl same ↦ record {
+      dep = l.dep;
+      slot = h.new;
+      after = omega arith;
+      below = l.below;
+      before = λ k d from below get o. absurd (omega (arith, from, below));
+      entry = l.entry;
+      waits = l.waits;
+      path = rw h.rest.0 l.path;
+      there = let P : ℕ → Type 0 = λ j. slice_get v.slots.items j ≡ Some h.new in subst P (sym same) held-there;
+      is_open = rw held-is refl;
+    }
+    | inr other ↦ record {
+      dep = l.dep;
+      slot = l.slot;
+      after = omega arith;
+      below = l.below;
+      before = λ k d from below get o. absurd (omega (arith, from, below));
+      entry = l.entry;
+      waits = l.waits;
+      path = rw h.rest.0 l.path;
+      there = rw h.slots (get-set_other t.slots.items at place h.new other ∙ l.there);
+      is_open = l.is_open;
+    }
+  ]
+
+  module _ (u : Table) (w : IsWatchAdded v u at place) where
+    pub held-watch-table : IsTableOf tree limits u freed
+    held-watch-table = watch-table tree limits v freed held-table held-standing at h.new held held-there held-is u place i i w held-lacks
+
+    pub held-watch-looked : IsLookedAt tree limits t u at
+    held-watch-looked =
+        let looked = watch-looked tree limits v freed held-table held-standing at h.new held held-there held-is u place i i w held-lacks in
+        record {
+          entries = looked.entries ∙ held-entries;
+          rest = (looked.rest.0 ∙ h.rest.0, looked.rest.1 ∙ h.rest.1, looked.rest.2 ∙ h.rest.2);
+          slots = looked.slots ∙ ap length h.slots ∙ length-set t.slots.items at h.new;
+          watched = λ pending all. looked.watched pending (held-watched (at ∷ pending) all);
+        }

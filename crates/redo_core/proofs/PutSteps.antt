@@ -1,0 +1,179 @@
+-- Putting back what a target that was out came to.
+use Rattle.std.proofs.Common.{slice_get, slice_set, ◌≡◌, ℕ, ◌+◌, ◌<◌, ◌≤◌, Bool, true, false, ◌⊎◌, inl, inr, List, [], ◌∷◌, length, length-set, filter, Option, Some, None, refl, sym, ap, subst, ◌∙◌, arith}
+use Rattle.std.proofs.lemmas.Bool.{cases_Bool, both_ways}
+use Rattle.redo_tree.specs.Tree.{Tree}
+use Rattle.redo_core.specs.Paths.{IsAmong, AreDistinct}
+use Rattle.redo_core.specs.Rules.{Ask, Rules, AreLawful, Extends, operands}
+use Rattle.redo_core.specs.Outcomes.{outcome_at}
+use Rattle.redo_core.specs.Build.{rules_of}
+use Rattle.redo_core.specs.Schedule.{Entry, outcomes_of, paths_of, entry_of, put}
+use Rattle.redo_core.specs.Views.{FactView}
+use Rattle.redo_core.specs.Slots.{table_entries, entries_from, slot_entry, stage_deps, stage_outcome, path_at, is_stage_out, is_stage_ready, is_stage_waiting, Fits, AllFit, AllWatched, AllWatchersBelow, IsWatched, IsPlace, IsQueue, IsTable, IsTableOf, IsPutBack, IsDecidedAt, IsParkedAt, IsDecidedStage, IsParkedStage, IsWaitingWith}
+use Rattle.redo_core.specs.declared.facts.Facts.{Facts}
+use Rattle.redo_core.specs.declared.table.Parked.{Parked}
+use Rattle.redo_step.specs.JobView.{JobView}
+use Rattle.redo_core.specs.declared.table.Slot.{Slot}
+use Rattle.redo_core.specs.declared.table.Table.{Table}
+use Rattle.redo_core.specs.declared.table.Stage.{Stage}
+use Rattle.redo_core.specs.declared.table.Stage.TheVariants.{Waiting, Ready, Out, Decided}
+use Rattle.redo_core.proofs.SlotLemmas.{slot_entries-set, slice_get-from, slice_get-below_some}
+use Rattle.redo_core.proofs.TableLemmas.{Fits-more, get-set_cases, get-set_other, fits-set, outcomes-more, watchers-set, IsWatched-set, cases_place}
+use Rattle.redo_core.proofs.TableSteps.{queue-same}
+use Rattle.redo_core.proofs.Lawful.{rules_lawful}
+use Rattle.redo_step.specs.declared.deps.Dep.{Dep}
+
+count-back : (xs : List Slot) (at : ℕ) (old new : Slot) → slice_get xs at ≡ Some old → is_stage_out old.stage ≡ true → is_stage_out new.stage ≡ false →
+    length (filter (λ slot. is_stage_out slot.stage) (slice_set xs at new)) + 1 ≡ length (filter (λ slot. is_stage_out slot.stage) xs)
+count-back [] at old new h was now = cc
+count-back (x ∷ xs) Rattle.std.proofs.Common.zero old new h was now =
+    let is : x ≡ old = cc in
+    let inside : is_stage_out x.stage ≡ true = ap (λ (y : Slot). is_stage_out y.stage) is ∙ was in
+    rw (now, inside) (omega arith)
+count-back (x ∷ xs) (Rattle.std.proofs.Common.suc at) old new h was now =
+    let rest = count-back xs at old new h was now in
+    elim (cases_Bool (is_stage_out x.stage)) [ inl t ↦ rw t (omega (arith, rest)) | inr f ↦ rw f rest ]
+
+module _ (tree : Tree) (limits : ℕ × ℕ) (t u : Table) (freed : List ℕ) (table : IsTableOf tree limits t freed) (distinct : AreDistinct t.targets.keys)
+    (at : ℕ) (old new : Slot) (w : IsPutBack t u at old new) where
+  abbrev r : Rules
+  r = rules_of tree limits
+
+  put_path : slice_get t.targets.keys at ≡ Some (path_at t.targets.keys at)
+  put_path =
+      let found = slice_get-from t.targets.keys at (omega (arith, table.one_each, slice_get-below_some t.slots.items at old w.there)) in
+      let is : path_at t.targets.keys at ≡ found.0 = rw found.1 refl in
+      found.1 ∙ ap Some (sym is)
+
+  old_open : stage_outcome old.stage ≡ None
+  old_open = rw w.was refl
+
+  -- the entries are those before with one replaced
+  pub put-entries : table_entries (rules_of tree limits) limits.0 u ≡
+      put (table_entries (rules_of tree limits) limits.0 t) (slot_entry (rules_of tree limits) (outcome_at (rules_of tree limits) limits.0) (path_at t.targets.keys at) new)
+  put-entries = rw (w.rest.0, w.slots) (slot_entries-set r (outcome_at r limits.0) t.targets.keys t.slots.items at (path_at t.targets.keys at) old new distinct put_path w.there)
+
+  pub put-table : is_stage_out new.stage ≡ false → is_stage_ready new.stage ≡ false → ((k : ℕ) → IsPlace new.watchers.items k → k < length t.slots.items) →
+      ((a : Ask) → Extends (rules_of tree limits) (outcomes_of (table_entries (rules_of tree limits) limits.0 t)) a →
+      Fits (rules_of tree limits) a tree limits (path_at t.targets.keys at) new.turn new.stage) → IsTableOf tree limits u freed
+  put-table in' still below fit =
+      let len = length-set t.slots.items at new in
+      let count = count-back t.slots.items at old new w.there (rw w.was refl) in' in
+      let raw : IsTable r tree limits t.targets.keys (slice_set t.slots.items at new) t.ready.items u.out freed = record {
+        one_each = len ∙ table.one_each;
+        within_limit = omega (arith, len, table.within_limit);
+        few = table.few;
+        out_counted = omega (arith, table.out_counted, w.out, count);
+        fits = fits-set r (rules_lawful tree limits) limits.0 t.targets.keys t.slots.items at (path_at t.targets.keys at) old new distinct put_path w.there tree limits
+            (outcomes-more r (rules_lawful tree limits) limits.0 t.targets.keys t.slots.items at (path_at t.targets.keys at) old new distinct put_path w.there old_open)
+            table.fits (fit (outcomes_of (entries_from r limits.0 t.targets.keys (slice_set t.slots.items at new)))
+            (outcomes-more r (rules_lawful tree limits) limits.0 t.targets.keys t.slots.items at (path_at t.targets.keys at) old new distinct put_path w.there old_open));
+        queue = queue-same t.slots.items t.ready.items freed at old new w.there table.queue (still ∙ sym (rw w.was refl));
+        watchers_below = watchers-set t.slots.items at old new w.there below table.watchers_below;
+      } in
+      let S : List Slot → Type 0 = λ xs. IsTable r tree limits t.targets.keys xs t.ready.items u.out freed in
+      rw (w.rest.0, w.rest.1) (subst S (sym w.slots) raw)
+
+decided-stage : (fact : FactView) (tree : Tree) (limits : ℕ × ℕ) (p : List ℕ) (turn : ℕ) (stage : Stage) → IsDecidedStage fact stage →
+    (fact.tree ≡ tree) → (fact.limits ≡ limits) → (fact.target ≡ p) →
+    (is_stage_out stage ≡ false) × (is_stage_ready stage ≡ false) × (is_stage_waiting stage ≡ false) × ((a : Ask) → Fits (rules_of tree limits) a tree limits p turn stage)
+decided-stage fact tree limits p turn (Waiting parked) h a b c = absurd h
+decided-stage fact tree limits p turn (Ready work) h a b c = absurd h
+decided-stage fact tree limits p turn Out h a b c = absurd h
+decided-stage fact tree limits p turn (Decided held) h a b c = (
+  refl,
+  refl,
+  refl,
+  λ _. (ap (λ (f : FactView). f.tree) h ∙ a, ap (λ (f : FactView). f.limits) h ∙ b, ap (λ (f : FactView). f.target) h ∙ c),
+)
+
+parked-stage : (job : JobView) (facts : Facts) (tree : Tree) (limits : ℕ × ℕ) (b : Ask) (p : List ℕ) (turn : ℕ) (stage : Stage) → IsParkedStage job facts stage →
+    IsWaitingWith (rules_of tree limits) b tree limits p turn (record { job = job; facts = facts; held = facts.gained }) →
+    (is_stage_out stage ≡ false) × (is_stage_ready stage ≡ false) × (stage_outcome stage ≡ None) ×
+    ((a : Ask) → Extends (rules_of tree limits) b a → Fits (rules_of tree limits) a tree limits p turn stage)
+parked-stage job facts tree limits b p turn (Waiting parked) h waits = (
+  refl,
+  refl,
+  refl,
+  λ a more.
+      let E : JobView → Facts → ℕ → Parked = λ j f n. record { job = j; facts = f; held = n } in
+      let A : JobView → Type 0 = λ j. E parked.job parked.facts parked.held ≡ E j parked.facts parked.held in
+      let B : Facts → Type 0 = λ f. E parked.job parked.facts parked.held ≡ E job f parked.held in
+      let C : ℕ → Type 0 = λ n. E parked.job parked.facts parked.held ≡ E job facts n in
+      let is : parked ≡ E job facts facts.gained = subst C h.2 (subst B h.1 (subst A h.0 refl)) in
+      let P : Parked → Type 0 = λ q. IsWaitingWith (rules_of tree limits) b tree limits p turn q in
+      Fits-more (rules_of tree limits) (rules_lawful tree limits) b a tree limits p turn (Waiting parked) more (subst P (sym is) waits),
+)
+parked-stage job facts tree limits b p turn (Ready work) h waits = absurd h
+parked-stage job facts tree limits b p turn Out h waits = absurd h
+parked-stage job facts tree limits b p turn (Decided held) h waits = absurd h
+
+module _ (tree : Tree) (limits : ℕ × ℕ) (t u : Table) (freed : List ℕ) (table : IsTableOf tree limits t freed) (distinct : AreDistinct t.targets.keys) (at : ℕ) where
+  -- a target that is decided
+  module _ (fact : FactView) (pending : List ℕ) (d : IsDecidedAt t u at fact pending)
+      (one : fact.tree ≡ tree) (two : fact.limits ≡ limits) (three : fact.target ≡ path_at t.targets.keys at) where
+    pub decided-table : IsTableOf tree limits u freed
+    decided-table =
+        let h = decided-stage fact tree limits (path_at t.targets.keys at) d.new.turn d.new.stage d.stage one two three in
+        put-table tree limits t u freed table distinct at d.old d.new d.put_back h.0 h.1
+        (λ k m. absurd (let P : List ℕ → Type 0 = λ xs. IsPlace xs k in subst P d.watchers m)) (λ a more. h.3 a)
+
+    decided-raw : AllWatched (rules_of tree limits) limits.0 t.targets.keys t.slots.items [] →
+        AllWatched (rules_of tree limits) limits.0 t.targets.keys (slice_set t.slots.items at d.new) pending
+    decided-raw all k x g m =
+        let h = decided-stage fact tree limits (path_at t.targets.keys at) d.new.turn d.new.stage d.stage one two three in
+        elim (get-set_cases t.slots.items at k d.new x g) [
+          | inl here ↦ absurd (both_ways _ h.2 (ap (λ (y : Slot). is_stage_waiting y.stage) here.1 ∙ m))
+          | inr before ↦ elim (all k x before.1 m) [
+            | inl none ↦ absurd none
+            | inr v ↦ elim (cases_place v.at at) [
+              | inl same ↦
+                  let P : ℕ → Type 0 = λ j. slice_get t.slots.items j ≡ Some v.other in
+                  let both : Some v.other ≡ Some d.old = sym (subst P same v.there) ∙ d.put_back.there in
+                  let is : v.other ≡ d.old = cc in
+                  let Q : Slot → Type 0 = λ y. IsPlace y.watchers.items k in
+                  let R : List ℕ → Type 0 = λ xs. IsPlace xs k in
+                  inl (subst R (sym d.pending_is) (subst Q is v.listed))
+              | inr other ↦ inr (record {
+                at = v.at;
+                other = v.other;
+                there = get-set_other t.slots.items at v.at d.new other ∙ v.there;
+                is_open = v.is_open;
+                listed = v.listed;
+                asked = v.asked;
+              })
+            ]
+          ]
+        ]
+
+    pub decided-watched : AllWatched (rules_of tree limits) limits.0 t.targets.keys t.slots.items [] →
+        AllWatched (rules_of tree limits) limits.0 u.targets.keys u.slots.items pending
+    decided-watched all = rw (d.put_back.rest.0, d.put_back.slots) (decided-raw all)
+
+  -- a job that is parked again
+  module _ (job : JobView) (facts : Facts) (d : IsParkedAt t u at job facts)
+      (waits : IsWaitingWith (rules_of tree limits) (outcomes_of (table_entries (rules_of tree limits) limits.0 t)) tree limits (path_at t.targets.keys at) d.new.turn (record { job = job; facts = facts; held = facts.gained })) where
+    same_list : d.new.watchers.items ≡ d.old.watchers.items
+    same_list = ap (λ (y : Rattle.std.specs.declared.vec.Vec.Vec ℕ Rattle.std.proofs.Common.Global). y.items) d.watchers
+
+    pub parked-table : IsTableOf tree limits u freed
+    parked-table =
+        let h = parked-stage job facts tree limits (outcomes_of (table_entries (rules_of tree limits) limits.0 t)) (path_at t.targets.keys at) d.new.turn d.new.stage d.stage waits in
+        put-table tree limits t u freed table distinct at d.old d.new d.put_back h.0 h.1
+        (λ k m. table.watchers_below at k d.old d.put_back.there (rw same_list at m)) h.3
+
+    parked-raw : AllWatched (rules_of tree limits) limits.0 t.targets.keys t.slots.items [] →
+        AllWatched (rules_of tree limits) limits.0 t.targets.keys (slice_set t.slots.items at d.new) (at ∷ [])
+    parked-raw all k x g m =
+        let h = parked-stage job facts tree limits (outcomes_of (table_entries (rules_of tree limits) limits.0 t)) (path_at t.targets.keys at) d.new.turn d.new.stage d.stage waits in
+        elim (get-set_cases t.slots.items at k d.new x g) [
+          | inl here ↦ inl (inl (sym here.0))
+          | inr before ↦ elim (all k x before.1 m) [
+            | inl none ↦ absurd none
+            | inr v ↦ inr (IsWatched-set t.slots.items at d.old d.new d.put_back.there (rules_of tree limits) t.targets.keys k
+                (stage_deps (rules_of tree limits) (outcome_at (rules_of tree limits) limits.0) (path_at t.targets.keys k) x.turn x.stage) h.2 (λ j p. rw same_list p) v)
+          ]
+        ]
+
+    pub parked-watched : AllWatched (rules_of tree limits) limits.0 t.targets.keys t.slots.items [] →
+        AllWatched (rules_of tree limits) limits.0 u.targets.keys u.slots.items (at ∷ [])
+    parked-watched all = rw (d.put_back.rest.0, d.put_back.slots) (parked-raw all)

@@ -1,0 +1,224 @@
+-- What changes of single slots keep.
+use Rattle.std.proofs.Common.{map, remove, slice_get, slice_set, ◌≡◌, ℕ, zero, suc, ◌+◌, ◌<◌, ◌≤◌, Bool, true, false, ◌⊎◌, inl, inr, List, [], ◌∷◌, ◌++◌, length, length-set, length-append, filter, Option, Some, None, refl, sym, ap, subst, ◌∙◌, arith, bytes_eq}
+use Rattle.std.proofs.lemmas.Bool.{cases_Bool, both_ways}
+use Rattle.redo_tree.specs.Tree.{Tree}
+use Rattle.redo_core.specs.Paths.{IsAmong, AreDistinct}
+use Rattle.redo_core.specs.Rules.{Ask, Rules, AreLawful, Extends, operands}
+use Rattle.redo_core.proofs.Entries.{entry_of-put_other}
+use Rattle.redo_step.specs.declared.deps.Dep.{Dep}
+use Rattle.redo_core.specs.Outcomes.{outcome_at}
+use Rattle.redo_core.specs.Schedule.{Entry, outcome_of, outcomes_of, paths_of, entry_of, put}
+use Rattle.redo_core.specs.Slots.{entries_from, slot_entries, slot_entry, stage_deps, stage_outcome, path_at, is_stage_out, is_stage_ready, is_stage_waiting, Fits, AllFit, AllWatched, AllWatchersBelow, IsWatched, IsPlace, IsQueue}
+use Rattle.redo_core.specs.Works.{job_deps}
+use Rattle.redo_core.specs.declared.table.Slot.{Slot}
+use Rattle.redo_core.specs.declared.table.Stage.{Stage}
+use Rattle.redo_core.specs.declared.table.Stage.TheVariants.{Waiting, Ready, Out, Decided}
+use Rattle.redo_core.proofs.Depth.{cases_Option, operand-target}
+use Rattle.redo_core.proofs.PathLists.{IsAmong-same}
+use Rattle.redo_core.proofs.Queues.{slice_get-among}
+use Rattle.redo_core.proofs.SlotLemmas.{entry_of-slots, paths_of-slots, slot_entries-set}
+use Rattle.std.proofs.lemmas.Slice.Eq.{bytes_eq-Decides}
+use Rattle.redo_step.specs.declared.outcome.Outcome.{Outcome}
+
+pub slice_get-place : (xs : List ℕ) (i k : ℕ) → slice_get xs i ≡ Some k → IsPlace xs k
+slice_get-place [] i k h = cc
+slice_get-place (x ∷ xs) zero k h = inl (cc)
+slice_get-place (x ∷ xs) (suc i) k h = inr (slice_get-place xs i k h)
+
+pub place-slice_get : (xs : List ℕ) (k : ℕ) → IsPlace xs k → (i : ℕ) × (slice_get xs i ≡ Some k)
+place-slice_get [] k m = absurd m
+place-slice_get (x ∷ xs) k m = elim m [
+  | inl here ↦ (zero, ap Some here)
+  | inr later ↦ let found = place-slice_get xs k later in (suc found.0, found.1)
+]
+
+pub remove-place : (xs : List ℕ) (i k : ℕ) → IsPlace (remove xs i) k → IsPlace xs k
+remove-place [] zero k m = m
+remove-place [] (suc i) k m = m
+remove-place (x ∷ xs) zero k m = inr m
+remove-place (x ∷ xs) (suc i) k m = elim m [ inl here ↦ inl here | inr later ↦ inr (remove-place xs i k later) ]
+
+pub remove-place_cases : (xs : List ℕ) (i at k : ℕ) → slice_get xs i ≡ Some at → IsPlace xs k → (at ≡ k) ⊎ IsPlace (remove xs i) k
+remove-place_cases [] i at k h m = absurd m
+remove-place_cases (x ∷ xs) zero at k h m = elim m [ inl here ↦ inl (cc) | inr later ↦ inr later ]
+remove-place_cases (x ∷ xs) (suc i) at k h m = elim m [
+  | inl here ↦ inr (inl here)
+  | inr later ↦ elim (remove-place_cases xs i at k h later) [ inl same ↦ inl same | inr rest ↦ inr (inr rest) ]
+]
+
+pub place-append : (xs ys : List ℕ) (k : ℕ) → IsPlace (xs ++ ys) k → IsPlace xs k ⊎ IsPlace ys k
+place-append [] ys k m = inr m
+place-append (x ∷ xs) ys k m = elim m [
+  | inl here ↦ inl (inl here)
+  | inr later ↦ elim (place-append xs ys k later) [ inl l ↦ inl (inr l) | inr r ↦ inr r ]
+]
+
+pub place-left : (xs ys : List ℕ) (k : ℕ) → IsPlace xs k → IsPlace (xs ++ ys) k
+place-left [] ys k m = absurd m
+place-left (x ∷ xs) ys k m = elim m [ inl here ↦ inl here | inr later ↦ inr (place-left xs ys k later) ]
+
+pub place-right : (xs ys : List ℕ) (k : ℕ) → IsPlace ys k → IsPlace (xs ++ ys) k
+place-right [] ys k m = m
+place-right (x ∷ xs) ys k m = inr (place-right xs ys k m)
+
+pub get-set_cases : (xs : List Slot) (at i : ℕ) (new found : Slot) → slice_get (slice_set xs at new) i ≡ Some found →
+    ((i ≡ at) × (new ≡ found)) ⊎ ((i ≡ at → ⊥) × (slice_get xs i ≡ Some found))
+get-set_cases [] at i new found h = cc
+get-set_cases (x ∷ xs) zero zero new found h = inl (refl, (cc))
+get-set_cases (x ∷ xs) zero (suc i) new found h = inr ((λ e. absurd (omega arith)), h)
+get-set_cases (x ∷ xs) (suc at) zero new found h = inr ((λ e. absurd (omega arith)), h)
+get-set_cases (x ∷ xs) (suc at) (suc i) new found h = elim (get-set_cases xs at i new found h) [
+  | inl here ↦ inl (ap suc here.0, here.1)
+  | inr old ↦ inr ((λ e. old.0 (let f : i ≡ at = omega arith in f)), old.1)
+]
+
+pub get-set_same : (xs : List Slot) (at : ℕ) (old new : Slot) → slice_get xs at ≡ Some old → slice_get (slice_set xs at new) at ≡ Some new
+get-set_same [] at old new h = cc
+get-set_same (x ∷ xs) zero old new h = refl
+get-set_same (x ∷ xs) (suc at) old new h = get-set_same xs at old new h
+
+pub get-set_other : (xs : List Slot) (at i : ℕ) (new : Slot) → (i ≡ at → ⊥) → slice_get (slice_set xs at new) i ≡ slice_get xs i
+get-set_other [] at i new other = refl
+get-set_other (x ∷ xs) zero zero new other = absurd (other refl)
+get-set_other (x ∷ xs) zero (suc i) new other = refl
+get-set_other (x ∷ xs) (suc at) zero new other = refl
+get-set_other (x ∷ xs) (suc at) (suc i) new other = get-set_other xs at i new (λ e. other (ap suc e))
+
+pub cases_place : (i at : ℕ) → (i ≡ at) ⊎ (i ≡ at → ⊥)
+cases_place zero zero = inl refl
+cases_place zero (suc at) = inr (λ e. absurd (omega arith))
+cases_place (suc i) zero = inr (λ e. absurd (omega arith))
+cases_place (suc i) (suc at) = elim (cases_place i at) [ inl e ↦ inl (ap suc e) | inr n ↦ inr (λ e. n (let f : i ≡ at = omega arith in f)) ]
+
+pub Fits-more : (r : Rules) (lawful : AreLawful r) (a b : Ask) (tree : Tree) (limits : ℕ × ℕ) (p : List ℕ) (turn : ℕ) (stage : Stage) → Extends r a b →
+    Fits r a tree limits p turn stage → Fits r b tree limits p turn stage
+Fits-more r lawful a b tree limits p turn (Waiting parked) more h = record {
+  is_job = h.is_job;
+  of_target = h.of_target;
+  at_turn = h.at_turn;
+  stopped = h.stopped;
+  within = h.within;
+  answered = λ k d q below at is none. elim (cases_Option (a q)) [
+    | inl no_answer ↦ h.answered k d q below at is no_answer
+    | inr some ↦ let also = more q some.0 is.1 some.1 in cc
+  ];
+  told = λ q o known. let was = h.told q o known in (was.0, more q o (operand-target r lawful (job_deps parked.job) q was.0) was.1);
+  goes_on = h.goes_on;
+  gained_within = h.gained_within;
+  gained = h.gained;
+}
+Fits-more r lawful a b tree limits p turn (Ready work) more h = (
+  h.0,
+  λ q m none. elim (cases_Option (a q)) [
+    | inl no_answer ↦ h.1 q m no_answer
+    | inr some ↦ let also = more q some.0 (operand-target r lawful work.deps q m) some.1 in cc
+  ],
+)
+Fits-more r lawful a b tree limits p turn Out more h = h
+Fits-more r lawful a b tree limits p turn (Decided fact) more h = h
+
+module _ (r : Rules) (lawful : AreLawful r) (n : ℕ) (ps : List (List ℕ)) (slots : List Slot) (at : ℕ) (p : List ℕ) (old new : Slot) (distinct : AreDistinct ps)
+    (path : slice_get ps at ≡ Some p) (there : slice_get slots at ≡ Some old) where
+  -- outcomes but for that of one slot
+  pub outcomes-other : (q : List ℕ) → (p ≡ q → ⊥) → outcomes_of (entries_from r n ps (slice_set slots at new)) q ≡ outcomes_of (entries_from r n ps slots) q
+  outcomes-other q other =
+      let set = slot_entries-set r (outcome_at r n) ps slots at p old new distinct path there in
+      ap (λ es. outcomes_of es q) set ∙ ap outcome_of (entry_of-put_other (entries_from r n ps slots) (slot_entry r (outcome_at r n) p new) q other)
+
+  pub outcomes-here : (slots' : List Slot) (x : Slot) → slice_get slots' at ≡ Some x → outcomes_of (entries_from r n ps slots') p ≡ stage_outcome x.stage
+  outcomes-here slots' x h = ap outcome_of (entry_of-slots r (outcome_at r n) ps slots' at p x distinct path h)
+
+  pub outcomes-kept : stage_outcome new.stage ≡ stage_outcome old.stage →
+      (q : List ℕ) → outcomes_of (entries_from r n ps (slice_set slots at new)) q ≡ outcomes_of (entries_from r n ps slots) q
+  outcomes-kept same q = elim (cases_Bool (bytes_eq p q)) [
+    | inl t ↦
+        let is = (bytes_eq-Decides p q).0 t in
+        let P : List ℕ → Type 0 = λ x. outcomes_of (entries_from r n ps (slice_set slots at new)) x ≡ outcomes_of (entries_from r n ps slots) x in
+        subst P is (outcomes-here (slice_set slots at new) new (get-set_same slots at old new there) ∙ same ∙ sym (outcomes-here slots old there))
+    | inr f ↦ outcomes-other q (λ is. both_ways _ f ((bytes_eq-Decides p q).1 is))
+  ]
+
+  -- a slot that was open may be decided: every answer stays
+  pub outcomes-more : stage_outcome old.stage ≡ None → Extends r (outcomes_of (entries_from r n ps slots)) (outcomes_of (entries_from r n ps (slice_set slots at new)))
+  outcomes-more open' q o target h = elim (cases_Bool (bytes_eq p q)) [
+    | inl t ↦
+        let is = (bytes_eq-Decides p q).0 t in
+        let P : List ℕ → Type 0 = λ x. outcomes_of (entries_from r n ps slots) x ≡ Some o in
+        let none = sym open' ∙ sym (outcomes-here slots old there) ∙ subst P (sym is) h in
+        cc
+    | inr f ↦ outcomes-other q (λ is. both_ways _ f ((bytes_eq-Decides p q).1 is)) ∙ h
+  ]
+
+  pub fits-set : (tree : Tree) (limits : ℕ × ℕ) → Extends r (outcomes_of (entries_from r n ps slots)) (outcomes_of (entries_from r n ps (slice_set slots at new))) →
+      AllFit r n tree limits ps slots →
+      Fits r (outcomes_of (entries_from r n ps (slice_set slots at new))) tree limits (path_at ps at) new.turn new.stage →
+      AllFit r n tree limits ps (slice_set slots at new)
+  fits-set tree limits more fits fit k x g = elim (get-set_cases slots at k new x g) [
+    | inl here ↦
+        let P : Slot → Type 0 = λ y. Fits r (outcomes_of (entries_from r n ps (slice_set slots at new))) tree limits (path_at ps k) y.turn y.stage in
+        let Q : ℕ → Type 0 = λ j. Fits r (outcomes_of (entries_from r n ps (slice_set slots at new))) tree limits (path_at ps j) new.turn new.stage in
+        subst P here.1 (subst Q (sym here.0) fit)
+    | inr before ↦ Fits-more r lawful (outcomes_of (entries_from r n ps slots)) (outcomes_of (entries_from r n ps (slice_set slots at new))) tree limits (path_at ps k) x.turn x.stage more
+        (fits k x before.1)
+  ]
+
+module _ (slots : List Slot) (at : ℕ) (old new : Slot) (there : slice_get slots at ≡ Some old) where
+  pub watchers-set : ((k : ℕ) → IsPlace new.watchers.items k → k < length slots) → AllWatchersBelow slots → AllWatchersBelow (slice_set slots at new)
+  watchers-set below all i k x g m =
+      let len = length-set slots at new in
+      elim (get-set_cases slots at i new x g) [
+        | inl here ↦ omega (arith, len, below k (let P : Slot → Type 0 = λ y. IsPlace y.watchers.items k in subst P (sym here.1) m))
+        | inr before ↦ omega (arith, len, all i k x before.1 m)
+      ]
+
+  pub IsWatched-set : (r : Rules) (ps : List (List ℕ)) (k : ℕ) (deps : List Dep) → stage_outcome new.stage ≡ None →
+      ((j : ℕ) → IsPlace old.watchers.items j → IsPlace new.watchers.items j) → IsWatched r ps slots k deps → IsWatched r ps (slice_set slots at new) k deps
+  IsWatched-set r ps k deps open' more w = elim (cases_place w.at at) [
+    | inl same ↦
+        let P : ℕ → Type 0 = λ j. slice_get slots j ≡ Some w.other in
+        let both : Some w.other ≡ Some old = sym (subst P same w.there) ∙ there in
+        let is : w.other ≡ old = cc in
+        let Q : Slot → Type 0 = λ y. IsPlace y.watchers.items k in
+        let R : ℕ → Type 0 = λ j. IsAmong (operands r deps) (path_at ps j) in
+        record {
+          at = at;
+          other = new;
+          there = get-set_same slots at old new there;
+          is_open = open';
+          listed = more k (subst Q is w.listed);
+          asked = subst R same w.asked;
+        }
+    | inr other ↦ record {
+      at = w.at;
+      other = w.other;
+      there = get-set_other slots at w.at new other ∙ w.there;
+      is_open = w.is_open;
+      listed = w.listed;
+      asked = w.asked;
+    }
+  ]
+
+  -- what waited is still watched, where the slot is still open
+  pub watched-set : (r : Rules) (n : ℕ) (ps : List (List ℕ)) (pending : List ℕ) → stage_outcome new.stage ≡ None →
+      ((j : ℕ) → IsPlace old.watchers.items j → IsPlace new.watchers.items j) →
+      (is_stage_waiting new.stage ≡ true → IsPlace pending at ⊎ IsWatched r ps (slice_set slots at new) at (stage_deps r (outcome_at r n) (path_at ps at) new.turn new.stage)) →
+      ((k : ℕ) (x : Slot) → (k ≡ at → ⊥) → slice_get slots k ≡ Some x → is_stage_waiting x.stage ≡ true →
+      IsPlace pending k ⊎ IsWatched r ps slots k (stage_deps r (outcome_at r n) (path_at ps k) x.turn x.stage)) →
+      AllWatched r n ps (slice_set slots at new) pending
+  watched-set r n ps pending open' more mine all k x g t = elim (get-set_cases slots at k new x g) [
+    | inl here ↦
+        let P : ℕ → Slot → Type 0 = λ j y. IsPlace pending j ⊎ IsWatched r ps (slice_set slots at new) j (stage_deps r (outcome_at r n) (path_at ps j) y.turn y.stage) in
+        let A : Slot → Type 0 = λ y. P k y in
+        let B : ℕ → Type 0 = λ j. P j new in
+        subst A here.1 (subst B (sym here.0) (mine (ap (λ (y : Slot). is_stage_waiting y.stage) here.1 ∙ t)))
+    | inr before ↦ elim (all k x before.0 before.1 t) [
+      | inl m ↦ inl m
+      | inr w ↦ inr (IsWatched-set r ps k (stage_deps r (outcome_at r n) (path_at ps k) x.turn x.stage) open' more w)
+    ]
+  ]
+
+-- a slot that is replaced twice
+pub set-twice : (xs : List Slot) (at : ℕ) (x y : Slot) → slice_set (slice_set xs at x) at y ≡ slice_set xs at y
+set-twice [] at x y = refl
+set-twice (z ∷ xs) zero x y = refl
+set-twice (z ∷ xs) (suc at) x y = ap (λ ys. z ∷ ys) (set-twice xs at x y)

@@ -1,0 +1,506 @@
+-- Looking again at what waits keeps the entries.
+use Rattle.std.proofs.Common.{map, remove, slice_get, slice_set, ◌≡◌, ℕ, zero, suc, ◌+◌, ◌<◌, ◌≤◌, Bool, true, false, ◌⊎◌, inl, inr, List, [], ◌∷◌, ◌++◌, length, length-set, filter, filter_map, Option, Some, None, not, refl, sym, ap, subst, ◌∙◌, arith, bytes_eq}
+use Rattle.std.proofs.lemmas.Bool.{cases_Bool, both_ways, not-true, not_from_false}
+use Rattle.redo_tree.specs.Tree.{Tree}
+use Rattle.redo_core.specs.Paths.{IsAmong, AreDistinct}
+use Rattle.redo_core.specs.Rules.{Ask, Rules, AreLawful, Extends, operands, changed}
+use Rattle.redo_core.specs.Outcomes.{outcome_at}
+use Rattle.redo_core.specs.Build.{rules_of}
+use Rattle.redo_core.specs.Schedule.{Entry, outcome_of, outcomes_of, paths_of, entry_of, put}
+use Rattle.redo_core.specs.Slots.{table_entries, entries_from, slot_entries, slot_entry, stage_deps, stage_outcome, path_at, is_stage_out, is_stage_ready, is_stage_waiting, is_stage_decided, Fits, AllFit, AllWatched, AllWatchersBelow, AllAnswered, AnsweredFrom, AnsweredBelow, IsOperand, IsWatched, IsPlace, ArePlacesOnce, IsQueue, IsTable, IsTableOf, IsParked, IsLookedAt, IsLackingAt, IsWatchAdded, IsFreedAt, IsFed, IsStandingTable, IsDecidedSlot}
+use Rattle.redo_core.specs.Standing.{AreStanding}
+use Rattle.redo_core.specs.Works.{job_deps}
+use Rattle.redo_core.specs.declared.table.Slot.{Slot}
+use Rattle.redo_core.specs.declared.table.Table.{Table}
+use Rattle.redo_core.specs.declared.table.Parked.{Parked}
+use Rattle.redo_core.specs.declared.table.Stage.{Stage}
+use Rattle.redo_core.specs.declared.table.Stage.TheVariants.{Waiting, Ready, Out, Decided}
+use Rattle.redo_core.proofs.PathLists.{IsAmong-same, filter-passes, filter-from}
+use Rattle.redo_core.proofs.Queues.{slice_get-among, filter-keeps}
+use Rattle.redo_core.proofs.Depth.{cases_Option, operand-target}
+use Rattle.redo_core.proofs.Lawful.{rules_lawful}
+use Rattle.redo_core.proofs.TableLemmas.{fits-set}
+use Rattle.redo_core.proofs.Handover.{taken-work, taken-deep}
+use Rattle.redo_core.proofs.TurnBound.{turn-below}
+use Rattle.redo_core.proofs.Jobs.{asked_of_job, asked_by_job}
+use Rattle.redo_core.proofs.Entries.{among-entry_of, entry_of-path}
+use Rattle.redo_core.specs.Turns.{IsWork}
+use Rattle.redo_core.specs.declared.work.Work.{Work}
+use Rattle.redo_step.specs.declared.deps.DepKind.{DepKind}
+use Rattle.redo_step.specs.declared.deps.DepKind.TheVariants.{Change, Create}
+use Rattle.redo_core.proofs.SlotLemmas.{entry_of-slots, paths_of-slots, slot_entries-set, slice_get-from, slice_get-below_some}
+use Rattle.redo_core.proofs.TableLemmas.{place-append, place-left, place-right, get-set_cases, get-set_same, get-set_other, IsWatched-set, watchers-set}
+use Rattle.redo_step.specs.declared.deps.Dep.{Dep}
+use Rattle.redo_step.specs.declared.outcome.Outcome.{Outcome}
+
+changed-path : (kind : DepKind) (p q : List ℕ) → changed kind p ≡ Some q → p ≡ q
+changed-path Change p q h = cc
+changed-path Create p q h = cc
+
+pub operand-path : (r : Rules) (d : Dep) (q : List ℕ) → IsOperand r d q → d.path ≡ q
+operand-path r d q is = changed-path d.kind d.path q is.0
+
+changes-entry : (ds : List Dep) (q : List ℕ) → IsAmong (filter_map (λ d. changed d.kind d.path) ds) q → (k : ℕ) × (d : Dep) × (slice_get ds k ≡ Some d) × (changed d.kind d.path ≡ Some q)
+changes-entry [] q m = absurd m
+changes-entry (d ∷ ds) q m =
+    let behind : IsAmong (filter_map (λ x. changed x.kind x.path) ds) q → (k : ℕ) × (x : Dep) × (slice_get (d ∷ ds) k ≡ Some x) × (changed x.kind x.path ≡ Some q) =
+    λ later. let found = changes-entry ds q later in (suc found.0, found.1, found.2, found.3) in
+    elim (cases_Option (changed d.kind d.path)) [
+      | inl none ↦ behind (rw none at m)
+      | inr some ↦ elim (rw some.1 at m) as (λ _. (k : ℕ) × (x : Dep) × (slice_get (d ∷ ds) k ≡ Some x) × (changed x.kind x.path ≡ Some q)) [
+        | inl here ↦ (zero, d, refl, some.1 ∙ ap Some here)
+        | inr later ↦ behind later
+      ]
+    ]
+
+entry-changes : (ds : List Dep) (k : ℕ) (d : Dep) (q : List ℕ) → slice_get ds k ≡ Some d → changed d.kind d.path ≡ Some q → IsAmong (filter_map (λ x. changed x.kind x.path) ds) q
+entry-changes [] k d q at is = cc
+entry-changes (x ∷ ds) zero d q at is =
+    let same : x ≡ d = cc in
+    let here : changed x.kind x.path ≡ Some q = ap (λ (y : Dep). changed y.kind y.path) same ∙ is in
+    rw here (inl refl)
+entry-changes (x ∷ ds) (suc k) d q at is =
+    let rest = entry-changes ds k d q at is in
+    elim (cases_Option (changed x.kind x.path)) [ inl none ↦ rw none rest | inr some ↦ rw some.1 (inr rest) ]
+
+-- what a record waits for stands in it
+pub operand-entry : (r : Rules) (ds : List Dep) (q : List ℕ) → IsAmong (operands r ds) q → (k : ℕ) × (d : Dep) × (slice_get ds k ≡ Some d) × IsOperand r d q
+operand-entry r ds q m =
+    let passes = filter-passes (λ p. not (r.is_source p)) (filter_map (λ d. changed d.kind d.path) ds) q m in
+    let found = changes-entry ds q (filter-from (λ p. not (r.is_source p)) (filter_map (λ d. changed d.kind d.path) ds) q m) in
+    (found.0, found.1, found.2, (found.3, not-true (r.is_source q) passes))
+
+pub entry-operand : (r : Rules) (ds : List Dep) (k : ℕ) (d : Dep) (q : List ℕ) → slice_get ds k ≡ Some d → IsOperand r d q → IsAmong (operands r ds) q
+entry-operand r ds k d q at is =
+    filter-keeps (λ p. not (r.is_source p)) (filter_map (λ x. changed x.kind x.path) ds) q (entry-changes ds k d q at is.0) (not_from_false (r.is_source q) is.1)
+
+pub open-outcome : (stage : Stage) → is_stage_decided stage ≡ false → stage_outcome stage ≡ None
+open-outcome (Waiting p) h = refl
+open-outcome (Ready w) h = refl
+open-outcome Out h = refl
+open-outcome (Decided f) h = cc
+
+decided-outcome : (stage : Stage) → is_stage_decided stage ≡ true → stage_outcome stage ≡ None → ⊥
+decided-outcome (Waiting p) h n = cc
+decided-outcome (Ready w) h n = cc
+decided-outcome Out h n = cc
+decided-outcome (Decided f) h n = cc
+
+slot_entries-same : (r : Rules) (a : Ask) (ps : List (List ℕ)) (slots : List Slot) (i : ℕ) (p : List ℕ) (old new : Slot) →
+    slice_get ps i ≡ Some p → slice_get slots i ≡ Some old → slot_entry r a p new ≡ slot_entry r a p old →
+    slot_entries r a ps (slice_set slots i new) ≡ slot_entries r a ps slots
+slot_entries-same r a [] slots i p old new here there same = refl
+slot_entries-same r a (q ∷ ps) [] i p old new here there same = refl
+slot_entries-same r a (q ∷ ps) (s ∷ slots) zero p old new here there same =
+    let path : q ≡ p = cc in
+    let is : s ≡ old = cc in
+    let P : List ℕ → Slot → Type 0 = λ x y. slot_entry r a x new ≡ slot_entry r a x y in
+    let A : Slot → Type 0 = λ y. P p y in
+    let B : List ℕ → Type 0 = λ x. P x s in
+    ap (λ e. e ∷ slot_entries r a ps slots) (subst B (sym path) (subst A (sym is) same))
+slot_entries-same r a (q ∷ ps) (s ∷ slots) (suc i) p old new here there same =
+    ap (λ es. slot_entry r a q s ∷ es) (slot_entries-same r a ps slots i p old new here there same)
+
+count-same : (xs : List Slot) (at : ℕ) (old new : Slot) → slice_get xs at ≡ Some old → is_stage_out new.stage ≡ is_stage_out old.stage →
+    length (filter (λ slot. is_stage_out slot.stage) (slice_set xs at new)) ≡ length (filter (λ slot. is_stage_out slot.stage) xs)
+count-same [] at old new h same = cc
+count-same (x ∷ xs) zero old new h same =
+    let is : x ≡ old = cc in
+    let inside : is_stage_out new.stage ≡ is_stage_out x.stage = same ∙ sym (ap (λ (y : Slot). is_stage_out y.stage) is) in
+    elim (cases_Bool (is_stage_out x.stage)) [
+      | inl t ↦ let n : is_stage_out new.stage ≡ true = inside ∙ t in rw (n, t) refl
+      | inr f ↦ let n : is_stage_out new.stage ≡ false = inside ∙ f in rw (n, f) refl
+    ]
+count-same (x ∷ xs) (suc at) old new h same =
+    let rest = count-same xs at old new h same in
+    elim (cases_Bool (is_stage_out x.stage)) [ inl t ↦ rw t (ap suc rest) | inr f ↦ rw f rest ]
+
+pub once-push : (xs : List ℕ) (k : ℕ) → ArePlacesOnce xs → (IsPlace xs k → ⊥) → ArePlacesOnce (xs ++ k ∷ [])
+once-push [] k once new = ((λ none. none), tt)
+once-push (x ∷ xs) k once new = (
+  (λ m. elim (place-append xs (k ∷ []) x m) [
+    | inl old ↦ once.0 old
+    | inr end ↦ elim end [ inl here ↦ new (inl (sym here)) | inr none ↦ none ]
+  ]),
+  once-push xs k once.1 (λ m. new (inr m)),
+)
+
+module _ (slots : List Slot) (ready freed : List ℕ) (at : ℕ) (old new : Slot) (there : slice_get slots at ≡ Some old) (queue : IsQueue slots ready freed) where
+  pub queue-same : is_stage_ready new.stage ≡ is_stage_ready old.stage → IsQueue (slice_set slots at new) ready freed
+  queue-same same =
+      let len = length-set slots at new in
+      let mine : (x : Slot) → new ≡ x → is_stage_ready x.stage ≡ is_stage_ready old.stage = λ x is. sym (ap (λ (y : Slot). is_stage_ready y.stage) is) ∙ same in
+      let P : ℕ → Type 0 = λ j. IsPlace ready j ⊎ IsPlace freed j in
+      record {
+        ready_below = λ k m. omega (arith, queue.ready_below k m, len);
+        freed_below = λ k m. omega (arith, queue.freed_below k m, len);
+        ready_is = λ k x m g. elim (get-set_cases slots at k new x g) [
+          | inl here ↦ mine x here.1 ∙ queue.ready_is at old (subst P here.0 m) there
+          | inr before ↦ queue.ready_is k x m before.1
+        ];
+        ready_in = λ k x g t. elim (get-set_cases slots at k new x g) [
+          | inl here ↦ subst P (sym here.0) (queue.ready_in at old there (sym (mine x here.1) ∙ t))
+          | inr before ↦ queue.ready_in k x before.1 t
+        ];
+        apart = queue.apart;
+        once = queue.once;
+      }
+
+  pub queue-freed : is_stage_ready old.stage ≡ false → is_stage_ready new.stage ≡ true → IsQueue (slice_set slots at new) ready (freed ++ at ∷ [])
+  queue-freed was now =
+      let len = length-set slots at new in
+      let out : IsPlace ready at ⊎ IsPlace freed at → ⊥ = λ m. both_ways _ was (queue.ready_is at old m there) in
+      let last : (k : ℕ) → IsPlace (at ∷ []) k → at ≡ k = λ k m. elim m [ inl here ↦ here | inr none ↦ absurd none ] in
+      record {
+        ready_below = λ k m. omega (arith, queue.ready_below k m, len);
+        freed_below = λ k m. elim (place-append freed (at ∷ []) k m) [
+          | inl before ↦ omega (arith, queue.freed_below k before, len)
+          | inr end ↦ omega (arith, last k end, slice_get-below_some slots at old there, len)
+        ];
+        ready_is = λ k x m g. elim (get-set_cases slots at k new x g) [
+          | inl here ↦ sym (ap (λ (y : Slot). is_stage_ready y.stage) here.1) ∙ now
+          | inr before ↦ elim m [
+            | inl l ↦ queue.ready_is k x (inl l) before.1
+            | inr l ↦ elim (place-append freed (at ∷ []) k l) [
+              | inl f ↦ queue.ready_is k x (inr f) before.1
+              | inr end ↦ absurd (before.0 (sym (last k end)))
+            ]
+          ]
+        ];
+        ready_in = λ k x g t. elim (get-set_cases slots at k new x g) [
+          | inl here ↦ inr (place-right freed (at ∷ []) k (inl (sym here.0)))
+          | inr before ↦ elim (queue.ready_in k x before.1 t) [ inl l ↦ inl l | inr f ↦ inr (place-left freed (at ∷ []) k f) ]
+        ];
+        apart = λ k m f. elim (place-append freed (at ∷ []) k f) [
+          | inl l ↦ queue.apart k m l
+          | inr end ↦ out (inl (let P : ℕ → Type 0 = IsPlace ready in subst P (sym (last k end)) m))
+        ];
+        once = once-push freed at queue.once (λ m. out (inr m));
+      }
+
+-- the table before a step
+module _ (tree : Tree) (limits : ℕ × ℕ) (t : Table) (freed : List ℕ) (table : IsTableOf tree limits t freed) (standing : IsStandingTable tree limits t) where
+  abbrev r : Rules
+  r = rules_of tree limits
+
+  abbrev es : List Entry
+  es = table_entries (rules_of tree limits) limits.0 t
+
+  lawful : AreLawful (rules_of tree limits)
+  lawful = rules_lawful tree limits
+
+  pub distinct_keys : AreDistinct t.targets.keys
+  distinct_keys =
+      let P : List (List ℕ) → Type 0 = AreDistinct in
+      subst P (paths_of-slots r (outcome_at r limits.0) t.targets.keys t.slots.items table.one_each) standing.1.distinct
+
+  pub path_there : (at : ℕ) (slot : Slot) → slice_get t.slots.items at ≡ Some slot → slice_get t.targets.keys at ≡ Some (path_at t.targets.keys at)
+  path_there at slot there =
+      let found = slice_get-from t.targets.keys at (omega (arith, table.one_each, slice_get-below_some t.slots.items at slot there)) in
+      let is : path_at t.targets.keys at ≡ found.0 = rw found.1 refl in
+      found.1 ∙ ap Some (sym is)
+
+  pub entry_there : (at : ℕ) (slot : Slot) → slice_get t.slots.items at ≡ Some slot →
+      entry_of (table_entries (rules_of tree limits) limits.0 t) (path_at t.targets.keys at) ≡ Some (slot_entry (rules_of tree limits) (outcome_at (rules_of tree limits) limits.0) (path_at t.targets.keys at) slot)
+  entry_there at slot there = entry_of-slots r (outcome_at r limits.0) t.targets.keys t.slots.items at (path_at t.targets.keys at) slot distinct_keys (path_there at slot there) there
+
+  pub decided-known : (q : List ℕ) → IsDecidedSlot t q → outcomes_of (table_entries (rules_of tree limits) limits.0 t) q ≡ None → ⊥
+  decided-known q d none =
+      let here = ap outcome_of (entry_of-slots r (outcome_at r limits.0) t.targets.keys t.slots.items d.at q d.slot distinct_keys d.path d.there) in
+      decided-outcome d.slot.stage d.decided (sym here ∙ none)
+
+  -- a parked job
+  module _ (at : ℕ) (slot : Slot) (parked : Parked) (there : slice_get t.slots.items at ≡ Some slot) (is : slot.stage ≡ Waiting parked) where
+    parked_fits : Fits r (outcomes_of es) tree limits (path_at t.targets.keys at) slot.turn (Waiting parked)
+    parked_fits = let P : Stage → Type 0 = Fits r (outcomes_of es) tree limits (path_at t.targets.keys at) slot.turn in subst P is (table.fits at slot there)
+
+    pub parked_within : parked.held ≤ length parked.job.state.entries
+    parked_within = parked_fits.within
+
+    pub parked_deps : stage_deps (rules_of tree limits) (outcome_at (rules_of tree limits) limits.0) (path_at t.targets.keys at) slot.turn slot.stage ≡ job_deps parked.job
+    parked_deps = rw is refl
+
+    -- what the job declared is what its record waits for
+    pub own_asked : (q : List ℕ) → IsAmong (operands (rules_of tree limits) parked.job.state.entries) q → IsAmong (operands (rules_of tree limits) (job_deps parked.job)) q
+    own_asked q m = asked_of_job tree limits parked.job parked_fits.is_job (omega (arith, parked_fits.at_turn, parked_fits.stopped)) q m
+
+    pub own_from : (q : List ℕ) → IsAmong (operands (rules_of tree limits) (job_deps parked.job)) q → IsAmong (operands (rules_of tree limits) parked.job.state.entries) q
+    own_from q m = asked_by_job tree limits parked.job parked_fits.is_job q m
+
+    pub parked_seen : (k : ℕ) (d : Dep) → slice_get parked.job.state.entries k ≡ Some d → IsOperand (rules_of tree limits) d d.path → IsAmong t.targets.keys d.path
+    parked_seen k d g o =
+        let m = own_asked d.path (entry-operand r parked.job.state.entries k d d.path g o) in
+        let P : List Dep → Type 0 = λ ds. IsAmong (operands r ds) d.path in
+        let Q : List (List ℕ) → Type 0 = λ xs. IsAmong xs d.path in
+        subst Q (paths_of-slots r (outcome_at r limits.0) t.targets.keys t.slots.items table.one_each)
+        (standing.1.closed (path_at t.targets.keys at) d.path (slot_entry r (outcome_at r limits.0) (path_at t.targets.keys at) slot) (entry_there at slot there)
+        (subst P (sym parked_deps) m))
+
+    -- nothing from the first entry that was not looked at on is undecided
+    module _ (rest : AnsweredFrom (rules_of tree limits) t parked.job.state.entries parked.held (length parked.job.state.entries)) where
+      pub parked_answered : AllAnswered (rules_of tree limits) (outcomes_of (table_entries (rules_of tree limits) limits.0 t)) (job_deps parked.job)
+      parked_answered q m none =
+          let found = operand-entry r parked.job.state.entries q (own_from q m) in
+          let path = operand-path r found.1 q found.3 in
+          elim (Rattle.std.proofs.lemmas.Bool.cases_lt found.0 parked.held) [
+            | inl before ↦ parked_fits.answered found.0 found.1 q before found.2 found.3 none
+            | inr after' ↦
+                let P : List ℕ → Type 0 = λ x. IsOperand r found.1 x in
+                let Q : List ℕ → Type 0 = λ x. outcomes_of es x ≡ None in
+                decided-known found.1.path
+                (rest found.0 found.1 after' (slice_get-below_some parked.job.state.entries found.0 found.1 found.2) found.2 (subst P (sym path) found.3))
+                (subst Q (sym path) none)
+          ]
+
+      parked_entry : Entry
+      parked_entry = slot_entry (rules_of tree limits) (outcome_at (rules_of tree limits) limits.0) (path_at t.targets.keys at) slot
+
+      parked_open : stage_outcome slot.stage ≡ None
+      parked_open = rw is refl
+
+      entry_answered : (q : List ℕ) → IsAmong (operands (rules_of tree limits) (slot_entry (rules_of tree limits) (outcome_at (rules_of tree limits) limits.0) (path_at t.targets.keys at) slot).deps) q →
+          outcomes_of (table_entries (rules_of tree limits) limits.0 t) q ≡ None → ⊥
+      entry_answered =
+          let P : List Dep → Type 0 = λ ds. (q : List ℕ) → IsAmong (operands r ds) q → outcomes_of es q ≡ None → ⊥ in
+          subst P (sym parked_deps) parked_answered
+
+      -- a parked job with all its answers can be made a work
+      pub parked_fed : IsFed tree limits t at
+      parked_fed =
+          let e = slot_entry r (outcome_at r limits.0) (path_at t.targets.keys at) slot in
+          let work : IsWork r (path_at t.targets.keys at) slot.turn e.deps =
+          taken-work r lawful standing.0 es standing.1 (path_at t.targets.keys at) e (entry_there at slot there) parked_open entry_answered in
+          let W : Type 0 = (work' : IsWork r parked.job.target parked.job.turn (job_deps parked.job)) × Extends r (outcomes_of es) (outcome_at r work'.depth) in
+          let A : List Dep → Type 0 = λ ds. (work' : IsWork r (path_at t.targets.keys at) slot.turn ds) × Extends r (outcomes_of es) (outcome_at r work'.depth) in
+          let B : List ℕ → Type 0 = λ p. (work' : IsWork r p slot.turn (job_deps parked.job)) × Extends r (outcomes_of es) (outcome_at r work'.depth) in
+          let C : ℕ → Type 0 = λ k. (work' : IsWork r parked.job.target k (job_deps parked.job)) × Extends r (outcomes_of es) (outcome_at r work'.depth) in
+          let deep : W = subst C (sym parked_fits.at_turn) (subst B (sym parked_fits.of_target) (subst A parked_deps
+          (taken-deep r lawful standing.0 es standing.1 (path_at t.targets.keys at) e (entry_there at slot there) parked_open entry_answered))) in
+          let below = turn-below r lawful standing.0 es standing.1 (path_at t.targets.keys at) e (entry_there at slot there) parked_open entry_answered in
+          let paths = ap length (paths_of-slots r (outcome_at r limits.0) t.targets.keys t.slots.items table.one_each) in (
+            slot,
+            parked,
+            record {
+              there = there;
+              was = is;
+              distinct = distinct_keys;
+              waits = parked_fits;
+              rest = rest;
+              is_work = deep.0;
+              deep = deep.1;
+              few = omega (arith, below, paths, parked_fits.at_turn, table.one_each, table.within_limit, table.few);
+            },
+          )
+
+  pub looked-skip : (at : ℕ) (slot : Slot) → slice_get t.slots.items at ≡ Some slot → is_stage_waiting slot.stage ≡ false → IsLookedAt tree limits t t at
+  looked-skip at slot there still = record {
+    entries = refl;
+    rest = (refl, refl, refl);
+    slots = refl;
+    watched = λ pending all k x g w. elim (all k x g w) [
+      | inl m ↦ elim m [
+        | inl here ↦ absurd (
+            let P : ℕ → Type 0 = λ j. slice_get t.slots.items j ≡ Some x in
+            let both : Some slot ≡ Some x = sym there ∙ subst P (sym here) g in
+            let same : slot ≡ x = cc in
+            both_ways _ still (ap (λ (y : Slot). is_stage_waiting y.stage) same ∙ w))
+        | inr later ↦ inl later
+      ]
+      | inr l ↦ inr l
+    ];
+  }
+
+  moved : (u : Table) → u.targets ≡ t.targets → u.ready ≡ t.ready → u.out ≡ t.out → (freed' : List ℕ) →
+      IsTable (rules_of tree limits) tree limits t.targets.keys u.slots.items t.ready.items t.out freed' → IsTableOf tree limits u freed'
+  moved u a b c freed' h = rw (a, b, c) h
+
+  -- a slot is replaced by one that stands for the same entry
+  module _ (at : ℕ) (old new : Slot) (there : slice_get t.slots.items at ≡ Some old) (open' : stage_outcome old.stage ≡ None) (still : stage_outcome new.stage ≡ None)
+      (same : slot_entry (rules_of tree limits) (outcome_at (rules_of tree limits) limits.0) (path_at t.targets.keys at) new ≡
+      slot_entry (rules_of tree limits) (outcome_at (rules_of tree limits) limits.0) (path_at t.targets.keys at) old) where
+    pub entries-same : entries_from (rules_of tree limits) limits.0 t.targets.keys (slice_set t.slots.items at new) ≡ table_entries (rules_of tree limits) limits.0 t
+    entries-same = slot_entries-same r (outcome_at r limits.0) t.targets.keys t.slots.items at (path_at t.targets.keys at) old new (path_there at old there) there same
+
+    pub table-same : (freed' : List ℕ) → IsQueue (slice_set t.slots.items at new) t.ready.items freed' →
+        ((k : ℕ) → IsPlace new.watchers.items k → k < length t.slots.items) →
+        Fits (rules_of tree limits) (outcomes_of (table_entries (rules_of tree limits) limits.0 t)) tree limits (path_at t.targets.keys at) new.turn new.stage →
+        IsTable (rules_of tree limits) tree limits t.targets.keys (slice_set t.slots.items at new) t.ready.items t.out freed'
+    table-same freed' queue below fit =
+        let len = length-set t.slots.items at new in
+        let P : List Entry → Type 0 = λ xs. Extends r (outcomes_of es) (outcomes_of xs) in
+        let F : List Entry → Type 0 = λ xs. Fits r (outcomes_of xs) tree limits (path_at t.targets.keys at) new.turn new.stage in
+        record {
+          one_each = len ∙ table.one_each;
+          within_limit = omega (arith, len, table.within_limit);
+          few = table.few;
+          out_counted = table.out_counted ∙ sym (count-same t.slots.items at old new there (ap (λ (e : Entry). e.is_out) same));
+          fits = fits-set r lawful limits.0 t.targets.keys t.slots.items at (path_at t.targets.keys at) old new distinct_keys (path_there at old there) there tree limits
+              (subst P (sym entries-same) (λ q o s h. h)) table.fits (subst F (sym entries-same) fit);
+          queue = queue;
+          watchers_below = watchers-set t.slots.items at old new there below table.watchers_below;
+        }
+
+  module _ (at : ℕ) (slot : Slot) (parked : Parked) (there : slice_get t.slots.items at ≡ Some slot) (is : slot.stage ≡ Waiting parked) (u : Table) where
+    -- a watcher is added
+    module _ (place from i : ℕ) (w : IsWatchAdded t u at place) (l : IsLackingAt (rules_of tree limits) t parked.job.state.entries from i place) where
+      other_open : stage_outcome w.other.stage ≡ None
+      other_open =
+          let both : Some w.other ≡ Some l.slot = sym w.there ∙ l.there in
+          let same : l.slot ≡ w.other = cc in
+          sym (ap (λ (y : Slot). stage_outcome y.stage) same) ∙ open-outcome l.slot.stage l.is_open
+
+      new_open : stage_outcome w.new.stage ≡ None
+      new_open = ap stage_outcome w.stage ∙ other_open
+
+      same_entry : slot_entry (rules_of tree limits) (outcome_at (rules_of tree limits) limits.0) (path_at t.targets.keys place) w.new ≡
+          slot_entry (rules_of tree limits) (outcome_at (rules_of tree limits) limits.0) (path_at t.targets.keys place) w.other
+      same_entry = rw (w.turn, w.stage) refl
+
+      watch_below : (k : ℕ) → IsPlace w.new.watchers.items k → k < length t.slots.items
+      watch_below k m = elim (place-append w.other.watchers.items (at ∷ []) k (rw w.listed at m)) [
+        | inl before ↦ table.watchers_below place k w.other w.there before
+        | inr end ↦ elim end [
+          | inl here ↦ omega (arith, here, slice_get-below_some t.slots.items at slot there)
+          | inr none ↦ absurd none
+        ]
+      ]
+
+      watch_fits : Fits (rules_of tree limits) (outcomes_of (table_entries (rules_of tree limits) limits.0 t)) tree limits (path_at t.targets.keys place) w.new.turn w.new.stage
+      watch_fits = rw (w.turn, w.stage) (table.fits place w.other w.there)
+
+      pub watch-table : IsTableOf tree limits u freed
+      watch-table =
+          let new = table-same place w.other w.new w.there other_open new_open same_entry freed
+          (queue-same t.slots.items t.ready.items freed place w.other w.new w.there table.queue (ap is_stage_ready w.stage)) watch_below watch_fits in
+          let S : List Slot → Type 0 = λ xs. IsTable r tree limits t.targets.keys xs t.ready.items t.out freed in
+          moved u w.rest.0 w.rest.1 w.rest.2 freed (subst S (sym w.slots) new)
+
+      old-slot : (k : ℕ) (x : Slot) → slice_get (slice_set t.slots.items place w.new) k ≡ Some x →
+          (y : Slot) × (slice_get t.slots.items k ≡ Some y) × (x.stage ≡ y.stage) × (x.turn ≡ y.turn)
+      old-slot k x g = elim (get-set_cases t.slots.items place k w.new x g) [
+        | inl here ↦
+            let P : ℕ → Type 0 = λ j. slice_get t.slots.items j ≡ Some w.other in
+            (w.other, subst P (sym here.0) w.there, sym (ap (λ (y : Slot). y.stage) here.1) ∙ w.stage, sym (ap (λ (y : Slot). y.turn) here.1) ∙ w.turn)
+        | inr before ↦ (x, before.1, refl, refl)
+      ]
+
+      watched_here : IsWatched (rules_of tree limits) t.targets.keys (slice_set t.slots.items place w.new) at (job_deps parked.job)
+      watched_here =
+          let path : path_at t.targets.keys place ≡ l.dep.path = rw l.path refl in
+          let P : List ℕ → Type 0 = λ x. IsAmong (operands r (job_deps parked.job)) x in
+          let Q : List ℕ → Type 0 = λ xs. IsPlace xs at in
+          record {
+            at = place;
+            other = w.new;
+            there = get-set_same t.slots.items place w.other w.new w.there;
+            is_open = new_open;
+            listed = subst Q (sym w.listed) (place-right w.other.watchers.items (at ∷ []) at (inl refl));
+            asked = subst P (sym path) (own_asked at slot parked there is l.dep.path (entry-operand r parked.job.state.entries i l.dep l.dep.path l.entry l.waits));
+          }
+
+      watch-watched : (pending : List ℕ) → AllWatched (rules_of tree limits) limits.0 t.targets.keys t.slots.items (at ∷ pending) →
+          AllWatched (rules_of tree limits) limits.0 t.targets.keys (slice_set t.slots.items place w.new) pending
+      watch-watched pending all k x g m =
+          let old = old-slot k x g in
+          let D : Stage → ℕ → List Dep = λ st n. stage_deps r (outcome_at r limits.0) (path_at t.targets.keys k) n st in
+          let A : Stage → Type 0 = λ st. D x.stage x.turn ≡ D st x.turn in
+          let B : ℕ → Type 0 = λ n. D x.stage x.turn ≡ D old.0.stage n in
+          let same : D x.stage x.turn ≡ D old.0.stage old.0.turn = subst B old.3 (subst A old.2 refl) in
+          let W : List Dep → Type 0 = λ ds. IsWatched r t.targets.keys (slice_set t.slots.items place w.new) k ds in
+          let more : (j : ℕ) → IsPlace w.other.watchers.items j → IsPlace w.new.watchers.items j = λ j p.
+          rw w.listed (place-left w.other.watchers.items (at ∷ []) j p) in
+          elim (all k old.0 old.1 (ap is_stage_waiting (sym old.2) ∙ m)) [
+            | inl p ↦ elim p [
+              | inl here ↦
+                  let P : ℕ → Type 0 = λ j. slice_get t.slots.items j ≡ Some old.0 in
+                  let both : Some slot ≡ Some old.0 = sym there ∙ subst P (sym here) old.1 in
+                  let is_slot : old.0 ≡ slot = cc in
+                  let C : Stage → Type 0 = λ st. D st old.0.turn ≡ job_deps parked.job in
+                  let deps : D old.0.stage old.0.turn ≡ job_deps parked.job = subst C (sym (ap (λ (y : Slot). y.stage) is_slot ∙ is)) refl in
+                  let V : ℕ → Type 0 = λ j. IsWatched r t.targets.keys (slice_set t.slots.items place w.new) j (job_deps parked.job) in
+                  inr (subst W (sym (same ∙ deps)) (subst V here watched_here))
+              | inr later ↦ inl later
+            ]
+            | inr old_watch ↦ inr (subst W (sym same)
+                (IsWatched-set t.slots.items place w.other w.new w.there r t.targets.keys k (D old.0.stage old.0.turn) new_open more old_watch))
+          ]
+
+      pub watch-looked : IsLookedAt tree limits t u at
+      watch-looked = record {
+        entries = rw (w.rest.0, w.slots) (entries-same place w.other w.new w.there other_open new_open same_entry);
+        rest = w.rest;
+        slots = ap length w.slots ∙ length-set t.slots.items place w.new;
+        watched = λ pending all. rw (w.rest.0, w.slots) (watch-watched pending all);
+      }
+
+    -- the job is a work
+    module _ (f : IsFreedAt tree limits t u at) (all_held : AnsweredFrom (rules_of tree limits) t parked.job.state.entries parked.held (length parked.job.state.entries)) where
+      was_parked : (f.old ≡ slot) × (f.parked ≡ parked)
+      was_parked =
+          let both : Some f.old ≡ Some slot = sym f.there ∙ there in
+          let same : f.old ≡ slot = cc in
+          let stages : Waiting f.parked ≡ Waiting parked = sym f.was ∙ ap (λ (y : Slot). y.stage) same ∙ is in
+          (same, (cc))
+
+      deps_parked : f.work.deps ≡ job_deps parked.job
+      deps_parked = f.same.4 ∙ ap (λ (x : Parked). job_deps x.job) was_parked.1
+
+      freed_entry : slot_entry (rules_of tree limits) (outcome_at (rules_of tree limits) limits.0) (path_at t.targets.keys at) f.new ≡
+          slot_entry (rules_of tree limits) (outcome_at (rules_of tree limits) limits.0) (path_at t.targets.keys at) slot
+      freed_entry =
+          let E : ℕ → List Dep → Entry = λ n ds. record { path = path_at t.targets.keys at; turn = n; deps = ds; outcome = None; is_out = false } in
+          let one : slot_entry r (outcome_at r limits.0) (path_at t.targets.keys at) f.new ≡ E f.new.turn f.work.deps = rw f.is refl in
+          let two : slot_entry r (outcome_at r limits.0) (path_at t.targets.keys at) slot ≡ E slot.turn (job_deps parked.job) = rw is refl in
+          let turn : f.new.turn ≡ slot.turn = f.turn ∙ ap (λ (y : Slot). y.turn) was_parked.0 in
+          let mid : E f.new.turn f.work.deps ≡ E slot.turn (job_deps parked.job) = rw (turn, deps_parked) refl in
+          one ∙ mid ∙ sym two
+
+      slot_open : stage_outcome slot.stage ≡ None
+      slot_open = rw is refl
+
+      freed_open : stage_outcome f.new.stage ≡ None
+      freed_open = rw f.is refl
+
+      same_watchers : f.new.watchers.items ≡ slot.watchers.items
+      same_watchers = ap (λ (y : Rattle.std.specs.declared.vec.Vec.Vec ℕ Rattle.std.proofs.Common.Global). y.items) f.watchers ∙ ap (λ (y : Slot). y.watchers.items) was_parked.0
+
+      freed_fits : Fits (rules_of tree limits) (outcomes_of (table_entries (rules_of tree limits) limits.0 t)) tree limits (path_at t.targets.keys at) f.new.turn f.new.stage
+      freed_fits =
+          let fits : Fits r (outcomes_of es) tree limits (path_at t.targets.keys at) slot.turn (Waiting parked) =
+          (let P : Stage → Type 0 = Fits r (outcomes_of es) tree limits (path_at t.targets.keys at) slot.turn in subst P is (table.fits at slot there)) in
+          let turn : f.new.turn ≡ slot.turn = f.turn ∙ ap (λ (y : Slot). y.turn) was_parked.0 in
+          let target = f.same.2 ∙ ap (λ (x : Parked). x.job.target) was_parked.1 ∙ fits.of_target in
+          let at_turn = f.same.3 ∙ ap (λ (x : Parked). x.job.turn) was_parked.1 ∙ fits.at_turn ∙ sym turn in
+          let parts : IsParked tree limits (path_at t.targets.keys at) f.new.turn f.work = (f.same.0, f.same.1, target, at_turn) in
+          let A : List Dep → Type 0 = AllAnswered r (outcomes_of es) in
+          let P : Stage → Type 0 = Fits r (outcomes_of es) tree limits (path_at t.targets.keys at) f.new.turn in
+          subst P (sym f.is) (parts, subst A (sym deps_parked) (parked_answered at slot parked there is all_held))
+
+      pub freed-table : IsTableOf tree limits u (freed ++ at ∷ [])
+      freed-table =
+          let new = table-same at slot f.new there slot_open freed_open freed_entry (freed ++ at ∷ [])
+          (queue-freed t.slots.items t.ready.items freed at slot f.new there table.queue (rw is refl) (rw f.is refl))
+          (λ k m. table.watchers_below at k slot there (rw same_watchers at m)) freed_fits in
+          let S : List Slot → Type 0 = λ xs. IsTable r tree limits t.targets.keys xs t.ready.items t.out (freed ++ at ∷ []) in
+          moved u f.rest.0 f.rest.1 f.rest.2 (freed ++ at ∷ []) (subst S (sym f.slots) new)
+
+      freed-watched : (pending : List ℕ) → AllWatched (rules_of tree limits) limits.0 t.targets.keys t.slots.items (at ∷ pending) →
+          AllWatched (rules_of tree limits) limits.0 t.targets.keys (slice_set t.slots.items at f.new) pending
+      freed-watched pending all k x g m = elim (get-set_cases t.slots.items at k f.new x g) [
+        | inl here ↦ absurd (
+            let no : is_stage_waiting f.new.stage ≡ false = rw f.is refl in
+            both_ways _ no (ap (λ (y : Slot). is_stage_waiting y.stage) here.1 ∙ m))
+        | inr before ↦ elim (all k x before.1 m) [
+          | inl p ↦ elim p [ inl here ↦ absurd (before.0 (sym here)) | inr later ↦ inl later ]
+          | inr w ↦ inr (IsWatched-set t.slots.items at slot f.new there r t.targets.keys k (stage_deps r (outcome_at r limits.0) (path_at t.targets.keys k) x.turn x.stage)
+              freed_open (λ j p. rw same_watchers p) w)
+        ]
+      ]
+
+      pub freed-looked : IsLookedAt tree limits t u at
+      freed-looked = record {
+        entries = rw (f.rest.0, f.slots) (entries-same at slot f.new there slot_open freed_open freed_entry);
+        rest = f.rest;
+        slots = ap length f.slots ∙ length-set t.slots.items at f.new;
+        watched = λ pending all. rw (f.rest.0, f.slots) (freed-watched pending all);
+      }

@@ -1,0 +1,82 @@
+use Rattle.std.proofs.Common.{rules, ◌≡◌, ◌<◌, cond, map, is_some, length, slice_get, Some, sym, ap, subst, ◌∙◌, refl}
+use Rattle.redo_core.specs.Slots.{IsKept, path_at}
+use Rattle.redo_core.proofs.SlotLemmas.{slice_get-item}
+use Rattle.redo_core.proofs.TakeLemmas.{fits_one_more, found_job, taken_state, work_taken, running, first_item, kept-taken, below_items, turn_small, part-inside}
+use Rattle.redo_core.proofs.TableLemmas.{slice_get-place}
+use Rattle.redo_core.specs.Views.{BoardView, IsWorkTaken}
+use Rattle.std.specs.Arc.{arc_value}
+use Rattle.redo_core.proofs.board.Board.take.Goals as goal
+use Rattle.redo_core.proofs.board.Board.take.Goals.{After-replace-stage}
+
+count : (c : After-replace-stage) → c.args.which < cond (is_some c.self.inside.stopped) 0 (length (map (path_at c.self.inside.table.targets.keys) c.self.inside.table.ready.items))
+count c = rw (← c.self.view_is) at c.requires
+
+kept : (c : After-replace-stage) → IsKept c.self.inside
+kept c = c.self.invariant.kept (running c.self.inside.stopped _ c.args.which (count c))
+
+first : (c : After-replace-stage) → slice_get c.self.inside.table.ready.items c.args.which ≡ Some c.in-Some.at
+first c = first_item c.self.inside c.args.which c.in-Some.at (count c) c.in-Some.ensures.value
+
+pub overflow_add-self : goal.overflow_add-self
+overflow_add-self c =
+    let few = fits_one_more c.self.inside (kept (goal.at-overflow_add-self c).After-replace-stage) in search rules
+
+there : (c : After-replace-stage) → slice_get c.self.inside.table.slots.items c.in-Some.at ≡ Some c.index_mut-slot.result.now
+there c = slice_get-item c.self.inside.table.slots.items c.in-Some.at c.index_mut-slot.result.now
+    ((kept c).table.queue.ready_below c.in-Some.at (slice_get-place _ c.args.which c.in-Some.at (first c))) c.index_mut-slot.ensures.value
+
+pub unreachable-requires-in_default-stage : goal.unreachable-requires-in_default-stage
+unreachable-requires-in_default-stage c =
+    let d = (goal.at-unreachable-requires-in_default-stage c).After-replace-stage in
+    let job = found_job d.self.inside (kept d) d.args.which d.in-Some.at d.index_mut-slot.result.now (first d) (there d) in
+    c.in_default-stage.not-Ready job.0 (c.replace-stage.ensures.value ∙ job.1)
+
+pub returns-clause-work : goal.returns-clause-work
+returns-clause-work c =
+    let d = (goal.at-returns-clause-work c).After-replace-stage in
+    let b = d.self.inside in
+    let P : BoardView → Type 0 = λ v. IsWorkTaken v d.args.which c.in-Ready.work in
+    subst P c.self.view_is (work_taken b (kept d) d.args.which d.in-Some.at d.index_mut-slot.result.now (first d) (there d)
+    _ refl refl refl c.in-Ready.work (sym c.replace-stage.ensures.value ∙ c.in-Ready.is))
+
+pub invariant_of-self : goal.invariant_of-self
+invariant_of-self c =
+    let d = (goal.at-invariant_of-self c).After-replace-stage in
+    let b = d.self.inside in
+    record {
+      kept = λ on. rw c.replace-stage.ensures.after
+          (kept-taken b (kept d) d.args.which d.in-Some.at d.index_mut-slot.result.now (first d) (there d) (below_items b d.args.which (count d))
+          _ c.remove.new.self refl c.in-Some.ensures.items);
+      too_many = c.self.invariant.too_many;
+    }
+
+pub returns-clause-ok : goal.returns-clause-ok
+returns-clause-ok c =
+    let d = (goal.at-returns-clause-ok c).After-replace-stage in
+    let b = d.self.inside in
+    rw (← c.self.view_is) (rw (c.replace-stage.ensures.after, c.in-Some.ensures.items)
+    (ap (λ s. record { tree = arc_value b.tree; request = b.request.items; limits = b.limits; state = s; stopped = b.stopped })
+    (taken_state b (kept d) d.args.which d.in-Some.at d.index_mut-slot.result.now (first d) (there d))))
+
+pub returns-clause-turn : goal.returns-clause-turn
+returns-clause-turn c =
+    let d = (goal.at-returns-clause-turn c).After-replace-stage in
+    let b = d.self.inside in
+    let P : BoardView → Type 0 = λ v. c.in-Ready.work.turn < v.limits.0 in
+    subst P c.self.view_is (turn_small b (kept d) d.args.which d.in-Some.at d.index_mut-slot.result.now (first d) (there d)
+    c.in-Ready.work (sym c.replace-stage.ensures.value ∙ c.in-Ready.is))
+
+pub returns-clause-part : goal.returns-clause-part
+returns-clause-part c =
+    let d = (goal.at-returns-clause-part c).After-replace-stage in
+    let b = d.self.inside in
+    part-inside _ ((invariant_of-self c).kept (running b.stopped _ d.args.which (count d)))
+
+pub index_mut-slot-requires : goal.index_mut-slot-requires
+index_mut-slot-requires c =
+    let b = c.self.inside in
+    let count' : c.args.which < cond (is_some b.stopped) 0 (length (map (path_at b.table.targets.keys) b.table.ready.items)) = rw (← c.self.view_is) at c.requires in
+    let kept' = c.self.invariant.kept (running b.stopped _ c.args.which count') in
+    let fact : c.in-Some.at < length b.table.slots.items = kept'.table.queue.ready_below c.in-Some.at
+    (slice_get-place b.table.ready.items c.args.which c.in-Some.at (first_item b c.args.which c.in-Some.at count' c.in-Some.ensures.value)) in
+    search rules

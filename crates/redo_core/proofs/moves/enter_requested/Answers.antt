@@ -1,0 +1,41 @@
+use Rattle.std.proofs.Common.{◌≡◌, ◌<◌, ◌+◌, ℕ, List, [], ◌∷◌, ◌++◌, Err, take, length, slice_get, Some, not, is_some, refl, sym, ap, subst, ◌∙◌, arith, append-nil, true, false}
+use Rattle.std.specs.Arc.{arc_value}
+use Rattle.redo_tree.specs.Tree.{Tree, file_at}
+use Rattle.redo_core.specs.Build.{rules_of}
+use Rattle.redo_core.specs.Slots.{AreEnteredInto, table_entries, targets_in}
+use Rattle.redo_core.proofs.SlotLemmas.{slice_get-item}
+use Rattle.redo_core.proofs.EnterAll.{enter-more}
+use Rattle.redo_core.proofs.Opening.{targets-more, one-target, no-target, too-many-requested}
+use Rattle.redo_core.proofs.moves.enter_requested.Goals as goal
+use Rattle.redo_core.proofs.moves.enter_requested.Goals.{then-is_target+in_ok-enter, else-is_target}
+
+pub returns-in_err-enter-clause-too_many : goal.returns-in_err-enter-clause-too_many
+returns-in_err-enter-clause-too_many c = λ is.
+    let made = rw is at c.from_residual.ensures in
+    let tree : Tree = arc_value c.args.tree.now in
+    let i = c.loop-path.path-index in
+    let get = slice_get-item c.args.request.now i c.path-item.result c.loop-path-test.true c.path-item.is in
+    let err = c.in_err-enter.was ∙ ap Err (sym made.1) in
+    let target : not (is_some (file_at tree c.path-item.result)) ≡ true = ap (λ t. not (is_some (file_at t c.path-item.result))) (sym c.deref.ensures) ∙ sym c.if-is_target.ensures in
+    too-many-requested (rules_of tree c.args.limits) tree (table_entries (rules_of tree c.args.limits) c.args.limits.0 c.args.table.now) (table_entries (rules_of tree c.args.limits) c.args.limits.0 c.loop-path.table)
+    c.args.limits.0 c.args.request.now i c.path-item.result get target c.loop-path.invariant.entries (c.enter.ensures.too_many err)
+
+pub loop-path-preserved : goal.loop-path-preserved
+loop-path-preserved c =
+    let tree : Tree = arc_value c.args.tree.now in
+    let i = c.loop-path.path-index in
+    let get = slice_get-item c.args.request.now i c.path-item.result c.loop-path-test.true c.path-item.is in
+    let more = targets-more tree c.args.request.now i c.path-item.result get in
+    let P : List (List ℕ) → Type 0 = λ ps. AreEnteredInto tree c.args.limits c.args.table.now c.if-is_target.table c.if-is_target.freed.items ps in
+    let here = ap (λ t. not (is_some (file_at t c.path-item.result))) (sym c.deref.ensures) in
+    elim c.if-is_target.branch [
+      | then-is_target+in_ok-enter w ↦
+          let one = one-target tree c.path-item.result (here ∙ sym w.if-is_target.ensures) in
+          subst P (sym (more ∙ ap (λ xs. targets_in tree (take i c.args.request.now) ++ xs) one))
+          (rw (w.table-is, w.freed-is) (enter-more tree c.args.limits c.args.table.now c.loop-path.table w.enter.new.table c.loop-path.freed.items w.enter.new.freed.items
+          (targets_in tree (take i c.args.request.now)) (c.path-item.result ∷ []) c.loop-path.invariant w.in_ok-enter.ensures.ok))
+      | else-is_target w ↦
+          let none = no-target tree c.path-item.result (here ∙ sym w.if-is_target.ensures) in
+          subst P (sym (more ∙ ap (λ xs. targets_in tree (take i c.args.request.now) ++ xs) none ∙ append-nil (targets_in tree (take i c.args.request.now))))
+          (rw (w.table-is, w.freed-is) c.loop-path.invariant)
+    ]

@@ -1,0 +1,7 @@
+use Rattle.std.proofs.Common.{take}
+use Rattle.std.specs.Arc.{arc_value}
+use Rattle.redo_core.specs.Slots.{AreEnteredInto, targets_in}
+use Rattle.redo_core.proofs.moves.enter_requested.Given as goal
+
+abbrev pub invariant-loop-path : goal.invariant-loop-path
+invariant-loop-path l = AreEnteredInto (arc_value l.tree) l.limits l.initial.table l.table l.freed.items (targets_in (arc_value l.tree) (take l.path-index l.request))

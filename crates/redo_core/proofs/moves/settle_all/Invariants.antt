@@ -1,0 +1,8 @@
+use Rattle.std.proofs.Common.{ℕ, List, drop, ◌++◌}
+use Rattle.std.specs.Arc.{arc_value}
+use Rattle.redo_core.specs.Build.{rules_of}
+use Rattle.redo_core.specs.Slots.{IsTableOf, AreLookedAtBelow}
+use Rattle.redo_core.proofs.moves.settle_all.Given as goal
+
+abbrev pub invariant-loop-at : goal.invariant-loop-at
+invariant-loop-at l = IsTableOf (arc_value l.tree) l.limits l.table l.freed.items × AreLookedAtBelow (arc_value l.tree) l.limits l.initial.table l.table l.pending (drop l.at-index l.pending)

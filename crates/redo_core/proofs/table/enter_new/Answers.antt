@@ -1,0 +1,24 @@
+use Rattle.std.proofs.Common.{rules, ◌≡◌, refl, sym, ap, ◌∙◌, ◌++◌, ◌∷◌, [], ℕ, length, append-nil}
+use Rattle.redo_core.proofs.FindLemmas.{absent}
+use Rattle.redo_core.proofs.table.enter_new.Goals as goal
+use Rattle.redo_core.proofs.table.enter_new.Goals.{then-is_ready+in_ok-push, else-is_ready}
+
+pub returns : goal.returns
+returns c =
+    let out = absent c.args.path.now c.args.table.now.targets.keys c.requires.new in
+    let k = rw c.in_ok-clone.ensures.cases at c.in_ok-insert.ensures.keys in
+    record {
+      new = record { turn = 0; watchers = c.new-watchers.result; stage = c.in_ok-stage.stage };
+      begun = c.in_ok-stage.ensures;
+      turn = refl;
+      watchers = c.new-watchers.ensures.items;
+      keys = rw out at k;
+      slots = c.in_ok-push-2.ensures.items;
+      freed_is = elim c.if-is_ready.branch [
+        | then-is_ready+in_ok-push w ↦
+            let l : w.len.result ≡ length c.args.table.now.slots.items = search rules in
+            rw (← w.if-is_ready.ensures) (rw w.freed-is (w.in_ok-push.ensures.items ∙ ap (λ (n : ℕ). c.args.freed.now.items ++ n ∷ []) l))
+        | else-is_ready w ↦ rw (← w.if-is_ready.ensures) (rw w.freed-is (sym (append-nil c.args.freed.now.items)))
+      ];
+      rest = (refl, refl);
+    }

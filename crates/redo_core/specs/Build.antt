@@ -1,0 +1,56 @@
+-- The rules of a source tree: what the tree, the search for rules, the grammar of scripts and their meaning say together
+-- of how far each target comes under an ask.
+use Rattle.std.specs.Prelude.{◌≡◌, ℕ, true, List, [], is_some, unwrap_or}
+use Rattle.redo_script.specs.Texts.{script_in}
+use Rattle.redo_step.specs.declared.deps.DepKind.TheVariants.{Create}
+use Rattle.redo_step.specs.declared.outcome.Outcome.TheVariants.{Failed}
+use Rattle.redo_step.specs.declared.outcome.Outcome.TheVariants.{Source as Is_source}
+use Rattle.redo_step.specs.declared.outcome.Why.TheVariants as why
+use Rattle.redo_tree.specs.Tree.{Tree, file_at}
+use Rattle.redo_which.specs.Rule.{Outcome as Found, Source, Directory, NoDirectory, NoRule, Rule, found_of}
+use Rattle.redo_step.specs.Meaning.{with_entries}
+use Rattle.redo_step.specs.Record.{Progress, search_deps, at_once, by_script}
+use Rattle.redo_step.specs.Setting.{is_rule, setting_by}
+use Rattle.redo_core.specs.Rules.{Ask, Rules}
+
+-- a tree, what the search finds in it for each path, and the limit of a file's bytes
+pub record World : Type 0 where
+  pub tree : Tree
+  pub found : List ℕ → Found
+  pub limit : ℕ
+
+-- the .do file that was found is a source
+abbrev pub IsFit : Tree → Found → Type 0
+IsFit tree Source = Unit {0}
+IsFit tree Directory = Unit {0}
+IsFit tree NoDirectory = Unit {0}
+IsFit tree (NoRule missing) = Unit {0}
+IsFit tree (Rule do_file missing arguments) = is_some (file_at tree do_file) ≡ true
+
+pub record IsWorld (w : World) : Type 0 where
+  pub fit : (p : List ℕ) → IsFit w.tree (w.found p)
+
+-- how far a target comes for which the search finds this
+abbrev pub progress_by : World → List ℕ → Found → Ask → Progress
+progress_by w target Source ask = at_once Is_source []
+progress_by w target Directory ask = at_once (Failed why.Directory) []
+progress_by w target NoDirectory ask = at_once (Failed why.NoDirectory) []
+progress_by w target (NoRule missing) ask = at_once (Failed why.NoRule) (with_entries [] Create missing)
+progress_by w target (Rule do_file missing a) ask =
+    by_script (setting_by w.tree w.found w.limit target a) (search_deps missing do_file) (script_in (unwrap_or (file_at w.tree do_file) [])) ask
+
+-- the rules of a tree where the search finds this
+abbrev pub rules_in : World → Rules
+rules_in w = record {
+  is_source = λ p. is_some (file_at w.tree p);
+  has_rule = λ p. is_rule (w.found p);
+  progress = λ target ask. progress_by w target (w.found target) ask;
+}
+
+-- the search in a tree, and the limit of a file's bytes, which is the second of the limits
+abbrev pub world_of : Tree → ℕ × ℕ → World
+world_of tree limits = record { tree = tree; found = found_of tree; limit = limits.1 }
+
+-- the rules of a source tree
+abbrev pub rules_of : Tree → ℕ × ℕ → Rules
+rules_of tree limits = rules_in (world_of tree limits)

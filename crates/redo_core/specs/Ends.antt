@@ -1,0 +1,24 @@
+-- How far a piece says that its job came.
+use Rattle.std.specs.Prelude.{◌≡◌, ℕ, List, Some, None}
+use Rattle.redo_tree.specs.Tree.{Tree}
+use Rattle.redo_step.specs.JobView.{record_so_far}
+use Rattle.redo_step.specs.Record.{Progress}
+use Rattle.redo_core.specs.Build.{rules_of}
+use Rattle.redo_core.specs.Turns.{IsPiece}
+use Rattle.redo_core.specs.Works.{IsStopped}
+use Rattle.redo_core.specs.declared.work.End.{End}
+use Rattle.redo_core.specs.declared.work.End.TheVariants.{Ended, Stopped}
+
+abbrev pub end_progress : End → Progress
+end_progress (Ended fact) = record { outcome = Some fact.outcome; deps = fact.deps }
+end_progress (Stopped job facts) = record { outcome = None; deps = record_so_far job }
+
+-- what an end holds is of its target
+abbrev pub IsEndOf : Tree → ℕ × ℕ → ℕ → List ℕ → ℕ → End → Type 0
+IsEndOf tree limits depth target turn (Ended fact) = (fact.tree ≡ tree) × (fact.limits ≡ limits) × (fact.target ≡ target)
+IsEndOf tree limits depth target turn (Stopped job facts) = IsStopped tree limits depth target turn job facts
+
+-- the end says how far the script of a target comes at a turn, and holds what is left of it
+pub record IsEndAt (tree : Tree) (limits : ℕ × ℕ) (target : List ℕ) (turn : ℕ) (end : End) : Type 0 where
+  pub is_piece : IsPiece (rules_of tree limits) target turn (end_progress end)
+  pub is_end : IsEndOf tree limits is_piece.depth target turn end

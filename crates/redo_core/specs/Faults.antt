@@ -1,0 +1,35 @@
+-- What a refused piece leaves.
+use Rattle.std.specs.Prelude.{◌≡◌, Some, IsNone, MatchOption}
+use Rattle.redo_core.specs.Outcomes.{IsTooMany}
+use Rattle.redo_core.specs.Schedule.{IsOutAt}
+use Rattle.redo_core.specs.Views.{BoardView, PieceView, rules_on}
+use Rattle.redo_core.specs.declared.board.Stop.{Stop}
+use Rattle.redo_core.specs.declared.board.Stop.TheVariants.{TooMany as Stopped_at_limit, Memory as Stopped_for_memory}
+use Rattle.redo_core.specs.declared.board.OpenFault.{OpenFault}
+use Rattle.redo_core.specs.declared.board.OpenFault.TheVariants.{TooMany as Opened_too_many, Memory as Opened_without_memory}
+use Rattle.redo_core.specs.declared.board.HandFault.{HandFault}
+use Rattle.redo_core.specs.declared.board.HandFault.TheVariants.{Stranger, TooMany, Memory}
+
+-- what a board that has stopped answers
+abbrev pub fault_of : Stop → HandFault
+fault_of Stopped_at_limit = TooMany
+fault_of Stopped_for_memory = Memory
+
+-- why no board was opened
+abbrev pub opening_fault_of : Stop → OpenFault
+opening_fault_of Stopped_at_limit = Opened_too_many
+opening_fault_of Stopped_for_memory = Opened_without_memory
+
+-- the board is of the same build
+abbrev pub IsSameBuild : BoardView → BoardView → Type 0
+IsSameBuild old new = (new.tree ≡ old.tree) × (new.request ≡ old.request) × (new.limits ≡ old.limits)
+
+-- a board that ran: a stranger comes back and changes nothing, and after any other fault the board has stopped
+abbrev pub RefusedRunning : BoardView → BoardView → PieceView → HandFault → Type 0
+RefusedRunning old new piece (Stranger back) = (back ≡ piece) × (new ≡ old) × (IsOutAt old.state piece.target piece.turn → ⊥)
+RefusedRunning old new piece TooMany = IsSameBuild old new × (new.stopped ≡ Some Stopped_at_limit) × IsTooMany (rules_on old) old.request old.limits.0
+RefusedRunning old new piece Memory = IsSameBuild old new × (new.stopped ≡ Some Stopped_for_memory)
+
+-- a board that had stopped answers why, for good
+abbrev pub Refused : BoardView → BoardView → PieceView → HandFault → Type 0
+Refused old new piece fault = MatchOption old.stopped (RefusedRunning old new piece fault) (λ stop. (fault ≡ fault_of stop) × (new ≡ old))

@@ -1,0 +1,87 @@
+-- What contracts see of facts, works, pieces and boards.
+use Rattle.std.specs.Prelude.{◌≡◌, ℕ, List, length, Option, Some, None, IsNone, slice_get, is_some, if◌then◌else◌}
+use Rattle.redo_step.specs.Record.{Progress}
+use Rattle.redo_core.specs.Rules.{Rules}
+use Rattle.redo_tree.specs.Tree.{Tree}
+use Rattle.redo_core.specs.Build.{rules_of}
+use Rattle.redo_core.specs.Schedule.{Entry, State, Event, AllOpen, entry_of, opening, run, happens, out_count}
+use Rattle.redo_step.specs.declared.deps.Dep.{Dep}
+use Rattle.redo_step.specs.declared.outcome.Outcome.{Outcome}
+use Rattle.redo_core.specs.declared.board.Stop.{Stop}
+
+-- a decided target of a build
+pub record FactView : Type 0 where
+  pub tree : Tree
+  pub limits : ℕ × ℕ
+  pub target : List ℕ
+  pub outcome : Outcome
+  pub deps : List Dep
+
+-- a job with what it knows
+pub record WorkView : Type 0 where
+  pub tree : Tree
+  pub limits : ℕ × ℕ
+  pub target : List ℕ
+  pub turn : ℕ
+  pub deps : List Dep
+  -- the outcomes that it holds
+  pub known : List (List ℕ × Outcome)
+
+-- how far a job came
+pub record PieceView : Type 0 where
+  pub tree : Tree
+  pub limits : ℕ × ℕ
+  pub target : List ℕ
+  pub turn : ℕ
+  pub progress : Progress
+
+pub record BoardView : Type 0 where
+  pub tree : Tree
+  pub request : List (List ℕ)
+  pub limits : ℕ × ℕ
+  pub state : State
+  pub stopped : Option Stop
+
+abbrev pub rules_on : BoardView → Rules
+rules_on b = rules_of b.tree b.limits
+
+-- how many may be taken
+abbrev pub ready_count : BoardView → ℕ
+ready_count b = if is_some b.stopped then 0 else length b.state.ready
+
+-- how many are out
+abbrev pub jobs_out : BoardView → ℕ
+jobs_out b = if is_some b.stopped then 0 else out_count b.state
+
+-- a run of open events leads from the opening to the state
+pub record IsReached (r : Rules) (request : List (List ℕ)) (s : State) : Type 0 where
+  pub events : List Event
+  pub all_open : AllOpen r (opening r request) events
+  pub ends : s ≡ run r events (opening r request)
+
+abbrev pub opened : Tree → List (List ℕ) → ℕ × ℕ → BoardView
+opened tree request limits = record {
+  tree = tree;
+  request = request;
+  limits = limits;
+  state = opening (rules_of tree limits) request;
+  stopped = None;
+}
+
+-- the board after an event
+abbrev pub after : BoardView → Event → BoardView
+after b event = record b { state = happens (rules_on b) b.state event }
+
+abbrev pub IsQuietBoard : BoardView → Type 0
+IsQuietBoard b = IsNone b.stopped × (ready_count b ≡ 0) × (jobs_out b ≡ 0)
+
+-- the piece is of the board's tree and limits
+abbrev pub Belongs : BoardView → PieceView → Type 0
+Belongs b piece = (piece.tree ≡ b.tree) × (piece.limits ≡ b.limits)
+
+-- the work is of the target at that place, at its turn
+pub record IsWorkTaken (b : BoardView) (which : ℕ) (w : WorkView) : Type 0 where
+  pub tree : w.tree ≡ b.tree
+  pub limits : w.limits ≡ b.limits
+  pub target : slice_get b.state.ready which ≡ Some w.target
+  pub turn : (e : Entry) → entry_of b.state.entries w.target ≡ Some e → (w.turn ≡ e.turn) × (w.deps ≡ e.deps)

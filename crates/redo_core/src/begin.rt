@@ -1,0 +1,75 @@
+//! What a path is once it is seen for the first time.
+ghost use Rattle.std.specs.Prelude.{◌≡◌, [], IfOk};
+ghost use Rattle.std.specs.Arc.{arc_value};
+ghost use Rattle.redo_step.specs.declared.deps.DepKind.TheVariants as kinds;
+ghost use Rattle.redo_step.specs.Meaning.{with_entries};
+ghost use Rattle.redo_which.specs.Rule.{Rule as IsRule, found_of};
+ghost use Rattle.redo_which.specs.Views.{arguments_view};
+ghost use Rattle.redo_core.specs.Slots.{IsBegun};
+
+use crate::fact::Fact;
+use crate::facts::Facts;
+use crate::table::Stage;
+use crate::work::Work;
+use redo_path::Path;
+use redo_step::{Dep, DepKind, Deps, Job, Limits, Outcome, Parsed, Why};
+use redo_tree::Tree;
+use redo_which::{Found, Rule, lookup};
+use std::alloc::{AllocError, Global};
+use std::sync::Arc;
+
+/// What a path that is seen for the first time is at once: decided where it has no rule, else ready.
+pub(crate) fn begin(
+    alloc: Global,
+    path: &Path,
+    tree: &Arc<Tree>,
+    limits: Limits,
+) -> Result<Stage, AllocError>
+    ensures { IfOk result (IsBegun (arc_value tree.now) limits path.now) }
+{
+    let (outcome, deps) = match lookup::find(alloc, tree, path)? {
+        Found::Rule(rule) => return begin_job(alloc, path, tree, limits, rule),
+        Found::Source => (Outcome::Source, Deps::new(alloc)),
+        Found::Directory => (Outcome::Failed(Why::Directory), Deps::new(alloc)),
+        Found::NoDirectory => (Outcome::Failed(Why::NoDirectory), Deps::new(alloc)),
+        Found::NoRule { missing } => (Outcome::Failed(Why::NoRule), all_missing(alloc, &missing)?),
+    };
+    let target = path.clone()?;
+    let own = Arc::try_clone(tree)?;
+    let deps = Arc::new(alloc, deps)?;
+    let fact = Fact::unruled(own, limits, target, outcome, deps);
+    Ok(Stage::Decided(Arc::new(alloc, fact)?))
+}
+
+/// The script of a target before its first statement. The .do file that was found is a file of the tree.
+fn begin_job(
+    alloc: Global,
+    path: &Path,
+    tree: &Arc<Tree>,
+    limits: Limits,
+    rule: Rule,
+) -> Result<Stage, AllocError>
+    requires { found_of (arc_value tree.now) path.now ≡ IsRule rule.do_file rule.missing.items (arguments_view rule.args) }
+    ensures { IfOk result (IsBegun (arc_value tree.now) limits path.now) }
+{
+    let text = tree.file(&rule.do_file).unwrap_or(b"");
+    let parsed = Arc::new(alloc, Parsed::of(alloc, text)?)?;
+    let target = path.clone()?;
+    let job = Job::begin(alloc, Arc::try_clone(tree)?, target, rule, parsed, limits)?;
+    let own = Arc::try_clone(tree)?;
+    Ok(Stage::Ready(Work::of(own, limits, job, Facts::new(alloc))))
+}
+
+/// The record of a target without a rule: the candidates that are missing.
+fn all_missing(alloc: Global, missing: &[Path]) -> Result<Deps, AllocError>
+    ensures { IfOk result (λ deps. deps ≡ with_entries [] kinds.Create missing.now) }
+{
+    let mut deps = Deps::new(alloc);
+    for path in missing {
+        deps.insert(Dep {
+            kind: DepKind::Create,
+            path: path.clone()?,
+        })?;
+    }
+    Ok(deps)
+}

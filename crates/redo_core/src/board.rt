@@ -1,0 +1,267 @@
+//! The board.
+ghost use Rattle.std.specs.Prelude.{◌≡◌, ◌↔◌, ◌<◌, ◌≤◌, IsTrue, IsNone, IfOk, IfErr, OnOk, OnErr, length, slice_get, Some, None};
+ghost use Rattle.std.specs.Arc.{arc_value};
+ghost use Rattle.redo_core.specs.Views.{ready_count, jobs_out, opened, after, rules_on, IsQuietBoard, Belongs, IsWorkTaken};
+ghost use Rattle.redo_core.specs.Outcomes.{IsTooMany};
+ghost use Rattle.redo_core.specs.Build.{rules_of};
+ghost use Rattle.redo_core.specs.Schedule.{Event, IsOutAt, IsOpen};
+ghost use Rattle.redo_core.specs.Schedule.Event.{Take, Hand_in};
+ghost use Rattle.redo_core.specs.Faults.{Refused};
+ghost use Rattle.redo_core.specs.Reports.{IsReport};
+ghost use Rattle.redo_core.specs.Theorems.{IsPartOfBuild, ShowsBuild};
+
+use crate::finish::report_of;
+use crate::moves::{copied, first_table, take_in};
+use crate::report::Report;
+use crate::table::{Stage, Table, out_at};
+use crate::work::{Piece, Work};
+use redo_path::Path;
+use redo_step::Limits;
+use redo_tree::Tree;
+use std::alloc::{AllocError, AllocFailed, Global};
+use std::marker::Model;
+use std::mem;
+use std::sync::Arc;
+
+/// Why a board has stopped.
+#[derive(Clone, Copy, PartialEq, Eq)]
+pub enum Stop {
+    /// More targets are needed than the limit allows.
+    TooMany,
+    /// A growth was refused.
+    Memory,
+}
+
+impl From<AllocError> for Stop {
+    ghost use Rattle.redo_core.specs.declared.board.Stop.TheVariants.{Memory};
+
+    ghost from_gives = { λ _ stop. stop ≡ Memory };
+
+    fn from(_error: AllocError) -> Stop {
+        Stop::Memory
+    }
+}
+
+impl<T: Drop> From<AllocFailed<T>> for Stop {
+    ghost use Rattle.redo_core.specs.declared.board.Stop.TheVariants.{Memory};
+
+    ghost from_gives = { λ _ stop. stop ≡ Memory };
+
+    fn from(_error: AllocFailed<T>) -> Stop {
+        Stop::Memory
+    }
+}
+
+/// The entries of a build, and what may happen to them next.
+#[derive(Drop)]
+pub struct Board {
+    alloc: Global,
+    tree: Arc<Tree>,
+    request: Vec<Path>,
+    limits: Limits,
+    table: Table,
+    stopped: Option<Stop>,
+}
+
+impl Model for Board {
+    ghost use Rattle.std.specs.Arc.{arc_value};
+    ghost use Rattle.redo_core.specs.Views.{BoardView};
+
+    ghost Value = { BoardView };
+
+    ghost use Rattle.redo_core.specs.Slots.{state_of, IsBoard};
+
+    ghost view = { λ b. record {
+      tree = arc_value b.tree;
+      request = b.request.items;
+      limits = b.limits;
+      state = state_of b;
+      stopped = b.stopped;
+    } };
+
+    ghost invariant = { IsBoard };
+}
+
+/// Why no board was opened.
+#[derive(Drop)]
+pub enum OpenFault {
+    TooMany,
+    Memory,
+}
+
+/// Why a piece was not taken in.
+#[derive(Drop)]
+pub enum HandFault {
+    Stranger(Piece),
+    TooMany,
+    Memory,
+}
+
+impl From<Stop> for OpenFault {
+    ghost use Rattle.redo_core.specs.Faults.{opening_fault_of};
+
+    ghost from_gives = { λ stop fault. fault ≡ opening_fault_of stop };
+
+    fn from(stop: Stop) -> OpenFault {
+        match stop {
+            Stop::TooMany => OpenFault::TooMany,
+            Stop::Memory => OpenFault::Memory,
+        }
+    }
+}
+
+impl From<AllocError> for OpenFault {
+    ghost use Rattle.redo_core.specs.declared.board.OpenFault.TheVariants.{Memory};
+
+    ghost from_gives = { λ _ fault. fault ≡ Memory };
+
+    fn from(_error: AllocError) -> OpenFault {
+        OpenFault::Memory
+    }
+}
+
+impl From<Stop> for HandFault {
+    ghost use Rattle.redo_core.specs.Faults.{fault_of};
+
+    ghost from_gives = { λ stop fault. fault ≡ fault_of stop };
+
+    fn from(stop: Stop) -> HandFault {
+        match stop {
+            Stop::TooMany => HandFault::TooMany,
+            Stop::Memory => HandFault::Memory,
+        }
+    }
+}
+
+impl Board {
+    /// A board with the requested targets entered.
+    pub fn open(
+        alloc: Global,
+        tree: Arc<Tree>,
+        request: &[Path],
+        limits: Limits,
+    ) -> Result<Board, OpenFault>
+        ensures ok { IfOk result (λ b. b ≡ opened (arc_value tree) request.now limits) }
+        ensures within { IfOk result (λ b. length b.state.entries ≤ limits.0) }
+        ensures part { IfOk result (λ b. IsPartOfBuild (rules_on b) b.request b.limits.0 b.state) }
+        ensures too_many { result ≡ Err OpenFault.TooMany → IsTooMany (rules_of (arc_value tree) limits) request.now limits.0 }
+    {
+        let request = copied(alloc, request)?;
+        let table = first_table(alloc, &request, &tree, limits)?;
+        Ok(Board {
+            alloc,
+            tree,
+            request,
+            limits,
+            table,
+            stopped: None,
+        })
+    }
+
+    /// How many targets may be taken.
+    pub fn ready(&self) -> usize
+        ensures { result ≡ ready_count self.now }
+    {
+        if self.stopped.is_some() {
+            0
+        } else {
+            self.table.ready.len()
+        }
+    }
+
+    /// Why the board has stopped, if it has.
+    pub fn stopped(&self) -> Option<Stop>
+        ensures value { result ≡ self.now.stopped }
+        ensures too_many { result ≡ Some Stop.TooMany → IsTooMany (rules_on self.now) self.now.request self.now.limits.0 }
+    {
+        self.stopped
+    }
+
+    /// A target that may be taken.
+    pub fn ready_at(&self, which: usize) -> &Path
+        requires { which < ready_count self.now }
+        ensures { slice_get self.now.state.ready which ≡ Some result.now }
+    {
+        let at = self.table.ready[which];
+        &self.table.targets[at as usize]
+    }
+
+    /// Takes a target that is ready. The others close up.
+    pub fn take(&mut self, which: usize) -> Result<Work, AllocError>
+        requires { which < ready_count self.old }
+        ensures ok { OnOk result (self.new ≡ after self.old (Take which)) }
+        ensures work { IfOk result (IsWorkTaken self.old which) }
+        ensures turn { IfOk result (λ w. w.turn < self.old.limits.0) }
+        ensures part { OnOk result (IsPartOfBuild (rules_on self.new) self.new.request self.new.limits.0 self.new.state) }
+        ensures err { OnErr result (self.new ≡ self.old) }
+    {
+        let Some(at) = self.table.ready.remove(which) else {
+            unreachable!()
+        };
+        let slot = &mut self.table.slots[at as usize];
+        let stage = mem::replace(&mut slot.stage, Stage::Out);
+        self.table.out += 1;
+        match stage {
+            Stage::Ready(work) => Ok(work),
+            _ => unreachable!(),
+        }
+    }
+
+    /// Takes back what a job came to. A piece whose target isn't out at its turn comes back, and nothing has changed.
+    pub fn hand_in(&mut self, piece: Piece) -> Result<(), HandFault>
+        requires { Belongs self.old piece }
+        ensures open { OnOk result (IsOpen self.old.state (Hand_in piece.target piece.turn)) }
+        ensures ok { OnOk result (self.new ≡ after self.old (Hand_in piece.target piece.turn)) }
+        ensures within { OnOk result (length self.new.state.entries ≤ self.new.limits.0) }
+        ensures part { OnOk result (IsPartOfBuild (rules_on self.new) self.new.request self.new.limits.0 self.new.state) }
+        ensures err { IfErr result (Refused self.old self.new piece) }
+    {
+        if let Some(stop) = self.stopped {
+            return Err(HandFault::from(stop));
+        }
+        let Some(at) = out_at(&self.table, piece.target(), piece.turn()) else {
+            return Err(HandFault::Stranger(piece));
+        };
+        match take_in(
+            &mut self.table,
+            self.alloc,
+            at,
+            piece.into_end(),
+            &self.tree,
+            self.limits,
+        ) {
+            Ok(()) => Ok(()),
+            Err(stop) => {
+                self.stopped = Some(stop);
+                Err(HandFault::from(stop))
+            }
+        }
+    }
+
+    /// How many jobs are out.
+    pub fn out(&self) -> usize
+        ensures { result ≡ jobs_out self.now }
+    {
+        if self.stopped.is_some() {
+            0
+        } else {
+            self.table.out
+        }
+    }
+
+    /// Whether nothing more can happen.
+    pub fn quiet(&self) -> bool
+        ensures quiet { IsTrue result ↔ IsQuietBoard self.now }
+        ensures shows { IsTrue result → ShowsBuild (rules_on self.now) self.now.request self.now.limits.0 self.now.state }
+    {
+        self.stopped.is_none() && self.ready() == 0 && self.out() == 0
+    }
+
+    /// What the build came to. What still waits is cyclic.
+    pub fn finish(self) -> Result<Report, AllocError>
+        requires { IsQuietBoard self }
+        ensures { IfOk result (IsReport (rules_on self) self.request self.limits.0) }
+    {
+        report_of(self.alloc, &self.tree, &self.request, &self.table)
+    }
+}

@@ -1,0 +1,183 @@
+//! What the opening and a handed in piece do to the table.
+ghost use Rattle.std.specs.Prelude.{◌≡◌, ◌<◌, ℕ, [], not, is_some, length, IfOk, OnOk, Err};
+ghost use Rattle.std.specs.Arc.{arc_value};
+ghost use Rattle.redo_core.specs.Build.{rules_of};
+ghost use Rattle.redo_core.specs.Rules.{operands};
+ghost use Rattle.redo_core.specs.Slots.{IsPlace, IsTableOf, IsStandingTable, AreEnteredInto, AreTooMany, AreLookedAt, AreReleased, MayTakeIn, IsPutBackThere, IsTakenIn, IsFirstTable, targets_in, table_entries, state_after};
+ghost use Rattle.redo_core.specs.Schedule.{opening};
+ghost use Rattle.redo_tree.specs.Tree.{file_at};
+
+use crate::board::Stop;
+use crate::table::{Table, decide, enter, is_operand, park, settle};
+use crate::work::End;
+use indexmap::IndexSet;
+use redo_path::Path;
+use redo_step::{Dep, Limits};
+use redo_tree::Tree;
+use std::alloc::{AllocError, Global};
+use std::collections::VecDeque;
+use std::sync::Arc;
+
+/// Enters what some entries of a record wait for, as far as it is new.
+pub(crate) fn enter_all(
+    table: &mut Table,
+    alloc: Global,
+    deps: &[Dep],
+    tree: &Arc<Tree>,
+    limits: Limits,
+    freed: &mut Vec<u32>,
+) -> Result<(), Stop>
+    requires table { IsTableOf (arc_value tree.now) limits table.old freed.old.items }
+    ensures ok { OnOk result (AreEnteredInto (arc_value tree.now) limits table.old table.new freed.new.items (operands (rules_of (arc_value tree.now) limits) deps.now)) }
+    ensures too_many { result ≡ Err Stop.TooMany → AreTooMany (rules_of (arc_value tree.now) limits) limits.0 (table_entries (rules_of (arc_value tree.now) limits) limits.0 table.old) (operands (rules_of (arc_value tree.now) limits) deps.now) }
+{
+    for dep in deps {
+        if is_operand(tree, limits, dep) {
+            enter(table, alloc, &dep.path, tree, limits, freed)?;
+        }
+    }
+    Ok(())
+}
+
+/// Looks again at some numbers.
+pub(crate) fn settle_all(
+    table: &mut Table,
+    pending: &[u32],
+    tree: &Arc<Tree>,
+    limits: Limits,
+    freed: &mut Vec<u32>,
+) -> Result<(), AllocError>
+    requires within { (k : ℕ) → IsPlace pending.now k → k < length table.old.slots.items }
+    requires table { IsTableOf (arc_value tree.now) limits table.old freed.old.items }
+    requires standing { IsStandingTable (arc_value tree.now) limits table.old }
+    ensures table { OnOk result (IsTableOf (arc_value tree.now) limits table.new freed.new.items) }
+    ensures looked { OnOk result (AreLookedAt (arc_value tree.now) limits table.old table.new pending.now) }
+{
+    for at in pending {
+        settle(table, *at, tree, limits, freed)?;
+    }
+    Ok(())
+}
+
+/// Puts the numbers freed into the queue, in order of first sight.
+pub(crate) fn release(table: &mut Table, mut freed: Vec<u32>) -> Result<(), AllocError>
+    ensures { OnOk result (AreReleased table.old table.new freed.items) }
+{
+    freed.sort_unstable();
+    let ready = &mut table.ready;
+    for at in &freed {
+        ready.push_back(*at)?;
+    }
+    Ok(())
+}
+
+/// Notes what a job that was out came to, with what it asks for entered, and gives the numbers to look at again.
+fn put_back(
+    table: &mut Table,
+    alloc: Global,
+    at: usize,
+    end: End,
+    tree: &Arc<Tree>,
+    limits: Limits,
+    freed: &mut Vec<u32>,
+) -> Result<Vec<u32>, Stop>
+    requires may { MayTakeIn (arc_value tree.now) limits table.old at end }
+    requires none_freed { freed.old.items ≡ [] }
+    ensures ok { IfOk result (λ pending. IsPutBackThere (arc_value tree.now) limits table.old table.new at freed.new.items pending.items) }
+    ensures too_many { result ≡ Err Stop.TooMany → limits.0 < length (state_after (arc_value tree.now) limits table.old at).entries }
+{
+    match end {
+        End::Ended(fact) => Ok(decide(table, alloc, at, fact)?),
+        End::Stopped(job, facts) => {
+            let mut pending = Vec::new(alloc);
+            pending.push(at as u32)?;
+            let asked = &job.declared().as_slice()[facts.gained..];
+            enter_all(table, alloc, asked, tree, limits, freed)?;
+            park(table, at, job, facts);
+            Ok(pending)
+        }
+    }
+}
+
+/// Takes in what a job that was out came to.
+pub(crate) fn take_in(
+    table: &mut Table,
+    alloc: Global,
+    at: usize,
+    end: End,
+    tree: &Arc<Tree>,
+    limits: Limits,
+) -> Result<(), Stop>
+    requires { MayTakeIn (arc_value tree.now) limits table.old at end }
+    ensures ok { OnOk result (IsTakenIn (arc_value tree.now) limits table.old table.new at) }
+    ensures too_many { result ≡ Err Stop.TooMany → limits.0 < length (state_after (arc_value tree.now) limits table.old at).entries }
+{
+    let mut freed = Vec::new(alloc);
+    let pending = put_back(table, alloc, at, end, tree, limits, &mut freed)?;
+    settle_all(table, &pending, tree, limits, &mut freed)?;
+    release(table, freed)?;
+    Ok(())
+}
+
+/// Copies of some paths.
+pub(crate) fn copied(alloc: Global, paths: &[Path]) -> Result<Vec<Path>, AllocError>
+    ensures { IfOk result (λ copies. copies.items ≡ paths.now) }
+{
+    let mut copies = Vec::new(alloc);
+    for path in paths {
+        copies.push(path.clone()?)?;
+    }
+    Ok(copies)
+}
+
+/// Whether a path is no source.
+fn is_target(tree: &Tree, path: &Path) -> bool
+    ensures { result ≡ not (is_some (file_at tree.now path.now)) }
+{
+    tree.file(path).is_none()
+}
+
+/// Enters the requested paths that are no sources.
+fn enter_requested(
+    table: &mut Table,
+    alloc: Global,
+    request: &[Path],
+    tree: &Arc<Tree>,
+    limits: Limits,
+    freed: &mut Vec<u32>,
+) -> Result<(), Stop>
+    requires table { IsTableOf (arc_value tree.now) limits table.old freed.old.items }
+    ensures ok { OnOk result (AreEnteredInto (arc_value tree.now) limits table.old table.new freed.new.items (targets_in (arc_value tree.now) request.now)) }
+    ensures too_many { result ≡ Err Stop.TooMany → AreTooMany (rules_of (arc_value tree.now) limits) limits.0 (table_entries (rules_of (arc_value tree.now) limits) limits.0 table.old) (targets_in (arc_value tree.now) request.now) }
+{
+    for path in request {
+        if is_target(tree, path) {
+            enter(table, alloc, path, tree, limits, freed)?;
+        }
+    }
+    Ok(())
+}
+
+/// The table at the opening.
+pub(crate) fn first_table(
+    alloc: Global,
+    request: &[Path],
+    tree: &Arc<Tree>,
+    limits: Limits,
+) -> Result<Table, Stop>
+    ensures ok { IfOk result (λ t. IsFirstTable (arc_value tree.now) limits request.now t) }
+    ensures too_many { result ≡ Err Stop.TooMany → limits.0 < length (opening (rules_of (arc_value tree.now) limits) request.now).entries }
+{
+    let most = limits.targets();
+    prove!(most <= 65_536);
+    let mut table = Table {
+        targets: IndexSet::new(alloc),
+        slots: Vec::new(alloc),
+        ready: VecDeque::new(alloc),
+        out: 0,
+    };
+    let mut freed = Vec::new(alloc);
+    enter_requested(&mut table, alloc, request, tree, limits, &mut freed)?;
+    release(&mut table, freed)?;
+    Ok(table)
+}
