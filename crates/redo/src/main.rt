@@ -6,12 +6,16 @@
 mod options;
 mod status;
 
-use options::{Call, Refusal};
-use redo_run::{Exit, run_bundle, whichdo_bundle};
+use options::{Call, Place};
+use redo_path::Path;
+use redo_run::{Exit, NoGate, Options, run_bundle, run_dir, whichdo_bundle, whichdo_dir};
 use redo_tree::Plain;
-use status::{status_of_fault, status_of_refusal};
+use status::Fault;
 use std::alloc::Global;
 use std::process::ExitCode;
+use std::rt::Runtime;
+use std::sync::Wait;
+use std::thread::Threads;
 use std::{env, io};
 
 fn main(rt: HostRuntime) -> ExitCode {
@@ -20,7 +24,14 @@ fn main(rt: HostRuntime) -> ExitCode {
         Ok(call) => call,
         Err(status) => return ExitCode::from(status),
     };
-    ExitCode::from(run(&rt, alloc, call))
+    match run(&rt, alloc, call) {
+        Ok(true) => ExitCode::from(status::GOOD),
+        Ok(false) => ExitCode::from(status::FAILED),
+        Err(fault) => {
+            let _shown = eprintln!(rt; "redo: {fault}");
+            ExitCode::from(status::of_fault(fault))
+        }
+    }
 }
 
 /// What the command line asks for, or the exit status where there is nothing to do: after help, or a refusal, each of
@@ -40,26 +51,63 @@ fn read_call(rt: &HostRuntime, alloc: Global) -> Result<Call, u8> {
     };
     options::call_of(alloc, &matches).map_err(|refusal| {
         let _shown = eprintln!(rt; "redo: {refusal}");
-        status_of_refusal(refusal)
+        status::of_refusal(refusal)
     })
 }
 
-/// Does what was asked for, with standard input and output, and answers the exit status.
-fn run(rt: &HostRuntime, alloc: Global, call: Call) -> u8 {
-    let mut reader = Plain::new(rt.reader());
+/// Does what was asked for, and answers whether all went well.
+fn run<H: Runtime + Threads + Wait + Sync>(
+    rt: &H,
+    alloc: Global,
+    call: Call,
+) -> Result<bool, Fault> {
+    match call {
+        Call::Build(options, place) => build(rt, alloc, &options, &place),
+        Call::Whichdo(target, place) => list(rt, alloc, &target, &place),
+    }
+}
+
+/// Builds targets, and answers whether all that was requested is a source or built.
+fn build<H: Runtime + Threads + Wait + Sync>(
+    rt: &H,
+    alloc: Global,
+    options: &Options,
+    place: &Place,
+) -> Result<bool, Fault> {
     let mut writer = Plain::new(io::writer(rt));
-    let outcome = match call {
-        Call::Build(options) => {
-            run_bundle(alloc, &mut reader, &mut writer, &options).map(|exit| exit == Exit::Good)
+    let exit = match place {
+        Place::Bundle => {
+            let mut reader = Plain::new(rt.reader());
+            run_bundle(rt, alloc, &mut reader, &mut writer, options, &NoGate)?
         }
-        Call::Whichdo(target) => whichdo_bundle(alloc, &mut reader, &mut writer, &target),
+        Place::Directory(dir) => {
+            let (exit, passed) = run_dir(rt, alloc, dir, &mut writer, options, &NoGate)?;
+            note_passed(rt, passed);
+            exit
+        }
     };
-    match outcome {
-        Ok(true) => status::GOOD,
-        Ok(false) => status::FAILED,
-        Err(fault) => {
-            let _shown = eprintln!(rt; "redo: {}", status::words_of(fault));
-            status_of_fault(fault)
+    Ok(exit == Exit::Good)
+}
+
+/// Lists a target's candidates, and answers whether one of them is a file.
+fn list<H: Runtime>(rt: &H, alloc: Global, target: &Path, place: &Place) -> Result<bool, Fault> {
+    let mut writer = Plain::new(io::writer(rt));
+    match place {
+        Place::Bundle => {
+            let mut reader = Plain::new(rt.reader());
+            Ok(whichdo_bundle(alloc, &mut reader, &mut writer, target)?)
         }
+        Place::Directory(dir) => {
+            let (found, passed) = whichdo_dir(rt, alloc, dir, &mut writer, target)?;
+            note_passed(rt, passed);
+            Ok(found)
+        }
+    }
+}
+
+/// Notes on standard error how many names of a directory were passed over, if any were.
+fn note_passed<H: Runtime>(rt: &H, passed: u64) {
+    if passed != 0 {
+        let _shown = eprintln!(rt; "redo: {passed} names passed over");
     }
 }

@@ -17,11 +17,19 @@ const FILE_BYTES: u32 = 16_777_216;
 /// The most scripts that may run side by side.
 const MOST_JOBS: usize = 64;
 
-/// What the command line asks for, over a bundle on standard input.
+/// Where the tree is read from.
+#[derive(Drop)]
+pub(crate) enum Place {
+    /// A bundle on standard input.
+    Bundle,
+    Directory(String),
+}
+
+/// What the command line asks for.
 #[derive(Drop)]
 pub(crate) enum Call {
-    Build(Options),
-    Whichdo(Path),
+    Build(Options, Place),
+    Whichdo(Path, Place),
 }
 
 /// Why the words of the command line, each good by itself, can't be served together.
@@ -35,8 +43,6 @@ pub(crate) enum Refusal {
     TargetsBesideWhichdo,
     #[error("bad target")]
     BadTarget,
-    #[error("a directory is not served yet")]
-    Directory,
     #[error("out of memory")]
     Memory,
 }
@@ -114,14 +120,16 @@ pub(crate) fn call_of(alloc: Global, matches: &ArgMatches<'_>) -> Result<Call, R
     if whichdo.is_some() && matches.contains_id("targets") {
         return Err(Refusal::TargetsBesideWhichdo);
     }
-    let call = match whichdo {
-        Some(word) => Call::Whichdo(target(alloc, word)?),
-        None => Call::Build(options(alloc, matches)?),
+    let place = if bundle {
+        Place::Bundle
+    } else {
+        let dir = matches.get_str("directory").unwrap_or(".");
+        Place::Directory(String::from_str(alloc, dir)?)
     };
-    if !bundle {
-        return Err(Refusal::Directory);
+    match whichdo {
+        Some(word) => Ok(Call::Whichdo(target(alloc, word)?, place)),
+        None => Ok(Call::Build(options(alloc, matches)?, place)),
     }
-    Ok(call)
 }
 
 /// The path that a word names, from the top.
@@ -152,7 +160,7 @@ fn options(alloc: Global, matches: &ArgMatches<'_>) -> Result<Options, Refusal> 
 
 #[cfg(test)]
 mod tests {
-    use super::{Call, Refusal, call_of, command};
+    use super::{Call, Place, Refusal, call_of, command};
     use std::alloc::Global;
     use std::test::Fail;
 
@@ -167,7 +175,7 @@ mod tests {
     #[test]
     fn refuses_words_in_the_order_of_the_manual(rt: HostRuntime) -> Result<(), Fail> {
         let alloc = rt.alloc();
-        let rows: [(&[&str], Refusal); 10] = [
+        let rows: [(&[&str], Refusal); 9] = [
             (&["redo"], Refusal::NoKeepGoing),
             (&["redo", "--bundle", "-C", "d", "/x"], Refusal::NoKeepGoing),
             (
@@ -186,7 +194,6 @@ mod tests {
                 Refusal::BadTarget,
             ),
             (&["redo", "-k", "/x"], Refusal::BadTarget),
-            (&["redo", "-k", "-C", "d", "x"], Refusal::Directory),
         ];
         for (words, refusal) in rows {
             let Some(Err(found)) = read(alloc, words)? else {
@@ -216,7 +223,7 @@ mod tests {
     #[test]
     fn reads_calls(rt: HostRuntime) -> Result<(), Fail> {
         let alloc = rt.alloc();
-        let Some(Ok(Call::Build(options))) = read(
+        let Some(Ok(Call::Build(options, Place::Bundle))) = read(
             alloc,
             &["redo", "-j", "64", "-k", "--bundle", "a", "./b"],
         )?
@@ -228,18 +235,21 @@ mod tests {
         assert_eq!(rt; options.targets[1].text(), b"b".as_slice());
         assert_eq!(rt; options.limits.targets(), 65_536);
         assert_eq!(rt; options.limits.file_bytes(), 16_777_216);
-        let Some(Ok(Call::Build(options))) = read(alloc, &["redo", "-k", "--bundle"])? else {
+        let Some(Ok(Call::Build(options, Place::Directory(dir)))) = read(alloc, &["redo", "-k"])?
+        else {
             return Err("no build".into());
         };
+        assert_eq!(rt; dir.as_str(), ".");
         assert_eq!(rt; options.workers, 1);
         assert_eq!(rt; options.targets.len(), 0);
-        let Some(Ok(Call::Whichdo(target))) = read(
+        let Some(Ok(Call::Whichdo(target, Place::Directory(dir)))) = read(
             alloc,
-            &["redo", "--whichdo", "a//x", "--bundle"],
+            &["redo", "--whichdo", "a//x", "-C", "d"],
         )?
         else {
             return Err("no search".into());
         };
+        assert_eq!(rt; dir.as_str(), "d");
         assert_eq!(rt; target.text(), b"a/x".as_slice());
         Ok(())
     }

@@ -166,14 +166,8 @@ module _ (tree : Tree) (limits : ℕ × ℕ) (job : JobView) (facts : Facts) (wo
       subst P (sym of_tree) (subst Q (sym of_target) (subst R (sym of_deps) (advanced-fact done ends)))
 
   -- what the piece says has an outcome exactly where the work lacks nothing
-  pub end-lacks : (end : End) → end_progress end ≡ (rules_of tree limits).progress job.target (told_in facts) → (view : WorkView) →
-      tree ≡ view.tree → limits ≡ view.limits → job.target ≡ view.target → known_in facts ≡ view.known →
-      ((end_progress end).outcome ≡ None → ⊥) ↔ (lacking_under (rules_of view.tree view.limits) view.target (told_by view.known) ≡ [])
-  end-lacks end is view of_tree of_limits of_target known =
+  pub end-lacks : (end : End) → end_progress end ≡ (rules_of tree limits).progress job.target (told_in facts) →
+      ((end_progress end).outcome ≡ None → ⊥) ↔ (lacking_under (rules_of tree limits) job.target (told_in facts) ≡ [])
+  end-lacks end is =
       let P : Progress → Type 0 = λ x. (x.outcome ≡ None → ⊥) ↔ (lacking_under (rules_of tree limits) job.target (told_in facts) ≡ []) in
-      let T : Tree → Type 0 = λ x. ((end_progress end).outcome ≡ None → ⊥) ↔ (lacking_under (rules_of x view.limits) view.target (told_by view.known) ≡ []) in
-      let L : ℕ × ℕ → Type 0 = λ x. ((end_progress end).outcome ≡ None → ⊥) ↔ (lacking_under (rules_of tree x) view.target (told_by view.known) ≡ []) in
-      let G : List ℕ → Type 0 = λ x. ((end_progress end).outcome ≡ None → ⊥) ↔ (lacking_under (rules_of tree limits) x (told_by view.known) ≡ []) in
-      let K : List (List ℕ × Outcome) → Type 0 = λ x. ((end_progress end).outcome ≡ None → ⊥) ↔ (lacking_under (rules_of tree limits) job.target (told_by x) ≡ []) in
-      subst T of_tree (subst L of_limits (subst G of_target (subst K known
-      (subst P (sym is) (ended-lacks r (rules_lawful tree limits) job.target (told_in facts))))))
+      subst P (sym is) (ended-lacks r (rules_lawful tree limits) job.target (told_in facts))

@@ -1,6 +1,7 @@
 -- What is begun is a work, or a fact.
 use Rattle.std.proofs.Common.{◌≡◌, ℕ, zero, ◌<◌, List, [], ◌∷◌, Option, Some, None, true, false, refl, sym, ap, subst, ◌∙◌, inl, inr, arith, lit<}
-use Rattle.std.specs.Prelude.{unwrap_or, option_copied}
+use Rattle.std.specs.Prelude.{unwrap_or, option_copied, IfOk, Result, Ok, Err}
+use Rattle.redo_core.specs.Scripts.{IsBegunJob}
 use Rattle.std.proofs.Common.{Bor}
 use Rattle.std.specs.Arc.{arc_value}
 use Rattle.redo_tree.specs.Tree.{Tree, file_at}
@@ -56,6 +57,26 @@ begun-work tree limits target rule parsed facts found script fits none gained = 
   gained = gained;
   few = omega arith;
 }
+
+-- a job that was begun on a shared tree is one of the tree
+pub begun-is : {E : Type 0} (tree given : Tree) (limits : ℕ × ℕ) (target : List ℕ) (rule : FoundRule) (parsed : Parsed) (result : Result JobView E) → given ≡ tree →
+    found_of tree target ≡ Rule rule.do_file rule.missing.items (arguments_view rule.args) →
+    parsed_of parsed ≡ script_in (unwrap_or (file_at tree rule.do_file) []) →
+    IfOk result (λ job. job ≡ begun given target rule parsed limits) → IfOk result (λ job. (ask : Answers) → IsFit job ask) →
+    IfOk result (IsBegunJob tree limits target)
+begun-is tree given limits target rule parsed (Ok job) same found script is fits =
+    let J : Tree → JobView = λ t. begun t target rule parsed limits in
+    let at : job ≡ J tree = is ∙ ap J same in
+    let F : JobView → Type 0 = λ j. (ask : Answers) → IsFit j ask in
+    let fits' = subst F at fits in
+    let P : JobView → Type 0 = IsBegunJob tree limits target in
+    subst P (sym at) (record {
+      of_target = refl;
+      at_first = refl;
+      none_recorded = refl;
+      is_work = λ facts none gained. begun-work tree limits target rule parsed facts found script fits' none gained;
+    })
+begun-is tree given limits target rule parsed (Err e) same found script is fits = tt
 
 pub unwrap-copied : (o : Option (Bor (List ℕ))) (d : Bor (List ℕ)) → (unwrap_or o d).now ≡ unwrap_or (option_copied o) d.now
 unwrap-copied None d = refl

@@ -8,6 +8,8 @@ pub mod Soundness
 pub mod Quiet
 pub mod Once
 pub mod TurnBound
+pub mod Counts
+pub mod BoardCounts
 pub mod Places
 pub mod Records
 pub mod Lawful
@@ -30,6 +32,7 @@ pub mod EnterAll
 pub mod SettleAll
 pub mod Sorting
 pub mod TakeIn
+pub mod TakenSteps
 pub mod FreedLemmas
 pub mod Release
 pub mod HandIn

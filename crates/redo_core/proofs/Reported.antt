@@ -1,5 +1,5 @@
 -- A quiet board's table makes the report of its build.
-use Rattle.std.proofs.Common.{◌≡◌, ℕ, zero, suc, ◌<◌, true, false, ◌⊎◌, inl, inr, List, [], ◌∷◌, length, map, filter, Option, Some, None, IsNone, Result, Ok, Err, IfOk, is_some, slice_get, refl, sym, ap, subst, ◌∙◌, arith}
+use Rattle.std.proofs.Common.{◌≡◌, ℕ, Bool, zero, suc, ◌<◌, true, false, ◌⊎◌, inl, inr, List, [], ◌∷◌, length, map, filter, Option, Some, None, IsNone, Result, Ok, Err, IfOk, is_some, slice_get, refl, sym, ap, subst, ◌∙◌, arith}
 use Rattle.std.specs.Arc.{arc_value}
 use Rattle.std.specs.List.{AllByRecursion}
 use Rattle.std.specs.Prelude.{Contains, unwrap_or, option_and_then}
@@ -17,7 +17,7 @@ use Rattle.redo_step.specs.declared.outcome.Outcome.TheVariants.{Source as Is_so
 use Rattle.redo_core.specs.Build.{rules_of}
 use Rattle.redo_core.specs.Outcomes.{outcome_at, needed_at, final_outcome, record_of}
 use Rattle.redo_core.specs.Paths.{IsAmong, AreDistinct}
-use Rattle.redo_core.specs.Reported.{reported_paths, placed, sources_among, row_files, row_begun, IsShown, IsTargetRow, IsSourceRow, IsRowOf, IsReportOf, is_settled, AllSettled}
+use Rattle.redo_core.specs.Reported.{reported_paths, placed, sources_among, row_files, row_begun, IsShown, IsBegunAs, IsTold, AllTold, IsTargetRow, IsSourceRow, IsRowOf, IsReportOf, is_settled, AllSettled}
 use Rattle.redo_core.specs.Reports.{AreAscending, IsReport, row_paths, deps_of}
 use Rattle.redo_core.specs.Rules.{Ask, Rules}
 use Rattle.redo_core.specs.Schedule.{Entry, IsQuiet, State, entry_of, outcome_of, outcomes_of, paths_of}
@@ -299,3 +299,26 @@ report-view b invariant view is quiet tree request of_tree of_request report mad
     let R : List (List ℕ) → Type 0 = λ x. IsReportOf (arc_value b.tree) x b.table report in
     let V : BoardView → Type 0 = λ v. IsReport (rules_on v) v.request v.limits.0 report in
     subst V is (report-inside b (invariant q.0) q.1 report (subst R of_request (subst T of_tree made)))
+
+-- whether a script was begun is whether there is a rule
+pub begun-told : (tree : Tree) (p : List ℕ) (stage : Stage) (begun : Bool) → IsTold tree p stage → IsBegunAs stage begun → begun ≡ is_rule (found_of tree p)
+begun-told tree p (Waiting parked) begun told is = is ∙ sym told
+begun-told tree p (Ready work) begun told is = absurd is
+begun-told tree p Out begun told is = absurd is
+begun-told tree p (Decided fact) begun told is =
+    is ∙ ap (λ t. is_rule (found_of t (arc_value fact).target)) told.0 ∙ ap (λ q. is_rule (found_of tree q)) told.1
+
+told-stage : (r : Rules) (a : Ask) (tree : Tree) (limits : ℕ × ℕ) (p q : List ℕ) (turn : ℕ) (stage : Stage) → q ≡ p → Fits r a tree limits q turn stage → IsTold tree p stage
+told-stage r a tree limits p q turn (Waiting parked) same fits =
+    ap (λ x. is_rule (found_of tree x)) (sym (fits.of_target ∙ same)) ∙ ap is_rule fits.is_job.found
+told-stage r a tree limits p q turn (Ready work) same fits = tt
+told-stage r a tree limits p q turn Out same fits = tt
+told-stage r a tree limits p q turn (Decided fact) same fits = (fits.0, fits.2 ∙ same)
+
+-- what a board's table holds is of its paths
+pub told-inside : (b : Inside) → IsKept b → (tree : Tree) → tree ≡ arc_value b.tree → AllTold tree b.table
+told-inside b kept tree same =
+    let P : Tree → Type 0 = λ t. AllTold t b.table in
+    subst P (sym same) (λ k slot p there at.
+    told-stage (rules_inside b) (outcomes_of (state_of b).entries) (arc_value b.tree) b.limits p (path_at b.table.targets.keys k) slot.turn slot.stage
+    (rw at refl) (kept.table.fits k slot there))

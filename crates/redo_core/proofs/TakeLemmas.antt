@@ -110,11 +110,11 @@ pub length-map : (f : ℕ → List ℕ) (xs : List ℕ) → length (map f xs) �
 length-map f [] = refl
 length-map f (x ∷ xs) = ap suc (length-map f xs)
 
-run-append : (r : Rules) (events : List Event) (event : Event) (s : State) → run r (events ++ event ∷ []) s ≡ happens r (run r events s) event
+pub run-append : (r : Rules) (events : List Event) (event : Event) (s : State) → run r (events ++ event ∷ []) s ≡ happens r (run r events s) event
 run-append r [] event s = refl
 run-append r (e ∷ events) event s = run-append r events event (happens r s e)
 
-AllOpen-append : (r : Rules) (events : List Event) (event : Event) (s : State) → AllOpen r s events → IsOpen (run r events s) event →
+pub AllOpen-append : (r : Rules) (events : List Event) (event : Event) (s : State) → AllOpen r s events → IsOpen (run r events s) event →
     AllOpen r s (events ++ event ∷ [])
 AllOpen-append r [] event s all open' = (open', tt)
 AllOpen-append r (e ∷ events) event s all open' = (all.0, AllOpen-append r events event (happens r s e) all.1 open')

@@ -6,8 +6,10 @@ pub mod Turns
 pub mod Standing
 pub mod Theorems
 pub mod Takes
+pub mod TakesLeft
 pub mod Build
 pub mod Works
+pub mod Scripts
 pub mod Views
 pub mod Slots
 pub mod Ends

@@ -48,6 +48,23 @@ is_settled (Decided fact) = true
 abbrev pub AllSettled : Table → Type 0
 AllSettled t = (k : ℕ) (slot : Slot) → slice_get t.slots.items k ≡ Some slot → is_settled slot.stage ≡ true
 
+-- a target that waits has a rule, and a fact tells of the target in the tree
+abbrev pub IsTold : Tree → List ℕ → Stage → Type 0
+IsTold tree p (Waiting parked) = is_rule (found_of tree p) ≡ true
+IsTold tree p (Ready work) = Unit {0}
+IsTold tree p Out = Unit {0}
+IsTold tree p (Decided fact) = ((arc_value fact).tree ≡ tree) × ((arc_value fact).target ≡ p)
+
+abbrev pub AllTold : Tree → Table → Type 0
+AllTold tree t = (k : ℕ) (slot : Slot) (p : List ℕ) → slice_get t.slots.items k ≡ Some slot → slice_get t.targets.keys k ≡ Some p → IsTold tree p slot.stage
+
+-- whether the script of a target was begun: it was, where the target waits, and a fact tells whether there is a rule
+abbrev pub IsBegunAs : Stage → Bool → Type 0
+IsBegunAs (Waiting parked) begun = begun ≡ true
+IsBegunAs (Ready work) begun = ⊥
+IsBegunAs Out begun = ⊥
+IsBegunAs (Decided fact) begun = begun ≡ is_rule (found_of (arc_value fact).tree (arc_value fact).target)
+
 -- the row is that of a target of the table
 pub record IsTargetRow (t : Table) (row : Row) : Type 0 where
   pub at : ℕ
@@ -79,11 +96,11 @@ row_files rows = flat_map (λ row. file_of row.path row.outcome) rows
 abbrev pub row_begun : Tree → List Row → List (List ℕ)
 row_begun tree rows = filter (λ p. is_rule (found_of tree p)) (map (λ row. row.path) rows)
 
--- a row was added, with its file if it was built with one, and its path if it has a rule
-pub record AddsRow (tree : Tree) (row : Row) (old new : Report) : Type 0 where
+-- a row was added, with its file if it was built with one, and its path if its script was begun
+pub record AddsRow (row : Row) (is_begun : Bool) (old new : Report) : Type 0 where
   pub rows : new.rows.items ≡ old.rows.items ++ row ∷ []
   pub files : new.files.items ≡ old.files.items ++ file_of row.path row.outcome
-  pub begun : new.begun.items ≡ old.begun.items ++ (if is_rule (found_of tree row.path) then row.path ∷ [] else [])
+  pub begun : new.begun.items ≡ old.begun.items ++ (if is_begun then row.path ∷ [] else [])
 
 -- the report is made of the rows of the table's targets and of the requested sources
 pub record IsReportOf (tree : Tree) (request : List (List ℕ)) (t : Table) (report : Report) : Type 0 where

@@ -79,6 +79,10 @@ IsQuietBoard b = IsNone b.stopped × (ready_count b ≡ 0) × (jobs_out b ≡ 0)
 abbrev pub Belongs : BoardView → PieceView → Type 0
 Belongs b piece = (piece.tree ≡ b.tree) × (piece.limits ≡ b.limits)
 
+-- the board is that of this tree, request and limits
+abbrev pub IsFor : BoardView → Tree → List (List ℕ) → ℕ × ℕ → Type 0
+IsFor b tree request limits = (b.tree ≡ tree) × (b.request ≡ request) × (b.limits ≡ limits)
+
 -- the work is of the target at that place, at its turn
 pub record IsWorkTaken (b : BoardView) (which : ℕ) (w : WorkView) : Type 0 where
   pub tree : w.tree ≡ b.tree

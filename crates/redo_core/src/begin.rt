@@ -12,7 +12,7 @@ use crate::facts::Facts;
 use crate::table::Stage;
 use crate::work::Work;
 use redo_path::Path;
-use redo_step::{Dep, DepKind, Deps, Job, Limits, Outcome, Parsed, Why};
+use redo_step::{Dep, DepKind, Deps, Limits, Outcome, Why};
 use redo_tree::Tree;
 use redo_which::{Found, Rule, lookup};
 use std::alloc::{AllocError, Global};
@@ -28,7 +28,7 @@ pub(crate) fn begin(
     ensures { IfOk result (IsBegun (arc_value tree.now) limits path.now) }
 {
     let (outcome, deps) = match lookup::find(alloc, tree, path)? {
-        Found::Rule(rule) => return begin_job(alloc, path, tree, limits, rule),
+        Found::Rule(rule) => return ready(alloc, path, tree, limits, rule),
         Found::Source => (Outcome::Source, Deps::new(alloc)),
         Found::Directory => (Outcome::Failed(Why::Directory), Deps::new(alloc)),
         Found::NoDirectory => (Outcome::Failed(Why::NoDirectory), Deps::new(alloc)),
@@ -37,12 +37,12 @@ pub(crate) fn begin(
     let target = path.clone()?;
     let own = Arc::try_clone(tree)?;
     let deps = Arc::new(alloc, deps)?;
-    let fact = Fact::unruled(own, limits, target, outcome, deps);
+    let fact = Fact::of(own, limits, target, outcome, deps, false);
     Ok(Stage::Decided(Arc::new(alloc, fact)?))
 }
 
-/// The script of a target before its first statement. The .do file that was found is a file of the tree.
-fn begin_job(
+/// A target with a rule: its script is read when it is advanced.
+fn ready(
     alloc: Global,
     path: &Path,
     tree: &Arc<Tree>,
@@ -52,12 +52,9 @@ fn begin_job(
     requires { found_of (arc_value tree.now) path.now ≡ IsRule rule.do_file rule.missing.items (arguments_view rule.args) }
     ensures { IfOk result (IsBegun (arc_value tree.now) limits path.now) }
 {
-    let text = tree.file(&rule.do_file).unwrap_or(b"");
-    let parsed = Arc::new(alloc, Parsed::of(alloc, text)?)?;
-    let target = path.clone()?;
-    let job = Job::begin(alloc, Arc::try_clone(tree)?, target, rule, parsed, limits)?;
     let own = Arc::try_clone(tree)?;
-    Ok(Stage::Ready(Work::of(own, limits, job, Facts::new(alloc))))
+    let target = path.clone()?;
+    Ok(Stage::Ready(Work::unread(own, limits, target, rule, Facts::new(alloc))))
 }
 
 /// The record of a target without a rule: the candidates that are missing.

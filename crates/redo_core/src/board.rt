@@ -1,18 +1,23 @@
-//! The board.
-ghost use Rattle.std.specs.Prelude.{◌≡◌, ◌↔◌, ◌<◌, ◌≤◌, IsTrue, IsNone, IfOk, IfErr, OnOk, OnErr, length, slice_get, Some, None};
+//! The board: which targets are ready, out, waiting or decided, and what each event makes of them.
+//!
+//! A caller opens a board, takes works and hands their pieces in, in whatever order, until the board is quiet or has stopped.
+//! Nothing here runs a script or waits: that is left to the caller, on one thread or on many.
+ghost use Rattle.std.specs.Prelude.{◌≡◌, ◌↔◌, ◌<◌, ◌≤◌, ◌+◌, ◌*◌, IsTrue, IsNone, IfOk, IfErr, OnOk, OnErr, length, slice_get, Some, None};
 ghost use Rattle.std.specs.Arc.{arc_value};
-ghost use Rattle.redo_core.specs.Views.{ready_count, jobs_out, opened, after, rules_on, IsQuietBoard, Belongs, IsWorkTaken};
+ghost use Rattle.redo_core.specs.Views.{ready_count, jobs_out, opened, after, rules_on, IsQuietBoard, Belongs, IsFor, IsWorkTaken};
 ghost use Rattle.redo_core.specs.Outcomes.{IsTooMany};
 ghost use Rattle.redo_core.specs.Build.{rules_of};
 ghost use Rattle.redo_core.specs.Schedule.{Event, IsOutAt, IsOpen};
 ghost use Rattle.redo_core.specs.Schedule.Event.{Take, Hand_in};
 ghost use Rattle.redo_core.specs.Faults.{Refused};
 ghost use Rattle.redo_core.specs.Reports.{IsReport};
+ghost use Rattle.redo_core.specs.TakesLeft.{takes_left};
 ghost use Rattle.redo_core.specs.Theorems.{IsPartOfBuild, ShowsBuild};
 
 use crate::finish::report_of;
 use crate::moves::{copied, first_table, take_in};
 use crate::report::Report;
+use crate::same::{are_same_paths, is_same_tree};
 use crate::table::{Stage, Table, out_at};
 use crate::work::{Piece, Work};
 use redo_path::Path;
@@ -22,9 +27,10 @@ use std::alloc::{AllocError, AllocFailed, Global};
 use std::marker::Model;
 use std::mem;
 use std::sync::Arc;
+use thiserror::Error;
 
 /// Why a board has stopped.
-#[derive(Clone, Copy, PartialEq, Eq)]
+#[derive(Clone, Copy, Debug, PartialEq, Eq)]
 pub enum Stop {
     /// More targets are needed than the limit allows.
     TooMany,
@@ -52,7 +58,9 @@ impl<T: Drop> From<AllocFailed<T>> for Stop {
     }
 }
 
-/// The entries of a build, and what may happen to them next.
+/// The entries of a build, and what may happen to them next. In a contract it is its tree, request and limits, the state of
+/// its entries, and why it has stopped. Whatever value of this type there is, its state is one that some run of takes and
+/// hand-ins led to, so what is proved of runs holds for it wherever it comes from.
 #[derive(Drop)]
 pub struct Board {
     alloc: Global,
@@ -83,17 +91,24 @@ impl Model for Board {
 }
 
 /// Why no board was opened.
-#[derive(Drop)]
+#[derive(Clone, Copy, Debug, PartialEq, Eq, Error)]
 pub enum OpenFault {
+    /// More targets are requested than the limit allows.
+    #[error("more targets are needed than the limit allows")]
     TooMany,
+    /// A growth was refused.
+    #[error("out of memory")]
     Memory,
 }
 
 /// Why a piece was not taken in.
 #[derive(Drop)]
 pub enum HandFault {
+    /// The piece's target isn't out at its turn. The piece comes back, and the board is as it was.
     Stranger(Piece),
+    /// More targets are needed than the limit allows. The board has stopped.
     TooMany,
+    /// A growth was refused. The board has stopped.
     Memory,
 }
 
@@ -144,6 +159,8 @@ impl Board {
         ensures ok { IfOk result (λ b. b ≡ opened (arc_value tree) request.now limits) }
         ensures within { IfOk result (λ b. length b.state.entries ≤ limits.0) }
         ensures part { IfOk result (λ b. IsPartOfBuild (rules_on b) b.request b.limits.0 b.state) }
+        ensures none_out { IfOk result (λ b. jobs_out b ≡ 0) }
+        ensures left { IfOk result (λ b. takes_left b.limits.0 b.state ≤ b.limits.0 * b.limits.0) }
         ensures too_many { result ≡ Err OpenFault.TooMany → IsTooMany (rules_of (arc_value tree) limits) request.now limits.0 }
     {
         let request = copied(alloc, request)?;
@@ -158,7 +175,7 @@ impl Board {
         })
     }
 
-    /// How many targets may be taken.
+    /// How many targets may be taken; 0 once the board has stopped. With redo -j, as many as there are free workers are taken.
     pub fn ready(&self) -> usize
         ensures { result ≡ ready_count self.now }
     {
@@ -169,7 +186,7 @@ impl Board {
         }
     }
 
-    /// Why the board has stopped, if it has.
+    /// Why the board has stopped, if it has. A board that has stopped has no report.
     pub fn stopped(&self) -> Option<Stop>
         ensures value { result ≡ self.now.stopped }
         ensures too_many { result ≡ Some Stop.TooMany → IsTooMany (rules_on self.now) self.now.request self.now.limits.0 }
@@ -177,7 +194,7 @@ impl Board {
         self.stopped
     }
 
-    /// A target that may be taken.
+    /// A target that may be taken, by its place in the queue, counted from 0.
     pub fn ready_at(&self, which: usize) -> &Path
         requires { which < ready_count self.now }
         ensures { slice_get self.now.state.ready which ≡ Some result.now }
@@ -192,6 +209,9 @@ impl Board {
         ensures ok { OnOk result (self.new ≡ after self.old (Take which)) }
         ensures work { IfOk result (IsWorkTaken self.old which) }
         ensures turn { IfOk result (λ w. w.turn < self.old.limits.0) }
+        ensures is_out { IfOk result (λ w. IsOutAt self.new.state w.target w.turn) }
+        ensures one_more { OnOk result (jobs_out self.new ≡ jobs_out self.old + 1) }
+        ensures left { OnOk result (takes_left self.new.limits.0 self.new.state < takes_left self.old.limits.0 self.old.state) }
         ensures part { OnOk result (IsPartOfBuild (rules_on self.new) self.new.request self.new.limits.0 self.new.state) }
         ensures err { OnErr result (self.new ≡ self.old) }
     {
@@ -213,6 +233,8 @@ impl Board {
         ensures open { OnOk result (IsOpen self.old.state (Hand_in piece.target piece.turn)) }
         ensures ok { OnOk result (self.new ≡ after self.old (Hand_in piece.target piece.turn)) }
         ensures within { OnOk result (length self.new.state.entries ≤ self.new.limits.0) }
+        ensures one_fewer { OnOk result (jobs_out self.new + 1 ≡ jobs_out self.old) }
+        ensures left { OnOk result (takes_left self.new.limits.0 self.new.state ≤ takes_left self.old.limits.0 self.old.state) }
         ensures part { OnOk result (IsPartOfBuild (rules_on self.new) self.new.request self.new.limits.0 self.new.state) }
         ensures err { IfErr result (Refused self.old self.new piece) }
     {
@@ -238,7 +260,7 @@ impl Board {
         }
     }
 
-    /// How many jobs are out.
+    /// How many jobs are out: taken, and not handed in yet; 0 once the board has stopped.
     pub fn out(&self) -> usize
         ensures { result ≡ jobs_out self.now }
     {
@@ -249,7 +271,8 @@ impl Board {
         }
     }
 
-    /// Whether nothing more can happen.
+    /// Whether nothing more can happen: nothing is ready, nothing is out, and the board hasn't stopped. It is the test for
+    /// `finish`.
     pub fn quiet(&self) -> bool
         ensures quiet { IsTrue result ↔ IsQuietBoard self.now }
         ensures shows { IsTrue result → ShowsBuild (rules_on self.now) self.now.request self.now.limits.0 self.now.state }
@@ -257,11 +280,33 @@ impl Board {
         self.stopped.is_none() && self.ready() == 0 && self.out() == 0
     }
 
-    /// What the build came to. What still waits is cyclic.
+    /// What the build came to, of a quiet board alone: only then it is sure that a target that still waits never ends, and so
+    /// is cyclic. As with redo -k, a target that failed doesn't keep the others from being built. On want of memory the board
+    /// is lost.
     pub fn finish(self) -> Result<Report, AllocError>
         requires { IsQuietBoard self }
         ensures { IfOk result (IsReport (rules_on self) self.request self.limits.0) }
     {
         report_of(self.alloc, &self.tree, &self.request, &self.table)
+    }
+
+    /// Whether a piece is of the board's tree and limits, as `hand_in` asks. It compares by value, in the time of the tree's
+    /// bytes. It is for a piece of which nothing but its type is known. A runner that knows which work its piece came from
+    /// needs no test, nor does a parallel one whose messages say so by their own type.
+    pub fn belongs(&self, piece: &Piece) -> bool
+        ensures { IsTrue result ↔ Belongs self.now piece.now }
+    {
+        piece.is_of(&self.tree, self.limits)
+    }
+
+    /// Whether the board is that of this tree, request and limits, and so its report is theirs. It compares by value, in the
+    /// time of the tree's bytes. It is for a board that is known by its type alone, as one that a lock gave; who opened the
+    /// board, or keeps it under an invariant that says so, needs no test.
+    pub fn is_for(&self, tree: &Tree, request: &[Path], limits: Limits) -> bool
+        ensures { IsTrue result ↔ IsFor self.now tree.now request.now limits }
+    {
+        self.limits == limits
+            && are_same_paths(&self.request, request)
+            && is_same_tree(&self.tree, tree)
     }
 }

@@ -1,8 +1,7 @@
-//! Decided targets.
-ghost use Rattle.std.specs.Prelude.{◌≡◌, false, Some};
+//! Decided targets, each with what became of it.
+ghost use Rattle.std.specs.Prelude.{◌≡◌};
 ghost use Rattle.std.specs.Arc.{arc_value};
 ghost use Rattle.redo_core.specs.Build.{rules_of};
-ghost use Rattle.redo_core.specs.Schedule.{nothing_known};
 ghost use Rattle.redo_core.specs.Turns.{IsFact};
 
 use redo_path::Path;
@@ -19,6 +18,7 @@ pub struct Fact {
     target: Path,
     outcome: Outcome,
     deps: Arc<Deps>,
+    ruled: bool,
 }
 
 impl Model for Fact {
@@ -27,12 +27,16 @@ impl Model for Fact {
 
     ghost Value = { FactView };
 
+    ghost use Rattle.std.specs.Prelude.{◌≡◌};
     ghost use Rattle.redo_core.specs.Turns.{IsFact};
     ghost use Rattle.redo_core.specs.Build.{rules_of};
 
     ghost view = { λ f. record { tree = arc_value f.tree; limits = f.limits; target = f.target; outcome = f.outcome; deps = arc_value f.deps } };
 
-    ghost invariant = { λ f. IsFact (rules_of (arc_value f.tree) f.limits) f.target f.outcome (arc_value f.deps) };
+    ghost invariant = { λ f. record {
+      is_fact : IsFact (rules_of (arc_value f.tree) f.limits) f.target f.outcome (arc_value f.deps);
+      is_ruled : f.ruled ≡ (rules_of (arc_value f.tree) f.limits).has_rule f.target;
+    } };
 }
 
 impl Fact {
@@ -43,8 +47,10 @@ impl Fact {
         target: Path,
         outcome: Outcome,
         deps: Arc<Deps>,
+        ruled: bool,
     ) -> Fact
-        requires { IsFact (rules_of (arc_value tree) limits) target outcome (arc_value deps) }
+        requires fact { IsFact (rules_of (arc_value tree) limits) target outcome (arc_value deps) }
+        requires ruled { ruled ≡ (rules_of (arc_value tree) limits).has_rule target }
         ensures { result ≡ record { tree = arc_value tree; limits = limits; target = target; outcome = outcome; deps = arc_value deps } }
     {
         Fact {
@@ -53,27 +59,7 @@ impl Fact {
             target,
             outcome,
             deps,
-        }
-    }
-
-    /// What a target without a rule comes to.
-    pub(crate) fn unruled(
-        tree: Arc<Tree>,
-        limits: Limits,
-        target: Path,
-        outcome: Outcome,
-        deps: Arc<Deps>,
-    ) -> Fact
-        requires unruled { (rules_of (arc_value tree) limits).has_rule target ≡ false }
-        requires progress { (rules_of (arc_value tree) limits).progress target nothing_known ≡ record { outcome = Some outcome; deps = arc_value deps } }
-        ensures { result ≡ record { tree = arc_value tree; limits = limits; target = target; outcome = outcome; deps = arc_value deps } }
-    {
-        Fact {
-            tree,
-            limits,
-            target,
-            outcome,
-            deps,
+            ruled,
         }
     }
 
@@ -84,17 +70,24 @@ impl Fact {
         &self.target
     }
 
-    /// What became of it.
+    /// What became of it, as its askers are told by redo-ifchange(1).
     pub fn outcome(&self) -> &Outcome
         ensures { result.now ≡ self.now.outcome }
     {
         &self.outcome
     }
 
-    /// Its record.
+    /// Its record: what it is to be made again for, in the order of its declarations, after the search for its rule.
     pub fn deps(&self) -> &Arc<Deps>
         ensures { arc_value result.now ≡ self.now.deps }
     {
         &self.deps
+    }
+
+    /// Whether there is a rule for it, and so a script that was begun.
+    pub fn is_ruled(&self) -> bool
+        ensures { result ≡ (rules_of self.now.tree self.now.limits).has_rule self.now.target }
+    {
+        self.ruled
     }
 }

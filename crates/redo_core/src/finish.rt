@@ -3,7 +3,7 @@ ghost use Rattle.std.specs.Prelude.{◌≡◌, [], true, IfOk, OnOk, length};
 ghost use Rattle.std.specs.Arc.{arc_value};
 ghost use Rattle.redo_which.specs.Rule.{found_of};
 ghost use Rattle.redo_step.specs.Setting.{is_rule};
-ghost use Rattle.redo_core.specs.Reported.{placed, sources_among, is_settled, IsShown, IsRowOf, AllSettled, AddsRow, IsReportOf};
+ghost use Rattle.redo_core.specs.Reported.{placed, sources_among, is_settled, IsShown, IsBegunAs, IsRowOf, AllSettled, AllTold, AddsRow, IsReportOf};
 
 use crate::report::{Report, Row};
 use crate::table::{Stage, Table};
@@ -25,6 +25,7 @@ pub(crate) fn report_of(
 ) -> Result<Report, AllocError>
     requires one_each { length table.now.slots.items ≡ length table.now.targets.keys }
     requires settled { AllSettled table.now }
+    requires told { AllTold tree.now table.now }
     ensures { IfOk result (IsReportOf tree.now request.now table.now) }
 {
     let mut paths = in_order(alloc, table.targets.as_slice())?;
@@ -35,8 +36,8 @@ pub(crate) fn report_of(
         begun: Vec::new(alloc),
     };
     for path in paths {
-        let row = row_of(alloc, table, path)?;
-        add_row(alloc, tree, row, &mut report)?;
+        let (row, begun) = row_of(alloc, tree, table, path)?;
+        add_row(row, begun, &mut report)?;
     }
     Ok(report)
 }
@@ -64,28 +65,51 @@ fn add_sources(tree: &Tree, request: &[Path], paths: &mut BTreeSet<Path>) -> Res
     Ok(())
 }
 
-/// The row of a path: that of a target of the table, else of a source.
-fn row_of(alloc: Global, table: &Table, path: Path) -> Result<Row, AllocError>
+/// The row of a path, which is a target of the table or else a source, and whether its script was begun.
+fn row_of(alloc: Global, tree: &Tree, table: &Table, path: Path) -> Result<(Row, bool), AllocError>
     requires one_each { length table.now.slots.items ≡ length table.now.targets.keys }
     requires settled { AllSettled table.now }
-    ensures row { IfOk result (IsRowOf table.now) }
-    ensures path { IfOk result (λ row. row.path ≡ path) }
+    requires told { AllTold tree.now table.now }
+    ensures row { IfOk result (λ told. IsRowOf table.now told.0) }
+    ensures path { IfOk result (λ told. told.0.path ≡ path) }
+    ensures begun { IfOk result (λ told. told.1 ≡ is_rule (found_of tree.now path)) }
 {
     let Some(at) = table.targets.get_index_of(&path) else {
+        let begun = has_rule(alloc, tree, &path)?;
         let outcome = Outcome::Source;
         let deps = Arc::new(alloc, Deps::new(alloc))?;
-        return Ok(Row {
+        return Ok((
+            Row {
+                path,
+                outcome,
+                deps,
+            },
+            begun,
+        ));
+    };
+    let stage = &table.slots[at].stage;
+    let (outcome, deps) = came_to(alloc, stage)?;
+    let begun = was_begun(stage);
+    Ok((
+        Row {
             path,
             outcome,
             deps,
-        });
-    };
-    let (outcome, deps) = came_to(alloc, &table.slots[at].stage)?;
-    Ok(Row {
-        path,
-        outcome,
-        deps,
-    })
+        },
+        begun,
+    ))
+}
+
+/// Whether the script of a target was begun, where it waits or is decided.
+fn was_begun(stage: &Stage) -> bool
+    requires { is_settled stage.now ≡ true }
+    ensures { IsBegunAs stage.now result }
+{
+    match stage {
+        Stage::Decided(fact) => fact.is_ruled(),
+        Stage::Waiting(_) => true,
+        Stage::Ready(_) | Stage::Out => unreachable!(),
+    }
 }
 
 /// What a target came to, and its record.
@@ -113,14 +137,14 @@ fn copied(outcome: &Outcome) -> Result<Outcome, AllocError>
     }
 }
 
-/// Adds a row, with its file if it was built with one, and its path if its script began.
-fn add_row(alloc: Global, tree: &Tree, row: Row, report: &mut Report) -> Result<(), AllocError>
-    ensures { OnOk result (AddsRow tree.now row report.old report.new) }
+/// Adds a row, with its file if it was built with one, and its path if its script was begun.
+fn add_row(row: Row, begun: bool, report: &mut Report) -> Result<(), AllocError>
+    ensures { OnOk result (AddsRow row begun report.old report.new) }
 {
     if let Outcome::Built(Some(content)) = &row.outcome {
         report.files.push((row.path.clone()?, content.clone()?))?;
     }
-    if has_rule(alloc, tree, &row.path)? {
+    if begun {
         report.begun.push(row.path.clone()?)?;
     }
     report.rows.push(row)?;

@@ -3,11 +3,12 @@
 //! The definitions say what a build is: what becomes of each target under the outcomes of the targets that it asks for, by a
 //! recursion on a depth that stands still once every needed target is decided. The board holds the entries of a running
 //! build; whatever order its works are taken and handed in, it shows a part of that one build, and all of it once it is
-//! quiet. Targets that still wait then are cyclic. The crate stands on `redo_step` for what a script does, and on `redo_which`
-//! and `redo_tree` for rules and sources.
+//! quiet. Targets that still wait then are cyclic. The crate stands on `redo_step` for what a script does, on `redo_which` and
+//! `redo_tree` for rules and sources, on `redo_path` and `redo_script` for what a report spells, and on `indexmap`, which
+//! numbers targets by first sight. It starts no thread and runs nothing by itself: a layer above takes, advances and hands in.
 //!
 //! - `laws`: what holds of every build and every order, as contracts of functions that do nothing.
-//! - `board`: the board; `table`, `moves` and `begin` are its inside.
+//! - `board`: the board; `table`, `moves` and `begin` are its inside, and `same` compares by value.
 //! - `work`, `facts`, `fact`: a job on its way to a worker and back, and the decided targets that it knows.
 //! - `finish`, `report`, `report_text`: what a build came to, and its text.
 #![tactic(auto)]
@@ -19,9 +20,11 @@ mod facts;
 mod finish;
 pub mod laws;
 mod moves;
+mod reading;
 pub mod report;
-#[cfg(test)]
-mod report_tests;
 pub mod report_text;
+mod same;
 mod table;
+#[cfg(test)]
+mod tests;
 pub mod work;

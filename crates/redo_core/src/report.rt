@@ -1,4 +1,4 @@
-//! What a build came to.
+//! What a build came to, as data: rows, files and begun scripts.
 use redo_path::Path;
 use redo_step::{Deps, Outcome};
 use redo_tree::Content;
@@ -9,13 +9,17 @@ use std::sync::Arc;
 pub struct Row {
     pub path: Path,
     pub outcome: Outcome,
+    /// The record, also of a target that failed or is cyclic; a source has none.
     pub deps: Arc<Deps>,
 }
 
 /// What a build came to, each list in path order.
 #[derive(Drop)]
 pub struct Report {
+    /// The needed targets, which are all that was asked for and is no source, and the requested sources.
     pub rows: Vec<Row>,
+    /// The targets that were built with a file, and its bytes.
     pub files: Vec<(Path, Content)>,
+    /// The targets that have a rule, and so a script that was begun.
     pub begun: Vec<Path>,
 }

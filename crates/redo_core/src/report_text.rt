@@ -1,6 +1,6 @@
 //! The report of a build as text.
 ghost use Rattle.std.specs.Prelude.{◌≡◌, ◌++◌, ◌∷◌, IfOk, OnOk, decimal, flat_map};
-ghost use Rattle.redo_core.specs.ReportText.{begun_line, dep_line, file_text, outcome_words, path_line, reason_word, report_text, row_text, why_words, word_at};
+ghost use Rattle.redo_core.specs.ReportText.{begun_line, dep_line, file_text, outcome_words, path_line, reason_word, lines_text, report_text, row_text, why_words, word_at};
 
 use crate::report::{Report, Row};
 use redo_path::Path;
@@ -14,12 +14,21 @@ use std::alloc::{AllocError, Global};
 pub fn report_text(alloc: Global, report: &Report, with_files: bool) -> Result<Vec<u8>, AllocError>
     ensures { IfOk result (λ text. text.items ≡ report_text report.now with_files) }
 {
-    let mut text = rows_text(alloc, &report.rows)?;
-    push_begun(&mut text, &report.begun)?;
+    let mut text = report_lines(alloc, report)?;
     if with_files {
         push_files(alloc, &mut text, &report.files)?;
     }
     text.extend_from_slice(b"end\n")?;
+    Ok(text)
+}
+
+/// The lines of a report that stand before the files: the rows with their records, and the scripts that were begun. It
+/// serves who writes the files' bytes from where they are.
+pub fn report_lines(alloc: Global, report: &Report) -> Result<Vec<u8>, AllocError>
+    ensures { IfOk result (λ text. text.items ≡ lines_text report.now) }
+{
+    let mut text = rows_text(alloc, &report.rows)?;
+    push_begun(&mut text, &report.begun)?;
     Ok(text)
 }
 

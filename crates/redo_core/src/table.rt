@@ -62,6 +62,7 @@ pub(crate) fn find(targets: &IndexSet<Path>, path: &Path) -> Option<usize>
 }
 
 /// Whether an entry of a record is waited for.
+// Here and in the functions on operands below, `limits` is for the contract, whose rules are those of a tree under its limits.
 pub(crate) fn is_operand(tree: &Tree, limits: Limits, dep: &Dep) -> bool
     ensures { IsTrue result ↔ IsOperand (rules_of tree.now limits) dep.now dep.now.path }
 {

@@ -1,27 +1,41 @@
 //! Jobs on their way to a worker and back.
-ghost use Rattle.std.specs.Prelude.{◌≡◌, ◌↔◌, [], Some, None, is_some, IfOk};
+ghost use Rattle.std.specs.Prelude.{◌≡◌, ◌↔◌, [], Some, None, is_some, IfOk, IsTrue};
 ghost use Rattle.std.specs.Arc.{arc_value};
 ghost use Rattle.redo_core.specs.Lacking.{lacking_under};
 ghost use Rattle.redo_core.specs.Build.{rules_of};
-ghost use Rattle.redo_core.specs.Works.{IsWorkWith, job_deps, known_in, told_by};
+ghost use Rattle.redo_core.specs.Works.{IsWorkWith, job_deps, known_in, told_by, told_in};
+ghost use Rattle.redo_which.specs.Rule.{Rule as IsRule, found_of};
+ghost use Rattle.redo_which.specs.Views.{arguments_view};
 ghost use Rattle.redo_core.specs.Ends.{IsEndAt};
 
 use crate::fact::Fact;
 use crate::facts::Facts;
+use crate::reading::begun;
+use crate::same::is_same_tree;
 use redo_path::Path;
 use redo_step::{Job, Limits, Step};
 use redo_tree::Tree;
+use redo_which::Rule;
 use std::alloc::AllocError;
 use std::marker::Model;
 use std::sync::Arc;
 
-/// A job with the outcomes of all that it asked for.
+/// A job with the outcomes of all that it asked for. It is moved and never cloned, so each stretch of a script runs once, and
+/// it needs no board to be advanced: another thread may do so.
+/// The script is read when it is first advanced.
 #[derive(Drop)]
 pub struct Work {
     tree: Arc<Tree>,
     limits: Limits,
-    job: Job,
+    script: Script,
     facts: Facts,
+}
+
+/// A target's script: not read yet, with the rule that names it, or begun.
+#[derive(Drop)]
+pub(crate) enum Script {
+    Unread(Path, Rule),
+    Begun(Job),
 }
 
 impl Model for Work {
@@ -30,14 +44,22 @@ impl Model for Work {
 
     ghost Value = { WorkView };
 
-    ghost use Rattle.redo_core.specs.Works.{IsWorkWith, job_deps, known_in};
+    ghost use Rattle.redo_core.specs.Works.{known_in};
+    ghost use Rattle.redo_core.specs.Scripts.{IsScriptWith, script_target, script_turn, script_deps};
 
-    ghost view = { λ w. record { tree = arc_value w.tree; limits = w.limits; target = w.job.target; turn = w.job.turn; deps = job_deps w.job; known = known_in w.facts } };
+    ghost view = { λ w. record {
+      tree = arc_value w.tree;
+      limits = w.limits;
+      target = script_target w.script;
+      turn = script_turn w.script;
+      deps = script_deps w.script;
+      known = known_in w.facts;
+    } };
 
-    ghost invariant = { λ w. IsWorkWith (arc_value w.tree) w.limits w.job w.facts };
+    ghost invariant = { λ w. IsScriptWith (arc_value w.tree) w.limits w.script w.facts };
 }
 
-/// How far a job came.
+/// How far a job came, for the board to take in. It is made by `Work::advance` alone.
 #[derive(Drop)]
 pub struct Piece {
     tree: Arc<Tree>,
@@ -68,6 +90,27 @@ impl Model for Piece {
 }
 
 impl Work {
+    /// A target whose script wasn't read yet, with the rule that the search finds for it.
+    pub(crate) fn unread(
+        tree: Arc<Tree>,
+        limits: Limits,
+        target: Path,
+        rule: Rule,
+        facts: Facts,
+    ) -> Work
+        requires found { found_of (arc_value tree) target ≡ IsRule rule.do_file rule.missing.items (arguments_view rule.args) }
+        requires none_known { known_in facts ≡ [] }
+        requires none_gained { facts.gained ≡ 0 }
+        ensures { result ≡ record { tree = arc_value tree; limits = limits; target = target; turn = 0; deps = []; known = [] } }
+    {
+        Work {
+            tree,
+            limits,
+            script: Script::Unread(target, rule),
+            facts,
+        }
+    }
+
     /// A job with the facts of all that it asked for.
     pub(crate) fn of(tree: Arc<Tree>, limits: Limits, job: Job, facts: Facts) -> Work
         requires { IsWorkWith (arc_value tree) limits job facts }
@@ -76,7 +119,7 @@ impl Work {
         Work {
             tree,
             limits,
-            job,
+            script: Script::Begun(job),
             facts,
         }
     }
@@ -85,18 +128,24 @@ impl Work {
     pub fn target(&self) -> &Path
         ensures { result.now ≡ self.now.target }
     {
-        self.job.target()
+        match &self.script {
+            Script::Unread(target, _) => target,
+            Script::Begun(job) => job.target(),
+        }
     }
 
-    /// How often the script has stopped.
+    /// How often the script has stopped: at turn 0 it is about to begin.
     pub fn turn(&self) -> u64
         ensures { result ≡ self.now.turn }
     {
-        self.job.turn()
+        match &self.script {
+            Script::Unread(_, _) => 0,
+            Script::Begun(job) => job.turn(),
+        }
     }
 
     /// Advances the script as far as the outcomes that the work holds allow: to its end, or to the first statement that
-    /// asks for more.
+    /// asks for more, as redo-ifchange(1) waits for all of its operands. On want of memory the work is lost.
     pub fn advance(self) -> Result<Piece, AllocError>
         ensures place { IfOk result (λ p. (p.tree ≡ self.tree) × (p.limits ≡ self.limits) × (p.target ≡ self.target) × (p.turn ≡ self.turn)) }
         ensures progress { IfOk result (λ p. p.progress ≡ (rules_of self.tree self.limits).progress self.target (told_by self.known)) }
@@ -105,29 +154,45 @@ impl Work {
         let Work {
             tree,
             limits,
-            job,
+            script,
             facts,
         } = self;
-        let alloc = *facts.by_target.allocator();
-        let turn = job.turn();
-        let target = job.target().clone()?;
-        let end = match job.advance(&facts)? {
-            Step::Ended(done) => {
-                let own = Arc::try_clone(&tree)?;
-                let path = target.clone()?;
-                let deps = Arc::new(alloc, done.deps)?;
-                End::Ended(Fact::of(own, limits, path, done.outcome, deps))
+        match script {
+            Script::Unread(target, rule) => {
+                let job = begun(*facts.by_target.allocator(), &tree, limits, target, rule)?;
+                advance_job(tree, limits, job, facts)
             }
-            Step::Asks { job, paths: _paths } => End::Stopped(job, facts),
-        };
-        Ok(Piece {
-            tree,
-            limits,
-            target,
-            turn,
-            end,
-        })
+            Script::Begun(job) => advance_job(tree, limits, job, facts),
+        }
     }
+}
+
+/// Advances a job with the facts of all that it asked for.
+fn advance_job(tree: Arc<Tree>, limits: Limits, job: Job, facts: Facts) -> Result<Piece, AllocError>
+    requires { IsWorkWith (arc_value tree) limits job facts }
+    ensures place { IfOk result (λ p. (p.tree ≡ arc_value tree) × (p.limits ≡ limits) × (p.target ≡ job.target) × (p.turn ≡ job.turn)) }
+    ensures progress { IfOk result (λ p. p.progress ≡ (rules_of (arc_value tree) limits).progress job.target (told_in facts)) }
+    ensures ended { IfOk result (λ p. (p.progress.outcome ≡ None → ⊥) ↔ (lacking_under (rules_of (arc_value tree) limits) job.target (told_in facts) ≡ [])) }
+{
+    let alloc = *facts.by_target.allocator();
+    let turn = job.turn();
+    let target = job.target().clone()?;
+    let end = match job.advance(&facts)? {
+        Step::Ended(done) => {
+            let own = Arc::try_clone(&tree)?;
+            let path = target.clone()?;
+            let deps = Arc::new(alloc, done.deps)?;
+            End::Ended(Fact::of(own, limits, path, done.outcome, deps, true))
+        }
+        Step::Asks { job, paths: _paths } => End::Stopped(job, facts),
+    };
+    Ok(Piece {
+        tree,
+        limits,
+        target,
+        turn,
+        end,
+    })
 }
 
 impl Piece {
@@ -145,6 +210,13 @@ impl Piece {
         self.turn
     }
 
+    /// Whether the piece is of this tree and these limits.
+    pub(crate) fn is_of(&self, tree: &Tree, limits: Limits) -> bool
+        ensures { IsTrue result ↔ ((self.now.tree ≡ tree.now) × (self.now.limits ≡ limits)) }
+    {
+        self.limits == limits && is_same_tree(&self.tree, tree)
+    }
+
     /// How the script came to stand.
     pub(crate) fn into_end(self) -> End
         ensures { IsEndAt self.tree self.limits self.target self.turn result }
@@ -152,7 +224,7 @@ impl Piece {
         self.end
     }
 
-    /// Whether the script ended.
+    /// Whether the script ended, whatever with; else its target waits.
     pub fn ended(&self) -> bool
         ensures { result ≡ is_some self.now.progress.outcome }
     {

@@ -1,2 +1,5 @@
-pub mod Progressed
+pub mod Exiting
+pub mod Refusals
+pub mod Texts
 pub mod Told
+mod Crossing

@@ -1,8 +1,8 @@
 -- Faults of the parts of a run, as those of the run.
 use Rattle.redo_tree.specs.declared.faults.BundleFault.{BundleFault}
 use Rattle.redo_tree.specs.declared.faults.BundleFault.TheVariants as bundle
-use Rattle.redo_run.specs.declared.build.BuildFault.{BuildFault}
-use Rattle.redo_run.specs.declared.build.BuildFault.TheVariants as build
+use Rattle.redo_run.specs.declared.run_fault.RunFault.{RunFault}
+use Rattle.redo_run.specs.declared.run_fault.RunFault.TheVariants as build
 use Rattle.redo_run.specs.declared.fault.RunIoFault.{RunIoFault}
 use Rattle.redo_run.specs.declared.fault.RunIoFault.TheVariants as run
 
@@ -11,7 +11,6 @@ abbrev pub of_bundle : BundleFault → RunIoFault
 of_bundle bundle.Memory = run.Memory
 of_bundle fault = run.Bundle fault
 
-abbrev pub of_build : BuildFault → RunIoFault
+abbrev pub of_build : RunFault → RunIoFault
 of_build build.TooMany = run.TooMany
-of_build build.Asks = run.Asks
 of_build build.Memory = run.Memory

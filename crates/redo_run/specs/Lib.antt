@@ -1,4 +1,9 @@
-pub mod Build
+pub mod Candidates
+pub mod DirFaults
+pub mod Directories
+pub mod Exits
 pub mod Faults
-pub mod Report
+pub mod Pieces
+pub mod RunFaults
 pub mod Runs
+pub mod Workers

@@ -1,18 +1,20 @@
 -- What a run over a bundle leaves on its writer.
-use Rattle.std.specs.Prelude.{◌≡◌, ◌≤◌, ◌↔◌, ◌++◌, ◌∷◌, [], ℕ, Bool, IsTrue, IsSome, List, Option, Result, Ok, Err, codes, length, option_map}
+use Rattle.std.specs.Prelude.{◌≡◌, ◌↔◌, ◌++◌, ◌∷◌, [], ℕ, Bool, true, IsTrue, IsSome, List, Option, Result, Ok, Err, codes}
 use Rattle.std.specs.Io.KnownBytes.{Appends}
+use Rattle.redo_core.specs.Build.{rules_of}
+use Rattle.redo_core.specs.Outcomes.{IsTooMany}
+use Rattle.redo_core.specs.Reports.{IsReport}
+use Rattle.redo_core.specs.ReportText.{report_text}
+use Rattle.redo_core.specs.declared.report.Report.{Report}
 use Rattle.redo_tree.specs.Bundle.{IsBundle, Reads}
 use Rattle.redo_tree.specs.Tree.{Tree}
 use Rattle.redo_which.specs.Rule.{chosen_of}
-use Rattle.redo_which.specs.Views.{place_of}
-use Rattle.redo_which.specs.declared.Search.{Search}
+use Rattle.redo_run.specs.declared.exit.Exit.{Exit}
 use Rattle.redo_run.specs.declared.options.Options.{Options}
 use Rattle.redo_run.specs.declared.fault.RunIoFault.{RunIoFault}
-use Rattle.redo_run.specs.declared.fault.RunIoFault.TheVariants.{Bundle, TooMany, Asks, Device, Memory}
-use Rattle.redo_run.specs.declared.report.Exit.{Exit}
-use Rattle.redo_run.specs.declared.report.Report.{Report}
-use Rattle.redo_run.specs.Build.{AsksForMore, IsTooMany, needed}
-use Rattle.redo_run.specs.Report.{IsReport, candidate_text, exit_of, list_text, report_text}
+use Rattle.redo_run.specs.declared.fault.RunIoFault.TheVariants.{Bundle, TooMany, Device, Memory}
+use Rattle.redo_run.specs.Candidates.{candidate_text}
+use Rattle.redo_run.specs.Exits.{IsExit}
 
 -- `all`, where no target is given
 abbrev pub request_of : List (List ℕ) → List (List ℕ)
@@ -22,33 +24,32 @@ request_of (target ∷ targets) = target ∷ targets
 abbrev pub request_in : Options → List (List ℕ)
 request_in options = request_of options.targets.items
 
+-- the report of the build of a tree, as the options want it
+abbrev pub IsReportFor : Options → Tree → Report → Type 0
+IsReportFor options tree report = IsReport (rules_of tree options.limits) (request_in options) options.limits.0 report
+
 -- the text is a bundle of a tree, and the writer took the report of its build, and nothing else
 pub record Reports (options : Options) (text : List ℕ) (old new : Option (List ℕ)) (exit : Exit) : Type 0 where
   pub tree : Tree
   pub bundle : IsBundle text tree
-  pub within : length (needed tree (request_in options)) ≤ options.limits.0
   pub report : Report
-  pub is : IsReport tree options.limits (request_in options) report
-  pub written : Appends old new (report_text report)
-  pub good : exit ≡ exit_of report.rows.items
+  pub is : IsReportFor options tree report
+  pub written : Appends old new (report_text report true)
+  pub good : IsExit (rules_of tree options.limits) options.limits.0 (request_in options) exit
 
 -- the text is a bundle of a tree that needs too many targets
 abbrev pub NeedsTooMany : Options → List ℕ → Type 0
-NeedsTooMany options text = (tree : Tree) × IsBundle text tree × IsTooMany tree options.limits (request_in options)
-
--- the text is a bundle of a tree, and the script of a target asks for another one
-abbrev pub AsksInVain : Options → List ℕ → Type 0
-AsksInVain options text = (tree : Tree) × IsBundle text tree × AsksForMore tree options.limits (request_in options)
+NeedsTooMany options text = (tree : Tree) × IsBundle text tree × IsTooMany (rules_of tree options.limits) (request_in options) options.limits.0
 
 -- the text is a bundle of a tree, and the writer took a beginning of the report of its build
 pub record BreaksOff (options : Options) (text : List ℕ) (old new : Option (List ℕ)) : Type 0 where
   pub tree : Tree
   pub bundle : IsBundle text tree
   pub report : Report
-  pub is : IsReport tree options.limits (request_in options) report
+  pub is : IsReportFor options tree report
   pub out : List ℕ
   pub more : List ℕ
-  pub begins : report_text report ≡ out ++ more
+  pub begins : report_text report true ≡ out ++ more
   pub written : Appends old new out
 
 -- whether a call fell to a fault of the text, of the targets or of the writer
@@ -56,7 +57,6 @@ abbrev pub Explains : {A : Type 0} → Options → List ℕ → Option (List ℕ
 Explains options text old new (Ok x) = Unit {0}
 Explains options text old new (Err (Bundle fault)) = Reads (Err fault) text
 Explains options text old new (Err TooMany) = NeedsTooMany options text
-Explains options text old new (Err Asks) = AsksInVain options text
 Explains options text old new (Err Device) = BreaksOff options text old new
 Explains options text old new (Err Memory) = Unit {0}
 
@@ -65,13 +65,8 @@ abbrev pub IsUntouched : {A W : Type 0} → Result A RunIoFault → W → W → 
 IsUntouched (Ok x) old new = Unit {0}
 IsUntouched (Err (Bundle fault)) old new = new ≡ old
 IsUntouched (Err TooMany) old new = new ≡ old
-IsUntouched (Err Asks) old new = new ≡ old
 IsUntouched (Err Device) old new = Unit {0}
 IsUntouched (Err Memory) old new = new ≡ old
-
--- the candidates that a search looked at, one a line
-abbrev pub search_text : Search → List ℕ
-search_text found = list_text found.missing.items (option_map place_of found.chosen)
 
 -- the text is a bundle of a tree, and the writer took the list of the target's candidates, and nothing else
 pub record Lists (target text : List ℕ) (old new : Option (List ℕ)) (found : Bool) : Type 0 where
@@ -85,7 +80,6 @@ abbrev pub ExplainsList : {A : Type 0} → List ℕ → List ℕ → Option (Lis
 ExplainsList target text old new (Ok x) = Unit {0}
 ExplainsList target text old new (Err (Bundle fault)) = Reads (Err fault) text
 ExplainsList target text old new (Err TooMany) = ⊥
-ExplainsList target text old new (Err Asks) = ⊥
 ExplainsList target text old new (Err Device) =
     (tree : Tree) × IsBundle text tree × (out more : List ℕ) × (candidate_text tree target ≡ out ++ more) × Appends old new out
 ExplainsList target text old new (Err Memory) = Unit {0}

@@ -2,7 +2,7 @@
 
 ghost use Rattle.std.specs.Prelude.{◌≡◌};
 
-use crate::build::BuildFault;
+use crate::RunFault;
 use redo_tree::{Broken, BundleFault};
 use std::alloc::{AllocError, AllocFailed};
 use thiserror::Error;
@@ -14,9 +14,6 @@ pub enum RunIoFault {
     Bundle(BundleFault),
     #[error("more targets are needed than the limit allows")]
     TooMany,
-    /// A script asks for another target, which isn't served yet.
-    #[error("a script asks for another target")]
-    Asks,
     #[error("the writer failed")]
     Device,
     #[error("out of memory")]
@@ -67,16 +64,15 @@ impl From<BundleFault> for RunIoFault {
     }
 }
 
-impl From<BuildFault> for RunIoFault {
+impl From<RunFault> for RunIoFault {
     ghost use Rattle.redo_run.specs.Faults.{of_build};
 
     ghost from_gives = { λ error fault. fault ≡ of_build error };
 
-    fn from(error: BuildFault) -> RunIoFault {
+    fn from(error: RunFault) -> RunIoFault {
         match error {
-            BuildFault::TooMany => RunIoFault::TooMany,
-            BuildFault::Asks => RunIoFault::Asks,
-            BuildFault::Memory => RunIoFault::Memory,
+            RunFault::TooMany => RunIoFault::TooMany,
+            RunFault::Memory => RunIoFault::Memory,
         }
     }
 }

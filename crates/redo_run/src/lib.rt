@@ -1,25 +1,41 @@
-//! Runs over bundles: from the bytes of a bundle to the bytes of its report.
+//! Builds from the bytes of a bundle, or a directory, to the bytes of the report, by one thread or by many.
 //!
-//! [`run_bundle`] reads a bundle to its end, builds the requested targets, and writes the report; [`whichdo_bundle`] writes
-//! where the rule of a target is looked for. The crate stands on `redo_tree` for trees and bundles, on `redo_which` for the
-//! search, and on `redo_step` for what a script does. For now no target waits for another one: a script may declare sources,
-//! and where it asks for a target the whole run is refused.
+//! [`run_bundle`] reads a bundle to its end, builds the requested targets by as many workers as the options say, and writes
+//! the report; [`whichdo_bundle`] writes where the rule of a target is looked for. [`run_dir`] and [`whichdo_dir`] do the same
+//! over a directory, into which the files that were built are stored. [`build_many`] is the build alone, and
+//! [`build_one`] the same in one thread, without a lock. The crate stands on `redo_core` for what a build is and for the
+//! board that holds it, on `redo_tree` for trees and bundles, and on `redo_which` for the search.
 //!
-//! - `build`: what becomes of each requested path.
-//! - `report`: rows, begun scripts and files, and their text.
-//! - `bundle`: the two calls; `options` and `fault`: what they take and refuse.
+//! - `one`: a build by one thread; `workers`: by many, round one board under a lock; `gate`: who is told of each job;
+//! - `run_fault`: why a build has no report; `exit`: whether all that was requested is there;
+//! - `bundle`: the two calls over bundles; `options` and `fault`: what they take and refuse; `directory` and `dir_fault`: the
+//!   same over a directory; `request`, `candidates` and `pieces`: what both share.
 #![tactic(auto)]
 
-mod build;
 mod bundle;
+mod candidates;
+mod dir_fault;
+mod directory;
+mod exit;
 mod fault;
+mod gate;
+mod one;
 mod options;
-mod report;
+mod pieces;
+mod request;
+mod run_fault;
+mod workers;
 
 pub use bundle::{run_bundle, whichdo_bundle};
+pub use dir_fault::RunDirFault;
+pub use directory::{run_dir, whichdo_dir};
+pub use exit::Exit;
 pub use fault::RunIoFault;
+pub use gate::{Gate, NoGate};
+pub use one::build_one;
 pub use options::Options;
-pub use report::{Exit, Report, Row};
+pub use run_fault::RunFault;
+pub use workers::build_many;
 
 #[cfg(test)]
 mod tests;

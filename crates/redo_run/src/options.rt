@@ -10,7 +10,7 @@ use redo_step::Limits;
 pub struct Options {
     /// The requested paths; `all` where there are none.
     pub targets: Vec<Path>,
-    /// How many scripts may run side by side, from 1 to 64. For now every number runs on one thread.
+    /// How many scripts may run side by side, from 1 to 64.
     pub workers: usize,
     pub limits: Limits,
     ghost some_workers: { 1 ≤ workers },

@@ -1,5 +1,4 @@
 pub mod Words
-pub mod ReadOn
 pub mod Rows
 mod Bits
 mod OneByte
@@ -18,3 +17,6 @@ mod ReadTokens
 mod ReadTexts
 mod StopsTokens
 mod OpenQuotes
+mod Runs
+mod Nuls
+mod QuotedRuns

@@ -75,5 +75,5 @@ script_empty (x ∷ xs) = ap is_empty (before-opened x (script_of xs)) ∙ opene
     not_zero n = ne_eqb (suc n) 0 (λ e. absurd (omega arith))
 
 -- an operand more
-pub words_push : (ws : List WordTree) (is : List ItemTree) (i : ItemTree) → words_of ws ≡ item_words (map item_of is) → words_of (ws ++ i.word ∷ []) ≡ item_words (map item_of (is ++ i ∷ []))
-words_push ws is i h = rw (map-append word_of ws (i.word ∷ []), map-append item_of is (i ∷ []), map-append {A = Item} (λ x. x.word) (map item_of is) (map item_of (i ∷ [])), h) refl
+pub words_push : (ws : List WordTree) (is : List ItemTree) (w : WordTree) (i : ItemTree) → words_of ws ≡ item_words (map item_of is) → word_of w ≡ (item_of i).word → words_of (ws ++ w ∷ []) ≡ item_words (map item_of (is ++ i ∷ []))
+words_push ws is w i h e = rw (map-append word_of ws (w ∷ []), map-append item_of is (i ∷ []), map-append {A = Item} (λ x. x.word) (map item_of is) (map item_of (i ∷ [])), h, e) refl

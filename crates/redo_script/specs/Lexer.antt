@@ -4,13 +4,14 @@ use Rattle.redo_script.specs.declared.token.Token.{Token as TokenTree}
 use Rattle.redo_script.specs.declared.token.Token.TheVariants as trees
 use Rattle.redo_script.specs.declared.lexer.Lexer.{Lexer}
 use Rattle.redo_script.specs.Syntax.{byte}
-use Rattle.redo_script.specs.View.{symbols_of, word_of}
+use Rattle.redo_script.specs.View.{symbols_of}
+use Rattle.redo_script.specs.Parser.{item_of}
 use Rattle.redo_script.specs.Tokens.{Token, word, semicolon, newline, redirect}
 use Rattle.redo_script.specs.Reading.{Reader}
 
 -- a token, with its word by its symbols
 abbrev pub token_of : TokenTree → Token
-token_of (trees.Word line is_plain w) = word line is_plain (word_of w)
+token_of (trees.Word line item) = word line (item_of item).is_plain (item_of item).word
 token_of (trees.Semicolon line) = semicolon line
 token_of (trees.Newline line) = newline line
 token_of (trees.Redirect line appends) = redirect line appends

@@ -10,3 +10,4 @@ pub mod Texts
 pub mod Lexer
 pub mod Parser
 pub mod Places
+pub mod Runs

@@ -1,8 +1,9 @@
 -- What contracts see of the reader of statements.
-use Rattle.std.specs.Prelude.{◌+◌, ℕ, ◌&&◌, nat_le, if◌then◌else◌, length, List, [], ◌∷◌, map, Option, None, option_map}
-use Rattle.redo_script.specs.Syntax.{Word}
+use Rattle.std.specs.Prelude.{true, ◌+◌, ℕ, ◌&&◌, nat_le, if◌then◌else◌, length, List, [], ◌∷◌, map, Option, None, option_map}
+use Rattle.redo_script.specs.Syntax.{byte, Word}
 use Rattle.redo_script.specs.Grammar.{at_most, digits_value}
 use Rattle.redo_script.specs.declared.item.Item.{Item as ItemTree}
+use Rattle.redo_script.specs.declared.item.Item.TheVariants as items
 use Rattle.redo_script.specs.declared.begun.Begun.{Begun as BegunTree}
 use Rattle.redo_script.specs.declared.parser.Phase.{Phase as PhaseTree}
 use Rattle.redo_script.specs.declared.parser.Phase.TheVariants as phases
@@ -14,7 +15,8 @@ use Rattle.redo_script.specs.View.{word_of, redirection_of, condition_of, script
 
 -- a word of a command, by its symbols
 abbrev pub item_of : ItemTree → Item
-item_of i = record { is_plain = i.is_plain; word = word_of i.word }
+item_of (items.Plain bytes) = record { is_plain = true; word = map byte bytes.now }
+item_of (items.Built is_plain w) = record { is_plain = is_plain; word = word_of w }
 
 -- what was read of a command
 abbrev pub begun_of : BegunTree → Begun

@@ -14,10 +14,10 @@ use std::alloc::Global;
 
 /// What was read of a command.
 #[derive(Debug, Drop)]
-pub struct Begun {
+pub struct Begun<'a> {
     line: u64,
-    name: Item,
-    items: Vec<Item>,
+    name: Item<'a>,
+    items: Vec<Item<'a>>,
     redirection: Option<Redirection>,
     /// Something stands where no form has it.
     is_ill: bool,
@@ -25,9 +25,9 @@ pub struct Begun {
     awaits: Option<bool>,
 }
 
-impl Begun {
-    pub fn new(alloc: Global, line: u64, name: Item) -> Begun
-        ensures { begun_of result ≡ begun line (item_of name) }
+impl<'a> Begun<'a> {
+    pub fn new(alloc: Global, line: u64, name: Item<'a>) -> Begun<'a>
+        ensures { begun_of result ≡ begun line (item_of name.entry) }
     {
         Begun {
             line,
@@ -39,15 +39,13 @@ impl Begun {
         }
     }
 
-    pub fn push_word(&mut self, item: Item) -> Result<(), ScriptFault>
-        ensures { Leaves begun_of self.new result (Ok (with_word (begun_of self.old) (item_of item))) }
+    pub fn push_word(&mut self, alloc: Global, item: Item<'a>) -> Result<(), ScriptFault>
+        ensures { Leaves begun_of self.new result (Ok (with_word (begun_of self.old) (item_of item.entry))) }
     {
         if let Some(appends) = self.awaits {
+            let word = item.into_word(alloc)?;
             self.awaits = None;
-            self.redirection = Some(Redirection {
-                appends,
-                word: item.word,
-            });
+            self.redirection = Some(Redirection { appends, word });
         } else if self.redirection.is_some() {
             self.is_ill = true;
         } else {
@@ -80,7 +78,7 @@ impl Begun {
 
     /// The command that ends here.
     pub fn command(self, alloc: Global) -> Result<Command, ScriptFault>
-        ensures { Gives command_of result (ended_command (begun_of self)) }
+        ensures { Gives command_of result (ended_command (begun_of self.entry)) }
     {
         let shape = ScriptFault {
             line: self.line,
@@ -99,8 +97,8 @@ impl Begun {
     }
 
     /// The condition that ends here.
-    pub fn condition(self) -> Result<Condition, ScriptFault>
-        ensures { Gives condition_of result (ended_condition (begun_of self)) }
+    pub fn condition(self, alloc: Global) -> Result<Condition, ScriptFault>
+        ensures { Gives condition_of result (ended_condition (begun_of self.entry)) }
     {
         let shape = ScriptFault {
             line: self.line,
@@ -110,6 +108,6 @@ impl Begun {
             return Err(shape);
         }
         let Begun { name, items, .. } = self;
-        condition_of_items(&name, items).ok_or(shape)
+        condition_of_items(alloc, &name, items)?.ok_or(shape)
     }
 }

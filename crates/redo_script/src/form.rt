@@ -6,38 +6,41 @@ ghost use Rattle.redo_script.specs.View.{command_of, condition_of, redirection_o
 ghost use Rattle.redo_script.specs.Parser.{item_of};
 
 use crate::ast::{Command, Condition, Redirection, Test, Word, Writer};
-use crate::item::{Item, word_spells};
-use crate::number::status_of_item;
+use crate::item::Item;
+use crate::number::status_of_word;
 use std::alloc::{AllocError, Global};
 
 /// What `test` looks at, where its operands are of a form.
-pub fn test_operands(mut items: Vec<Item>) -> Option<Test>
-    ensures { option_map test_of result ≡ test_form (map item_of items.items) }
+pub fn test_operands(alloc: Global, mut items: Vec<Item>) -> Result<Option<Test>, AllocError>
+    ensures { IfOk result (λ test. option_map test_of test ≡ test_form (map item_of items.entry.items)) }
 {
     let Some(last) = items.pop() else {
-        return None;
+        return Ok(None);
     };
     let Some(middle) = items.pop() else {
-        return None;
+        return Ok(None);
     };
     match items.pop() {
         None => {
-            if word_spells(&middle.word, b"-f") {
-                return Some(Test::IsFile(last.word));
+            if middle.spells(b"-f") {
+                return Ok(Some(Test::IsFile(last.into_word(alloc)?)));
             }
-            None
+            Ok(None)
         }
         Some(first) => {
             if !items.is_empty() {
-                return None;
+                return Ok(None);
             }
-            if word_spells(&middle.word, b"=") {
-                return Some(Test::Equal(first.word, last.word));
+            let is_equal = middle.spells(b"=");
+            if !is_equal && !middle.spells(b"!=") {
+                return Ok(None);
             }
-            if word_spells(&middle.word, b"!=") {
-                return Some(Test::Differ(first.word, last.word));
+            let first = first.into_word(alloc)?;
+            let last = last.into_word(alloc)?;
+            if is_equal {
+                return Ok(Some(Test::Equal(first, last)));
             }
-            None
+            Ok(Some(Test::Differ(first, last)))
         }
     }
 }
@@ -45,18 +48,18 @@ pub fn test_operands(mut items: Vec<Item>) -> Option<Test>
 /// The words of operands.
 #[tactic(auto, using(crate::proofs::Statements::words_push))]
 pub fn words_of_items(alloc: Global, items: Vec<Item>) -> Result<Vec<Word>, AllocError>
-    ensures { IfOk result (λ words. words_of words.items ≡ item_words (map item_of items.items)) }
+    ensures { IfOk result (λ words. words_of words.items ≡ item_words (map item_of items.entry.items)) }
 {
     let mut words = Vec::with_capacity(alloc, items.len())?;
     for item in items {
-        words.push(item.word)?;
+        words.push(item.into_word(alloc)?)?;
     }
     Ok(words)
 }
 
 /// The condition, where it has no operands.
 fn lone(mut items: Vec<Item>, condition: Condition) -> Option<Condition>
-    ensures { option_map condition_of result ≡ alone (condition_of condition) (map item_of items.items) }
+    ensures { option_map condition_of result ≡ alone (condition_of condition) (map item_of items.entry.items) }
 {
     if items.pop().is_some() {
         return None;
@@ -66,19 +69,24 @@ fn lone(mut items: Vec<Item>, condition: Condition) -> Option<Condition>
 
 /// The condition of an `if`, where its words are of a form.
 #[tactic(auto, using(crate::proofs::Names::condition_test, crate::proofs::Names::condition_true, crate::proofs::Names::condition_false, crate::proofs::Names::no_condition))]
-pub fn condition_of_items(name: &Item, items: Vec<Item>) -> Option<Condition>
-    ensures { option_map condition_of result ≡ condition_form (item_of name.now) (map item_of items.items) }
+pub fn condition_of_items(
+    alloc: Global,
+    name: &Item,
+    items: Vec<Item>,
+) -> Result<Option<Condition>, AllocError>
+    ensures { IfOk result (λ condition.
+        option_map condition_of condition ≡ condition_form (item_of name.now) (map item_of items.entry.items)) }
 {
     if name.is_named(b"test") {
-        return test_operands(items).map(Condition::Test);
+        return Ok(test_operands(alloc, items)?.map(Condition::Test));
     }
     if name.is_named(b"true") {
-        return lone(items, Condition::True);
+        return Ok(lone(items, Condition::True));
     }
     if name.is_named(b"false") {
-        return lone(items, Condition::False);
+        return Ok(lone(items, Condition::False));
     }
-    None
+    Ok(None)
 }
 
 /// `printf` with these operands, of which the first is the format.
@@ -88,7 +96,7 @@ fn printf_of_items(
     redirection: Option<Redirection>,
 ) -> Result<Option<Command>, AllocError>
     ensures { IfOk result (λ command.
-        option_map command_of command ≡ print_form (map item_of items.items) (option_map redirection_of redirection)) }
+        option_map command_of command ≡ print_form (map item_of items.entry.items) (option_map redirection_of redirection)) }
 {
     let mut words = words_of_items(alloc, items)?;
     if words.is_empty() {
@@ -105,7 +113,7 @@ fn cat_of_items(
     redirection: Option<Redirection>,
 ) -> Result<Option<Command>, AllocError>
     ensures { IfOk result (λ command.
-        option_map command_of command ≡ cat_form (map item_of items.items) (option_map redirection_of redirection)) }
+        option_map command_of command ≡ cat_form (map item_of items.entry.items) (option_map redirection_of redirection)) }
 {
     if items.is_empty() {
         return Ok(None);
@@ -116,7 +124,7 @@ fn cat_of_items(
 
 /// The command, where it has no operands.
 fn lone_command(mut items: Vec<Item>, command: Command) -> Option<Command>
-    ensures { option_map command_of result ≡ lone (command_of command) (map item_of items.items) }
+    ensures { option_map command_of result ≡ lone (command_of command) (map item_of items.entry.items) }
 {
     if items.pop().is_some() {
         return None;
@@ -125,25 +133,27 @@ fn lone_command(mut items: Vec<Item>, command: Command) -> Option<Command>
 }
 
 /// `exit` with these operands.
-fn exit_of_items(mut items: Vec<Item>) -> Option<Command>
-    ensures { option_map command_of result ≡ exit_form (map item_of items.items) }
+fn exit_of_items(alloc: Global, mut items: Vec<Item>) -> Result<Option<Command>, AllocError>
+    ensures { IfOk result (λ command. option_map command_of command ≡ exit_form (map item_of items.entry.items)) }
 {
     let Some(item) = items.pop() else {
-        return None;
+        return Ok(None);
     };
     if !items.is_empty() {
-        return None;
+        return Ok(None);
     }
-    status_of_item(&item).map(Command::Exit)
+    let is_plain = item.is_plain();
+    let word = item.into_word(alloc)?;
+    Ok(status_of_word(is_plain, &word).map(Command::Exit))
 }
 
 /// A command that takes no redirection, where its operands are of its form.
 fn bare_command(alloc: Global, name: &Item, items: Vec<Item>) -> Result<Option<Command>, AllocError>
     ensures { IfOk result (λ command.
-        option_map command_of command ≡ bare_form (item_of name.now) (map item_of items.items)) }
+        option_map command_of command ≡ bare_form (item_of name.now) (map item_of items.entry.items)) }
 {
     if name.is_named(b"test") {
-        return Ok(test_operands(items).map(Command::Test));
+        return Ok(test_operands(alloc, items)?.map(Command::Test));
     }
     if name.is_named(b"redo-ifchange") {
         return Ok(Some(Command::Change(words_of_items(alloc, items)?)));
@@ -158,7 +168,7 @@ fn bare_command(alloc: Global, name: &Item, items: Vec<Item>) -> Result<Option<C
         return Ok(lone_command(items, Command::False));
     }
     if name.is_named(b"exit") {
-        return Ok(exit_of_items(items));
+        return exit_of_items(alloc, items);
     }
     Ok(None)
 }
@@ -171,7 +181,7 @@ pub fn command_of_items(
     redirection: Option<Redirection>,
 ) -> Result<Option<Command>, AllocError>
     ensures { IfOk result (λ command.
-        option_map command_of command ≡ command_form (item_of name.now) (map item_of items.items) (option_map redirection_of redirection)) }
+        option_map command_of command ≡ command_form (item_of name.now) (map item_of items.entry.items) (option_map redirection_of redirection)) }
 {
     if name.is_named(b"echo") {
         let words = words_of_items(alloc, items)?;

@@ -1,6 +1,6 @@
 //! Words of a command, as they are written.
 
-ghost use Rattle.std.specs.Prelude.{◌≡◌, ◌++◌, true, false};
+ghost use Rattle.std.specs.Prelude.{◌≡◌, ◌++◌, true, false, IfOk};
 ghost use Rattle.std.specs.Option.{MatchOption};
 ghost use Rattle.redo_script.specs.Syntax.{Word as Symbols};
 ghost use Rattle.redo_script.specs.Grammar.{spells, is_named};
@@ -9,12 +9,15 @@ ghost use Rattle.redo_script.specs.View.{symbols_of_part, word_of};
 ghost use Rattle.redo_script.specs.Parser.{item_of};
 
 use crate::ast::{Part, Word};
+use std::alloc::{AllocError, Global};
 
-/// A word of a command, and whether it is written with plain bytes alone.
+/// A word of a command.
 #[derive(Debug, Drop)]
-pub struct Item {
-    pub is_plain: bool,
-    pub word: Word,
+pub enum Item<'a> {
+    /// These plain bytes of the text.
+    Plain(&'a [u8]),
+    /// Any word, and whether it is written with plain bytes alone.
+    Built(bool, Word),
 }
 
 /// What is left of a name behind a part of a word.
@@ -30,7 +33,7 @@ fn past_part<'a>(part: &Part, name: &'a [u8]) -> Option<&'a [u8]>
 }
 
 /// Whether a word's bytes are this name, with no parameter among them.
-pub fn word_spells(word: &Word, name: &[u8]) -> bool
+fn word_spells(word: &Word, name: &[u8]) -> bool
     ensures { result ≡ spells (word_of word.now) name.now }
 {
     let mut left = name;
@@ -43,11 +46,44 @@ pub fn word_spells(word: &Word, name: &[u8]) -> bool
     left.is_empty()
 }
 
-impl Item {
+impl Item<'_> {
+    /// Whether the word is written with plain bytes alone.
+    pub fn is_plain(&self) -> bool
+        ensures { result ≡ (item_of self.now).is_plain }
+    {
+        match self {
+            Item::Plain(_) => true,
+            Item::Built(is_plain, _) => *is_plain,
+        }
+    }
+
+    /// Whether the word's bytes are this name, with no parameter among them.
+    pub fn spells(&self, name: &[u8]) -> bool
+        ensures { result ≡ spells (item_of self.now).word name.now }
+    {
+        match self {
+            Item::Plain(bytes) => *bytes == name,
+            Item::Built(_, word) => word_spells(word, name),
+        }
+    }
+
     pub fn is_named(&self, name: &[u8]) -> bool
         ensures { result ≡ is_named name.now (item_of self.now) }
     {
-        self.is_plain && word_spells(&self.word, name)
+        self.is_plain() && self.spells(name)
+    }
+
+    /// The word, with bytes of its own.
+    pub fn into_word(self, alloc: Global) -> Result<Word, AllocError>
+        ensures { IfOk result (λ word. word_of word ≡ (item_of self.entry).word) }
+    {
+        let bytes = match self {
+            Item::Plain(bytes) => bytes,
+            Item::Built(_, word) => return Ok(word),
+        };
+        let mut parts = Vec::with_capacity(alloc, 1)?;
+        parts.push(Part::Lit(Vec::from_slice(alloc, bytes)?))?;
+        Ok(Word { parts })
     }
 
     /// Whether a command of the subset has this name.

@@ -1,16 +1,20 @@
 //! From bytes to tokens.
 
-ghost use Rattle.std.specs.Prelude.{◌≡◌, ◌+◌, ◌<◌, ◌≤◌, ◌^◌, map, Ok, OnOk, []};
+ghost use Rattle.std.specs.Prelude.{◌≡◌, ◌+◌, ◌<◌, ◌≤◌, ◌^◌, map, Ok, OnOk, IfOk, [], ◌∷◌, ◌⊎◌, length, take, true};
 ghost use Rattle.redo_script.specs.Faults.{Gives, Leaves, fault_at};
 ghost use Rattle.redo_script.specs.Syntax.{byte as byte_symbol};
 ghost use Rattle.redo_script.specs.View.{symbols_of_part};
-ghost use Rattle.redo_script.specs.Reading.{tokens_of, next_byte, at_end, at_start, in_word, gap_byte, word_byte, in_single, in_double, after_backslash, after_dollar, after_quoted_dollar, after_redirect, with_word, with_token, with_symbol, with_quote, with_begun_word, with_symbols, parameter_named};
+ghost use Rattle.redo_script.specs.Reading.{Reader, read_on, tokens_of, next_byte, at_end, at_start, in_word, gap_byte, word_byte, in_single, in_double, after_backslash, after_dollar, after_quoted_dollar, after_redirect, with_word, with_token, with_symbol, with_quote, with_begun_word, with_symbols, parameter_named};
 ghost use Rattle.redo_script.specs.declared.fault.Reason.TheVariants as reasons;
+ghost use Rattle.redo_script.specs.declared.lexer.Mode.TheVariants as modes;
+ghost use Rattle.redo_script.specs.Bytes.{is_blank};
+ghost use Rattle.redo_script.specs.Runs.{ReadsOn, is_special, all_quotable, all_plain, all_digits, ends_plainly};
 ghost use Rattle.redo_script.specs.Lexer.{token_of, reader_of};
 
 use crate::ast::{Parameter, Part, Word};
 use crate::bytes::is_plain_byte;
 use crate::fault::{Reason, ScriptFault};
+use crate::item::Item;
 use crate::token::Token;
 use std::alloc::Global;
 
@@ -39,7 +43,7 @@ pub enum Mode {
 
 /// Reads a text byte by byte.
 #[derive(Drop)]
-pub struct Lexer {
+pub struct Lexer<'a> {
     alloc: Global,
     mode: Mode,
     line: u64,
@@ -51,10 +55,10 @@ pub struct Lexer {
     parts: Vec<Part>,
     /// Bytes of the word behind its parts.
     literal: Vec<u8>,
-    tokens: Vec<Token>,
+    tokens: Vec<Token<'a>>,
 }
 
-impl Lexer {
+impl<'a> Lexer<'a> {
     fn unsupported<T>(&self) -> Result<T, ScriptFault>
         ensures { result ≡ fault_at self.now.line reasons.Unsupported }
     {
@@ -98,8 +102,8 @@ impl Lexer {
         Ok(())
     }
 
-    fn push_token(&mut self, token: Token) -> Result<(), ScriptFault>
-        ensures reads { Leaves reader_of self.new result (Ok (with_token (reader_of self.old) (token_of token))) }
+    fn push_token(&mut self, token: Token<'a>) -> Result<(), ScriptFault>
+        ensures reads { Leaves reader_of self.new result (Ok (with_token (reader_of self.old) (token_of token.entry))) }
         ensures line { self.new.line ≡ self.old.line }
     {
         self.tokens.push(token)?;
@@ -115,7 +119,8 @@ impl Lexer {
         self.end_literal()?;
         let mut parts = Vec::with_capacity(self.alloc, self.parts.len())?;
         parts.append(&mut self.parts)?;
-        self.push_token(Token::Word(self.word_line, self.is_plain, Word { parts }))
+        let item = Item::Built(self.is_plain, Word { parts });
+        self.push_token(Token::Word(self.word_line, item))
     }
 
     fn open_quote(&mut self, mode: Mode)
@@ -309,7 +314,77 @@ impl Lexer {
         }
     }
 
-    fn new(alloc: Global) -> Lexer
+    /// Takes plain bytes of the word that was begun.
+    fn plain_bytes(&mut self, text: &'a [u8]) -> Result<&'a [u8], ScriptFault>
+        requires { self.old.mode ≡ modes.Word }
+        ensures reads { ReadsOn (reader_of self.new) result (read_on (reader_of self.old) text.now) }
+        ensures line { self.new.line ≡ self.old.line }
+        ensures rest { IfOk result (λ rest. length rest.now ≤ length text.now) }
+    {
+        let (bytes, rest) = text.split_at(plain_len(text));
+        self.literal.extend_from_slice(bytes)?;
+        self.is_number = self.is_number && is_number(bytes);
+        Ok(rest)
+    }
+
+    /// Takes bytes in quotes that stand for themselves.
+    fn quoted_bytes(&mut self, text: &'a [u8]) -> Result<&'a [u8], ScriptFault>
+        requires { (self.old.mode ≡ modes.Single) ⊎ (self.old.mode ≡ modes.Double) }
+        ensures reads { ReadsOn (reader_of self.new) result (read_on (reader_of self.old) text.now) }
+        ensures line { self.new.line ≡ self.old.line }
+        ensures rest { IfOk result (λ rest. length rest.now ≤ length text.now) }
+    {
+        let (bytes, rest) = text.split_at(quotable_len(text));
+        self.literal.extend_from_slice(bytes)?;
+        Ok(rest)
+    }
+
+    /// Takes a word, where one of plain bytes alone comes next.
+    fn plain_word(&mut self, text: &'a [u8]) -> Result<&'a [u8], ScriptFault>
+        requires { self.old.mode ≡ modes.Gap }
+        ensures reads { ReadsOn (reader_of self.new) result (read_on (reader_of self.old) text.now) }
+        ensures line { self.new.line ≡ self.old.line }
+        ensures rest { IfOk result (λ rest. length rest.now ≤ length text.now) }
+    {
+        let (bytes, rest) = text.split_at(plain_len(text));
+        if bytes.is_empty() || !is_word_end(rest) {
+            return Ok(text);
+        }
+        self.begin_word();
+        self.is_number = is_number(bytes);
+        self.push_token(Token::Word(self.word_line, Item::Plain(bytes)))?;
+        Ok(rest)
+    }
+
+    /// Takes bytes that are alike here.
+    fn run(&mut self, text: &'a [u8]) -> Result<&'a [u8], ScriptFault>
+        ensures reads { ReadsOn (reader_of self.new) result (read_on (reader_of self.old) text.now) }
+        ensures line { self.new.line ≡ self.old.line }
+        ensures rest { IfOk result (λ rest. length rest.now ≤ length text.now) }
+    {
+        match self.mode {
+            Mode::Gap => self.plain_word(past_blanks(text)),
+            Mode::Comment => Ok(past_comment(text)),
+            Mode::Word => self.plain_bytes(text),
+            Mode::Single => self.quoted_bytes(text),
+            Mode::Double => self.quoted_bytes(text),
+            _ => Ok(text),
+        }
+    }
+
+    /// Reads one byte, and what is alike behind it.
+    #[tactic(auto, unfolding(crate::specs::Reading::read_on))]
+    fn step(&mut self, byte: u8, rest: &'a [u8]) -> Result<&'a [u8], ScriptFault>
+        requires { self.old.line + 1 < 2 ^ 64 }
+        ensures reads { ReadsOn (reader_of self.new) result (read_on (reader_of self.old) (byte ∷ rest.now)) }
+        ensures line { self.new.line ≤ self.old.line + 1 }
+        ensures rest { IfOk result (λ left. length left.now ≤ length rest.now) }
+    {
+        self.byte(byte)?;
+        self.run(rest)
+    }
+
+    fn new(alloc: Global) -> Lexer<'a>
         ensures reader { reader_of result ≡ at_start }
         ensures line { result.line ≡ 1 }
     {
@@ -329,8 +404,8 @@ impl Lexer {
 
     /// Ends the text.
     #[tactic(auto, unfolding(crate::specs::Reading::at_end))]
-    fn finish(mut self) -> Result<Vec<Token>, ScriptFault>
-        ensures { Gives (λ v. map token_of v.items) result (at_end (reader_of self)) }
+    fn finish(mut self) -> Result<Vec<Token<'a>>, ScriptFault>
+        ensures { Gives (λ v. map token_of v.items) result (at_end (reader_of self.entry)) }
     {
         let line = self.line;
         match self.mode {
@@ -350,14 +425,104 @@ impl Lexer {
 }
 
 /// The tokens of a text.
-pub fn tokenize(alloc: Global, text: &[u8]) -> Result<Vec<Token>, ScriptFault>
+pub fn tokenize<'a>(alloc: Global, text: &'a [u8]) -> Result<Vec<Token<'a>>, ScriptFault>
     ensures { Gives (λ v. map token_of v.items) result (tokens_of text.now) }
 {
     let mut lexer = Lexer::new(alloc);
-    for byte in text {
-        lexer.byte(*byte)?;
+    let mut left = text;
+    while let [byte, rest @ ..] = left {
+        left = lexer.step(*byte, rest)?;
     }
     lexer.finish()
+}
+
+/// How many plain bytes come first.
+#[tactic(auto, using(crate::proofs::Runs::plain_here))]
+fn plain_len(text: &[u8]) -> usize
+    ensures within { result ≤ length text.now }
+    ensures plain { all_plain (take result text.now) ≡ true }
+{
+    for (i, byte) in text.iter().enumerate() {
+        if !is_plain_byte(*byte) {
+            return i;
+        }
+    }
+    text.len()
+}
+
+/// Whether a byte means something in quotes of one kind or the other, or ends a line.
+fn is_special_byte(byte: u8) -> bool
+    ensures { result ≡ is_special byte }
+{
+    matches!(byte, b'$' | b'`' | b'"' | b'\\' | b'\'' | b'\n')
+}
+
+/// How many bytes come first that stand for themselves in quotes, on one line.
+#[tactic(auto, using(crate::proofs::QuotedRuns::quotable_here))]
+fn quotable_len(text: &[u8]) -> usize
+    ensures within { result ≤ length text.now }
+    ensures quotable { all_quotable (take result text.now) ≡ true }
+{
+    for (i, byte) in text.iter().enumerate() {
+        if is_special_byte(*byte) {
+            return i;
+        }
+    }
+    text.len()
+}
+
+/// Whether the bytes are digits alone.
+#[tactic(auto, using(crate::proofs::Runs::digits_here))]
+fn is_number(bytes: &[u8]) -> bool
+    ensures { result ≡ all_digits bytes.now }
+{
+    for byte in bytes {
+        if !byte.is_ascii_digit() {
+            return false;
+        }
+    }
+    true
+}
+
+/// Whether a word of plain bytes ends here.
+fn is_word_end(rest: &[u8]) -> bool
+    ensures { result ≡ ends_plainly rest.now }
+{
+    matches!(rest, [] | [b' ' | b'\t' | b'\n' | b';', ..])
+}
+
+fn is_blank_byte(byte: u8) -> bool
+    ensures { result ≡ is_blank byte }
+{
+    matches!(byte, b' ' | b'\t')
+}
+
+/// The bytes behind blanks.
+fn past_blanks(text: &[u8]) -> &[u8]
+    ensures reads { (r : Reader) → r.mode ≡ modes.Gap → read_on r result.now ≡ read_on r text.now }
+    ensures within { length result.now ≤ length text.now }
+{
+    let mut left = text;
+    while let [byte, rest @ ..] = left
+        && is_blank_byte(*byte)
+    {
+        left = rest;
+    }
+    left
+}
+
+/// The end of a comment's line.
+fn past_comment(text: &[u8]) -> &[u8]
+    ensures reads { (r : Reader) → r.mode ≡ modes.Comment → read_on r result.now ≡ read_on r text.now }
+    ensures within { length result.now ≤ length text.now }
+{
+    let mut left = text;
+    while let [byte, rest @ ..] = left
+        && *byte != b'\n'
+    {
+        left = rest;
+    }
+    left
 }
 
 fn parameter_of(digit: u8) -> Option<Parameter>

@@ -4,11 +4,10 @@ ghost use Rattle.std.specs.Prelude.{◌≡◌, ◌∷◌, ◌++◌, ◌≤◌, N
 ghost use Rattle.std.specs.Option.{MatchOption};
 ghost use Rattle.redo_script.specs.Syntax.{Word as Symbols, byte as byte_symbol};
 ghost use Rattle.redo_script.specs.Grammar.{status_of};
-ghost use Rattle.redo_script.specs.View.{symbols_of_part};
-ghost use Rattle.redo_script.specs.Parser.{item_of, status_on};
+ghost use Rattle.redo_script.specs.View.{symbols_of_part, word_of};
+ghost use Rattle.redo_script.specs.Parser.{status_on};
 
-use crate::ast::Part;
-use crate::item::Item;
+use crate::ast::{Part, Word};
 
 /// A number as far as it was read, and how many digits it has so far.
 #[derive(Clone, Copy, Debug)]
@@ -62,15 +61,15 @@ impl Number {
     }
 }
 
-/// The status that a word of one to three plain digits stands for, where it is at most 255.
-pub fn status_of_item(item: &Item) -> Option<u8>
-    ensures { result ≡ status_of (item_of item.now) }
+/// The status that a word of one to three digits stands for, where it is at most 255 and they are plain.
+pub fn status_of_word(is_plain: bool, word: &Word) -> Option<u8>
+    ensures { result ≡ status_of (record { is_plain = is_plain; word = word_of word.now }) }
 {
-    if !item.is_plain {
+    if !is_plain {
         return None;
     }
     let mut number = Number::new();
-    for part in &item.word.parts {
+    for part in &word.parts {
         number = number.past_part(part)?;
     }
     if number.digits == 0 {

@@ -17,12 +17,12 @@ use std::mem;
 
 /// What is expected next.
 #[derive(Debug, Drop)]
-pub enum Phase {
+pub enum Phase<'a> {
     AtCommand,
-    InCommand(Begun),
+    InCommand(Begun<'a>),
     /// Behind `if`, which stands in this line.
     BehindIf(u64),
-    InCondition(Begun),
+    InCondition(Begun<'a>),
     BeforeThen(u64, Condition),
     BehindFi(u64),
 }
@@ -40,14 +40,14 @@ pub struct Open {
 
 /// Reads statements token by token.
 #[derive(Drop)]
-pub struct Parser {
+pub struct Parser<'a> {
     alloc: Global,
-    phase: Phase,
+    phase: Phase<'a>,
     opens: Vec<Open>,
     so_far: Vec<Stmt>,
 }
 
-impl Parser {
+impl<'a> Parser<'a> {
     fn fault<T>(line: u64, why: Reason) -> Result<T, ScriptFault>
         ensures { result ≡ fault_at line why }
     {
@@ -63,7 +63,8 @@ impl Parser {
         if innermost.first.is_some() || self.so_far.is_empty() {
             return Parser::fault(line, Reason::IfShape);
         }
-        let first = mem::replace(&mut self.so_far, Vec::new(self.alloc));
+        let second = Vec::with_capacity(self.alloc, 1)?;
+        let first = mem::replace(&mut self.so_far, second);
         self.opens.push(Open {
             line: innermost.line,
             condition: innermost.condition,
@@ -141,15 +142,17 @@ impl Parser {
         line: u64,
         condition: Condition,
         at: u64,
-        item: Item,
+        item: Item<'a>,
     ) -> Result<(), ScriptFault>
         ensures { Leaves parser_of self.new result
-            (then_word (parser_of self.old) line (condition_of condition) at (item_of item)) }
+            (then_word (parser_of self.old) line (condition_of condition) at (item_of item.entry)) }
     {
         if !item.is_named(b"then") {
             return Parser::fault(at, Reason::IfShape);
         }
-        let before = mem::replace(&mut self.so_far, Vec::new(self.alloc));
+        // Many a branch is one statement.
+        let branch = Vec::with_capacity(self.alloc, 1)?;
+        let before = mem::replace(&mut self.so_far, branch);
         self.opens.push(Open {
             line,
             condition,
@@ -161,8 +164,8 @@ impl Parser {
     }
 
     /// A word behind `if`.
-    fn condition_word(&mut self, line: u64, item: Item) -> Result<(), ScriptFault>
-        ensures { Leaves parser_of self.new result (condition_word (parser_of self.old) line (item_of item)) }
+    fn condition_word(&mut self, line: u64, item: Item<'a>) -> Result<(), ScriptFault>
+        ensures { Leaves parser_of self.new result (condition_word (parser_of self.old) line (item_of item.entry)) }
     {
         if !(item.is_named(b"test") || item.is_named(b"true") || item.is_named(b"false")) {
             return Parser::fault(line, Reason::IfShape);
@@ -172,8 +175,8 @@ impl Parser {
     }
 
     /// A word in a command's place.
-    fn first_word(&mut self, line: u64, item: Item) -> Result<(), ScriptFault>
-        ensures { Leaves parser_of self.new result (first_word (parser_of self.old) line (item_of item)) }
+    fn first_word(&mut self, line: u64, item: Item<'a>) -> Result<(), ScriptFault>
+        ensures { Leaves parser_of self.new result (first_word (parser_of self.old) line (item_of item.entry)) }
     {
         if item.is_named(b"if") {
             return self.if_word(line);
@@ -197,25 +200,24 @@ impl Parser {
         Ok(())
     }
 
-    fn word(&mut self, line: u64, item: Item) -> Result<(), ScriptFault>
+    fn word(&mut self, line: u64, item: Item<'a>) -> Result<(), ScriptFault>
         ensures { Leaves parser_of self.new result
-            (a_word (parser_of self.old).phase (parser_of self.old) line (item_of item)) }
+            (a_word (parser_of self.old).phase (parser_of self.old) line (item_of item.entry)) }
     {
-        match mem::replace(&mut self.phase, Phase::AtCommand) {
+        match &mut self.phase {
             Phase::AtCommand => self.first_word(line, item),
-            Phase::InCommand(mut begun) => {
-                begun.push_word(item)?;
-                self.phase = Phase::InCommand(begun);
-                Ok(())
+            Phase::InCommand(begun) => begun.push_word(self.alloc, item),
+            Phase::BehindIf(if_line) => {
+                let if_line = *if_line;
+                self.condition_word(if_line, item)
             }
-            Phase::BehindIf(if_line) => self.condition_word(if_line, item),
-            Phase::InCondition(mut begun) => {
-                begun.push_word(item)?;
-                self.phase = Phase::InCondition(begun);
-                Ok(())
+            Phase::InCondition(begun) => begun.push_word(self.alloc, item),
+            Phase::BeforeThen(if_line, condition) => {
+                let if_line = *if_line;
+                let condition = mem::replace(condition, Condition::True);
+                self.then_word(if_line, condition, line, item)
             }
-            Phase::BeforeThen(if_line, condition) => self.then_word(if_line, condition, line, item),
-            Phase::BehindFi(fi_line) => Parser::fault(fi_line, Reason::IfShape),
+            Phase::BehindFi(fi_line) => Parser::fault(*fi_line, Reason::IfShape),
         }
     }
 
@@ -224,28 +226,21 @@ impl Parser {
         ensures { Leaves parser_of self.new result
             (a_redirect (parser_of self.old).phase (parser_of self.old) line appends) }
     {
-        match mem::replace(&mut self.phase, Phase::AtCommand) {
-            Phase::AtCommand => Parser::fault(line, Reason::Shape),
-            Phase::InCommand(mut begun) => {
-                begun.push_redirect(appends);
-                self.phase = Phase::InCommand(begun);
-                Ok(())
-            }
-            Phase::BehindIf(if_line) => Parser::fault(if_line, Reason::IfShape),
-            Phase::InCondition(mut begun) => {
-                begun.push_redirect(appends);
-                self.phase = Phase::InCondition(begun);
-                Ok(())
-            }
-            Phase::BeforeThen(_, _) => Parser::fault(line, Reason::IfShape),
-            Phase::BehindFi(fi_line) => Parser::fault(fi_line, Reason::IfShape),
+        match &mut self.phase {
+            Phase::AtCommand => return Parser::fault(line, Reason::Shape),
+            Phase::InCommand(begun) => begun.push_redirect(appends),
+            Phase::BehindIf(if_line) => return Parser::fault(*if_line, Reason::IfShape),
+            Phase::InCondition(begun) => begun.push_redirect(appends),
+            Phase::BeforeThen(_, _) => return Parser::fault(line, Reason::IfShape),
+            Phase::BehindFi(fi_line) => return Parser::fault(*fi_line, Reason::IfShape),
         }
+        Ok(())
     }
 
     /// Ends a command that stands by itself.
     #[tactic(auto, using(crate::proofs::Statements::simple_push))]
-    fn end_command(&mut self, begun: Begun) -> Result<(), ScriptFault>
-        ensures { Leaves parser_of self.new result (with_command (parser_of self.old) (begun_of begun)) }
+    fn end_command(&mut self, begun: Begun<'a>) -> Result<(), ScriptFault>
+        ensures { Leaves parser_of self.new result (with_command (parser_of self.old) (begun_of begun.entry)) }
     {
         let line = begun.line();
         let command = begun.command(self.alloc)?;
@@ -255,11 +250,11 @@ impl Parser {
     }
 
     /// Ends the command behind `if`.
-    fn end_condition(&mut self, begun: Begun) -> Result<(), ScriptFault>
-        ensures { Leaves parser_of self.new result (with_condition (parser_of self.old) (begun_of begun)) }
+    fn end_condition(&mut self, begun: Begun<'a>) -> Result<(), ScriptFault>
+        ensures { Leaves parser_of self.new result (with_condition (parser_of self.old) (begun_of begun.entry)) }
     {
         let line = begun.line();
-        let condition = begun.condition()?;
+        let condition = begun.condition(self.alloc)?;
         self.phase = Phase::BeforeThen(line, condition);
         Ok(())
     }
@@ -291,18 +286,18 @@ impl Parser {
     }
 
     /// Reads one token more.
-    fn token(&mut self, token: Token) -> Result<(), ScriptFault>
-        ensures { Leaves parser_of self.new result (next_token (parser_of self.old) (token_of token)) }
+    fn token(&mut self, token: Token<'a>) -> Result<(), ScriptFault>
+        ensures { Leaves parser_of self.new result (next_token (parser_of self.old) (token_of token.entry)) }
     {
         match token {
-            Token::Word(line, is_plain, word) => self.word(line, Item { is_plain, word }),
+            Token::Word(line, item) => self.word(line, item),
             Token::Semicolon(line) => self.separator(line, false),
             Token::Newline(line) => self.separator(line, true),
             Token::Redirect(line, appends) => self.redirect(line, appends),
         }
     }
 
-    fn new(alloc: Global) -> Parser
+    fn new(alloc: Global) -> Parser<'a>
         ensures { parser_of result ≡ at_first }
     {
         Parser {
@@ -315,7 +310,7 @@ impl Parser {
 
     /// The statements, where no `if` is open.
     fn script(mut self) -> Result<Script, ScriptFault>
-        ensures { Gives (λ s. script_of s.stmts.items) result (unless_open (parser_of self).opens (parser_of self).so_far) }
+        ensures { Gives (λ s. script_of s.stmts.items) result (unless_open (parser_of self.entry).opens (parser_of self.entry).so_far) }
     {
         match self.opens.pop() {
             Some(open) => Parser::fault(open.line, Reason::IfShape),
@@ -325,7 +320,7 @@ impl Parser {
 
     /// Ends the script.
     fn finish(mut self) -> Result<Script, ScriptFault>
-        ensures { Gives (λ s. script_of s.stmts.items) result (end_by_phase (parser_of self).phase (parser_of self)) }
+        ensures { Gives (λ s. script_of s.stmts.items) result (end_by_phase (parser_of self.entry).phase (parser_of self.entry)) }
     {
         match mem::replace(&mut self.phase, Phase::AtCommand) {
             Phase::AtCommand | Phase::BehindFi(_) => self.script(),
@@ -335,7 +330,7 @@ impl Parser {
             }
             Phase::InCondition(begun) => {
                 let line = begun.line();
-                begun.condition()?;
+                begun.condition(self.alloc)?;
                 Parser::fault(line, Reason::IfShape)
             }
             Phase::BehindIf(line) | Phase::BeforeThen(line, _) => {
@@ -347,7 +342,7 @@ impl Parser {
 
 /// The statements that tokens stand for.
 pub fn statements(alloc: Global, tokens: Vec<Token>) -> Result<Script, ScriptFault>
-    ensures { Gives (λ s. script_of s.stmts.items) result (statements_of (map token_of tokens.items)) }
+    ensures { Gives (λ s. script_of s.stmts.items) result (statements_of (map token_of tokens.entry.items)) }
 {
     let mut parser = Parser::new(alloc);
     for token in tokens {

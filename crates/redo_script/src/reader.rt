@@ -1,10 +1,10 @@
 //! From a whole text to its tree.
 
-ghost use Rattle.std.specs.Prelude.{◌≡◌, [], IfOk, Ok};
+ghost use Rattle.std.specs.Prelude.{◌≡◌, [], IfOk, Ok, not};
 ghost use Rattle.redo_script.specs.Faults.{Gives};
 ghost use Rattle.redo_script.specs.Syntax.{Script as ScriptTree};
 ghost use Rattle.redo_script.specs.View.{script_of};
-ghost use Rattle.redo_script.specs.Texts.{IsScript, same_bytes, first_line, nul_from, interpreter_is_fit, script_in};
+ghost use Rattle.redo_script.specs.Texts.{IsScript, has_no_nul, same_bytes, first_line, nul_from, interpreter_is_fit, script_in};
 
 use crate::ast::Script;
 use crate::fault::{Reason, ScriptFault};
@@ -12,10 +12,26 @@ use crate::lexer::tokenize;
 use crate::parser::statements;
 use std::alloc::Global;
 
+/// Whether a byte 0 is among these. It looks at every byte, which takes less time than to stop at the first 0 does.
+#[tactic(auto, using(crate::proofs::Nuls::nul_here))]
+fn has_nul(text: &[u8]) -> bool
+    ensures { has_no_nul text.now ≡ not result }
+{
+    let mut found = false;
+    for byte in text {
+        found |= *byte == 0;
+    }
+    found
+}
+
 /// Looks for a byte 0.
+#[tactic(auto, using(crate::proofs::Nuls::no_nul))]
 fn refuse_nul(text: &[u8]) -> Result<(), ScriptFault>
     ensures { Gives (λ done. []) result (nul_from 1 text.now) }
 {
+    if !has_nul(text) {
+        return Ok(());
+    }
     let mut line = 1;
     for byte in text {
         match *byte {

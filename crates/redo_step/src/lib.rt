@@ -31,6 +31,7 @@ mod scene;
 mod sink;
 mod stop;
 mod value;
+mod wait;
 mod words;
 mod writing;
 

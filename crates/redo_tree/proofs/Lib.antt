@@ -1,4 +1,5 @@
 pub mod Bodies
+pub mod EntryNames
 mod Examples
 pub mod Every
 pub mod Grows
@@ -9,5 +10,6 @@ pub mod Once
 pub mod Pieces
 pub mod Small
 pub mod Spelled
+pub mod Texts
 pub mod Turns
 pub mod Written

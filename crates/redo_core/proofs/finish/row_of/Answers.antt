@@ -1,6 +1,7 @@
 use Rattle.std.proofs.Common.{◌≡◌, inl, inr, refl, ◌∙◌, Some, slice_get, arith}
 use Rattle.redo_core.proofs.FindLemmas.{found-at}
 use Rattle.redo_core.proofs.SlotLemmas.{slice_get-item, slice_get-below_some}
+use Rattle.redo_core.proofs.Reported.{begun-told}
 use Rattle.redo_core.proofs.finish.row_of.Goals as goal
 use Rattle.redo_core.proofs.finish.row_of.Goals.{After-index}
 
@@ -25,3 +26,9 @@ pub returns-clause-row : goal.returns-clause-row
 returns-clause-row c =
     let d = (goal.at-returns-clause-row c).After-index in
     inl (record { at = c.in-Some.at; slot = c.index.result.now; path = path_there d; there = slot_there d; shown = c.in_ok-outcome.ensures })
+
+pub returns-clause-begun : goal.returns-clause-begun
+returns-clause-begun c =
+    let d = (goal.at-returns-clause-begun c).After-index in
+    begun-told c.args.tree.now c.args.path c.index.result.now.stage c.was_begun-begun.result
+    (c.requires.told c.in-Some.at c.index.result.now c.args.path (slot_there d) (path_there d)) c.was_begun-begun.ensures

@@ -13,7 +13,8 @@ use Rattle.redo_core.specs.declared.board.HandFault.{HandFault}
 use Rattle.redo_core.specs.declared.board.HandFault.TheVariants.{Stranger}
 use Rattle.redo_core.proofs.SlotLemmas.{IsNone-from}
 use Rattle.redo_core.proofs.TakeLemmas.{view_of, distinct-inside, part-inside, length-entries}
-use Rattle.redo_core.proofs.HandIn.{open-out, may-take, taken-kept, too-many-after, stranger, none-stopped, refused-after}
+use Rattle.redo_core.proofs.BoardCounts.{one_fewer, left_no_more}
+use Rattle.redo_core.proofs.HandIn.{taken-state, open-out, may-take, taken-kept, too-many-after, stranger, none-stopped, refused-after}
 use Rattle.redo_core.proofs.board.Board.hand_in.Goals as goal
 use Rattle.redo_core.proofs.board.Board.hand_in.Goals.{In_default, In-Some-out_at}
 
@@ -107,3 +108,22 @@ returns-in-Err-clause-err c =
     let P : BoardView → Type 0 = λ v. Refused v new c.args.piece (fault_of c.in-Err.stop) in
     let Q : Option Stop → Type 0 = λ o. MatchOption o (RefusedRunning (view_of b) new c.args.piece (fault_of c.in-Err.stop)) (λ stop. (fault_of c.in-Err.stop ≡ fault_of stop) × (new ≡ view_of b)) in
     subst F (sym c.from-in-Err.ensures) (subst P c.self.view_is (subst Q (sym (on d)) running))
+
+pub returns-in-Ok-clause-one_fewer : goal.returns-in-Ok-clause-one_fewer
+returns-in-Ok-clause-one_fewer c =
+    let d = (goal.at-returns-in-Ok-clause-one_fewer c).In_default in
+    let e = (goal.at-returns-in-Ok-clause-one_fewer c).In-Some-out_at in
+    let b = c.self.inside in
+    one_fewer b (kept d) (ap Rattle.std.specs.Prelude.is_some (on d)) c.args.piece.target c.args.piece.turn
+    (open-out b (kept d) c.args.piece.target c.args.piece.turn c.in-Some-out_at.at (slot e)) _ c.self.view_is
+    (state_of (record b { table = c.take_in.new.table })) (taken-state b (kept d) c.args.piece.target c.args.piece.turn c.in-Some-out_at.at (slot e) c.take_in.new.table c.in-Ok.ensures.ok)
+
+pub returns-in-Ok-clause-left : goal.returns-in-Ok-clause-left
+returns-in-Ok-clause-left c =
+    let d = (goal.at-returns-in-Ok-clause-left c).In_default in
+    let e = (goal.at-returns-in-Ok-clause-left c).In-Some-out_at in
+    let b = c.self.inside in
+    left_no_more b (kept d) (ap Rattle.std.specs.Prelude.is_some (on d)) c.args.piece.target c.args.piece.turn
+    (open-out b (kept d) c.args.piece.target c.args.piece.turn c.in-Some-out_at.at (slot e)) _ c.self.view_is
+    (state_of (record b { table = c.take_in.new.table })) (taken-state b (kept d) c.args.piece.target c.args.piece.turn c.in-Some-out_at.at (slot e) c.take_in.new.table c.in-Ok.ensures.ok)
+    (returns-in-Ok-clause-within c)

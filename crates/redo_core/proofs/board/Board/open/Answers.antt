@@ -1,8 +1,10 @@
-use Rattle.std.proofs.Common.{◌≡◌, ◌<◌, ℕ, List, [], Err, None, length, refl, sym, ap, subst, ◌∙◌, arith}
+use Rattle.std.proofs.Common.{◌≡◌, ◌<◌, ◌≤◌, ◌*◌, ℕ, List, [], Err, None, length, refl, sym, ap, subst, ◌∙◌, arith}
 use Rattle.std.specs.Arc.{arc_value}
 use Rattle.redo_core.specs.Build.{rules_of}
 use Rattle.redo_core.specs.Slots.{IsKept, IsFirstTable}
-use Rattle.redo_core.specs.Schedule.{opening}
+use Rattle.redo_core.specs.Schedule.{State, opening, out_count}
+use Rattle.redo_core.specs.TakesLeft.{takes_left}
+use Rattle.redo_core.proofs.Counts.{opening-out, opening-left}
 use Rattle.redo_core.specs.declared.board.Board.TheInside.{Inside}
 use Rattle.redo_core.proofs.TakeLemmas.{part-inside, length-entries}
 use Rattle.redo_core.proofs.Opening.{first-kept, opening-many, opened-fault}
@@ -33,3 +35,16 @@ returns-clause-within c = length-entries (opened-board (goal.at-returns-clause-w
 pub returns-clause-part : goal.returns-clause-part
 unfolding opened-board
 returns-clause-part c = part-inside (opened-board (goal.at-returns-clause-part c).In_ok-table) (kept (goal.at-returns-clause-part c).In_ok-table)
+
+pub returns-clause-none_out : goal.returns-clause-none_out
+returns-clause-none_out c =
+    let d = (goal.at-returns-clause-none_out c).In_ok-table in
+    let P : State → Type 0 = λ s. out_count s ≡ 0 in
+    subst P (sym d.in_ok-table.ensures.ok.state) (opening-out (rules_of (arc_value c.args.tree) c.args.limits) _)
+
+pub returns-clause-left : goal.returns-clause-left
+unfolding opened-board
+returns-clause-left c =
+    let d = (goal.at-returns-clause-left c).In_ok-table in
+    let P : State → Type 0 = λ s. length s.entries ≤ c.args.limits.0 → takes_left c.args.limits.0 s ≤ c.args.limits.0 * c.args.limits.0 in
+    (subst P (sym d.in_ok-table.ensures.ok.state) (λ few. opening-left (rules_of (arc_value c.args.tree) c.args.limits) _ c.args.limits.0 few)) (length-entries (opened-board d) (kept d))

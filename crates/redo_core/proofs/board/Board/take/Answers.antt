@@ -1,9 +1,12 @@
 use Rattle.std.proofs.Common.{rules, ◌≡◌, ◌<◌, cond, map, is_some, length, slice_get, Some, sym, ap, subst, ◌∙◌, refl}
-use Rattle.redo_core.specs.Slots.{IsKept, path_at}
+use Rattle.redo_core.specs.Slots.{IsKept, path_at, state_of}
 use Rattle.redo_core.proofs.SlotLemmas.{slice_get-item}
 use Rattle.redo_core.proofs.TakeLemmas.{fits_one_more, found_job, taken_state, work_taken, running, first_item, kept-taken, below_items, turn_small, part-inside}
 use Rattle.redo_core.proofs.TableLemmas.{slice_get-place}
-use Rattle.redo_core.specs.Views.{BoardView, IsWorkTaken}
+use Rattle.redo_core.specs.Views.{BoardView, IsWorkTaken, jobs_out}
+use Rattle.redo_core.specs.Schedule.{IsOutAt}
+use Rattle.redo_core.specs.TakesLeft.{takes_left}
+use Rattle.redo_core.proofs.BoardCounts.{work_out, one_more, left_less}
 use Rattle.std.specs.Arc.{arc_value}
 use Rattle.redo_core.proofs.board.Board.take.Goals as goal
 use Rattle.redo_core.proofs.board.Board.take.Goals.{After-replace-stage}
@@ -80,3 +83,23 @@ index_mut-slot-requires c =
     let fact : c.in-Some.at < length b.table.slots.items = kept'.table.queue.ready_below c.in-Some.at
     (slice_get-place b.table.ready.items c.args.which c.in-Some.at (first_item b c.args.which c.in-Some.at count' c.in-Some.ensures.value)) in
     search rules
+
+below : (c : After-replace-stage) → c.args.which < length (state_of c.self.inside).ready
+below c = rw (running c.self.inside.stopped _ c.args.which (count c)) at (count c)
+
+pub returns-clause-is_out : goal.returns-clause-is_out
+returns-clause-is_out c =
+    let d = (goal.at-returns-clause-is_out c).After-replace-stage in
+    let P : BoardView → Type 0 = λ v. IsOutAt v.state c.in-Ready.work.target c.in-Ready.work.turn in
+    subst P (sym (returns-clause-ok c)) (work_out d.self.inside (kept d) (running d.self.inside.stopped _ d.args.which (count d)) d.args.which (below d) _ d.self.view_is c.in-Ready.work (returns-clause-work c))
+
+pub returns-clause-one_more : goal.returns-clause-one_more
+returns-clause-one_more c =
+    let d = (goal.at-returns-clause-one_more c).After-replace-stage in
+    ap jobs_out (returns-clause-ok c) ∙ one_more d.self.inside (kept d) (running d.self.inside.stopped _ d.args.which (count d)) d.args.which (below d) _ d.self.view_is
+
+pub returns-clause-left : goal.returns-clause-left
+returns-clause-left c =
+    let d = (goal.at-returns-clause-left c).After-replace-stage in
+    let P : BoardView → Type 0 = λ v. takes_left v.limits.0 v.state < takes_left c.args.self.now.limits.0 c.args.self.now.state in
+    subst P (sym (returns-clause-ok c)) (left_less d.self.inside (kept d) (running d.self.inside.stopped _ d.args.which (count d)) d.args.which (below d) _ d.self.view_is)

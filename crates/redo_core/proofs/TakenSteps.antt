@@ -1,0 +1,81 @@
+-- What a board has taken, one event further.
+use Rattle.std.proofs.Common.{◌≡◌, ℕ, ◌<◌, cond, is_some, length, List, [], ◌∷◌, ◌++◌, Option, Some, None, slice_get, option_and_then, append_assoc, append-nil, refl, sym, ap, subst, ◌∙◌, arith}
+use Rattle.redo_core.specs.Rules.{Rules}
+use Rattle.redo_core.specs.Schedule.{Entry, State, Event, IsOpen, entry_of, happens, opening, run}
+use Rattle.redo_core.specs.Schedule.Event.{Take, Hand_in}
+use Rattle.redo_core.specs.Takes.{takes, place_of, AreOnce, HasTaken}
+use Rattle.redo_core.specs.Views.{BoardView, WorkView, IsWorkTaken, after, ready_count, rules_on}
+use Rattle.redo_core.proofs.Entries.{entry_of-path}
+use Rattle.redo_core.proofs.Lawful.{rules_lawful}
+use Rattle.redo_core.proofs.Once.{takes-once}
+use Rattle.redo_core.proofs.Queues.{slice_get-among}
+use Rattle.redo_core.proofs.Soundness.{IsSound, opening-sound, run-sound}
+use Rattle.redo_core.proofs.TakeLemmas.{run-append, AllOpen-append}
+
+-- what one more event takes stands behind the others
+takes-append : (r : Rules) (events : List Event) (event : Event) (s : State) →
+    takes r (events ++ event ∷ []) s ≡ takes r events s ++ takes r (event ∷ []) (run r events s)
+takes-append r [] event s = refl
+takes-append r (Take which ∷ events) event s =
+    let here = place_of (option_and_then (entry_of s.entries) (slice_get s.ready which)) in
+    let next = happens r s (Take which) in
+    ap (λ xs. here ++ xs) (takes-append r events event next) ∙ sym (append_assoc here (takes r events next) (takes r (event ∷ []) (run r events next)))
+takes-append r (Hand_in target turn ∷ events) event s = takes-append r events event (happens r s (Hand_in target turn))
+
+below-length : {A : Type 0} (stopped : Option A) (n which : ℕ) → which < cond (is_some stopped) 0 n → which < n
+below-length None n which h = h
+below-length (Some stop) n which h = absurd (omega (arith, h))
+
+-- one more open event adds what it takes
+pub taken-more : (b : BoardView) (taken more : List ((List ℕ) × ℕ)) (event : Event) → HasTaken b taken → IsOpen b.state event →
+    takes (rules_on b) (event ∷ []) b.state ≡ more → HasTaken (after b event) (taken ++ more)
+taken-more b taken more event had open' one =
+    let r = rules_on b in
+    let first = opening r b.request in
+    let events = had.reached.events in
+    let P : State → Type 0 = λ s. IsOpen s event in
+    let there : takes r (event ∷ []) (run r events first) ≡ more = ap (takes r (event ∷ [])) (sym had.reached.ends) ∙ one in
+    record {
+      reached = record {
+        events = events ++ event ∷ [];
+        all_open = AllOpen-append r events event first had.reached.all_open (subst P had.reached.ends open');
+        ends = ap (λ s. happens r s event) had.reached.ends ∙ sym (run-append r events event first);
+      };
+      is = ap (λ xs. xs ++ more) had.is ∙ ap (λ xs. takes r events first ++ xs) (sym there) ∙ sym (takes-append r events event first);
+    }
+
+pub sound-taken : (b : BoardView) (taken : List ((List ℕ) × ℕ)) → HasTaken b taken → IsSound (rules_on b) b.request b.state
+sound-taken b taken had =
+    let r = rules_on b in
+    let lawful = rules_lawful b.tree b.limits in
+    let first = opening r b.request in
+    let P : State → Type 0 = IsSound r b.request in
+    subst P (sym had.reached.ends) (run-sound r lawful b.request first had.reached.events (opening-sound r lawful b.request) had.reached.all_open)
+
+-- a take adds its work's target and turn
+pub taken-take : (b : BoardView) (taken : List ((List ℕ) × ℕ)) (which : ℕ) (w : WorkView) → HasTaken b taken → which < ready_count b →
+    IsWorkTaken b which w → HasTaken (after b (Take which)) (taken ++ (w.target, w.turn) ∷ [])
+taken-take b taken which w had below work =
+    let r = rules_on b in
+    let fed = (sound-taken b taken had).queued.ready_fed w.target (slice_get-among b.state.ready which w.target work.target) in
+    let P : Option (List ℕ) → Type 0 = λ p. place_of (option_and_then (entry_of b.state.entries) p) ++ [] ≡ (w.target, w.turn) ∷ [] in
+    let Q : Option Entry → Type 0 = λ e. place_of e ++ [] ≡ (w.target, w.turn) ∷ [] in
+    let path : fed.0.path ≡ w.target = entry_of-path b.state.entries w.target fed.0 fed.1 in
+    let turn : fed.0.turn ≡ w.turn = sym (work.turn fed.0 fed.1).0 in
+    let here : place_of (Some fed.0) ++ [] ≡ (w.target, w.turn) ∷ [] = λ i. (path i, turn i) ∷ [] in
+    taken-more b taken ((w.target, w.turn) ∷ []) (Take which) had (below-length b.stopped (length b.state.ready) which below)
+    (subst P (sym work.target) (subst Q (sym fed.1) here))
+
+-- what is handed in adds nothing
+pub taken-hand_in : (b : BoardView) (taken : List ((List ℕ) × ℕ)) (target : List ℕ) (turn : ℕ) → HasTaken b taken →
+    IsOpen b.state (Hand_in target turn) → HasTaken (after b (Hand_in target turn)) taken
+taken-hand_in b taken target turn had open' =
+    let P : List ((List ℕ) × ℕ) → Type 0 = HasTaken (after b (Hand_in target turn)) in
+    subst P (append-nil taken) (taken-more b taken [] (Hand_in target turn) had open' refl)
+
+pub taken-once : (b : BoardView) (taken : List ((List ℕ) × ℕ)) → HasTaken b taken → AreOnce taken
+taken-once b taken had =
+    let r = rules_on b in
+    let lawful = rules_lawful b.tree b.limits in
+    let P : List ((List ℕ) × ℕ) → Type 0 = AreOnce in
+    subst P (sym had.is) (takes-once r lawful b.request had.reached.events (opening r b.request) (opening-sound r lawful b.request) had.reached.all_open)

@@ -1,0 +1,4 @@
+//! Small builds, and the text of reports.
+
+mod board;
+mod reports;

@@ -1,0 +1,83 @@
+-- A board may cross threads. Its parts hold syntax trees, so this is shown from the smallest up, in steps that `search` can take.
+use denote.RattleType.{RattleType}
+use denote.Param.SendFields.{as_row_send}
+use denote.Param.Send.{IsSend, IsSync, sendable}
+use Rattle.std.proofs.Crossing as heap
+use Rattle.std.proofs.marker.PhantomData.TheSendSync as phantom
+use Rattle.redo_run.specs.declared.workers.Build.{Ghosts}
+use Rattle.redo_run.specs.contracts.workers.Desk as Desk
+use Rattle.redo_run.specs.contracts.workers.Office as Office
+use Rattle.indexmap.proofs.set.IndexSet.TheSendSync as sets
+use Rattle.redo_path.proofs.Path.TheSendSync as path
+use Rattle.redo_tree.proofs.entries.Tree.TheSendSync as tree
+use Rattle.redo_which.proofs.Rule.TheSendSync as rule
+use Rattle.redo_script.proofs.ast.Stmt.TheLaws.TheKnot as stmt
+use Rattle.redo_script.proofs.ast.Command.TheSendSync as command
+use Rattle.redo_script.proofs.ast.Condition.TheSendSync as condition
+use Rattle.redo_script.proofs.fault.ScriptFault.TheSendSync as fault
+use Rattle.redo_step.proofs.limits.Limits.TheSendSync as limits
+use Rattle.redo_step.proofs.machine.Effects.TheSendSync as effects
+use Rattle.redo_step.proofs.place.Place.TheLaws.TheKnot as place
+use Rattle.redo_core.proofs.fact.Fact.TheSendSync as fact
+use Rattle.redo_core.proofs.facts.Facts.TheSendSync as facts
+use Rattle.redo_core.proofs.board.Stop.TheSendSync as stop
+use Rattle.redo_script.specs.contracts.ast.Script as Script
+use Rattle.redo_step.specs.contracts.parsed.Parsed as Parsed
+use Rattle.redo_step.specs.contracts.job.Task as Task
+use Rattle.redo_step.specs.contracts.job.Job as Job
+use Rattle.redo_core.specs.contracts.work.Script as Begun
+use Rattle.redo_core.specs.contracts.work.Work as Work
+use Rattle.redo_core.specs.contracts.table.Parked as Parked
+use Rattle.redo_core.specs.contracts.table.Stage as Stage
+use Rattle.redo_core.specs.contracts.table.Slot as Slot
+use Rattle.redo_core.specs.contracts.table.Table as Table
+use Rattle.redo_core.specs.contracts.board.Board as Board
+
+pub script_send : IsSend (Script.the_field).row
+script_send = search (stmt.crosses, command.the_field_send, condition.the_field_send, sendable, heap.crosses) depth 20
+
+pub script_sync : IsSync (Script.the_field).row
+script_sync = search (stmt.crosses, command.the_field_sync, condition.the_field_sync, sendable, heap.crosses) depth 20
+
+pub parsed_send : IsSend (Parsed.the_field).row
+parsed_send = search (script_send, fault.the_field_send, sendable, heap.crosses) depth 20
+
+pub parsed_sync : IsSync (Parsed.the_field).row
+parsed_sync = search (script_sync, fault.the_field_sync, sendable, heap.crosses) depth 20
+
+pub task_send : IsSend (Task.the_field).row
+task_send = search (parsed_send, parsed_sync, tree.the_send, tree.the_sync, path.the_send, rule.the_field_send, limits.the_send, sendable, heap.crosses) depth 20
+
+pub job_send : IsSend (Job.the_field).row
+job_send = search (task_send, path.the_send, place.send-Place, effects.the_field_send, sendable, heap.crosses) depth 20
+
+pub begun_send : IsSend (Begun.the_field).row
+begun_send = search (job_send, path.the_send, rule.the_field_send, sendable, heap.crosses) depth 20
+
+pub work_send : IsSend (Work.the_field).row
+work_send = search (begun_send, facts.the_field_send, tree.the_send, tree.the_sync, limits.the_send, sendable, heap.crosses) depth 20
+
+pub parked_send : IsSend (Parked.the_field).row
+parked_send = search (job_send, facts.the_field_send, sendable, heap.crosses) depth 20
+
+pub stage_send : IsSend (Stage.the_field).row
+stage_send = search (work_send, parked_send, fact.the_send, fact.the_sync, sendable, heap.crosses) depth 20
+
+pub slot_send : IsSend (Slot.the_field).row
+slot_send = search (stage_send, sendable, heap.crosses) depth 20
+
+pub table_send : IsSend (Table.the_field).row
+table_send = search (slot_send, sets.the_send, path.the_send, sendable, heap.crosses) depth 20
+
+pub board_send : IsSend (Board.the_field).row
+board_send = search (table_send, tree.the_send, tree.the_sync, path.the_send, limits.the_send, stop.the_field_send, sendable, heap.crosses) depth 20
+
+module _ (B : RattleType) (b : Ghosts B.Denot) where
+  desk_fields_send : IsSend (Desk.the_field B b).row
+  desk_fields_send = search (board_send, phantom.the_field_send, sendable, heap.crosses) depth 20
+
+  desk_send : IsSend (Desk.the_row B b)
+  desk_send = as_row_send (Desk.the_field B b) desk_fields_send
+
+  pub office_sync : IsSync (Office.the_row B b)
+  office_sync = search (desk_send, sendable, heap.crosses) depth 20

@@ -1,0 +1,14 @@
+use Rattle.std.proofs.Common.{◌≡◌, ℕ}
+use Rattle.std.specs.Prelude.{IsNone}
+use Rattle.redo_core.specs.TakesLeft.{takes_left}
+use Rattle.redo_core.specs.Views.{jobs_out}
+use Rattle.redo_run.proofs.one.build_one.Given as goal
+
+-- the board of this build runs, and no job is out
+abbrev pub invariant-loop-board : goal.invariant-loop-board
+invariant-loop-board l =
+    IsNone l.board.stopped × (jobs_out l.board ≡ 0) × (l.board.tree ≡ l.fn.tree) × (l.board.request ≡ l.request) × (l.board.limits ≡ l.fn.limits)
+
+-- each turn leaves fewer jobs to take
+abbrev pub decreases-loop-board : goal.decreases-loop-board
+decreases-loop-board l = takes_left l.board.limits.0 l.board.state

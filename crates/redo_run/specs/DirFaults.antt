@@ -1,0 +1,23 @@
+-- Faults of the parts of a run over a directory, as those of the run.
+use Rattle.redo_tree.specs.declared.faults.LoadFault.{LoadFault}
+use Rattle.redo_tree.specs.declared.faults.LoadFault.TheVariants as load
+use Rattle.redo_tree.specs.declared.faults.StoreFault.{StoreFault}
+use Rattle.redo_tree.specs.declared.faults.StoreFault.TheVariants as store
+use Rattle.redo_run.specs.declared.run_fault.RunFault.{RunFault}
+use Rattle.redo_run.specs.declared.run_fault.RunFault.TheVariants as build
+use Rattle.redo_run.specs.declared.dir_fault.RunDirFault.{RunDirFault}
+use Rattle.redo_run.specs.declared.dir_fault.RunDirFault.TheVariants as run
+
+abbrev pub of_load : LoadFault → RunDirFault
+of_load load.Device = run.Load
+of_load load.Memory = run.Memory
+
+abbrev pub of_run : RunFault → RunDirFault
+of_run build.TooMany = run.TooMany
+of_run build.Memory = run.Memory
+
+-- a file that couldn't be written, and one whose path is no text, are told by their place
+abbrev pub of_store : StoreFault → RunDirFault
+of_store (store.Device place) = run.Store place
+of_store (store.Name place) = run.Store place
+of_store (store.Memory place) = run.Memory

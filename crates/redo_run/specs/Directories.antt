@@ -1,0 +1,43 @@
+-- What a run over a directory leaves on its writer. What the directory held is known to no contract: there is some tree.
+use Rattle.std.specs.Prelude.{◌≡◌, ◌↔◌, Bool, false, IsTrue, IsSome, ℕ, List, Option, Result, Ok, Err}
+use Rattle.std.specs.Io.KnownBytes.{Appends}
+use Rattle.redo_core.specs.Build.{rules_of}
+use Rattle.redo_core.specs.Outcomes.{IsTooMany}
+use Rattle.redo_core.specs.ReportText.{report_text}
+use Rattle.redo_core.specs.declared.report.Report.{Report}
+use Rattle.redo_tree.specs.Tree.{Tree}
+use Rattle.redo_which.specs.Rule.{chosen_of}
+use Rattle.redo_run.specs.declared.exit.Exit.{Exit}
+use Rattle.redo_run.specs.declared.options.Options.{Options}
+use Rattle.redo_run.specs.declared.dir_fault.RunDirFault.{RunDirFault}
+use Rattle.redo_run.specs.declared.dir_fault.RunDirFault.TheVariants.{Load, TooMany, Store, Device, Memory}
+use Rattle.redo_run.specs.Candidates.{candidate_text}
+use Rattle.redo_run.specs.Exits.{IsExit}
+use Rattle.redo_run.specs.Runs.{IsReportFor, request_in}
+
+-- the writer took the report of the build of a tree, without the files, and nothing else
+pub record ReportsTree (options : Options) (old new : Option (List ℕ)) (exit : Exit) : Type 0 where
+  pub tree : Tree
+  pub report : Report
+  pub is : IsReportFor options tree report
+  pub written : Appends old new (report_text report false)
+  pub good : IsExit (rules_of tree options.limits) options.limits.0 (request_in options) exit
+
+-- a tree needs too many targets
+abbrev pub NeedsTooMany : Options → Type 0
+NeedsTooMany options = (tree : Tree) × IsTooMany (rules_of tree options.limits) (request_in options) options.limits.0
+
+-- the writer took the list of the target's candidates in a tree, and nothing else
+pub record ListsTree (target : List ℕ) (old new : Option (List ℕ)) (found : Bool) : Type 0 where
+  pub tree : Tree
+  pub written : Appends old new (candidate_text tree target)
+  pub chosen : IsTrue found ↔ IsSome (chosen_of tree target)
+
+-- nothing was written, unless the call went well or the writer failed
+abbrev pub IsUnwritten : {A W : Type 0} → Result A RunDirFault → W → W → Type 0
+IsUnwritten (Ok x) old new = Unit {0}
+IsUnwritten (Err Load) old new = new ≡ old
+IsUnwritten (Err TooMany) old new = new ≡ old
+IsUnwritten (Err (Store place)) old new = new ≡ old
+IsUnwritten (Err Device) old new = Unit {0}
+IsUnwritten (Err Memory) old new = new ≡ old

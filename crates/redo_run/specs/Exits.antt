@@ -1,0 +1,36 @@
+-- Whether a run went well.
+use Rattle.std.specs.Prelude.{◌≡◌, ◌↔◌, Bool, true, false, not, ◌&&◌, ℕ, List}
+use Rattle.std.specs.Cmp.Lexicographic.{slice_cmp}
+use Rattle.std.specs.List.{list_any}
+use Rattle.std.specs.Ordering.{nat_cmp, is_eq}
+use Rattle.redo_core.specs.Outcomes.{final_outcome}
+use Rattle.redo_core.specs.Paths.{IsAmong}
+use Rattle.redo_core.specs.Rules.{Rules}
+use Rattle.redo_core.specs.declared.report.Row.{Row}
+use Rattle.redo_run.specs.declared.exit.Exit.{Exit}
+use Rattle.redo_run.specs.declared.exit.Exit.TheVariants.{Good}
+use Rattle.redo_step.specs.declared.outcome.Outcome.{Outcome}
+use Rattle.redo_step.specs.declared.outcome.Outcome.TheVariants.{Source, Built, Failed, Cyclic}
+
+-- a source, or built
+abbrev pub is_made : Outcome → Bool
+is_made Source = true
+is_made (Built bytes) = true
+is_made (Failed why) = false
+is_made Cyclic = false
+
+-- every requested path is a source or built
+abbrev pub AllAreMade : Rules → ℕ → List (List ℕ) → Type 0
+AllAreMade r limit request = (p : List ℕ) → IsAmong request p → is_made (final_outcome r limit p) ≡ true
+
+-- a run is good exactly where every requested path is
+abbrev pub IsExit : Rules → ℕ → List (List ℕ) → Exit → Type 0
+IsExit r limit request exit = (exit ≡ Good) ↔ AllAreMade r limit request
+
+-- the path is one of the keys
+abbrev pub is_listed : List (List ℕ) → List ℕ → Bool
+is_listed keys p = list_any (λ q. is_eq (slice_cmp nat_cmp p q)) keys
+
+-- the row is of a listed path and tells of no success
+abbrev pub fails : List (List ℕ) → Row → Bool
+fails keys row = not (is_made row.outcome) && is_listed keys row.path

@@ -1,0 +1,95 @@
+//! Why a run over a directory has no result.
+
+ghost use Rattle.std.specs.Prelude.{◌≡◌};
+
+use crate::RunFault;
+use redo_tree::{Broken, LoadFault, StoreFault};
+use std::alloc::{AllocError, AllocFailed};
+use thiserror::Error;
+
+/// Why a run over a directory has no result.
+#[derive(Clone, Copy, Debug, PartialEq, Eq, Error)]
+pub enum RunDirFault {
+    #[error("the directory could not be read")]
+    Load,
+    #[error("more targets are needed than the limit allows")]
+    TooMany,
+    /// The built file at this place, counted from 0 in path order, could not be stored. Those before it were.
+    #[error("the built file at place {0} could not be stored")]
+    Store(usize),
+    #[error("the writer failed")]
+    Device,
+    #[error("out of memory")]
+    Memory,
+}
+
+impl From<AllocError> for RunDirFault {
+    ghost use Rattle.redo_run.specs.declared.dir_fault.RunDirFault.TheVariants.{Memory};
+
+    ghost from_gives = { λ _ fault. fault ≡ Memory };
+
+    fn from(_error: AllocError) -> RunDirFault {
+        RunDirFault::Memory
+    }
+}
+
+impl<T: Drop> From<AllocFailed<T>> for RunDirFault {
+    ghost use Rattle.redo_run.specs.declared.dir_fault.RunDirFault.TheVariants.{Memory};
+
+    ghost from_gives = { λ _ fault. fault ≡ Memory };
+
+    fn from(_error: AllocFailed<T>) -> RunDirFault {
+        RunDirFault::Memory
+    }
+}
+
+impl From<Broken> for RunDirFault {
+    ghost use Rattle.redo_run.specs.declared.dir_fault.RunDirFault.TheVariants.{Device};
+
+    ghost from_gives = { λ _ fault. fault ≡ Device };
+
+    fn from(_error: Broken) -> RunDirFault {
+        RunDirFault::Device
+    }
+}
+
+/// Want of memory in the load is that of the run.
+impl From<LoadFault> for RunDirFault {
+    ghost use Rattle.redo_run.specs.DirFaults.{of_load};
+
+    ghost from_gives = { λ error fault. fault ≡ of_load error };
+
+    fn from(error: LoadFault) -> RunDirFault {
+        match error {
+            LoadFault::Device => RunDirFault::Load,
+            LoadFault::Memory => RunDirFault::Memory,
+        }
+    }
+}
+
+impl From<RunFault> for RunDirFault {
+    ghost use Rattle.redo_run.specs.DirFaults.{of_run};
+
+    ghost from_gives = { λ error fault. fault ≡ of_run error };
+
+    fn from(error: RunFault) -> RunDirFault {
+        match error {
+            RunFault::TooMany => RunDirFault::TooMany,
+            RunFault::Memory => RunDirFault::Memory,
+        }
+    }
+}
+
+/// Want of memory in the store is that of the run.
+impl From<StoreFault> for RunDirFault {
+    ghost use Rattle.redo_run.specs.DirFaults.{of_store};
+
+    ghost from_gives = { λ error fault. fault ≡ of_store error };
+
+    fn from(error: StoreFault) -> RunDirFault {
+        match error {
+            StoreFault::Device(place) | StoreFault::Name(place) => RunDirFault::Store(place),
+            StoreFault::Memory(_) => RunDirFault::Memory,
+        }
+    }
+}

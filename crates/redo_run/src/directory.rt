@@ -1,0 +1,77 @@
+//! Runs over a directory of the system.
+
+ghost use Rattle.std.specs.Prelude.{◌≡◌, false, IfOk, IsErrOf, true};
+ghost use Rattle.redo_run.specs.Directories.{IsUnwritten, ListsTree, ReportsTree, NeedsTooMany};
+
+use crate::candidates::text_of_search;
+use crate::exit::exit_after;
+use crate::request::requested;
+use crate::workers::build_many;
+use crate::{Exit, Gate, Options, RunDirFault};
+use redo_core::report_text::report_text;
+use redo_path::Path;
+use redo_tree::{ByteOut, load_dir, store_files, write_all};
+use redo_which::lookup::search;
+use std::alloc::Global;
+use std::rt::Files;
+use std::sync::Wait;
+use std::thread::Threads;
+
+/// Reads a directory with all that is below it, builds the targets, writes the files that were built into the directory,
+/// and then writes the report, without the files. Answers too how many names were passed over, as `load_dir` says.
+///
+/// Nothing is written before the build has answered. Where a file can't be stored, those before it in path order were, and
+/// no report is written; where the report can't be written, all files were stored. A file that stands in the directory, one
+/// of an earlier run too, is a source.
+pub fn run_dir<H: Threads + Wait + Sync + Files, W: ByteOut, G: Gate>(
+    rt: &H,
+    alloc: Global,
+    dir: &str,
+    writer: &mut W,
+    options: &Options,
+    gate: &G,
+) -> Result<(Exit, u64), RunDirFault>
+    requires writer { W.has_failed writer.old ≡ false }
+    ensures report { IfOk result (λ run. ReportsTree options.now (W.held writer.old) (W.held writer.new) run.0) }
+    ensures too_many { IsErrOf result RunDirFault.TooMany → NeedsTooMany options.now }
+    ensures untouched { IsUnwritten result writer.old writer.new }
+    ensures device { IsErrOf result RunDirFault.Device → W.has_failed writer.new ≡ true }
+{
+    let (tree, passed) = load_dir(rt, alloc, dir)?;
+    let request = requested(alloc, &options.targets)?;
+    let report = build_many(
+        rt,
+        alloc,
+        tree,
+        &request,
+        options.limits,
+        options.workers,
+        gate,
+    )?;
+    let exit = exit_after(alloc, &report, &request)?;
+    let text = report_text(alloc, &report, false)?;
+    store_files(rt, alloc, dir, &report.files)?;
+    write_all(writer, &text)?;
+    Ok((exit, passed))
+}
+
+/// Reads a directory with all that is below it, and writes the candidates for a target's rule, as `whichdo_bundle` does.
+/// Answers whether one of them is a file, and how many names were passed over.
+pub fn whichdo_dir<H: Files, W: ByteOut>(
+    rt: &H,
+    alloc: Global,
+    dir: &str,
+    writer: &mut W,
+    target: &Path,
+) -> Result<(bool, u64), RunDirFault>
+    requires writer { W.has_failed writer.old ≡ false }
+    ensures list { IfOk result (λ run. ListsTree target.now (W.held writer.old) (W.held writer.new) run.0) }
+    ensures untouched { IsUnwritten result writer.old writer.new }
+    ensures device { IsErrOf result RunDirFault.Device → W.has_failed writer.new ≡ true }
+{
+    let (tree, passed) = load_dir(rt, alloc, dir)?;
+    let found = search(alloc, &tree, target)?;
+    let text = text_of_search(alloc, &found)?;
+    write_all(writer, &text)?;
+    Ok((found.chosen.is_some(), passed))
+}

@@ -1,0 +1,62 @@
+//! Whether a run went well.
+
+ghost use Rattle.std.specs.Prelude.{◌≡◌, [], IfOk, ℕ};
+ghost use Rattle.std.specs.List.{list_any};
+ghost use Rattle.redo_core.specs.Reports.{IsReport};
+ghost use Rattle.redo_core.specs.Rules.{Rules};
+ghost use Rattle.redo_core.specs.Reported.{placed};
+ghost use Rattle.redo_run.specs.Exits.{IsExit, fails, is_made};
+
+use redo_core::report::{Report, Row};
+use redo_path::Path;
+use redo_step::Outcome;
+use std::alloc::{AllocError, Global};
+use std::collections::BTreeSet;
+
+/// Whether every requested path is a source or built.
+#[derive(Clone, Copy, Debug, PartialEq, Eq)]
+pub enum Exit {
+    Good,
+    SomeFailed,
+}
+
+/// Whether there is something at the path: a source, or what a target was built to.
+fn is_made_by(outcome: &Outcome) -> bool
+    ensures { result ≡ is_made outcome.now }
+{
+    matches!(outcome, Outcome::Source | Outcome::Built(_))
+}
+
+/// The paths, to look up.
+fn set_of(alloc: Global, paths: &[Path]) -> Result<BTreeSet<Path>, AllocError>
+    ensures { IfOk result (λ set. set.keys ≡ placed [] paths.now) }
+{
+    let mut set = BTreeSet::new(alloc);
+    for path in paths {
+        set.insert(path.clone()?)?;
+    }
+    Ok(set)
+}
+
+/// Whether one of these paths has a row that tells of no success.
+fn has_failed(wanted: &BTreeSet<Path>, rows: &[Row]) -> bool
+    ensures { result ≡ list_any (fails wanted.now.keys) rows.now }
+{
+    rows.iter().any(|row| !is_made_by(&row.outcome) && wanted.contains(&row.path))
+}
+
+/// Whether every requested path is a source or built.
+pub(crate) fn exit_after(
+    alloc: Global,
+    report: &Report,
+    request: &[Path],
+) -> Result<Exit, AllocError>
+    ensures { (r : Rules) (limit : ℕ) → IsReport r request.now limit report.now → IfOk result (IsExit r limit request.now) }
+{
+    let wanted = set_of(alloc, request)?;
+    if has_failed(&wanted, &report.rows) {
+        Ok(Exit::SomeFailed)
+    } else {
+        Ok(Exit::Good)
+    }
+}

@@ -1,0 +1,56 @@
+//! A build by one thread.
+
+ghost use Rattle.std.specs.Prelude.{◌≡◌, ◌<◌, Err, IfOk, IsNone, OnOk};
+ghost use Rattle.redo_core.specs.Build.{rules_of};
+ghost use Rattle.redo_core.specs.Faults.{IsSameBuild};
+ghost use Rattle.redo_core.specs.Outcomes.{IsTooMany};
+ghost use Rattle.redo_core.specs.Reports.{IsReport};
+ghost use Rattle.redo_core.specs.TakesLeft.{takes_left};
+ghost use Rattle.redo_core.specs.Views.{jobs_out, ready_count, rules_on};
+
+use crate::RunFault;
+use redo_core::board::{Board, HandFault};
+use redo_core::report::Report;
+use redo_path::Path;
+use redo_step::Limits;
+use redo_tree::Tree;
+use std::alloc::Global;
+use std::sync::Arc;
+
+/// Takes the target that has been ready longest, advances its script, and hands it in.
+fn advance_first(board: &mut Board) -> Result<(), RunFault>
+    requires ready { 0 < ready_count board.old }
+    requires none_out { jobs_out board.old ≡ 0 }
+    requires running { IsNone board.old.stopped }
+    ensures build { OnOk result (IsSameBuild board.old board.new) }
+    ensures none_out { OnOk result (jobs_out board.new ≡ 0) }
+    ensures running { OnOk result (IsNone board.new.stopped) }
+    ensures left { OnOk result (takes_left board.new.limits.0 board.new.state < takes_left board.old.limits.0 board.old.state) }
+    ensures too_many { result ≡ Err RunFault.TooMany → IsTooMany (rules_on board.old) board.old.request board.old.limits.0 }
+{
+    let work = board.take(0)?;
+    let piece = work.advance()?;
+    match board.hand_in(piece) {
+        Ok(()) => Ok(()),
+        Err(HandFault::TooMany) => Err(RunFault::TooMany),
+        Err(HandFault::Memory) => Err(RunFault::Memory),
+        Err(HandFault::Stranger(_)) => unreachable!(),
+    }
+}
+
+/// Builds the requested targets and all that they need, one script after another, and keeps going where one fails.
+pub fn build_one(
+    alloc: Global,
+    tree: Tree,
+    request: &[Path],
+    limits: Limits,
+) -> Result<Report, RunFault>
+    ensures report { IfOk result (IsReport (rules_of tree limits) request.now limits.0) }
+    ensures too_many { result ≡ Err RunFault.TooMany → IsTooMany (rules_of tree limits) request.now limits.0 }
+{
+    let mut board = Board::open(alloc, Arc::new(alloc, tree)?, request, limits)?;
+    while board.ready() > 0 {
+        advance_first(&mut board)?;
+    }
+    Ok(board.finish()?)
+}

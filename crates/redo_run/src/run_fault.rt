@@ -1,0 +1,65 @@
+//! Why a build has no report.
+
+ghost use Rattle.std.specs.Prelude.{◌≡◌};
+
+use redo_core::board::{OpenFault, Stop};
+use std::alloc::{AllocError, AllocFailed};
+use thiserror::Error;
+
+/// Why a build has no report.
+#[derive(Clone, Copy, Debug, PartialEq, Eq, Error)]
+pub enum RunFault {
+    #[error("more targets are needed than the limit allows")]
+    TooMany,
+    /// A growth was refused, or a thread could not be started.
+    #[error("out of memory")]
+    Memory,
+}
+
+impl From<AllocError> for RunFault {
+    ghost use Rattle.redo_run.specs.declared.run_fault.RunFault.TheVariants.{Memory};
+
+    ghost from_gives = { λ _ fault. fault ≡ Memory };
+
+    fn from(_error: AllocError) -> RunFault {
+        RunFault::Memory
+    }
+}
+
+impl<T: Drop> From<AllocFailed<T>> for RunFault {
+    ghost use Rattle.redo_run.specs.declared.run_fault.RunFault.TheVariants.{Memory};
+
+    ghost from_gives = { λ _ fault. fault ≡ Memory };
+
+    fn from(_error: AllocFailed<T>) -> RunFault {
+        RunFault::Memory
+    }
+}
+
+/// No board was opened.
+impl From<OpenFault> for RunFault {
+    ghost use Rattle.redo_run.specs.RunFaults.{of_opening};
+
+    ghost from_gives = { λ error fault. fault ≡ of_opening error };
+
+    fn from(error: OpenFault) -> RunFault {
+        match error {
+            OpenFault::TooMany => RunFault::TooMany,
+            OpenFault::Memory => RunFault::Memory,
+        }
+    }
+}
+
+/// The board has stopped.
+impl From<Stop> for RunFault {
+    ghost use Rattle.redo_run.specs.RunFaults.{of_stop};
+
+    ghost from_gives = { λ stop fault. fault ≡ of_stop stop };
+
+    fn from(stop: Stop) -> RunFault {
+        match stop {
+            Stop::TooMany => RunFault::TooMany,
+            Stop::Memory => RunFault::Memory,
+        }
+    }
+}

@@ -1,0 +1,245 @@
+//! Builds by many workers: one report, whatever they do when.
+
+ghost use Rattle.std.specs.Prelude.{◌≤◌};
+
+use crate::{Gate, NoGate, RunFault, build_many};
+use redo_core::report_text::report_text;
+use redo_path::{Path, resolve};
+use redo_step::Limits;
+use redo_tree::Tree;
+use std::alloc::Global;
+use std::sync::Wait;
+use std::sync::atomic::{AtomicU64, Ordering};
+use std::test::Fail;
+use std::thread::{Threads, yield_now};
+
+type Files = &'static [(&'static [u8], &'static [u8])];
+
+const DIAMOND: Files = &[
+    (b"top.do", b"redo-ifchange left right\ncat left right\n"),
+    (b"left.do", b"redo-ifchange base\ncat base\n"),
+    (b"right.do", b"redo-ifchange base\ncat base\n"),
+    (b"base.do", b"echo b\n"),
+];
+
+const DIAMOND_REPORT: &[u8] =
+    b"built 2 base\ndep change base.do\nbuilt 2 left\ndep change left.do\ndep change base\nbuilt 2 right\ndep change right.do\ndep change base\nbuilt 4 top\ndep change top.do\ndep change left\ndep change right\nbegun base\nbegun left\nbegun right\nbegun top\nfile 2 base\nb\n\nfile 2 left\nb\n\nfile 2 right\nb\n\nfile 4 top\nb\nb\n\nend\n";
+
+const ENDLESS: Files = &[(b"default.do", b"redo-ifchange \"$1\"x\n")];
+
+/// A rule, the files of a tree, the requested words, and the whole report.
+const CYCLES: [(&str, Files, &[&[u8]], &[u8]); 3] = [
+    (
+        "a ring is cyclic, and so is what waits for it",
+        &[
+            (b"a.do", b"redo-ifchange b\n"),
+            (b"b.do", b"redo-ifchange a\n"),
+            (b"t.do", b"redo-ifchange a\n"),
+            (b"u.do", b"echo u\n"),
+        ],
+        &[b"t", b"u"],
+        b"cyclic a\ndep change a.do\ndep change b\ncyclic b\ndep change b.do\ndep change a\ncyclic t\ndep change t.do\ndep change a\nbuilt 2 u\ndep change u.do\nbegun a\nbegun b\nbegun t\nbegun u\nfile 2 u\nu\n\nend\n",
+    ),
+    (
+        "a target that asks for itself is cyclic",
+        &[(b"s.do", b"redo-ifchange \"$1\"\n")],
+        &[b"s"],
+        b"cyclic s\ndep change s.do\ndep change s\nbegun s\nend\n",
+    ),
+    (
+        "a cyclic operand goes before a failed one",
+        &[
+            (b"m.do", b"redo-ifchange bad loop\n"),
+            (b"bad.do", b"exit 1\n"),
+            (b"loop.do", b"redo-ifchange loop\n"),
+        ],
+        &[b"m"],
+        b"failed exit 1 bad\ndep change bad.do\ncyclic loop\ndep change loop.do\ndep change loop\ncyclic m\ndep change m.do\ndep change bad\ndep change loop\nbegun bad\nbegun loop\nbegun m\nend\n",
+    ),
+];
+
+fn tree_of(alloc: Global, files: Files) -> Result<Tree, Fail> {
+    let root = Path::root();
+    let mut tree = Tree::new(alloc)?;
+    for (name, text) in files {
+        tree.add_file(&resolve(alloc, &root, name)?, Vec::from_slice(alloc, text)?)?;
+    }
+    Ok(tree)
+}
+
+fn paths_of(alloc: Global, words: &[&[u8]]) -> Result<Vec<Path>, Fail> {
+    let root = Path::root();
+    let mut paths = Vec::new(alloc);
+    for word in words {
+        paths.push(resolve(alloc, &root, word)?)?;
+    }
+    Ok(paths)
+}
+
+/// The text of what so many workers build, or why they don't.
+fn built_by<R: Threads + Wait + Sync, G: Gate>(
+    rt: &R,
+    alloc: Global,
+    tree: Tree,
+    words: &[&[u8]],
+    targets: u32,
+    workers: usize,
+    gate: &G,
+) -> Result<Result<Vec<u8>, RunFault>, Fail>
+    requires some { 1 ≤ workers }
+    requires few { workers ≤ 64 }
+{
+    let limits = Limits::new(targets, 1_000_000).ok_or("no limits")?;
+    let request = paths_of(alloc, words)?;
+    match build_many(rt, alloc, tree, &request, limits, workers, gate) {
+        Ok(report) => Ok(Ok(report_text(alloc, &report, true)?)),
+        Err(fault) => Ok(Err(fault)),
+    }
+}
+
+#[test]
+fn builds_a_diamond(rt: HostRuntime) -> Result<(), Fail> {
+    let alloc = rt.alloc();
+    for workers in [1, 8] {
+        let tree = tree_of(alloc, DIAMOND)?;
+        let text = built_by(&rt, alloc, tree, &[b"top"], 100, workers, &NoGate)??;
+        assert_eq!(rt; text.as_slice(), DIAMOND_REPORT, "{workers} workers");
+    }
+    Ok(())
+}
+
+#[test]
+fn refuses_too_many_targets(rt: HostRuntime) -> Result<(), Fail> {
+    let alloc = rt.alloc();
+    for workers in [1, 8] {
+        let tree = tree_of(alloc, ENDLESS)?;
+        let answer = built_by(&rt, alloc, tree, &[b"a"], 100, workers, &NoGate)?;
+        assert!(rt;
+            answer.err() == Some(RunFault::TooMany),
+            "{workers} workers"
+        );
+    }
+    Ok(())
+}
+
+#[test]
+fn finds_cycles(rt: HostRuntime) -> Result<(), Fail> {
+    let alloc = rt.alloc();
+    for (rule, files, words, report) in CYCLES {
+        let tree = tree_of(alloc, files)?;
+        let text = built_by(&rt, alloc, tree, words, 100, 8, &NoGate)??;
+        assert_eq!(rt; text.as_slice(), report, "{rule}");
+    }
+    Ok(())
+}
+
+/// A hundred targets, of which each asks for the next.
+fn chain(alloc: Global) -> Result<Tree, Fail> {
+    let root = Path::root();
+    let mut tree = Tree::new(alloc)?;
+    for number in 101..200u32 {
+        let name = format!(in alloc; "t{number}.do")?;
+        let text = format!(in alloc; "redo-ifchange t{}\n", number + 1)?;
+        let path = resolve(alloc, &root, name.as_bytes())?;
+        tree.add_file(&path, Vec::from_slice(alloc, text.as_bytes())?)?;
+    }
+    let last = resolve(alloc, &root, b"t200.do")?;
+    tree.add_file(&last, Vec::from_slice(alloc, b"echo end\n")?)?;
+    Ok(tree)
+}
+
+#[test]
+fn holds_the_limit_of_targets(rt: HostRuntime) -> Result<(), Fail> {
+    let alloc = rt.alloc();
+    let text = built_by(&rt, alloc, chain(alloc)?, &[b"t101"], 100, 8, &NoGate)??;
+    let lines = text.as_slice().split(|byte| *byte == b'\n');
+    let without_file = lines
+        .filter(|line| line.starts_with(b"built none "))
+        .count();
+    assert_eq!(rt; without_file, 99);
+    let answer = built_by(&rt, alloc, chain(alloc)?, &[b"t101"], 99, 8, &NoGate)?;
+    assert!(rt; answer.err() == Some(RunFault::TooMany));
+    Ok(())
+}
+
+/// Holds who enters until two have entered, for so many yields at most, and notes who waited in vain.
+#[derive(Drop)]
+struct Pair {
+    entered: AtomicU64,
+    in_vain: AtomicU64,
+}
+
+impl Gate for Pair {
+    fn enter(&self, _target: &Path, _turn: u64) {
+        self.entered.fetch_add(1, Ordering::SeqCst);
+        for _ in 0..1_000_000u32 {
+            if self.entered.load(Ordering::SeqCst) >= 2 {
+                return;
+            }
+            yield_now();
+        }
+        self.in_vain.fetch_add(1, Ordering::SeqCst);
+    }
+}
+
+#[test]
+fn both_must_be_inside(rt: HostRuntime) -> Result<(), Fail> {
+    let alloc = rt.alloc();
+    let tree = tree_of(alloc, &[(b"a.do", b"echo a\n"), (b"b.do", b"echo b\n")])?;
+    let pair = Pair {
+        entered: AtomicU64::new(0),
+        in_vain: AtomicU64::new(0),
+    };
+    let answer = built_by(&rt, alloc, tree, &[b"a", b"b"], 100, 2, &pair)?;
+    assert!(rt; answer.is_ok());
+    assert_eq!(rt; pair.in_vain.load(Ordering::SeqCst), 0);
+    Ok(())
+}
+
+/// What the script of a target does: some fail, some stand in rings, and most ask for two others.
+fn soaked_script(alloc: Global, number: u32) -> Result<String, Fail>
+    requires { number ≤ 299 }
+{
+    if number % 17 == 0 {
+        return Ok(format!(in alloc; "exit {}\n", number % 100)?);
+    }
+    if number > 285 {
+        return Ok(format!(in alloc; "echo {number}\n")?);
+    }
+    if number > 280 {
+        return Ok(format!(in alloc; "redo-ifchange t{}\n", 566 - number)?);
+    }
+    let (near, far) = ((number + 20).min(299), (number + 31).min(299));
+    Ok(format!(in alloc; "redo-ifchange t{near} t{far}\ncat t{near} t{far}\n")?)
+}
+
+fn soaked_tree(alloc: Global) -> Result<Tree, Fail> {
+    let root = Path::root();
+    let mut tree = Tree::new(alloc)?;
+    for number in 100..300u32 {
+        let name = format!(in alloc; "t{number}.do")?;
+        let text = soaked_script(alloc, number)?;
+        let path = resolve(alloc, &root, name.as_bytes())?;
+        tree.add_file(&path, Vec::from_slice(alloc, text.as_bytes())?)?;
+    }
+    Ok(tree)
+}
+
+const SOAKED: &[&[u8]] = &[
+    b"t100", b"t101", b"t103", b"t104", b"t105", b"t106", b"t107", b"t108", b"t109", b"t110",
+    b"t111", b"t112", b"t113", b"t114", b"t115", b"t116", b"t117", b"t118", b"t119", b"t102",
+];
+
+#[test]
+fn one_report_in_every_order(rt: HostRuntime) -> Result<(), Fail> {
+    let alloc = rt.alloc();
+    let first = built_by(&rt, alloc, soaked_tree(alloc)?, SOAKED, 200, 1, &NoGate)??;
+    for _ in 0..50u32 {
+        for workers in [1, 2, 8, 64] {
+            let tree = soaked_tree(alloc)?;
+            let text = built_by(&rt, alloc, tree, SOAKED, 200, workers, &NoGate)??;
+            assert!(rt; text == first, "{workers} workers");
+        }
+    }
+    Ok(())
+}

@@ -1,0 +1,65 @@
+-- What runs of bytes in quotes do to reading.
+use Rattle.std.proofs.Common.{◌≡◌, ◌≢◌, ℕ, zero, suc, ◌<◌, ◌+◌, Bool, true, false, not, ◌&&◌, ◌||◌, ◌==◌, List, [], ◌∷◌, ◌++◌, map, take, length, get_or, add-one, refl, sym, ap, ◌∙◌, append_assoc, arith, ◌⊎◌, inl, inr}
+use Rattle.std.proofs.lemmas.List.{append-nil, map-append}
+use Rattle.std.proofs.lemmas.Bool.{and_parts, or_parts, both_ways, eq-eqb}
+use Rattle.redo_script.specs.declared.lexer.Mode.{Mode}
+use Rattle.redo_script.specs.declared.lexer.Mode.TheVariants as modes
+use Rattle.redo_script.specs.declared.ast.Part.{Part}
+use Rattle.redo_script.specs.View.{symbols_of}
+use Rattle.redo_script.specs.Syntax.{byte}
+use Rattle.redo_script.specs.Tokens.{is_escaped, line_after}
+use Rattle.redo_script.specs.Reading.{Reader, read_on}
+use Rattle.redo_script.specs.Runs.{is_special, all_quotable}
+use Rattle.redo_script.proofs.OneByte.{at, symbol_more, single_byte, double_byte}
+
+abbrev quoted_more : Reader → List ℕ → Reader
+quoted_more r bs = record r { word = r.word ++ map byte bs }
+
+not_so : (b : Bool) → not b ≡ true → b ≡ false
+not_so true h = absurd (both_ways (not true) refl h)
+not_so false h = refl
+
+-- a reader in quotes of this kind takes such a byte into the word
+abbrev Takes : Mode → Type 0
+Takes m = (r : Reader) (b : ℕ) (bs : List ℕ) → is_special b ≡ false → read_on (at m r.line r) (b ∷ bs) ≡ read_on (at m r.line (symbol_more r (byte b))) bs
+
+takes_single : Takes modes.Single
+takes_single r b bs h =
+    let p = or_parts _ (b == 10) h in
+    let q = or_parts (is_escaped b) (b == 39) p.0 in
+    let line : line_after r.line b ≡ r.line = rw p.1 refl in
+    single_byte r.line r b bs (λ e. both_ways (b == 39) q.1 (eq-eqb b 39 e)) ∙ ap (λ l. read_on (at modes.Single l (symbol_more r (byte b))) bs) line
+
+takes_double : Takes modes.Double
+takes_double r b bs h =
+    let p = or_parts _ (b == 10) h in
+    let q = or_parts (is_escaped b) (b == 39) p.0 in
+    let line : line_after r.line b ≡ r.line = rw p.1 refl in
+    double_byte r.line r b bs q.0 ∙ ap (λ l. read_on (at modes.Double l (symbol_more r (byte b))) bs) line
+
+quoted_run : (m : Mode) → Takes m → (r : Reader) (run rest : List ℕ) → all_quotable run ≡ true → read_on (at m r.line r) (run ++ rest) ≡ read_on (at m r.line (quoted_more r run)) rest
+quoted_run m takes r [] rest h = rw (append-nil r.word) refl
+quoted_run m takes r (b ∷ run) rest h =
+    let p = and_parts (not (is_special b)) (all_quotable run) h in
+    let same : quoted_more (symbol_more r (byte b)) run ≡ quoted_more r (b ∷ run) = rw (append_assoc r.word (byte b ∷ []) (map byte run)) refl in
+    takes r b (run ++ rest) (not_so (is_special b) p.0) ∙ (quoted_run m takes (symbol_more r (byte b)) run rest p.1 ∙ ap (λ q. read_on (at m r.line q) rest) same)
+
+run_passed : (m : Mode) → Takes m → (r : Reader) (text bytes rest : List ℕ) (n : ℕ) (parts : List Part) (literal literal' : List ℕ) → r.mode ≡ m → r.word ≡ symbols_of parts ++ map byte literal → text ≡ bytes ++ rest → bytes ≡ take n text → all_quotable (take n text) ≡ true → literal' ≡ literal ++ bytes → read_on (record r { word = symbols_of parts ++ map byte literal' }) rest ≡ read_on r text
+run_passed m takes r text bytes rest n parts literal literal' e w t f quotable l =
+    let all : all_quotable bytes ≡ true = ap all_quotable f ∙ quotable in
+    let same : at m r.line r ≡ r = ap (λ k. at k r.line r) (sym e) in
+    let more : symbols_of parts ++ map byte literal' ≡ r.word ++ map byte bytes = rw (l, w, map-append byte literal bytes) (sym (append_assoc (symbols_of parts) (map byte literal) (map byte bytes))) in
+    rw more (ap (λ q. read_on (quoted_more q bytes) rest) (sym same) ∙ (sym (quoted_run m takes r bytes rest all) ∙ (ap (λ q. read_on q (bytes ++ rest)) same ∙ ap (λ bs. read_on r bs) (sym t))))
+
+-- bytes behind the pieces of a word, in quotes
+pub quoted_taken : (r : Reader) (text bytes rest : List ℕ) (n : ℕ) (parts : List Part) (literal literal' : List ℕ) → (r.mode ≡ modes.Single) ⊎ (r.mode ≡ modes.Double) → r.word ≡ symbols_of parts ++ map byte literal → text ≡ bytes ++ rest → bytes ≡ take n text → all_quotable (take n text) ≡ true → literal' ≡ literal ++ bytes → read_on (record r { word = symbols_of parts ++ map byte literal' }) rest ≡ read_on r text
+quoted_taken r text bytes rest n parts literal literal' (inl e) w t f quotable l = run_passed modes.Single takes_single r text bytes rest n parts literal literal' e w t f quotable l
+quoted_taken r text bytes rest n parts literal literal' (inr e) w t f quotable l = run_passed modes.Double takes_double r text bytes rest n parts literal literal' e w t f quotable l
+
+quotable_next : (text : List ℕ) (i : ℕ) → i < length text → all_quotable (take i text) ≡ true → is_special (get_or text i 0) ≡ false → all_quotable (take (suc i) text) ≡ true
+quotable_next [] i lt h p = absurd (omega (arith, lt))
+quotable_next (x ∷ xs) zero lt h p = rw p refl
+quotable_next (x ∷ xs) (suc i) lt h p = let q = and_parts (not (is_special x)) (all_quotable (take i xs)) h in rw q.0 (quotable_next xs i (omega (arith, lt)) q.1 p)
+
+pub quotable_here : (bs : List ℕ) (i : ℕ) → i < length bs → all_quotable (take i bs) ≡ true → is_special (get_or bs i 0) ≡ false → all_quotable (take (i + 1) bs) ≡ true
+quotable_here bs i lt h p = rw (add-one i) (quotable_next bs i lt h p)

@@ -1,0 +1,2 @@
+redo-ifchange hen
+echo egg

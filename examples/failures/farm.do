@@ -1,0 +1,3 @@
+# Is no part of the ring of hen and egg, but waits for it.
+redo-ifchange hen
+echo farm

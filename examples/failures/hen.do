@@ -1,0 +1,2 @@
+redo-ifchange egg
+echo hen

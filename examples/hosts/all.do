@@ -1,0 +1,2 @@
+#!/bin/sh -e
+redo-ifchange north/anna.conf north/bert.conf south/cleo.conf

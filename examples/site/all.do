@@ -1,0 +1,2 @@
+#!/bin/sh -e
+redo-ifchange index.html
