@@ -223,34 +223,46 @@ mod tests {
     #[test]
     fn reads_calls(rt: HostRuntime) -> Result<(), Fail> {
         let alloc = rt.alloc();
-        let Some(Ok(Call::Build(options, Place::Bundle))) = read(
+        let Some(Ok(Call::Build(options, place))) = read(
             alloc,
             &["redo", "-j", "64", "-k", "--bundle", "a", "./b"],
         )?
         else {
             return Err("no build".into());
         };
+        assert!(rt; matches!(place, Place::Bundle));
         assert_eq!(rt; options.workers, 64);
         assert_eq!(rt; options.targets.len(), 2);
         assert_eq!(rt; options.targets[1].text(), b"b".as_slice());
         assert_eq!(rt; options.limits.targets(), 65_536);
         assert_eq!(rt; options.limits.file_bytes(), 16_777_216);
-        let Some(Ok(Call::Build(options, Place::Directory(dir)))) = read(alloc, &["redo", "-k"])?
-        else {
-            return Err("no build".into());
-        };
-        assert_eq!(rt; dir.as_str(), ".");
-        assert_eq!(rt; options.workers, 1);
-        assert_eq!(rt; options.targets.len(), 0);
-        let Some(Ok(Call::Whichdo(target, Place::Directory(dir)))) = read(
+        let Some(Ok(Call::Whichdo(target, place))) = read(
             alloc,
             &["redo", "--whichdo", "a//x", "-C", "d"],
         )?
         else {
             return Err("no search".into());
         };
-        assert_eq!(rt; dir.as_str(), "d");
         assert_eq!(rt; target.text(), b"a/x".as_slice());
+        let Place::Directory(dir) = place else {
+            return Err("no directory".into());
+        };
+        assert_eq!(rt; dir.as_str(), "d");
+        Ok(())
+    }
+
+    #[test]
+    fn reads_what_is_left_out(rt: HostRuntime) -> Result<(), Fail> {
+        let alloc = rt.alloc();
+        let Some(Ok(Call::Build(options, place))) = read(alloc, &["redo", "-k"])? else {
+            return Err("no build".into());
+        };
+        assert_eq!(rt; options.workers, 1);
+        assert_eq!(rt; options.targets.len(), 0);
+        let Place::Directory(dir) = place else {
+            return Err("no directory".into());
+        };
+        assert_eq!(rt; dir.as_str(), ".");
         Ok(())
     }
 }
