@@ -13,8 +13,7 @@ pub mod Values
 pub mod Sets
 pub mod Advance
 pub mod Loops
-pub mod Waiting
-pub mod Kept
+pub mod Lacking
 pub mod Adding
 pub mod Rounds
 pub mod Formats

@@ -16,7 +16,6 @@ use Rattle.redo_step.specs.Machine.{Stops, all_items}
 pub stops_bind : {A B : Type 0} (stop : Stop) (r : Result A End) (f : A → Result B End) → Stops stop r → Stops stop (r >>= f)
 stops_bind (stops.Ended e) r f h = rw h refl
 stops_bind (stops.Lacks ps) r f h = rw h refl
-stops_bind (stops.Waits ps w) r f h = absurd h
 stops_bind stops.Memory r f h = tt
 
 -- what a part gave goes on

@@ -208,7 +208,6 @@ module _ (setting : Setting) (ask : Ask) (es : List Entry) (line : ℕ) where
   leaves : (stop : Stop) (old mid new : Sink) → Grows old mid → Leaves stop mid new → Leaves stop old new
   leaves (stops.Ended e) old mid new g l = grows-trans old mid new g l
   leaves (stops.Lacks ps) old mid new g l = grows-trans old mid new g l
-  leaves (stops.Waits ps w) old mid new g l = grows-trans old mid new g l
   leaves stops.Memory old mid new g l = tt
 
   pub catted_stops : (t : List ℕ) (ts : List (List ℕ)) (whole : Result (List ℕ) End) (old mid new : Sink) (stop : Stop) → Catted setting ask es line (t ∷ ts) whole old mid → Fills {X = Unit {0}} (Err stop) (content_of setting ask es line t) mid new → Fills {X = Unit {0}} (Err stop) whole old new

@@ -1,7 +1,5 @@
 pub mod Path
 pub mod Value
-pub mod Waiting
-pub mod Kept
 pub mod Meaning
 pub mod Setting
 pub mod Record

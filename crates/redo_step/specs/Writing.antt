@@ -26,7 +26,6 @@ appended setting ask es line w before = bytes_of setting ask es line w >>= λ by
 abbrev pub Spares : Stop → List ℕ → List ℕ → Type 0
 Spares (stops.Ended e) old new = new ≡ old
 Spares (stops.Lacks ps) old new = new ≡ old
-Spares (stops.Waits ps w) old new = new ≡ old
 Spares stops.Memory old new = Unit {0}
 
 -- what is meant was appended, or the command stopped as is meant and left the bytes

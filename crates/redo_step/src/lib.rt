@@ -31,7 +31,6 @@ mod scene;
 mod sink;
 mod stop;
 mod value;
-mod wait;
 mod words;
 mod writing;
 

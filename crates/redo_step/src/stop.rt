@@ -3,7 +3,6 @@
 ghost use Rattle.std.specs.Prelude.{◌≡◌};
 
 use crate::outcome::Why;
-use crate::wait::Waiting;
 use redo_path::Path;
 use std::alloc::{AllocError, AllocFailed};
 
@@ -21,8 +20,6 @@ pub(crate) enum Stop {
     Ended(Ending),
     /// These paths have no answer yet.
     Lacks(Vec<Path>),
-    /// Nor have these, and a redo-ifchange waits for them.
-    Waits(Vec<Path>, Waiting),
     Memory,
 }
 
