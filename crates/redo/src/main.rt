@@ -6,7 +6,7 @@
 mod options;
 mod status;
 
-use options::{Call, Place};
+use options::{Call, Place, Refusal};
 use redo_path::Path;
 use redo_run::{Exit, NoGate, Options, run_bundle, run_dir, whichdo_bundle, whichdo_dir};
 use redo_tree::Plain;
@@ -37,10 +37,7 @@ fn main(rt: HostRuntime) -> ExitCode {
 /// What the command line asks for, or the exit status where there is nothing to do: after help, or a refusal, each of
 /// which is shown.
 fn read_call(rt: &HostRuntime, alloc: Global) -> Result<Call, u8> {
-    let words: Vec<String> = match env::args(rt) {
-        Ok(args) => args.collect(alloc).map_err(|_| status::MEMORY)?,
-        Err(_) => return Err(status::MEMORY),
-    };
+    let words = words(rt, alloc).map_err(|refusal| refuse(rt, refusal))?;
     let command = options::command(alloc).map_err(|_| status::MEMORY)?;
     let matches = match command.try_get_matches_from(words.as_slice()) {
         Ok(matches) => matches,
@@ -49,10 +46,18 @@ fn read_call(rt: &HostRuntime, alloc: Global) -> Result<Call, u8> {
             return Err(status::of_parse(&error));
         }
     };
-    options::call_of(alloc, &matches).map_err(|refusal| {
-        let _shown = eprintln!(rt; "redo: {refusal}");
-        status::of_refusal(refusal)
-    })
+    options::call_of(alloc, &matches).map_err(|refusal| refuse(rt, refusal))
+}
+
+/// The words of the command line, the program's name before them.
+fn words(rt: &HostRuntime, alloc: Global) -> Result<Vec<String>, Refusal> {
+    Ok(env::args(rt)?.collect(alloc)?)
+}
+
+/// Shows why the command line is refused. Answers the exit status.
+fn refuse(rt: &HostRuntime, refusal: Refusal) -> u8 {
+    let _shown = eprintln!(rt; "redo: {refusal}");
+    status::of_refusal(refusal)
 }
 
 /// Does what was asked for, and answers whether all went well.

@@ -7,6 +7,8 @@ use redo_path::{Path, PathFault, resolve};
 use redo_run::Options;
 use redo_step::Limits;
 use std::alloc::{AllocError, AllocFailed, Global};
+use std::io;
+use std::io::ErrorKind;
 use thiserror::Error;
 
 /// The program's limits: 65,536 targets, and 16 MiB a file.
@@ -56,6 +58,16 @@ impl From<AllocError> for Refusal {
 impl<T: Drop> From<AllocFailed<T>> for Refusal {
     fn from(_error: AllocFailed<T>) -> Refusal {
         Refusal::Memory
+    }
+}
+
+/// Why the words of the command line can't be read: a word that isn't UTF-8 names no target.
+impl From<io::Error> for Refusal {
+    fn from(error: io::Error) -> Refusal {
+        match error.kind() {
+            ErrorKind::OutOfMemory => Refusal::Memory,
+            _ => Refusal::BadTarget,
+        }
     }
 }
 
@@ -162,6 +174,8 @@ fn options(alloc: Global, matches: &ArgMatches<'_>) -> Result<Options, Refusal> 
 mod tests {
     use super::{Call, Place, Refusal, call_of, command};
     use std::alloc::Global;
+    use std::io;
+    use std::io::ErrorKind;
     use std::test::Fail;
 
     /// What the words come to: a call, a refusal of the program's own, or (`None`) one of the parse.
@@ -200,6 +214,18 @@ mod tests {
                 return Err("no refusal".into());
             };
             assert_eq!(rt; found, refusal);
+        }
+        Ok(())
+    }
+
+    #[test]
+    fn a_word_that_is_not_utf_8_is_a_bad_target(rt: HostRuntime) -> Result<(), Fail> {
+        let rows = [
+            (ErrorKind::InvalidData, Refusal::BadTarget),
+            (ErrorKind::OutOfMemory, Refusal::Memory),
+        ];
+        for (kind, refusal) in rows {
+            assert_eq!(rt; Refusal::from(io::Error::from(kind)), refusal);
         }
         Ok(())
     }

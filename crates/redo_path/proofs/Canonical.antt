@@ -49,14 +49,14 @@ printable_path (b ∷ bs) h = printable_parts (b ∷ bs) (parts_of_names (parts 
 
 -- ---- a path's text names it
 
-not_same : (xs ys : List ℕ) → xs ≢ ys → bytes_eq xs ys ≡ false
+pub not_same : (xs ys : List ℕ) → xs ≢ ys → bytes_eq xs ys ≡ false
 not_same xs ys h =
     elim (bytes_eq xs ys) as (λ b. bytes_eq xs ys ≡ b → b ≡ false) [
       | true ↦ λ e. absurd (h ((bytes_eq-Decides xs ys).0 e))
       | false ↦ λ e. refl
     ] refl
 
-some_bytes : (name : List ℕ) → name ≢ [] → 0 < length name
+pub some_bytes : (name : List ℕ) → name ≢ [] → 0 < length name
 some_bytes [] h = absurd (h refl)
 some_bytes (b ∷ bs) h = omega arith
 
@@ -74,10 +74,10 @@ walk-names ns (m ∷ ms) h =
     ap (λ r. r >>= λ to. walk to ms) (step-plain ns m (plain_name m h.0))
     ∙ walk-names (ns ++ m ∷ []) ms h.1 ∙ ap Ok (append_assoc ns (m ∷ []) ms)
 
-no_place_of : (n m : ℕ) (p : ℕ → Bool) → n ≡ m → cond (nat_lt n m) (Some n) None ≡ None
+pub no_place_of : (n m : ℕ) (p : ℕ → Bool) → n ≡ m → cond (nat_lt n m) (Some n) None ≡ None
 no_place_of n m p e = let l : nat_lt n m ≡ false = grind (arith, common_steps) in ap (λ b. cond b (Some n) None) l
 
-no_control : (xs : List ℕ) → AllByRecursion (λ byte. is_control byte ≡ false) xs → prefix_len (λ x. not (is_control x)) xs ≡ length xs
+pub no_control : (xs : List ℕ) → AllByRecursion (λ byte. is_control byte ≡ false) xs → prefix_len (λ x. not (is_control x)) xs ≡ length xs
 no_control [] h = refl
 no_control (x ∷ xs) h =
     ap (λ b. cond (not b) (1 + prefix_len (λ x. not (is_control x)) xs) 0) h.0 ∙ omega (arith, no_control xs h.1)
@@ -154,7 +154,7 @@ some_text [] ns h e = h refl
 some_text (b ∷ bs) [] h e = cc
 some_text (b ∷ bs) (m ∷ ns) h e = cc
 
-names-text_of : (ns : List (List ℕ)) → AllByRecursion IsName ns → names (text_of ns) ≡ ns
+pub names-text_of : (ns : List (List ℕ)) → AllByRecursion IsName ns → names (text_of ns) ≡ ns
 names-text_of [] h = refl
 names-text_of (n ∷ ns) h = parts-names (text_of (n ∷ ns)) (some_text n ns h.0.nonempty) ∙ parts-text_of n ns h
 

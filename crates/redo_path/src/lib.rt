@@ -7,6 +7,7 @@
 //! Stands on `bstr` for searches in bytes and on `thiserror`.
 //!
 //! - here: [`Path`] and [`PathFault`];
+//! - `children`: the path of a file name in a directory;
 //! - `words`: a word, part by part;
 //! - [`laws`]: what the definitions say together, for the crates above.
 #![tactic(auto)]
@@ -21,6 +22,7 @@ ghost use Rattle.std.proofs.Common.{rules};
 ghost use Rattle.redo_path.specs.declared.PathFault.TheVariants.{Memory};
 ghost use Rattle.redo_path.specs.Names.{IsNameStart, IsPath, name_of, names, parent_of};
 
+mod children;
 pub mod laws;
 mod words;
 
@@ -132,6 +134,13 @@ impl Path {
             Some(front) => Ok(Some(share(Vec::from_slice(alloc, front)?)?)),
             None => Ok(None),
         }
+    }
+
+    /// The text of the directory that holds it, which takes no memory.
+    pub fn parent_text(&self) -> Option<&[u8]>
+        ensures { option_copied result ≡ parent_of self.now }
+    {
+        front(self.text())
     }
 
     /// What follows `dir` and its slash: the whole text for the root, nothing for the path

@@ -161,10 +161,22 @@ fn a_path_has_a_name_and_a_directory(rt: HostRuntime) -> Result<(), Fail> {
         assert_eq!(rt; copy.name(), name.as_bytes(), "{text}");
         let parent = copy.parent(alloc)?.ok_or("no parent")?;
         assert_eq!(rt; parent.text(), up.as_bytes(), "{text}");
+        assert_eq!(rt; copy.parent_text(), Some(up.as_bytes()), "{text}");
     }
     let root = Path::root();
     assert_eq!(rt; root.name(), b"".as_slice());
     assert!(rt; root.parent(alloc)?.is_none());
+    Ok(())
+}
+
+#[test]
+fn a_child_is_a_name_in_its_directory(rt: HostRuntime) -> Result<(), Fail> {
+    let alloc = rt.alloc();
+    for (dir, meant) in [(".", "default.x.do"), ("a/b", "a/b/default.x.do")] {
+        let dir = path(alloc, dir)?;
+        let child = dir.child(alloc, b"default", b".x", b".do")?;
+        assert_eq!(rt; child.text(), meant.as_bytes(), "{meant}");
+    }
     Ok(())
 }
 

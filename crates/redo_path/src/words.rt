@@ -4,13 +4,13 @@ ghost use Rattle.std.specs.Prelude.{◌≡◌, Err, IfErr, IfOk, IsOk, MatchOpti
 ghost use Rattle.std.specs.List.{AllByRecursion};
 ghost use Rattle.redo_path.specs.declared.PathFault.TheVariants.{Memory};
 ghost use Rattle.redo_path.specs.Names.{IsName, IsPart, child_of, is_control, names};
-ghost use Rattle.redo_path.specs.Resolve.{Answers, Leads, resolved, step, up_from, word_fault};
+ghost use Rattle.redo_path.specs.Resolve.{Answers, Leads, resolved, step, up_from, within_limit, word_fault};
 
 use crate::{Path, PathFault, name_start, share};
-use std::alloc::Global;
+use std::alloc::{AllocError, Global};
 
 /// The most bytes that a name has.
-const LONGEST_NAME: usize = 255;
+pub(crate) const LONGEST_NAME: usize = 255;
 
 /// The most bytes that a path has.
 const LONGEST_PATH: usize = 1024;
@@ -92,10 +92,28 @@ pub fn resolve(alloc: Global, base: &Path, word: &[u8]) -> Result<Path, PathFaul
     ensures { Answers result (resolved base.now word.now) }
 {
     check_word(word)?;
-    let mut text = Vec::from_slice(alloc, base.text())?;
+    let mut text = with_room(alloc, base.text(), word.len().saturating_add(1))?;
     for part in word.split(|byte| *byte == b'/') {
         follow(&mut text, part)?;
     }
+    finish(text)
+}
+
+/// A copy of a text with room for so many bytes more, up to the length of the longest path.
+pub(crate) fn with_room(alloc: Global, text: &[u8], more: usize) -> Result<Vec<u8>, AllocError>
+    ensures { IfOk result (λ copy. copy.items ≡ text.now) }
+{
+    let room = text.len().saturating_add(more).min(LONGEST_PATH);
+    let mut copy = Vec::with_capacity(alloc, room)?;
+    copy.extend_from_slice(text)?;
+    Ok(copy)
+}
+
+/// The path of a text of names, unless it is too long.
+pub(crate) fn finish(text: Vec<u8>) -> Result<Path, PathFault>
+    requires { AllByRecursion IsName (names text.items) }
+    ensures { Answers result (within_limit text.items) }
+{
     if text.len() > LONGEST_PATH {
         return Err(PathFault::LongPath);
     }

@@ -18,6 +18,7 @@ use Rattle.redo_script.proofs.fault.ScriptFault.TheSendSync as fault
 use Rattle.redo_step.proofs.limits.Limits.TheSendSync as limits
 use Rattle.redo_step.proofs.machine.Effects.TheSendSync as effects
 use Rattle.redo_step.proofs.place.Place.TheLaws.TheKnot as place
+use Rattle.redo_step.proofs.wait.Waiting.TheSendSync as wait
 use Rattle.redo_core.proofs.fact.Fact.TheSendSync as fact
 use Rattle.redo_core.proofs.facts.Facts.TheSendSync as facts
 use Rattle.redo_core.proofs.board.Stop.TheSendSync as stop
@@ -49,7 +50,7 @@ pub task_send : IsSend (Task.the_field).row
 task_send = search (parsed_send, parsed_sync, tree.the_send, tree.the_sync, path.the_send, rule.the_field_send, limits.the_send, sendable, heap.crosses) depth 20
 
 pub job_send : IsSend (Job.the_field).row
-job_send = search (task_send, path.the_send, place.send-Place, effects.the_field_send, sendable, heap.crosses) depth 20
+job_send = search (task_send, path.the_send, place.send-Place, wait.the_field_send, effects.the_field_send, sendable, heap.crosses) depth 20
 
 pub begun_send : IsSend (Begun.the_field).row
 begun_send = search (job_send, path.the_send, rule.the_field_send, sendable, heap.crosses) depth 20

@@ -3,13 +3,14 @@ use Rattle.std.proofs.Common.{◌≡◌, ℕ, Option, Some, None, refl, subst}
 use Rattle.std.specs.Prelude.{IsNone, MatchOption}
 use Rattle.redo_core.specs.Faults.{Refused, RefusedRunning, fault_of}
 use Rattle.redo_core.specs.Outcomes.{IsTooMany}
+use Rattle.redo_core.specs.Schedule.{IsOutAt}
 use Rattle.redo_core.specs.Schedule.Event.{Take}
 use Rattle.redo_core.specs.Views.{BoardView, PieceView, after, rules_on}
 use Rattle.redo_core.specs.declared.board.HandFault.{HandFault}
-use Rattle.redo_core.specs.declared.board.HandFault.TheVariants.{TooMany}
+use Rattle.redo_core.specs.declared.board.HandFault.TheVariants.{Stranger, TooMany}
 use Rattle.redo_core.specs.declared.board.Stop.{Stop}
 
-running : (o : Option Stop) → IsNone o → o ≡ None
+pub running : (o : Option Stop) → IsNone o → o ≡ None
 running None h = refl
 running (Some stop) h = cc
 
@@ -21,3 +22,18 @@ too_many_after_take b old new which piece fault next on refused is =
     let Q : HandFault → Type 0 = λ f. Refused (after b (Take which)) new piece f in
     let R : Option Stop → Type 0 = λ o. MatchOption o (RefusedRunning (after b (Take which)) new piece TooMany) (λ stop. (TooMany ≡ fault_of stop) × (new ≡ after b (Take which))) in
     (subst R (running b.stopped on) (subst Q is (subst P next refused))).2
+
+module _ (b new : BoardView) (piece : PieceView) (on : IsNone b.stopped) where
+  refused-running : (fault is : HandFault) → Refused b new piece fault → fault ≡ is → RefusedRunning b new piece is
+  refused-running fault is refused same =
+      let Q : HandFault → Type 0 = λ f. Refused b new piece f in
+      let R : Option Stop → Type 0 = λ o. MatchOption o (RefusedRunning b new piece is) (λ stop. (is ≡ fault_of stop) × (new ≡ b)) in
+      subst R (running b.stopped on) (subst Q same refused)
+
+  -- a board that runs says so only where too many targets are needed
+  pub too_many_running : (fault : HandFault) → Refused b new piece fault → fault ≡ TooMany → IsTooMany (rules_on b) b.request b.limits.0
+  too_many_running fault refused same = (refused-running fault TooMany refused same).2
+
+  -- a piece whose target is out at its turn is no stranger
+  pub no_stranger : (fault : HandFault) (back : PieceView) → Refused b new piece fault → fault ≡ Stranger back → IsOutAt b.state piece.target piece.turn → ⊥
+  no_stranger fault back refused same out = (refused-running fault (Stranger back) refused same).2 out

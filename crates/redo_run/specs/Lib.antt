@@ -1,8 +1,10 @@
 pub mod Candidates
 pub mod DirFaults
 pub mod Directories
+pub mod Driving
 pub mod Exits
 pub mod Faults
+pub mod Picks
 pub mod Pieces
 pub mod RunFaults
 pub mod Runs

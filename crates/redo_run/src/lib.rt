@@ -7,6 +7,7 @@
 //! board that holds it, on `redo_tree` for trees and bundles, and on `redo_which` for the search.
 //!
 //! - `one`: a build by one thread; `workers`: by many, round one board under a lock; `gate`: who is told of each job;
+//!   `picks`: a build in an order that is given beforehand;
 //! - `run_fault`: why a build has no report; `exit`: whether all that was requested is there;
 //! - `bundle`: the two calls over bundles; `options` and `fault`: what they take and refuse; `directory` and `dir_fault`: the
 //!   same over a directory; `request`, `candidates` and `pieces`: what both share.
@@ -21,6 +22,7 @@ mod fault;
 mod gate;
 mod one;
 mod options;
+mod picks;
 mod pieces;
 mod request;
 mod run_fault;
@@ -34,6 +36,7 @@ pub use fault::RunIoFault;
 pub use gate::{Gate, NoGate};
 pub use one::build_one;
 pub use options::Options;
+pub use picks::{Pick, drive};
 pub use run_fault::RunFault;
 pub use workers::build_many;
 

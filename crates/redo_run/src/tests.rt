@@ -2,7 +2,7 @@
 
 ghost use Rattle.std.specs.Prelude.{◌≡◌, ◌≤◌, false, IfOk};
 
-use crate::{Exit, NoGate, Options, RunIoFault, run_bundle};
+use crate::{Exit, Gate, NoGate, Options, RunIoFault, run_bundle};
 use redo_path::{Path, resolve};
 use redo_step::Limits;
 use redo_tree::Plain;
@@ -13,6 +13,7 @@ use std::thread::Threads;
 
 mod directories;
 mod ends;
+mod picks;
 mod refusals;
 mod reports;
 mod scripts;
@@ -58,9 +59,20 @@ fn run<R: Threads + Wait + Sync>(
     bundle: &[u8],
     options: &Options,
 ) -> Result<(Outcome, Vec<u8>), Fail> {
+    run_through(rt, alloc, bundle, options, &NoGate)
+}
+
+/// The same, with a gate that each worker passes before a script.
+fn run_through<R: Threads + Wait + Sync, G: Gate>(
+    rt: &R,
+    alloc: Global,
+    bundle: &[u8],
+    options: &Options,
+    gate: &G,
+) -> Result<(Outcome, Vec<u8>), Fail> {
     let mut reader = Plain::new(bundle);
     let mut writer = Plain::new(Vec::new(alloc));
-    let outcome = run_bundle(rt, alloc, &mut reader, &mut writer, options, &NoGate);
+    let outcome = run_bundle(rt, alloc, &mut reader, &mut writer, options, gate);
     let Plain { stream, broken: _ } = writer;
     Ok((outcome, stream))
 }

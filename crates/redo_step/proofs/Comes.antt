@@ -20,9 +20,10 @@ use Rattle.redo_step.specs.declared.machine.Progress.{Progress}
 use Rattle.redo_step.specs.declared.machine.Progress.TheVariants as progress
 use Rattle.redo_step.specs.Path.{Path}
 use Rattle.redo_step.specs.Meaning.{Setting, Ask, State, End, stopped, goes, ends, run, then_run, chosen, command_run, condition_result}
-use Rattle.redo_step.specs.Place.{skip, followed_by, inside, left_at}
+use Rattle.redo_step.specs.Place.{skip, followed_by, inside, branch_of, stands_at, left_at}
 use Rattle.redo_step.specs.Reach.{Reaches}
-use Rattle.redo_step.specs.Machine.{end_of, Stops, EndsBy, Comes, IsStopBefore, IsWithin, IsPassed, picked, HasBranch, HasNoBranch}
+use Rattle.redo_step.specs.Machine.{end_of, Stops, EndsAt, Comes, IsStopBefore, IsWithin, IsPassed, picked, HasBranch, HasNoBranch}
+use Rattle.redo_step.specs.Kept.{IsFirst}
 use Rattle.redo_step.proofs.Runs.{run-followed_by, Keeps-refl, Reaches-refl, Reaches-trans, Reaches-followed_by}
 use Rattle.redo_step.proofs.Steps.{reaches_simple, stops_simple, reaches_branch, branch_when}
 use Rattle.redo_step.proofs.Slices.{opened, before-opened, skip_at, skip_past}
@@ -36,13 +37,13 @@ module _ (setting : Setting) (ask : Ask) where
   pub comes_after : (whole a b rest : Script) (s t u : State) (p : Progress) → Reaches setting ask a s b t → Comes setting ask whole b rest t p u → Comes setting ask whole a rest s p u
   comes_after whole a b rest s t u progress.Finished r c = Reaches-trans setting ask a b rest s t u r c
   comes_after whole a b rest s t u (progress.Ended e) r c = r.same ask (Keeps-refl setting t.entries ask) ∙ c
-  comes_after whole a b rest s t u (progress.Stopped ps place) r c = (Reaches-trans setting ask a b (left_at place whole) s t u r c.0, c.1)
+  comes_after whole a b rest s t u (progress.Stopped ps place kept) r c = (Reaches-trans setting ask a b (left_at place whole) s t u r c.0, c.1, c.2)
 
   -- a run that did not finish says the same of any rest
   pub comes_default : (whole a rest other : Script) (s t : State) (p : Progress) → (p ≡ progress.Finished → ⊥) → Comes setting ask whole a rest s p t → Comes setting ask whole a other s p t
   comes_default whole a rest other s t progress.Finished n c = absurd (n refl)
   comes_default whole a rest other s t (progress.Ended e) n c = c
-  comes_default whole a rest other s t (progress.Stopped ps place) n c = c
+  comes_default whole a rest other s t (progress.Stopped ps place kept) n c = c
 
   ends_run : (line : ℕ) (c : Command) (rest : Script) (s t : State) (e : End) → command_run setting ask line c s ≡ ends e t → run setting ask (simple line c rest) s ≡ ends e t
   unfolding run
@@ -51,6 +52,10 @@ module _ (setting : Setting) (ask : Ask) where
   at_place : (index : ℕ) (whole script : Script) → skip index whole ≡ script → left_at (Before index) whole ≡ script
   unfolding left_at
   at_place index whole script h = h
+
+  stands_before : (index : ℕ) (whole : Script) → stands_at (Before index) whole ≡ skip index whole
+  unfolding stands_at
+  stands_before index whole = refl
 
   -- a command
 
@@ -61,10 +66,14 @@ module _ (setting : Setting) (ask : Ask) where
       let again : run setting ask (simple line c rest) t ≡ ends (stopped ps) t = sym (reached.same ask (Keeps-refl setting t.entries ask)) ∙ ends_run line c rest s t (stopped ps) e in
       (rw same reached, rw same again)
 
-  stop_comes : (line : ℕ) (c : Command) (index : ℕ) (s t : State) (stop : Stop) (p : Progress) (whole rest : Script) → EndsBy stop (command_run setting ask line c s) t → IsStopBefore stop index p → skip index whole ≡ simple line c rest → Comes setting ask whole (simple line c rest) rest s p t
-  stop_comes line c index s t (stops.Ended w) p whole rest e is at = rw is (ends_run line c rest s t (end_of w) e)
-  stop_comes line c index s t (stops.Lacks ps) p whole rest e is at = rw is (lacking_comes line c index s t ps.items whole rest e at)
-  stop_comes line c index s t stops.Memory p whole rest e is at = absurd is
+  pub stop_comes : (line : ℕ) (c : Command) (index : ℕ) (s t : State) (stop : Stop) (p : Progress) (whole rest other : Script) → EndsAt setting line c stop (command_run setting ask line c s) t → IsStopBefore stop index p → skip index whole ≡ simple line c rest → Comes setting ask whole (simple line c rest) other s p t
+  stop_comes line c index s t (stops.Ended w) p whole rest other e is at = rw is (ends_run line c rest s t (end_of w) e)
+  stop_comes line c index s t (stops.Lacks ps) p whole rest other e is at = let l = lacking_comes line c index s t ps.items whole rest e at in rw is (l.0, l.1, tt)
+  stop_comes line c index s t (stops.Waits ps w) p whole rest other e is at =
+      let l = lacking_comes line c index s t ps.items whole rest e.0 at in
+      let first : IsFirst setting (stands_at (Before index) whole) t w = record { line = line; command = c; rest = rest; here = stands_before index whole ∙ at; has = e.1 } in
+      rw is (l.0, l.1, first)
+  stop_comes line c index s t stops.Memory p whole rest other e is at = absurd is
 
   opened_simple : (x : Stmt) (line : ℕ) (c : CommandTree) (rest : Script) → x ≡ stmt.Simple line c → before x rest ≡ simple line (command_of c) rest
   opened_simple x line c rest is = before-opened x rest ∙ rw is (ap (λ o. opened o rest) (outs-Simple line c))
@@ -77,9 +86,9 @@ module _ (setting : Setting) (ask : Ask) where
     comes = λ whole rest at. let o = opened_simple x line c rest is in rw o (reaches_simple setting ask line (command_of c) rest s t e);
   }
 
-  pub passes_stop : (x : Stmt) (line : ℕ) (c : CommandTree) (index : ℕ) (s t : State) (stop : Stop) (p : Progress) → x ≡ stmt.Simple line c → EndsBy stop (command_run setting ask line (command_of c) s) t → IsStopBefore stop index p → IsPassed setting ask x index s p t
+  pub passes_stop : (x : Stmt) (line : ℕ) (c : CommandTree) (index : ℕ) (s t : State) (stop : Stop) (p : Progress) → x ≡ stmt.Simple line c → EndsAt setting line (command_of c) stop (command_run setting ask line (command_of c) s) t → IsStopBefore stop index p → IsPassed setting ask x index s p t
   passes_stop x line c index s t stop p is e before = record {
-    comes = λ whole rest at. let o = opened_simple x line c rest is in rw o (stop_comes line (command_of c) index s t stop p whole rest e before (at ∙ o));
+    comes = λ whole rest at. let o = opened_simple x line c rest is in rw o (stop_comes line (command_of c) index s t stop p whole rest rest e before (at ∙ o));
   }
 
   -- a condition that ends the run, or lacks an answer
@@ -91,7 +100,8 @@ module _ (setting : Setting) (ask : Ask) where
   choice_comes line c a b index s (stops.Ended w) p whole rest e is at = rw is (choice_ends line c a b rest s (end_of w) e)
   choice_comes line c a b index s (stops.Lacks ps) p whole rest e is at =
       let same : left_at (Before index) whole ≡ choice line c a b rest = at_place index whole (choice line c a b rest) at in
-      rw is (rw same (Reaches-refl setting ask (choice line c a b rest) s), rw same (choice_ends line c a b rest s (stopped ps.items) e))
+      rw is (rw same (Reaches-refl setting ask (choice line c a b rest) s), rw same (choice_ends line c a b rest s (stopped ps.items) e), tt)
+  choice_comes line c a b index s (stops.Waits ps w) p whole rest e is at = absurd e
   choice_comes line c a b index s stops.Memory p whole rest e is at = absurd is
 
   pub passes_check : (x : Stmt) (line : ℕ) (c : ConditionTree) (a b : Vec Stmt Global) (index : ℕ) (s : State) (stop : Stop) (p : Progress) → x ≡ stmt.If line c a b → Stops stop (condition_result setting ask line (condition_of c) s) → IsStopBefore stop index p → IsPassed setting ask x index s p s
@@ -116,14 +126,23 @@ module _ (setting : Setting) (ask : Ask) where
   unfolding left_at
   left_within index branch q place whole line c a b rest at = ap (inside branch (left_at place)) at ∙ inside_choice branch (left_at place) line c a b rest
 
+  pub branch_choice : (branch : Branch) (line : ℕ) (c : Condition) (a b rest : Script) → branch_of branch (choice line c a b rest) ≡ picked branch a b
+  branch_choice First line c a b rest = refl
+  branch_choice Second line c a b rest = refl
+
+  stands_within : (index : ℕ) (branch : Branch) (q : _) (place : Place) (whole : Script) (line : ℕ) (c : Condition) (a b rest : Script) → skip index whole ≡ choice line c a b rest → stands_at (Within' index branch q place) whole ≡ stands_at place (picked branch a b)
+  unfolding stands_at
+  stands_within index branch q place whole line c a b rest at = ap (λ y. stands_at place (branch_of branch y)) at ∙ ap (stands_at place) (branch_choice branch line c a b rest)
+
   -- The progress of a part of a branch, as that of the statements round it.
   pub comes_within : (whole : Script) (index : ℕ) (branch : Branch) (line : ℕ) (c : Condition) (a b part rest : Script) (s t : State) (p outer : Progress) → skip index whole ≡ choice line c a b rest → Comes setting ask (picked branch a b) part finish s p t → IsWithin p index branch outer → Comes setting ask whole (followed_by part rest) rest s outer t
   comes_within whole index branch line c a b part rest s t progress.Finished outer at h w =
       rw w (subst (λ (x : Script). Reaches setting ask (followed_by part rest) s x t) (followed_finish rest) (Reaches-followed_by setting ask part finish rest s t h))
   comes_within whole index branch line c a b part rest s t (progress.Ended e) outer at h w = rw w (followed_ends part rest s t (end_of e) h)
-  comes_within whole index branch line c a b part rest s t (progress.Stopped ps place) outer at h w =
+  comes_within whole index branch line c a b part rest s t (progress.Stopped ps place kept) outer at h w =
       let same = left_within index branch w.0 place whole line c a b rest at in
-      rw w.1 (rw same (Reaches-followed_by setting ask part (left_at place (picked branch a b)) rest s t h.0), rw same (followed_ends (left_at place (picked branch a b)) rest t t (stopped ps.items) h.1))
+      let stands = stands_within index branch w.0 place whole line c a b rest at in
+      rw w.1 (rw same (Reaches-followed_by setting ask part (left_at place (picked branch a b)) rest s t h.0), rw same (followed_ends (left_at place (picked branch a b)) rest t t (stopped ps.items) h.1), rw stands h.2)
 
   skip_none : (script : Script) → skip 0 script ≡ script
   unfolding skip

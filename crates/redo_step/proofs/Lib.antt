@@ -13,7 +13,8 @@ pub mod Values
 pub mod Sets
 pub mod Advance
 pub mod Loops
-pub mod Lacking
+pub mod Waiting
+pub mod Kept
 pub mod Adding
 pub mod Rounds
 pub mod Formats

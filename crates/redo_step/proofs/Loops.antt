@@ -4,18 +4,17 @@ use Rattle.std.proofs.Math.Seq.{drop-cons}
 use Rattle.std.proofs.lemmas.List.{nil_from_length, append-nil}
 use Rattle.redo_script.specs.declared.ast.Word.{Word as WordTree}
 use Rattle.redo_script.specs.View.{word_of, words_of}
-use Rattle.std.specs.declared.vec.Vec.{Vec}
-use Rattle.std.specs.declared.alloc.Global.{Global}
 use Rattle.redo_step.specs.Path.{Path}
 use Rattle.redo_step.specs.declared.stop.Stop.{Stop}
 use Rattle.redo_step.specs.declared.stop.Stop.TheVariants as stops
 use Rattle.redo_step.specs.Meaning.{Setting, End, ◌>>=◌, text_of, texts_of, path_of, paths_of}
-use Rattle.redo_step.specs.Machine.{Stops, all_items}
+use Rattle.redo_step.specs.Machine.{Stops}
 
 -- a part that stopped stops what goes on from it
 pub stops_bind : {A B : Type 0} (stop : Stop) (r : Result A End) (f : A → Result B End) → Stops stop r → Stops stop (r >>= f)
 stops_bind (stops.Ended e) r f h = rw h refl
 stops_bind (stops.Lacks ps) r f h = rw h refl
+stops_bind (stops.Waits ps w) r f h = absurd h
 stops_bind stops.Memory r f h = tt
 
 -- what a part gave goes on
@@ -62,21 +61,17 @@ pub none_before : {B : Type 0} (r : Result (List B) End) → after_front [] r �
 none_before (Ok ys) = refl
 none_before (Err e) = refl
 
-pub items_pushed : (vs : List (Vec ℕ Global)) (v : Vec ℕ Global) → all_items (vs ++ v ∷ []) ≡ all_items vs ++ v.items ∷ []
-items_pushed [] v = refl
-items_pushed (w ∷ vs) v = ap (λ l. w.items ∷ l) (items_pushed vs v)
-
 module _ (setting : Setting) (line : ℕ) where
   abbrev pub word_text : WordTree → Result (List ℕ) End
   word_text w = text_of setting line (word_of w)
 
-  abbrev pub item_path : Vec ℕ Global → Result Path End
-  item_path v = path_of setting line v.items
+  abbrev pub text_path : List ℕ → Result Path End
+  text_path t = path_of setting line t
 
   pub texts_each : (ws : List WordTree) → texts_of setting line (words_of ws) ≡ each_of word_text ws
   texts_each [] = refl
   texts_each (w ∷ ws) = ap (λ r. text_of setting line (word_of w) >>= λ t. r >>= λ ts. Ok (t ∷ ts)) (texts_each ws)
 
-  pub paths_each : (vs : List (Vec ℕ Global)) → paths_of setting line (all_items vs) ≡ each_of item_path vs
+  pub paths_each : (ts : List (List ℕ)) → paths_of setting line ts ≡ each_of text_path ts
   paths_each [] = refl
-  paths_each (v ∷ vs) = ap (λ r. path_of setting line v.items >>= λ p. r >>= λ ps. Ok (p ∷ ps)) (paths_each vs)
+  paths_each (t ∷ ts) = ap (λ r. path_of setting line t >>= λ p. r >>= λ ps. Ok (p ∷ ps)) (paths_each ts)

@@ -2,15 +2,13 @@
 use Rattle.std.proofs.Common.{◌≡◌, ℕ, zero, suc, ◌+◌, ◌<◌, ◌≤◌, true, false, Option, Some, None, List, [], ◌∷◌, ◌++◌, length, drop, get_or, Result, Ok, Err, refl, sym, ap, ◌∙◌, arith, append_assoc, length-drop, add-one, subst, eqb-true}
 use Rattle.std.proofs.Math.Seq.{drop-cons}
 use Rattle.std.proofs.lemmas.List.{append-nil, nil_from_length}
-use Rattle.std.specs.declared.vec.Vec.{Vec}
-use Rattle.std.specs.declared.alloc.Global.{Global}
 use Rattle.redo_step.specs.declared.printf.Piece.{Piece}
 use Rattle.redo_step.specs.declared.printf.Piece.TheVariants.{Literal, Operand}
 use Rattle.redo_step.specs.declared.sink.Sink.{Sink}
 use Rattle.redo_step.specs.declared.stop.Stop.{Stop}
 use Rattle.redo_step.specs.declared.stop.Stop.TheVariants as stops
 use Rattle.redo_step.specs.Meaning.{Setting, Ask, Entry, End, ◌>>=◌, or_else, exited, file_of, contents_of, takes_operands, once, again, formatted, joined}
-use Rattle.redo_step.specs.Machine.{all_items, Stops}
+use Rattle.redo_step.specs.Machine.{Stops}
 use Rattle.redo_step.specs.Printing.{HasPlaces, Prints, PrintsOnce}
 use Rattle.redo_step.specs.Sink.{Grows, Adds, Leaves, Fills}
 use Rattle.redo_step.specs.Writing.{content_of}
@@ -126,22 +124,18 @@ rounds_over ps left whole old new over r = (r.bytes ++ again r.count ps left, r.
 
 -- the same, where a slice holds the operands
 
-all-long : (vs : List (Vec ℕ Global)) → length (all_items vs) ≡ length vs
-all-long [] = refl
-all-long (v ∷ vs) = ap suc (all-long vs)
-
 module _ (ps : List Piece) (whole : Option (List ℕ)) (old mid new : Sink) where
-  pub next_round : (vs : List (Vec ℕ Global)) (left : List (List ℕ)) → (length vs == 0) ≡ false → Rounds ps (all_items vs) whole old mid → PrintsOnce (once ps (all_items vs)) left mid new → Rounds ps left whole old new
+  pub next_round : (vs : List (List ℕ)) (left : List (List ℕ)) → (length vs == 0) ≡ false → Rounds ps vs whole old mid → PrintsOnce (once ps vs) left mid new → Rounds ps left whole old new
   next_round [] left some r p = absurd cc
-  next_round (v ∷ vs) left some r p = rounds_go ps v.items (all_items vs) left whole old mid new r p
+  next_round (v ∷ vs) left some r p = rounds_go ps v vs left whole old mid new r p
 
-  pub round_takes : (vs us : List (Vec ℕ Global)) → (length vs == 0) ≡ false → Rounds ps (all_items vs) whole old mid → PrintsOnce (once ps (all_items vs)) (all_items us) mid new → length us < length vs
+  pub round_takes : (vs us : List (List ℕ)) → (length vs == 0) ≡ false → Rounds ps vs whole old mid → PrintsOnce (once ps vs) us mid new → length us < length vs
   round_takes [] us some r p = absurd cc
   round_takes (v ∷ vs) us some r p =
-      let fewer = fewer_left ps v.items (all_items vs) (all_items us) whole old mid new r p in
-      let a = all-long vs in let b = all-long us in omega arith
+      let fewer = fewer_left ps v vs us whole old mid new r p in
+      omega arith
 
-pub last_round : (ps : List Piece) (whole : Option (List ℕ)) (old new : Sink) (vs : List (Vec ℕ Global)) → (length vs == 0) ≡ true → Rounds ps (all_items vs) whole old new → Prints whole old new
+pub last_round : (ps : List Piece) (whole : Option (List ℕ)) (old new : Sink) (vs : List (List ℕ)) → (length vs == 0) ≡ true → Rounds ps vs whole old new → Prints whole old new
 last_round ps whole old new [] none r = rounds_done ps whole old new r
 last_round ps whole old new (v ∷ vs) none r = absurd (let e = eqb-true (length (v ∷ vs)) 0 none in omega arith)
 
@@ -208,6 +202,7 @@ module _ (setting : Setting) (ask : Ask) (es : List Entry) (line : ℕ) where
   leaves : (stop : Stop) (old mid new : Sink) → Grows old mid → Leaves stop mid new → Leaves stop old new
   leaves (stops.Ended e) old mid new g l = grows-trans old mid new g l
   leaves (stops.Lacks ps) old mid new g l = grows-trans old mid new g l
+  leaves (stops.Waits ps w) old mid new g l = grows-trans old mid new g l
   leaves stops.Memory old mid new g l = tt
 
   pub catted_stops : (t : List ℕ) (ts : List (List ℕ)) (whole : Result (List ℕ) End) (old mid new : Sink) (stop : Stop) → Catted setting ask es line (t ∷ ts) whole old mid → Fills {X = Unit {0}} (Err stop) (content_of setting ask es line t) mid new → Fills {X = Unit {0}} (Err stop) whole old new

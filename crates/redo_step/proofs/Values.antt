@@ -9,7 +9,7 @@ use Rattle.redo_script.specs.Syntax.{byte, Word}
 use Rattle.redo_script.specs.View.{symbols_of, symbols_of_part}
 use Rattle.redo_script.specs.Bytes.{is_plain}
 use Rattle.redo_step.specs.Value.{value_of, with_front, is_fit, are_plain}
-use Rattle.redo_step.specs.Parts.{added, IsAdded}
+use Rattle.redo_step.specs.Parts.{added}
 
 pub with_front-with_front : (a b : List ℕ) (v : Option (List ℕ)) → with_front a (with_front b v) ≡ with_front (a ++ b) v
 with_front-with_front a b None = refl
@@ -27,6 +27,23 @@ value_of-part : (stands_for : Parameter → List ℕ) (part : Part) (w : Word) �
 value_of-part stands_for (parts.Lit bytes) w = value_of-bytes stands_for bytes.items w
 value_of-part stands_for (parts.Quoted p) w = refl
 value_of-part stands_for (parts.Bare p) w = (elim (is_fit (stands_for p)) as (λ (v : Bool). cond v (with_front (stands_for p) (value_of stands_for w)) None ≡ with_added (cond v (Some (stands_for p)) None) (value_of stands_for w)) [ true ↦ refl | false ↦ refl ])
+
+-- a word of one part
+
+with_nothing : (o : Option (List ℕ)) → with_added o (Some []) ≡ o
+with_nothing None = refl
+with_nothing (Some front) = ap Some (append-nil front)
+
+value_alone : (stands_for : Parameter → List ℕ) (part : Part) → value_of stands_for (symbols_of (part ∷ [])) ≡ added stands_for part
+value_alone stands_for part = value_of-part stands_for part [] ∙ with_nothing (added stands_for part)
+
+one_part : (ps : List Part) (part : Part) → length ps ≡ 1 → part ≡ get_or ps 0 part → ps ≡ part ∷ []
+one_part [] part one is = absurd (omega arith)
+one_part (p ∷ []) part one is = ap (λ q. q ∷ []) (sym is)
+one_part (p ∷ q ∷ ps) part one is = absurd (omega arith)
+
+pub value_of_one : (stands_for : Parameter → List ℕ) (ps : List Part) (part : Part) → length ps ≡ 1 → part ≡ get_or ps 0 part → value_of stands_for (symbols_of ps) ≡ added stands_for part
+value_of_one stands_for ps part one is = rw (one_part ps part one is) (value_alone stands_for part)
 
 module _ (stands_for : Parameter → List ℕ) (ps : List Part) (i : ℕ) (part : Part) (so_far : List ℕ) (total : Option (List ℕ)) (lt : i < length ps) (is : part ≡ get_or ps i part) (before : with_front so_far (value_of stands_for (symbols_of (drop i ps))) ≡ total) where
   here : with_front so_far (with_added (added stands_for part) (value_of stands_for (symbols_of (drop (i + 1) ps)))) ≡ total
@@ -50,15 +67,6 @@ all_added stands_for ps i so_far total le h =
     let none : drop i ps ≡ [] = nil_from_length (drop i ps) (simp length-drop (omega arith)) in
     let e : with_front so_far (value_of stands_for (symbols_of (drop i ps))) ≡ Some so_far = rw none (ap Some (append-nil so_far)) in
     sym e ∙ h
-
--- a turn of the loop
-pub turn_goes : (o : Option (List ℕ)) (old new : List ℕ) → IsAdded o old true new → (bytes : List ℕ) × (o ≡ Some bytes) × (new ≡ old ++ bytes)
-turn_goes None old new h = absurd h
-turn_goes (Some bytes) old new h = (bytes, refl, h)
-
-pub turn_ends : (o : Option (List ℕ)) (old new : List ℕ) → IsAdded o old false new → o ≡ None
-turn_ends None old new h = refl
-turn_ends (Some bytes) old new h = absurd h
 
 pub plain_at : (bytes : List ℕ) (i : ℕ) → i < length bytes → are_plain (drop i bytes) ≡ (is_plain (get_or bytes i 0) && are_plain (drop (i + 1) bytes))
 plain_at bytes i lt = rw (add-one, drop-cons bytes i 0 lt) refl

@@ -1,5 +1,8 @@
 pub mod Path
 pub mod Value
+pub mod Text
+pub mod Waiting
+pub mod Kept
 pub mod Meaning
 pub mod Setting
 pub mod Record

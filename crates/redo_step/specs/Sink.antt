@@ -25,6 +25,7 @@ pub record Adds (more : List ℕ) (old new : Sink) : Type 0 where
 abbrev pub Leaves : Stop → Sink → Sink → Type 0
 Leaves (stops.Ended e) old new = Grows old new
 Leaves (stops.Lacks ps) old new = Grows old new
+Leaves (stops.Waits ps w) old new = Grows old new
 Leaves stops.Memory old new = Unit {0}
 
 -- a command gave the sink the bytes that are meant, or stopped as is meant

@@ -6,13 +6,13 @@ use Rattle.redo_step.specs.declared.writing.Writing.TheVariants as writings
 use Rattle.redo_step.specs.declared.stop.Stop.{Stop}
 use Rattle.redo_step.specs.declared.stop.Stop.TheVariants as stops
 use Rattle.redo_step.specs.Meaning.{Setting, Ask, Entry, State, End, exited, Run, ◌>>=◌, or_else, file_of, bytes_of, limited, put, with_state}
-use Rattle.redo_step.specs.Machine.{Stops, all_items}
+use Rattle.redo_step.specs.Machine.{Stops}
 
 -- the values of a command's words
 abbrev pub writing_of : Writing → Writer (List ℕ)
-writing_of (writings.Echo texts) = echo (all_items texts.items)
-writing_of (writings.Printf format texts) = printf format.items (all_items texts.items)
-writing_of (writings.Cat texts) = cat (all_items texts.items)
+writing_of (writings.Echo texts) = echo texts.items
+writing_of (writings.Printf format texts) = printf format texts.items
+writing_of (writings.Cat texts) = cat texts.items
 
 -- the bytes of one file that cat is given
 abbrev pub content_of : Setting → Ask → List Entry → ℕ → List ℕ → Result (List ℕ) End
@@ -26,6 +26,7 @@ appended setting ask es line w before = bytes_of setting ask es line w >>= λ by
 abbrev pub Spares : Stop → List ℕ → List ℕ → Type 0
 Spares (stops.Ended e) old new = new ≡ old
 Spares (stops.Lacks ps) old new = new ≡ old
+Spares (stops.Waits ps w) old new = new ≡ old
 Spares stops.Memory old new = Unit {0}
 
 -- what is meant was appended, or the command stopped as is meant and left the bytes

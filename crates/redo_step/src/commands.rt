@@ -1,8 +1,9 @@
 //! What each command does.
 
+ghost use Rattle.redo_script.specs.Syntax.{change};
 ghost use Rattle.redo_script.specs.View.{words_of, test_of, command_of, condition_of};
 ghost use Rattle.redo_step.specs.Meaning.{operands_of, free_operands, changed, created, tested_in, command_run, condition_result};
-ghost use Rattle.redo_step.specs.Machine.{Gives, Runs, state_of};
+ghost use Rattle.redo_step.specs.Machine.{Gives, Runs, Passes, state_of};
 ghost use Rattle.redo_step.specs.Scene.{scene_setting};
 
 use crate::answers::Answers;
@@ -11,6 +12,7 @@ use crate::deps::{DepKind, Deps};
 use crate::machine::Effects;
 use crate::scene::Scene;
 use crate::stop::Stop;
+use crate::wait::Waiting;
 use redo_script::{Command, Condition, Test, Word};
 
 impl Scene<'_> {
@@ -22,7 +24,7 @@ impl Scene<'_> {
         command: &Command,
         effects: &mut Effects,
     ) -> Result<(), Stop>
-        ensures { Runs result (command_run (scene_setting self.now) (A.ask answers.now) line (command_of command.now) (state_of effects.old)) (state_of effects.new) }
+        ensures { Passes (scene_setting self.now) line (command_of command.now) result (command_run (scene_setting self.now) (A.ask answers.now) line (command_of command.now) (state_of effects.old)) (state_of effects.new) }
     {
         match command {
             Command::Write(writer, redirection) => {
@@ -51,11 +53,12 @@ impl Scene<'_> {
         words: &[Word],
         effects: &mut Effects,
     ) -> Result<(), Stop>
-        ensures { Runs result (changed (scene_setting self.now) (A.ask answers.now) line (operands_of (scene_setting self.now) line (words_of words.now)) (state_of effects.old)) (state_of effects.new) }
+        ensures { Passes (scene_setting self.now) line (change (words_of words.now)) result (changed (scene_setting self.now) (A.ask answers.now) line (operands_of (scene_setting self.now) line (words_of words.now)) (state_of effects.old)) (state_of effects.new) }
     {
         let paths = self.operands(line, words)?;
         declare(&mut effects.deps, DepKind::Change, &paths)?;
-        self.wait(answers, line, &paths)
+        let targets = self.targets(paths);
+        Waiting { line, targets }.go_on(self.alloc, answers)
     }
 
     /// redo-ifcreate(1): declares these words' paths, none of which may be there.
@@ -81,17 +84,17 @@ impl Scene<'_> {
         match test {
             Test::IsFile(word) => {
                 let text = self.text(line, word)?;
-                Ok(self.file(answers, line, declared, &text)?.is_some())
+                Ok(self.file(answers, line, declared, text.bytes())?.is_some())
             }
             Test::Equal(first, second) => {
                 let first = self.text(line, first)?;
                 let second = self.text(line, second)?;
-                Ok(first.as_slice() == second.as_slice())
+                Ok(first.bytes() == second.bytes())
             }
             Test::Differ(first, second) => {
                 let first = self.text(line, first)?;
                 let second = self.text(line, second)?;
-                Ok(first.as_slice() != second.as_slice())
+                Ok(first.bytes() != second.bytes())
             }
         }
     }

@@ -1,6 +1,6 @@
 //! What a script declares, in order.
 
-ghost use Rattle.std.specs.Prelude.{◌≡◌, ◌<◌, ◌^◌, ◌==◌, [], length, OnOk, OnErr};
+ghost use Rattle.std.specs.Prelude.{◌≡◌, ◌<◌, ◌^◌, ◌==◌, [], length, IfOk, OnOk, OnErr};
 ghost use Rattle.redo_step.specs.Meaning.{is_entered, with_entry};
 
 use indexmap::IndexSet;
@@ -45,6 +45,15 @@ impl Deps {
         Deps {
             entries: IndexSet::new(alloc),
         }
+    }
+
+    /// No entries, with room for so many.
+    pub(crate) fn with_capacity(alloc: Global, room: usize) -> Result<Deps, AllocError>
+        ensures { IfOk result (λ deps. deps ≡ []) }
+    {
+        Ok(Deps {
+            entries: IndexSet::with_capacity(alloc, room)?,
+        })
     }
 
     /// Puts an entry last, unless it is there.

@@ -22,6 +22,7 @@ use crate::place::Place;
 use crate::record::{search_record, whole_record};
 use crate::scene::Scene;
 use crate::stop::Ending;
+use crate::wait::Waiting;
 use redo_path::Path;
 use redo_script::ScriptFault;
 use redo_tree::{Content, Tree};
@@ -63,6 +64,8 @@ pub struct Job {
     place: Place,
     effects: Effects,
     turn: u64,
+    /// The redo-ifchange that waits at the place.
+    kept: Option<Waiting>,
 }
 
 impl Model for Job {
@@ -79,6 +82,12 @@ impl Model for Job {
     ghost coded = { Prim.hlevel (codes, stmts.the_row.coded, places.the_row.coded) };
 
     ghost view = { λ j. record { tree = arc_value j.task.tree; target = j.task.target; do_file = j.task.rule.do_file; missing = j.task.rule.missing.items; arguments = arguments_view j.task.rule.args; limits = j.task.limits; parsed = arc_value j.task.parsed; place = j.place; state = state_of j.effects; turn = j.turn } };
+
+    ghost use Rattle.redo_step.specs.Parsed.{parsed_of};
+    ghost use Rattle.redo_step.specs.Setting.{setting_of};
+    ghost use Rattle.redo_step.specs.Kept.{IsKeptIn};
+
+    ghost invariant = { λ j. IsKeptIn (setting_of (arc_value j.task.tree) j.task.limits.1 j.task.target (arguments_view j.task.rule.args)) (parsed_of (arc_value j.task.parsed)) j.place (state_of j.effects) j.kept };
 }
 
 /// What became of a target whose script ended, with its record.
@@ -127,6 +136,7 @@ impl Job {
                 deps: Deps::new(alloc),
             },
             turn: 0,
+            kept: None,
         })
     }
 
@@ -171,21 +181,30 @@ impl Job {
             place,
             mut effects,
             turn,
+            kept,
         } = self;
         let script = match &*task.parsed {
             Parsed::Read(script) => script,
             Parsed::Refused(fault) => return refused(task.alloc, &task.rule, *fault),
         };
-        match resume(&task.scene(), answers, &mut effects, &script.stmts, &place)? {
+        match resume(
+            &task.scene(),
+            answers,
+            &mut effects,
+            &script.stmts,
+            &place,
+            kept,
+        )? {
             Progress::Finished => ended(task.alloc, &task.rule, Ending::Exited(0), effects),
             Progress::Ended(ending) => ended(task.alloc, &task.rule, ending, effects),
-            Progress::Stopped(paths, place) => {
+            Progress::Stopped(paths, place, kept) => {
                 let turn = turn + 1;
                 let job = Job {
                     task,
                     place,
                     effects,
                     turn,
+                    kept,
                 };
                 Ok(Step::Asks { job, paths })
             }
@@ -199,7 +218,7 @@ fn refused(alloc: Global, rule: &Rule, fault: ScriptFault) -> Result<Step, Alloc
 {
     Ok(Step::Ended(Done {
         outcome: Outcome::Failed(Why::Script(fault)),
-        deps: search_record(alloc, rule)?,
+        deps: search_record(alloc, rule, 0)?,
     }))
 }
 

@@ -8,7 +8,7 @@
 //! - What a script is given: `limits`, `parsed`, `answers`.
 //! - What becomes of a target: `outcome`, `deps`, `record`.
 //! - A job and how it goes on: `job`, `machine`, `place`, `stop`.
-//! - Commands, one idea each: `scene` (what they see), `value` and `words`, `reading`, `printf`, `sink` and `writing`,
+//! - Commands, one idea each: `scene` (what they see), `text`, `value` and `words`, `reading`, `printf`, `sink` and `writing`,
 //!   `declaring`, `commands`.
 //! - Laws over what scripts mean: `laws`.
 #![tactic(auto)]
@@ -30,7 +30,9 @@ mod record;
 mod scene;
 mod sink;
 mod stop;
+mod text;
 mod value;
+mod wait;
 mod words;
 mod writing;
 

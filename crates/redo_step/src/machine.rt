@@ -3,7 +3,8 @@
 ghost use Rattle.std.specs.Prelude.{◌≡◌, ◌+◌, ◌<◌, IfOk, IfSome, IfNone, length};
 ghost use Rattle.redo_script.specs.View.{script_of};
 ghost use Rattle.redo_script.specs.Syntax.{finish};
-ghost use Rattle.redo_step.specs.Place.{skip, left_at};
+ghost use Rattle.redo_step.specs.Place.{skip, left_at, stands_at};
+ghost use Rattle.redo_step.specs.Kept.{IsKept};
 ghost use Rattle.redo_step.specs.Machine.{state_of, Comes, IsStopBefore, IsWithin, IsPassed, HasBranch, HasNoBranch};
 ghost use Rattle.redo_step.specs.Scene.{scene_setting};
 
@@ -12,6 +13,7 @@ use crate::deps::Deps;
 use crate::place::{Branch, Place};
 use crate::scene::Scene;
 use crate::stop::{Ending, Stop};
+use crate::wait::Waiting;
 use redo_path::Path;
 use redo_script::Stmt;
 use std::alloc::{AllocError, Global};
@@ -30,8 +32,8 @@ pub(crate) struct Effects {
 pub(crate) enum Progress {
     Finished,
     Ended(Ending),
-    /// Stopped at a place of the list, for want of the answers for these paths.
-    Stopped(Vec<Path>, Place),
+    /// Stopped at a place of the list, for want of the answers for these paths, with the redo-ifchange that waits there.
+    Stopped(Vec<Path>, Place, Option<Waiting>),
 }
 
 /// Runs these statements from the one with this number on.
@@ -86,24 +88,34 @@ fn run_stmt<A: Answers>(
     }
 }
 
-/// Runs what is left of these statements from a place on.
+/// Runs what is left of these statements from a place on. A redo-ifchange that waited there isn't begun again.
 pub(crate) fn resume<A: Answers>(
     scene: &Scene,
     answers: &A,
     effects: &mut Effects,
     stmts: &[Stmt],
     place: &Place,
+    kept: Option<Waiting>,
 ) -> Result<Progress, AllocError>
+    requires { IsKept (scene_setting scene.now) (stands_at place.now (script_of stmts.now)) (state_of effects.old) kept }
     ensures { IfOk result (λ progress. Comes (scene_setting scene.now) (A.ask answers.now) (script_of stmts.now) (left_at place.now (script_of stmts.now)) finish (state_of effects.old) progress (state_of effects.new)) }
 {
     match place {
-        Place::Before(first) => run_from(scene, answers, effects, stmts, *first),
+        Place::Before(first) => {
+            let Some(waiting) = kept else {
+                return run_from(scene, answers, effects, stmts, *first);
+            };
+            match waiting.go_on(scene.alloc, answers) {
+                Ok(()) => run_from(scene, answers, effects, stmts, *first + 1),
+                Err(stop) => stop_before(stop, *first),
+            }
+        }
         Place::Within(index, branch, inner) => {
             // A place inside what is no `if` has nothing left.
             let Some(part) = branch_at(stmts, *index, *branch) else {
                 return Ok(Progress::Finished);
             };
-            let progress = resume(scene, answers, effects, part, inner)?;
+            let progress = resume(scene, answers, effects, part, inner, kept)?;
             match within(scene.alloc, progress, *index, *branch)? {
                 Progress::Finished => run_from(scene, answers, effects, stmts, *index + 1),
                 progress => Ok(progress),
@@ -133,9 +145,11 @@ fn branch_at(stmts: &[Stmt], index: usize, branch: Branch) -> Option<&[Stmt]>
 fn stop_before(stop: Stop, index: usize) -> Result<Progress, AllocError>
     ensures { IfOk result (IsStopBefore stop index) }
 {
+    let here = Place::Before(index);
     match stop {
         Stop::Ended(ending) => Ok(Progress::Ended(ending)),
-        Stop::Lacks(paths) => Ok(Progress::Stopped(paths, Place::Before(index))),
+        Stop::Lacks(paths) => Ok(Progress::Stopped(paths, here, None)),
+        Stop::Waits(paths, waiting) => Ok(Progress::Stopped(paths, here, Some(waiting))),
         Stop::Memory => Err(AllocError),
     }
 }
@@ -150,9 +164,9 @@ fn within(
     ensures { IfOk result (IsWithin progress index branch) }
 {
     match progress {
-        Progress::Stopped(paths, place) => {
+        Progress::Stopped(paths, place, kept) => {
             let place = Box::new(alloc, place)?;
-            Ok(Progress::Stopped(paths, Place::Within(index, branch, place)))
+            Ok(Progress::Stopped(paths, Place::Within(index, branch, place), kept))
         }
         other => Ok(other),
     }

@@ -2,7 +2,6 @@
 
 ghost use Rattle.std.specs.Prelude.{◌≡◌, ◌≤◌, ◌∷◌, IfOk, OnOk, IfSome, IfNone, None, Some, option_map, length};
 ghost use Rattle.redo_step.specs.Meaning.{or_else, faulted, sequence_of, with_piece, pieces_of, takes_operands, once, formatted, print_of};
-ghost use Rattle.redo_step.specs.Machine.{all_items};
 ghost use Rattle.redo_step.specs.Printing.{HasPlaces, Prints, PrintsOnce};
 ghost use Rattle.redo_step.specs.Sink.{Fills};
 ghost use Rattle.redo_step.specs.declared.outcome.Why.TheVariants.{Format};
@@ -10,6 +9,7 @@ ghost use Rattle.redo_step.specs.declared.outcome.Why.TheVariants.{Format};
 use crate::outcome::Why;
 use crate::sink::Sink;
 use crate::stop::Stop;
+use crate::text::Text;
 use std::alloc::{AllocError, Global};
 
 /// A piece of a format.
@@ -26,10 +26,10 @@ pub(crate) fn printf(
     alloc: Global,
     line: u64,
     format: &[u8],
-    texts: &[Vec<u8>],
+    texts: &[Text],
     sink: &mut Sink,
 ) -> Result<(), Stop>
-    ensures { Fills result (or_else (faulted (Format line)) (print_of format.now (all_items texts.now))) sink.old sink.new }
+    ensures { Fills result (or_else (faulted (Format line)) (print_of format.now texts.now)) sink.old sink.new }
 {
     let Some(pieces) = pieces(alloc, format)? else {
         return Err(Stop::fault(Why::Format(line)));
@@ -100,9 +100,9 @@ fn takes_operands(pieces: &[Piece]) -> bool
 }
 
 /// Prints the format once, and then again while operands are left.
-fn print(pieces: &[Piece], texts: &[Vec<u8>], sink: &mut Sink) -> Result<(), AllocError>
-    requires { HasPlaces pieces.now (all_items texts.now) }
-    ensures { OnOk result (Prints (formatted pieces.now (all_items texts.now)) sink.old sink.new) }
+fn print(pieces: &[Piece], texts: &[Text], sink: &mut Sink) -> Result<(), AllocError>
+    requires { HasPlaces pieces.now texts.now }
+    ensures { OnOk result (Prints (formatted pieces.now texts.now) sink.old sink.new) }
 {
     let mut left = print_once(pieces, texts, sink)?;
     // What is too long already gets no longer by more rounds.
@@ -113,24 +113,24 @@ fn print(pieces: &[Piece], texts: &[Vec<u8>], sink: &mut Sink) -> Result<(), All
 }
 
 /// Prints the format once, and answers the operands that are left.
-fn print_once<'t>(
+fn print_once<'t, 'a>(
     pieces: &[Piece],
-    texts: &'t [Vec<u8>],
+    texts: &'t [Text<'a>],
     sink: &mut Sink,
-) -> Result<&'t [Vec<u8>], AllocError>
-    ensures { IfOk result (λ left. PrintsOnce (once pieces.now (all_items texts.now)) (all_items left.now) sink.old sink.new) }
+) -> Result<&'t [Text<'a>], AllocError>
+    ensures { IfOk result (λ left. PrintsOnce (once pieces.now texts.now) left.now sink.old sink.new) }
 {
-    let mut left = texts;
+    let mut printed = 0;
     for piece in pieces {
         match piece {
             Piece::Literal(byte) => sink.add(&[*byte])?,
             Piece::Operand => {
-                if let Some((text, others)) = left.split_first() {
-                    sink.add(text)?;
-                    left = others;
+                if printed < texts.len() {
+                    sink.add(texts[printed].bytes())?;
+                    printed += 1;
                 }
             }
         }
     }
-    Ok(left)
+    Ok(&texts[printed..])
 }

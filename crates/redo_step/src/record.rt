@@ -7,11 +7,11 @@ use crate::deps::{Dep, DepKind, Deps};
 use redo_which::Rule;
 use std::alloc::{AllocError, Global};
 
-/// The record of the search for a rule: the candidates that are missing, and the .do file.
-pub(crate) fn search_record(alloc: Global, rule: &Rule) -> Result<Deps, AllocError>
+/// The record of the search for a rule: the candidates that are missing, and the .do file; with room for so many more.
+pub(crate) fn search_record(alloc: Global, rule: &Rule, room: usize) -> Result<Deps, AllocError>
     ensures { IfOk result (λ deps. deps ≡ search_deps rule.now.missing.items rule.now.do_file) }
 {
-    let mut deps = Deps::new(alloc);
+    let mut deps = Deps::with_capacity(alloc, room.saturating_add(rule.missing.len() + 1))?;
     for path in &rule.missing {
         deps.insert(Dep {
             kind: DepKind::Create,
@@ -29,7 +29,7 @@ pub(crate) fn search_record(alloc: Global, rule: &Rule) -> Result<Deps, AllocErr
 pub(crate) fn whole_record(alloc: Global, rule: &Rule, own: &Deps) -> Result<Deps, AllocError>
     ensures { IfOk result (λ deps. deps ≡ with_all (search_deps rule.now.missing.items rule.now.do_file) own.now) }
 {
-    let mut deps = search_record(alloc, rule)?;
+    let mut deps = search_record(alloc, rule, own.len())?;
     for dep in own.as_slice() {
         deps.insert(dep.clone()?)?;
     }

@@ -9,6 +9,7 @@ ghost use Rattle.redo_step.specs.Scene.{scene_setting};
 
 use crate::outcome::Why;
 use crate::stop::Stop;
+use crate::text::Text;
 use crate::value::word_value;
 use redo_path::{Path, PathFault, resolve};
 use redo_script::Word;
@@ -38,8 +39,8 @@ impl Scene<'_> {
 
     /// The value of a word.
     #[tactic(auto, unfolding(crate::specs::Setting::setting_by))]
-    pub(crate) fn text(&self, line: u64, word: &Word) -> Result<Vec<u8>, Stop>
-        ensures { Gives (λ t. t.items) result (text_of (scene_setting self.now) line (word_of word.now)) }
+    pub(crate) fn text<'s>(&'s self, line: u64, word: &'s Word) -> Result<Text<'s>, Stop>
+        ensures { Gives (λ t. t) result (text_of (scene_setting self.now) line (word_of word.now)) }
     {
         match word_value(self.alloc, self.args, word)? {
             Some(text) => Ok(text),

@@ -3,6 +3,7 @@
 ghost use Rattle.std.specs.Prelude.{◌≡◌};
 
 use crate::outcome::Why;
+use crate::wait::Waiting;
 use redo_path::Path;
 use std::alloc::{AllocError, AllocFailed};
 
@@ -20,6 +21,8 @@ pub(crate) enum Stop {
     Ended(Ending),
     /// These paths have no answer yet.
     Lacks(Vec<Path>),
+    /// Nor have these, and a redo-ifchange waits for them.
+    Waits(Vec<Path>, Waiting),
     Memory,
 }
 

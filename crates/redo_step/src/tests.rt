@@ -91,6 +91,14 @@ fn begin(alloc: Global, files: &[File], target: &[u8], limits: Limits) -> Result
     Ok(Job::begin(alloc, tree, target, rule, parsed, limits)?)
 }
 
+/// What became of a target whose script lacks no answer.
+fn ended(step: Step) -> Result<Done, Fail> {
+    match step {
+        Step::Ended(done) => Ok(done),
+        Step::Asks { .. } => Err("it asks")?,
+    }
+}
+
 /// Runs a script that lacks no answer.
 fn run(
     alloc: Global,
@@ -99,10 +107,14 @@ fn run(
     known: &Known,
     limits: Limits,
 ) -> Result<Done, Fail> {
-    match begin(alloc, files, target, limits)?.advance(known)? {
-        Step::Ended(done) => Ok(done),
-        Step::Asks { .. } => Err("it asks")?,
-    }
+    let job = begin(alloc, files, target, limits)?;
+    let step = job.advance(known)?;
+    ended(step)
+}
+
+/// Limits of 100 targets and of so many bytes.
+fn limits_of(file_bytes: u32) -> Result<Limits, Fail> {
+    Ok(Limits::new(100, file_bytes).ok_or("limits")?)
 }
 
 /// An outcome in words: the bytes of its file, `none`, or why it failed.
@@ -117,6 +129,32 @@ fn shown(alloc: Global, outcome: &Outcome) -> Result<Vec<u8>, Fail> {
         Outcome::Source => Ok(Vec::from_slice(alloc, b"source")?),
         Outcome::Cyclic => Ok(Vec::from_slice(alloc, b"cyclic")?),
     }
+}
+
+/// Compares an outcome with its words.
+fn check_outcome(
+    rt: &(impl Abort + Eprint),
+    alloc: Global,
+    outcome: &Outcome,
+    want: &[u8],
+) -> Result<(), Fail> {
+    let got = shown(alloc, outcome)?;
+    assert_eq!(rt; got.as_slice(), want);
+    Ok(())
+}
+
+/// Runs the script of a target, and compares its outcome with these words.
+fn check_target(
+    rt: &(impl Abort + Eprint),
+    alloc: Global,
+    files: &[File],
+    target: &[u8],
+    known: &Known,
+    limits: Limits,
+    want: &[u8],
+) -> Result<(), Fail> {
+    let done = run(alloc, files, target, known, limits)?;
+    check_outcome(rt, alloc, &done.outcome, want)
 }
 
 /// Knows these outcomes.
@@ -143,9 +181,7 @@ fn check_rows(
     for (script, want) in rows {
         let mut all = Vec::from_slice(alloc, files)?;
         all.push((b"t.do", script))?;
-        let done = run(alloc, &all, b"t", known, limits)?;
-        let got = shown(alloc, &done.outcome)?;
-        assert_eq!(rt; got.as_slice(), *want);
+        check_target(rt, alloc, &all, b"t", known, limits, want)?;
     }
     Ok(())
 }

@@ -1,12 +1,13 @@
 //! The value of a word.
 
-ghost use Rattle.std.specs.Prelude.{◌≡◌, IfOk, option_map};
-ghost use Rattle.redo_script.specs.View.{word_of};
+ghost use Rattle.std.specs.Prelude.{◌≡◌, IfOk, option_copied, option_map};
+ghost use Rattle.redo_script.specs.View.{word_of, symbols_of};
 ghost use Rattle.redo_which.specs.Views.{arguments_view};
 ghost use Rattle.redo_step.specs.Setting.{value_in};
 ghost use Rattle.redo_step.specs.Value.{value_of, is_fit, are_plain};
-ghost use Rattle.redo_step.specs.Parts.{added, IsAdded};
+ghost use Rattle.redo_step.specs.Parts.{added};
 
+use crate::text::Text;
 use redo_script::{Parameter, Part, Word, is_plain_byte};
 use redo_which::Args;
 use std::alloc::{AllocError, Global};
@@ -41,37 +42,54 @@ fn are_plain_bytes(bytes: &[u8]) -> bool
     true
 }
 
-/// Adds what a part stands for, or answers that its bytes aren't fit.
-fn push_part(value: &mut Vec<u8>, args: &Args, part: &Part) -> Result<bool, AllocError>
-    ensures { IfOk result (λ fits. IsAdded (added (value_in (arguments_view args.now)) part.now) value.old.items fits value.new.items) }
+/// What a part stands for, or none where its bytes aren't fit.
+fn part_value<'a>(args: &'a Args, part: &'a Part) -> Option<&'a [u8]>
+    ensures { option_copied result ≡ added (value_in (arguments_view args.now)) part.now }
 {
     match part {
-        Part::Lit(bytes) => value.extend_from_slice(bytes)?,
-        Part::Quoted(parameter) => value.extend_from_slice(argument(args, *parameter))?,
+        Part::Lit(bytes) => Some(bytes),
+        Part::Quoted(parameter) => Some(argument(args, *parameter)),
         Part::Bare(parameter) => {
             let bytes = argument(args, *parameter);
-            if !is_fit_value(bytes) {
-                return Ok(false);
+            if is_fit_value(bytes) {
+                Some(bytes)
+            } else {
+                None
             }
-            value.extend_from_slice(bytes)?;
         }
     }
-    Ok(true)
+}
+
+/// What parts stand for, one after the other.
+fn joined_value(alloc: Global, args: &Args, parts: &[Part]) -> Result<Option<Vec<u8>>, AllocError>
+    ensures { IfOk result (λ value. option_map (λ v. v.items) value ≡ value_of (value_in (arguments_view args.now)) (symbols_of parts.now)) }
+{
+    let mut value = Vec::new(alloc);
+    for part in parts {
+        let Some(bytes) = part_value(args, part) else {
+            return Ok(None);
+        };
+        value.extend_from_slice(bytes)?;
+    }
+    Ok(Some(value))
 }
 
 /// The value of a word, or none where a bare parameter's bytes aren't fit.
-pub(crate) fn word_value(
+pub(crate) fn word_value<'a>(
     alloc: Global,
-    args: &Args,
-    word: &Word,
-) -> Result<Option<Vec<u8>>, AllocError>
-    ensures { IfOk result (λ value. option_map (λ v. v.items) value ≡ value_of (value_in (arguments_view args.now)) (word_of word.now)) }
+    args: &'a Args,
+    word: &'a Word,
+) -> Result<Option<Text<'a>>, AllocError>
+    ensures { IfOk result (λ value. value ≡ value_of (value_in (arguments_view args.now)) (word_of word.now)) }
 {
-    let mut value = Vec::new(alloc);
-    for part in &word.parts {
-        if !push_part(&mut value, args, part)? {
-            return Ok(None);
-        }
+    match word.parts.as_slice() {
+        [part] => match part_value(args, part) {
+            Some(bytes) => Ok(Some(Text::lent(bytes))),
+            None => Ok(None),
+        },
+        parts => match joined_value(alloc, args, parts)? {
+            Some(bytes) => Ok(Some(Text::held(bytes))),
+            None => Ok(None),
+        },
     }
-    Ok(Some(value))
 }

@@ -1,22 +1,23 @@
 //! The values of a command's words, and the paths that they name.
 
-ghost use Rattle.std.specs.Prelude.{◌≡◌, map};
+ghost use Rattle.std.specs.Prelude.{◌≡◌};
 ghost use Rattle.redo_script.specs.View.{words_of};
 ghost use Rattle.redo_step.specs.Meaning.{texts_of, paths_of, operands_of};
-ghost use Rattle.redo_step.specs.Machine.{Gives, all_items};
+ghost use Rattle.redo_step.specs.Machine.{Gives};
 ghost use Rattle.redo_step.specs.Scene.{scene_setting};
 
 use crate::scene::Scene;
 use crate::stop::Stop;
+use crate::text::Text;
 use redo_path::Path;
 use redo_script::Word;
 
 impl Scene<'_> {
     /// The values of these words, from left to right.
-    pub(crate) fn texts(&self, line: u64, words: &[Word]) -> Result<Vec<Vec<u8>>, Stop>
-        ensures { Gives (λ ts. all_items ts.items) result (texts_of (scene_setting self.now) line (words_of words.now)) }
+    pub(crate) fn texts<'s>(&'s self, line: u64, words: &'s [Word]) -> Result<Vec<Text<'s>>, Stop>
+        ensures { Gives (λ ts. ts.items) result (texts_of (scene_setting self.now) line (words_of words.now)) }
     {
-        let mut texts = Vec::new(self.alloc);
+        let mut texts = Vec::with_capacity(self.alloc, words.len())?;
         for word in words {
             texts.push(self.text(line, word)?)?;
         }
@@ -24,12 +25,12 @@ impl Scene<'_> {
     }
 
     /// The paths that these texts name.
-    pub(crate) fn paths(&self, line: u64, texts: &[Vec<u8>]) -> Result<Vec<Path>, Stop>
-        ensures { Gives (λ ps. ps.items) result (paths_of (scene_setting self.now) line (all_items texts.now)) }
+    pub(crate) fn paths(&self, line: u64, texts: &[Text]) -> Result<Vec<Path>, Stop>
+        ensures { Gives (λ ps. ps.items) result (paths_of (scene_setting self.now) line texts.now) }
     {
-        let mut paths = Vec::new(self.alloc);
+        let mut paths = Vec::with_capacity(self.alloc, texts.len())?;
         for text in texts {
-            paths.push(self.path(line, text)?)?;
+            paths.push(self.path(line, text.bytes())?)?;
         }
         Ok(paths)
     }

@@ -3,7 +3,7 @@
 ghost use Rattle.std.specs.Prelude.{◌≡◌, ◌++◌, ◌∷◌, [], OnOk, None, Some, option_map};
 ghost use Rattle.redo_script.specs.View.{writer_of, redirection_of};
 ghost use Rattle.redo_step.specs.Meaning.{joined, contents_of, writer_texts, bytes_of, goal_of, written, with_state};
-ghost use Rattle.redo_step.specs.Machine.{Gives, Runs, all_items, state_of};
+ghost use Rattle.redo_step.specs.Machine.{Gives, Runs, state_of};
 ghost use Rattle.redo_step.specs.Scene.{scene_setting};
 ghost use Rattle.redo_step.specs.Sink.{Adds, Fills};
 ghost use Rattle.redo_step.specs.Writing.{writing_of, content_of, appended, Appends, put_bytes};
@@ -16,44 +16,45 @@ use crate::printf::printf;
 use crate::scene::Scene;
 use crate::sink::Sink;
 use crate::stop::Stop;
+use crate::text::Text;
 use redo_script::{Redirection, Writer};
 use std::alloc::AllocError;
 use std::mem;
 
 /// A command that writes, with the values of its words.
-#[derive(Debug, Drop)]
-enum Writing {
-    Echo(Vec<Vec<u8>>),
-    Printf(Vec<u8>, Vec<Vec<u8>>),
-    Cat(Vec<Vec<u8>>),
+#[derive(Drop)]
+enum Writing<'a> {
+    Echo(Vec<Text<'a>>),
+    Printf(Text<'a>, Vec<Text<'a>>),
+    Cat(Vec<Text<'a>>),
 }
 
 /// Adds these texts with one space between them, and a newline.
-fn echo(texts: &[Vec<u8>], sink: &mut Sink) -> Result<(), AllocError>
-    ensures { OnOk result (Adds (joined (all_items texts.now) ++ 10 ∷ []) sink.old sink.new) }
+fn echo(texts: &[Text], sink: &mut Sink) -> Result<(), AllocError>
+    ensures { OnOk result (Adds (joined texts.now ++ 10 ∷ []) sink.old sink.new) }
 {
     add_joined(texts, sink)?;
     sink.add(b"\n")
 }
 
 /// Adds these texts with one space between them.
-fn add_joined(texts: &[Vec<u8>], sink: &mut Sink) -> Result<(), AllocError>
-    ensures { OnOk result (Adds (joined (all_items texts.now)) sink.old sink.new) }
+fn add_joined(texts: &[Text], sink: &mut Sink) -> Result<(), AllocError>
+    ensures { OnOk result (Adds (joined texts.now) sink.old sink.new) }
 {
     let Some((first, others)) = texts.split_first() else {
         return Ok(());
     };
-    sink.add(first)?;
+    sink.add(first.bytes())?;
     for text in others {
         sink.add(b" ")?;
-        sink.add(text)?;
+        sink.add(text.bytes())?;
     }
     Ok(())
 }
 
 impl Scene<'_> {
     /// The values of a command's words.
-    fn writing(&self, line: u64, writer: &Writer) -> Result<Writing, Stop>
+    fn writing<'s>(&'s self, line: u64, writer: &'s Writer) -> Result<Writing<'s>, Stop>
         ensures { Gives writing_of result (writer_texts (scene_setting self.now) line (writer_of writer.now)) }
     {
         match writer {
@@ -75,7 +76,7 @@ impl Scene<'_> {
             return Ok(None);
         };
         let text = self.text(line, &redirection.word)?;
-        let path = self.path(line, &text)?;
+        let path = self.path(line, text.bytes())?;
         if self.is_target(&path) {
             return Err(Stop::fault(Why::Direct(line)));
         }
@@ -90,14 +91,14 @@ impl Scene<'_> {
         &self,
         answers: &A,
         line: u64,
-        texts: &[Vec<u8>],
+        texts: &[Text],
         declared: &Deps,
         sink: &mut Sink,
     ) -> Result<(), Stop>
-        ensures { Fills result (contents_of (scene_setting self.now) (A.ask answers.now) declared.now line (all_items texts.now)) sink.old sink.new }
+        ensures { Fills result (contents_of (scene_setting self.now) (A.ask answers.now) declared.now line texts.now) sink.old sink.new }
     {
         for text in texts {
-            self.cat_one(answers, line, text, declared, sink)?;
+            self.cat_one(answers, line, text.bytes(), declared, sink)?;
         }
         Ok(())
     }
@@ -138,7 +139,7 @@ impl Scene<'_> {
                 echo(texts, sink)?;
                 Ok(())
             }
-            Writing::Printf(format, texts) => printf(self.alloc, line, format, texts, sink),
+            Writing::Printf(format, texts) => printf(self.alloc, line, format.bytes(), texts, sink),
             Writing::Cat(texts) => self.cat(answers, line, texts, declared, sink),
         }
     }

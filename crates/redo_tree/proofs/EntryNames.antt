@@ -1,5 +1,5 @@
 -- A name that was found in a directory stands at the path that it names from there.
-use Rattle.std.proofs.Common.{◌≡◌, ◌≢◌, ◌<◌, ◌≤◌, ℕ, Bool, true, false, not, ◌&&◌, ◌||◌, List, [], ◌∷◌, ◌++◌, codes, length, refl, sym, ap, subst, ◌∙◌, arith, Option, Some, None, nat_lt}
+use Rattle.std.proofs.Common.{◌≡◌, ◌≢◌, ◌<◌, ℕ, Bool, true, false, not, ◌&&◌, ◌||◌, List, [], ◌∷◌, ◌++◌, codes, length, refl, sym, ap, subst, ◌∙◌, arith, Some, None, nat_lt}
 use Rattle.std.specs.Prelude.{Ok, Err}
 use Rattle.std.specs.List.{AllByRecursion, list_any}
 use Rattle.std.specs.Option.{option_map_or}
@@ -7,8 +7,8 @@ use Rattle.std.specs.Str.{bytes_eq}
 use Rattle.std.proofs.lemmas.Slice.Eq.{bytes_eq-Decides}
 use Rattle.redo_path.specs.declared.PathFault.{PathFault}
 use Rattle.redo_path.specs.declared.PathFault.TheVariants.{Empty, Absolute, Above, BadByte, LongName, LongPath, Memory}
-use Rattle.redo_path.specs.Names.{IsName, IsPart, IsPath, child_of, is_slash, is_control, names, parts, text_of}
-use Rattle.redo_path.specs.Resolve.{Answers, resolved, step, walk, within_limit, word_fault, ◌>>=◌}
+use Rattle.redo_path.specs.Names.{IsName, IsPart, IsPath, child_of, is_slash, names, parts, text_of}
+use Rattle.redo_path.specs.Resolve.{Answers, resolved, walk, within_limit, word_fault, ◌>>=◌}
 use Rattle.redo_path.proofs.Apart.{apart}
 use Rattle.redo_path.proofs.Canonical.{resolved-path}
 use Rattle.redo_path.proofs.Cuts.{printable-word, resolved-walk, within_limit-long, within_limit-short}

@@ -1,33 +1,22 @@
 -- A tree with one more node is a tree.
-use Rattle.std.proofs.Common.{◌≡◌, List, [], ℕ, Bool, true, false, cond, refl, sym, ap, subst, ◌∙◌, Option, Some, None, IsSome}
-use Rattle.std.specs.Prelude.{option_map, option_and_then, Ok, Err}
-use Rattle.std.specs.BTreeMap.{is_at}
-use Rattle.std.specs.Cmp.Lexicographic.{slice_cmp}
-use Rattle.std.specs.FinMap.{slice_cmp-IsAntisymmetric, nat_cmp-IsAntisymmetric}
-use Rattle.std.specs.List.{AllByRecursion}
-use Rattle.std.specs.List.Sorted.{IsStrictlySortedBy}
-use Rattle.std.specs.Map.{keys_of, lookup}
+use Rattle.std.proofs.Common.{◌≡◌, List, [], ◌∷◌, ℕ, Bool, true, false, cond, refl, sym, ap, subst, ◌∙◌, Option, Some, None, IsSome, nat_eq}
+use Rattle.std.specs.Prelude.{option_and_then, Ok, Err}
+use Rattle.std.specs.Cmp.Lexicographic.{slice_cmp, pointwise, same_text, texts_ties, nat_list_cmp_total, nat_list_eq_equiv}
+use Rattle.std.specs.FinMap.Entries.{by_order, put, find-put}
 use Rattle.std.specs.Option.{option_or, option_map_or}
-use Rattle.std.specs.Ordering.{nat_cmp, is_eq}
-use Rattle.std.specs.declared.cmp.Ordering.{Ordering}
+use Rattle.std.specs.Ordering.{nat_cmp, match_ordering}
 use Rattle.std.specs.declared.cmp.Ordering.TheVariants.{Less, Equal, Greater}
 use Rattle.redo_path.specs.Names.{IsPath, parent_of}
-use Rattle.redo_tree.specs.declared.entries.Entry.{Entry}
 use Rattle.redo_tree.specs.declared.faults.TreeFault.{TreeFault}
-use Rattle.redo_tree.specs.Tree.{Node, Directory, File, Tree, IsTree, node_at, node_of, parent_refusal, place_refusal, refusal, added, with_node}
-use Rattle.redo_tree.proofs.Nodes.{seen, node_at-seen}
+use Rattle.redo_tree.specs.Tree.{Node, Directory, File, Tree, IsTree, node_at, parent_refusal, place_refusal, refusal, added, with_node}
+use Rattle.redo_tree.proofs.Keys.{keys-with, sorted-with}
 
 -- whether a path is the one that is looked for
 abbrev pub is_path : List ℕ → List ℕ → Bool
-is_path path q = is_at (slice_cmp nat_cmp path) q
+is_path path q = pointwise nat_eq path q
 
-equal : (o : Ordering) → is_eq o ≡ true → o ≡ Equal
-equal Less h = cc
-equal Equal h = refl
-equal Greater h = cc
-
-pub same_path : (path q : List ℕ) → is_path path q ≡ true → path ≡ q
-same_path path q h = slice_cmp-IsAntisymmetric nat_cmp-IsAntisymmetric path q (equal (slice_cmp nat_cmp path q) h)
+same_path : (path q : List ℕ) → is_path path q ≡ true → path ≡ q
+same_path path q h = same_text path q (sym h)
 
 both_none : {A : Type 0} (a b : Option A) → option_or a b ≡ None → (a ≡ None) × (b ≡ None)
 both_none None b h = (refl, h)
@@ -46,7 +35,7 @@ in_directory (Some Directory) h = refl
 in_directory (Some (File bytes)) h = cc
 
 -- where nothing is refused, nothing stands there, and the parent is a directory
-free : (tree : Tree) (path : List ℕ) (node : Node) → refusal tree path node ≡ None → node_at tree path ≡ None
+pub free : (tree : Tree) (path : List ℕ) (node : Node) → refusal tree path node ≡ None → node_at tree path ≡ None
 free tree path node h = free_place _ node (both_none (option_and_then (λ dir. parent_refusal (node_at tree dir)) (parent_of path)) _ h).1
 
 parent_is_directory : (tree : Tree) (path dir : List ℕ) (node : Node) → refusal tree path node ≡ None → parent_of path ≡ Some dir → node_at tree dir ≡ Some Directory
@@ -69,23 +58,35 @@ was_below : (old new : Tree) (path : List ℕ) (node : Node) (q dir : List ℕ) 
 was_below old new path node q dir true t is h some e put = parent_is_directory old path dir node h (ap parent_of (same_path path q t) ∙ e)
 was_below old new path node q dir false t is h some e put = is.parents q dir (subst IsSome put some) e
 
-pub IsTree-puts : (old new : Tree) (path : List ℕ) (node : Node) → IsTree old → refusal old path node ≡ None → Puts old new path node → IsStrictlySortedBy (slice_cmp nat_cmp) (keys_of new) → AllByRecursion IsPath (keys_of new) → IsTree new
-IsTree-puts old new path node is h puts sorted paths = record {
-  sorted = sorted;
-  paths = paths;
-  root = keeps old new path node Directory [] puts (free old path node h) is.root;
-  parents = λ q dir some e.
-      keeps old new path node Directory dir puts (free old path node h)
-      (was_below old new path node q dir (is_path path q) refl is h some e (puts.at q));
+-- the library's insertion into a sorted list, with its arguments in another order
+placed : (tree : Tree) (path : List ℕ) (node : Node) → with_node tree path node ≡ put (slice_cmp nat_cmp) path node tree
+placed [] path node = refl
+placed (e ∷ es) path node =
+    ap (λ rest. match_ordering {X = Tree} (slice_cmp nat_cmp path e.0) ((path, node) ∷ e ∷ es) ((e.0, node) ∷ es) (e ∷ rest)) (placed es path node)
+    ∙ elim (slice_cmp nat_cmp path e.0) as (λ o. match_ordering {X = Tree} o ((path, node) ∷ e ∷ es) ((e.0, node) ∷ es) (e ∷ put (slice_cmp nat_cmp) path node es) ≡ by_order {A = Tree} o ((path, node) ∷ e ∷ es) ((e.0, node) ∷ es) (e ∷ put (slice_cmp nat_cmp) path node es)) [
+      | Less ↦ refl
+      | Equal ↦ refl
+      | Greater ↦ refl
+    ]
+
+pub Puts-with : (tree : Tree) (path : List ℕ) (node : Node) → Puts tree (with_node tree path node) path node
+Puts-with tree path node = record {
+  at = λ q. ap (λ t. node_at t q) (placed tree path node)
+      ∙ find-put (slice_cmp nat_cmp) nat_list_cmp_total q path node tree
+      ∙ ap (λ b. cond b (Some node) (node_at tree q)) (sym (texts_ties q path) ∙ nat_list_eq_equiv.symm q path);
 }
 
--- what the map's insertion does, as contracts see it
-pub Puts-seen : (old new : List (List ℕ × Entry)) (path : List ℕ) (entry : Entry) → ((q : List ℕ) → lookup (is_at (slice_cmp nat_cmp q)) new ≡ cond (is_path path q) (Some entry) (lookup (is_at (slice_cmp nat_cmp q)) old)) → Puts (seen old) (seen new) path (node_of entry)
-Puts-seen old new path entry h = record {
-  at = λ q. node_at-seen new q ∙ ap (option_map node_of) (h q)
-      ∙ elim (is_path path q) as (λ b. option_map node_of (cond b (Some entry) (lookup (is_at (slice_cmp nat_cmp q)) old)) ≡ cond b (Some (node_of entry)) (option_map node_of (lookup (is_at (slice_cmp nat_cmp q)) old))) [ true ↦ refl | false ↦ refl ]
-      ∙ ap (λ o. cond (is_path path q) (Some (node_of entry)) o) (sym (node_at-seen old q));
-}
+pub IsTree-with : (tree : Tree) (path : List ℕ) (node : Node) → IsTree tree → IsPath path → refusal tree path node ≡ None → IsTree (with_node tree path node)
+IsTree-with tree path node is fits h =
+    let puts = Puts-with tree path node in
+    record {
+      sorted = sorted-with tree path node is.sorted;
+      paths = keys-with IsPath tree path node is.paths fits;
+      root = keeps tree (with_node tree path node) path node Directory [] puts (free tree path node h) is.root;
+      parents = λ q dir some e.
+          keeps tree (with_node tree path node) path node Directory dir puts (free tree path node h)
+          (was_below tree (with_node tree path node) path node q dir (is_path path q) refl is h some e (puts.at q));
+    }
 
 pub added-free : (tree : Tree) (path : List ℕ) (node : Node) → refusal tree path node ≡ None → added tree path node ≡ Ok (with_node tree path node)
 added-free tree path node h = ap (λ o. option_map_or Err o (Ok (with_node tree path node))) h

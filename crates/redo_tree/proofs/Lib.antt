@@ -1,8 +1,10 @@
+pub mod Alike
 pub mod Bodies
 pub mod EntryNames
 mod Examples
 pub mod Every
 pub mod Grows
+pub mod Kept
 pub mod Keys
 pub mod Lines
 pub mod Nodes

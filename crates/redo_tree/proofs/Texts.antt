@@ -19,7 +19,7 @@ use Rattle.redo_path.specs.Names.{child_of}
 use Rattle.redo_path.proofs.Parts.{AllByRecursion-append, AllByRecursion-front}
 use Rattle.redo_tree.specs.declared.faults.TreeFault.{TreeFault}
 use Rattle.redo_tree.specs.Tree.{Node, Directory, File, Tree, added, refusal, with_node}
-use Rattle.redo_tree.specs.Directory.{Enters, HasTextPaths, MetText, Progress, Stores, TakesIn, Written, fault_at, with_passed, with_waiting}
+use Rattle.redo_tree.specs.Directory.{HasTextPaths, MetText, Progress, Stores, TakesIn, Written, fault_at, with_passed, with_waiting}
 
 -- what a list that was made of another one has at a place
 pub at_map : {A : Type 0} (f : A → List ℕ) (xs : List A) (k : ℕ) (d : A) → k < length xs → d ≡ get_or xs k d → slice_get (map f xs) k ≡ Some (f d)

@@ -18,6 +18,7 @@ use Rattle.redo_path.proofs.Canonical.{parent_first}
 use Rattle.redo_tree.specs.Tree.{Node, Directory, File, Tree, IsTree, top, added, bytes_of, node_at, parent_refusal, place_refusal, with_node}
 use Rattle.redo_tree.specs.Bundle.{HasSmallFiles, IsBundle, IsEntry, bundle_of, grown}
 use Rattle.redo_tree.proofs.Grows.{added-free}
+use Rattle.redo_tree.proofs.Keys.{all_further}
 use Rattle.redo_tree.proofs.Small.{is_small}
 use Rattle.redo_tree.proofs.Turns.{onward}
 
@@ -65,10 +66,6 @@ lookup-front (d ∷ done) more path h = ap (λ o. cond (is_eq (cmp path d.0)) (S
 lookup-here : (done : Tree) (path : List ℕ) (node : Node) (more : Tree) → AllBefore done path → node_at (done ++ (path, node) ∷ more) path ≡ Some node
 lookup-here [] path node more h = ap (λ o. cond (is_eq o) (Some node) (node_at more path)) (tied_itself nat_list_cmp_total path)
 lookup-here (d ∷ done) path node more h = ap (λ o. cond (is_eq o) (Some d.1) (node_at (done ++ (path, node) ∷ more) path)) (backwards d.0 path h.0) ∙ lookup-here done path node more h.1
-
-all_further : (dir path : List ℕ) (qs : List (List ℕ)) → cmp dir path ≡ Less → AllByRecursion (λ q. cmp path q ≡ Less) qs → AllByRecursion (λ q. cmp dir q ≡ Less) qs
-all_further dir path [] e h = tt
-all_further dir path (q ∷ qs) e h = (nat_list_cmp_total.trans dir path q e h.0, all_further dir path qs e h.1)
 
 -- ---- one entry more
 

@@ -1,5 +1,5 @@
 -- A tree: what stands at each path, in the order of the paths' texts.
-use Rattle.std.specs.Prelude.{◌≡◌, ◌&&◌, Bool, nat_eq, ℕ, List, [], ◌∷◌, filter_map, Option, Some, None, Result, Ok, Err, IsSome, option_and_then, option_map, refl}
+use Rattle.std.specs.Prelude.{◌≡◌, ◌&&◌, Bool, nat_eq, ℕ, List, [], ◌∷◌, filter_map, fold, Option, Some, None, Result, Ok, Err, IsSome, option_and_then, option_map, refl}
 use Rattle.std.specs.BTreeMap.{insert_entry, is_at}
 use Rattle.std.specs.Cmp.{IsEquivalence, and_equiv, on_equiv}
 use Rattle.std.specs.Cmp.Lexicographic.{lists_equiv, nat_list_eq_equiv, options_equiv, pointwise, slice_cmp}
@@ -120,3 +120,16 @@ pub record IsTree (tree : Tree) : Type 0 where
   pub paths : AllByRecursion IsPath (keys_of tree)
   pub root : node_at tree [] ≡ Some Directory
   pub parents : (path dir : List ℕ) → IsSome (node_at tree path) → parent_of path ≡ Some dir → node_at tree dir ≡ Some Directory
+
+-- the tree with each of the entries that the code keeps put at its place, in turn
+abbrev pub with_entries : Tree → List (List ℕ × Entry) → Tree
+with_entries tree es = fold (λ done e. with_node done e.0 (node_of e.1)) tree es
+
+-- the entries that the code keeps, as the tree in path order
+abbrev pub tree_of : List (List ℕ × Entry) → Tree
+tree_of es = with_entries [] es
+
+-- the code keeps a tree, and looking for a path among its entries finds what stands there
+pub record IsKept (es : List (List ℕ × Entry)) : Type 0 where
+  pub tree : IsTree (tree_of es)
+  pub found : (path : List ℕ) → option_map node_of (lookup (pointwise nat_eq path) es) ≡ node_at (tree_of es) path

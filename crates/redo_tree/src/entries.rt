@@ -3,9 +3,10 @@
 ghost use Rattle.std.specs.Prelude.{◌≡◌, IfOk, option_copied, map, option_map};
 ghost use Rattle.std.specs.Cmp.{partial_equiv_from_equiv};
 ghost use Rattle.redo_path.specs.Names.{IsPath};
-ghost use Rattle.redo_tree.specs.Tree.{Directory, File, top, node_at, kind_of, file_at, files_of, node_of, refusal, added, tree_eq, trees_alike, Adds, Allows};
+ghost use Rattle.redo_tree.specs.Tree.{Directory, File, top, node_at, kind_of, file_at, files_of, node_of, refusal, added, tree_eq, trees_alike, Adds, Allows, IsTree};
 
 use crate::{Content, TreeFault};
+use indexmap::IndexMap;
 use redo_path::Path;
 use std::alloc::{AllocError, Global};
 use std::collections::BTreeMap;
@@ -31,25 +32,25 @@ pub(crate) enum Entry {
 
 /// The top directory, and the directories and files below it. The parent of each is a directory of
 /// the tree. In a contract it is the list of its entries, in path order, the top directory among
-/// them.
+/// them. They are kept by the hashes of their paths, so that a look-up takes the same time in a tree
+/// of any size.
 #[derive(Drop)]
 pub struct Tree {
-    pub(crate) entries: BTreeMap<Path, Entry>,
+    entries: IndexMap<Path, Entry>,
     alloc: Global,
 }
 
 impl Model for Tree {
-    ghost use Rattle.std.specs.Prelude.{map};
     ghost use Rattle.std.specs.Coded.{coded×, coded_list, coded_ℕ};
-    ghost use Rattle.redo_tree.specs.Tree.{Tree as Entries, node_of, node_code, IsTree};
+    ghost use Rattle.redo_tree.specs.Tree.{Tree as Entries, node_code, tree_of, IsKept};
 
     ghost Value = { Entries };
 
     ghost coded = { coded_list (coded× (coded_list coded_ℕ) node_code) };
 
-    ghost view = { λ t. map (λ e. (e.0, node_of e.1)) t.entries.entries };
+    ghost view = { λ t. tree_of t.entries.entries };
 
-    ghost invariant = { λ t. IsTree (map (λ e. (e.0, node_of e.1)) t.entries.entries) };
+    ghost invariant = { λ t. IsKept t.entries.entries };
 }
 
 impl Tree {
@@ -57,7 +58,7 @@ impl Tree {
     pub fn new(alloc: Global) -> Result<Tree, AllocError>
         ensures { IfOk result (λ tree. tree ≡ top) }
     {
-        let mut entries = BTreeMap::new(alloc);
+        let mut entries = IndexMap::new(alloc);
         entries.insert(Path::root(), Entry::Directory)?;
         Ok(Tree { entries, alloc })
     }
@@ -90,12 +91,27 @@ impl Tree {
         }
     }
 
+    /// The entries in path order, the top directory first. They are sorted at each call.
+    pub(crate) fn in_order<'a>(
+        &'a self,
+        alloc: Global,
+    ) -> Result<BTreeMap<&'a Path, &'a Entry>, AllocError>
+        ensures entries { IfOk result (λ sorted. map (λ e. (e.0.now, node_of e.1.now)) sorted.entries ≡ self.now) }
+        ensures tree { IsTree self.now }
+    {
+        let mut sorted = BTreeMap::new(alloc);
+        for (path, entry) in &self.entries {
+            sorted.insert(path, entry)?;
+        }
+        Ok(sorted)
+    }
+
     /// The paths of the files, in path order: that of the paths' bytes.
     pub fn files(&self, alloc: Global) -> Result<Vec<&Path>, AllocError>
         ensures { IfOk result (λ paths. map (λ p. p.now) paths.items ≡ files_of self.now) }
     {
         let mut paths = Vec::new(alloc);
-        for (path, entry) in &self.entries {
+        for (path, entry) in self.in_order(alloc)? {
             match entry {
                 Entry::File(_) => paths.push(path)?,
                 Entry::Directory => {}
@@ -158,7 +174,7 @@ impl PartialEq for Tree {
     ghost laws = { partial_equiv_from_equiv trees_alike };
 
     fn eq(&self, other: &Tree) -> bool {
-        self.entries.len() == other.entries.len() && self.entries == other.entries
+        self.entries == other.entries
     }
 }
 

@@ -82,7 +82,7 @@ pub fn write_bundle<W: ByteOut>(
     ensures works { OnOk result (W.has_failed writer.new ≡ false) }
     ensures device { IsErrOf result WriteFault.Device → W.has_failed writer.new ≡ true }
 {
-    let mut entries = tree.entries.iter();
+    let mut entries = tree.in_order(alloc)?.into_iter();
     let _root = entries.next();
     for (path, entry) in entries {
         write_entry(alloc, writer, path, entry)?;

@@ -1,21 +1,23 @@
 -- Where a search on its way has come.
-use Rattle.std.proofs.Common.{◌≡◌, List, [], ◌∷◌, ◌++◌, ℕ, Bool, true, false, cond, not, ◌||◌, map, refl, sym, ap, subst, ◌∙◌, Option, Some, None, IsSome, ◌<◌, length, arith, append_assoc}
-use Rattle.std.specs.List.{list_any, take_while}
-use Rattle.std.specs.Prelude.{flat_map, fold, option_map, Ok}
+use Rattle.std.proofs.Common.{◌≡◌, List, [], ◌∷◌, ◌++◌, ℕ, Bool, true, false, cond, not, ◌||◌, map, refl, sym, ap, subst, ◌∙◌, Option, Some, None, IsSome, ◌<◌, ◌-◌, take, drop, get_or, zero, suc, length, arith, append_assoc, append-nil}
+use Rattle.std.specs.List.{AllByRecursion, ends_with, list_any, take_while}
+use Rattle.std.specs.Prelude.{Err, IfSome, codes, flat_map, nat_eq, option_map, Ok}
 use Rattle.std.specs.Option.{option_to_list}
-use Rattle.std.specs.Str.{bytes_eq}
+use Rattle.std.proofs.lemmas.Grind.{common_steps}
 use Rattle.std.proofs.lemmas.List.{map-append}
 use Rattle.std.proofs.lemmas.List.Sums.{fold-append, take_while-cons}
 use Rattle.redo_path.proofs.Apart.{apart}
-use Rattle.redo_path.specs.Names.{name_of, parent_of}
+use Rattle.redo_path.proofs.Parts.{AllByRecursion-front}
+use Rattle.redo_path.specs.Names.{IsName, IsPart, IsPath, name_of, names, parent_of}
 use Rattle.redo_path.specs.Resolve.{resolved}
 use Rattle.redo_tree.specs.Tree.{Tree}
 use Rattle.redo_which.specs.declared.Candidate.{Candidate}
-use Rattle.redo_which.specs.Candidates.{Place, candidates_of, defaults_in, is_do_file, once, place_at, places_of, upward, with_new}
+use Rattle.redo_which.specs.Candidates.{Place, candidates_of, defaults_in, is_do_file, once, place_at, places_of, suffixes, upward}
 use Rattle.redo_which.specs.Rule.{chosen_among, chosen_of, is_file, missing_among, missing_of}
 use Rattle.redo_which.specs.Views.{place_of}
-use Rattle.redo_which.specs.Walk.{Walked, ends_at, start, walk_of, walk_on, walk_over}
-use Rattle.redo_which.proofs.Places.{chosen_among-next, list_any-map, missing_among-next, place_at-ok, upward-first}
+use Rattle.redo_which.specs.Walk.{LiesIn, Walked, above, defaults_by, distinct_places, ends_at, start, path_in, walk_of, walk_on, walk_over, without_whole}
+use Rattle.redo_which.proofs.Once.{once-distinct}
+use Rattle.redo_which.proofs.Places.{chosen_among-next, missing_among-next, upward-first}
 
 neither : (a b : Bool) → (a || b) ≡ false → (a ≡ false) × (b ≡ false)
 neither true b h = apart cc
@@ -26,7 +28,7 @@ neither false b h = (refl, h)
 pub walk-found : (tree : Option Tree) (walked : Walked) (places : List Place) → walked.found ≡ true → walk_over tree walked places ≡ walked
 walk-found tree walked [] h = refl
 walk-found tree walked (p ∷ ps) h =
-    ap (λ w. walk_over tree w ps) (ap (λ b. cond b walked (cond (list_any (λ other. bytes_eq other.do_file p.do_file) walked.places) walked (record { places = walked.places ++ p ∷ []; found = ends_at tree p.do_file }))) h)
+    ap (λ w. walk_over tree w ps) (ap (λ b. cond b walked (record { places = walked.places ++ p ∷ []; found = ends_at tree p.do_file })) h)
     ∙ walk-found tree walked ps h
 
 -- ---- one candidate
@@ -34,75 +36,129 @@ walk-found tree walked (p ∷ ps) h =
 pub walked_as : (xs ys : List Candidate) (a b : Bool) → xs ≡ ys → a ≡ b → ◌≡◌ {A = Walked} (record { places = map place_of xs; found = a }) (record { places = map place_of ys; found = b })
 walked_as xs ys a b e h = λ i. record { places = map place_of (e i); found = h i }
 
-pub walk-listed : (tree : Option Tree) (items : List Candidate) (found : Bool) (dir file path : List ℕ) (cut : ℕ) → found ≡ false → resolved dir file ≡ Ok path → list_any (λ other. bytes_eq other.do_file path) items ≡ true
-    → walk_over tree (record { places = map place_of items; found = found }) (place_at dir cut file) ≡ record { places = map place_of items; found = found }
-walk-listed tree items found dir file path cut h r listed =
-    let walked : Walked = record { places = map place_of items; found = found } in
-    let place : Place = record { do_file = path; dir = dir; cut = cut } in
-    let new : Walked = record { places = map place_of items ++ place ∷ []; found = ends_at tree path } in
-    ap (walk_over tree walked) (place_at-ok dir file path cut r)
-    ∙ ap (λ b. cond b walked (cond (list_any (λ other. bytes_eq other.do_file path) (map place_of items)) walked new)) h
-    ∙ ap (λ b. cond b walked new) (list_any-map place_of (λ other. bytes_eq other.do_file path) items ∙ listed)
-
-pub walk-new : (tree : Option Tree) (items : List Candidate) (found : Bool) (new : Candidate) (file : List ℕ) → found ≡ false → resolved new.dir file ≡ Ok new.do_file → list_any (λ other. bytes_eq other.do_file new.do_file) items ≡ false
-    → walk_over tree (record { places = map place_of items; found = found }) (place_at new.dir new.cut file) ≡ record { places = map place_of (items ++ new ∷ []); found = ends_at tree new.do_file }
-walk-new tree items found new file h r listed =
+pub walk-new : (tree : Option Tree) (items : List Candidate) (found : Bool) (new : Candidate) → found ≡ false
+    → walk_on tree (record { places = map place_of items; found = found }) (place_of new) ≡ record { places = map place_of (items ++ new ∷ []); found = ends_at tree new.do_file }
+walk-new tree items found new h =
     let walked : Walked = record { places = map place_of items; found = found } in
     let more : Walked = record { places = map place_of items ++ place_of new ∷ []; found = ends_at tree new.do_file } in
-    ap (walk_over tree walked) (place_at-ok new.dir file new.do_file new.cut r)
-    ∙ ap (λ b. cond b walked (cond (list_any (λ other. bytes_eq other.do_file new.do_file) (map place_of items)) walked more)) h
-    ∙ ap (λ b. cond b walked more) (list_any-map place_of (λ other. bytes_eq other.do_file new.do_file) items ∙ listed)
+    ap (λ b. cond b walked more) h
     ∙ ap (λ (ps : List Place). record { places = ps; found = ends_at tree new.do_file }) (sym (map-append place_of items (new ∷ [])))
+
+-- the place of a file name is that of its path
+pub walk-path : (tree : Option Tree) (walked : Walked) (dir file path : List ℕ) (cut : ℕ) → Some path ≡ path_in dir file → walk_over tree walked (place_at dir cut file) ≡ walk_on tree walked (record { do_file = path; dir = dir; cut = cut })
+walk-path tree walked dir file path cut h =
+    elim (resolved dir file) as (λ r. Some path ≡ elim r as (λ _. Option (List ℕ)) [ Ok p ↦ Some p | Err fault ↦ None ] → walk_over tree walked (elim r as (λ _. List Place) [ Ok p ↦ record { do_file = p; dir = dir; cut = cut } ∷ [] | Err fault ↦ [] ]) ≡ walk_on tree walked (record { do_file = path; dir = dir; cut = cut })) [
+      | Ok p ↦ λ e. let same : path ≡ p = cc in ap (λ (q : List ℕ). walk_on tree walked (record { do_file = q; dir = dir; cut = cut })) (sym same)
+      | Err fault ↦ λ e. apart cc
+    ] h
+
+pub walk-no_path : (tree : Option Tree) (walked : Walked) (dir file : List ℕ) (cut : ℕ) → None ≡ path_in dir file → walked ≡ walk_over tree walked (place_at dir cut file)
+walk-no_path tree walked dir file cut h =
+    elim (resolved dir file) as (λ r. None ≡ elim r as (λ _. Option (List ℕ)) [ Ok p ↦ Some p | Err fault ↦ None ] → walked ≡ walk_over tree walked (elim r as (λ _. List Place) [ Ok p ↦ record { do_file = p; dir = dir; cut = cut } ∷ [] | Err fault ↦ [] ])) [
+      | Ok p ↦ λ e. apart cc
+      | Err fault ↦ λ e. refl
+    ] h
+
+-- an element of a list that all are
+pub all-at : {X : Type 0} (P : List ℕ → Type 0) (f : X → List ℕ) (xs : List X) (k : ℕ) (d : X) → AllByRecursion P (map f xs) → k < length xs → P (f (get_or xs k d))
+all-at P f [] k d h l = absurd (omega (arith, l))
+all-at P f (x ∷ xs) zero d h l = h.0
+all-at P f (x ∷ xs) (suc k) d h l = all-at P f xs k d h.1 (omega (arith, l))
 
 pub walk-append : (tree : Option Tree) (walked : Walked) (xs ys : List Place) → walk_over tree walked (xs ++ ys) ≡ walk_over tree (walk_over tree walked xs) ys
 walk-append tree walked xs ys = fold-append (walk_on tree) walked xs ys
 
--- one directory's places, and then those of the directories above it
-pub walk-upward : (tree : Option Tree) (old new : Walked) (name dir : List ℕ) (more : List (List ℕ)) → upward dir ≡ dir ∷ more → new ≡ walk_over tree old (defaults_in name dir)
-    → walk_over tree new (flat_map (defaults_in name) more) ≡ walk_over tree old (flat_map (defaults_in name) (upward dir))
-walk-upward tree old new name dir more e h =
-    ap (λ w. walk_over tree w (flat_map (defaults_in name) more)) h
-    ∙ sym (walk-append tree old (defaults_in name dir) (flat_map (defaults_in name) more))
-    ∙ ap (λ ds. walk_over tree old (flat_map (defaults_in name) ds)) (sym e)
+-- the directories that are left, from the one above this
+pub walk-upward : (tree : Option Tree) (old new : Walked) (ends : List (List ℕ)) (dir up : List ℕ) → upward dir ≡ dir ∷ upward up → new ≡ walk_over tree old (defaults_by ends up)
+    → walk_over tree new (flat_map (defaults_by ends) (above (upward up))) ≡ walk_over tree old (flat_map (defaults_by ends) (above (upward dir)))
+walk-upward tree old new ends dir up e h =
+    let first = upward-first up in
+    ap (λ w. walk_over tree w (flat_map (defaults_by ends) (above (upward up)))) h
+    ∙ ap (λ ds. walk_over tree (walk_over tree old (defaults_by ends up)) (flat_map (defaults_by ends) (above ds))) first.1
+    ∙ sym (walk-append tree old (defaults_by ends up) (flat_map (defaults_by ends) first.0))
+    ∙ ap (λ ds. walk_over tree old (flat_map (defaults_by ends) ds)) (sym first.1)
+    ∙ ap (λ ds. walk_over tree old (flat_map (defaults_by ends) (above ds))) (sym e)
 
--- the directories above it are left out where a file was found
-pub walk-stops : (tree : Option Tree) (old new : Walked) (name dir : List ℕ) → new ≡ walk_over tree old (defaults_in name dir) → new.found ≡ true → new ≡ walk_over tree old (flat_map (defaults_in name) (upward dir))
-walk-stops tree old new name dir h found =
-    let above = upward-first dir in
-    sym (walk-found tree new (flat_map (defaults_in name) above.0) found) ∙ walk-upward tree old new name dir above.0 above.1 h
+-- those by suffix, in the own directory and in those above it
+pub walk-defaults : (tree : Option Tree) (old own all : Walked) (mine ends : List (List ℕ)) (dir name : List ℕ) → mine ≡ without_whole name (suffixes name) → ends ≡ suffixes name
+    → own ≡ walk_over tree old (defaults_by mine dir) → all ≡ walk_over tree own (flat_map (defaults_by ends) (above (upward dir)))
+    → all ≡ walk_over tree old (defaults_by (without_whole name (suffixes name)) dir ++ flat_map (defaults_in name) (above (upward dir)))
+walk-defaults tree old own all mine ends dir name e f h k =
+    k ∙ ap (λ w. walk_over tree w (flat_map (defaults_by ends) (above (upward dir)))) h
+    ∙ sym (walk-append tree old (defaults_by mine dir) (flat_map (defaults_by ends) (above (upward dir))))
+    ∙ (λ i. walk_over tree old (defaults_by (e i) dir ++ flat_map (defaults_by (f i)) (above (upward dir))))
 
--- the whole walk, where the first place is passed and then those upwards
-pub walk-all : (tree : Option Tree) (target dir name file : List ℕ) (first all : Walked) → Some dir ≡ parent_of target → is_do_file target ≡ false → name ≡ name_of target
-    → first ≡ walk_over tree start (place_at dir 0 file) → places_of dir name ≡ place_at dir 0 file ++ flat_map (defaults_in name) (upward dir)
-    → all ≡ walk_over tree first (flat_map (defaults_in name) (upward dir)) → all ≡ walk_of tree target
-walk-all tree target dir name file first all parent plain named one places rest =
-    rest ∙ ap (λ w. walk_over tree w (flat_map (defaults_in name) (upward dir))) one
-    ∙ sym (walk-append tree start (place_at dir 0 file) (flat_map (defaults_in name) (upward dir)))
-    ∙ ap (walk_over tree start) (sym places) ∙ ap (λ n. walk_over tree start (places_of dir n)) named
-    ∙ sym (ap (λ o. elim o as (λ _. Walked) [ None ↦ start | Some d ↦ cond (is_do_file target) start (walk_over tree start (places_of d (name_of target))) ]) (sym parent)
-    ∙ ap (λ b. cond b start (walk_over tree start (places_of dir (name_of target)))) plain)
+-- the suffixes that are left for the own directory
+pub own_ends : {X : Type 0} (f : X → List ℕ) (name : List ℕ) (items asked kept : List X) (n : ℕ) → asked ≡ items → kept ≡ items → map f items ≡ suffixes name
+    → map f (drop n asked) ≡ without_whole name (map f asked) → map f (take (length kept - n) (drop n kept)) ≡ without_whole name (suffixes name)
+own_ends f name items asked kept n e k is rest =
+    let whole : take (length kept - n) (drop n kept) ≡ drop n kept = grind (arith, common_steps) in
+    ap (map f) (whole ∙ ap (drop n) (k ∙ sym e)) ∙ rest ∙ ap (λ l. without_whole name (map f l)) e ∙ ap (without_whole name) is
+
+-- the whole walk
+pub walk-all : (tree : Option Tree) (target dir name : List ℕ) (first all : Walked) → name ≡ name_of target → ends_with nat_eq name (codes ".do") ≡ false → first ≡ walk_over tree start (place_at dir 0 (name ++ codes ".do"))
+    → all ≡ walk_over tree first (defaults_by (without_whole name (suffixes name)) dir ++ flat_map (defaults_in name) (above (upward dir))) → all ≡ walk_of tree target dir
+walk-all tree target dir name first all named plain h k =
+    let whole = place_at dir 0 (name ++ codes ".do") in
+    let own = defaults_by (without_whole name (suffixes name)) dir in
+    let upper = flat_map (defaults_in name) (above (upward dir)) in
+    k ∙ ap (λ w. walk_over tree w (own ++ upper)) h
+    ∙ walk-append tree (walk_over tree start whole) own upper
+    ∙ ap (λ w. walk_over tree w upper) (sym (walk-append tree start whole own))
+    ∙ sym (walk-append tree start (whole ++ own) upper)
+    ∙ ap (λ b. cond b start (walk_over tree start (distinct_places dir name))) (sym plain)
+    ∙ ap (λ n. cond (ends_with nat_eq n (codes ".do")) start (walk_over tree start (distinct_places dir n))) named
+
+-- it ends at the first place where that is a file
+pub walk-first : (tree : Option Tree) (target dir name : List ℕ) (first : Walked) → name ≡ name_of target → ends_with nat_eq name (codes ".do") ≡ false → first ≡ walk_over tree start (place_at dir 0 (name ++ codes ".do"))
+    → first.found ≡ true → first ≡ walk_of tree target dir
+walk-first tree target dir name first named plain h found =
+    walk-all tree target dir name first first named plain h (sym (walk-found tree first (defaults_by (without_whole name (suffixes name)) dir ++ flat_map (defaults_in name) (above (upward dir))) found))
+
+pub lies_in : (target dir : List ℕ) (parent : Option (List ℕ)) → IsPath target → parent ≡ parent_of target → IfSome parent (λ up. names target ≡ names up ++ name_of target ∷ []) → parent ≡ Some dir → LiesIn target dir
+lies_in target dir parent path is split some = record {
+  is_path = path;
+  parent = sym some ∙ is;
+  split = subst (λ o. IfSome o (λ up. names target ≡ names up ++ name_of target ∷ [])) some split;
+}
+
+-- a walk with an empty list is at its start
+pub walk-start : (tree : Option Tree) (items : List Candidate) (places : List Place) (walked : Walked) → items ≡ [] → walked ≡ walk_over tree (record { places = map place_of items; found = false }) places → walked ≡ walk_over tree start places
+walk-start tree items places walked e h = h ∙ (λ i. walk_over tree (record { places = map place_of (e i); found = false }) places)
+
+-- ---- the candidates of a target, each once
+
+last_name : (P : List ℕ → Type 0) (ns : List (List ℕ)) (n : List ℕ) → AllByRecursion P (ns ++ n ∷ []) → P n
+last_name P [] n h = h.0
+last_name P (m ∷ ns) n h = last_name P ns n h.1
+
+distinct_of : (target dir : List ℕ) → LiesIn target dir → once (places_of dir (name_of target)) ≡ distinct_places dir (name_of target)
+distinct_of target dir h =
+    let named = subst (AllByRecursion IsName) h.split h.is_path.each in
+    once-distinct dir (name_of target) (AllByRecursion-front IsName (names dir) (name_of target ∷ []) named) (last_name IsName (names dir) (name_of target) named).part.no_slash
+
+-- the name of a target is a part of its path
+pub name_part : (target dir name : List ℕ) → LiesIn target dir → name ≡ name_of target → IsPart name
+name_part target dir name h is = subst IsPart (sym is) (last_name IsName (names dir) (name_of target) (subst (AllByRecursion IsName) h.split h.is_path.each)).part
+
+pub candidates-distinct : (target dir : List ℕ) → LiesIn target dir → candidates_of target ≡ cond (is_do_file target) [] (distinct_places dir (name_of target))
+candidates-distinct target dir h =
+    ap (λ o. elim o as (λ _. List Place) [ None ↦ [] | Some d ↦ cond (is_do_file target) [] (once (places_of d (name_of target))) ]) (sym h.parent)
+    ∙ ap (cond (is_do_file target) []) (distinct_of target dir h)
 
 -- ---- without a tree the walk passes all candidates
 
-walk-none : (full : List Place) (places : List Place) → walk_over None (record { places = full; found = false }) places ≡ record { places = fold with_new full places; found = false }
-walk-none full [] = refl
-walk-none full (p ∷ ps) =
-    elim (list_any (λ other. bytes_eq other.do_file p.do_file) full) as (λ b.
-    walk_over None (cond b (record { places = full; found = false }) (record { places = full ++ p ∷ []; found = false })) ps
-    ≡ record { places = fold with_new (cond b full (full ++ p ∷ [])) ps; found = false }) [
-      | true ↦ walk-none full ps
-      | false ↦ walk-none (full ++ p ∷ []) ps
-    ]
+walk-none : (full places : List Place) → walk_over None (record { places = full; found = false }) places ≡ record { places = full ++ places; found = false }
+walk-none full [] = ap (λ (ps : List Place). record { places = ps; found = false }) (sym (append-nil full))
+walk-none full (p ∷ ps) = walk-none (full ++ p ∷ []) ps ∙ ap (λ (qs : List Place). record { places = qs; found = false }) (append_assoc full (p ∷ []) ps)
 
-none_of : (parent : Option (List ℕ)) (plain : Bool) (name : List ℕ) →
-    elim parent as (λ _. Walked) [ None ↦ start | Some dir ↦ cond plain start (walk_over None start (places_of dir name)) ]
-    ≡ record { places = elim parent as (λ _. List Place) [ None ↦ [] | Some dir ↦ cond plain [] (once (places_of dir name)) ]; found = false }
-none_of None plain name = refl
-none_of (Some dir) true name = refl
-none_of (Some dir) false name = walk-none [] (places_of dir name)
+none_of : (plain : Bool) (places : List Place) → cond plain start (walk_over None start places) ≡ record { places = cond plain [] places; found = false }
+none_of true places = refl
+none_of false places = walk-none [] places
 
-pub walk-candidates : (target : List ℕ) → walk_of None target ≡ record { places = candidates_of target; found = false }
-walk-candidates target = none_of (parent_of target) (is_do_file target) (name_of target)
+pub walk-candidates : (target dir : List ℕ) → LiesIn target dir → walk_of None target dir ≡ record { places = candidates_of target; found = false }
+walk-candidates target dir h =
+    none_of (is_do_file target) (distinct_places dir (name_of target)) ∙ ap (λ (ps : List Place). record { places = ps; found = false }) (sym (candidates-distinct target dir h))
 
 -- ---- with a tree it ends at the first that is a file
 
@@ -127,9 +183,8 @@ none-append p (y ∷ ys) x h k =
     let both = neither (p y) (list_any p ys) h in
     (λ i. both.0 i || none-append p ys x both.1 k i)
 
-ended-more : (tree : Tree) (full places : List Place) (p : Place) (listed : Bool) → Ended tree full places → Ended tree (cond listed full (full ++ p ∷ [])) places
-ended-more tree full places p true h = h
-ended-more tree full places p false h = record {
+ended-more : (tree : Tree) (full places : List Place) (p : Place) → Ended tree full places → Ended tree (full ++ p ∷ []) places
+ended-more tree full places p h = record {
   front = h.front;
   place = h.place;
   more = h.more ++ p ∷ [];
@@ -139,41 +194,33 @@ ended-more tree full places p false h = record {
   cut = h.cut;
 }
 
--- a place more, where it is listed or not, and is a file or not
-cut_more : (tree : Tree) (full : List Place) (p : Place) (listed file : Bool) → is_file tree p.do_file ≡ file → list_any (λ p. is_file tree p.do_file) full ≡ false
-    → Cut tree (cond listed full (full ++ p ∷ [])) (cond listed full (full ++ p ∷ [])) (cond listed false file)
-cut_more tree full p true file e h = (refl, h)
-cut_more tree full p false true e h = record { front = full; place = p; more = []; none = h; file = e; whole = refl; cut = refl }
-cut_more tree full p false false e h = (refl, none-append (λ p. is_file tree p.do_file) full p h e)
+-- a place more, which is a file or not
+cut_more : (tree : Tree) (full : List Place) (p : Place) (file : Bool) → is_file tree p.do_file ≡ file → list_any (λ p. is_file tree p.do_file) full ≡ false → Cut tree (full ++ p ∷ []) (full ++ p ∷ []) file
+cut_more tree full p true e h = record { front = full; place = p; more = []; none = h; file = e; whole = refl; cut = refl }
+cut_more tree full p false e h = (refl, none-append (λ p. is_file tree p.do_file) full p h e)
 
 abbrev CutAt : Tree → List Place → Walked → Type 0
 CutAt tree full walked = Cut tree full walked.places walked.found
 
-one_walked : (tree : Tree) (full : List Place) (p : Place) (listed : Bool) →
-    CutAt tree (cond listed full (full ++ p ∷ [])) (record { places = cond listed full (full ++ p ∷ []); found = cond listed false (is_file tree p.do_file) })
-    → CutAt tree (cond listed full (full ++ p ∷ [])) (cond listed (record { places = full; found = false }) (record { places = full ++ p ∷ []; found = is_file tree p.do_file }))
-one_walked tree full p true h = h
-one_walked tree full p false h = h
-
-cut-on : (tree : Tree) (full places : List Place) (found : Bool) (p : Place) → Cut tree full places found → CutAt tree (with_new full p) (walk_on (Some tree) (record { places = places; found = found }) p)
-cut-on tree full places true p h = ended-more tree full places p (list_any (λ other. bytes_eq other.do_file p.do_file) full) h
+cut-on : (tree : Tree) (full places : List Place) (found : Bool) (p : Place) → Cut tree full places found → CutAt tree (full ++ p ∷ []) (walk_on (Some tree) (record { places = places; found = found }) p)
+cut-on tree full places true p h = ended-more tree full places p h
 cut-on tree full places false p h =
-    subst (λ (l : List Place). CutAt tree (with_new full p) (walk_on (Some tree) (record { places = l; found = false }) p)) (sym h.0)
-    (one_walked tree full p (list_any (λ other. bytes_eq other.do_file p.do_file) full) (cut_more tree full p (list_any (λ other. bytes_eq other.do_file p.do_file) full) (is_file tree p.do_file) refl h.1))
+    subst (λ (l : List Place). CutAt tree (full ++ p ∷ []) (walk_on (Some tree) (record { places = l; found = false }) p)) (sym h.0)
+    (cut_more tree full p (is_file tree p.do_file) refl h.1)
 
-cut-over : (tree : Tree) (full : List Place) (walked : Walked) (rest : List Place) → CutAt tree full walked → CutAt tree (fold with_new full rest) (walk_over (Some tree) walked rest)
-cut-over tree full walked [] h = h
-cut-over tree full walked (p ∷ ps) h = cut-over tree (with_new full p) (walk_on (Some tree) walked p) ps (cut-on tree full walked.places walked.found p h)
+cut-over : (tree : Tree) (full : List Place) (walked : Walked) (rest : List Place) → CutAt tree full walked → CutAt tree (full ++ rest) (walk_over (Some tree) walked rest)
+cut-over tree full walked [] h = subst (λ (l : List Place). CutAt tree l walked) (sym (append-nil full)) h
+cut-over tree full walked (p ∷ ps) h =
+    let more = cut-over tree (full ++ p ∷ []) (walk_on (Some tree) walked p) ps (cut-on tree full walked.places walked.found p h) in
+    subst (λ (l : List Place). CutAt tree l (walk_over (Some tree) walked (p ∷ ps))) (append_assoc full (p ∷ []) ps) more
 
-cut_of : (tree : Tree) (parent : Option (List ℕ)) (plain : Bool) (name : List ℕ) →
-    CutAt tree (elim parent as (λ _. List Place) [ None ↦ [] | Some dir ↦ cond plain [] (once (places_of dir name)) ])
-    (elim parent as (λ _. Walked) [ None ↦ start | Some dir ↦ cond plain start (walk_over (Some tree) start (places_of dir name)) ])
-cut_of tree None plain name = (refl, refl)
-cut_of tree (Some dir) true name = (refl, refl)
-cut_of tree (Some dir) false name = cut-over tree [] start (places_of dir name) (refl, refl)
+cut_of : (tree : Tree) (plain : Bool) (places : List Place) → CutAt tree (cond plain [] places) (cond plain start (walk_over (Some tree) start places))
+cut_of tree true places = (refl, refl)
+cut_of tree false places = cut-over tree [] start places (refl, refl)
 
-pub walk-cut : (tree : Tree) (target : List ℕ) → Cut tree (candidates_of target) (walk_of (Some tree) target).places (walk_of (Some tree) target).found
-walk-cut tree target = cut_of tree (parent_of target) (is_do_file target) (name_of target)
+pub walk-cut : (tree : Tree) (target dir : List ℕ) → LiesIn target dir → Cut tree (candidates_of target) (walk_of (Some tree) target dir).places (walk_of (Some tree) target dir).found
+walk-cut tree target dir h =
+    subst (λ (l : List Place). CutAt tree l (walk_of (Some tree) target dir)) (sym (candidates-distinct target dir h)) (cut_of tree (is_do_file target) (distinct_places dir (name_of target)))
 
 -- ---- what is missing, and what is chosen
 
@@ -212,9 +259,9 @@ pub record OneFound (tree : Tree) (target : List ℕ) (front : List Place) (plac
   pub missing : map (λ p. p.do_file) front ≡ missing_of tree target
   pub chosen : Some place ≡ chosen_of tree target
 
-pub none_found : (tree : Tree) (target : List ℕ) (places : List Place) (found : Bool) → record { places = places; found = found } ≡ walk_of (Some tree) target → found ≡ false → NoneFound tree target places
-none_found tree target places found is h =
-    let cut : Cut tree (candidates_of target) places false = subst (λ b. Cut tree (candidates_of target) places b) h (subst (CutAt tree (candidates_of target)) (sym is) (walk-cut tree target)) in
+pub none_found : (tree : Tree) (target dir : List ℕ) → LiesIn target dir → (places : List Place) (found : Bool) → record { places = places; found = found } ≡ walk_of (Some tree) target dir → found ≡ false → NoneFound tree target places
+none_found tree target dir lies places found is h =
+    let cut : Cut tree (candidates_of target) places false = subst (λ b. Cut tree (candidates_of target) places b) h (subst (CutAt tree (candidates_of target)) (sym is) (walk-cut tree target dir lies)) in
     record {
       missing = ap (map (λ p. p.do_file)) cut.0 ∙ sym (all_missing tree (candidates_of target) cut.1);
       chosen = sym (none_chosen tree (candidates_of target) cut.1);
@@ -232,9 +279,9 @@ drop_last (a ∷ xs) (b ∷ ys) x y h =
     let rest = drop_last xs ys x y tails in
     (λ i. heads i ∷ rest.0 i, rest.1)
 
-pub one_found : (tree : Tree) (target : List ℕ) (places front : List Place) (place : Place) (found : Bool) → record { places = places; found = found } ≡ walk_of (Some tree) target → found ≡ true → places ≡ front ++ place ∷ [] → OneFound tree target front place
-one_found tree target places front place found is h e =
-    let cut : Ended tree (candidates_of target) places = subst (λ b. Cut tree (candidates_of target) places b) h (subst (CutAt tree (candidates_of target)) (sym is) (walk-cut tree target)) in
+pub one_found : (tree : Tree) (target dir : List ℕ) → LiesIn target dir → (places front : List Place) (place : Place) (found : Bool) → record { places = places; found = found } ≡ walk_of (Some tree) target dir → found ≡ true → places ≡ front ++ place ∷ [] → OneFound tree target front place
+one_found tree target dir lies places front place found is h e =
+    let cut : Ended tree (candidates_of target) places = subst (λ b. Cut tree (candidates_of target) places b) h (subst (CutAt tree (candidates_of target)) (sym is) (walk-cut tree target dir lies)) in
     let same = drop_last front cut.front place cut.place (sym e ∙ cut.cut) in
     record {
       missing = ap (map (λ p. p.do_file)) same.0 ∙ sym (ap (missing_among tree) cut.whole ∙ missing_before tree cut.front cut.place cut.more cut.none cut.file);
@@ -250,24 +297,24 @@ pub record Answer (tree : Tree) (target : List ℕ) (before : List Candidate) (c
   pub missing : map (λ c. c.do_file) before ≡ missing_of tree target
   pub chosen_one : option_map place_of chosen ≡ chosen_of tree target
 
-pub answer-none : (tree : Tree) (target : List ℕ) (items : List Candidate) (found : Bool) → record { places = map place_of items; found = found } ≡ walk_of (Some tree) target → found ≡ false → Answer tree target items None
-answer-none tree target items found is h =
-    let none = none_found tree target (map place_of items) found is h in
+pub answer-none : (tree : Tree) (target dir : List ℕ) → LiesIn target dir → (items : List Candidate) (found : Bool) → record { places = map place_of items; found = found } ≡ walk_of (Some tree) target dir → found ≡ false → Answer tree target items None
+answer-none tree target dir lies items found is h =
+    let none = none_found tree target dir lies (map place_of items) found is h in
     record { missing = do_files-of items ∙ none.missing; chosen_one = none.chosen }
 
 no_last : (front : List Place) (place : Place) → [] ≡ front ++ place ∷ [] → ⊥
 no_last [] place e = apart cc
 no_last (p ∷ ps) place e = apart cc
 
-nothing_found : (tree : Tree) (target : List ℕ) (found : Bool) → record { places = []; found = found } ≡ walk_of (Some tree) target → found ≡ true → ⊥
-nothing_found tree target found is h =
-    let cut : Ended tree (candidates_of target) [] = subst (λ b. Cut tree (candidates_of target) [] b) h (subst (CutAt tree (candidates_of target)) (sym is) (walk-cut tree target)) in
+nothing_found : (tree : Tree) (target dir : List ℕ) → LiesIn target dir → (found : Bool) → record { places = []; found = found } ≡ walk_of (Some tree) target dir → found ≡ true → ⊥
+nothing_found tree target dir lies found is h =
+    let cut : Ended tree (candidates_of target) [] = subst (λ b. Cut tree (candidates_of target) [] b) h (subst (CutAt tree (candidates_of target)) (sym is) (walk-cut tree target dir lies)) in
     no_last cut.front cut.place cut.cut
 
-pub answer-last : (tree : Tree) (target : List ℕ) (items before : List Candidate) (last : Option Candidate) (found : Bool) → record { places = map place_of items; found = found } ≡ walk_of (Some tree) target → found ≡ true
+pub answer-last : (tree : Tree) (target dir : List ℕ) → LiesIn target dir → (items before : List Candidate) (last : Option Candidate) (found : Bool) → record { places = map place_of items; found = found } ≡ walk_of (Some tree) target dir → found ≡ true
     → items ≡ before ++ option_to_list last → (0 < length items → IsSome last) → Answer tree target before last
-answer-last tree target [] before last found is h e some = absurd (nothing_found tree target found is h)
-answer-last tree target (c ∷ cs) before None found is h e some = absurd (let no : false ≡ true = some (omega arith) in cc)
-answer-last tree target (c ∷ cs) before (Some last) found is h e some =
-    let one = one_found tree target (map place_of (c ∷ cs)) (map place_of before) (place_of last) found is h (ap (map place_of) e ∙ map-append place_of before (last ∷ [])) in
+answer-last tree target dir lies [] before last found is h e some = absurd (nothing_found tree target dir lies found is h)
+answer-last tree target dir lies (c ∷ cs) before None found is h e some = absurd (let no : false ≡ true = some (omega arith) in cc)
+answer-last tree target dir lies (c ∷ cs) before (Some last) found is h e some =
+    let one = one_found tree target dir lies (map place_of (c ∷ cs)) (map place_of before) (place_of last) found is h (ap (map place_of) e ∙ map-append place_of before (last ∷ [])) in
     record { missing = do_files-of before ∙ one.missing; chosen_one = one.chosen }

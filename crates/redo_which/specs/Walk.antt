@@ -1,13 +1,42 @@
 -- A search on its way over the places where a rule may stand.
-use Rattle.std.specs.Prelude.{Bool, false, ℕ, List, [], ◌∷◌, ◌++◌, Option, Some, None, fold, map, if◌then◌else◌}
-use Rattle.std.specs.List.{list_any}
+use Rattle.std.specs.Prelude.{◌≡◌, Bool, false, ℕ, List, [], ◌∷◌, ◌++◌, Option, Some, None, Ok, Err, codes, flat_map, fold, length, map, if◌then◌else◌}
 use Rattle.std.specs.Str.{bytes_eq}
-use Rattle.redo_path.specs.Names.{name_of, parent_of}
+use Rattle.redo_path.specs.Names.{IsPath, name_of, names, parent_of}
+use Rattle.redo_path.specs.Resolve.{resolved}
 use Rattle.redo_tree.specs.Tree.{Tree}
 use Rattle.redo_which.specs.declared.lookup.Walk.{Walk}
-use Rattle.redo_which.specs.Candidates.{Place, is_do_file, places_of}
+use Rattle.redo_which.specs.Candidates.{Place, defaults_in, is_do_file, place_at, suffixes, upward}
 use Rattle.redo_which.specs.Rule.{is_file}
 use Rattle.redo_which.specs.Views.{place_of}
+
+-- a path, and the directory that holds it
+pub record LiesIn (target dir : List ℕ) : Type 0 where
+  pub is_path : IsPath target
+  pub parent : Some dir ≡ parent_of target
+  pub split : names target ≡ names dir ++ name_of target ∷ []
+
+-- the candidates by these suffixes in a directory
+abbrev pub defaults_by : List (List ℕ) → List ℕ → List Place
+defaults_by ends dir = flat_map (λ suffix. place_at dir (length suffix) (codes "default" ++ suffix ++ codes ".do")) ends
+
+-- the suffixes of a name but the longest, where the candidate by it is the one by the whole name
+abbrev pub without_whole : List ℕ → List (List ℕ) → List (List ℕ)
+without_whole name [] = []
+without_whole name (longest ∷ rest) = if bytes_eq name (codes "default" ++ longest) then rest else longest ∷ rest
+
+-- the directories that a directory lies in, up to the root
+abbrev pub above : List (List ℕ) → List (List ℕ)
+above [] = []
+above (dir ∷ dirs) = dirs
+
+-- the candidates of a name in a directory, each once
+abbrev pub distinct_places : List ℕ → List ℕ → List Place
+distinct_places dir name =
+    place_at dir 0 (name ++ codes ".do") ++ defaults_by (without_whole name (suffixes name)) dir ++ flat_map (defaults_in name) (above (upward dir))
+
+-- the path of a file name in a directory, unless that is too long for a path
+abbrev pub path_in : List ℕ → List ℕ → Option (List ℕ)
+path_in dir file = elim (resolved dir file) [ Ok path ↦ Some path | Err fault ↦ None ]
 
 -- the candidates so far, and whether the last of them is a file of the tree
 pub record Walked : Type 0 where
@@ -22,11 +51,10 @@ abbrev pub ends_at : Option Tree → List ℕ → Bool
 ends_at None do_file = false
 ends_at (Some tree) do_file = is_file tree do_file
 
--- one place more, unless a file was found or the .do file is listed
+-- one place more, unless a file was found
 abbrev pub walk_on : Option Tree → Walked → Place → Walked
 walk_on tree walked place =
     if walked.found then walked else
-    if list_any (λ other. bytes_eq other.do_file place.do_file) walked.places then walked else
     record { places = walked.places ++ place ∷ []; found = ends_at tree place.do_file }
 
 abbrev pub walk_over : Option Tree → Walked → List Place → Walked
@@ -35,9 +63,6 @@ walk_over tree walked places = fold (walk_on tree) walked places
 abbrev pub start : Walked
 start = record { places = []; found = false }
 
--- the candidates of a target up to the first that ends the search
-abbrev pub walk_of : Option Tree → List ℕ → Walked
-walk_of tree target = elim (parent_of target) [
-  | None ↦ start
-  | Some dir ↦ if is_do_file target then start else walk_over tree start (places_of dir (name_of target))
-]
+-- the candidates of a target in a directory, up to the first that ends the search
+abbrev pub walk_of : Option Tree → List ℕ → List ℕ → Walked
+walk_of tree target dir = if is_do_file target then start else walk_over tree start (distinct_places dir (name_of target))

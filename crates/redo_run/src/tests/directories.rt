@@ -1,4 +1,5 @@
-//! Runs over directories of the system. Each test works in a directory of its own, which it makes and removes.
+//! Runs over directories of the system. Each test works in a directory of its own, which it makes and removes. The helpers are
+//! small, and a test holds little more than its directory, so that each is proved in a few seconds.
 
 use super::options;
 use crate::{Exit, NoGate, RunDirFault, run_dir, whichdo_dir};
@@ -11,27 +12,49 @@ use std::rt::Files;
 use std::sync::Wait;
 use std::test::Fail;
 use std::thread::Threads;
-use std::{env, fs};
+use std::{env, fs, io};
 
 type Outcome = Result<(Exit, u64), RunDirFault>;
 
+type Listed = Result<(bool, u64), RunDirFault>;
+
 /// Makes a directory that no other test and no other run has, with a rule for `hello`.
 fn new_directory(rt: &HostRuntime) -> Result<PathBuf, Fail> {
-    let alloc = rt.alloc();
     let above = env::temp_dir(rt)?;
     for number in 0..1_000_000u64 {
-        let name = format!(in alloc; "redo-run-{number}")?;
-        let dir = above.join(alloc, name.as_str())?;
-        match fs::create_dir(rt, dir.as_path()) {
-            Ok(()) => {
-                fs::write(rt, dir.join(alloc, "hello.do")?.as_path(), "echo hi\n")?;
-                return Ok(dir);
-            }
-            Err(error) if error.kind() == ErrorKind::AlreadyExists => {}
-            Err(error) => return Err(Fail::from(error)),
+        if let Some(dir) = try_directory(rt, &above, number)? {
+            write_file(rt, &dir, "hello.do", "echo hi\n")?;
+            return Ok(dir);
         }
     }
     Err(Fail::from("no name is free"))
+}
+
+/// Makes the directory of this number, unless something stands there.
+fn try_directory(rt: &HostRuntime, above: &PathBuf, number: u64) -> io::Result<Option<PathBuf>> {
+    let name = format!(in rt.alloc(); "redo-run-{number}")?;
+    let dir = above.join(rt.alloc(), name.as_str())?;
+    match fs::create_dir(rt, dir.as_path()) {
+        Ok(()) => Ok(Some(dir)),
+        Err(error) if error.kind() == ErrorKind::AlreadyExists => Ok(None),
+        Err(error) => Err(error),
+    }
+}
+
+fn write_file(rt: &HostRuntime, dir: &PathBuf, name: &str, bytes: &str) -> io::Result<()> {
+    let place = dir.join(rt.alloc(), name)?;
+    fs::write(rt, place.as_path(), bytes)
+}
+
+/// Whether a file of the directory has these bytes.
+fn holds(rt: &HostRuntime, dir: &PathBuf, name: &str, bytes: &[u8]) -> io::Result<bool> {
+    let place = dir.join(rt.alloc(), name)?;
+    let found = fs::read(rt, place.as_path())?;
+    Ok(found.as_slice() == bytes)
+}
+
+fn remove(rt: &HostRuntime, dir: &PathBuf) -> io::Result<()> {
+    fs::remove_dir_all(rt, dir.as_path())
 }
 
 /// What a run for `hello` over a directory answers, and the report.
@@ -47,51 +70,51 @@ fn run<R: Threads + Wait + Sync + Files>(
     Ok((outcome, stream))
 }
 
+/// Whether a run for `hello` answers this, with this report.
+fn gives(rt: &HostRuntime, dir: &PathBuf, outcome: Outcome, report: &[u8]) -> Result<bool, Fail> {
+    let (found, written) = run(rt, rt.alloc(), dir.as_str())?;
+    Ok(found == outcome && written.as_slice() == report)
+}
+
+/// Whether a search for `hello` answers this, with this list.
+fn lists(rt: &HostRuntime, dir: &PathBuf, answer: Listed, list: &[u8]) -> Result<bool, Fail> {
+    let target = resolve(rt.alloc(), &Path::root(), b"hello")?;
+    let mut writer = Plain::new(Vec::new(rt.alloc()));
+    let found = whichdo_dir(rt, rt.alloc(), dir.as_str(), &mut writer, &target);
+    let Plain { stream, broken: _ } = writer;
+    Ok(found == answer && stream.as_slice() == list)
+}
+
 #[test]
 fn what_is_built_is_stored_and_then_a_source(rt: HostRuntime) -> Result<(), Fail> {
-    let alloc = rt.alloc();
+    const BUILT: &[u8] = b"built 3 hello\ndep change hello.do\nbegun hello\nend\n";
     let dir = new_directory(&rt)?;
-    fs::write(&rt, dir.join(alloc, "a\tb")?.as_path(), "1\n")?;
-    let (first, report) = run(&rt, alloc, dir.as_str())?;
-    let hello = fs::read(&rt, dir.join(alloc, "hello")?.as_path())?;
-    let (second, again) = run(&rt, alloc, dir.as_str())?;
-    fs::remove_dir_all(&rt, dir.as_path())?;
-    assert_eq!(rt; first, Ok((Exit::Good, 1)));
-    assert_eq!(rt;
-        report.as_slice(),
-        b"built 3 hello\ndep change hello.do\nbegun hello\nend\n".as_slice()
-    );
-    assert_eq!(rt; hello.as_slice(), b"hi\n".as_slice());
-    assert_eq!(rt; second, Ok((Exit::Good, 1)));
-    assert_eq!(rt; again.as_slice(), b"source hello\nend\n".as_slice());
+    // A name that is passed over.
+    write_file(&rt, &dir, "a\tb", "1\n")?;
+    let built = gives(&rt, &dir, Ok((Exit::Good, 1)), BUILT)?;
+    let stored = holds(&rt, &dir, "hello", b"hi\n")?;
+    let source = gives(&rt, &dir, Ok((Exit::Good, 1)), b"source hello\nend\n")?;
+    remove(&rt, &dir)?;
+    assert!(rt; built, "the first run");
+    assert!(rt; stored, "the file");
+    assert!(rt; source, "the second run");
     Ok(())
 }
 
 #[test]
 fn a_directory_that_is_not_there_gives_no_report(rt: HostRuntime) -> Result<(), Fail> {
-    let alloc = rt.alloc();
     let dir = new_directory(&rt)?;
-    fs::remove_dir_all(&rt, dir.as_path())?;
-    let (outcome, report) = run(&rt, alloc, dir.as_str())?;
-    assert_eq!(rt; outcome, Err(RunDirFault::Load));
-    assert_eq!(rt; report.len(), 0);
-    let target = resolve(alloc, &Path::root(), b"hello")?;
-    let mut writer = Plain::new(Vec::new(alloc));
-    let listed = whichdo_dir(&rt, alloc, dir.as_str(), &mut writer, &target);
-    assert_eq!(rt; listed, Err(RunDirFault::Load));
+    remove(&rt, &dir)?;
+    assert!(rt; gives(&rt, &dir, Err(RunDirFault::Load), b"")?, "a run");
+    assert!(rt; lists(&rt, &dir, Err(RunDirFault::Load), b"")?, "a list");
     Ok(())
 }
 
 #[test]
 fn candidates_are_listed_over_a_directory(rt: HostRuntime) -> Result<(), Fail> {
-    let alloc = rt.alloc();
     let dir = new_directory(&rt)?;
-    let target = resolve(alloc, &Path::root(), b"hello")?;
-    let mut writer = Plain::new(Vec::new(alloc));
-    let listed = whichdo_dir(&rt, alloc, dir.as_str(), &mut writer, &target);
-    fs::remove_dir_all(&rt, dir.as_path())?;
-    let Plain { stream, broken: _ } = writer;
-    assert_eq!(rt; listed, Ok((true, 0)));
-    assert_eq!(rt; stream.as_slice(), b"hello.do\n".as_slice());
+    let listed = lists(&rt, &dir, Ok((true, 0)), b"hello.do\n")?;
+    remove(&rt, &dir)?;
+    assert!(rt; listed);
     Ok(())
 }

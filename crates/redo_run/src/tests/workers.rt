@@ -2,6 +2,7 @@
 
 ghost use Rattle.std.specs.Prelude.{◌≤◌};
 
+use super::{GOOD, options, run_through};
 use crate::{Gate, NoGate, RunFault, build_many};
 use redo_core::report_text::report_text;
 use redo_path::{Path, resolve};
@@ -13,16 +14,16 @@ use std::sync::atomic::{AtomicU64, Ordering};
 use std::test::Fail;
 use std::thread::{Threads, yield_now};
 
-type Files = &'static [(&'static [u8], &'static [u8])];
+pub(crate) type Files = &'static [(&'static [u8], &'static [u8])];
 
-const DIAMOND: Files = &[
+pub(crate) const DIAMOND: Files = &[
     (b"top.do", b"redo-ifchange left right\ncat left right\n"),
     (b"left.do", b"redo-ifchange base\ncat base\n"),
     (b"right.do", b"redo-ifchange base\ncat base\n"),
     (b"base.do", b"echo b\n"),
 ];
 
-const DIAMOND_REPORT: &[u8] =
+pub(crate) const DIAMOND_REPORT: &[u8] =
     b"built 2 base\ndep change base.do\nbuilt 2 left\ndep change left.do\ndep change base\nbuilt 2 right\ndep change right.do\ndep change base\nbuilt 4 top\ndep change top.do\ndep change left\ndep change right\nbegun base\nbegun left\nbegun right\nbegun top\nfile 2 base\nb\n\nfile 2 left\nb\n\nfile 2 right\nb\n\nfile 4 top\nb\nb\n\nend\n";
 
 const ENDLESS: Files = &[(b"default.do", b"redo-ifchange \"$1\"x\n")];
@@ -58,7 +59,7 @@ const CYCLES: [(&str, Files, &[&[u8]], &[u8]); 3] = [
     ),
 ];
 
-fn tree_of(alloc: Global, files: Files) -> Result<Tree, Fail> {
+pub(crate) fn tree_of(alloc: Global, files: Files) -> Result<Tree, Fail> {
     let root = Path::root();
     let mut tree = Tree::new(alloc)?;
     for (name, text) in files {
@@ -67,7 +68,7 @@ fn tree_of(alloc: Global, files: Files) -> Result<Tree, Fail> {
     Ok(tree)
 }
 
-fn paths_of(alloc: Global, words: &[&[u8]]) -> Result<Vec<Path>, Fail> {
+pub(crate) fn paths_of(alloc: Global, words: &[&[u8]]) -> Result<Vec<Path>, Fail> {
     let root = Path::root();
     let mut paths = Vec::new(alloc);
     for word in words {
@@ -182,17 +183,38 @@ impl Gate for Pair {
     }
 }
 
+impl Pair {
+    /// Before anyone has entered.
+    fn new() -> Pair {
+        Pair {
+            entered: AtomicU64::new(0),
+            in_vain: AtomicU64::new(0),
+        }
+    }
+
+    fn nobody_waited_in_vain(&self) -> bool {
+        self.in_vain.load(Ordering::SeqCst) == 0
+    }
+}
+
 #[test]
 fn both_must_be_inside(rt: HostRuntime) -> Result<(), Fail> {
     let alloc = rt.alloc();
     let tree = tree_of(alloc, &[(b"a.do", b"echo a\n"), (b"b.do", b"echo b\n")])?;
-    let pair = Pair {
-        entered: AtomicU64::new(0),
-        in_vain: AtomicU64::new(0),
-    };
+    let pair = Pair::new();
     let answer = built_by(&rt, alloc, tree, &[b"a", b"b"], 100, 2, &pair)?;
-    assert!(rt; answer.is_ok());
-    assert_eq!(rt; pair.in_vain.load(Ordering::SeqCst), 0);
+    assert!(rt; answer.is_ok() && pair.nobody_waited_in_vain());
+    Ok(())
+}
+
+#[test]
+fn both_must_be_inside_a_run(rt: HostRuntime) -> Result<(), Fail> {
+    let alloc = rt.alloc();
+    let bundle = b"file 7 a.do\necho a\n\nfile 7 b.do\necho b\n\nend\n";
+    let options = options(alloc, &[b"a", b"b"], 2, 100, 1_000_000)?;
+    let pair = Pair::new();
+    let (outcome, _report) = run_through(&rt, alloc, bundle, &options, &pair)?;
+    assert!(rt; outcome == GOOD && pair.nobody_waited_in_vain());
     Ok(())
 }
 

@@ -1,7 +1,7 @@
 //! What each command does, row by row.
 
-use super::{File, Known, Row, check_rows, learned, run, shown};
-use crate::{Limits, Outcome, Why};
+use super::{File, Known, Row, check_rows, check_target, learned, limits_of};
+use crate::{Outcome, Why};
 use redo_tree::Content;
 use std::test::Fail;
 
@@ -146,7 +146,7 @@ const REDIRECTIONS: &[Row] = &[
 #[test]
 fn scripts_by_themselves(rt: HostRuntime) -> Result<(), Fail> {
     let alloc = rt.alloc();
-    let limits = Limits::new(100, 1000).ok_or("limits")?;
+    let limits = limits_of(1000)?;
     let known = Known::nothing(alloc);
     check_rows(&rt, alloc, FILES, &known, limits, ROWS)?;
     check_rows(&rt, alloc, FILES, &known, limits, FORMATS)?;
@@ -179,7 +179,7 @@ const LIMITED: &[Row] = &[
 #[test]
 fn no_file_is_too_large(rt: HostRuntime) -> Result<(), Fail> {
     let alloc = rt.alloc();
-    let limits = Limits::new(100, 3).ok_or("limits")?;
+    let limits = limits_of(3)?;
     let known = learned(
         alloc,
         vec![in alloc; (b"none".as_slice(), Outcome::Built(None))]?,
@@ -216,7 +216,7 @@ const ANSWERED: &[Row] = &[
 #[test]
 fn operands_that_were_made(rt: HostRuntime) -> Result<(), Fail> {
     let alloc = rt.alloc();
-    let limits = Limits::new(100, 1000).ok_or("limits")?;
+    let limits = limits_of(1000)?;
     let built = Content::new(Vec::from_slice(alloc, b"b")?)?;
     let known = learned(
         alloc,
@@ -287,12 +287,11 @@ const ARGUMENTS: &[(&[u8], &[u8], &[u8], &[u8])] = &[
 #[test]
 fn arguments_of_rules(rt: HostRuntime) -> Result<(), Fail> {
     let alloc = rt.alloc();
-    let limits = Limits::new(100, 1000).ok_or("limits")?;
+    let limits = limits_of(1000)?;
     let known = Known::nothing(alloc);
     for (target, do_file, script, want) in ARGUMENTS {
         let files: &[File] = &[(b"d/", b""), (b"src", b"x\n"), (do_file, script)];
-        let done = run(alloc, files, target, &known, limits)?;
-        assert_eq!(rt; shown(alloc, &done.outcome)?.as_slice(), *want);
+        check_target(&rt, alloc, files, target, &known, limits, want)?;
     }
     Ok(())
 }
@@ -301,7 +300,7 @@ fn arguments_of_rules(rt: HostRuntime) -> Result<(), Fail> {
 #[test]
 fn long_names(rt: HostRuntime) -> Result<(), Fail> {
     let alloc = rt.alloc();
-    let limits = Limits::new(100, 1000).ok_or("limits")?;
+    let limits = limits_of(1000)?;
     let known = Known::nothing(alloc);
     for (long, script, want) in [
         (
@@ -314,8 +313,7 @@ fn long_names(rt: HostRuntime) -> Result<(), Fail> {
     ] {
         let target = vec![in alloc; b'n'; long]?;
         let files: &[File] = &[(b"default.do", script)];
-        let done = run(alloc, files, &target, &known, limits)?;
-        assert_eq!(rt; shown(alloc, &done.outcome)?.as_slice(), want);
+        check_target(&rt, alloc, files, &target, &known, limits, want)?;
     }
     Ok(())
 }

@@ -1,9 +1,10 @@
 //! The records of targets.
 
-use super::{File, Known, learned, run, shown};
+use super::{File, Known, check_target, learned, limits_of, run};
 use crate::{Dep, DepKind, Deps, Limits, Outcome, Why};
 use redo_path::Path;
 use std::alloc::Global;
+use std::process::Abort;
 use std::test::Fail;
 
 /// A record in the words of a report.
@@ -18,6 +19,22 @@ fn listed(alloc: Global, deps: &Deps) -> Result<Vec<u8>, Fail> {
         text.push(b'\n')?;
     }
     Ok(text)
+}
+
+/// Runs the script of a target, and compares its record with this text.
+fn check_record(
+    rt: &(impl Abort + Eprint),
+    alloc: Global,
+    files: &[File],
+    target: &[u8],
+    known: &Known,
+    limits: Limits,
+    want: &[u8],
+) -> Result<(), Fail> {
+    let done = run(alloc, files, target, known, limits)?;
+    let got = listed(alloc, &done.deps)?;
+    assert_eq!(rt; got.as_slice(), want);
+    Ok(())
 }
 
 /// A target, a rule's file with its script, and the record.
@@ -91,7 +108,7 @@ const ROWS: &[Row] = &[
 #[test]
 fn records(rt: HostRuntime) -> Result<(), Fail> {
     let alloc = rt.alloc();
-    let limits = Limits::new(100, 1000).ok_or("limits")?;
+    let limits = limits_of(1000)?;
     let known = learned(
         alloc,
         vec![in alloc;
@@ -106,8 +123,7 @@ fn records(rt: HostRuntime) -> Result<(), Fail> {
             (b"src", b"x\n"),
             (do_file, script),
         ];
-        let done = run(alloc, files, target, &known, limits)?;
-        assert_eq!(rt; listed(alloc, &done.deps)?.as_slice(), *want);
+        check_record(&rt, alloc, files, target, &known, limits, want)?;
     }
     Ok(())
 }
@@ -125,34 +141,37 @@ const REFUSED: &[(&[u8], &[u8])] = &[
 #[test]
 fn refused_scripts(rt: HostRuntime) -> Result<(), Fail> {
     let alloc = rt.alloc();
-    let limits = Limits::new(100, 1000).ok_or("limits")?;
+    let limits = limits_of(1000)?;
     let known = Known::nothing(alloc);
     for (script, want) in REFUSED {
-        let done = run(alloc, &[(b"t.do", script)], b"t", &known, limits)?;
-        assert_eq!(rt; shown(alloc, &done.outcome)?.as_slice(), *want);
+        let files: &[File] = &[(b"t.do", script)];
+        check_target(&rt, alloc, files, b"t", &known, limits, want)?;
     }
     Ok(())
 }
 
-#[test]
-fn entries_and_limits(rt: HostRuntime) -> Result<(), Fail> {
-    let alloc = rt.alloc();
-    let mut deps = Deps::new(alloc);
-    assert!(rt; deps.is_empty());
-    let root = Dep {
-        kind: DepKind::Change,
+/// The entry of the top directory.
+fn root_entry(kind: DepKind) -> Dep {
+    Dep {
+        kind,
         path: Path::root(),
-    };
-    deps.insert(root.clone()?)?;
-    deps.insert(root.clone()?)?;
+    }
+}
+
+#[test]
+fn entries_are_there_once(rt: HostRuntime) -> Result<(), Fail> {
+    let mut deps = Deps::new(rt.alloc());
+    assert!(rt; deps.is_empty());
+    deps.insert(root_entry(DepKind::Change))?;
+    deps.insert(root_entry(DepKind::Change))?;
     assert_eq!(rt; deps.len(), 1);
-    assert!(rt; deps.contains(&root));
-    assert!(rt;
-        !deps.contains(&Dep {
-            kind: DepKind::Create,
-            path: Path::root()
-        })
-    );
+    assert!(rt; deps.contains(&root_entry(DepKind::Change)));
+    assert!(rt; !deps.contains(&root_entry(DepKind::Create)));
+    Ok(())
+}
+
+#[test]
+fn limits_in_range(rt: HostRuntime) {
     for (targets, file_bytes, fits) in [
         (1, 1, true),
         (65_536, 1_073_741_824, true),
@@ -163,5 +182,4 @@ fn entries_and_limits(rt: HostRuntime) -> Result<(), Fail> {
     ] {
         assert_eq!(rt; Limits::new(targets, file_bytes).is_some(), fits);
     }
-    Ok(())
 }

@@ -1,14 +1,14 @@
 //! Scripts that stop and go on.
 
-ghost use Rattle.std.specs.Prelude.{◌≡◌, ◌+◌, ◌<◌, ◌≤◌, ℕ, List, Some, IfOk, nat_eq};
+ghost use Rattle.std.specs.Prelude.{◌≡◌, ◌+◌, ◌<◌, ◌≤◌, ℕ, List, Some, IfOk, OnOk, nat_eq};
 ghost use Rattle.std.specs.Cmp.Lexicographic.{pointwise};
 ghost use Rattle.indexmap.specs.IndexMap.{get};
 ghost use Rattle.redo_step.specs.declared.outcome.Outcome.{Outcome as OutcomeTree};
 ghost use Rattle.redo_step.specs.JobView.{IsFit};
 ghost use Rattle.redo_step.specs.Meaning.{Ask as AskOf};
 
-use super::{Known, begin, path, shown};
-use crate::{Job, Limits, Outcome, Step, Why};
+use super::{File, Known, begin, check_outcome, ended, limits_of, path};
+use crate::{Job, Outcome, Step, Why};
 use redo_path::Path;
 use std::alloc::Global;
 use std::process::Abort;
@@ -42,7 +42,7 @@ fn stopped(rt: &(impl Abort + Eprint), job: Job, known: &Known, want: &[&[u8]]) 
 }
 
 /// Advances a script that lacks no answer.
-fn ended(
+fn finishes(
     rt: &(impl Abort + Eprint),
     alloc: Global,
     job: Job,
@@ -52,54 +52,92 @@ fn ended(
     requires fits { IsFit job (get (pointwise nat_eq) known.now.outcomes) }
     requires turn { job.turn < 10000 }
 {
-    match job.advance(known)? {
-        Step::Ended(done) => {
-            assert_eq!(rt; shown(alloc, &done.outcome)?.as_slice(), want);
-            Ok(())
-        }
-        Step::Asks { .. } => Err("it asks")?,
-    }
+    let step = job.advance(known)?;
+    let done = ended(step)?;
+    check_outcome(rt, alloc, &done.outcome, want)
+}
+
+/// A script of `t` before its first statement, beside a source and a directory.
+fn begun(alloc: Global, script: &[u8]) -> Result<Job, Fail>
+    ensures turn { IfOk result (λ job. job.turn ≡ 0) }
+    ensures fits { IfOk result (λ job. (ask : AskOf) → IsFit job ask) }
+{
+    let limits = limits_of(20_000)?;
+    let files: &[File] = &[(b"src", b"x\n"), (b"dir/", b""), (b"t.do", script)];
+    begin(alloc, files, b"t", limits)
+}
+
+/// Learns what became of a path.
+fn learn(alloc: Global, known: &mut Known, name: &[u8], outcome: Outcome) -> Result<(), Fail>
+    ensures { OnOk result ((p : List ℕ) (o : OutcomeTree) → get (pointwise nat_eq) known.old.outcomes p ≡ Some o → get (pointwise nat_eq) known.new.outcomes p ≡ Some o) }
+{
+    let path = path(alloc, name)?;
+    known.learn(path, outcome)
+}
+
+/// Where `a` ended so, a script that waits for `a` and `b` asks for `b`, and then ends so.
+fn waits_for_second(
+    rt: &(impl Abort + Eprint),
+    alloc: Global,
+    job: Job,
+    known: &mut Known,
+    first: Outcome,
+    want: &[u8],
+) -> Result<(), Fail>
+    requires fits { (ask : AskOf) → ((p : List ℕ) (o : OutcomeTree) → get (pointwise nat_eq) known.old.outcomes p ≡ Some o → ask p ≡ Some o) → IsFit job ask }
+    requires turn { job.turn < 100 }
+{
+    learn(alloc, known, b"a", first)?;
+    let job = stopped(rt, job, known, &[b"b"])?;
+    learn(alloc, known, b"b", Outcome::Built(None))?;
+    finishes(rt, alloc, job, known, want)
 }
 
 /// It goes on once both operands have answers.
 #[test]
 fn waits_for_both_operands(rt: HostRuntime) -> Result<(), Fail> {
     let alloc = rt.alloc();
-    let limits = Limits::new(100, 1000).ok_or("limits")?;
     let mut known = Known::nothing(alloc);
-    let job = begin(alloc, &[(b"t.do", TWO_OPERANDS)], b"t", limits)?;
+    let job = begun(alloc, TWO_OPERANDS)?;
     let job = stopped(&rt, job, &known, &[b"a", b"b"])?;
-    known.learn(path(alloc, b"a")?, Outcome::Built(None))?;
-    let job = stopped(&rt, job, &known, &[b"b"])?;
-    known.learn(path(alloc, b"b")?, Outcome::Built(None))?;
-    ended(&rt, alloc, job, &known, b"file x\n")
+    waits_for_second(
+        &rt,
+        alloc,
+        job,
+        &mut known,
+        Outcome::Built(None),
+        b"file x\n",
+    )
 }
 
 /// It fails once both have answers, and not before.
 #[test]
 fn fails_after_both_operands(rt: HostRuntime) -> Result<(), Fail> {
     let alloc = rt.alloc();
-    let limits = Limits::new(100, 1000).ok_or("limits")?;
     let mut known = Known::nothing(alloc);
-    known.learn(path(alloc, b"a")?, Outcome::Failed(Why::Exit(1)))?;
-    let job = begin(alloc, &[(b"t.do", TWO_OPERANDS)], b"t", limits)?;
-    let job = stopped(&rt, job, &known, &[b"b"])?;
-    known.learn(path(alloc, b"b")?, Outcome::Built(None))?;
-    ended(&rt, alloc, job, &known, b"depends 1")
+    let job = begun(alloc, TWO_OPERANDS)?;
+    let failed = Outcome::Failed(Why::Exit(1));
+    waits_for_second(&rt, alloc, job, &mut known, failed, b"depends 1")
+}
+
+/// What a script shows of itself.
+fn check_shown(rt: &(impl Abort + Eprint), job: &Job, turn: u64, declared: usize) {
+    assert_eq!(rt; job.target().text(), b"t".as_slice());
+    assert_eq!(rt; job.turn(), turn);
+    assert_eq!(rt; job.declared().len(), declared);
 }
 
 /// What a suspended script shows of itself.
 #[test]
 fn shows_where_it_stands(rt: HostRuntime) -> Result<(), Fail> {
     let alloc = rt.alloc();
-    let limits = Limits::new(100, 1000).ok_or("limits")?;
     let known = Known::nothing(alloc);
-    let job = begin(alloc, &[(b"t.do", TWO_OPERANDS)], b"t", limits)?;
-    assert_eq!(rt; (job.turn(), job.declared().len()), (0, 0));
+    let job = begun(alloc, TWO_OPERANDS)?;
+    check_shown(&rt, &job, 0, 0);
     let job = stopped(&rt, job, &known, &[b"a", b"b"])?;
-    assert_eq!(rt; job.target().text(), b"t".as_slice());
-    assert_eq!(rt; (job.turn(), job.declared().len()), (1, 2));
-    assert_eq!(rt; job.record()?.len(), 3);
+    check_shown(&rt, &job, 1, 2);
+    let record = job.record()?;
+    assert_eq!(rt; record.len(), 3);
     Ok(())
 }
 
@@ -107,6 +145,10 @@ fn shows_where_it_stands(rt: HostRuntime) -> Result<(), Fail> {
 const ASKS: &[(&[u8], &[&[u8]])] = &[
     (b"redo-ifchange a a ./a b a\n", &[b"a", b"b"]),
     (b"redo-ifchange src a\n", &[b"a"]),
+    (
+        b"redo-ifchange a b c d e src f g h i b ./i\n",
+        &[b"a", b"b", b"c", b"d", b"e", b"f", b"g", b"h", b"i"],
+    ),
     (
         b"redo-ifchange no/such src/below dir\n",
         &[b"no/such", b"src/below", b"dir"],
@@ -118,22 +160,24 @@ const ASKS: &[(&[u8], &[&[u8]])] = &[
     ),
 ];
 
+/// Runs a script that asks for these paths first.
+fn check_asks(
+    rt: &(impl Abort + Eprint),
+    alloc: Global,
+    script: &[u8],
+    want: &[&[u8]],
+) -> Result<(), Fail> {
+    let known = Known::nothing(alloc);
+    let job = begun(alloc, script)?;
+    let _stopped = stopped(rt, job, &known, want)?;
+    Ok(())
+}
+
 #[test]
 fn asks_for_each_path_once(rt: HostRuntime) -> Result<(), Fail> {
     let alloc = rt.alloc();
-    let limits = Limits::new(100, 1000).ok_or("limits")?;
-    let known = Known::nothing(alloc);
     for (script, want) in ASKS {
-        let job = begin(
-            alloc,
-            &[(b"src", b"x\n"), (b"dir/", b""), (b"t.do", script)],
-            b"t",
-            limits,
-        )?;
-        match job.advance(&known)? {
-            Step::Asks { paths, .. } => assert!(rt; same_paths(&paths, want)),
-            Step::Ended(_) => assert!(rt; false),
-        }
+        check_asks(&rt, alloc, script, want)?;
     }
     Ok(())
 }
@@ -160,28 +204,40 @@ fn answer_each(
         };
         let name = format!(in alloc; "{letter}{number}")?;
         job = stopped(rt, job, known, &[name.as_bytes()])?;
-        known.learn(path(alloc, name.as_bytes())?, Outcome::Built(None))?;
+        learn(alloc, known, name.as_bytes(), Outcome::Built(None))?;
     }
     Ok(job)
+}
+
+/// A script that asks for a path, and then in a branch for another, and writes a byte, so often.
+fn long_script(alloc: Global, rounds: u64) -> Result<Vec<u8>, Fail> {
+    let mut script = Vec::new(alloc);
+    for number in 0..rounds {
+        let lines = format!(in alloc;
+            "redo-ifchange a{number}\nif true; then redo-ifchange b{number}; printf x; fi\n"
+        )?;
+        script.extend_from_slice(lines.as_bytes())?;
+    }
+    Ok(script)
+}
+
+/// The words of a file of so many bytes.
+fn long_file(alloc: Global, bytes: usize) -> Result<Vec<u8>, Fail> {
+    let mut words = Vec::from_slice(alloc, b"file ")?;
+    let content = vec![in alloc; b'x'; bytes]?;
+    words.extend_from_slice(&content)?;
+    Ok(words)
 }
 
 /// Goes on from where it stopped, 2,000 times, in branches too.
 #[test]
 fn stops_often(rt: HostRuntime) -> Result<(), Fail> {
     let alloc = rt.alloc();
-    let limits = Limits::new(100, 20_000).ok_or("limits")?;
-    let mut script = Vec::new(alloc);
-    for number in 0..1000u64 {
-        let lines = format!(in alloc;
-            "redo-ifchange a{number}\nif true; then redo-ifchange b{number}; printf x; fi\n"
-        )?;
-        script.extend_from_slice(lines.as_bytes())?;
-    }
+    let script = long_script(alloc, 1000)?;
     let mut known = Known::nothing(alloc);
-    let job = begin(alloc, &[(b"t.do", &script)], b"t", limits)?;
+    let job = begun(alloc, &script)?;
     let job = answer_each(&rt, alloc, job, &mut known, 2000)?;
     assert_eq!(rt; job.declared().len(), 2000);
-    let mut want = Vec::from_slice(alloc, b"file ")?;
-    want.extend_from_slice(vec![in alloc; b'x'; 1000]?.as_slice())?;
-    ended(&rt, alloc, job, &known, &want)
+    let want = long_file(alloc, 1000)?;
+    finishes(&rt, alloc, job, &known, &want)
 }

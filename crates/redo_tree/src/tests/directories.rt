@@ -1,5 +1,6 @@
 //! Directories of the system that are read and written. Each test works in a directory of its own,
-//! which it makes and removes.
+//! which it makes and removes. The helpers are small, and a test holds little more than its
+//! directory, so that each is proved in a few seconds.
 
 use crate::{Content, LoadFault, StoreFault, Tree, load_dir, store_files};
 use redo_path::{Path, PathFault, resolve};
@@ -8,209 +9,319 @@ use std::io::ErrorKind;
 use std::os::unix::fs::symlink;
 use std::path::PathBuf;
 use std::test::Fail;
-use std::{env, fs};
+use std::{env, fs, io};
 
-/// The most bytes of a name, and one more.
-const LONG_NAME: usize = 256;
+/// The most bytes of a name.
+const LONGEST_NAME: usize = 255;
 
 fn path(alloc: Global, word: &[u8]) -> Result<Path, PathFault> {
     let root = Path::root();
     resolve(alloc, &root, word)
 }
 
+// ---- what stands in a directory of the system
+
 /// Makes a directory that no other test and no other run has.
 fn new_directory(rt: &HostRuntime) -> Result<PathBuf, Fail> {
-    let alloc = rt.alloc();
     let above = env::temp_dir(rt)?;
     for number in 0..1_000_000u64 {
-        let name = format!(in alloc; "redo-tree-{number}")?;
-        let dir = above.join(alloc, name.as_str())?;
-        match fs::create_dir(rt, dir.as_path()) {
-            Ok(()) => return Ok(dir),
-            Err(error) if error.kind() == ErrorKind::AlreadyExists => {}
-            Err(error) => return Err(Fail::from(error)),
+        if let Some(dir) = try_directory(rt, &above, number)? {
+            return Ok(dir);
         }
     }
     Err(Fail::from("no name is free"))
 }
 
-/// A tree of these directories and files, those of the first list without bytes.
-fn tree_of(alloc: Global, dirs: &[&str], files: &[(&str, &str)]) -> Result<Tree, Fail> {
-    let mut tree = Tree::new(alloc)?;
+/// Makes the directory of this number, unless something stands there.
+fn try_directory(rt: &HostRuntime, above: &PathBuf, number: u64) -> io::Result<Option<PathBuf>> {
+    let name = format!(in rt.alloc(); "redo-tree-{number}")?;
+    let dir = above.join(rt.alloc(), name.as_str())?;
+    match fs::create_dir(rt, dir.as_path()) {
+        Ok(()) => Ok(Some(dir)),
+        Err(error) if error.kind() == ErrorKind::AlreadyExists => Ok(None),
+        Err(error) => Err(error),
+    }
+}
+
+fn make_dir(rt: &HostRuntime, dir: &PathBuf, name: &str) -> io::Result<()> {
+    let place = dir.join(rt.alloc(), name)?;
+    fs::create_dir(rt, place.as_path())
+}
+
+fn make_dirs(rt: &HostRuntime, dir: &PathBuf, names: &[&str]) -> io::Result<()> {
+    for name in names {
+        make_dir(rt, dir, name)?;
+    }
+    Ok(())
+}
+
+fn write_file(rt: &HostRuntime, dir: &PathBuf, name: &str, bytes: &str) -> io::Result<()> {
+    let place = dir.join(rt.alloc(), name)?;
+    fs::write(rt, place.as_path(), bytes)
+}
+
+fn write_files(rt: &HostRuntime, dir: &PathBuf, files: &[(&str, &str)]) -> io::Result<()> {
+    for (name, bytes) in files {
+        write_file(rt, dir, name, bytes)?;
+    }
+    Ok(())
+}
+
+fn make_link(rt: &HostRuntime, dir: &PathBuf, name: &str, to: &str) -> io::Result<()> {
+    let place = dir.join(rt.alloc(), name)?;
+    symlink(rt, to, place.as_path())
+}
+
+fn make_links(rt: &HostRuntime, dir: &PathBuf, links: &[(&str, &str)]) -> io::Result<()> {
+    for (name, to) in links {
+        make_link(rt, dir, name, to)?;
+    }
+    Ok(())
+}
+
+/// The longest name.
+fn long_name(alloc: Global) -> io::Result<String> {
+    let mut name = String::new(alloc);
+    for _ in 0..LONGEST_NAME {
+        name.push('n')?;
+    }
+    Ok(name)
+}
+
+/// Makes so many directories of the longest name, each in the one before, and a file in the last.
+fn make_deep_file(rt: &HostRuntime, dir: &PathBuf, depth: usize) -> io::Result<()> {
+    let name = long_name(rt.alloc())?;
+    let mut deep = dir.join(rt.alloc(), "")?;
+    for _ in 0..depth {
+        deep.push(name.as_str())?;
+        fs::create_dir(rt, deep.as_path())?;
+    }
+    write_file(rt, &deep, "x", "1\n")
+}
+
+fn remove(rt: &HostRuntime, dir: &PathBuf) -> io::Result<()> {
+    fs::remove_dir_all(rt, dir.as_path())
+}
+
+// ---- trees and lists of files
+
+fn add_dirs(alloc: Global, tree: &mut Tree, dirs: &[&str]) -> Result<(), Fail> {
     for dir in dirs {
         let place = path(alloc, dir.as_bytes())?;
         tree.add_dir(&place)?;
     }
+    Ok(())
+}
+
+fn add_files(alloc: Global, tree: &mut Tree, files: &[(&str, &str)]) -> Result<(), Fail> {
     for (file, bytes) in files {
         let place = path(alloc, file.as_bytes())?;
         tree.add_file(&place, bytes.as_bytes().to_vec(alloc)?)?;
     }
+    Ok(())
+}
+
+/// A tree of these directories and files.
+fn tree_of(alloc: Global, dirs: &[&str], files: &[(&str, &str)]) -> Result<Tree, Fail> {
+    let mut tree = Tree::new(alloc)?;
+    add_dirs(alloc, &mut tree, dirs)?;
+    add_files(alloc, &mut tree, files)?;
     Ok(tree)
+}
+
+/// Reads a directory that is to hold these directories and files and nothing else that a tree takes
+/// in: how many names were passed over, or nothing where it holds another tree.
+fn passed_over(
+    rt: &HostRuntime,
+    dir: &PathBuf,
+    dirs: &[&str],
+    files: &[(&str, &str)],
+) -> Result<Option<u64>, Fail> {
+    let meant = tree_of(rt.alloc(), dirs, files)?;
+    let (tree, passed) = load_dir(rt, rt.alloc(), dir.as_str())?;
+    Ok((tree == meant).then_some(passed))
+}
+
+/// How many files a directory holds, and how many names were passed over.
+fn counts(rt: &HostRuntime, dir: &PathBuf) -> Result<(usize, u64), Fail> {
+    let (tree, passed) = load_dir(rt, rt.alloc(), dir.as_str())?;
+    let files = tree.files(rt.alloc())?;
+    Ok((files.len(), passed))
+}
+
+/// Why what stands below a directory isn't read.
+fn load_fault(rt: &HostRuntime, dir: &PathBuf, name: &str) -> Result<Option<LoadFault>, Fail> {
+    let place = dir.join(rt.alloc(), name)?;
+    Ok(load_dir(rt, rt.alloc(), place.as_str()).err())
+}
+
+/// A file of a list.
+fn listed(alloc: Global, word: &[u8], bytes: &str) -> Result<(Path, Content), Fail> {
+    let place = path(alloc, word)?;
+    let content = Content::new(bytes.as_bytes().to_vec(alloc)?)?;
+    Ok((place, content))
 }
 
 /// A list of files with these paths and bytes.
 fn list_of(alloc: Global, files: &[(&[u8], &str)]) -> Result<Vec<(Path, Content)>, Fail> {
     let mut list = Vec::new(alloc);
     for (word, bytes) in files {
-        let place = path(alloc, word)?;
-        let content = Content::new(bytes.as_bytes().to_vec(alloc)?)?;
-        list.push((place, content))?;
+        list.push(listed(alloc, word, bytes)?)?;
     }
     Ok(list)
 }
 
+/// Stores files in a directory: why not all of them.
+fn store_fault(
+    rt: &HostRuntime,
+    dir: &PathBuf,
+    files: &[(&[u8], &str)],
+) -> Result<Option<StoreFault>, Fail> {
+    let list = list_of(rt.alloc(), files)?;
+    Ok(store_files(rt, rt.alloc(), dir.as_str(), &list).err())
+}
+
+// ---- reading
+
+#[test]
+fn an_empty_directory_is_the_top_alone(rt: HostRuntime) -> Result<(), Fail> {
+    let dir = new_directory(&rt)?;
+    let passed = passed_over(&rt, &dir, &[], &[])?;
+    remove(&rt, &dir)?;
+    assert_eq!(rt; passed, Some(0));
+    Ok(())
+}
+
 #[test]
 fn a_directory_is_read_with_all_below_it(rt: HostRuntime) -> Result<(), Fail> {
-    let alloc = rt.alloc();
-    let dir = new_directory(&rt)?;
-    let (tree, passed) = load_dir(&rt, alloc, dir.as_str())?;
-    assert!(rt;
-        tree == Tree::new(alloc)? && passed == 0,
-        "an empty directory"
-    );
-    for name in ["d", "d/e", "d/empty", "größe"] {
-        fs::create_dir(&rt, dir.join(alloc, name)?.as_path())?;
-    }
+    let dirs = ["d", "d/e", "d/empty", "größe"];
     let files = [
         ("a.do", "echo a\n"),
         ("d/b", ""),
         ("d/e/c", "c\n"),
         ("größe/ü", "ü"),
     ];
-    for (name, bytes) in files {
-        fs::write(&rt, dir.join(alloc, name)?.as_path(), bytes)?;
-    }
-    let (tree, passed) = load_dir(&rt, alloc, dir.as_str())?;
-    let meant = tree_of(alloc, &["d", "d/e", "d/empty", "größe"], &files)?;
-    fs::remove_dir_all(&rt, dir.as_path())?;
-    assert!(rt; tree == meant);
-    assert_eq!(rt; passed, 0);
+    let dir = new_directory(&rt)?;
+    make_dirs(&rt, &dir, &dirs)?;
+    write_files(&rt, &dir, &files)?;
+    let passed = passed_over(&rt, &dir, &dirs, &files)?;
+    remove(&rt, &dir)?;
+    assert_eq!(rt; passed, Some(0));
     Ok(())
 }
 
 #[test]
 fn what_no_tree_takes_in_is_counted(rt: HostRuntime) -> Result<(), Fail> {
-    let alloc = rt.alloc();
     let dir = new_directory(&rt)?;
-    for name in ["x", "a\tb", "c\u{7f}"] {
-        fs::write(&rt, dir.join(alloc, name)?.as_path(), "1\n")?;
-    }
-    for (name, to) in [("file", "x"), ("directory", "."), ("nothing", "no")] {
-        symlink(&rt, to, dir.join(alloc, name)?.as_path())?;
-    }
     // A directory that is passed over counts once.
-    fs::create_dir(&rt, dir.join(alloc, "d\n")?.as_path())?;
-    fs::write(&rt, dir.join(alloc, "d\n/y")?.as_path(), "1\n")?;
-    let (tree, passed) = load_dir(&rt, alloc, dir.as_str())?;
-    let meant = tree_of(alloc, &[], &[("x", "1\n")])?;
-    fs::remove_dir_all(&rt, dir.as_path())?;
-    assert!(rt; tree == meant);
-    assert_eq!(rt; passed, 6);
+    make_dir(&rt, &dir, "d\n")?;
+    let files = [
+        ("x", "1\n"),
+        ("a\tb", "1\n"),
+        ("c\u{7f}", "1\n"),
+        ("d\n/y", "1\n"),
+    ];
+    write_files(&rt, &dir, &files)?;
+    make_links(
+        &rt,
+        &dir,
+        &[("file", "x"), ("directory", "."), ("nothing", "no")],
+    )?;
+    let passed = passed_over(&rt, &dir, &[], &[("x", "1\n")])?;
+    remove(&rt, &dir)?;
+    assert_eq!(rt; passed, Some(6));
     Ok(())
 }
 
 #[test]
 fn a_path_that_is_too_long_is_passed_over(rt: HostRuntime) -> Result<(), Fail> {
-    let alloc = rt.alloc();
     let dir = new_directory(&rt)?;
-    let mut deep = dir.join(alloc, "")?;
-    let mut name = String::new(alloc);
-    for _ in 0..LONG_NAME - 1 {
-        name.push('n')?;
-    }
     // Four names and the slashes between them are 1,023 bytes.
-    for _ in 0..4 {
-        deep.push(name.as_str())?;
-        fs::create_dir(&rt, deep.as_path())?;
-    }
-    fs::write(&rt, deep.join(alloc, "x")?.as_path(), "1\n")?;
-    let (tree, passed) = load_dir(&rt, alloc, dir.as_str())?;
-    fs::remove_dir_all(&rt, dir.as_path())?;
-    assert!(rt; tree.files(alloc)?.is_empty());
+    make_deep_file(&rt, &dir, 4)?;
+    let (files, passed) = counts(&rt, &dir)?;
+    remove(&rt, &dir)?;
+    assert_eq!(rt; files, 0);
     assert_eq!(rt; passed, 1);
     Ok(())
 }
 
 #[test]
 fn what_is_no_directory_is_a_fault(rt: HostRuntime) -> Result<(), Fail> {
-    let alloc = rt.alloc();
     let dir = new_directory(&rt)?;
-    let missing = dir.join(alloc, "missing")?;
-    let file = dir.join(alloc, "file")?;
-    fs::write(&rt, file.as_path(), "1\n")?;
-    let faults = [
-        load_dir(&rt, alloc, missing.as_str()).err(),
-        load_dir(&rt, alloc, file.as_str()).err(),
-        load_dir(&rt, alloc, "").err(),
-    ];
-    fs::remove_dir_all(&rt, dir.as_path())?;
-    for fault in faults {
+    write_file(&rt, &dir, "file", "1\n")?;
+    let missing = load_fault(&rt, &dir, "missing")?;
+    let file = load_fault(&rt, &dir, "file")?;
+    remove(&rt, &dir)?;
+    let empty = load_dir(&rt, rt.alloc(), "").err();
+    for fault in [missing, file, empty] {
         assert_eq!(rt; fault, Some(LoadFault::Device));
     }
     Ok(())
 }
 
+// ---- writing
+
 #[test]
 fn what_was_stored_is_loaded(rt: HostRuntime) -> Result<(), Fail> {
-    let alloc = rt.alloc();
     let dir = new_directory(&rt)?;
-    fs::create_dir(&rt, dir.join(alloc, "d")?.as_path())?;
-    fs::write(
-        &rt,
-        dir.join(alloc, "a")?.as_path(),
-        "of an earlier run, and longer\n",
-    )?;
+    make_dir(&rt, &dir, "d")?;
+    write_file(&rt, &dir, "a", "of an earlier run, and longer\n")?;
     // A name that a temporary file would have, and a link where a file is to be.
-    fs::write(&rt, dir.join(alloc, ".redo-0.tmp")?.as_path(), "1\n")?;
-    symlink(&rt, "../.redo-0.tmp", dir.join(alloc, "d/b")?.as_path())?;
-    let files = list_of(alloc, &[(b"a", "a\n"), (b"d/b", "b\n"), (b"d/empty", "")])?;
-    store_files(&rt, alloc, dir.as_str(), &files)?;
-    let (tree, passed) = load_dir(&rt, alloc, dir.as_str())?;
+    write_file(&rt, &dir, ".redo-0.tmp", "1\n")?;
+    make_link(&rt, &dir, "d/b", "../.redo-0.tmp")?;
+    let fault = store_fault(
+        &rt,
+        &dir,
+        &[(b"a", "a\n"), (b"d/b", "b\n"), (b"d/empty", "")],
+    )?;
     let all = [
         (".redo-0.tmp", "1\n"),
         ("a", "a\n"),
         ("d/b", "b\n"),
         ("d/empty", ""),
     ];
-    let meant = tree_of(alloc, &["d"], &all)?;
-    fs::remove_dir_all(&rt, dir.as_path())?;
-    assert!(rt; tree == meant);
-    assert_eq!(rt; passed, 0);
+    let passed = passed_over(&rt, &dir, &["d"], &all)?;
+    remove(&rt, &dir)?;
+    assert_eq!(rt; fault, None);
+    assert_eq!(rt; passed, Some(0));
     Ok(())
+}
+
+/// Stores three files, of which the second can't be written: why not, and whether the first alone
+/// was.
+fn second_fails(rt: &HostRuntime, second: &[u8]) -> Result<(Option<StoreFault>, bool), Fail> {
+    let dir = new_directory(rt)?;
+    make_dir(rt, &dir, "d")?;
+    let fault = store_fault(rt, &dir, &[(b"a", "1\n"), (second, "2\n"), (b"z", "3\n")])?;
+    let passed = passed_over(rt, &dir, &["d"], &[("a", "1\n")])?;
+    remove(rt, &dir)?;
+    Ok((fault, passed.is_some()))
 }
 
 #[test]
 fn storing_stops_at_the_first_fault(rt: HostRuntime) -> Result<(), Fail> {
-    let alloc = rt.alloc();
     let list = [
-        (b"a".as_slice(), b"no/b".as_slice(), StoreFault::Device(1)),
-        (b"a", b"a/b", StoreFault::Device(1)),
-        (b"a", b"d", StoreFault::Device(1)),
-        (b"a", b"d/\xff", StoreFault::Name(1)),
-        (b"a", b".", StoreFault::Device(1)),
+        (b"no/b".as_slice(), StoreFault::Device(1)),
+        (b"a/b", StoreFault::Device(1)),
+        (b"d", StoreFault::Device(1)),
+        (b"d/\xff", StoreFault::Name(1)),
+        (b".", StoreFault::Device(1)),
     ];
-    for (first, second, fault) in list {
-        let dir = new_directory(&rt)?;
-        fs::create_dir(&rt, dir.join(alloc, "d")?.as_path())?;
-        let files = list_of(alloc, &[(first, "1\n"), (second, "2\n"), (b"z", "3\n")])?;
-        let found = store_files(&rt, alloc, dir.as_str(), &files).err();
-        let (tree, _passed) = load_dir(&rt, alloc, dir.as_str())?;
-        fs::remove_dir_all(&rt, dir.as_path())?;
+    for (second, fault) in list {
+        let (found, first_alone) = second_fails(&rt, second)?;
         assert_eq!(rt; found, Some(fault));
-        assert!(rt; tree == tree_of(alloc, &["d"], &[("a", "1\n")])?);
+        assert!(rt; first_alone);
     }
     Ok(())
 }
 
 #[test]
 fn a_missing_directory_is_written_to_by_an_empty_list_alone(rt: HostRuntime) -> Result<(), Fail> {
-    let alloc = rt.alloc();
     let dir = new_directory(&rt)?;
-    let missing = dir.join(alloc, "missing")?;
-    let files = list_of(alloc, &[(b"a", "1\n")])?;
-    let found = store_files(&rt, alloc, missing.as_str(), &files).err();
-    let nothing = store_files(&rt, alloc, missing.as_str(), &files[..0]).err();
-    fs::remove_dir_all(&rt, dir.as_path())?;
+    let missing = dir.join(rt.alloc(), "missing")?;
+    let found = store_fault(&rt, &missing, &[(b"a", "1\n")])?;
+    let nothing = store_fault(&rt, &missing, &[])?;
+    remove(&rt, &dir)?;
     assert_eq!(rt; found, Some(StoreFault::Device(0)));
     assert_eq!(rt; nothing, None);
     Ok(())

@@ -46,11 +46,22 @@ fn each_path_has_its_kind(rt: HostRuntime) -> Result<(), Fail> {
     Ok(())
 }
 
-#[test]
-fn what_a_tree_refuses_leaves_it_as_it_was(rt: HostRuntime) -> Result<(), Fail> {
-    let alloc = rt.alloc();
+/// What the small tree says of a directory and of a file at a path, and whether it is then as it was.
+fn refusals(
+    alloc: Global,
+    word: &str,
+) -> Result<(Option<TreeFault>, Option<TreeFault>, bool), Fail> {
+    let place = path(alloc, word)?;
     let before = small_tree(alloc)?;
     let mut tree = small_tree(alloc)?;
+    let of_dir = tree.add_dir(&place).err();
+    let kept = tree == before;
+    let of_file = tree.add_file(&place, Vec::new(alloc)).err();
+    Ok((of_dir, of_file, kept && tree == before))
+}
+
+#[test]
+fn what_a_tree_refuses_leaves_it_as_it_was(rt: HostRuntime) -> Result<(), Fail> {
     for (word, dir_fault, file_fault) in [
         (".", TreeFault::Twice, TreeFault::IsDirectory),
         ("d", TreeFault::Twice, TreeFault::IsDirectory),
@@ -59,15 +70,10 @@ fn what_a_tree_refuses_leaves_it_as_it_was(rt: HostRuntime) -> Result<(), Fail> 
         ("x/y", TreeFault::NoDirectory, TreeFault::NoDirectory),
         ("a/b/c", TreeFault::NoDirectory, TreeFault::NoDirectory),
     ] {
-        let place = path(alloc, word)?;
-        assert_eq!(rt; tree.add_dir(&place).err(), Some(dir_fault), "{word}");
-        assert!(rt; tree == before, "{word}");
-        assert_eq!(rt;
-            tree.add_file(&place, Vec::new(alloc)).err(),
-            Some(file_fault),
-            "{word}"
-        );
-        assert!(rt; tree == before, "{word}");
+        let (of_dir, of_file, kept) = refusals(rt.alloc(), word)?;
+        assert_eq!(rt; of_dir, Some(dir_fault), "{word}");
+        assert_eq!(rt; of_file, Some(file_fault), "{word}");
+        assert!(rt; kept, "{word}");
     }
     Ok(())
 }
@@ -89,21 +95,43 @@ fn files_come_in_the_order_of_their_paths(rt: HostRuntime) -> Result<(), Fail> {
     Ok(())
 }
 
+/// The small tree with these files, added in turn.
+fn tree_with(alloc: Global, files: &[(&str, &str)]) -> Result<Tree, Fail> {
+    let mut tree = small_tree(alloc)?;
+    for (word, bytes) in files {
+        let place = path(alloc, word)?;
+        tree.add_file(&place, bytes.as_bytes().to_vec(alloc)?)?;
+    }
+    Ok(tree)
+}
+
+/// Whether the small tree is the same with these files and with those.
+fn are_equal(alloc: Global, files: &[(&str, &str)], others: &[(&str, &str)]) -> Result<bool, Fail> {
+    let tree = tree_with(alloc, files)?;
+    let other = tree_with(alloc, others)?;
+    Ok(tree == other)
+}
+
 #[test]
 fn trees_with_the_same_entries_are_equal(rt: HostRuntime) -> Result<(), Fail> {
-    let alloc = rt.alloc();
-    let one = small_tree(alloc)?;
+    let one = [("b", "x")];
     for (word, bytes, same) in [("b", "x", true), ("b", "y", false), ("c", "x", false)] {
-        let mut left = small_tree(alloc)?;
-        let mut right = small_tree(alloc)?;
-        assert!(rt; left == one && left == right, "{word}");
-        let first = path(alloc, "b")?;
-        left.add_file(&first, b"x".to_vec(alloc)?)?;
-        assert!(rt; left != right, "{word}");
-        let second = path(alloc, word)?;
-        right.add_file(&second, bytes.as_bytes().to_vec(alloc)?)?;
-        assert_eq!(rt; left == right, same, "{word}");
+        let other = [(word, bytes)];
+        assert_eq!(rt; are_equal(rt.alloc(), &one, &other)?, same, "{word}");
     }
+    Ok(())
+}
+
+#[test]
+fn the_number_of_entries_counts_and_not_their_order(rt: HostRuntime) -> Result<(), Fail> {
+    let alloc = rt.alloc();
+    let one = [("b", "x")];
+    let two = [("b", "x"), ("c", "y")];
+    let turned = [("c", "y"), ("b", "x")];
+    assert!(rt; are_equal(alloc, &[], &[])?);
+    assert!(rt; !are_equal(alloc, &one, &[])?);
+    assert!(rt; !are_equal(alloc, &one, &two)?);
+    assert!(rt; are_equal(alloc, &two, &turned)?);
     Ok(())
 }
 

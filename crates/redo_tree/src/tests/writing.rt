@@ -25,6 +25,13 @@ fn written(alloc: Global, text: &[u8], piece: usize) -> Result<Vec<u8>, Fail> {
     Ok(sink.text)
 }
 
+/// Whether two bundles are of one tree.
+fn same_tree(alloc: Global, text: &[u8], other: &[u8]) -> Result<bool, Fail> {
+    let tree = read(alloc, text)?;
+    let copy = read(alloc, other)?;
+    Ok(tree == copy)
+}
+
 #[test]
 fn a_tree_is_written_in_path_order(rt: HostRuntime) -> Result<(), Fail> {
     let alloc = rt.alloc();
@@ -43,10 +50,7 @@ fn a_tree_is_written_in_path_order(rt: HostRuntime) -> Result<(), Fail> {
         for piece in [1, 5, usize::MAX] {
             let out = written(alloc, text.as_bytes(), piece)?;
             assert_eq!(rt; out.as_slice(), meant.as_bytes(), "{text}");
-            assert!(rt;
-                read(alloc, &out)? == read(alloc, text.as_bytes())?,
-                "{text}"
-            );
+            assert!(rt; same_tree(alloc, &out, text.as_bytes())?, "{text}");
         }
     }
     Ok(())

@@ -3,16 +3,15 @@ use Rattle.std.proofs.lemmas.Fn.{always_returns_same}
 use Rattle.std.specs.List.{AllByRecursion}
 use Rattle.redo_path.specs.Names.{IsName, IsPart, names}
 use Rattle.redo_path.specs.Resolve.{walk}
-use Rattle.redo_path.proofs.Cuts.{parts_left, parts_left-next, parts_left-start, parts_left-done, IsPart-parts, printable-word, no_word_fault, walk-next, walk-refused, resolved-walk, resolved-end, Answers-refused, within_limit-long, within_limit-short}
-use Rattle.std.proofs.lemmas.Grind.{common_steps}
+use Rattle.redo_path.proofs.FileNames.{Answers-file}
+use Rattle.redo_path.proofs.Cuts.{parts_left, parts_left-next, parts_left-start, parts_left-done, IsPart-parts, printable-word, no_word_fault, walk-next, walk-refused, resolved-walk, resolved-end, Answers-refused}
 use Rattle.std.proofs.lemmas.Result.{err_from_is_err_and}
-use Rattle.std.specs.Prelude.{Err, Ok}
-use Rattle.std.proofs.Common.{arith}
+use Rattle.std.specs.Prelude.{Err}
 use Rattle.redo_path.proofs.words.resolve.Goals as goal
 
 pub loop-part-init : goal.loop-part-init
 loop-part-init c =
-    let copied = c.in_ok-text.ensures.items ∙ c.text.ensures.text in
+    let copied = c.in_ok-text.ensures ∙ c.text.ensures.text in
     let started = ap parts_left c.into_iter-part-iterator.ensures.into_iter_gives ∙ parts_left-start c.split-part-items.result c.args.word.now c.split-part-items.ensures.rest c.split-part-items.ensures.done in
     record {
       named = subst (λ t. AllByRecursion IsName (names t)) (sym copied) c.text.ensures.path.each;
@@ -42,20 +41,11 @@ returns-in_err-follow c =
     rw (p.1, p.2) (Answers-refused _ _ _ _ c.in_err-follow.ensures.step (λ e.
     resolved-walk c.args.base.now c.args.word.now (Err c.in_err-follow.field-0.0) fine (sym c.loop-part.invariant.leads ∙ walk-refused _ _ _ _ _ next e)))
 
-pub returns-then-len-gt-LONGEST_PATH : goal.returns-then-len-gt-LONGEST_PATH
-returns-then-len-gt-LONGEST_PATH c =
-    let fine = no_word_fault _ _ c.in_ok-check_word.ensures in
-    let over = parts_left-done c.loop-part.part-iterator c.in-None.ensures.steps.0 in
-    resolved-end c.args.base.now c.args.word.now c.loop-part.text.items _ fine over c.loop-part.invariant.leads ∙ within_limit-long c.loop-part.text.items (grind (arith, common_steps))
-
-pub share-requires : goal.share-requires
-share-requires c = record {
-  each = c.loop-part.invariant.named;
-  short = grind (arith, common_steps);
-}
+pub finish-requires : goal.finish-requires
+finish-requires c = c.loop-part.invariant.named
 
 pub returns : goal.returns
 returns c =
     let fine = no_word_fault _ _ c.in_ok-check_word.ensures in
     let over = parts_left-done c.loop-part.part-iterator c.in-None.ensures.steps.0 in
-    resolved-end c.args.base.now c.args.word.now c.loop-part.text.items _ fine over c.loop-part.invariant.leads ∙ within_limit-short c.loop-part.text.items (grind (arith, common_steps)) ∙ ap Ok (sym c.in_ok-share.ensures)
+    Answers-file _ _ _ (resolved-end c.args.base.now c.args.word.now c.loop-part.text.items _ fine over c.loop-part.invariant.leads) c.finish.ensures

@@ -1,11 +1,10 @@
 use Rattle.std.proofs.Common.{length}
 use Rattle.redo_step.specs.Meaning.{formatted}
-use Rattle.redo_step.specs.Machine.{all_items}
 use Rattle.redo_step.proofs.Rounds.{Rounds}
 use Rattle.redo_step.proofs.printf.print.Given as goal
 
 abbrev pub invariant-loop-left : goal.invariant-loop-left
-invariant-loop-left l = Rounds l.pieces (all_items l.left) (formatted l.pieces (all_items l.fn.texts)) l.fn.sink l.sink
+invariant-loop-left l = Rounds l.pieces l.left (formatted l.pieces l.fn.texts) l.fn.sink l.sink
 
 abbrev pub decreases-loop-left : goal.decreases-loop-left
 decreases-loop-left l = length l.left

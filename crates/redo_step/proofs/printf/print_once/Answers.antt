@@ -1,25 +1,33 @@
-use Rattle.std.proofs.Common.{◌≡◌, ◌+◌, [], ◌∷◌, drop}
-use Rattle.std.proofs.lemmas.List.{nil_from_length}
+use Rattle.std.proofs.Common.{◌≡◌, ◌+◌, [], ◌∷◌, drop, arith}
 use Rattle.redo_step.specs.declared.printf.Piece.TheVariants.{Literal, Operand}
-use Rattle.redo_step.specs.Machine.{all_items}
-use Rattle.redo_step.proofs.Rounds.{drop_at, round_literal, round_operand, round_none}
+use Rattle.redo_step.proofs.Rounds.{drop_at, drop_split, drop_end, round_literal, round_operand, round_none}
 use Rattle.redo_step.proofs.printf.print_once.Goals as goal
-use Rattle.redo_step.proofs.printf.print_once.Goals.{in-Literal+in_ok-add-in-Literal, in-Operand+in-Some+in_ok-add-in-Operand, in-Operand+in_default}
+use Rattle.redo_step.proofs.printf.print_once.Goals.{in-Literal+in_ok-add-in-Literal, in-Operand+then-printed-texts+in_ok-add-in-Operand, in-Operand+else-printed-texts}
 
 pub loop-piece-preserved : goal.loop-piece-preserved
 loop-piece-preserved c = elim c.match-piece.branch [
   | in-Literal+in_ok-add-in-Literal w ↦
       let split : drop c.loop-piece.piece-index c.args.pieces.now ≡ Literal w.in-Literal.byte ∷ drop (c.loop-piece.piece-index + 1) c.args.pieces.now = drop_at c.args.pieces.now c.loop-piece.piece-index _ _ c.loop-piece-test.true w.in-Literal.is in
-      let before = rw split at c.loop-piece.invariant in
-      rw (w.sink-is, w.left-is) (round_literal _ _ _ _ _ _ _ before w.in_ok-add-in-Literal.ensures)
-  | in-Operand+in-Some+in_ok-add-in-Operand w ↦
+      let before = rw split at c.loop-piece.invariant.round in
+      rw (w.sink-is, w.printed-is) (record {
+        within = c.loop-piece.invariant.within;
+        round = round_literal _ _ _ _ _ _ _ before w.in_ok-add-in-Literal.ensures;
+      })
+  | in-Operand+then-printed-texts+in_ok-add-in-Operand w ↦
       let split : drop c.loop-piece.piece-index c.args.pieces.now ≡ Operand ∷ drop (c.loop-piece.piece-index + 1) c.args.pieces.now = drop_at c.args.pieces.now c.loop-piece.piece-index _ _ c.loop-piece-test.true w.in-Operand.is in
-      let before = rw (split, w.in-Some.ensures.cases.0) at c.loop-piece.invariant in
-      let adds = rw w.deref.ensures.value at w.in_ok-add-in-Operand.ensures in
-      rw (w.sink-is, w.left-is) (round_operand w.in-Some.text.now.items (all_items w.in-Some.others.now) _ _ _ _ _ before adds)
-  | in-Operand+in_default w ↦
+      let text : drop c.loop-piece.printed c.args.texts.now ≡ w.index-texts-printed.result ∷ drop (c.loop-piece.printed + 1) c.args.texts.now = drop_split c.args.texts.now c.loop-piece.printed w.index-texts-printed.result w.if-printed-texts.true w.index-texts-printed.is in
+      let before = rw (split, text) at c.loop-piece.invariant.round in
+      let adds = rw w.bytes.ensures at w.in_ok-add-in-Operand.ensures in
+      rw (w.sink-is, w.printed-is) (record {
+        within = omega arith;
+        round = round_operand w.index-texts-printed.result (drop (c.loop-piece.printed + 1) c.args.texts.now) _ _ _ _ _ before adds;
+      })
+  | in-Operand+else-printed-texts w ↦
       let split : drop c.loop-piece.piece-index c.args.pieces.now ≡ Operand ∷ drop (c.loop-piece.piece-index + 1) c.args.pieces.now = drop_at c.args.pieces.now c.loop-piece.piece-index _ _ c.loop-piece-test.true w.in-Operand.is in
-      let none : c.loop-piece.left.now ≡ [] = nil_from_length c.loop-piece.left.now w.in_default.ensures.cases in
-      let before = rw (split, none) at c.loop-piece.invariant in
-      rw (w.sink-is, w.left-is, none) (round_none _ _ _ _ before)
+      let none : drop c.loop-piece.printed c.args.texts.now ≡ [] = drop_end c.args.texts.now c.loop-piece.printed w.if-printed-texts.false in
+      let before = rw (split, none) at c.loop-piece.invariant.round in
+      rw (w.sink-is, w.printed-is) (record {
+        within = c.loop-piece.invariant.within;
+        round = rw none (round_none _ _ _ _ before);
+      })
 ]

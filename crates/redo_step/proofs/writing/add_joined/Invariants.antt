@@ -1,7 +1,6 @@
 use Rattle.std.proofs.Common.{drop}
-use Rattle.redo_step.specs.Machine.{all_items}
 use Rattle.redo_step.proofs.Rounds.{Spaced, spaced}
 use Rattle.redo_step.proofs.writing.add_joined.Given as goal
 
 abbrev pub invariant-loop-text : goal.invariant-loop-text
-invariant-loop-text l = Spaced (all_items (drop l.text-index l.others)) (spaced (all_items l.others)) l.initial.sink l.sink
+invariant-loop-text l = Spaced (drop l.text-index l.others) (spaced l.others) l.initial.sink l.sink

@@ -1,5 +1,4 @@
-use Rattle.std.proofs.Common.{rules, ◌≡◌, map}
-use Rattle.std.specs.Prelude.{IsUtf8}
+use Rattle.std.proofs.Common.{rules, map}
 use Rattle.redo_tree.proofs.Texts.{at_map, refused_at, texts_next}
 use Rattle.redo_tree.proofs.storing.store_files.Goals as goal
 

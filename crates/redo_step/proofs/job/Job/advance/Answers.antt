@@ -1,7 +1,10 @@
-use Rattle.std.proofs.Common.{◌∙◌, refl, sym}
+use Rattle.std.proofs.Common.{◌∙◌, refl, sym, ap}
 use Rattle.redo_step.specs.contracts.job.Job.{the_view}
 use Rattle.redo_step.proofs.Advance.{ended_well, ended, asks}
+use Rattle.redo_script.specs.View.{script_of}
+use Rattle.redo_step.specs.Parsed.{parsed_of}
 use Rattle.redo_step.proofs.Comes.{if_ok_map}
+use Rattle.redo_step.proofs.Kept.{same_kept}
 use Rattle.redo_step.proofs.job.Job.advance.Goals as goal
 
 pub returns-in-Finished : goal.returns-in-Finished
@@ -21,3 +24,14 @@ returns-in-Stopped g c =
     let comes = rw c.in-Stopped.is at (rw (c.deref-2.ensures.value, c.scene.ensures) at c.in_ok-resume.ensures) in
     let fit = rw (← c.self.view_is) at c.requires.fits in
     rw (← c.self.view_is) (asks _ (the_view c.self.inside) c.in-Read.script fit (sym c.deref.ensures ∙ c.in-Read.is) c.in-Stopped.place _ _ c.in-Stopped.paths.items refl comes.0 comes.1)
+
+pub resume-requires : goal.resume-requires
+resume-requires g c =
+    let whole = ap parsed_of (sym c.deref.ensures ∙ c.in-Read.is) in
+    rw (c.deref-2.ensures.value, c.scene.ensures) (c.self.invariant (script_of c.in-Read.script.stmts.items) whole)
+
+pub invariant_of-job : goal.invariant_of-job
+invariant_of-job g c = λ script is.
+    let comes = rw c.in-Stopped.is at (rw (c.deref-2.ensures.value, c.scene.ensures) at c.in_ok-resume.ensures) in
+    let whole = ap parsed_of (sym c.deref.ensures ∙ c.in-Read.is) in
+    same_kept _ c.in-Stopped.place _ c.in-Stopped.kept _ _ script whole is comes.2

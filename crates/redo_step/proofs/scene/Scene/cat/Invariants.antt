@@ -1,10 +1,9 @@
 use Rattle.std.proofs.Common.{drop}
 use Rattle.redo_step.specs.Meaning.{contents_of}
-use Rattle.redo_step.specs.Machine.{all_items}
 use Rattle.redo_step.specs.Scene.{scene_setting}
 use Rattle.redo_step.proofs.Rounds.{Catted}
 use Rattle.redo_step.proofs.scene.Scene.cat.Given as goal
 
 abbrev pub invariant-loop-text : goal.invariant-loop-text
 invariant-loop-text g l =
-    Catted (scene_setting l.self) (g.A.Answers.ask l.answers) l.declared l.line (all_items (drop l.text-index l.texts)) (contents_of (scene_setting l.self) (g.A.Answers.ask l.answers) l.declared l.line (all_items l.texts)) l.initial.sink l.sink
+    Catted (scene_setting l.self) (g.A.Answers.ask l.answers) l.declared l.line (drop l.text-index l.texts) (contents_of (scene_setting l.self) (g.A.Answers.ask l.answers) l.declared l.line l.texts) l.initial.sink l.sink

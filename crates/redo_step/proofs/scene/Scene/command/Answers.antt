@@ -6,7 +6,7 @@ use Rattle.redo_step.proofs.scene.Scene.command.Goals as goal
 pub returns-in_err-tested-in-Test : goal.returns-in_err-tested-in-Test
 returns-in_err-tested-in-Test g c =
     let p = err_from_is_err_and c.from_residual.result c.from_residual.ensures.1 in
-    rw (p.1, p.2, c.in-Test.is) (stops_status _ _ (state_of c.args.effects.now) c.in_err-tested-in-Test.ensures)
+    rw (p.1, p.2, c.in-Test.is) (stops_status _ _ _ _ _ (state_of c.args.effects.now) c.in_err-tested-in-Test.ensures)
 
 pub returns-then-branch : goal.returns-then-branch
 returns-then-branch g c = rw c.in-Test.is (status_true _ _ (state_of c.args.effects.now) c.in_ok-tested-in-Test.ensures c.if-branch.true)

@@ -4,4 +4,4 @@ use Rattle.redo_step.proofs.Loops.{none_before, paths_each}
 use Rattle.redo_step.proofs.scene.Scene.paths.Goals as goal
 
 pub loop-text-init : goal.loop-text-init
-loop-text-init c = rw c.new-paths.ensures.items (none_before _ ∙ sym (paths_each (scene_setting c.args.self.now) c.args.line c.args.texts.now))
+loop-text-init c = rw c.in_ok-paths.ensures.items (none_before _ ∙ sym (paths_each (scene_setting c.args.self.now) c.args.line c.args.texts.now))

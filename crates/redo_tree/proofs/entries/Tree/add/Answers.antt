@@ -1,30 +1,31 @@
-use Rattle.std.proofs.Common.{◌≡◌, ◌∙◌, ap, sym, subst, None}
-use Rattle.std.specs.List.{AllByRecursion}
-use Rattle.std.specs.Map.{keys_of}
+use Rattle.std.proofs.Common.{◌≡◌, ◌∙◌, ap, sym, subst, None, nat_eq}
+use Rattle.std.specs.Cmp.Lexicographic.{pointwise}
 use Rattle.std.specs.Prelude.{Ok}
+use Rattle.indexmap.proofs.CallerLemmas.{insert_entry-new}
 use Rattle.redo_path.specs.Names.{IsPath}
-use Rattle.redo_tree.specs.Tree.{refusal, node_of, with_node}
-use Rattle.redo_tree.proofs.Grows.{IsTree-puts, Puts, Puts-seen, added-free}
-use Rattle.redo_tree.proofs.Keys.{sorted-seen, keys-with}
-use Rattle.redo_tree.proofs.Nodes.{seen, insert_entry-seen}
+use Rattle.redo_tree.specs.Tree.{refusal, node_of, tree_of, with_node}
+use Rattle.redo_tree.proofs.Grows.{added-free}
+use Rattle.redo_tree.proofs.Kept.{IsKept-with, absent}
+use Rattle.redo_tree.proofs.Nodes.{tree_of-last}
 use Rattle.redo_tree.proofs.entries.Tree.add.Goals as goal
 
 pub invariant_of-self-2 : goal.invariant_of-self-2
 invariant_of-self-2 c =
-    let old = c.self.inside.entries.entries in
-    let new = c.insert.new.self.entries in
-    let path = c.args.path.now in
-    let node = node_of c.args.entry in
-    let free = subst (λ t. refusal t path node ≡ None) (sym c.self.view_is) c.in_ok-check_place.ensures.place in
+    let m = c.self.inside.entries in
+    let path = c.in_ok-path.path in
+    let entry = c.args.entry in
     let same = c.in_ok-path.ensures.cases in
-    let puts = subst (λ p. Puts (seen old) (seen new) p node) same (Puts-seen old new c.in_ok-path.path c.args.entry c.in_ok-insert.ensures.updates.0) in
-    let put : seen new ≡ with_node (seen old) path node = ap seen c.in_ok-insert.ensures.entries ∙ insert_entry-seen old c.in_ok-path.path c.args.entry ∙ ap (λ p. with_node (seen old) p node) same in
-    IsTree-puts (seen old) (seen new) path node c.self.invariant free puts (sorted-seen new c.in_ok-insert.ensures.ordered)
-    (subst (λ t. AllByRecursion IsPath (keys_of t)) (sym put) (keys-with IsPath (seen old) path node c.self.invariant.paths c.in_ok-check_place.ensures.path))
+    let free : refusal (tree_of m.entries) path (node_of entry) ≡ None = subst (λ p. refusal (tree_of m.entries) p (node_of entry) ≡ None) (sym same) (subst (λ t. refusal t c.args.path.now (node_of entry) ≡ None) (sym c.self.view_is) c.in_ok-check_place.ensures.place) in
+    let last = c.in_ok-insert.ensures.entries ∙ insert_entry-new (pointwise nat_eq) m path entry (absent m.entries path entry c.self.invariant free) in
+    IsKept-with m.entries c.insert.new.self.entries path entry c.self.invariant (subst IsPath (sym same) c.in_ok-check_place.ensures.path) free last c.in_ok-insert.ensures.updates.0
 
 pub returns : goal.returns
 returns c =
+    let m = c.self.inside.entries in
+    let path = c.in_ok-path.path in
+    let entry = c.args.entry in
     let same = c.in_ok-path.ensures.cases in
-    let new = ap seen c.in_ok-insert.ensures.entries ∙ insert_entry-seen c.self.inside.entries.entries c.in_ok-path.path c.args.entry in
-    added-free c.args.self.now c.args.path.now (node_of c.args.entry) c.in_ok-check_place.ensures.place
-    ∙ ap Ok (sym (new ∙ (λ i. with_node (c.self.view_is i) (same i) (node_of c.args.entry))))
+    let free : refusal (tree_of m.entries) path (node_of entry) ≡ None = subst (λ p. refusal (tree_of m.entries) p (node_of entry) ≡ None) (sym same) (subst (λ t. refusal t c.args.path.now (node_of entry) ≡ None) (sym c.self.view_is) c.in_ok-check_place.ensures.place) in
+    let last = c.in_ok-insert.ensures.entries ∙ insert_entry-new (pointwise nat_eq) m path entry (absent m.entries path entry c.self.invariant free) in
+    added-free c.args.self.now c.args.path.now (node_of entry) c.in_ok-check_place.ensures.place
+    ∙ ap Ok (sym (ap tree_of last ∙ tree_of-last m.entries path entry ∙ (λ i. with_node (c.self.view_is i) (same i) (node_of entry))))

@@ -1,0 +1,16 @@
+use Rattle.std.proofs.Common.{◌≡◌, ◌+◌, drop}
+use Rattle.std.specs.Prelude.{IsNone}
+use Rattle.redo_core.specs.Build.{rules_of}
+use Rattle.redo_run.specs.Driving.{AreOut}
+use Rattle.redo_run.specs.Picks.{Driven, at_opening, driven, driven_on}
+use Rattle.redo_run.proofs.picks.drive.Given as goal
+
+-- the board of this build runs, the works that were taken are out, and what is left of the picks leads where all of them lead
+abbrev pub invariant-loop-done : goal.invariant-loop-done
+invariant-loop-done l = record {
+  running : IsNone l.board.stopped;
+  build : (l.board.tree ≡ l.fn.tree) × (l.board.request ≡ l.request) × (l.board.limits ≡ l.fn.limits);
+  out : AreOut l.board l.out.items;
+  leads : driven (rules_of l.fn.tree l.fn.limits) (at_opening l.fn.tree l.request l.fn.limits) l.picks ≡
+      (let rest = driven (rules_of l.fn.tree l.fn.limits) (driven_on l.board l.out.items) (drop l.done l.picks) in (rest.0, rest.1 + l.done));
+}

@@ -1,0 +1,108 @@
+//! A build in an order that is given beforehand, event by event.
+//!
+//! Workers come to a board in an order that nobody can foresee. [`drive`] makes one order to be looked at: each [`Pick`] says
+//! what happens next, by places alone.
+
+ghost use Rattle.std.specs.Prelude.{◌≡◌, Err, IfOk, IsNone, MatchBool, None, OnOk, Some, length};
+ghost use Rattle.redo_core.specs.Build.{rules_of};
+ghost use Rattle.redo_core.specs.Faults.{IsSameBuild};
+ghost use Rattle.redo_core.specs.Outcomes.{IsTooMany};
+ghost use Rattle.redo_core.specs.Views.{rules_on};
+ghost use Rattle.redo_run.specs.Picks.{IsDriven, driven_on, picked};
+ghost use Rattle.redo_run.specs.Driving.{AreOut, IsPicked};
+
+use crate::RunFault;
+use redo_core::board::{Board, HandFault};
+use redo_core::work::Work;
+use redo_path::Path;
+use redo_step::Limits;
+use redo_tree::Tree;
+use std::alloc::Global;
+use std::sync::Arc;
+
+/// What happens next on a board, by a place that is counted from 0.
+#[derive(Clone, Copy, Debug, PartialEq, Eq)]
+pub enum Pick {
+    /// The ready target at this place is taken.
+    Take(usize),
+    /// The job at this place among those that are out, in the order of taking, is advanced and handed in.
+    HandIn(usize),
+}
+
+/// Takes the ready target at a place. False where there is none.
+fn take_at(board: &mut Board, out: &mut Vec<Work>, which: usize) -> Result<bool, RunFault>
+    requires running { IsNone board.old.stopped }
+    requires out { AreOut board.old out.old.items }
+    ensures picked { IfOk result (IsPicked (Pick.Take which) board.old out.old.items board.new out.new.items) }
+    ensures build { OnOk result (IsSameBuild board.old board.new) }
+    ensures running { OnOk result (IsNone board.new.stopped) }
+    ensures out { OnOk result (AreOut board.new out.new.items) }
+    ensures too_many { result ≡ Err RunFault.TooMany → ⊥ }
+{
+    if which >= board.ready() {
+        return Ok(false);
+    }
+    out.push(board.take(which)?)?;
+    Ok(true)
+}
+
+/// Advances the job at a place among those that are out, and hands it in. False where there is none.
+fn hand_in_at(board: &mut Board, out: &mut Vec<Work>, which: usize) -> Result<bool, RunFault>
+    requires running { IsNone board.old.stopped }
+    requires out { AreOut board.old out.old.items }
+    ensures picked { IfOk result (IsPicked (Pick.HandIn which) board.old out.old.items board.new out.new.items) }
+    ensures build { OnOk result (IsSameBuild board.old board.new) }
+    ensures running { OnOk result (IsNone board.new.stopped) }
+    ensures out { OnOk result (AreOut board.new out.new.items) }
+    ensures too_many { result ≡ Err RunFault.TooMany → IsTooMany (rules_on board.old) board.old.request board.old.limits.0 }
+{
+    if which >= out.len() {
+        return Ok(false);
+    }
+    let piece = out.remove(which).advance()?;
+    match board.hand_in(piece) {
+        Ok(()) => Ok(true),
+        Err(HandFault::TooMany) => Err(RunFault::TooMany),
+        Err(HandFault::Memory) => Err(RunFault::Memory),
+        Err(HandFault::Stranger(_)) => unreachable!(),
+    }
+}
+
+/// Performs a pick. False where it isn't open, and then nothing has changed.
+fn perform(board: &mut Board, out: &mut Vec<Work>, pick: Pick) -> Result<bool, RunFault>
+    requires running { IsNone board.old.stopped }
+    requires out { AreOut board.old out.old.items }
+    ensures picked { IfOk result (IsPicked pick board.old out.old.items board.new out.new.items) }
+    ensures build { OnOk result (IsSameBuild board.old board.new) }
+    ensures running { OnOk result (IsNone board.new.stopped) }
+    ensures out { OnOk result (AreOut board.new out.new.items) }
+    ensures too_many { result ≡ Err RunFault.TooMany → IsTooMany (rules_on board.old) board.old.request board.old.limits.0 }
+{
+    match pick {
+        Pick::Take(which) => take_at(board, out, which),
+        Pick::HandIn(which) => hand_in_at(board, out, which),
+    }
+}
+
+/// Opens a board and performs the picks one after another, up to the first that isn't open: a place where nothing is ready, or
+/// nothing is out. Answers the board, whatever is left to do on it, and how many picks were done. With the works that are
+/// still out the board is left as it is; they are lost.
+pub fn drive(
+    alloc: Global,
+    tree: Tree,
+    request: &[Path],
+    limits: Limits,
+    picks: &[Pick],
+) -> Result<(Board, usize), RunFault>
+    ensures ok { IfOk result (λ driven. IsDriven tree request.now limits picks.now driven.0 driven.1) }
+    ensures too_many { result ≡ Err RunFault.TooMany → IsTooMany (rules_of tree limits) request.now limits.0 }
+{
+    let mut board = Board::open(alloc, Arc::new(alloc, tree)?, request, limits)?;
+    let mut out = Vec::new(alloc);
+    for (done, pick) in picks.iter().enumerate() {
+        if !perform(&mut board, &mut out, *pick)? {
+            return Ok((board, done));
+        }
+    }
+    Ok((board, picks.len()))
+}

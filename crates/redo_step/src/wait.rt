@@ -1,0 +1,103 @@
+//! What a redo-ifchange waits for.
+
+ghost use Rattle.std.specs.Prelude.{◌≡◌, IfOk, is_none, []};
+ghost use Rattle.redo_step.specs.Meaning.{State};
+ghost use Rattle.redo_step.specs.Machine.{GoesOn};
+ghost use Rattle.redo_step.specs.Waiting.{unanswered, any_failure, waited_on};
+
+use crate::answers::Answers;
+use crate::outcome::Why;
+use crate::stop::Stop;
+use indexmap::IndexSet;
+use redo_path::Path;
+use std::alloc::{AllocError, Global};
+
+/// Up to how many targets are compared with each other rather than hashed.
+const FEW: usize = 8;
+
+/// A redo-ifchange: its line, and those of its operands that are no sources.
+#[derive(Debug, Drop)]
+pub(crate) struct Waiting {
+    pub(crate) line: u64,
+    pub(crate) targets: Vec<Path>,
+}
+
+impl Waiting {
+    /// Goes on once all the targets have answers, and none of them failed.
+    pub(crate) fn go_on<A: Answers>(self, alloc: Global, answers: &A) -> Result<(), Stop>
+        ensures { (s : State) → GoesOn self result (waited_on (A.ask answers.now) self.line self.targets.items (unanswered (A.ask answers.now) [] self.targets.items) s) s }
+    {
+        let found = without_answer(alloc, answers, &self.targets)?;
+        if !found.is_empty() {
+            return Err(Stop::Waits(found, self));
+        }
+        if is_any_failed(answers, &self.targets) {
+            return Err(Stop::fault(Why::Depends(self.line)));
+        }
+        Ok(())
+    }
+}
+
+/// Whether one of these targets has failed.
+fn is_any_failed<A: Answers>(answers: &A, targets: &[Path]) -> bool
+    ensures { result ≡ any_failure (A.ask answers.now) targets.now }
+{
+    for path in targets {
+        if answers
+            .answer(path)
+            .is_some_and(|outcome| outcome.has_failed())
+        {
+            return true;
+        }
+    }
+    false
+}
+
+/// Those of these targets that have no answer, each once.
+fn without_answer<A: Answers>(
+    alloc: Global,
+    answers: &A,
+    targets: &[Path],
+) -> Result<Vec<Path>, AllocError>
+    ensures { IfOk result (λ found. found.items ≡ unanswered (A.ask answers.now) [] targets.now) }
+{
+    if targets.len() <= FEW {
+        few_without_answer(alloc, answers, targets)
+    } else {
+        many_without_answer(alloc, answers, targets)
+    }
+}
+
+/// For a few targets: each is compared with those found before.
+fn few_without_answer<A: Answers>(
+    alloc: Global,
+    answers: &A,
+    targets: &[Path],
+) -> Result<Vec<Path>, AllocError>
+    ensures { IfOk result (λ found. found.items ≡ unanswered (A.ask answers.now) [] targets.now) }
+{
+    let mut found: Vec<Path> = Vec::new(alloc);
+    for path in targets {
+        if answers.answer(path).is_none() && !found.contains(path) {
+            found.push(path.clone()?)?;
+        }
+    }
+    Ok(found)
+}
+
+/// For any number of targets.
+fn many_without_answer<A: Answers>(
+    alloc: Global,
+    answers: &A,
+    targets: &[Path],
+) -> Result<Vec<Path>, AllocError>
+    ensures { IfOk result (λ found. found.items ≡ unanswered (A.ask answers.now) [] targets.now) }
+{
+    let mut found = IndexSet::new(alloc);
+    for path in targets {
+        if answers.answer(path).is_none() {
+            found.insert(path.clone()?)?;
+        }
+    }
+    found.as_slice().to_vec(alloc)
+}
