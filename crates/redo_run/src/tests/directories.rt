@@ -57,23 +57,19 @@ fn remove(rt: &HostRuntime, dir: &PathBuf) -> io::Result<()> {
     fs::remove_dir_all(rt, dir.as_path())
 }
 
-/// What a run for `hello` over a directory answers, and the report.
-fn run<R: Threads + Wait + Sync + Files>(
+/// Whether a run for `hello` over a directory answers this, with this report.
+fn gives<R: Threads + Wait + Sync + Files>(
     rt: &R,
     alloc: Global,
-    dir: &str,
-) -> Result<(Outcome, Vec<u8>), Fail> {
+    dir: &PathBuf,
+    outcome: Outcome,
+    report: &[u8],
+) -> Result<bool, Fail> {
     let options = options(alloc, &[b"hello"], 2, 9, 9)?;
     let mut writer = Plain::new(Vec::new(alloc));
-    let outcome = run_dir(rt, alloc, dir, &mut writer, &options, &NoGate);
+    let found = run_dir(rt, alloc, dir.as_str(), &mut writer, &options, &NoGate);
     let Plain { stream, broken: _ } = writer;
-    Ok((outcome, stream))
-}
-
-/// Whether a run for `hello` answers this, with this report.
-fn gives(rt: &HostRuntime, dir: &PathBuf, outcome: Outcome, report: &[u8]) -> Result<bool, Fail> {
-    let (found, written) = run(rt, rt.alloc(), dir.as_str())?;
-    Ok(found == outcome && written.as_slice() == report)
+    Ok(found == outcome && stream.as_slice() == report)
 }
 
 /// Whether a search for `hello` answers this, with this list.
@@ -91,9 +87,15 @@ fn what_is_built_is_stored_and_then_a_source(rt: HostRuntime) -> Result<(), Fail
     let dir = new_directory(&rt)?;
     // A name that is passed over.
     write_file(&rt, &dir, "a\tb", "1\n")?;
-    let built = gives(&rt, &dir, Ok((Exit::Good, 1)), BUILT)?;
+    let built = gives(&rt, rt.alloc(), &dir, Ok((Exit::Good, 1)), BUILT)?;
     let stored = holds(&rt, &dir, "hello", b"hi\n")?;
-    let source = gives(&rt, &dir, Ok((Exit::Good, 1)), b"source hello\nend\n")?;
+    let source = gives(
+        &rt,
+        rt.alloc(),
+        &dir,
+        Ok((Exit::Good, 1)),
+        b"source hello\nend\n",
+    )?;
     remove(&rt, &dir)?;
     assert!(rt; built, "the first run");
     assert!(rt; stored, "the file");
@@ -105,7 +107,10 @@ fn what_is_built_is_stored_and_then_a_source(rt: HostRuntime) -> Result<(), Fail
 fn a_directory_that_is_not_there_gives_no_report(rt: HostRuntime) -> Result<(), Fail> {
     let dir = new_directory(&rt)?;
     remove(&rt, &dir)?;
-    assert!(rt; gives(&rt, &dir, Err(RunDirFault::Load), b"")?, "a run");
+    assert!(rt;
+        gives(&rt, rt.alloc(), &dir, Err(RunDirFault::Load), b"")?,
+        "a run"
+    );
     assert!(rt; lists(&rt, &dir, Err(RunDirFault::Load), b"")?, "a list");
     Ok(())
 }
