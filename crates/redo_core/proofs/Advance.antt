@@ -18,12 +18,15 @@ use Rattle.redo_core.specs.Outcomes.{outcome_at}
 use Rattle.redo_core.specs.Schedule.{only}
 use Rattle.redo_core.specs.Build.{rules_of}
 use Rattle.redo_core.specs.Turns.{IsFact, IsPiece, progress_at_turn}
-use Rattle.redo_core.specs.Works.{IsWorkWith, IsJobOf, IsStopped, AreKnownBelow, job_deps, known_in, told_by, told_in}
+use Rattle.redo_core.specs.Works.{IsWorkWith, IsJobOf, IsStopped, AreKnownBelow, job_deps, told_in}
 use Rattle.redo_core.specs.Lacking.{lacking_under}
 use Rattle.redo_core.specs.Ends.{IsEndAt, end_progress}
-use Rattle.redo_core.specs.Views.{FactView, WorkView}
+use Rattle.redo_core.specs.Views.{FactView}
 use Rattle.redo_core.specs.declared.work.End.{End}
 use Rattle.redo_core.specs.declared.work.End.TheVariants.{Ended, Stopped}
+use Rattle.std.specs.Prelude.{Box}
+use Rattle.std.proofs.Common.{Global}
+use Rattle.redo_core.specs.declared.work.Begun.{Begun}
 use Rattle.redo_core.specs.declared.facts.Facts.{Facts}
 use Rattle.redo_core.proofs.Depth.{cases_Option}
 use Rattle.redo_core.proofs.Handover.{piece-fact}
@@ -136,12 +139,16 @@ module _ (tree : Tree) (limits : ℕ × ℕ) (job : JobView) (facts : Facts) (wo
         }
 
     -- it is the end of a piece that stopped
-    pub stopped-end : IsEndAt tree limits job.target job.turn (Stopped later facts)
+    pub stopped-end : (begun : Box Begun Global) → begun.value ≡ record { job = later; facts = facts } → IsEndAt tree limits job.target job.turn (Stopped begun)
     unfolding advanced-piece
-    stopped-end = record { is_piece = advanced-piece (record { outcome = None; deps = record_so_far later }) asks.progress; is_end = advanced-stopped }
+    stopped-end begun is =
+        record {
+          is_piece = rw is (advanced-piece (record { outcome = None; deps = record_so_far later }) asks.progress);
+          is_end = rw is advanced-stopped;
+        }
 
-    pub asks-progress : end_progress (Stopped later facts) ≡ (rules_of tree limits).progress job.target (told_in facts)
-    asks-progress = work-progress (record { outcome = None; deps = record_so_far later }) asks.progress
+    pub asks-progress : (begun : Box Begun Global) → begun.value ≡ record { job = later; facts = facts } → end_progress (Stopped begun) ≡ (rules_of tree limits).progress job.target (told_in facts)
+    asks-progress begun is = rw is (work-progress (record { outcome = None; deps = record_so_far later }) asks.progress)
 
   -- a fact of what it came to is the end of a piece that ended
   pub ended-end : (done : Done) → EndsAs (told_in facts) job done → (fact : FactView) → fact.tree ≡ tree → fact.limits ≡ limits → fact.target ≡ job.target →

@@ -1,9 +1,8 @@
 -- What is begun is a work, or a fact.
-use Rattle.std.proofs.Common.{◌≡◌, ℕ, zero, ◌<◌, List, [], ◌∷◌, Option, Some, None, true, false, refl, sym, ap, subst, ◌∙◌, inl, inr, arith, lit<}
+use Rattle.std.proofs.Common.{◌≡◌, ℕ, List, [], Option, Some, None, false, refl, sym, ap, subst, ◌∙◌, arith}
 use Rattle.std.specs.Prelude.{unwrap_or, option_copied, IfOk, Result, Ok, Err}
 use Rattle.redo_core.specs.Scripts.{IsBegunJob}
 use Rattle.std.proofs.Common.{Bor}
-use Rattle.std.specs.Arc.{arc_value}
 use Rattle.redo_tree.specs.Tree.{Tree, file_at}
 use Rattle.redo_script.specs.Texts.{script_in}
 use Rattle.redo_step.specs.declared.deps.Dep.{Dep}
@@ -17,14 +16,12 @@ use Rattle.redo_which.specs.declared.Rule.{Rule as FoundRule}
 use Rattle.redo_which.specs.Rule.{Rule, found_of}
 use Rattle.redo_which.specs.Views.{arguments_view}
 use Rattle.redo_core.specs.Paths.{IsAmong}
-use Rattle.redo_core.specs.Rules.{Ask, Rules, AreLawful, operands}
+use Rattle.redo_core.specs.Rules.{Rules, AreLawful}
 use Rattle.redo_core.specs.Outcomes.{outcome_at}
-use Rattle.redo_core.specs.Build.{rules_of}
-use Rattle.redo_core.specs.Schedule.{nothing_known, only}
-use Rattle.redo_core.specs.Turns.{IsFact, IsWork}
-use Rattle.redo_core.specs.Works.{job_deps, told_in, known_in, told_by, IsWorkWith}
+use Rattle.redo_core.specs.Schedule.{nothing_known}
+use Rattle.redo_core.specs.Turns.{IsFact}
+use Rattle.redo_core.specs.Works.{known_in, told_by, IsWorkWith}
 use Rattle.redo_core.specs.declared.facts.Facts.{Facts}
-use Rattle.redo_core.proofs.Lawful.{rules_lawful}
 
 -- without a rule no answer makes a difference
 pub unruled-fact : (r : Rules) (lawful : AreLawful r) (p : List ℕ) (o : Outcome) (deps : List Dep) → r.has_rule p ≡ false →
@@ -39,7 +36,7 @@ unruled-fact r lawful p o deps none is = record {
 
 -- a job that was just begun is a work with no facts
 pub begun-work : (tree : Tree) (limits : ℕ × ℕ) (target : List ℕ) (rule : FoundRule) (parsed : Parsed) (facts : Facts) →
-    found_of tree target ≡ Rule rule.do_file rule.missing.items (arguments_view rule.args) →
+    found_of tree target ≡ Rule rule.do_file rule.missing (arguments_view rule.args) →
     parsed_of parsed ≡ script_in (unwrap_or (file_at tree rule.do_file) []) →
     ((ask : Answers) → IsFit (begun tree target rule parsed limits) ask) → known_in facts ≡ [] → facts.gained ≡ 0 →
     IsWorkWith tree limits (begun tree target rule parsed limits) facts
@@ -60,7 +57,7 @@ begun-work tree limits target rule parsed facts found script fits none gained = 
 
 -- a job that was begun on a shared tree is one of the tree
 pub begun-is : {E : Type 0} (tree given : Tree) (limits : ℕ × ℕ) (target : List ℕ) (rule : FoundRule) (parsed : Parsed) (result : Result JobView E) → given ≡ tree →
-    found_of tree target ≡ Rule rule.do_file rule.missing.items (arguments_view rule.args) →
+    found_of tree target ≡ Rule rule.do_file rule.missing (arguments_view rule.args) →
     parsed_of parsed ≡ script_in (unwrap_or (file_at tree rule.do_file) []) →
     IfOk result (λ job. job ≡ begun given target rule parsed limits) → IfOk result (λ job. (ask : Answers) → IsFit job ask) →
     IfOk result (IsBegunJob tree limits target)

@@ -1,11 +1,11 @@
 -- What a board's events do to the number of jobs that are out, and to that of those that may still be taken.
-use Rattle.std.proofs.Common.{◌≡◌, ℕ, ◌+◌, ◌*◌, ◌<◌, ◌≤◌, false, List, length, is_some, sym, ap, subst, ◌∙◌}
+use Rattle.std.proofs.Common.{◌≡◌, ℕ, ◌+◌, ◌<◌, ◌≤◌, false, List, length, is_some, sym, subst}
 use Rattle.std.specs.Arc.{arc_value}
 use Rattle.redo_core.specs.Schedule.{State, happens, IsOutAt}
 use Rattle.redo_core.specs.Schedule.Event.{Take, Hand_in}
 use Rattle.redo_core.specs.Slots.{rules_inside, state_of, IsKept}
 use Rattle.redo_core.specs.TakesLeft.{takes_left}
-use Rattle.redo_core.specs.Views.{after, jobs_out, rules_on, BoardView, WorkView, IsWorkTaken}
+use Rattle.redo_core.specs.Views.{after, jobs_out, BoardView, WorkView, IsWorkTaken}
 use Rattle.redo_core.specs.declared.board.Board.TheInside.{Inside}
 use Rattle.redo_core.proofs.Counts.{take-out, take-at, take-left, hand_in-out, hand_in-left}
 use Rattle.redo_core.proofs.Lawful.{rules_lawful}

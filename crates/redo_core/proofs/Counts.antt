@@ -1,10 +1,10 @@
 -- How many jobs are out, and how many may still be taken, after each event.
 use Rattle.std.proofs.Common.{◌≡◌, ℕ, suc, ◌+◌, ◌*◌, ◌-◌, ◌<◌, ◌≤◌, true, false, cond, inl, inr, List, [], ◌∷◌, ◌++◌, length, length-append, filter, Option, Some, None, is_some, slice_get, option_and_then, refl, sym, ap, subst, ◌∙◌, arith, bytes_eq}
-use Rattle.std.proofs.lemmas.Bool.{cases_Bool, both_ways}
+use Rattle.std.proofs.lemmas.Bool.{cases_Bool}
 use Rattle.redo_core.specs.Paths.{is_among}
 use Rattle.redo_core.specs.Rules.{Rules, AreLawful, operands}
 use Rattle.redo_core.specs.Outcomes.{requested_targets}
-use Rattle.redo_core.specs.Schedule.{Entry, State, paths_of, entry_of, new_entry, entered, put, sent_out, taken, advanced, moved_on, handed_in, happens, out_count, opening, IsOpen, IsOutAt}
+use Rattle.redo_core.specs.Schedule.{Entry, State, paths_of, entry_of, new_entry, entered, put, sent_out, taken, advanced, moved_on, handed_in, happens, out_count, opening, IsOutAt}
 use Rattle.redo_core.specs.Schedule.Event.{Take, Hand_in}
 use Rattle.redo_core.specs.TakesLeft.{turns_left, turns_of, takes_left}
 use Rattle.redo_core.proofs.Entries.{paths_of-put, entry_of-path, entry_of-among, entry_of-put_same, entry_of-entered_old}

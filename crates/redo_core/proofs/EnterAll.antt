@@ -1,5 +1,5 @@
 -- Entering paths one after the other.
-use Rattle.std.proofs.Common.{◌≡◌, ℕ, zero, suc, ◌+◌, ◌<◌, ◌≤◌, Bool, true, false, cond, not, List, [], ◌∷◌, ◌++◌, Option, Some, None, inl, inr, length, length-append, take, drop, take-append-drop, slice_get, filter, filter_map, refl, sym, ap, subst, ◌∙◌, arith, append-nil}
+use Rattle.std.proofs.Common.{◌≡◌, ℕ, zero, suc, ◌+◌, ◌<◌, ◌≤◌, Bool, cond, not, List, [], ◌∷◌, ◌++◌, Some, inl, inr, length, length-append, take, drop, take-append-drop, slice_get, filter, filter_map, refl, sym, ap, subst, ◌∙◌, arith}
 use Rattle.std.proofs.lemmas.Bool.{cases_Bool}
 use Rattle.std.proofs.lemmas.List.Elements.{filter_map-append, filter-append}
 use Rattle.redo_tree.specs.Tree.{Tree}
@@ -8,7 +8,7 @@ use Rattle.redo_core.specs.Paths.{IsAmong, is_among}
 use Rattle.redo_core.specs.Rules.{Rules, operands, changed}
 use Rattle.redo_core.specs.Build.{rules_of}
 use Rattle.redo_core.specs.Schedule.{Entry, paths_of, entered, new_entry}
-use Rattle.redo_core.specs.Slots.{table_entries, AllWatched, IsTableOf, AreEnteredInto}
+use Rattle.redo_core.specs.Slots.{table_entries, IsTableOf, AreEnteredInto}
 use Rattle.redo_core.specs.declared.table.Table.{Table}
 use Rattle.redo_core.specs.Works.{IsOperand}
 use Rattle.redo_core.proofs.PathLists.{is_among-from}

@@ -1,17 +1,18 @@
 -- Entering a path that is new.
-use Rattle.std.proofs.Common.{map, slice_get, ◌≡◌, ℕ, zero, suc, ◌+◌, ◌<◌, ◌≤◌, Bool, true, false, cond, ◌⊎◌, inl, inr, List, [], ◌∷◌, ◌++◌, length, length-append, append-nil, filter, Option, Some, None, refl, sym, ap, subst, ◌∙◌, arith}
+use Rattle.std.proofs.Common.{slice_get, ◌≡◌, ℕ, zero, suc, ◌+◌, ◌<◌, ◌≤◌, true, false, cond, ◌⊎◌, inl, inr, List, [], ◌∷◌, ◌++◌, length, length-append, append-nil, filter, Some, None, refl, sym, ap, subst, ◌∙◌, arith}
 use Rattle.std.proofs.lemmas.Bool.{cases_Bool, both_ways}
 use Rattle.redo_tree.specs.Tree.{Tree}
 use Rattle.redo_core.specs.Paths.{IsAmong, is_among}
-use Rattle.redo_core.specs.Rules.{Ask, Rules, AreLawful, Extends, operands}
+use Rattle.redo_core.specs.Rules.{Ask, Rules, Extends, operands}
 use Rattle.redo_core.specs.Outcomes.{outcome_at}
 use Rattle.redo_core.specs.Build.{rules_of}
 use Rattle.redo_core.specs.Schedule.{Entry, outcomes_of, paths_of, entered, new_entry, nothing_known}
-use Rattle.redo_core.specs.Slots.{table_entries, entries_from, slot_entries, slot_entry, stage_deps, stage_outcome, path_at, is_stage_out, is_stage_ready, is_stage_waiting, Fits, AllFit, AllWatched, AllWatchersBelow, IsWatched, IsPlace, IsQueue, IsTable, IsTableOf, IsBegun, IsPushed, IsEnteredInto, IsFull}
+use Rattle.redo_core.specs.Slots.{table_entries, entries_from, slot_entries, slot_entry, stage_deps, stage_outcome, path_at, is_stage_out, is_stage_ready, is_stage_waiting, Fits, AllFit, AllWatched, AllWatchersBelow, IsWatched, IsPlace, IsQueue, IsTable, IsTableOf, IsNumbered, AllNumbered, IsBegun, IsPushed, IsEnteredInto, IsFull}
 use Rattle.redo_core.specs.declared.table.Slot.{Slot}
 use Rattle.redo_core.specs.declared.table.Table.{Table}
 use Rattle.redo_core.specs.declared.table.Stage.{Stage}
 use Rattle.redo_core.specs.declared.table.Stage.TheVariants.{Waiting, Ready, Out, Decided}
+use Rattle.redo_core.proofs.Numbers.{numbered-kept, numbered-still}
 use Rattle.redo_core.proofs.PathLists.{is_among-true, is_among-from}
 use Rattle.redo_core.proofs.Entries.{outcomes_of-entry, outcomes_of-at, entry_of-entered_old}
 use Rattle.redo_core.proofs.SlotLemmas.{paths_of-slots, slice_get-below_some, slice_get-from}
@@ -195,6 +196,14 @@ module _ (tree : Tree) (limits : ℕ × ℕ) (t u : Table) (freed freed' : List 
             subst P (sym path) (Fits-more r (rules_lawful tree limits) (outcomes_of es) b tree limits (path_at t.targets.keys k) x.turn x.stage more (table.fits k x old))
       ]
 
+  numbered-push : AllNumbered (rules_of tree limits) (t.targets.keys ++ p ∷ []) (t.slots.items ++ w.new ∷ [])
+  numbered-push k x g = elim (get-push_cases t.slots.items w.new x k g) [
+    | inl here ↦
+        let P : Slot → Type 0 = λ y. IsNumbered r (t.targets.keys ++ p ∷ []) y.stage in
+        subst P here.1 (numbered-still r (t.targets.keys ++ p ∷ []) w.new.stage (begun-inside tree limits p w.new.stage w.begun).1)
+    | inr old ↦ numbered-kept t.targets.keys (t.targets.keys ++ p ∷ []) (λ j q h. get-push_old t.targets.keys p q j h) r x.stage (table.numbered k x old)
+  ]
+
   below-push : AllWatchersBelow (t.slots.items ++ w.new ∷ [])
   below-push i k x g m =
       let len = length-append t.slots.items (w.new ∷ []) in
@@ -216,6 +225,7 @@ module _ (tree : Tree) (limits : ℕ × ℕ) (t u : Table) (freed freed' : List 
         few = table.few;
         out_counted = table.out_counted ∙ sym (count-push t.slots.items w.new (begun-inside tree limits p w.new.stage w.begun).0);
         fits = fits-push;
+        numbered = numbered-push;
         queue = queue-push t.slots.items t.ready.items freed w.new table.queue;
         watchers_below = below-push;
       }
@@ -252,6 +262,12 @@ module _ (tree : Tree) (limits : ℕ × ℕ) (t u : Table) (freed freed' : List 
     slots_kept = λ k x h. rw w.slots (get-push_old t.slots.items w.new x k h);
     watched = λ pending all. rw (w.keys, w.slots) (watched-push pending all);
   }
+
+  -- its number is the next
+  pub number-new : (n : ℕ) → n ≡ length t.slots.items → slice_get u.targets.keys n ≡ Some p
+  number-new n end =
+      let P : ℕ → Type 0 = λ k. slice_get (t.targets.keys ++ p ∷ []) k ≡ Some p in
+      rw w.keys (subst P (sym (end ∙ table.one_each)) (get-push_end t.targets.keys p))
 
 -- a path that is there already
 pub entered-old : (tree : Tree) (limits : ℕ × ℕ) (t : Table) (freed : List ℕ) (p : List ℕ) → IsTableOf tree limits t freed → IsAmong t.targets.keys p →

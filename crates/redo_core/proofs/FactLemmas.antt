@@ -1,12 +1,14 @@
 -- What facts tell.
-use Rattle.std.proofs.Common.{◌≡◌, ℕ, List, [], ◌∷◌, Option, Some, None, true, false, inl, inr, map, cond, refl, sym, ap, ◌∙◌, bytes_eq}
+use Rattle.std.proofs.Common.{◌≡◌, ℕ, List, [], ◌∷◌, ◌++◌, Bool, Option, Some, None, inl, inr, map, cond, refl, sym, ap, ◌∙◌, bytes_eq, zero, suc, ◌+◌, ◌<◌, ◌≤◌, length, drop, slice_index_or, arith}
 use Rattle.std.specs.Arc.{arc_value}
 use Rattle.std.specs.Map.{lookup}
 use Rattle.std.specs.Prelude.{option_map}
 use Rattle.std.specs.declared.sync.Arc.{Arc}
 use Rattle.std.proofs.Common.{Global}
-use Rattle.std.proofs.lemmas.Bool.{cases_Bool}
+use Rattle.std.proofs.lemmas.Bool.{cases_Bool, both_ways}
+use Rattle.std.proofs.lemmas.Slice.Eq.{bytes_eq-Decides}
 use Rattle.redo_step.specs.declared.outcome.Outcome.{Outcome}
+use Rattle.redo_core.specs.Works.{few_known}
 use Rattle.redo_core.specs.Views.{FactView}
 
 -- looking up an outcome is looking up its fact
@@ -26,3 +28,52 @@ insert-told old new key fact updates q =
       | inl t ↦ rw t (rw t at now)
       | inr f ↦ rw f (let there = rw f at now in there ∙ sym (lookup-known old q))
     ]
+
+-- the first of two answers
+abbrev pub first_of : Option Outcome → Option Outcome → Option Outcome
+first_of None b = b
+first_of (Some o) b = Some o
+
+pub lookup-append : (f : List ℕ → Bool) (ks ms : List (List ℕ × Outcome)) → lookup f (ks ++ ms) ≡ first_of (lookup f ks) (lookup f ms)
+lookup-append f [] ms = refl
+lookup-append f (k ∷ ks) ms = elim (cases_Bool (f k.0)) [ inl t ↦ rw t refl | inr n ↦ rw n (lookup-append f ks ms) ]
+
+-- a fact that was put behind the first few
+pub lookup-push : (f : List ℕ → Bool) (ks ms : List (List ℕ × Outcome)) (e : List ℕ × Outcome) →
+    lookup f ((ks ++ e ∷ []) ++ ms) ≡ first_of (lookup f ks) (cond (f e.0) (Some e.1) (lookup f ms))
+lookup-push f [] ms e = refl
+lookup-push f (k ∷ ks) ms e = elim (cases_Bool (f k.0)) [ inl t ↦ rw t refl | inr n ↦ rw n (lookup-push f ks ms e) ]
+
+pub map-push : (fs : List (Arc FactView Global)) (fact : Arc FactView Global) → few_known (fs ++ fact ∷ []) ≡ few_known fs ++ ((arc_value {X = FactView} fact).target, (arc_value {X = FactView} fact).outcome) ∷ []
+map-push [] fact = refl
+map-push (f ∷ fs) fact = ap (λ es. ((arc_value {X = FactView} f).target, (arc_value {X = FactView} f).outcome) ∷ es) (map-push fs fact)
+
+pub either-way : (p q : List ℕ) → bytes_eq q p ≡ bytes_eq p q
+either-way p q = elim (cases_Bool (bytes_eq p q)) [
+  | inl t ↦ let is = (bytes_eq-Decides p q).0 t in (bytes_eq-Decides q p).1 (sym is) ∙ sym t
+  | inr f ↦ elim (cases_Bool (bytes_eq q p)) [
+    | inl t ↦ let is = (bytes_eq-Decides q p).0 t in absurd (both_ways _ f ((bytes_eq-Decides p q).1 (sym is)))
+    | inr g ↦ g ∙ sym f
+  ]
+]
+
+drop-item : {X : Type 0} (xs : List X) (i : ℕ) (d : X) → i < length xs → drop i xs ≡ slice_index_or xs i d ∷ drop (i + 1) xs
+drop-item [] i d h = absurd (omega arith)
+drop-item (x ∷ xs) zero d h = refl
+drop-item (x ∷ xs) (suc i) d h = let e : suc i + 1 ≡ suc (i + 1) = omega arith in rw e (drop-item xs i d (omega arith))
+
+-- of the facts that are left, the first answers for its target
+pub left-answers : (fs : List (Arc FactView Global)) (i : ℕ) (x : Arc FactView Global) (ms : List (List ℕ × Outcome)) (p : List ℕ) → i < length fs → x ≡ slice_index_or fs i x →
+    lookup (bytes_eq p) (few_known (drop i fs) ++ ms) ≡
+    cond (bytes_eq (arc_value {X = FactView} x).target p) (Some (arc_value {X = FactView} x).outcome) (lookup (bytes_eq p) (few_known (drop (i + 1) fs) ++ ms))
+left-answers fs i x ms p below is =
+    let target = (arc_value {X = FactView} x).target in
+    let rest = lookup (bytes_eq p) (few_known (drop (i + 1) fs) ++ ms) in
+    ap (λ xs. lookup (bytes_eq p) (few_known xs ++ ms)) (drop-item fs i x below ∙ ap (λ y. y ∷ drop (i + 1) fs) (sym is)) ∙
+    ap (λ b. cond b (Some (arc_value {X = FactView} x).outcome) rest) (either-way target p)
+
+pub none-left : (fs : List (Arc FactView Global)) (i : ℕ) → length fs ≤ i → drop i fs ≡ []
+none-left [] zero h = refl
+none-left [] (suc i) h = refl
+none-left (f ∷ fs) zero h = absurd (omega arith)
+none-left (f ∷ fs) (suc i) h = none-left fs i (omega arith)

@@ -1,33 +1,39 @@
 -- A parked job with all its answers takes over their facts and is made a work.
-use Rattle.std.proofs.Common.{slice_get, slice_set, ◌≡◌, ℕ, zero, suc, ◌<◌, ◌≤◌, Bool, true, false, ◌⊎◌, inl, inr, List, [], ◌∷◌, length, length-set, Option, Some, None, refl, sym, ap, subst, ◌∙◌, arith, bytes_eq}
+use Rattle.std.proofs.Common.{slice_get, slice_set, ◌≡◌, ℕ, zero, suc, true, false, inl, inr, List, [], ◌∷◌, Option, Some, None, refl, sym, ap, subst, ◌∙◌, arith, bytes_eq}
 use Rattle.std.proofs.lemmas.Bool.{cases_Bool, cases_lt, both_ways}
 use Rattle.std.proofs.lemmas.Slice.Eq.{bytes_eq-Decides}
 use Rattle.redo_tree.specs.Tree.{Tree}
-use Rattle.redo_step.specs.declared.deps.Dep.{Dep}
 use Rattle.redo_step.specs.declared.outcome.Outcome.{Outcome}
-use Rattle.redo_step.specs.JobView.{JobView, job_setting}
-use Rattle.redo_step.specs.Reach.{Keeps}
-use Rattle.redo_core.specs.Paths.{IsAmong, AreDistinct, is_among}
+use Rattle.redo_step.specs.JobView.{JobView}
+use Rattle.redo_core.specs.Paths.{IsAmong, is_among}
 use Rattle.redo_core.specs.Rules.{Ask, Rules, operands}
 use Rattle.redo_core.specs.Outcomes.{outcome_at}
 use Rattle.redo_core.specs.Build.{rules_of}
 use Rattle.redo_core.specs.Schedule.{Entry, outcome_of, outcomes_of, entry_of, only}
-use Rattle.redo_core.specs.Works.{job_deps, told_in, IsOperand, IsWorkWith}
-use Rattle.redo_core.specs.Slots.{table_entries, slot_entries, slot_entry, stage_outcome, is_stage_decided, path_at, IsDecidedSlot, IsDecidedWith, IsFed, IsFedAs, Gains}
+use Rattle.redo_core.specs.Works.{job_deps, told_in, IsWorkWith}
+use Rattle.redo_core.specs.Slots.{path_at, table_entries, slot_entries, slot_entry, stage_outcome, is_stage_decided, Fits, IsDecidedSlot, IsDecidedNumber, IsFactAt, waited_by, IsFed, IsFedAs, Gains}
 use Rattle.redo_core.specs.declared.facts.Facts.{Facts}
 use Rattle.redo_core.specs.declared.table.Parked.{Parked}
 use Rattle.redo_core.specs.declared.table.Slot.{Slot}
 use Rattle.redo_core.specs.declared.table.Stage.{Stage}
 use Rattle.redo_core.specs.declared.table.Table.{Table}
 use Rattle.redo_core.specs.declared.table.Stage.TheVariants.{Waiting, Ready, Out, Decided}
-use Rattle.redo_core.proofs.PathLists.{is_among-true, is_among-from}
+use Rattle.redo_core.proofs.PathLists.{is_among-true}
 use Rattle.redo_core.proofs.Depth.{cases_Option, operand-target}
 use Rattle.redo_core.proofs.Lawful.{rules_lawful}
 use Rattle.redo_core.proofs.Jobs.{asked_of_job, asked_by_job}
 use Rattle.redo_core.proofs.TurnLemmas.{only-among}
 use Rattle.redo_core.proofs.SlotLemmas.{entry_of-slots, slice_get-below_some}
 use Rattle.redo_core.proofs.TableLemmas.{get-set_cases, get-set_other}
-use Rattle.redo_core.proofs.TableSteps.{operand-entry}
+use Rattle.redo_core.proofs.TableSteps.{operand-entry, waited-declared, waited-place}
+use Rattle.redo_core.proofs.GainSteps.{decided-fact}
+use Rattle.redo_core.proofs.FreedLemmas.{distinct-place}
+use Rattle.redo_core.proofs.Numbers.{numbers-number, numbers-path}
+use Rattle.redo_core.proofs.Queues.{slice_get-among}
+use Rattle.redo_core.specs.Views.{FactView}
+use Rattle.std.specs.Arc.{arc_value}
+use Rattle.std.specs.declared.sync.Arc.{Arc}
+use Rattle.std.proofs.Common.{Global}
 
 -- the slot of an entry
 pub slot-of-path : (r : Rules) (a : Ask) (ps : List (List ℕ)) (slots : List Slot) (q : List ℕ) (e : Entry) → entry_of (slot_entries r a ps slots) q ≡ Some e →
@@ -88,90 +94,114 @@ module _ (tree : Tree) (limits : ℕ × ℕ) (t : Table) (at : ℕ) (slot : Slot
     abbrev a : Ask
     a = outcomes_of (table_entries (rules_of tree limits) limits.0 t)
 
-    -- a decided slot is another than that of the job
-    decided-still : (q : List ℕ) → IsDecidedSlot t q → IsDecidedSlot u q
-    decided-still q d =
-        let other : d.at ≡ at → ⊥ = λ e.
-        (let P : ℕ → Type 0 = λ j. slice_get t.slots.items j ≡ Some d.slot in
-        let both : Some d.slot ≡ Some slot = sym (subst P e d.there) ∙ fed.there in
-        let same : d.slot ≡ slot = cc in
-        let no : is_stage_decided d.slot.stage ≡ false = ap (λ (y : Slot). is_stage_decided y.stage) same ∙ ap is_stage_decided fed.was in
-        both_ways _ no d.decided) in
-        record {
-          at = d.at;
-          slot = d.slot;
-          path = rw keys d.path;
-          there = rw slots (get-set_other t.slots.items at d.at gone other ∙ d.there);
-          decided = d.decided;
-        }
+    -- a decided number is another than that of the job
+    number-still : (n : ℕ) → IsDecidedNumber t n → IsDecidedNumber u n
+    number-still n d =
+        let other : n ≡ at → ⊥ = λ e.
+        (let P : ℕ → Type 0 = λ j. slice_get t.slots.items j ≡ Some d.0 in
+        let both : Some d.0 ≡ Some slot = sym (subst P e d.1) ∙ fed.there in
+        let same : d.0 ≡ slot = cc in
+        let no : is_stage_decided d.0.stage ≡ false = ap (λ (y : Slot). is_stage_decided y.stage) same ∙ ap is_stage_decided fed.was in
+        both_ways _ no d.2) in
+        (d.0, rw slots (get-set_other t.slots.items at n gone other ∙ d.1), d.2)
 
-    pub gain-decided : (k : ℕ) (d : Dep) → parked.facts.gained ≤ k → k < length parked.job.state.entries → slice_get parked.job.state.entries k ≡ Some d →
-        IsOperand (rules_of tree limits) d d.path → IsDecidedSlot u d.path
-    gain-decided k d from below get is = decided-still d.path (elim (cases_lt k parked.held) [
-      | inl before ↦ elim (cases_Option (outcomes_of (table_entries (rules_of tree limits) limits.0 t) d.path)) [
-        | inl none ↦ absurd (fed.waits.answered k d d.path before get is none)
-        | inr some ↦ known-decided r limits.0 t d.path some.0 some.1
-      ]
-      | inr after' ↦ fed.rest k d after' below get is
+    -- a path that is known is decided at its number
+    known-number : (n : ℕ) (q : List ℕ) → slice_get t.targets.keys n ≡ Some q → IsDecidedSlot t q → IsDecidedNumber t n
+    known-number n q path d =
+        let same : d.at ≡ n = distinct-place t.targets.keys d.at n q fed.distinct d.path path in
+        let P : ℕ → Type 0 = λ j. slice_get t.slots.items j ≡ Some d.slot in
+        (d.slot, subst P same d.there, d.decided)
+
+    pub gain-decided : (k n : ℕ) → slice_get parked.operands.items k ≡ Some n → IsDecidedNumber u n
+    gain-decided k n get = number-still n (elim (cases_lt k parked.held) [
+      | inl before ↦
+          let path = numbers-number t.targets.keys parked.operands.items (waited_by r parked.begun.value) k n fed.numbered get in
+          elim (cases_Option (outcomes_of (table_entries (rules_of tree limits) limits.0 t) path.0)) [
+            | inl none ↦ absurd (fed.waits.answered k path.0 before path.1 none)
+            | inr some ↦ known-number n path.0 path.2 (known-decided r limits.0 t path.0 some.0 some.1)
+          ]
+      | inr after' ↦ fed.rest k n after' (slice_get-below_some parked.operands.items k n get) get
     ])
 
-    -- what is decided there is known
-    decided-told : (deps : List Dep) (q : List ℕ) (o : Outcome) → IsDecidedWith (rules_of tree limits) u deps q o → outcomes_of (table_entries (rules_of tree limits) limits.0 t) q ≡ Some o
-    decided-told deps q o d =
-        let key : slice_get t.targets.keys d.at ≡ Some q = rw (← keys) d.path in
-        let get : slice_get (slice_set t.slots.items at gone) d.at ≡ Some d.slot = sym (ap (λ xs. slice_get xs d.at) slots) ∙ d.there in
-        elim (get-set_cases t.slots.items at d.at gone d.slot get) [
+    -- a fact there is that of the number's path, with an outcome that is known
+    fact-known : (n : ℕ) (q : List ℕ) (fact : Arc FactView Global) → slice_get t.targets.keys n ≡ Some q → IsFactAt u n fact →
+        ((arc_value fact).target ≡ q) × (outcomes_of (table_entries (rules_of tree limits) limits.0 t) q ≡ Some (arc_value fact).outcome)
+    fact-known n q fact path there =
+        let get : slice_get (slice_set t.slots.items at gone) n ≡ Some there.0 = sym (ap (λ xs. slice_get xs n) slots) ∙ there.1 in
+        elim (get-set_cases t.slots.items at n gone there.0 get) [
           | inl here ↦ absurd (
-              let none : stage_outcome d.slot.stage ≡ None = sym (ap (λ (y : Slot). stage_outcome y.stage) here.1) ∙ ap stage_outcome out in
-              let bad = sym none ∙ d.outcome in
+              let decided : gone.stage ≡ Decided fact = ap (λ (y : Slot). y.stage) here.1 ∙ there.2 in
+              let bad : Out ≡ Decided fact = sym out ∙ decided in
               cc)
-          | inr old ↦ ap outcome_of (entry_of-slots r (outcome_at r limits.0) t.targets.keys t.slots.items d.at q d.slot fed.distinct key old.1) ∙ d.outcome
+          | inr old ↦
+              let F : Stage → Type 0 = Fits r a tree limits (path_at t.targets.keys n) there.0.turn in
+              let fits : Fits r a tree limits (path_at t.targets.keys n) there.0.turn (Decided fact) = subst F there.2 (fed.fits n there.0 old.1) in
+              let is : path_at t.targets.keys n ≡ q = rw path refl in (
+                fits.2 ∙ is,
+                ap outcome_of (entry_of-slots r (outcome_at r limits.0) t.targets.keys t.slots.items n q there.0 fed.distinct path old.1) ∙ ap stage_outcome there.2,
+              )
         ]
 
-    module _ (facts : Facts) (g : Gains (rules_of tree limits) u parked.job parked.facts facts) where
+    module _ (facts : Facts) (g : Gains u parked.operands.items parked.begun.value.job parked.begun.value.facts facts) where
       abbrev job : JobView
-      job = parked.job
+      job = parked.begun.value.job
 
       -- what it holds is known, and asked for
-      told : (q : List ℕ) (o : Outcome) → told_in facts q ≡ Some o → IsAmong (operands (rules_of tree limits) (job_deps parked.job)) q × (outcomes_of (table_entries (rules_of tree limits) limits.0 t) q ≡ Some o)
-      told q o h = elim (g.origin q o h) [
+      told : (q : List ℕ) (o : Outcome) → told_in facts q ≡ Some o → IsAmong (operands (rules_of tree limits) (job_deps parked.begun.value.job)) q × (outcomes_of (table_entries (rules_of tree limits) limits.0 t) q ≡ Some o)
+      told q o h = elim (g.below.origin q o h) [
         | inl old ↦ fed.waits.told q o old
-        | inr new ↦ (
-          asked_of_job tree limits parked.job fed.waits.is_job (omega (arith, fed.waits.at_turn, fed.waits.stopped)) q new.asked,
-          decided-told parked.job.state.entries q o new,
-        )
+        | inr new ↦
+            let path = numbers-number t.targets.keys parked.operands.items (waited_by r parked.begun.value) new.k new.n fed.numbered new.number in
+            let known = fact-known new.n path.0 new.fact path.2 new.there in
+            let same : path.0 ≡ q = sym known.0 ∙ new.target in
+            let P : List ℕ → Type 0 = λ x. IsAmong (operands r (job_deps parked.begun.value.job)) x × (a x ≡ Some o) in
+            subst P same (
+              asked_of_job tree limits parked.begun.value.job fed.waits.is_job (omega (arith, fed.waits.at_turn, fed.waits.stopped)) path.0
+                  (waited-declared r parked.begun.value.job.state.entries parked.begun.value.facts.gained path.0 (slice_get-among (waited_by r parked.begun.value) new.k path.0 path.1)),
+              known.1 ∙ ap Some new.outcome,
+            )
       ]
 
       -- it holds all that is asked for
-      complete : (q : List ℕ) → IsAmong (operands (rules_of tree limits) (job_deps parked.job)) q → told_in facts q ≡ None → ⊥
+      complete : (q : List ℕ) → IsAmong (operands (rules_of tree limits) (job_deps parked.begun.value.job)) q → told_in facts q ≡ None → ⊥
       complete q m none =
-          let found = operand-entry r parked.job.state.entries q (asked_by_job tree limits parked.job fed.waits.is_job q m) in
-          elim (cases_lt found.0 parked.facts.gained) [
-            | inl before ↦ fed.waits.gained found.0 found.1 q before found.2 found.3 (g.kept q none)
-            | inr after' ↦ g.known found.0 found.1 q after' (slice_get-below_some parked.job.state.entries found.0 found.1 found.2) found.2 found.3 none
+          let entries = parked.begun.value.job.state.entries in
+          let found = operand-entry r entries q (asked_by_job tree limits parked.begun.value.job fed.waits.is_job q m) in
+          elim (cases_lt found.0 parked.begun.value.facts.gained) [
+            | inl before ↦ fed.waits.gained found.0 found.1 q before found.2 found.3 (g.below.kept q none)
+            | inr after' ↦
+                let place = waited-place r entries parked.begun.value.facts.gained found.0 found.1 q after' found.2 found.3 in
+                let number = numbers-path t.targets.keys parked.operands.items (waited_by r parked.begun.value) place.0 q fed.numbered place.1 in
+                let decided = gain-decided place.0 number.0 number.1 in
+                let fact = decided-fact decided.0.stage decided.2 in
+                let there : IsFactAt u number.0 fact.0 = (decided.0, decided.1, fact.1) in
+                let known = fact-known number.0 q fact.0 number.2 there in
+                let target : List ℕ = (arc_value {X = FactView} fact.0).target in
+                let lost : told_in facts target ≡ None = ap (told_in facts) known.0 ∙ none in
+                g.below.known place.0 number.0 fact.0 (slice_get-below_some parked.operands.items place.0 number.0 number.1) number.1 there lost
           ]
 
-      exact : (q : List ℕ) → told_in facts q ≡ only (operands (rules_of tree limits) (job_deps parked.job)) (outcome_at (rules_of tree limits) fed.is_work.depth) q
+      exact : (q : List ℕ) → told_in facts q ≡ only (operands (rules_of tree limits) (job_deps parked.begun.value.job)) (outcome_at (rules_of tree limits) fed.is_work.depth) q
       exact q = elim (cases_Option (told_in facts q)) [
-        | inl none ↦ elim (cases_Bool (is_among (operands r (job_deps parked.job)) q)) [
-          | inl t' ↦ absurd (complete q (is_among-true (operands r (job_deps parked.job)) q t') none)
+        | inl none ↦ elim (cases_Bool (is_among (operands r (job_deps parked.begun.value.job)) q)) [
+          | inl t' ↦ absurd (complete q (is_among-true (operands r (job_deps parked.begun.value.job)) q t') none)
           | inr f ↦ none ∙ sym (rw f refl)
         ]
         | inr some ↦
             let known = told q some.0 some.1 in
-            some.1 ∙ sym (fed.deep q some.0 (operand-target r (rules_lawful tree limits) (job_deps parked.job) q known.0) known.1) ∙
-            sym (only-among (operands r (job_deps parked.job)) (outcome_at r fed.is_work.depth) q known.0)
+            some.1 ∙ sym (fed.deep q some.0 (operand-target r (rules_lawful tree limits) (job_deps parked.begun.value.job) q known.0) known.1) ∙
+            sym (only-among (operands r (job_deps parked.begun.value.job)) (outcome_at r fed.is_work.depth) q known.0)
       ]
 
-      pub fed-work : IsWorkWith tree limits parked.job facts
+      pub fed-work : IsWorkWith tree limits parked.begun.value.job facts
       fed-work = record {
         is_job = fed.waits.is_job;
         is_work = fed.is_work;
         exact = exact;
-        declared = λ q m. asked_of_job tree limits parked.job fed.waits.is_job (omega (arith, fed.waits.at_turn, fed.waits.stopped)) q m;
+        declared = λ q m. asked_of_job tree limits parked.begun.value.job fed.waits.is_job (omega (arith, fed.waits.at_turn, fed.waits.stopped)) q m;
         goes_on = λ later keeps. fed.waits.goes_on later (record {
           same = λ p o none entered known. elim (cases_Option (told_in facts p)) [
-            | inl lost ↦ absurd (let was = g.kept p lost in let bad = sym was ∙ known in cc)
+            | inl lost ↦ absurd (let was = g.below.kept p lost in let bad = sym was ∙ known in cc)
             | inr some ↦
                 let one = (fed.waits.told p o known).1 in
                 let two = (told p some.0 some.1).1 in

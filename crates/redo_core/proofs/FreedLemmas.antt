@@ -1,5 +1,5 @@
 -- The numbers freed, in order, are those of the entries that an event releases.
-use Rattle.std.proofs.Common.{map, slice_get, ◌≡◌, ℕ, zero, suc, ◌+◌, ◌<◌, ◌≤◌, Bool, true, false, not, ◌&&◌, is_none, ◌⊎◌, inl, inr, List, [], ◌∷◌, length, filter, Option, Some, None, refl, sym, ap, subst, ◌∙◌, arith}
+use Rattle.std.proofs.Common.{map, slice_get, ◌≡◌, ℕ, zero, suc, ◌+◌, ◌<◌, true, false, is_none, ◌⊎◌, inl, inr, List, [], ◌∷◌, length, filter, Option, Some, None, refl, sym, ap, subst, ◌∙◌, arith}
 use Rattle.std.specs.List.{list_any}
 use Rattle.std.proofs.lemmas.Bool.{cases_Bool, both_ways, and_from, not_from_false}
 use Rattle.redo_tree.specs.Tree.{Tree}
@@ -7,8 +7,8 @@ use Rattle.redo_core.specs.Paths.{IsAmong, AreDistinct, is_among}
 use Rattle.redo_core.specs.Rules.{Ask, Rules, operands}
 use Rattle.redo_core.specs.Outcomes.{outcome_at}
 use Rattle.redo_core.specs.Build.{rules_of}
-use Rattle.redo_core.specs.Schedule.{Entry, State, outcome_of, outcomes_of, paths_of, entry_of, is_free, lacks_none}
-use Rattle.redo_core.specs.Slots.{table_entries, state_from, slot_entries, slot_entry, stage_deps, stage_outcome, path_at, is_stage_out, is_stage_ready, is_stage_waiting, AllWatched, AllAnswered, IsPlace, IsQueue, IsTable, IsTableOf}
+use Rattle.redo_core.specs.Schedule.{Entry, State, outcome_of, outcomes_of, paths_of, is_free, lacks_none}
+use Rattle.redo_core.specs.Slots.{state_from, slot_entries, slot_entry, stage_deps, stage_outcome, path_at, is_stage_out, is_stage_ready, is_stage_waiting, AllWatched, AllAnswered, IsPlace, IsTableOf}
 use Rattle.redo_core.specs.declared.table.Slot.{Slot}
 use Rattle.redo_core.specs.declared.table.Table.{Table}
 use Rattle.redo_core.specs.declared.table.Stage.{Stage}
@@ -17,8 +17,7 @@ use Rattle.redo_core.proofs.PathLists.{is_among-true, is_among-from, IsAmong-sam
 use Rattle.redo_core.proofs.Queues.{slice_get-among}
 use Rattle.redo_core.proofs.Soundness.{is_free-parts, lacks_none-true}
 use Rattle.redo_core.proofs.SlotLemmas.{entry_of-slots, slice_get-from, slice_get-below_some, ready-job}
-use Rattle.redo_core.proofs.TableLemmas.{slice_get-place, place-slice_get}
-use Rattle.redo_core.proofs.Places.{AscendFrom, PassAt, filter-places}
+use Rattle.redo_core.proofs.Places.{AscendFrom, filter-places}
 use Rattle.redo_step.specs.declared.deps.Dep.{Dep}
 
 pub distinct-place : (ps : List (List ℕ)) (i j : ℕ) (p : List ℕ) → AreDistinct ps → slice_get ps i ≡ Some p → slice_get ps j ≡ Some p → i ≡ j

@@ -1,23 +1,22 @@
 -- Facts that are taken over from the table.
-use Rattle.std.proofs.Common.{◌≡◌, ℕ, zero, suc, ◌+◌, ◌<◌, ◌≤◌, List, [], ◌∷◌, Option, Some, None, true, false, cond, inl, inr, length, slice_get, refl, sym, ap, subst, ◌∙◌, arith, bytes_eq, Global}
+use Rattle.std.proofs.Common.{◌≡◌, ℕ, ◌+◌, List, Some, None, true, cond, inl, inr, slice_get, refl, sym, ap, subst, ◌∙◌, arith, bytes_eq, Global, [], ◌∷◌, ◌++◌, Option}
 use Rattle.std.specs.Arc.{arc_value}
 use Rattle.std.specs.Map.{lookup}
 use Rattle.std.specs.declared.sync.Arc.{Arc}
 use Rattle.std.proofs.lemmas.Bool.{cases_Bool, cases_lt}
 use Rattle.std.proofs.lemmas.Slice.Eq.{bytes_eq-Decides}
-use Rattle.redo_step.specs.declared.deps.Dep.{Dep}
-use Rattle.redo_step.specs.declared.outcome.Outcome.{Outcome}
-use Rattle.redo_core.specs.Paths.{IsAmong}
-use Rattle.redo_core.specs.Rules.{Rules, operands}
 use Rattle.redo_core.specs.Views.{FactView}
-use Rattle.redo_core.specs.Works.{told_in, IsOperand}
-use Rattle.redo_core.specs.Slots.{stage_outcome, is_stage_decided, is_stage_out, IsFactThere, IsDecidedWith, GainsOne, GainsBelow}
+use Rattle.redo_step.specs.declared.outcome.Outcome.{Outcome}
+use Rattle.redo_core.specs.Works.{told_in, few_known, entries_known, more_known, AddsFact}
+use Rattle.std.specs.declared.vec.Vec.{Vec}
+use Rattle.redo_core.specs.Slots.{is_stage_decided, is_stage_out, IsFactAt, GainsOne, GainsBelow}
 use Rattle.redo_core.specs.declared.facts.Facts.{Facts}
 use Rattle.redo_core.specs.declared.table.Table.{Table}
+use Rattle.redo_core.specs.declared.table.Slot.{Slot}
 use Rattle.redo_core.specs.declared.table.Stage.{Stage}
 use Rattle.redo_core.specs.declared.table.Stage.TheVariants.{Waiting, Ready, Out, Decided}
-use Rattle.redo_core.proofs.TableSteps.{operand-path, operand-entry, entry-operand}
-use Rattle.redo_core.proofs.FactLemmas.{insert-told}
+use Rattle.redo_core.proofs.FactLemmas.{insert-told, first_of, lookup-append, lookup-push, map-push, either-way}
+use Rattle.redo_core.proofs.Depth.{cases_Option}
 
 pub decided-fact : (stage : Stage) → is_stage_decided stage ≡ true → (fact : Arc FactView Global) × (stage ≡ Decided fact)
 decided-fact (Waiting p) h = cc
@@ -25,92 +24,103 @@ decided-fact (Ready w) h = cc
 decided-fact Out h = cc
 decided-fact (Decided f) h = (f, refl)
 
--- an entry that isn't waited for
-pub gains-none : (r : Rules) (t : Table) (dep : Dep) (facts : Facts) → (IsOperand r dep dep.path → ⊥) → GainsOne r t dep facts facts
-gains-none r t dep facts un = record {
-  same = refl;
-  kept = λ q h. h;
-  origin = λ q o h. inl h;
-  known = λ q is none.
-      let P : List ℕ → Type 0 = λ x. IsOperand r dep x in
-      un (subst P (sym (operand-path r dep q is)) is);
-}
-
--- one that is waited for, and whose fact was put to the others
-pub gains-fact : (r : Rules) (t : Table) (dep : Dep) (old new : Facts) (fact held : Arc FactView Global) → IsOperand r dep dep.path → IsFactThere t dep.path held →
-    arc_value {X = FactView} fact ≡ arc_value {X = FactView} held → new.gained ≡ old.gained →
-    ((q : List ℕ) → lookup (bytes_eq q) new.by_target.entries ≡ cond (bytes_eq dep.path q) (Some fact) (lookup (bytes_eq q) old.by_target.entries)) → GainsOne r t dep old new
-gains-fact r t dep old new fact held is there shown same updates =
-    let told = insert-told old.by_target.entries new.by_target.entries dep.path fact updates in
-    record {
-      same = same;
-      kept = λ q none. elim (cases_Bool (bytes_eq dep.path q)) [
-        | inl yes' ↦ absurd (let known = told q in let now = rw yes' at known in let bad = sym now ∙ none in cc)
-        | inr no' ↦ let known = told q in let now = rw no' at known in sym now ∙ none
-      ];
-      origin = λ q o h. elim (cases_Bool (bytes_eq dep.path q)) [
-        | inl yes' ↦
-            let path : dep.path ≡ q = (bytes_eq-Decides dep.path q).0 yes' in
-            let known = told q in let now = rw yes' at known in
-            let P : List ℕ → Type 0 = λ x. IsDecidedWith r t (dep ∷ []) x o in
-            inr (subst P path (record {
-              at = there.at;
-              slot = there.slot;
-              asked = entry-operand r (dep ∷ []) 0 dep dep.path refl is;
-              path = there.path;
-              there = there.there;
-              outcome = ap stage_outcome there.is ∙ (let S : FactView → Option Outcome = λ f. Some f.outcome in ap S (sym shown)) ∙ sym now ∙ h;
-            }))
-        | inr no' ↦ let known = told q in let now = rw no' at known in inl (sym now ∙ h)
-      ];
-      known = λ q is' none.
-          let path = operand-path r dep q is' in
-          let yes' : bytes_eq dep.path q ≡ true = (bytes_eq-Decides dep.path q).1 path in
-          let known = told q in let now = rw yes' at known in
-          let bad = sym now ∙ none in cc;
-    }
-
-only-entry : (r : Rules) (deps : List Dep) (i : ℕ) (dep : Dep) (q : List ℕ) → slice_get deps i ≡ Some dep → IsAmong (operands r (dep ∷ [])) q → IsAmong (operands r deps) q
-only-entry r deps i dep q get m =
-    let found = operand-entry r (dep ∷ []) q m in
-    elim (found.0) as (λ (k : ℕ). slice_get (dep ∷ []) k ≡ Some found.1 → IsAmong (operands r deps) q) [
-      | zero ↦ λ h.
-          let same : dep ≡ found.1 = cc in
-          let P : Dep → Type 0 = λ d. IsOperand r d q in
-          entry-operand r deps i dep q get (subst P (sym same) found.3)
-      | suc k ↦ λ h. absurd (nothing k found.1 h)
-    ] found.2
-  where
-    nothing : (k : ℕ) (d : Dep) → slice_get {X = Dep} [] k ≡ Some d → ⊥
-    nothing k d h = cc
-
-pub gains-begin : (r : Rules) (t : Table) (deps : List Dep) (facts : Facts) → GainsBelow r t deps facts facts facts.gained
-gains-begin r t deps facts = record {
-  same = refl;
-  kept = λ q h. h;
-  origin = λ q o h. inl h;
-  known = λ k d q from below get is none. absurd (omega (arith, from, below));
-}
-
--- one entry more
-pub gains-step : (r : Rules) (t : Table) (deps : List Dep) (old mid new : Facts) (i : ℕ) (dep : Dep) → slice_get deps i ≡ Some dep →
-    GainsBelow r t deps old mid i → GainsOne r t dep mid new → GainsBelow r t deps old new (i + 1)
-gains-step r t deps old mid new i dep get before one = record {
-  same = one.same ∙ before.same;
-  kept = λ q none. before.kept q (one.kept q none);
-  origin = λ q o h. elim (one.origin q o h) [
-    | inl m ↦ before.origin q o m
-    | inr d ↦ inr (record { at = d.at; slot = d.slot; asked = only-entry r deps i dep q get d.asked; path = d.path; there = d.there; outcome = d.outcome })
+-- a fact that was put to the others, behind the first few
+pub adds-fact : (fact : FactView) (old new : Facts) (ks ms : List (List ℕ × Outcome)) → new.gained ≡ old.gained →
+    ((q : List ℕ) → told_in old q ≡ first_of (lookup (bytes_eq q) ks) (lookup (bytes_eq q) ms)) →
+    ((q : List ℕ) → told_in new q ≡ first_of (lookup (bytes_eq q) ks) (cond (bytes_eq fact.target q) (Some fact.outcome) (lookup (bytes_eq q) ms))) →
+    AddsFact fact old new
+adds-fact fact old new ks ms same was now = record {
+  same = same;
+  kept = λ q none. elim (cases_Option (lookup (bytes_eq q) ks)) [
+    | inl no_few ↦ elim (cases_Bool (bytes_eq fact.target q)) [
+      | inl yes' ↦ absurd (let known = now q in let bad = sym (rw (no_few, yes') at known) ∙ none in cc)
+      | inr no' ↦ let known = now q in let before = was q in rw no_few at before ∙ sym (rw (no_few, no') at known) ∙ none
+    ]
+    | inr some ↦ absurd (let known = now q in let bad = sym (rw some.1 at known) ∙ none in cc)
   ];
-  known = λ k d q from below at is none. elim (cases_lt k i) [
-    | inl earlier ↦ before.known k d q from earlier at is (one.kept q none)
+  origin = λ q o h. elim (cases_Option (lookup (bytes_eq q) ks)) [
+    | inl no_few ↦ elim (cases_Bool (bytes_eq fact.target q)) [
+      | inl yes' ↦
+          let known = now q in
+          let both : Some fact.outcome ≡ Some o = sym (rw (no_few, yes') at known) ∙ h in
+          inr ((bytes_eq-Decides fact.target q).0 yes', (cc))
+      | inr no' ↦ let known = now q in let before = was q in inl (rw no_few at before ∙ sym (rw (no_few, no') at known) ∙ h)
+    ]
+    | inr some ↦ let known = now q in let before = was q in inl (rw some.1 at before ∙ sym (rw some.1 at known) ∙ h)
+  ];
+  known = λ none.
+      let yes' : bytes_eq fact.target fact.target ≡ true = (bytes_eq-Decides fact.target fact.target).1 refl in
+      let known = now fact.target in
+      elim (cases_Option (lookup (bytes_eq fact.target) ks)) [
+        | inl no_few ↦ let bad = sym (rw (no_few, yes') at known) ∙ none in cc
+        | inr some ↦ let bad = sym (rw some.1 at known) ∙ none in cc
+      ];
+}
+
+pub adds-few : (fact : Arc FactView Global) (old new : Facts) → new.gained ≡ old.gained → more_known new.more ≡ more_known old.more → new.few.items ≡ old.few.items ++ fact ∷ [] →
+    AddsFact (arc_value fact) old new
+adds-few fact old new same more few =
+    let key = (arc_value {X = FactView} fact).target in
+    let outcome = (arc_value {X = FactView} fact).outcome in
+    let ks = few_known old.few.items in
+    let ms = more_known old.more in
+    let both = ap few_known few ∙ map-push old.few.items fact in
+    adds-fact (arc_value fact) old new ks ms same (λ q. lookup-append (bytes_eq q) ks ms)
+    (λ q. ap (λ xs. lookup (bytes_eq q) (xs ++ more_known new.more)) both ∙ ap (λ xs. lookup (bytes_eq q) ((ks ++ (key, outcome) ∷ []) ++ xs)) more ∙
+    lookup-push (bytes_eq q) ks ms (key, outcome) ∙ ap (λ b. first_of (lookup (bytes_eq q) ks) (cond b (Some outcome) (lookup (bytes_eq q) ms))) (either-way key q))
+
+pub adds-more : (fact : Arc FactView Global) (old new : Facts) → new.gained ≡ old.gained → new.few ≡ old.few →
+    ((q : List ℕ) → lookup (bytes_eq q) (more_known new.more) ≡ cond (bytes_eq (arc_value {X = FactView} fact).target q) (Some (arc_value {X = FactView} fact).outcome) (lookup (bytes_eq q) (more_known old.more))) →
+    AddsFact (arc_value fact) old new
+adds-more fact old new same few more =
+    let ks = few_known old.few.items in
+    let ms = more_known old.more in
+    adds-fact (arc_value fact) old new ks ms same (λ q. lookup-append (bytes_eq q) ks ms)
+    (λ q. ap (λ (v : Vec (Arc FactView Global) Global). lookup (bytes_eq q) (few_known v.items ++ more_known new.more)) few ∙ lookup-append (bytes_eq q) ks (more_known new.more) ∙
+    ap (first_of (lookup (bytes_eq q) ks)) (more q))
+
+pub more-told : (fact : Arc FactView Global) (key : List ℕ) → key ≡ (arc_value {X = FactView} fact).target → (ms : List (List ℕ × Outcome)) (old new : List (List ℕ × Arc FactView Global)) →
+    ms ≡ entries_known old → ((q : List ℕ) → lookup (bytes_eq q) new ≡ cond (bytes_eq key q) (Some fact) (lookup (bytes_eq q) old)) →
+    (q : List ℕ) → lookup (bytes_eq q) (entries_known new) ≡ cond (bytes_eq (arc_value {X = FactView} fact).target q) (Some (arc_value {X = FactView} fact).outcome) (lookup (bytes_eq q) ms)
+more-told fact key same ms old new is updates q =
+    let out : Option Outcome = Some (arc_value {X = FactView} fact).outcome in
+    insert-told old new key fact updates q ∙ ap (λ k. cond (bytes_eq k q) out (lookup (bytes_eq q) (entries_known old))) same ∙
+    ap (λ xs. cond (bytes_eq (arc_value {X = FactView} fact).target q) out (lookup (bytes_eq q) xs)) (sym is)
+
+pub same-fact : (t : Table) (n : ℕ) (f g : Arc FactView Global) → IsFactAt t n f → IsFactAt t n g → f ≡ g
+same-fact t n f g a b =
+    let both : Some a.0 ≡ Some b.0 = sym a.1 ∙ b.1 in
+    let slot : a.0 ≡ b.0 = cc in
+    let stages : Decided f ≡ Decided g = sym a.2 ∙ ap (λ (y : Slot). y.stage) slot ∙ b.2 in
+    cc
+
+pub gains-begin : (t : Table) (ns : List ℕ) (facts : Facts) → GainsBelow t ns facts facts 0
+gains-begin t ns facts = record {
+  kept = λ q h. h;
+  origin = λ q o h. inl h;
+  known = λ k n fact below. absurd (omega (arith, below));
+}
+
+-- one number more
+pub gains-step : (t : Table) (ns : List ℕ) (old mid new : Facts) (i n : ℕ) → slice_get ns i ≡ Some n →
+    GainsBelow t ns old mid i → GainsOne t n mid new → GainsBelow t ns old new (i + 1)
+gains-step t ns old mid new i n get before one = record {
+  kept = λ q none. before.kept q (one.2.kept q none);
+  origin = λ q o h. elim (one.2.origin q o h) [
+    | inl m ↦ before.origin q o m
+    | inr d ↦ inr (record { k = i; n = n; fact = one.0; number = get; there = one.1; target = d.0; outcome = d.1 })
+  ];
+  known = λ k m fact below at there none. elim (cases_lt k i) [
+    | inl earlier ↦ before.known k m fact earlier at there (one.2.kept (arc_value {X = FactView} fact).target none)
     | inr now ↦
         let same : k ≡ i = omega (arith, below, now) in
-        let P : ℕ → Type 0 = λ j. slice_get deps j ≡ Some d in
-        let both : Some d ≡ Some dep = sym (subst P same at) ∙ get in
-        let is_dep : d ≡ dep = cc in
-        let Q : Dep → Type 0 = λ x. IsOperand r x q in
-        one.known q (subst Q is_dep is) none
+        let P : ℕ → Type 0 = λ j. slice_get ns j ≡ Some m in
+        let both : Some m ≡ Some n = sym (subst P same at) ∙ get in
+        let is : m ≡ n = cc in
+        let Q : ℕ → Type 0 = λ j. IsFactAt t j fact in
+        let it = same-fact t n fact one.0 (subst Q is there) one.1 in
+        let N : Arc FactView Global → Type 0 = λ f. told_in new (arc_value {X = FactView} f).target ≡ None in
+        one.2.known (subst N it none)
   ];
 }
 

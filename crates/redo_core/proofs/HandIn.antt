@@ -1,10 +1,7 @@
 -- A piece that is handed in leaves the board in the state that the schedule says.
 use Rattle.std.proofs.Common.{slice_get, ◌≡◌, ℕ, ◌<◌, ◌≤◌, List, [], length, Option, Some, None, refl, sym, ap, subst, ◌∙◌, arith}
 use Rattle.std.specs.Arc.{arc_value}
-use Rattle.redo_core.specs.Paths.{IsAmong, AreDistinct}
-use Rattle.redo_core.specs.Rules.{Rules, AreLawful}
 use Rattle.redo_core.specs.Outcomes.{outcome_at, IsTooMany}
-use Rattle.redo_core.specs.Build.{rules_of}
 use Rattle.redo_core.specs.Schedule.{Entry, State, entry_of, happens, IsOutAt}
 use Rattle.redo_core.specs.Schedule.Event.{Hand_in}
 use Rattle.redo_core.specs.Views.{IsReached, BoardView, PieceView, rules_on}
@@ -12,9 +9,8 @@ use Rattle.redo_core.specs.Faults.{fault_of, IsSameBuild, RefusedRunning}
 use Rattle.redo_core.specs.declared.board.Stop.{Stop}
 use Rattle.redo_core.specs.declared.board.Stop.TheVariants.{TooMany, Memory}
 use Rattle.redo_core.specs.Ends.{IsEndAt}
-use Rattle.redo_core.specs.Slots.{rules_inside, state_of, path_at, slot_entry, stage_outcome, is_stage_out, IsKept, IsOutSlotAt, MayTakeIn, IsTakenIn, state_after}
+use Rattle.redo_core.specs.Slots.{rules_inside, state_of, path_at, slot_entry, is_stage_out, IsKept, IsOutSlotAt, MayTakeIn, IsTakenIn, state_after}
 use Rattle.redo_core.specs.declared.board.Board.TheInside.{Inside}
-use Rattle.redo_core.specs.declared.table.Slot.{Slot}
 use Rattle.redo_core.specs.declared.table.Table.{Table}
 use Rattle.redo_core.specs.declared.table.Stage.TheVariants.{Out}
 use Rattle.redo_core.specs.declared.work.End.{End}

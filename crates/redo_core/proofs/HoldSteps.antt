@@ -8,18 +8,19 @@ use Rattle.redo_core.specs.Outcomes.{outcome_at}
 use Rattle.redo_core.specs.Build.{rules_of}
 use Rattle.redo_core.specs.Schedule.{Entry, outcomes_of}
 use Rattle.redo_core.specs.Standing.{AreStanding}
-use Rattle.redo_core.specs.Slots.{table_entries, slot_entry, stage_deps, stage_outcome, is_stage_ready, is_stage_waiting, is_stage_decided, path_at, Fits, AllWatched, IsOperand, IsPlace, IsTable, IsTableOf, IsStandingTable, IsWaitingWith, IsLackingAt, IsHeldAt, IsWatchAdded, IsLookedAt}
+use Rattle.redo_core.specs.Slots.{table_entries, slot_entry, stage_deps, stage_outcome, is_stage_ready, is_stage_waiting, is_stage_decided, path_at, Fits, AllWatched, IsPlace, AreNumbers, IsNumbered, waited_by, IsTable, IsTableOf, IsStandingTable, IsWaitingWith, IsLackingAt, IsHeldAt, IsWatchAdded, IsLookedAt}
 use Rattle.redo_core.specs.declared.table.Parked.{Parked}
 use Rattle.redo_core.specs.declared.table.Slot.{Slot}
 use Rattle.redo_core.specs.declared.table.Stage.{Stage}
 use Rattle.redo_core.specs.declared.table.Stage.TheVariants.{Waiting}
 use Rattle.redo_core.specs.declared.table.Table.{Table}
+use Rattle.redo_core.proofs.Numbers.{numbers-path}
 use Rattle.redo_core.proofs.TableLemmas.{cases_place, get-set_same, get-set_other, watched-set, IsWatched-set}
-use Rattle.redo_core.proofs.TableSteps.{operand-path, decided-known, entries-same, table-same, queue-same, watch-table, watch-looked}
+use Rattle.redo_core.proofs.TableSteps.{number-decided, parked_numbered, decided-known, entries-same, table-same, queue-same, watch-table, watch-looked}
 
 module _ (tree : Tree) (limits : ℕ × ℕ) (t : Table) (freed : List ℕ) (table : IsTableOf tree limits t freed) (standing : IsStandingTable tree limits t)
     (at : ℕ) (slot : Slot) (parked : Parked) (there : slice_get t.slots.items at ≡ Some slot) (is : slot.stage ≡ Waiting parked)
-    (v : Table) (i place : ℕ) (h : IsHeldAt t v at i) (l : IsLackingAt (rules_of tree limits) t parked.job.state.entries parked.held i place) where
+    (v : Table) (i place : ℕ) (h : IsHeldAt t v at i) (l : IsLackingAt t parked.operands.items parked.held i place) where
   abbrev r : Rules
   r = rules_of tree limits
 
@@ -49,8 +50,8 @@ module _ (tree : Tree) (limits : ℕ × ℕ) (t : Table) (freed : List ℕ) (tab
   deps-same : (p : List ℕ) → stage_deps (rules_of tree limits) (outcome_at (rules_of tree limits) limits.0) p h.new.turn h.new.stage ≡ stage_deps (rules_of tree limits) (outcome_at (rules_of tree limits) limits.0) p slot.turn slot.stage
   unfolding held
   deps-same p =
-      let D : Stage → Type 0 = λ st. stage_deps r (outcome_at r limits.0) p h.new.turn st ≡ Rattle.redo_core.specs.Works.job_deps parked.job in
-      let E : Stage → Type 0 = λ st. stage_deps r (outcome_at r limits.0) p slot.turn st ≡ Rattle.redo_core.specs.Works.job_deps parked.job in
+      let D : Stage → Type 0 = λ st. stage_deps r (outcome_at r limits.0) p h.new.turn st ≡ Rattle.redo_core.specs.Works.job_deps parked.begun.value.job in
+      let E : Stage → Type 0 = λ st. stage_deps r (outcome_at r limits.0) p slot.turn st ≡ Rattle.redo_core.specs.Works.job_deps parked.begun.value.job in
       let one = subst D (sym held-is) refl in
       let two = subst E (sym is) refl in
       one ∙ sym two
@@ -63,6 +64,13 @@ module _ (tree : Tree) (limits : ℕ × ℕ) (t : Table) (freed : List ℕ) (tab
       let one : slot_entry r (outcome_at r limits.0) (path_at t.targets.keys at) h.new ≡ E h.new.turn (D h.new.turn h.new.stage) = rw held-is refl in
       let two : slot_entry r (outcome_at r limits.0) (path_at t.targets.keys at) slot ≡ E slot.turn (D slot.turn slot.stage) = rw is refl in
       one ∙ ap (λ n. E n (D h.new.turn h.new.stage)) turn-same ∙ ap (E slot.turn) (deps-same (path_at t.targets.keys at)) ∙ sym two
+
+  numbers : AreNumbers t.targets.keys parked.operands.items (waited_by (rules_of tree limits) parked.begun.value)
+  numbers = parked_numbered tree limits t freed table standing at slot parked there is
+
+  held-numbered : IsNumbered (rules_of tree limits) t.targets.keys h.new.stage
+  unfolding held
+  held-numbered = let P : Stage → Type 0 = IsNumbered r t.targets.keys in subst P (sym held-is) numbers
 
   held-fits : Fits (rules_of tree limits) (outcomes_of (table_entries (rules_of tree limits) limits.0 t)) tree limits (path_at t.targets.keys at) h.new.turn h.new.stage
   unfolding held
@@ -77,14 +85,11 @@ module _ (tree : Tree) (limits : ℕ × ℕ) (t : Table) (freed : List ℕ) (tab
         of_target = w.of_target;
         at_turn = w.at_turn;
         stopped = w.stopped;
-        within = omega (arith, l.below);
-        answered = λ k d q below get o none. elim (cases_lt k parked.held) [
-          | inl before ↦ w.answered k d q before get o none
+        answered = λ k q below get none. elim (cases_lt k parked.held) [
+          | inl before ↦ w.answered k q before get none
           | inr after' ↦
-              let path = operand-path r d q o in
-              let O : List ℕ → Type 0 = λ x. IsOperand r d x in
-              let N : List ℕ → Type 0 = λ x. a x ≡ None in
-              decided-known tree limits t freed table standing d.path (l.before k d after' below get (subst O (sym path) o)) (subst N (sym path) none)
+              let number = numbers-path t.targets.keys parked.operands.items (waited_by r parked.begun.value) k q numbers get in
+              decided-known tree limits t freed table standing q (number-decided t q number.0 number.2 (l.before k number.0 after' below number.1)) none
         ];
         told = w.told;
         goes_on = w.goes_on;
@@ -98,7 +103,7 @@ module _ (tree : Tree) (limits : ℕ × ℕ) (t : Table) (freed : List ℕ) (tab
       let ready : is_stage_ready h.new.stage ≡ is_stage_ready slot.stage = ap is_stage_ready held-is ∙ sym (ap is_stage_ready is) in
       let raw = table-same tree limits t freed table standing at slot h.new there old-open new-open same-entry freed
       (queue-same t.slots.items t.ready.items freed at slot h.new there table.queue ready)
-      (λ k m. let L : List ℕ → Type 0 = λ xs. IsPlace xs k in table.watchers_below at k slot there (subst L list m)) held-fits in
+      (λ k m. let L : List ℕ → Type 0 = λ xs. IsPlace xs k in table.watchers_below at k slot there (subst L list m)) held-fits held-numbered in
       let S : List Slot → Type 0 = λ xs. IsTable r tree limits t.targets.keys xs t.ready.items t.out freed in
       rw (h.rest.0, h.rest.1, h.rest.2) (subst S (sym h.slots) raw)
 
@@ -124,31 +129,23 @@ module _ (tree : Tree) (limits : ℕ × ℕ) (t : Table) (freed : List ℕ) (tab
   pub held-there : slice_get v.slots.items at ≡ Some h.new
   held-there = rw h.slots (get-set_same t.slots.items at slot h.new there)
 
-  -- the entry that lacks an answer still does
-  pub held-lacks : IsLackingAt (rules_of tree limits) v held.job.state.entries i i place
+  -- the operand that is undecided still is
+  pub held-lacks : IsLackingAt v held.operands.items i i place
   unfolding held
   held-lacks = elim (cases_place place at) [
     | inl same ↦ record {
-      dep = l.dep;
       slot = h.new;
       after = omega arith;
-      below = l.below;
-      before = λ k d from below get o. absurd (omega (arith, from, below));
-      entry = l.entry;
-      waits = l.waits;
-      path = rw h.rest.0 l.path;
+      before = λ k n from below get. absurd (omega (arith, from, below));
+      number = l.number;
       there = let P : ℕ → Type 0 = λ j. slice_get v.slots.items j ≡ Some h.new in subst P (sym same) held-there;
       is_open = rw held-is refl;
     }
     | inr other ↦ record {
-      dep = l.dep;
       slot = l.slot;
       after = omega arith;
-      below = l.below;
-      before = λ k d from below get o. absurd (omega (arith, from, below));
-      entry = l.entry;
-      waits = l.waits;
-      path = rw h.rest.0 l.path;
+      before = λ k n from below get. absurd (omega (arith, from, below));
+      number = l.number;
       there = rw h.slots (get-set_other t.slots.items at place h.new other ∙ l.there);
       is_open = l.is_open;
     }

@@ -1,12 +1,10 @@
 -- What a job asks for, and how far it comes.
-use Rattle.std.proofs.Common.{◌≡◌, ℕ, zero, suc, ◌<◌, List, [], Some, true, false, refl, sym, ap, subst, ◌∙◌, inl, inr, arith}
+use Rattle.std.proofs.Common.{◌≡◌, ℕ, zero, suc, ◌<◌, List, [], true, false, refl, subst, inl, inr, arith}
 use Rattle.std.specs.Prelude.{is_some}
 use Rattle.std.proofs.lemmas.Bool.{both_ways}
 use Rattle.redo_tree.specs.Tree.{Tree, file_at}
 use Rattle.redo_which.specs.Rule.{Outcome as Found, Rule}
-use Rattle.redo_step.specs.declared.deps.Dep.{Dep}
 use Rattle.redo_step.specs.declared.deps.DepKind.TheVariants.{Change}
-use Rattle.redo_step.specs.Record.{with_all}
 use Rattle.redo_step.specs.JobView.{JobView, found_deps, record_so_far, progress_of}
 use Rattle.redo_step.specs.Meaning.{is_entered}
 use Rattle.redo_core.specs.Paths.{IsAmong}

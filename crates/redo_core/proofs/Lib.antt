@@ -18,6 +18,7 @@ pub mod Examples
 pub mod Handover
 pub mod SlotLemmas
 pub mod TableLemmas
+pub mod Numbers
 pub mod TakeLemmas
 pub mod TableSteps
 pub mod EnterSteps
@@ -42,3 +43,4 @@ pub mod Advance
 pub mod Ordered
 pub mod Rows
 pub mod Reported
+pub mod Lines

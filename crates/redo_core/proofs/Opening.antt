@@ -1,13 +1,13 @@
 -- The opening of a build on the table.
-use Rattle.std.proofs.Common.{map, slice_get, ◌≡◌, ℕ, zero, suc, ◌+◌, ◌<◌, ◌≤◌, Bool, true, false, cond, not, List, [], ◌∷◌, ◌++◌, Option, Some, None, is_some, inl, inr, length, take, drop, take-append-drop, filter, refl, sym, ap, subst, ◌∙◌, arith, append-nil}
+use Rattle.std.proofs.Common.{slice_get, ◌≡◌, ℕ, zero, suc, ◌+◌, ◌<◌, ◌≤◌, Bool, true, false, cond, not, List, [], ◌∷◌, ◌++◌, Some, is_some, inl, inr, length, take, drop, take-append-drop, refl, sym, ap, subst, ◌∙◌, arith}
 use Rattle.std.proofs.lemmas.Bool.{cases_Bool}
 use Rattle.std.proofs.lemmas.List.Elements.{filter-append}
 use Rattle.redo_tree.specs.Tree.{Tree, file_at}
 use Rattle.redo_core.specs.Paths.{IsAmong, is_among, with_new}
 use Rattle.redo_core.specs.Rules.{Rules}
-use Rattle.redo_core.specs.Outcomes.{outcome_at, requested_targets, IsTooMany}
+use Rattle.redo_core.specs.Outcomes.{IsTooMany}
 use Rattle.redo_core.specs.Build.{rules_of}
-use Rattle.redo_core.specs.Schedule.{Entry, State, paths_of, entered, new_entry, released, opening}
+use Rattle.redo_core.specs.Schedule.{Entry, State, paths_of, entered, released, opening}
 use Rattle.redo_core.specs.Standing.{AreStanding}
 use Rattle.std.specs.Arc.{arc_value}
 use Rattle.redo_core.specs.declared.board.Board.TheInside.{Inside}
@@ -76,6 +76,7 @@ empty-table tree limits t keys slots ready out few = rw (keys, slots, ready, out
   few = few;
   out_counted = refl;
   fits = λ k x g. absurd (nothing k x g);
+  numbered = λ k x g. absurd (nothing k x g);
   queue = record {
     ready_below = λ k m. absurd m;
     freed_below = λ k m. absurd m;

@@ -115,3 +115,39 @@ placed-second ps (q ∷ qs) p m = elim m [
       placed-first (insert_key (slice_cmp nat_cmp) ps q) qs p (subst P here (insert-new ps q))
   | inr later ↦ placed-second (insert_key (slice_cmp nat_cmp) ps q) qs p later
 ]
+
+self_less : (p : List ℕ) → slice_cmp nat_cmp p p ≡ Less → ⊥
+self_less p e =
+    let bad : Less ≡ Greater = sym e ∙ nat_list_cmp_total.antisymm p p ∙ ap ordering_reverse e in
+    cc
+
+none-twice : (p : List ℕ) (ps : List (List ℕ)) → IsBefore p ps → IsAmong ps p → ⊥
+none-twice p ps b m = self_less p (b p m)
+
+module _ (p q : List ℕ) (ps qs : List (List ℕ)) (first : IsBefore p ps) (other : IsBefore q qs) where
+  same-first : IsAmong (q ∷ qs) p → IsAmong (p ∷ ps) q → p ≡ q
+  same-first to from = elim to [
+    | inl here ↦ sym here
+    | inr later ↦ elim from [
+      | inl here ↦ here
+      | inr behind ↦ absurd (self_less p (nat_list_cmp_total.trans p q p (first q behind) (other p later)))
+    ]
+  ]
+
+  same-rest : p ≡ q → (x : List ℕ) → IsAmong ps x → IsAmong (q ∷ qs) x → IsAmong qs x
+  same-rest same x m there = elim there [
+    | inl here ↦ let P : List ℕ → Type 0 = IsAmong ps in absurd (none-twice p ps first (subst P (sym (same ∙ here)) m))
+    | inr later ↦ later
+  ]
+
+-- lists in path order of the same paths are the same
+pub sorted-unique : (ps qs : List (List ℕ)) → AreSorted ps → AreSorted qs → ((x : List ℕ) → IsAmong ps x → IsAmong qs x) → ((x : List ℕ) → IsAmong qs x → IsAmong ps x) → ps ≡ qs
+sorted-unique [] [] s t to from = refl
+sorted-unique [] (q ∷ qs) s t to from = absurd (from q (inl refl))
+sorted-unique (p ∷ ps) [] s t to from = absurd (to p (inl refl))
+sorted-unique (p ∷ ps) (q ∷ qs) s t to from =
+    let same : p ≡ q = same-first p q ps qs s.0 t.0 (to p (inl refl)) (from q (inl refl)) in
+    let rest : ps ≡ qs = sorted-unique ps qs s.1 t.1
+    (λ x m. same-rest p q ps qs s.0 t.0 same x m (to x (inr m)))
+    (λ x m. same-rest q p qs ps t.0 s.0 (sym same) x m (from x (inr m))) in
+    ap (λ x. x ∷ ps) same ∙ ap (λ xs. q ∷ xs) rest

@@ -9,7 +9,7 @@ use Rattle.redo_step.specs.declared.outcome.Why.TheVariants as why
 use Rattle.redo_step.specs.Path.{Path}
 use Rattle.redo_step.specs.Meaning.{Setting, Ask, State, End, faulted, stopped, Run, goes, ends, end_state, ◌>>=◌, texts_of, paths_of, free_paths, is_entered, with_entry, with_entries, declaring, written, tested, lacking, any_failed, waited, changed, created, with_status, with_state, command_run, condition_result, then_run, chosen, run, meaning}
 use Rattle.redo_step.specs.Job.{AsksFor}
-use Rattle.redo_step.specs.JobView.{JobView, job_setting, whole_of, IsFit, FitsWhole}
+use Rattle.redo_step.specs.JobView.{JobView, job_setting, IsFit, FitsWhole}
 use Rattle.redo_step.proofs.Runs.{Keeps-refl}
 use Rattle.redo_step.proofs.Steps.{written_entries}
 

@@ -2,16 +2,19 @@
 use Rattle.std.proofs.Common.{slice_get, slice_set, ◌≡◌, ℕ, ◌+◌, ◌<◌, ◌≤◌, Bool, true, false, ◌⊎◌, inl, inr, List, [], ◌∷◌, length, length-set, filter, Option, Some, None, refl, sym, ap, subst, ◌∙◌, arith}
 use Rattle.std.proofs.lemmas.Bool.{cases_Bool, both_ways}
 use Rattle.redo_tree.specs.Tree.{Tree}
-use Rattle.redo_core.specs.Paths.{IsAmong, AreDistinct}
-use Rattle.redo_core.specs.Rules.{Ask, Rules, AreLawful, Extends, operands}
+use Rattle.redo_core.specs.Paths.{AreDistinct}
+use Rattle.redo_core.specs.Rules.{Ask, Rules, Extends}
 use Rattle.redo_core.specs.Outcomes.{outcome_at}
 use Rattle.redo_core.specs.Build.{rules_of}
-use Rattle.redo_core.specs.Schedule.{Entry, outcomes_of, paths_of, entry_of, put}
+use Rattle.redo_core.specs.Schedule.{outcomes_of, put}
 use Rattle.redo_core.specs.Views.{FactView}
-use Rattle.redo_core.specs.Slots.{table_entries, entries_from, slot_entry, stage_deps, stage_outcome, path_at, is_stage_out, is_stage_ready, is_stage_waiting, Fits, AllFit, AllWatched, AllWatchersBelow, IsWatched, IsPlace, IsQueue, IsTable, IsTableOf, IsPutBack, IsDecidedAt, IsParkedAt, IsDecidedStage, IsParkedStage, IsWaitingWith}
-use Rattle.redo_core.specs.declared.facts.Facts.{Facts}
+use Rattle.redo_core.specs.Slots.{table_entries, entries_from, slot_entry, stage_deps, stage_outcome, path_at, is_stage_out, is_stage_ready, is_stage_waiting, Fits, AllWatched, IsPlace, IsTable, IsTableOf, IsPutBack, IsDecidedAt, IsParkedAt, IsDecidedStage, IsParkedStage, IsWaitingWith, IsNumbered, AreNumbers, waited_by}
+use Rattle.std.specs.Prelude.{Box}
+use Rattle.std.specs.declared.vec.Vec.{Vec}
+use Rattle.redo_core.proofs.Numbers.{numbered-set, numbered-still}
+use Rattle.std.proofs.Common.{Global}
+use Rattle.redo_core.specs.declared.work.Begun.{Begun}
 use Rattle.redo_core.specs.declared.table.Parked.{Parked}
-use Rattle.redo_step.specs.JobView.{JobView}
 use Rattle.redo_core.specs.declared.table.Slot.{Slot}
 use Rattle.redo_core.specs.declared.table.Table.{Table}
 use Rattle.redo_core.specs.declared.table.Stage.{Stage}
@@ -20,7 +23,6 @@ use Rattle.redo_core.proofs.SlotLemmas.{slot_entries-set, slice_get-from, slice_
 use Rattle.redo_core.proofs.TableLemmas.{Fits-more, get-set_cases, get-set_other, fits-set, outcomes-more, watchers-set, IsWatched-set, cases_place}
 use Rattle.redo_core.proofs.TableSteps.{queue-same}
 use Rattle.redo_core.proofs.Lawful.{rules_lawful}
-use Rattle.redo_step.specs.declared.deps.Dep.{Dep}
 
 count-back : (xs : List Slot) (at : ℕ) (old new : Slot) → slice_get xs at ≡ Some old → is_stage_out old.stage ≡ true → is_stage_out new.stage ≡ false →
     length (filter (λ slot. is_stage_out slot.stage) (slice_set xs at new)) + 1 ≡ length (filter (λ slot. is_stage_out slot.stage) xs)
@@ -54,8 +56,8 @@ module _ (tree : Tree) (limits : ℕ × ℕ) (t u : Table) (freed : List ℕ) (t
 
   pub put-table : is_stage_out new.stage ≡ false → is_stage_ready new.stage ≡ false → ((k : ℕ) → IsPlace new.watchers.items k → k < length t.slots.items) →
       ((a : Ask) → Extends (rules_of tree limits) (outcomes_of (table_entries (rules_of tree limits) limits.0 t)) a →
-      Fits (rules_of tree limits) a tree limits (path_at t.targets.keys at) new.turn new.stage) → IsTableOf tree limits u freed
-  put-table in' still below fit =
+      Fits (rules_of tree limits) a tree limits (path_at t.targets.keys at) new.turn new.stage) → IsNumbered (rules_of tree limits) t.targets.keys new.stage → IsTableOf tree limits u freed
+  put-table in' still below fit numbers =
       let len = length-set t.slots.items at new in
       let count = count-back t.slots.items at old new w.there (rw w.was refl) in' in
       let raw : IsTable r tree limits t.targets.keys (slice_set t.slots.items at new) t.ready.items u.out freed = record {
@@ -67,6 +69,7 @@ module _ (tree : Tree) (limits : ℕ × ℕ) (t u : Table) (freed : List ℕ) (t
             (outcomes-more r (rules_lawful tree limits) limits.0 t.targets.keys t.slots.items at (path_at t.targets.keys at) old new distinct put_path w.there old_open)
             table.fits (fit (outcomes_of (entries_from r limits.0 t.targets.keys (slice_set t.slots.items at new)))
             (outcomes-more r (rules_lawful tree limits) limits.0 t.targets.keys t.slots.items at (path_at t.targets.keys at) old new distinct put_path w.there old_open));
+        numbered = numbered-set r t.targets.keys t.slots.items at new numbers table.numbered;
         queue = queue-same t.slots.items t.ready.items freed at old new w.there table.queue (still ∙ sym (rw w.was refl));
         watchers_below = watchers-set t.slots.items at old new w.there below table.watchers_below;
       } in
@@ -86,26 +89,29 @@ decided-stage fact tree limits p turn (Decided held) h a b c = (
   λ _. (ap (λ (f : FactView). f.tree) h ∙ a, ap (λ (f : FactView). f.limits) h ∙ b, ap (λ (f : FactView). f.target) h ∙ c),
 )
 
-parked-stage : (job : JobView) (facts : Facts) (tree : Tree) (limits : ℕ × ℕ) (b : Ask) (p : List ℕ) (turn : ℕ) (stage : Stage) → IsParkedStage job facts stage →
-    IsWaitingWith (rules_of tree limits) b tree limits p turn (record { job = job; facts = facts; held = facts.gained }) →
+parked-stage : (begun : Box Begun Global) (numbers : Vec ℕ Global) (tree : Tree) (limits : ℕ × ℕ) (b : Ask) (p : List ℕ) (turn : ℕ) (stage : Stage) → IsParkedStage begun numbers stage →
+    IsWaitingWith (rules_of tree limits) b tree limits p turn (record { begun = begun; operands = numbers; held = 0 }) →
     (is_stage_out stage ≡ false) × (is_stage_ready stage ≡ false) × (stage_outcome stage ≡ None) ×
     ((a : Ask) → Extends (rules_of tree limits) b a → Fits (rules_of tree limits) a tree limits p turn stage)
-parked-stage job facts tree limits b p turn (Waiting parked) h waits = (
+parked-stage begun numbers tree limits b p turn (Waiting parked) h waits = (
   refl,
   refl,
   refl,
   λ a more.
-      let E : JobView → Facts → ℕ → Parked = λ j f n. record { job = j; facts = f; held = n } in
-      let A : JobView → Type 0 = λ j. E parked.job parked.facts parked.held ≡ E j parked.facts parked.held in
-      let B : Facts → Type 0 = λ f. E parked.job parked.facts parked.held ≡ E job f parked.held in
-      let C : ℕ → Type 0 = λ n. E parked.job parked.facts parked.held ≡ E job facts n in
-      let is : parked ≡ E job facts facts.gained = subst C h.2 (subst B h.1 (subst A h.0 refl)) in
       let P : Parked → Type 0 = λ q. IsWaitingWith (rules_of tree limits) b tree limits p turn q in
-      Fits-more (rules_of tree limits) (rules_lawful tree limits) b a tree limits p turn (Waiting parked) more (subst P (sym is) waits),
+      Fits-more (rules_of tree limits) (rules_lawful tree limits) b a tree limits p turn (Waiting parked) more (subst P (sym h) waits),
 )
-parked-stage job facts tree limits b p turn (Ready work) h waits = absurd h
-parked-stage job facts tree limits b p turn Out h waits = absurd h
-parked-stage job facts tree limits b p turn (Decided held) h waits = absurd h
+parked-stage begun numbers tree limits b p turn (Ready work) h waits = absurd h
+parked-stage begun numbers tree limits b p turn Out h waits = absurd h
+parked-stage begun numbers tree limits b p turn (Decided held) h waits = absurd h
+
+parked-numbers : (begun : Box Begun Global) (numbers : Vec ℕ Global) (r : Rules) (ps : List (List ℕ)) (stage : Stage) → IsParkedStage begun numbers stage →
+    AreNumbers ps numbers.items (waited_by r begun.value) → IsNumbered r ps stage
+parked-numbers begun numbers r ps (Waiting parked) h are =
+    let P : Parked → Type 0 = λ q. AreNumbers ps q.operands.items (waited_by r q.begun.value) in subst P (sym h) are
+parked-numbers begun numbers r ps (Ready work) h are = absurd h
+parked-numbers begun numbers r ps Out h are = absurd h
+parked-numbers begun numbers r ps (Decided held) h are = absurd h
 
 module _ (tree : Tree) (limits : ℕ × ℕ) (t u : Table) (freed : List ℕ) (table : IsTableOf tree limits t freed) (distinct : AreDistinct t.targets.keys) (at : ℕ) where
   -- a target that is decided
@@ -115,7 +121,7 @@ module _ (tree : Tree) (limits : ℕ × ℕ) (t u : Table) (freed : List ℕ) (t
     decided-table =
         let h = decided-stage fact tree limits (path_at t.targets.keys at) d.new.turn d.new.stage d.stage one two three in
         put-table tree limits t u freed table distinct at d.old d.new d.put_back h.0 h.1
-        (λ k m. absurd (let P : List ℕ → Type 0 = λ xs. IsPlace xs k in subst P d.watchers m)) (λ a more. h.3 a)
+        (λ k m. absurd (let P : List ℕ → Type 0 = λ xs. IsPlace xs k in subst P d.watchers m)) (λ a more. h.3 a) (numbered-still (rules_of tree limits) t.targets.keys d.new.stage h.2)
 
     decided-raw : AllWatched (rules_of tree limits) limits.0 t.targets.keys t.slots.items [] →
         AllWatched (rules_of tree limits) limits.0 t.targets.keys (slice_set t.slots.items at d.new) pending
@@ -150,21 +156,23 @@ module _ (tree : Tree) (limits : ℕ × ℕ) (t u : Table) (freed : List ℕ) (t
     decided-watched all = rw (d.put_back.rest.0, d.put_back.slots) (decided-raw all)
 
   -- a job that is parked again
-  module _ (job : JobView) (facts : Facts) (d : IsParkedAt t u at job facts)
-      (waits : IsWaitingWith (rules_of tree limits) (outcomes_of (table_entries (rules_of tree limits) limits.0 t)) tree limits (path_at t.targets.keys at) d.new.turn (record { job = job; facts = facts; held = facts.gained })) where
+  module _ (begun : Box Begun Global) (numbers : Vec ℕ Global) (d : IsParkedAt t u at begun numbers)
+      (waits : IsWaitingWith (rules_of tree limits) (outcomes_of (table_entries (rules_of tree limits) limits.0 t)) tree limits (path_at t.targets.keys at) d.new.turn (record { begun = begun; operands = numbers; held = 0 }))
+      (are : AreNumbers t.targets.keys numbers.items (waited_by (rules_of tree limits) begun.value)) where
     same_list : d.new.watchers.items ≡ d.old.watchers.items
     same_list = ap (λ (y : Rattle.std.specs.declared.vec.Vec.Vec ℕ Rattle.std.proofs.Common.Global). y.items) d.watchers
 
     pub parked-table : IsTableOf tree limits u freed
     parked-table =
-        let h = parked-stage job facts tree limits (outcomes_of (table_entries (rules_of tree limits) limits.0 t)) (path_at t.targets.keys at) d.new.turn d.new.stage d.stage waits in
+        let h = parked-stage begun numbers tree limits (outcomes_of (table_entries (rules_of tree limits) limits.0 t)) (path_at t.targets.keys at) d.new.turn d.new.stage d.stage waits in
         put-table tree limits t u freed table distinct at d.old d.new d.put_back h.0 h.1
         (λ k m. table.watchers_below at k d.old d.put_back.there (rw same_list at m)) h.3
+        (parked-numbers begun numbers (rules_of tree limits) t.targets.keys d.new.stage d.stage are)
 
     parked-raw : AllWatched (rules_of tree limits) limits.0 t.targets.keys t.slots.items [] →
         AllWatched (rules_of tree limits) limits.0 t.targets.keys (slice_set t.slots.items at d.new) (at ∷ [])
     parked-raw all k x g m =
-        let h = parked-stage job facts tree limits (outcomes_of (table_entries (rules_of tree limits) limits.0 t)) (path_at t.targets.keys at) d.new.turn d.new.stage d.stage waits in
+        let h = parked-stage begun numbers tree limits (outcomes_of (table_entries (rules_of tree limits) limits.0 t)) (path_at t.targets.keys at) d.new.turn d.new.stage d.stage waits in
         elim (get-set_cases t.slots.items at k d.new x g) [
           | inl here ↦ inl (inl (sym here.0))
           | inr before ↦ elim (all k x before.1 m) [

@@ -6,13 +6,13 @@ use Rattle.redo_core.specs.Paths.{AreDistinct}
 use Rattle.redo_core.specs.Rules.{Rules}
 use Rattle.redo_core.specs.Outcomes.{outcome_at}
 use Rattle.redo_core.specs.Build.{rules_of}
-use Rattle.redo_core.specs.Schedule.{Entry, State, paths_of, released, is_free}
+use Rattle.redo_core.specs.Schedule.{Entry, State, released}
 use Rattle.redo_core.specs.Standing.{AreStanding}
 use Rattle.redo_step.specs.declared.deps.Dep.{Dep}
 use Rattle.redo_core.specs.declared.work.End.{End}
-use Rattle.redo_core.proofs.TakeIn.{after-sound, after-state, after-entries, moved, key-there}
-use Rattle.redo_core.proofs.SlotLemmas.{slice_get-from, slice_get-below_some}
-use Rattle.redo_core.specs.Slots.{MayTakeIn, IsPutBackThere, IsTakenIn, AreLookedAt, table_entries, table_state, path_at, is_stage_ready, IsPlace, IsQueue, IsTable, IsTableOf, AllWatched, AreReleased}
+use Rattle.redo_core.proofs.TakeIn.{after-sound, after-state, after-entries, moved}
+use Rattle.redo_core.proofs.SlotLemmas.{slice_get-from}
+use Rattle.redo_core.specs.Slots.{MayTakeIn, IsPutBackThere, IsTakenIn, AreLookedAt, table_entries, table_state, path_at, IsPlace, IsQueue, IsTable, IsTableOf, AllWatched, AreReleased}
 use Rattle.redo_core.specs.declared.table.Slot.{Slot}
 use Rattle.redo_core.specs.declared.table.Table.{Table}
 use Rattle.redo_core.proofs.SlotLemmas.{paths_of-slots}
@@ -56,6 +56,7 @@ module _ (tree : Tree) (limits : ℕ × ℕ) (request : List (List ℕ)) (t u : 
         few = table.few;
         out_counted = table.out_counted;
         fits = table.fits;
+        numbered = table.numbered;
         queue = queue-released t.slots.items t.ready.items freed w.sorted (shuffled-to freed w.sorted w.shuffled) (shuffled-from freed w.sorted w.shuffled) table.queue;
         watchers_below = table.watchers_below;
       } in

@@ -71,7 +71,7 @@ later_deps job h = (elim (job.turn) as (λ (n : ℕ). 0 < n → record_so_far jo
 stage-shown : (r : Rules) (a : Ask) (tree : Tree) (limits : ℕ × ℕ) (p q : List ℕ) (turn : ℕ) (stage : Stage) (o : Outcome) (deps : List Dep) →
     Fits r a tree limits q turn stage → IsShown stage o deps → (b : Ask) → (o ≡ unwrap_or (stage_outcome stage) Cyclic) × (deps ≡ stage_deps r b p turn stage)
 stage-shown r a tree limits p q turn (Waiting parked) o deps fits shown b =
-    (shown.0, shown.1 ∙ later_deps parked.job (omega (arith, fits.at_turn, fits.stopped)))
+    (shown.0, shown.1 ∙ later_deps parked.begun.value.job (omega (arith, fits.at_turn, fits.stopped)))
 stage-shown r a tree limits p q turn (Ready work) o deps fits shown b = absurd shown
 stage-shown r a tree limits p q turn Out o deps fits shown b = absurd shown
 stage-shown r a tree limits p q turn (Decided fact) o deps fits shown b = (shown.0, shown.1)

@@ -1,5 +1,5 @@
 -- How the slots stand for the entries.
-use Rattle.std.proofs.Common.{cond, map, remove, slice_get, slice_set, slice_index_or, option_and_then, ◌≡◌, ℕ, zero, suc, ◌<◌, ◌≤◌, Bool, true, false, inl, inr, List, [], ◌∷◌, length, filter, Option, Some, None, is_some, IsNone, rules, refl, sym, ap, subst, ◌∙◌, arith, bytes_eq}
+use Rattle.std.proofs.Common.{map, remove, slice_get, slice_set, slice_index_or, option_and_then, ◌≡◌, ℕ, zero, suc, ◌<◌, ◌≤◌, Bool, true, false, inl, inr, List, [], ◌∷◌, length, filter, Option, Some, None, is_some, IsNone, rules, refl, sym, ap, subst, ◌∙◌, arith, bytes_eq}
 use Rattle.std.proofs.lemmas.Bool.{cases_Bool}
 use Rattle.redo_tree.specs.Tree.{Tree}
 use Rattle.redo_core.specs.Rules.{Ask, Rules, AreLawful}
@@ -27,7 +27,6 @@ use Rattle.redo_core.proofs.Soundness.{IsSound}
 use Rattle.redo_step.specs.declared.deps.Dep.{Dep}
 use Rattle.redo_step.specs.declared.outcome.Outcome.{Outcome}
 use Rattle.std.proofs.lemmas.Slice.Eq.{bytes_eq-Decides}
-use mathlib.Core.Path.{fun_ext}
 
 -- as many entries are out as slots
 pub out_count-slots : (r : Rules) (a : Ask) (ps : List (List ℕ)) (slots : List Slot) → length slots ≡ length ps →

@@ -1,11 +1,11 @@
 -- What holds of the entries of every state of the schedule, and that entering and deciding keep it.
-use Rattle.std.proofs.Common.{◌≡◌, ℕ, zero, suc, ◌<◌, ◌≤◌, max, false, cond, ◌⊎◌, inl, inr, List, [], Option, Some, None, is_some, flat_map, refl, sym, ap, subst, ◌∙◌, arith, bytes_eq}
+use Rattle.std.proofs.Common.{◌≡◌, ℕ, zero, suc, ◌≤◌, max, false, cond, ◌⊎◌, inl, inr, List, [], Option, Some, None, is_some, flat_map, refl, sym, ap, subst, ◌∙◌, arith, bytes_eq}
 use Rattle.std.proofs.lemmas.Bool.{cases_Bool, cases_lt, both_ways}
 use Rattle.std.proofs.lemmas.Slice.Eq.{bytes_eq-Decides}
 use Rattle.redo_core.specs.Paths.{IsAmong, AreDistinct, with_new}
 use Rattle.redo_step.specs.Record.{Progress}
 use Rattle.redo_core.specs.Rules.{Rules, AreLawful, Extends, operands}
-use Rattle.redo_core.specs.Outcomes.{outcome_at, asked_at, reached_in, needed_at}
+use Rattle.redo_core.specs.Outcomes.{outcome_at, asked_at, reached_in}
 use Rattle.redo_core.specs.Schedule.{Entry, paths_of, entry_of, outcome_of, outcomes_of, only, nothing_known, new_entry, entered, put, sent_out, advanced, moved_on}
 use Rattle.redo_core.specs.Turns.{deps_at_turn, progress_at_turn, CameTo}
 use Rattle.redo_core.proofs.PathLists.{with_new-first, with_new-second, with_new-cases, with_new-distinct, flat_map-among, flat_map-from}

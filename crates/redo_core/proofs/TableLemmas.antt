@@ -1,5 +1,5 @@
 -- What changes of single slots keep.
-use Rattle.std.proofs.Common.{map, remove, slice_get, slice_set, ◌≡◌, ℕ, zero, suc, ◌+◌, ◌<◌, ◌≤◌, Bool, true, false, ◌⊎◌, inl, inr, List, [], ◌∷◌, ◌++◌, length, length-set, length-append, filter, Option, Some, None, refl, sym, ap, subst, ◌∙◌, arith, bytes_eq}
+use Rattle.std.proofs.Common.{drop, remove, slice_get, slice_set, ◌≡◌, ℕ, zero, suc, ◌<◌, true, ◌⊎◌, inl, inr, List, [], ◌∷◌, ◌++◌, length, length-set, Some, None, refl, sym, ap, subst, ◌∙◌, arith, bytes_eq}
 use Rattle.std.proofs.lemmas.Bool.{cases_Bool, both_ways}
 use Rattle.redo_tree.specs.Tree.{Tree}
 use Rattle.redo_core.specs.Paths.{IsAmong, AreDistinct}
@@ -7,18 +7,16 @@ use Rattle.redo_core.specs.Rules.{Ask, Rules, AreLawful, Extends, operands}
 use Rattle.redo_core.proofs.Entries.{entry_of-put_other}
 use Rattle.redo_step.specs.declared.deps.Dep.{Dep}
 use Rattle.redo_core.specs.Outcomes.{outcome_at}
-use Rattle.redo_core.specs.Schedule.{Entry, outcome_of, outcomes_of, paths_of, entry_of, put}
-use Rattle.redo_core.specs.Slots.{entries_from, slot_entries, slot_entry, stage_deps, stage_outcome, path_at, is_stage_out, is_stage_ready, is_stage_waiting, Fits, AllFit, AllWatched, AllWatchersBelow, IsWatched, IsPlace, IsQueue}
+use Rattle.redo_core.specs.Schedule.{outcome_of, outcomes_of}
+use Rattle.redo_core.specs.Slots.{entries_from, slot_entry, stage_deps, stage_outcome, path_at, is_stage_waiting, Fits, AllFit, waited_by, AllWatched, AllWatchersBelow, IsWatched, IsPlace}
 use Rattle.redo_core.specs.Works.{job_deps}
 use Rattle.redo_core.specs.declared.table.Slot.{Slot}
 use Rattle.redo_core.specs.declared.table.Stage.{Stage}
 use Rattle.redo_core.specs.declared.table.Stage.TheVariants.{Waiting, Ready, Out, Decided}
 use Rattle.redo_core.proofs.Depth.{cases_Option, operand-target}
-use Rattle.redo_core.proofs.PathLists.{IsAmong-same}
 use Rattle.redo_core.proofs.Queues.{slice_get-among}
-use Rattle.redo_core.proofs.SlotLemmas.{entry_of-slots, paths_of-slots, slot_entries-set}
+use Rattle.redo_core.proofs.SlotLemmas.{entry_of-slots, slot_entries-set}
 use Rattle.std.proofs.lemmas.Slice.Eq.{bytes_eq-Decides}
-use Rattle.redo_step.specs.declared.outcome.Outcome.{Outcome}
 
 pub slice_get-place : (xs : List ℕ) (i k : ℕ) → slice_get xs i ≡ Some k → IsPlace xs k
 slice_get-place [] i k h = cc
@@ -97,12 +95,13 @@ Fits-more r lawful a b tree limits p turn (Waiting parked) more h = record {
   of_target = h.of_target;
   at_turn = h.at_turn;
   stopped = h.stopped;
-  within = h.within;
-  answered = λ k d q below at is none. elim (cases_Option (a q)) [
-    | inl no_answer ↦ h.answered k d q below at is no_answer
-    | inr some ↦ let also = more q some.0 is.1 some.1 in cc
+  answered = λ k q below at none. elim (cases_Option (a q)) [
+    | inl no_answer ↦ h.answered k q below at no_answer
+    | inr some ↦
+        let target = operand-target r lawful (drop parked.begun.value.facts.gained parked.begun.value.job.state.entries) q (slice_get-among (waited_by r parked.begun.value) k q at) in
+        let also = more q some.0 target some.1 in cc
   ];
-  told = λ q o known. let was = h.told q o known in (was.0, more q o (operand-target r lawful (job_deps parked.job) q was.0) was.1);
+  told = λ q o known. let was = h.told q o known in (was.0, more q o (operand-target r lawful (job_deps parked.begun.value.job) q was.0) was.1);
   goes_on = h.goes_on;
   gained_within = h.gained_within;
   gained = h.gained;

@@ -1,37 +1,34 @@
 -- Looking again at what waits keeps the entries.
-use Rattle.std.proofs.Common.{map, remove, slice_get, slice_set, ◌≡◌, ℕ, zero, suc, ◌+◌, ◌<◌, ◌≤◌, Bool, true, false, ◌⊎◌, inl, inr, List, [], ◌∷◌, ◌++◌, length, length-set, filter, filter_map, Option, Some, None, not, refl, sym, ap, subst, ◌∙◌, arith, bytes_eq}
+use Rattle.std.proofs.Common.{map, remove, slice_get, slice_set, ◌≡◌, ℕ, zero, suc, ◌+◌, ◌<◌, ◌≤◌, Bool, true, false, ◌⊎◌, inl, inr, List, [], ◌∷◌, ◌++◌, length, length-set, filter, filter_map, drop, Option, Some, None, not, refl, sym, ap, subst, ◌∙◌, arith, bytes_eq}
 use Rattle.std.proofs.lemmas.Bool.{cases_Bool, both_ways, not-true, not_from_false}
 use Rattle.redo_tree.specs.Tree.{Tree}
 use Rattle.redo_core.specs.Paths.{IsAmong, AreDistinct}
 use Rattle.redo_core.specs.Rules.{Ask, Rules, AreLawful, Extends, operands, changed}
 use Rattle.redo_core.specs.Outcomes.{outcome_at}
 use Rattle.redo_core.specs.Build.{rules_of}
-use Rattle.redo_core.specs.Schedule.{Entry, outcome_of, outcomes_of, paths_of, entry_of, put}
-use Rattle.redo_core.specs.Slots.{table_entries, entries_from, slot_entries, slot_entry, stage_deps, stage_outcome, path_at, is_stage_out, is_stage_ready, is_stage_waiting, is_stage_decided, Fits, AllFit, AllWatched, AllWatchersBelow, AllAnswered, AnsweredFrom, AnsweredBelow, IsOperand, IsWatched, IsPlace, ArePlacesOnce, IsQueue, IsTable, IsTableOf, IsParked, IsLookedAt, IsLackingAt, IsWatchAdded, IsFreedAt, IsFed, IsStandingTable, IsDecidedSlot}
-use Rattle.redo_core.specs.Standing.{AreStanding}
-use Rattle.redo_core.specs.Works.{job_deps}
+use Rattle.redo_core.specs.Schedule.{Entry, outcome_of, outcomes_of, entry_of}
+use Rattle.redo_core.specs.Slots.{table_entries, entries_from, slot_entries, slot_entry, stage_deps, stage_outcome, path_at, is_stage_out, is_stage_ready, is_stage_waiting, is_stage_decided, Fits, AllWatched, AllAnswered, AreDecidedFrom, AreNumbers, IsNumbered, waited_by, IsDecidedNumber, IsOperand, IsWatched, IsPlace, ArePlacesOnce, IsQueue, IsTable, IsTableOf, IsParked, IsLookedAt, IsLackingAt, IsWatchAdded, IsFreedAt, IsFed, IsStandingTable, IsDecidedSlot}
+use Rattle.redo_core.specs.Works.{job_deps, told_in}
 use Rattle.redo_core.specs.declared.table.Slot.{Slot}
 use Rattle.redo_core.specs.declared.table.Table.{Table}
 use Rattle.redo_core.specs.declared.table.Parked.{Parked}
 use Rattle.redo_core.specs.declared.table.Stage.{Stage}
 use Rattle.redo_core.specs.declared.table.Stage.TheVariants.{Waiting, Ready, Out, Decided}
-use Rattle.redo_core.proofs.PathLists.{IsAmong-same, filter-passes, filter-from}
-use Rattle.redo_core.proofs.Queues.{slice_get-among, filter-keeps}
-use Rattle.redo_core.proofs.Depth.{cases_Option, operand-target}
+use Rattle.redo_core.proofs.PathLists.{filter-passes, filter-from}
+use Rattle.redo_core.proofs.Queues.{filter-keeps, slice_get-among}
+use Rattle.redo_core.proofs.Numbers.{numbers-number, numbers-path, numbered-set, among-place, drop-place, place-drop}
+use Rattle.redo_core.proofs.Depth.{cases_Option}
 use Rattle.redo_core.proofs.Lawful.{rules_lawful}
 use Rattle.redo_core.proofs.TableLemmas.{fits-set}
 use Rattle.redo_core.proofs.Handover.{taken-work, taken-deep}
 use Rattle.redo_core.proofs.TurnBound.{turn-below}
 use Rattle.redo_core.proofs.Jobs.{asked_of_job, asked_by_job}
-use Rattle.redo_core.proofs.Entries.{among-entry_of, entry_of-path}
 use Rattle.redo_core.specs.Turns.{IsWork}
-use Rattle.redo_core.specs.declared.work.Work.{Work}
 use Rattle.redo_step.specs.declared.deps.DepKind.{DepKind}
 use Rattle.redo_step.specs.declared.deps.DepKind.TheVariants.{Change, Create}
-use Rattle.redo_core.proofs.SlotLemmas.{entry_of-slots, paths_of-slots, slot_entries-set, slice_get-from, slice_get-below_some}
-use Rattle.redo_core.proofs.TableLemmas.{place-append, place-left, place-right, get-set_cases, get-set_same, get-set_other, IsWatched-set, watchers-set}
+use Rattle.redo_core.proofs.SlotLemmas.{entry_of-slots, paths_of-slots, slice_get-from, slice_get-below_some}
+use Rattle.redo_core.proofs.TableLemmas.{place-slice_get, place-append, place-left, place-right, get-set_cases, get-set_same, IsWatched-set, watchers-set}
 use Rattle.redo_step.specs.declared.deps.Dep.{Dep}
-use Rattle.redo_step.specs.declared.outcome.Outcome.{Outcome}
 
 changed-path : (kind : DepKind) (p q : List ℕ) → changed kind p ≡ Some q → p ≡ q
 changed-path Change p q h = cc
@@ -178,6 +175,23 @@ module _ (slots : List Slot) (ready freed : List ℕ) (at : ℕ) (old new : Slot
         once = once-push freed at queue.once (λ m. out (inr m));
       }
 
+-- what is waited for stands among what was declared
+pub waited-declared : (r : Rules) (ds : List Dep) (n : ℕ) (q : List ℕ) → IsAmong (operands r (drop n ds)) q → IsAmong (operands r ds) q
+waited-declared r ds n q m =
+    let found = operand-entry r (drop n ds) q m in
+    let place = place-drop ds n found.0 found.1 found.2 in
+    entry-operand r ds place.0 found.1 q place.1 found.3
+
+-- an operand that was declared from one place on is waited for
+pub waited-place : (r : Rules) (ds : List Dep) (n k : ℕ) (d : Dep) (q : List ℕ) → n ≤ k → slice_get ds k ≡ Some d → IsOperand r d q →
+    (j : ℕ) × (slice_get (operands r (drop n ds)) j ≡ Some q)
+waited-place r ds n k d q h g is =
+    let place = drop-place ds n k d h g in
+    among-place (operands r (drop n ds)) q (entry-operand r (drop n ds) place.0 d q place.1 is)
+
+pub number-decided : (t : Table) (q : List ℕ) (n : ℕ) → slice_get t.targets.keys n ≡ Some q → IsDecidedNumber t n → IsDecidedSlot t q
+number-decided t q n path d = record { at = n; slot = d.0; path = path; there = d.1; decided = d.2 }
+
 -- the table before a step
 module _ (tree : Tree) (limits : ℕ × ℕ) (t : Table) (freed : List ℕ) (table : IsTableOf tree limits t freed) (standing : IsStandingTable tree limits t) where
   abbrev r : Rules
@@ -214,42 +228,49 @@ module _ (tree : Tree) (limits : ℕ × ℕ) (t : Table) (freed : List ℕ) (tab
     parked_fits : Fits r (outcomes_of es) tree limits (path_at t.targets.keys at) slot.turn (Waiting parked)
     parked_fits = let P : Stage → Type 0 = Fits r (outcomes_of es) tree limits (path_at t.targets.keys at) slot.turn in subst P is (table.fits at slot there)
 
-    pub parked_within : parked.held ≤ length parked.job.state.entries
-    parked_within = parked_fits.within
-
-    pub parked_deps : stage_deps (rules_of tree limits) (outcome_at (rules_of tree limits) limits.0) (path_at t.targets.keys at) slot.turn slot.stage ≡ job_deps parked.job
+    pub parked_deps : stage_deps (rules_of tree limits) (outcome_at (rules_of tree limits) limits.0) (path_at t.targets.keys at) slot.turn slot.stage ≡ job_deps parked.begun.value.job
     parked_deps = rw is refl
 
     -- what the job declared is what its record waits for
-    pub own_asked : (q : List ℕ) → IsAmong (operands (rules_of tree limits) parked.job.state.entries) q → IsAmong (operands (rules_of tree limits) (job_deps parked.job)) q
-    own_asked q m = asked_of_job tree limits parked.job parked_fits.is_job (omega (arith, parked_fits.at_turn, parked_fits.stopped)) q m
+    pub own_asked : (q : List ℕ) → IsAmong (operands (rules_of tree limits) parked.begun.value.job.state.entries) q → IsAmong (operands (rules_of tree limits) (job_deps parked.begun.value.job)) q
+    own_asked q m = asked_of_job tree limits parked.begun.value.job parked_fits.is_job (omega (arith, parked_fits.at_turn, parked_fits.stopped)) q m
 
-    pub own_from : (q : List ℕ) → IsAmong (operands (rules_of tree limits) (job_deps parked.job)) q → IsAmong (operands (rules_of tree limits) parked.job.state.entries) q
-    own_from q m = asked_by_job tree limits parked.job parked_fits.is_job q m
+    pub own_from : (q : List ℕ) → IsAmong (operands (rules_of tree limits) (job_deps parked.begun.value.job)) q → IsAmong (operands (rules_of tree limits) parked.begun.value.job.state.entries) q
+    own_from q m = asked_by_job tree limits parked.begun.value.job parked_fits.is_job q m
 
-    pub parked_seen : (k : ℕ) (d : Dep) → slice_get parked.job.state.entries k ≡ Some d → IsOperand (rules_of tree limits) d d.path → IsAmong t.targets.keys d.path
-    parked_seen k d g o =
-        let m = own_asked d.path (entry-operand r parked.job.state.entries k d d.path g o) in
-        let P : List Dep → Type 0 = λ ds. IsAmong (operands r ds) d.path in
-        let Q : List (List ℕ) → Type 0 = λ xs. IsAmong xs d.path in
-        subst Q (paths_of-slots r (outcome_at r limits.0) t.targets.keys t.slots.items table.one_each)
-        (standing.1.closed (path_at t.targets.keys at) d.path (slot_entry r (outcome_at r limits.0) (path_at t.targets.keys at) slot) (entry_there at slot there)
-        (subst P (sym parked_deps) m))
+    pub parked_numbered : AreNumbers t.targets.keys parked.operands.items (waited_by (rules_of tree limits) parked.begun.value)
+    parked_numbered = let P : Stage → Type 0 = IsNumbered r t.targets.keys in subst P is (table.numbered at slot there)
 
-    -- nothing from the first entry that was not looked at on is undecided
-    module _ (rest : AnsweredFrom (rules_of tree limits) t parked.job.state.entries parked.held (length parked.job.state.entries)) where
-      pub parked_answered : AllAnswered (rules_of tree limits) (outcomes_of (table_entries (rules_of tree limits) limits.0 t)) (job_deps parked.job)
+    pub parked_seen : (k : ℕ) → IsPlace parked.operands.items k → k < length t.slots.items
+    parked_seen k m =
+        let found = place-slice_get parked.operands.items k m in
+        let path = numbers-number t.targets.keys parked.operands.items (waited_by r parked.begun.value) found.0 k parked_numbered found.1 in
+        omega (arith, table.one_each, slice_get-below_some t.targets.keys k path.0 path.2)
+
+    -- what is waited for is asked for
+    pub waited_asked : (q : List ℕ) → IsAmong (waited_by (rules_of tree limits) parked.begun.value) q → IsAmong (operands (rules_of tree limits) (job_deps parked.begun.value.job)) q
+    waited_asked q m = own_asked q (waited-declared r parked.begun.value.job.state.entries parked.begun.value.facts.gained q m)
+
+    -- nothing from the first operand that was not looked at on is undecided
+    module _ (rest : AreDecidedFrom t parked.operands.items parked.held (length parked.operands.items)) where
+      pub parked_answered : AllAnswered (rules_of tree limits) (outcomes_of (table_entries (rules_of tree limits) limits.0 t)) (job_deps parked.begun.value.job)
       parked_answered q m none =
-          let found = operand-entry r parked.job.state.entries q (own_from q m) in
-          let path = operand-path r found.1 q found.3 in
-          elim (Rattle.std.proofs.lemmas.Bool.cases_lt found.0 parked.held) [
-            | inl before ↦ parked_fits.answered found.0 found.1 q before found.2 found.3 none
+          let entries = parked.begun.value.job.state.entries in
+          let found = operand-entry r entries q (own_from q m) in
+          elim (Rattle.std.proofs.lemmas.Bool.cases_lt found.0 parked.begun.value.facts.gained) [
+            | inl before ↦ elim (cases_Option (told_in parked.begun.value.facts q)) [
+              | inl lost ↦ parked_fits.gained found.0 found.1 q before found.2 found.3 lost
+              | inr some ↦ let known = (parked_fits.told q some.0 some.1).1 in let bad = sym known ∙ none in cc
+            ]
             | inr after' ↦
-                let P : List ℕ → Type 0 = λ x. IsOperand r found.1 x in
-                let Q : List ℕ → Type 0 = λ x. outcomes_of es x ≡ None in
-                decided-known found.1.path
-                (rest found.0 found.1 after' (slice_get-below_some parked.job.state.entries found.0 found.1 found.2) found.2 (subst P (sym path) found.3))
-                (subst Q (sym path) none)
+                let place = waited-place r entries parked.begun.value.facts.gained found.0 found.1 q after' found.2 found.3 in
+                elim (Rattle.std.proofs.lemmas.Bool.cases_lt place.0 parked.held) [
+                  | inl before ↦ parked_fits.answered place.0 q before place.1 none
+                  | inr later ↦
+                      let number = numbers-path t.targets.keys parked.operands.items (waited_by r parked.begun.value) place.0 q parked_numbered place.1 in
+                      decided-known q (number-decided t q number.0 number.2
+                      (rest place.0 number.0 later (slice_get-below_some parked.operands.items place.0 number.0 number.1) number.1)) none
+                ]
           ]
 
       parked_entry : Entry
@@ -270,10 +291,10 @@ module _ (tree : Tree) (limits : ℕ × ℕ) (t : Table) (freed : List ℕ) (tab
           let e = slot_entry r (outcome_at r limits.0) (path_at t.targets.keys at) slot in
           let work : IsWork r (path_at t.targets.keys at) slot.turn e.deps =
           taken-work r lawful standing.0 es standing.1 (path_at t.targets.keys at) e (entry_there at slot there) parked_open entry_answered in
-          let W : Type 0 = (work' : IsWork r parked.job.target parked.job.turn (job_deps parked.job)) × Extends r (outcomes_of es) (outcome_at r work'.depth) in
+          let W : Type 0 = (work' : IsWork r parked.begun.value.job.target parked.begun.value.job.turn (job_deps parked.begun.value.job)) × Extends r (outcomes_of es) (outcome_at r work'.depth) in
           let A : List Dep → Type 0 = λ ds. (work' : IsWork r (path_at t.targets.keys at) slot.turn ds) × Extends r (outcomes_of es) (outcome_at r work'.depth) in
-          let B : List ℕ → Type 0 = λ p. (work' : IsWork r p slot.turn (job_deps parked.job)) × Extends r (outcomes_of es) (outcome_at r work'.depth) in
-          let C : ℕ → Type 0 = λ k. (work' : IsWork r parked.job.target k (job_deps parked.job)) × Extends r (outcomes_of es) (outcome_at r work'.depth) in
+          let B : List ℕ → Type 0 = λ p. (work' : IsWork r p slot.turn (job_deps parked.begun.value.job)) × Extends r (outcomes_of es) (outcome_at r work'.depth) in
+          let C : ℕ → Type 0 = λ k. (work' : IsWork r parked.begun.value.job.target k (job_deps parked.begun.value.job)) × Extends r (outcomes_of es) (outcome_at r work'.depth) in
           let deep : W = subst C (sym parked_fits.at_turn) (subst B (sym parked_fits.of_target) (subst A parked_deps
           (taken-deep r lawful standing.0 es standing.1 (path_at t.targets.keys at) e (entry_there at slot there) parked_open entry_answered))) in
           let below = turn-below r lawful standing.0 es standing.1 (path_at t.targets.keys at) e (entry_there at slot there) parked_open entry_answered in
@@ -285,6 +306,8 @@ module _ (tree : Tree) (limits : ℕ × ℕ) (t : Table) (freed : List ℕ) (tab
               was = is;
               distinct = distinct_keys;
               waits = parked_fits;
+              fits = table.fits;
+              numbered = parked_numbered;
               rest = rest;
               is_work = deep.0;
               deep = deep.1;
@@ -324,8 +347,9 @@ module _ (tree : Tree) (limits : ℕ × ℕ) (t : Table) (freed : List ℕ) (tab
     pub table-same : (freed' : List ℕ) → IsQueue (slice_set t.slots.items at new) t.ready.items freed' →
         ((k : ℕ) → IsPlace new.watchers.items k → k < length t.slots.items) →
         Fits (rules_of tree limits) (outcomes_of (table_entries (rules_of tree limits) limits.0 t)) tree limits (path_at t.targets.keys at) new.turn new.stage →
+        IsNumbered (rules_of tree limits) t.targets.keys new.stage →
         IsTable (rules_of tree limits) tree limits t.targets.keys (slice_set t.slots.items at new) t.ready.items t.out freed'
-    table-same freed' queue below fit =
+    table-same freed' queue below fit numbers =
         let len = length-set t.slots.items at new in
         let P : List Entry → Type 0 = λ xs. Extends r (outcomes_of es) (outcomes_of xs) in
         let F : List Entry → Type 0 = λ xs. Fits r (outcomes_of xs) tree limits (path_at t.targets.keys at) new.turn new.stage in
@@ -336,13 +360,14 @@ module _ (tree : Tree) (limits : ℕ × ℕ) (t : Table) (freed : List ℕ) (tab
           out_counted = table.out_counted ∙ sym (count-same t.slots.items at old new there (ap (λ (e : Entry). e.is_out) same));
           fits = fits-set r lawful limits.0 t.targets.keys t.slots.items at (path_at t.targets.keys at) old new distinct_keys (path_there at old there) there tree limits
               (subst P (sym entries-same) (λ q o s h. h)) table.fits (subst F (sym entries-same) fit);
+          numbered = numbered-set r t.targets.keys t.slots.items at new numbers table.numbered;
           queue = queue;
           watchers_below = watchers-set t.slots.items at old new there below table.watchers_below;
         }
 
   module _ (at : ℕ) (slot : Slot) (parked : Parked) (there : slice_get t.slots.items at ≡ Some slot) (is : slot.stage ≡ Waiting parked) (u : Table) where
     -- a watcher is added
-    module _ (place from i : ℕ) (w : IsWatchAdded t u at place) (l : IsLackingAt (rules_of tree limits) t parked.job.state.entries from i place) where
+    module _ (place from i : ℕ) (w : IsWatchAdded t u at place) (l : IsLackingAt t parked.operands.items from i place) where
       other_open : stage_outcome w.other.stage ≡ None
       other_open =
           let both : Some w.other ≡ Some l.slot = sym w.there ∙ l.there in
@@ -368,10 +393,13 @@ module _ (tree : Tree) (limits : ℕ × ℕ) (t : Table) (freed : List ℕ) (tab
       watch_fits : Fits (rules_of tree limits) (outcomes_of (table_entries (rules_of tree limits) limits.0 t)) tree limits (path_at t.targets.keys place) w.new.turn w.new.stage
       watch_fits = rw (w.turn, w.stage) (table.fits place w.other w.there)
 
+      watch_numbered : IsNumbered (rules_of tree limits) t.targets.keys w.new.stage
+      watch_numbered = rw w.stage (table.numbered place w.other w.there)
+
       pub watch-table : IsTableOf tree limits u freed
       watch-table =
           let new = table-same place w.other w.new w.there other_open new_open same_entry freed
-          (queue-same t.slots.items t.ready.items freed place w.other w.new w.there table.queue (ap is_stage_ready w.stage)) watch_below watch_fits in
+          (queue-same t.slots.items t.ready.items freed place w.other w.new w.there table.queue (ap is_stage_ready w.stage)) watch_below watch_fits watch_numbered in
           let S : List Slot → Type 0 = λ xs. IsTable r tree limits t.targets.keys xs t.ready.items t.out freed in
           moved u w.rest.0 w.rest.1 w.rest.2 freed (subst S (sym w.slots) new)
 
@@ -384,10 +412,11 @@ module _ (tree : Tree) (limits : ℕ × ℕ) (t : Table) (freed : List ℕ) (tab
         | inr before ↦ (x, before.1, refl, refl)
       ]
 
-      watched_here : IsWatched (rules_of tree limits) t.targets.keys (slice_set t.slots.items place w.new) at (job_deps parked.job)
+      watched_here : IsWatched (rules_of tree limits) t.targets.keys (slice_set t.slots.items place w.new) at (job_deps parked.begun.value.job)
       watched_here =
-          let path : path_at t.targets.keys place ≡ l.dep.path = rw l.path refl in
-          let P : List ℕ → Type 0 = λ x. IsAmong (operands r (job_deps parked.job)) x in
+          let number = numbers-number t.targets.keys parked.operands.items (waited_by r parked.begun.value) i place (parked_numbered at slot parked there is) l.number in
+          let path : path_at t.targets.keys place ≡ number.0 = rw number.2 refl in
+          let P : List ℕ → Type 0 = λ x. IsAmong (operands r (job_deps parked.begun.value.job)) x in
           let Q : List ℕ → Type 0 = λ xs. IsPlace xs at in
           record {
             at = place;
@@ -395,7 +424,7 @@ module _ (tree : Tree) (limits : ℕ × ℕ) (t : Table) (freed : List ℕ) (tab
             there = get-set_same t.slots.items place w.other w.new w.there;
             is_open = new_open;
             listed = subst Q (sym w.listed) (place-right w.other.watchers.items (at ∷ []) at (inl refl));
-            asked = subst P (sym path) (own_asked at slot parked there is l.dep.path (entry-operand r parked.job.state.entries i l.dep l.dep.path l.entry l.waits));
+            asked = subst P (sym path) (waited_asked at slot parked there is number.0 (slice_get-among (waited_by r parked.begun.value) i number.0 number.1));
           }
 
       watch-watched : (pending : List ℕ) → AllWatched (rules_of tree limits) limits.0 t.targets.keys t.slots.items (at ∷ pending) →
@@ -415,9 +444,9 @@ module _ (tree : Tree) (limits : ℕ × ℕ) (t : Table) (freed : List ℕ) (tab
                   let P : ℕ → Type 0 = λ j. slice_get t.slots.items j ≡ Some old.0 in
                   let both : Some slot ≡ Some old.0 = sym there ∙ subst P (sym here) old.1 in
                   let is_slot : old.0 ≡ slot = cc in
-                  let C : Stage → Type 0 = λ st. D st old.0.turn ≡ job_deps parked.job in
-                  let deps : D old.0.stage old.0.turn ≡ job_deps parked.job = subst C (sym (ap (λ (y : Slot). y.stage) is_slot ∙ is)) refl in
-                  let V : ℕ → Type 0 = λ j. IsWatched r t.targets.keys (slice_set t.slots.items place w.new) j (job_deps parked.job) in
+                  let C : Stage → Type 0 = λ st. D st old.0.turn ≡ job_deps parked.begun.value.job in
+                  let deps : D old.0.stage old.0.turn ≡ job_deps parked.begun.value.job = subst C (sym (ap (λ (y : Slot). y.stage) is_slot ∙ is)) refl in
+                  let V : ℕ → Type 0 = λ j. IsWatched r t.targets.keys (slice_set t.slots.items place w.new) j (job_deps parked.begun.value.job) in
                   inr (subst W (sym (same ∙ deps)) (subst V here watched_here))
               | inr later ↦ inl later
             ]
@@ -434,7 +463,7 @@ module _ (tree : Tree) (limits : ℕ × ℕ) (t : Table) (freed : List ℕ) (tab
       }
 
     -- the job is a work
-    module _ (f : IsFreedAt tree limits t u at) (all_held : AnsweredFrom (rules_of tree limits) t parked.job.state.entries parked.held (length parked.job.state.entries)) where
+    module _ (f : IsFreedAt tree limits t u at) (all_held : AreDecidedFrom t parked.operands.items parked.held (length parked.operands.items)) where
       was_parked : (f.old ≡ slot) × (f.parked ≡ parked)
       was_parked =
           let both : Some f.old ≡ Some slot = sym f.there ∙ there in
@@ -442,17 +471,17 @@ module _ (tree : Tree) (limits : ℕ × ℕ) (t : Table) (freed : List ℕ) (tab
           let stages : Waiting f.parked ≡ Waiting parked = sym f.was ∙ ap (λ (y : Slot). y.stage) same ∙ is in
           (same, (cc))
 
-      deps_parked : f.work.deps ≡ job_deps parked.job
-      deps_parked = f.same.4 ∙ ap (λ (x : Parked). job_deps x.job) was_parked.1
+      deps_parked : f.work.deps ≡ job_deps parked.begun.value.job
+      deps_parked = f.same.4 ∙ ap (λ (x : Parked). job_deps x.begun.value.job) was_parked.1
 
       freed_entry : slot_entry (rules_of tree limits) (outcome_at (rules_of tree limits) limits.0) (path_at t.targets.keys at) f.new ≡
           slot_entry (rules_of tree limits) (outcome_at (rules_of tree limits) limits.0) (path_at t.targets.keys at) slot
       freed_entry =
           let E : ℕ → List Dep → Entry = λ n ds. record { path = path_at t.targets.keys at; turn = n; deps = ds; outcome = None; is_out = false } in
           let one : slot_entry r (outcome_at r limits.0) (path_at t.targets.keys at) f.new ≡ E f.new.turn f.work.deps = rw f.is refl in
-          let two : slot_entry r (outcome_at r limits.0) (path_at t.targets.keys at) slot ≡ E slot.turn (job_deps parked.job) = rw is refl in
+          let two : slot_entry r (outcome_at r limits.0) (path_at t.targets.keys at) slot ≡ E slot.turn (job_deps parked.begun.value.job) = rw is refl in
           let turn : f.new.turn ≡ slot.turn = f.turn ∙ ap (λ (y : Slot). y.turn) was_parked.0 in
-          let mid : E f.new.turn f.work.deps ≡ E slot.turn (job_deps parked.job) = rw (turn, deps_parked) refl in
+          let mid : E f.new.turn f.work.deps ≡ E slot.turn (job_deps parked.begun.value.job) = rw (turn, deps_parked) refl in
           one ∙ mid ∙ sym two
 
       slot_open : stage_outcome slot.stage ≡ None
@@ -469,8 +498,8 @@ module _ (tree : Tree) (limits : ℕ × ℕ) (t : Table) (freed : List ℕ) (tab
           let fits : Fits r (outcomes_of es) tree limits (path_at t.targets.keys at) slot.turn (Waiting parked) =
           (let P : Stage → Type 0 = Fits r (outcomes_of es) tree limits (path_at t.targets.keys at) slot.turn in subst P is (table.fits at slot there)) in
           let turn : f.new.turn ≡ slot.turn = f.turn ∙ ap (λ (y : Slot). y.turn) was_parked.0 in
-          let target = f.same.2 ∙ ap (λ (x : Parked). x.job.target) was_parked.1 ∙ fits.of_target in
-          let at_turn = f.same.3 ∙ ap (λ (x : Parked). x.job.turn) was_parked.1 ∙ fits.at_turn ∙ sym turn in
+          let target = f.same.2 ∙ ap (λ (x : Parked). x.begun.value.job.target) was_parked.1 ∙ fits.of_target in
+          let at_turn = f.same.3 ∙ ap (λ (x : Parked). x.begun.value.job.turn) was_parked.1 ∙ fits.at_turn ∙ sym turn in
           let parts : IsParked tree limits (path_at t.targets.keys at) f.new.turn f.work = (f.same.0, f.same.1, target, at_turn) in
           let A : List Dep → Type 0 = AllAnswered r (outcomes_of es) in
           let P : Stage → Type 0 = Fits r (outcomes_of es) tree limits (path_at t.targets.keys at) f.new.turn in
@@ -480,7 +509,7 @@ module _ (tree : Tree) (limits : ℕ × ℕ) (t : Table) (freed : List ℕ) (tab
       freed-table =
           let new = table-same at slot f.new there slot_open freed_open freed_entry (freed ++ at ∷ [])
           (queue-freed t.slots.items t.ready.items freed at slot f.new there table.queue (rw is refl) (rw f.is refl))
-          (λ k m. table.watchers_below at k slot there (rw same_watchers at m)) freed_fits in
+          (λ k m. table.watchers_below at k slot there (rw same_watchers at m)) freed_fits (rw f.is tt) in
           let S : List Slot → Type 0 = λ xs. IsTable r tree limits t.targets.keys xs t.ready.items t.out (freed ++ at ∷ []) in
           moved u f.rest.0 f.rest.1 f.rest.2 (freed ++ at ∷ []) (subst S (sym f.slots) new)
 

@@ -1,6 +1,6 @@
 -- What a handed in piece does to the table is what the schedule says.
 use Rattle.std.proofs.Common.{map, slice_get, slice_set, ◌≡◌, ℕ, zero, suc, ◌+◌, ◌<◌, ◌≤◌, max, Bool, true, false, cond, ◌&&◌, ◌⊎◌, inl, inr, List, [], ◌∷◌, ◌++◌, length, take, drop, take-append-drop, filter, Option, Some, None, is_some, refl, sym, ap, subst, ◌∙◌, arith}
-use Rattle.std.proofs.lemmas.Bool.{cases_Bool, cases_lt, both_ways}
+use Rattle.std.proofs.lemmas.Bool.{cases_Bool}
 use Rattle.redo_tree.specs.Tree.{Tree}
 use Rattle.redo_step.specs.declared.deps.Dep.{Dep}
 use Rattle.redo_step.specs.declared.deps.DepKind.TheVariants.{Change}
@@ -12,34 +12,38 @@ use Rattle.redo_core.specs.Paths.{IsAmong, AreDistinct, is_among}
 use Rattle.redo_core.specs.Rules.{Ask, Rules, AreLawful, Extends, operands}
 use Rattle.redo_core.specs.Outcomes.{outcome_at}
 use Rattle.redo_core.specs.Build.{rules_of, world_of}
-use Rattle.redo_core.specs.Schedule.{Entry, State, outcome_of, outcomes_of, paths_of, entry_of, entered, put, only, advanced, moved_on, released, happens, IsOutAt}
+use Rattle.redo_core.specs.Schedule.{Entry, State, outcomes_of, paths_of, entry_of, entered, put, only, advanced, moved_on, released, IsOutAt}
 use Rattle.redo_core.specs.Schedule.Event.{Hand_in}
-use Rattle.redo_core.specs.Standing.{AreStanding, decided_count}
-use Rattle.redo_core.specs.Turns.{CameTo, IsPiece, deps_at_turn, progress_at_turn}
+use Rattle.redo_core.specs.Standing.{decided_count}
+use Rattle.redo_core.specs.Turns.{CameTo, deps_at_turn}
 use Rattle.redo_core.specs.Views.{FactView}
-use Rattle.redo_core.specs.Works.{job_deps, told_in, IsJobOf, IsStopped}
+use Rattle.redo_core.specs.Works.{job_deps, told_in, IsStopped}
 use Rattle.redo_core.specs.Ends.{end_progress}
-use Rattle.redo_core.specs.Slots.{table_entries, table_state, slot_entry, stage_deps, stage_outcome, is_stage_out, path_at, IsTableOf, IsPlace, AllWatched, IsWaitingWith, AreEnteredInto, IsDecidedStage, IsDecidedAt, IsParkedStage, IsParkedAt, IsOutThere, MayTakeIn, IsPutBackThere, state_after}
-use Rattle.redo_core.specs.declared.facts.Facts.{Facts}
+use Rattle.redo_core.specs.Slots.{table_entries, table_state, slot_entry, stage_deps, stage_outcome, is_stage_out, path_at, IsPlace, AreNumbers, waited_by, IsWaitingWith, AreEnteredInto, IsDecidedStage, IsDecidedAt, IsParkedStage, IsParkedAt, IsOutThere, MayTakeIn, IsPutBackThere, state_after}
+use Rattle.std.specs.Prelude.{Box}
+use Rattle.std.specs.declared.vec.Vec.{Vec}
+use Rattle.redo_core.specs.declared.table.Parked.{Parked}
+use Rattle.std.proofs.Common.{Global}
+use Rattle.redo_core.specs.declared.work.Begun.{Begun}
 use Rattle.redo_core.specs.declared.table.Slot.{Slot}
 use Rattle.redo_core.specs.declared.table.Stage.{Stage}
 use Rattle.redo_core.specs.declared.table.Stage.TheVariants.{Waiting, Ready, Out, Decided}
 use Rattle.redo_core.specs.declared.table.Table.{Table}
 use Rattle.redo_core.specs.declared.work.End.{End}
 use Rattle.redo_core.specs.declared.work.End.TheVariants.{Ended, Stopped}
-use Rattle.redo_core.proofs.PathLists.{is_among-true, with_new-first, with_new-second, with_new-distinct}
+use Rattle.redo_core.proofs.PathLists.{is_among-true, with_new-second, with_new-distinct}
 use Rattle.redo_core.proofs.Depth.{cases_Option, operand-target, deeper}
-use Rattle.redo_core.proofs.Entries.{entry_of-path, entry_of-among, outcomes_of-at, outcomes_of-entry, paths_of-entered, entry_of-entered_old, paths_of-put}
+use Rattle.redo_core.proofs.Entries.{outcomes_of-at, outcomes_of-entry, paths_of-entered, entry_of-entered_old}
 use Rattle.redo_core.proofs.Records.{operand-entered, entered-operand}
 use Rattle.redo_core.proofs.Lawful.{rules_lawful, sources-asked}
 use Rattle.redo_core.proofs.Jobs.{found_sources}
-use Rattle.redo_core.proofs.TurnLemmas.{only-some, only-among, CameTo-more, deps_at_turn-more, Extends-trans'}
+use Rattle.redo_core.proofs.TurnLemmas.{only-some, deps_at_turn-more, Extends-trans'}
 use Rattle.redo_core.proofs.TurnBound.{turn-below, asked-more}
 use Rattle.redo_core.proofs.Standing.{outcomes_of-deep}
 use Rattle.redo_core.proofs.Soundness.{IsSound, opening-sound, run-sound, happens-sound}
 use Rattle.redo_core.proofs.Handover.{piece-advanced}
 use Rattle.redo_core.proofs.SlotLemmas.{entry_of-slots, paths_of-slots, slice_get-from, slice_get-below_some}
-use Rattle.redo_core.proofs.TableSteps.{operand-entry, operand-path, entry-operand}
+use Rattle.redo_core.proofs.TableSteps.{operand-entry}
 use Rattle.redo_core.proofs.PutSteps.{put-entries, decided-table, decided-watched, parked-table, parked-watched}
 use Rattle.redo_core.proofs.EnterAll.{entered-append, entered-seen, operands-append}
 
@@ -62,14 +66,14 @@ decided-shows r a fact p turn Out h = absurd h
 decided-shows r a fact p turn (Decided held) h =
     let E : FactView → Entry = λ f. record { path = p; turn = turn; deps = f.deps; outcome = Some f.outcome; is_out = false } in ap E h
 
-parked-shows : (r : Rules) (a : Ask) (job : JobView) (facts : Facts) (p : List ℕ) (turn : ℕ) (stage : Stage) → IsParkedStage job facts stage →
+parked-shows : (r : Rules) (a : Ask) (begun : Box Begun Global) (numbers : Vec ℕ Global) (p : List ℕ) (turn : ℕ) (stage : Stage) → IsParkedStage begun numbers stage →
     ◌≡◌ {A = Entry} (record { path = p; turn = turn; deps = stage_deps r a p turn stage; outcome = stage_outcome stage; is_out = is_stage_out stage })
-    (record { path = p; turn = turn; deps = job_deps job; outcome = None; is_out = false })
-parked-shows r a job facts p turn (Waiting parked) h =
-    let E : JobView → Entry = λ j. record { path = p; turn = turn; deps = job_deps j; outcome = None; is_out = false } in ap E h.0
-parked-shows r a job facts p turn (Ready work) h = absurd h
-parked-shows r a job facts p turn Out h = absurd h
-parked-shows r a job facts p turn (Decided held) h = absurd h
+    (record { path = p; turn = turn; deps = job_deps begun.value.job; outcome = None; is_out = false })
+parked-shows r a begun numbers p turn (Waiting parked) h =
+    let E : Parked → Entry = λ x. record { path = p; turn = turn; deps = job_deps x.begun.value.job; outcome = None; is_out = false } in ap E h
+parked-shows r a begun numbers p turn (Ready work) h = absurd h
+parked-shows r a begun numbers p turn Out h = absurd h
+parked-shows r a begun numbers p turn (Decided held) h = absurd h
 
 job_deps-stopped : (job : JobView) (n : ℕ) → job.turn ≡ suc n → job_deps job ≡ record_so_far job
 job_deps-stopped job n e = rw e refl
@@ -233,8 +237,8 @@ module _ (tree : Tree) (limits : ℕ × ℕ) (t : Table) (at : ℕ) (end : End) 
         }
 
   -- a script that stopped
-  module _ (job : JobView) (facts : Facts) (stopped : end ≡ Stopped job facts) where
-    pub is_stopped : IsStopped tree limits may.is_end.is_piece.depth (path_at t.targets.keys at) may.slot.turn job facts
+  module _ (begun : Box Begun Global) (stopped : end ≡ Stopped begun) where
+    pub is_stopped : IsStopped tree limits may.is_end.is_piece.depth (path_at t.targets.keys at) may.slot.turn begun.value.job begun.value.facts
     is_stopped =
         let P : End → Type 0 = λ x. Rattle.redo_core.specs.Ends.IsEndOf tree limits may.is_end.is_piece.depth target may.slot.turn x in
         subst P stopped may.is_end.is_end
@@ -260,7 +264,7 @@ module _ (tree : Tree) (limits : ℕ × ℕ) (t : Table) (at : ℕ) (end : End) 
         way.1 ∙ one ∙ sym two
 
     -- what it held is known, and it had asked for it
-    held-known : (q : List ℕ) (o : Outcome) → told_in facts q ≡ Some o →
+    held-known : (q : List ℕ) (o : Outcome) → told_in begun.value.facts q ≡ Some o →
         IsAmong (operands (rules_of tree limits) (stage_deps (rules_of tree limits) (outcome_at (rules_of tree limits) limits.0) (path_at t.targets.keys at) may.slot.turn may.slot.stage)) q ×
         (outcomes_of (table_entries (rules_of tree limits) limits.0 t) q ≡ Some o)
     held-known q o h =
@@ -286,18 +290,18 @@ module _ (tree : Tree) (limits : ℕ × ℕ) (t : Table) (at : ℕ) (end : End) 
         ]
 
     -- entering what it declared since is entering all that its record asks for
-    pub enters-same : entered (rules_of tree limits) (table_entries (rules_of tree limits) limits.0 t) (operands (rules_of tree limits) (drop facts.gained job.state.entries)) ≡
+    pub enters-same : entered (rules_of tree limits) (table_entries (rules_of tree limits) limits.0 t) (operands (rules_of tree limits) (drop begun.value.facts.gained begun.value.job.state.entries)) ≡
         entered (rules_of tree limits) (table_entries (rules_of tree limits) limits.0 t) (operands (rules_of tree limits) (end_progress end).deps)
     enters-same =
-        let old = take facts.gained job.state.entries in
-        let new = drop facts.gained job.state.entries in
-        let none = sources-asked (world_of tree limits) (found_deps job) (found_sources tree limits job is_stopped.is_job) in
-        let whole = all-entered r es (found_deps job) job.state.entries ∙ ap (λ qs. entered r (entered r es qs) (operands r job.state.entries)) none in
-        let parts = ap (operands r) (sym (take-append-drop facts.gained job.state.entries)) ∙ operands-append r old new in
+        let old = take begun.value.facts.gained begun.value.job.state.entries in
+        let new = drop begun.value.facts.gained begun.value.job.state.entries in
+        let none = sources-asked (world_of tree limits) (found_deps begun.value.job) (found_sources tree limits begun.value.job is_stopped.is_job) in
+        let whole = all-entered r es (found_deps begun.value.job) begun.value.job.state.entries ∙ ap (λ qs. entered r (entered r es qs) (operands r begun.value.job.state.entries)) none in
+        let parts = ap (operands r) (sym (take-append-drop begun.value.facts.gained begun.value.job.state.entries)) ∙ operands-append r old new in
         let seen = entered-seen r es (operands r old) (λ q m.
         let found = operand-entry r old q m in
-        let at-old = take-get job.state.entries facts.gained found.0 found.1 found.2 in
-        elim (cases_Option (told_in facts q)) [
+        let at-old = take-get begun.value.job.state.entries begun.value.facts.gained found.0 found.1 found.2 in
+        elim (cases_Option (told_in begun.value.facts q)) [
           | inl lost ↦ absurd (is_stopped.gained found.0 found.1 q at-old.0 at-old.1 found.3 lost)
           | inr some ↦ sound.standing.closed target q e entry-there (held-known q some.0 some.1).0
         ]) in
@@ -311,7 +315,7 @@ module _ (tree : Tree) (limits : ℕ × ℕ) (t : Table) (at : ℕ) (end : End) 
         take-get (y ∷ xs) (suc n) zero x h = (omega arith, h)
         take-get (y ∷ xs) (suc n) (suc k) x h = let rest = take-get xs n k x h in (omega (arith, rest.0), rest.1)
 
-    pub after-length : length (entered (rules_of tree limits) (table_entries (rules_of tree limits) limits.0 t) (operands (rules_of tree limits) (drop facts.gained job.state.entries))) ≡ length (state_after tree limits t at).entries
+    pub after-length : length (entered (rules_of tree limits) (table_entries (rules_of tree limits) limits.0 t) (operands (rules_of tree limits) (drop begun.value.facts.gained begun.value.job.state.entries))) ≡ length (state_after tree limits t at).entries
     unfolding moved
     after-length =
         let wide = entered r es (operands r (end_progress end).deps) in
@@ -321,7 +325,7 @@ module _ (tree : Tree) (limits : ℕ × ℕ) (t : Table) (at : ℕ) (end : End) 
         length-put [] x = refl
         length-put (y ∷ xs) x = elim (cases_Bool (Rattle.std.proofs.Common.bytes_eq y.path x.path)) [ inl t' ↦ rw t' refl | inr f ↦ rw f (ap suc (length-put xs x)) ]
 
-    module _ (v : Table) (freed : List ℕ) (a : AreEnteredInto tree limits t v freed (operands (rules_of tree limits) (drop facts.gained job.state.entries))) where
+    module _ (v : Table) (freed : List ℕ) (a : AreEnteredInto tree limits t v freed (operands (rules_of tree limits) (drop begun.value.facts.gained begun.value.job.state.entries))) where
       there-still : slice_get v.slots.items at ≡ Some may.slot
       there-still = a.slots_kept at may.slot may.there
 
@@ -345,26 +349,26 @@ module _ (tree : Tree) (limits : ℕ × ℕ) (t : Table) (at : ℕ) (end : End) 
       wider-distinct : AreDistinct v.targets.keys
       wider-distinct =
           let P : List (List ℕ) → Type 0 = AreDistinct in
-          let paths = ap paths_of a.entries ∙ paths_of-entered r es (operands r (drop facts.gained job.state.entries)) in
+          let paths = ap paths_of a.entries ∙ paths_of-entered r es (operands r (drop begun.value.facts.gained begun.value.job.state.entries)) in
           let keys = paths_of-slots r (outcome_at r limits.0) v.targets.keys v.slots.items a.table.one_each in
-          subst P keys (subst P (sym paths) (with_new-distinct (paths_of es) (operands r (drop facts.gained job.state.entries)) sound.standing.distinct))
+          subst P keys (subst P (sym paths) (with_new-distinct (paths_of es) (operands r (drop begun.value.facts.gained begun.value.job.state.entries)) sound.standing.distinct))
 
       wider-known : (q : List ℕ) (o : Outcome) → outcomes_of (table_entries (rules_of tree limits) limits.0 t) q ≡ Some o → outcomes_of (table_entries (rules_of tree limits) limits.0 v) q ≡ Some o
       wider-known q o h =
           let P : List Entry → Type 0 = λ xs. outcomes_of xs q ≡ Some o in
           let old = outcomes_of-entry es q o h in
-          subst P (sym a.entries) (outcomes_of-at (entered r es (operands r (drop facts.gained job.state.entries))) q old.0
-          (entry_of-entered_old r es (operands r (drop facts.gained job.state.entries)) q old.0 old.1) ∙ old.2)
+          subst P (sym a.entries) (outcomes_of-at (entered r es (operands r (drop begun.value.facts.gained begun.value.job.state.entries))) q old.0
+          (entry_of-entered_old r es (operands r (drop begun.value.facts.gained begun.value.job.state.entries)) q old.0 old.1) ∙ old.2)
 
-      one-more : job.turn ≡ suc may.slot.turn
+      one-more : begun.value.job.turn ≡ suc may.slot.turn
       one-more = omega (arith, is_stopped.at_turn)
 
-      job-record : job_deps job ≡ (end_progress end).deps
+      job-record : job_deps begun.value.job ≡ (end_progress end).deps
       job-record =
-          let P : End → Type 0 = λ x. job_deps job ≡ (end_progress x).deps in
-          subst P (sym stopped) (job_deps-stopped job may.slot.turn one-more)
+          let P : End → Type 0 = λ x. job_deps begun.value.job ≡ (end_progress x).deps in
+          subst P (sym stopped) (job_deps-stopped begun.value.job may.slot.turn one-more)
 
-      asked-still : (q : List ℕ) (o : Outcome) → told_in facts q ≡ Some o → IsAmong (operands (rules_of tree limits) (job_deps job)) q
+      asked-still : (q : List ℕ) (o : Outcome) → told_in begun.value.facts q ≡ Some o → IsAmong (operands (rules_of tree limits) (job_deps begun.value.job)) q
       asked-still q o h =
           let n = may.is_end.is_piece.depth in
           let D : List Dep → Type 0 = λ ds. IsAmong (operands r ds) q in
@@ -372,7 +376,7 @@ module _ (tree : Tree) (limits : ℕ × ℕ) (t : Table) (at : ℕ) (end : End) 
           let more = asked-more r lawful target (outcome_at r n) may.slot.turn may.is_end.is_piece.came q before in
           subst D (sym (job-record ∙ ap (λ (x : Progress). x.deps) may.is_end.is_piece.is)) more
 
-      module _ (u : Table) (d : IsParkedAt v u at job facts) where
+      module _ (u : Table) (numbers : Vec ℕ Global) (are : AreNumbers v.targets.keys numbers.items (waited_by (rules_of tree limits) begun.value)) (d : IsParkedAt v u at begun numbers) where
         old-there : d.old ≡ may.slot
         old-there = let both : Some d.old ≡ Some may.slot = sym d.put_back.there ∙ there-still in cc
 
@@ -380,17 +384,13 @@ module _ (tree : Tree) (limits : ℕ × ℕ) (t : Table) (at : ℕ) (end : End) 
         new-turn = d.turn ∙ ap (λ (y : Slot). y.turn + 1) old-there
 
         waits : IsWaitingWith (rules_of tree limits) (outcomes_of (table_entries (rules_of tree limits) limits.0 v)) tree limits (path_at v.targets.keys at) d.new.turn
-            (record { job = job; facts = facts; held = facts.gained })
+            (record { begun = begun; operands = numbers; held = 0 })
         waits = record {
           is_job = is_stopped.is_job;
           of_target = is_stopped.of_target ∙ sym path-still;
           at_turn = is_stopped.at_turn ∙ sym new-turn;
           stopped = omega (arith, new-turn);
-          within = is_stopped.within;
-          answered = λ k x q below get is none. elim (cases_Option (told_in facts q)) [
-            | inl lost ↦ is_stopped.gained k x q below get is lost
-            | inr some ↦ let known = wider-known q some.0 (held-known q some.0 some.1).1 in let bad = sym known ∙ none in absurd cc
-          ];
+          answered = λ k q below get none. absurd (omega (arith, below));
           told = λ q o h. (asked-still q o h, wider-known q o (held-known q o h).1);
           goes_on = is_stopped.goes_on;
           gained_within = is_stopped.within;
@@ -401,9 +401,9 @@ module _ (tree : Tree) (limits : ℕ × ℕ) (t : Table) (at : ℕ) (end : End) 
         unfolding moved
         parked-moved =
             let put-in = put-entries tree limits v u freed a.table wider-distinct at d.old d.new d.put_back in
-            let shows = parked-shows r (outcome_at r limits.0) job facts (path_at v.targets.keys at) d.new.turn d.new.stage d.stage in
+            let shows = parked-shows r (outcome_at r limits.0) begun numbers (path_at v.targets.keys at) d.new.turn d.new.stage d.stage in
             let M : List ℕ → ℕ → List Dep → Entry = λ p n ds. record { path = p; turn = n; deps = ds; outcome = None; is_out = false } in
-            let entry' = shows ∙ ap (λ p. M p d.new.turn (job_deps job)) path-still ∙ ap (λ n. M target n (job_deps job)) new-turn ∙ ap (M target (may.slot.turn + 1)) job-record in
+            let entry' = shows ∙ ap (λ p. M p d.new.turn (job_deps begun.value.job)) path-still ∙ ap (λ n. M target n (job_deps begun.value.job)) new-turn ∙ ap (M target (may.slot.turn + 1)) job-record in
             let N : End → Type 0 = λ x. M target (may.slot.turn + 1) (end_progress x).deps ≡ moved_on e (end_progress x) in
             let last : M target (may.slot.turn + 1) (end_progress end).deps ≡ moved_on e (end_progress end) = subst N (sym stopped) refl in
             put-in ∙ ap (put (table_entries r limits.0 v)) (entry' ∙ last) ∙ ap (λ xs. put xs (moved_on e (end_progress end))) wider-entries
@@ -412,7 +412,7 @@ module _ (tree : Tree) (limits : ℕ × ℕ) (t : Table) (at : ℕ) (end : End) 
         parked-put =
             let len = ap length d.put_back.slots ∙ Rattle.std.proofs.Common.length-set v.slots.items at d.new in
             record {
-              table = parked-table tree limits v u freed a.table wider-distinct at job facts d waits;
+              table = parked-table tree limits v u freed a.table wider-distinct at begun numbers d waits are;
               entries = parked-moved ∙ sym after-entries;
               ready = d.put_back.rest.1 ∙ a.rest.0;
               keys_kept = λ k p h. rw d.put_back.rest.0 (a.keys_kept k p h);
@@ -420,5 +420,5 @@ module _ (tree : Tree) (limits : ℕ × ℕ) (t : Table) (at : ℕ) (end : End) 
                 | inl here ↦ omega (arith, here, len, slice_get-below_some v.slots.items at may.slot there-still)
                 | inr none ↦ absurd none
               ];
-              watched = parked-watched tree limits v u freed a.table wider-distinct at job facts d waits (a.watched [] may.watched);
+              watched = parked-watched tree limits v u freed a.table wider-distinct at begun numbers d waits are (a.watched [] may.watched);
             }

@@ -1,13 +1,12 @@
 -- What `take` finds on a board.
-use Rattle.std.proofs.Common.{IsNone, Bool, true, false, not, zero, suc, ◌++◌, map, is_none, Vec, Global, length-set, ◌≡◌, ℕ, ◌+◌, ◌<◌, ◌≤◌, true, false, cond, ◌⊎◌, inl, inr, List, [], ◌∷◌, length, filter, Option, Some, None, is_some, slice_get, slice_set, slice_index_or, remove, refl, sym, ap, subst, ◌∙◌, arith}
+use Rattle.std.proofs.Common.{Bool, true, false, not, zero, suc, ◌++◌, map, Vec, Global, length-set, ◌≡◌, ℕ, ◌+◌, ◌<◌, ◌≤◌, true, false, cond, inl, inr, List, [], ◌∷◌, length, filter, Option, Some, None, is_some, slice_get, slice_set, slice_index_or, remove, refl, sym, ap, subst, ◌∙◌, arith}
 use Rattle.std.specs.Arc.{arc_value}
 use Rattle.std.proofs.lemmas.Bool.{cases_Bool}
-use Rattle.redo_core.specs.Rules.{Rules, operands}
+use Rattle.redo_core.specs.Rules.{Rules}
 use Rattle.redo_core.specs.Paths.{IsAmong}
-use Rattle.redo_core.specs.Turns.{deps_at_turn}
+use Rattle.redo_core.proofs.Numbers.{numbered-set}
 use Rattle.redo_core.proofs.Queues.{remove-gone, slice_get-among}
 use Rattle.std.specs.declared.collections.VecDeque.{VecDeque}
-use mathlib.Core.Path.{fun_ext}
 use Rattle.redo_core.specs.Schedule.{Entry, State, Event, IsOpen, AllOpen, entry_of, opening, run, happens}
 use Rattle.redo_core.specs.Schedule.Event.{Take}
 use Rattle.redo_core.specs.Slots.{stage_outcome, rules_inside, state_of, state_from, slot_entry, path_at, is_stage_out, is_stage_ready, IsKept, IsBoard, IsParked, IsPlace, IsQueue, IsTable, AllWatched, stage_deps}
@@ -25,11 +24,11 @@ use Rattle.redo_core.proofs.Lawful.{rules_lawful}
 use Rattle.redo_core.proofs.Quiet.{is_part, shows}
 use Rattle.redo_core.specs.Theorems.{IsPartOfBuild, ShowsBuild}
 use Rattle.redo_core.specs.Schedule.{IsQuiet}
-use Rattle.redo_core.specs.Slots.{slot_entries, entries_from}
+use Rattle.redo_core.specs.Slots.{slot_entries}
 use Rattle.redo_core.specs.Rules.{Ask}
 use Rattle.redo_core.proofs.TurnBound.{turn-below}
 use Rattle.redo_core.proofs.Soundness.{IsSound, opening-sound, run-sound}
-use Rattle.redo_core.proofs.SlotLemmas.{same_deps, map-remove, slice_get-from, slice_get-item, slice_get-map, ready-job, entry, state_taken, paths_of-slots, length-filter_le}
+use Rattle.redo_core.proofs.SlotLemmas.{map-remove, slice_get-from, slice_get-item, slice_get-map, ready-job, entry, state_taken, paths_of-slots, length-filter_le}
 
 pub sound-inside : (b : Inside) → IsKept b → IsSound (rules_inside b) b.request.items (state_of b)
 sound-inside b kept =
@@ -209,6 +208,7 @@ module _ (b : Inside) (kept : IsKept b) (which at : ℕ) (slot : Slot)
           fits = fits-set r (lawful_inside b) b.limits.0 b.table.targets.keys b.table.slots.items at path.0 slot new (distinct-inside b kept) path.1 there
               (arc_value b.tree) b.limits
               (outcomes-more r (lawful_inside b) b.limits.0 b.table.targets.keys b.table.slots.items at path.0 slot new (distinct-inside b kept) path.1 there open_stage.0) kept.table.fits tt;
+          numbered = numbered-set r b.table.targets.keys b.table.slots.items at new tt kept.table.numbered;
           queue = queue-taken;
           watchers_below = watchers-set b.table.slots.items at slot new there (λ k m. kept.table.watchers_below at k slot there m) kept.table.watchers_below;
         }));

@@ -3,7 +3,7 @@ use Rattle.std.proofs.Common.{◌≡◌, ℕ, zero, suc, ◌<◌, inl, inr, List
 use Rattle.std.proofs.lemmas.Bool.{cases_Bool}
 use Rattle.redo_core.specs.Paths.{is_among, IsAmong, AreDistinct}
 use Rattle.redo_core.specs.Rules.{Ask, Rules, AreLawful, operands}
-use Rattle.redo_core.specs.Schedule.{Entry, State, paths_of, entry_of, outcomes_of, only}
+use Rattle.redo_core.specs.Schedule.{Entry, paths_of, entry_of, outcomes_of, only}
 use Rattle.redo_core.specs.Turns.{deps_at_turn, CameTo}
 use Rattle.redo_core.proofs.PathLists.{is_among-true, within-length, IsAmong-same}
 use Rattle.redo_core.proofs.Entries.{entry_of-among, outcomes_of-at}

@@ -11,12 +11,12 @@ use Rattle.redo_core.specs.declared.work.End.TheVariants.{Ended, Stopped}
 
 abbrev pub end_progress : End → Progress
 end_progress (Ended fact) = record { outcome = Some fact.outcome; deps = fact.deps }
-end_progress (Stopped job facts) = record { outcome = None; deps = record_so_far job }
+end_progress (Stopped begun) = record { outcome = None; deps = record_so_far begun.value.job }
 
 -- what an end holds is of its target
 abbrev pub IsEndOf : Tree → ℕ × ℕ → ℕ → List ℕ → ℕ → End → Type 0
 IsEndOf tree limits depth target turn (Ended fact) = (fact.tree ≡ tree) × (fact.limits ≡ limits) × (fact.target ≡ target)
-IsEndOf tree limits depth target turn (Stopped job facts) = IsStopped tree limits depth target turn job facts
+IsEndOf tree limits depth target turn (Stopped begun) = IsStopped tree limits depth target turn begun.value.job begun.value.facts
 
 -- the end says how far the script of a target comes at a turn, and holds what is left of it
 pub record IsEndAt (tree : Tree) (limits : ℕ × ℕ) (target : List ℕ) (turn : ℕ) (end : End) : Type 0 where

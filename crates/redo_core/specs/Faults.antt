@@ -1,5 +1,5 @@
 -- What a refused piece leaves.
-use Rattle.std.specs.Prelude.{◌≡◌, Some, IsNone, MatchOption}
+use Rattle.std.specs.Prelude.{◌≡◌, Some, MatchOption}
 use Rattle.redo_core.specs.Outcomes.{IsTooMany}
 use Rattle.redo_core.specs.Schedule.{IsOutAt}
 use Rattle.redo_core.specs.Views.{BoardView, PieceView, rules_on}

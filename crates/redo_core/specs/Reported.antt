@@ -1,6 +1,7 @@
 -- How a table whose targets wait or are decided makes a report.
-use Rattle.std.specs.Prelude.{◌≡◌, ◌⊎◌, Bool, true, false, ℕ, List, [], ◌∷◌, ◌++◌, Some, None, filter, flat_map, fold, is_some, map, slice_get, if◌then◌else◌}
+use Rattle.std.specs.Prelude.{◌≡◌, ◌⊎◌, Bool, true, false, ℕ, List, [], ◌∷◌, ◌++◌, Option, Some, None, MatchOption, filter, flat_map, fold, is_some, map, slice_get, if◌then◌else◌}
 use Rattle.std.specs.Arc.{arc_value}
+use Rattle.std.specs.Borrow.{Bor}
 use Rattle.std.specs.BTreeSet.{insert_key}
 use Rattle.std.specs.Cmp.Lexicographic.{slice_cmp}
 use Rattle.std.specs.List.{AllByRecursion}
@@ -31,9 +32,17 @@ sources_among tree ps = filter (λ p. is_some (file_at tree p)) ps
 abbrev pub reported_paths : Tree → List (List ℕ) → Table → List (List ℕ)
 reported_paths tree request t = placed (placed [] t.targets.keys) (sources_among tree request)
 
+-- paths that are lent, each with its number if it is a target, as they are made into rows
+abbrev pub listed_paths : List (Bor (List ℕ) × Option ℕ) → List (List ℕ)
+listed_paths es = map (λ e. e.0.now) es
+
+-- the number of a path among the targets, or none where it is no target
+abbrev pub IsNumberOf : List (List ℕ) → List ℕ → Option ℕ → Type 0
+IsNumberOf targets p at = MatchOption at (IsAmong targets p → ⊥) (λ k. slice_get targets k ≡ Some p)
+
 -- what a target comes to where nothing more can happen: what waits is cyclic
 abbrev pub IsShown : Stage → Outcome → List Dep → Type 0
-IsShown (Waiting parked) outcome deps = (outcome ≡ Cyclic) × (deps ≡ record_so_far parked.job)
+IsShown (Waiting parked) outcome deps = (outcome ≡ Cyclic) × (deps ≡ record_so_far parked.begun.value.job)
 IsShown (Ready work) outcome deps = ⊥
 IsShown Out outcome deps = ⊥
 IsShown (Decided fact) outcome deps = (outcome ≡ (arc_value fact).outcome) × (deps ≡ (arc_value fact).deps)

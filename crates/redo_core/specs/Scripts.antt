@@ -1,5 +1,6 @@
 -- The script of a work, read or not.
 use Rattle.std.specs.Prelude.{◌≡◌, ℕ, List, []}
+use Rattle.redo_step.specs.declared.outcome.Outcome.{Outcome}
 use Rattle.redo_tree.specs.Tree.{Tree}
 use Rattle.redo_which.specs.Rule.{Rule, found_of}
 use Rattle.redo_which.specs.Views.{arguments_view}
@@ -11,23 +12,28 @@ use Rattle.redo_core.specs.declared.work.Script.{Script}
 use Rattle.redo_core.specs.declared.work.Script.TheVariants.{Unread, Begun}
 
 abbrev pub script_target : Script → List ℕ
-script_target (Unread target rule) = target
-script_target (Begun job) = job.target
+script_target (Unread unread) = unread.value.target
+script_target (Begun begun) = begun.value.job.target
 
 abbrev pub script_turn : Script → ℕ
-script_turn (Unread target rule) = 0
-script_turn (Begun job) = job.turn
+script_turn (Unread unread) = 0
+script_turn (Begun begun) = begun.value.job.turn
 
 -- nothing is recorded before the script first stopped
 abbrev pub script_deps : Script → List Dep
-script_deps (Unread target rule) = []
-script_deps (Begun job) = job_deps job
+script_deps (Unread unread) = []
+script_deps (Begun begun) = job_deps begun.value.job
 
--- an unread script has the rule that the search finds, and knows nothing; a job has the outcomes of all that it asked for
-abbrev pub IsScriptWith : Tree → ℕ × ℕ → Script → Facts → Type 0
-IsScriptWith tree limits (Unread target rule) facts =
-    (found_of tree target ≡ Rule rule.do_file rule.missing.items (arguments_view rule.args)) × (known_in facts ≡ []) × (facts.gained ≡ 0)
-IsScriptWith tree limits (Begun job) facts = IsWorkWith tree limits job facts
+-- an unread script knows nothing
+abbrev pub script_known : Script → List (List ℕ × Outcome)
+script_known (Unread unread) = []
+script_known (Begun begun) = known_in begun.value.facts
+
+-- an unread script has the rule that the search finds; a job has the outcomes of all that it asked for
+abbrev pub IsScriptOf : Tree → ℕ × ℕ → Script → Type 0
+IsScriptOf tree limits (Unread unread) =
+    found_of tree unread.value.target ≡ Rule unread.value.rule.do_file unread.value.rule.missing (arguments_view unread.value.rule.args)
+IsScriptOf tree limits (Begun begun) = IsWorkWith tree limits begun.value.job begun.value.facts
 
 -- the job of a target before its first statement: it is a work that knows nothing
 pub record IsBegunJob (tree : Tree) (limits : ℕ × ℕ) (target : List ℕ) (job : JobView) : Type 0 where

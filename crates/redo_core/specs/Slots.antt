@@ -1,13 +1,15 @@
 -- How a board keeps its entries.
-use Rattle.std.specs.Prelude.{◌≡◌, ◌⊎◌, ℕ, zero, suc, ◌+◌, ◌<◌, ◌≤◌, Bool, true, false, not, List, [], ◌∷◌, ◌++◌, Option, Some, None, is_none, is_some, IsNone, if◌then◌else◌, map, length, filter, slice_get, slice_set, option_map, unwrap_or, IsSorted, IsPermutation}
+use Rattle.std.specs.Prelude.{◌≡◌, ◌⊎◌, ℕ, ◌+◌, ◌<◌, ◌≤◌, Bool, true, false, not, List, [], ◌∷◌, ◌++◌, Option, Some, None, is_some, IsNone, if◌then◌else◌, map, length, drop, filter, slice_get, slice_set, unwrap_or, IsSorted, IsPermutation}
 use Rattle.std.specs.Ordering.{nat_cmp}
 use Rattle.std.specs.Arc.{arc_value}
 use Rattle.std.specs.declared.sync.Arc.{Arc}
 use Rattle.std.specs.declared.alloc.Global.{Global}
+use Rattle.std.specs.Prelude.{Box}
+use Rattle.std.specs.declared.vec.Vec.{Vec}
 use Rattle.redo_tree.specs.Tree.{Tree, file_at}
 pub use Rattle.redo_core.specs.Works.{IsOperand}
 use Rattle.redo_core.specs.Rules.{Ask, Rules, Extends, operands}
-use Rattle.redo_core.specs.Works.{job_deps, told_in, IsJobOf, GoesOn, AreKnownBelow}
+use Rattle.redo_core.specs.Works.{job_deps, told_in, AddsFact, IsJobOf, GoesOn, AreKnownBelow}
 use Rattle.redo_core.specs.declared.facts.Facts.{Facts}
 use Rattle.redo_step.specs.JobView.{JobView}
 use Rattle.redo_core.specs.Paths.{IsAmong, AreDistinct}
@@ -19,6 +21,7 @@ use Rattle.redo_core.specs.declared.work.End.{End}
 use Rattle.redo_core.specs.declared.table.Table.{Table}
 use Rattle.redo_core.specs.declared.table.Parked.{Parked}
 use Rattle.redo_core.specs.declared.work.Work.{Work}
+use Rattle.redo_core.specs.declared.work.Begun.{Begun}
 use Rattle.redo_core.specs.Standing.{AreStanding}
 use Rattle.redo_core.specs.Turns.{deps_at_turn, IsWork}
 use Rattle.redo_core.specs.Build.{rules_of}
@@ -44,7 +47,7 @@ is_stage_out (Decided fact) = false
 
 -- the record of a target so far: a job that is out keeps its own, which is that of its turn
 abbrev pub stage_deps : Rules → Ask → List ℕ → ℕ → Stage → List Dep
-stage_deps r a p turn (Waiting parked) = job_deps parked.job
+stage_deps r a p turn (Waiting parked) = job_deps parked.begun.value.job
 stage_deps r a p turn (Ready work) = work.deps
 stage_deps r a p turn Out = deps_at_turn r p a turn
 stage_deps r a p turn (Decided fact) = (arc_value fact).deps
@@ -92,9 +95,20 @@ state_of b = state_from (rules_inside b) b.limits.0 b.table.targets.keys b.table
 abbrev pub IsParked : Tree → ℕ × ℕ → List ℕ → ℕ → WorkView → Type 0
 IsParked tree limits p turn work = (work.tree ≡ tree) × (work.limits ≡ limits) × (work.target ≡ p) × (work.turn ≡ turn)
 
--- what the first so many entries of a record wait for has answers
-abbrev pub AnsweredBelow : Rules → Ask → List Dep → ℕ → Type 0
-AnsweredBelow r a deps i = (k : ℕ) (d : Dep) (q : List ℕ) → k < i → slice_get deps k ≡ Some d → IsOperand r d q → a q ≡ None → ⊥
+-- the first so many paths have answers
+abbrev pub AnsweredBelow : Ask → List (List ℕ) → ℕ → Type 0
+AnsweredBelow a qs i = (k : ℕ) (q : List ℕ) → k < i → slice_get qs k ≡ Some q → a q ≡ None → ⊥
+
+-- what a script asked for and has no facts of yet
+abbrev pub waited_by : Rules → Begun → List (List ℕ)
+waited_by r begun = operands r (drop begun.facts.gained begun.job.state.entries)
+
+-- the numbers are those of the paths, one for one
+abbrev pub AreNumbers : List (List ℕ) → List ℕ → List (List ℕ) → Type 0
+AreNumbers ps [] [] = Unit {0}
+AreNumbers ps [] (q ∷ qs) = ⊥
+AreNumbers ps (n ∷ ns) [] = ⊥
+AreNumbers ps (n ∷ ns) (q ∷ qs) = (slice_get ps n ≡ Some q) × AreNumbers ps ns qs
 
 -- all that the record waits for has answers
 abbrev pub AllAnswered : Rules → Ask → List Dep → Type 0
@@ -103,16 +117,15 @@ AllAnswered r a deps = (q : List ℕ) → IsAmong (operands r deps) q → a q �
 -- a job that waits, with the outcomes that it holds: they are among those known, and those of the first entries that
 -- it declared
 pub record IsWaitingWith (r : Rules) (a : Ask) (tree : Tree) (limits : ℕ × ℕ) (p : List ℕ) (turn : ℕ) (parked : Parked) : Type 0 where
-  pub is_job : IsJobOf tree limits parked.job
-  pub of_target : parked.job.target ≡ p
-  pub at_turn : parked.job.turn ≡ turn
+  pub is_job : IsJobOf tree limits parked.begun.value.job
+  pub of_target : parked.begun.value.job.target ≡ p
+  pub at_turn : parked.begun.value.job.turn ≡ turn
   pub stopped : 0 < turn
-  pub within : parked.held ≤ length parked.job.state.entries
-  pub answered : AnsweredBelow r a parked.job.state.entries parked.held
-  pub told : (q : List ℕ) (o : Outcome) → told_in parked.facts q ≡ Some o → IsAmong (operands r (job_deps parked.job)) q × (a q ≡ Some o)
-  pub goes_on : GoesOn parked.job (told_in parked.facts)
-  pub gained_within : parked.facts.gained ≤ length parked.job.state.entries
-  pub gained : AreKnownBelow r parked.job (told_in parked.facts) parked.facts.gained
+  pub answered : AnsweredBelow a (waited_by r parked.begun.value) parked.held
+  pub told : (q : List ℕ) (o : Outcome) → told_in parked.begun.value.facts q ≡ Some o → IsAmong (operands r (job_deps parked.begun.value.job)) q × (a q ≡ Some o)
+  pub goes_on : GoesOn parked.begun.value.job (told_in parked.begun.value.facts)
+  pub gained_within : parked.begun.value.facts.gained ≤ length parked.begun.value.job.state.entries
+  pub gained : AreKnownBelow r parked.begun.value.job (told_in parked.begun.value.facts) parked.begun.value.facts.gained
 
 -- what a slot holds is of its path and turn
 abbrev pub Fits : Rules → Ask → Tree → ℕ × ℕ → List ℕ → ℕ → Stage → Type 0
@@ -120,6 +133,16 @@ Fits r a tree limits p turn (Waiting parked) = IsWaitingWith r a tree limits p t
 Fits r a tree limits p turn (Ready work) = IsParked tree limits p turn work × AllAnswered r a work.deps
 Fits r a tree limits p turn Out = Unit {0}
 Fits r a tree limits p turn (Decided fact) = ((arc_value fact).tree ≡ tree) × ((arc_value fact).limits ≡ limits) × ((arc_value fact).target ≡ p)
+
+-- a job that waits has the numbers of what it waits for
+abbrev pub IsNumbered : Rules → List (List ℕ) → Stage → Type 0
+IsNumbered r ps (Waiting parked) = AreNumbers ps parked.operands.items (waited_by r parked.begun.value)
+IsNumbered r ps (Ready work) = Unit {0}
+IsNumbered r ps Out = Unit {0}
+IsNumbered r ps (Decided fact) = Unit {0}
+
+abbrev pub AllNumbered : Rules → List (List ℕ) → List Slot → Type 0
+AllNumbered r ps slots = (k : ℕ) (slot : Slot) → slice_get slots k ≡ Some slot → IsNumbered r ps slot.stage
 
 abbrev pub is_stage_ready : Stage → Bool
 is_stage_ready (Waiting parked) = false
@@ -178,6 +201,7 @@ pub record IsTable (r : Rules) (tree : Tree) (limits : ℕ × ℕ) (ps : List (L
   pub few : limits.0 ≤ 65536
   pub out_counted : out ≡ length (filter (λ slot. is_stage_out slot.stage) slots)
   pub fits : AllFit r limits.0 tree limits ps slots
+  pub numbered : AllNumbered r ps slots
   pub queue : IsQueue slots ready freed
   pub watchers_below : AllWatchersBelow slots
 
@@ -195,11 +219,6 @@ pub record IsBoard (b : Inside) : Type 0 where
   pub kept : IsNone b.stopped → IsKept b
   pub too_many : b.stopped ≡ Some TooMany → IsTooMany (rules_inside b) b.request.items b.limits.0
 
--- each path that the record waits for has a slot
-abbrev pub AllOperandsSeen : Rules → Table → List Dep → Type 0
-AllOperandsSeen r t deps = (k : ℕ) (d : Dep) → slice_get deps k ≡ Some d →
-    IsOperand r d d.path → IsAmong t.targets.keys d.path
-
 abbrev pub is_stage_decided : Stage → Bool
 is_stage_decided (Waiting parked) = false
 is_stage_decided (Ready work) = false
@@ -214,21 +233,20 @@ pub record IsDecidedSlot (t : Table) (q : List ℕ) : Type 0 where
   pub there : slice_get t.slots.items at ≡ Some slot
   pub decided : is_stage_decided slot.stage ≡ true
 
--- the entries of the record from one number to another wait for nothing that is undecided
-abbrev pub AnsweredFrom : Rules → Table → List Dep → ℕ → ℕ → Type 0
-AnsweredFrom r t deps from to = (k : ℕ) (d : Dep) → from ≤ k → k < to → slice_get deps k ≡ Some d →
-    IsOperand r d d.path → IsDecidedSlot t d.path
+-- the target of a number is decided
+abbrev pub IsDecidedNumber : Table → ℕ → Type 0
+IsDecidedNumber t n = (slot : Slot) × (slice_get t.slots.items n ≡ Some slot) × (is_stage_decided slot.stage ≡ true)
 
--- the first entry from a number on that waits for an undecided path, and that path's number
-pub record IsLackingAt (r : Rules) (t : Table) (deps : List Dep) (from i at : ℕ) : Type 0 where
-  pub dep : Dep
+-- from one place to another all targets are decided
+abbrev pub AreDecidedFrom : Table → List ℕ → ℕ → ℕ → Type 0
+AreDecidedFrom t ns from to = (k n : ℕ) → from ≤ k → k < to → slice_get ns k ≡ Some n → IsDecidedNumber t n
+
+-- the first place from one on whose target is undecided, and the target's number
+pub record IsLackingAt (t : Table) (ns : List ℕ) (from i at : ℕ) : Type 0 where
   pub slot : Slot
   pub after : from ≤ i
-  pub below : i < length deps
-  pub before : AnsweredFrom r t deps from i
-  pub entry : slice_get deps i ≡ Some dep
-  pub waits : IsOperand r dep dep.path
-  pub path : slice_get t.targets.keys at ≡ Some dep.path
+  pub before : AreDecidedFrom t ns from i
+  pub number : slice_get ns i ≡ Some at
   pub there : slice_get t.slots.items at ≡ Some slot
   pub is_open : is_stage_decided slot.stage ≡ false
 
@@ -236,50 +254,40 @@ pub record IsLackingAt (r : Rules) (t : Table) (deps : List Dep) (from i at : �
 abbrev pub IsStandingTable : Tree → ℕ × ℕ → Table → Type 0
 IsStandingTable tree limits t = (request : List (List ℕ)) × AreStanding (rules_of tree limits) request (table_entries (rules_of tree limits) limits.0 t)
 
--- a path that some entries wait for has a slot that is decided with this outcome
-pub record IsDecidedWith (r : Rules) (t : Table) (deps : List Dep) (q : List ℕ) (o : Outcome) : Type 0 where
-  pub at : ℕ
-  pub slot : Slot
-  pub asked : IsAmong (operands r deps) q
-  pub path : slice_get t.targets.keys at ≡ Some q
-  pub there : slice_get t.slots.items at ≡ Some slot
-  pub outcome : stage_outcome slot.stage ≡ Some o
+-- the fact of a number whose target is decided
+abbrev pub IsFactAt : Table → ℕ → Arc FactView Global → Type 0
+IsFactAt t n fact = (slot : Slot) × (slice_get t.slots.items n ≡ Some slot) × (slot.stage ≡ Decided fact)
 
--- the fact of a path whose slot is decided
-pub record IsFactThere (t : Table) (q : List ℕ) (fact : Arc FactView Global) : Type 0 where
-  pub at : ℕ
-  pub slot : Slot
-  pub path : slice_get t.targets.keys at ≡ Some q
-  pub there : slice_get t.slots.items at ≡ Some slot
-  pub is : slot.stage ≡ Decided fact
+-- one of these numbers is that of a target with a fact that tells this
+pub record IsToldBy (t : Table) (ns : List ℕ) (q : List ℕ) (o : Outcome) : Type 0 where
+  pub k : ℕ
+  pub n : ℕ
+  pub fact : Arc FactView Global
+  pub number : slice_get ns k ≡ Some n
+  pub there : IsFactAt t n fact
+  pub target : (arc_value fact).target ≡ q
+  pub outcome : (arc_value fact).outcome ≡ o
 
--- the facts hold that of what an entry waits for, and hold nothing else that is new
-pub record GainsOne (r : Rules) (t : Table) (dep : Dep) (old new : Facts) : Type 0 where
-  pub same : new.gained ≡ old.gained
+-- the facts hold that of one number too
+abbrev pub GainsOne : Table → ℕ → Facts → Facts → Type 0
+GainsOne t n old new = (fact : Arc FactView Global) × IsFactAt t n fact × AddsFact (arc_value fact) old new
+
+-- the facts hold those of the numbers before a place, and hold nothing else that is new
+pub record GainsBelow (t : Table) (ns : List ℕ) (old new : Facts) (i : ℕ) : Type 0 where
   pub kept : (q : List ℕ) → told_in new q ≡ None → told_in old q ≡ None
-  pub origin : (q : List ℕ) (o : Outcome) → told_in new q ≡ Some o → (told_in old q ≡ Some o) ⊎ IsDecidedWith r t (dep ∷ []) q o
-  pub known : (q : List ℕ) → IsOperand r dep q → told_in new q ≡ None → ⊥
+  pub origin : (q : List ℕ) (o : Outcome) → told_in new q ≡ Some o → (told_in old q ≡ Some o) ⊎ IsToldBy t ns q o
+  pub known : (k n : ℕ) (fact : Arc FactView Global) → k < i → slice_get ns k ≡ Some n → IsFactAt t n fact → told_in new (arc_value fact).target ≡ None → ⊥
 
--- the facts hold those of what the entries up to a number wait for, and hold nothing else that is new
-pub record GainsBelow (r : Rules) (t : Table) (deps : List Dep) (old new : Facts) (i : ℕ) : Type 0 where
-  pub same : new.gained ≡ old.gained
-  pub kept : (q : List ℕ) → told_in new q ≡ None → told_in old q ≡ None
-  pub origin : (q : List ℕ) (o : Outcome) → told_in new q ≡ Some o → (told_in old q ≡ Some o) ⊎ IsDecidedWith r t deps q o
-  pub known : (k : ℕ) (d : Dep) (q : List ℕ) → old.gained ≤ k → k < i → slice_get deps k ≡ Some d → IsOperand r d q → told_in new q ≡ None → ⊥
-
--- the facts hold those of all that a job's entries wait for, and hold nothing else that is new
-pub record Gains (r : Rules) (t : Table) (job : JobView) (old new : Facts) : Type 0 where
+-- the facts hold those of all the numbers, and hold nothing else that is new: so they have those of all the job's entries
+pub record Gains (t : Table) (ns : List ℕ) (job : JobView) (old new : Facts) : Type 0 where
   pub all : new.gained ≡ length job.state.entries
-  pub kept : (q : List ℕ) → told_in new q ≡ None → told_in old q ≡ None
-  pub origin : (q : List ℕ) (o : Outcome) → told_in new q ≡ Some o → (told_in old q ≡ Some o) ⊎ IsDecidedWith r t job.state.entries q o
-  pub known : (k : ℕ) (d : Dep) (q : List ℕ) → old.gained ≤ k → k < length job.state.entries → slice_get job.state.entries k ≡ Some d →
-      IsOperand r d q → told_in new q ≡ None → ⊥
+  pub below : GainsBelow t ns old new (length ns)
 
 -- the job of a slot is parked
 abbrev pub IsWaitingThere : Table → ℕ → Type 0
 IsWaitingThere t at = (slot : Slot) × (parked : Parked) × (slice_get t.slots.items at ≡ Some slot) × (slot.stage ≡ Waiting parked)
 
--- the entries of one parked job were looked at so far
+-- the operands of one parked job were looked at so far
 pub record IsHeldAt (t u : Table) (at held : ℕ) : Type 0 where
   pub old : Slot
   pub new : Slot
@@ -314,7 +322,7 @@ pub record IsFreedAt (tree : Tree) (limits : ℕ × ℕ) (t u : Table) (at : ℕ
   pub is : new.stage ≡ Ready work
   pub turn : new.turn ≡ old.turn
   pub watchers : new.watchers ≡ old.watchers
-  pub same : (work.tree ≡ tree) × (work.limits ≡ limits) × (work.target ≡ parked.job.target) × (work.turn ≡ parked.job.turn) × (work.deps ≡ job_deps parked.job)
+  pub same : (work.tree ≡ tree) × (work.limits ≡ limits) × (work.target ≡ parked.begun.value.job.target) × (work.turn ≡ parked.begun.value.job.turn) × (work.deps ≡ job_deps parked.begun.value.job)
   pub slots : u.slots.items ≡ slice_set t.slots.items at new
   pub rest : (u.targets ≡ t.targets) × (u.ready ≡ t.ready) × (u.out ≡ t.out)
 
@@ -324,10 +332,12 @@ pub record IsFedAs (tree : Tree) (limits : ℕ × ℕ) (t : Table) (at : ℕ) (s
   pub was : slot.stage ≡ Waiting parked
   pub distinct : AreDistinct t.targets.keys
   pub waits : IsWaitingWith (rules_of tree limits) (outcomes_of (table_entries (rules_of tree limits) limits.0 t)) tree limits (path_at t.targets.keys at) slot.turn parked
-  pub rest : AnsweredFrom (rules_of tree limits) t parked.job.state.entries parked.held (length parked.job.state.entries)
-  pub is_work : IsWork (rules_of tree limits) parked.job.target parked.job.turn (job_deps parked.job)
+  pub fits : AllFit (rules_of tree limits) limits.0 tree limits t.targets.keys t.slots.items
+  pub numbered : AreNumbers t.targets.keys parked.operands.items (waited_by (rules_of tree limits) parked.begun.value)
+  pub rest : AreDecidedFrom t parked.operands.items parked.held (length parked.operands.items)
+  pub is_work : IsWork (rules_of tree limits) parked.begun.value.job.target parked.begun.value.job.turn (job_deps parked.begun.value.job)
   pub deep : Extends (rules_of tree limits) (outcomes_of (table_entries (rules_of tree limits) limits.0 t)) (outcome_at (rules_of tree limits) is_work.depth)
-  pub few : parked.job.turn < 65536
+  pub few : parked.begun.value.job.turn < 65536
 
 abbrev pub IsFed : Tree → ℕ × ℕ → Table → ℕ → Type 0
 IsFed tree limits t at = (slot : Slot) × (parked : Parked) × IsFedAs tree limits t at slot parked
@@ -399,18 +409,18 @@ pub record AreReleased (t u : Table) (freed : List ℕ) : Type 0 where
   pub queue : u.ready.items ≡ t.ready.items ++ sorted
   pub rest : (u.targets ≡ t.targets) × (u.slots ≡ t.slots) × (u.out ≡ t.out)
 
--- the stage holds this fact, or this job with nothing looked at
+-- the stage holds this fact, or this job with these operands and none of them looked at
 abbrev pub IsDecidedStage : FactView → Stage → Type 0
 IsDecidedStage fact (Waiting parked) = ⊥
 IsDecidedStage fact (Ready work) = ⊥
 IsDecidedStage fact Out = ⊥
 IsDecidedStage fact (Decided held) = arc_value held ≡ fact
 
-abbrev pub IsParkedStage : JobView → Facts → Stage → Type 0
-IsParkedStage job facts (Waiting parked) = (parked.job ≡ job) × (parked.facts ≡ facts) × (parked.held ≡ facts.gained)
-IsParkedStage job facts (Ready work) = ⊥
-IsParkedStage job facts Out = ⊥
-IsParkedStage job facts (Decided held) = ⊥
+abbrev pub IsParkedStage : Box Begun Global → Vec ℕ Global → Stage → Type 0
+IsParkedStage begun operands (Waiting parked) = parked ≡ record { begun = begun; operands = operands; held = 0 }
+IsParkedStage begun operands (Ready work) = ⊥
+IsParkedStage begun operands Out = ⊥
+IsParkedStage begun operands (Decided held) = ⊥
 
 -- one slot whose job was out has another stage
 pub record IsPutBack (t u : Table) (at : ℕ) (old new : Slot) : Type 0 where
@@ -431,11 +441,11 @@ pub record IsDecidedAt (t u : Table) (at : ℕ) (fact : FactView) (pending : Lis
   pub pending_is : pending ≡ old.watchers.items
 
 -- a job is parked at its next turn: it is to be looked at
-pub record IsParkedAt (t u : Table) (at : ℕ) (job : JobView) (facts : Facts) : Type 0 where
+pub record IsParkedAt (t u : Table) (at : ℕ) (begun : Box Begun Global) (operands : Vec ℕ Global) : Type 0 where
   pub old : Slot
   pub new : Slot
   pub put_back : IsPutBack t u at old new
-  pub stage : IsParkedStage job facts new.stage
+  pub stage : IsParkedStage begun operands new.stage
   pub turn : new.turn ≡ old.turn + 1
   pub watchers : new.watchers ≡ old.watchers
 

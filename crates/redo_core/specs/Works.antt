@@ -1,6 +1,10 @@
 -- Jobs as the board keeps them, with the outcomes that they hold.
-use Rattle.std.specs.Prelude.{◌≡◌, ℕ, zero, suc, false, ◌+◌, ◌<◌, ◌≤◌, List, [], Option, Some, None, map, length, slice_get, unwrap_or, bytes_eq}
+use Rattle.std.specs.Prelude.{◌≡◌, ◌⊎◌, ℕ, zero, suc, false, ◌+◌, ◌<◌, ◌≤◌, List, [], Some, None, map, length, slice_get, unwrap_or, bytes_eq}
 use Rattle.std.specs.Arc.{arc_value}
+use Rattle.std.specs.Prelude.{Box, Option, ◌++◌}
+use Rattle.std.specs.declared.sync.Arc.{Arc}
+use Rattle.std.specs.declared.alloc.Global.{Global}
+use Rattle.indexmap.specs.IndexMap.{IndexMap}
 use Rattle.std.specs.Map.{lookup}
 use Rattle.redo_script.specs.Texts.{script_in}
 use Rattle.redo_tree.specs.Tree.{Tree, file_at}
@@ -23,8 +27,18 @@ abbrev pub told_by : List (List ℕ × Outcome) → Ask
 told_by known p = lookup (bytes_eq p) known
 
 -- the paths of some facts with their outcomes
+abbrev pub few_known : List (Arc FactView Global) → List (List ℕ × Outcome)
+few_known facts = map (λ f. ((arc_value {X = FactView} f).target, (arc_value {X = FactView} f).outcome)) facts
+
+abbrev pub entries_known : List (List ℕ × Arc FactView Global) → List (List ℕ × Outcome)
+entries_known es = map (λ e. (e.0, (arc_value {X = FactView} e.1).outcome)) es
+
+abbrev pub more_known : {S : Type 0} → Option (Box (IndexMap (List ℕ) (Arc FactView Global) S) Global) → List (List ℕ × Outcome)
+more_known None = []
+more_known (Some more) = entries_known more.value.entries
+
 abbrev pub known_in : Facts → List (List ℕ × Outcome)
-known_in facts = map (λ e. (e.0, (arc_value {X = FactView} e.1).outcome)) facts.by_target.entries
+known_in facts = few_known facts.few.items ++ more_known facts.more
 
 abbrev pub told_in : Facts → Ask
 told_in facts = told_by (known_in facts)
@@ -32,6 +46,13 @@ told_in facts = told_by (known_in facts)
 -- the record of a job's target so far: nothing is recorded before the script first stopped
 abbrev pub job_deps : JobView → List Dep
 job_deps job = elim (job.turn) [ zero ↦ [] | suc n ↦ record_so_far job ]
+
+-- a fact is known now too, and nothing else is new: what was known keeps its answer
+pub record AddsFact (fact : FactView) (old new : Facts) : Type 0 where
+  pub same : new.gained ≡ old.gained
+  pub kept : (q : List ℕ) → told_in new q ≡ None → told_in old q ≡ None
+  pub origin : (q : List ℕ) (o : Outcome) → told_in new q ≡ Some o → (told_in old q ≡ Some o) ⊎ ((fact.target ≡ q) × (fact.outcome ≡ o))
+  pub known : told_in new fact.target ≡ None → ⊥
 
 -- the path of an entry of a record that is waited for
 abbrev pub IsOperand : Rules → Dep → List ℕ → Type 0

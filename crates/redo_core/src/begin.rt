@@ -1,18 +1,15 @@
 //! What a path is once it is seen for the first time.
-ghost use Rattle.std.specs.Prelude.{◌≡◌, [], IfOk};
+ghost use Rattle.std.specs.Prelude.{◌≡◌, IfOk};
 ghost use Rattle.std.specs.Arc.{arc_value};
-ghost use Rattle.redo_step.specs.declared.deps.DepKind.TheVariants as kinds;
-ghost use Rattle.redo_step.specs.Meaning.{with_entries};
 ghost use Rattle.redo_which.specs.Rule.{Rule as IsRule, found_of};
 ghost use Rattle.redo_which.specs.Views.{arguments_view};
 ghost use Rattle.redo_core.specs.Slots.{IsBegun};
 
 use crate::fact::Fact;
-use crate::facts::Facts;
 use crate::table::Stage;
 use crate::work::Work;
 use redo_path::Path;
-use redo_step::{Dep, DepKind, Deps, Limits, Outcome, Why};
+use redo_step::{Limits, Outcome, Record, Why};
 use redo_tree::Tree;
 use redo_which::{Found, Rule, lookup};
 use std::alloc::{AllocError, Global};
@@ -29,10 +26,13 @@ pub(crate) fn begin(
 {
     let (outcome, deps) = match lookup::find(alloc, tree, path)? {
         Found::Rule(rule) => return ready(alloc, path, tree, limits, rule),
-        Found::Source => (Outcome::Source, Deps::new(alloc)),
-        Found::Directory => (Outcome::Failed(Why::Directory), Deps::new(alloc)),
-        Found::NoDirectory => (Outcome::Failed(Why::NoDirectory), Deps::new(alloc)),
-        Found::NoRule { missing } => (Outcome::Failed(Why::NoRule), all_missing(alloc, &missing)?),
+        Found::Source => (Outcome::Source, Record::none(alloc)),
+        Found::Directory => (Outcome::Failed(Why::Directory), Record::none(alloc)),
+        Found::NoDirectory => (Outcome::Failed(Why::NoDirectory), Record::none(alloc)),
+        Found::NoRule { missing } => (
+            Outcome::Failed(Why::NoRule),
+            Record::of_search(alloc, missing),
+        ),
     };
     let target = path.clone()?;
     let own = Arc::try_clone(tree)?;
@@ -49,24 +49,11 @@ fn ready(
     limits: Limits,
     rule: Rule,
 ) -> Result<Stage, AllocError>
-    requires { found_of (arc_value tree.now) path.now ≡ IsRule rule.do_file rule.missing.items (arguments_view rule.args) }
+    requires { found_of (arc_value tree.now) path.now ≡ IsRule rule.do_file rule.missing (arguments_view rule.args) }
     ensures { IfOk result (IsBegun (arc_value tree.now) limits path.now) }
 {
     let own = Arc::try_clone(tree)?;
     let target = path.clone()?;
-    Ok(Stage::Ready(Work::unread(own, limits, target, rule, Facts::new(alloc))))
-}
-
-/// The record of a target without a rule: the candidates that are missing.
-fn all_missing(alloc: Global, missing: &[Path]) -> Result<Deps, AllocError>
-    ensures { IfOk result (λ deps. deps ≡ with_entries [] kinds.Create missing.now) }
-{
-    let mut deps = Deps::new(alloc);
-    for path in missing {
-        deps.insert(Dep {
-            kind: DepKind::Create,
-            path: path.clone()?,
-        })?;
-    }
-    Ok(deps)
+    let work = Work::unread(alloc, own, limits, target, rule)?;
+    Ok(Stage::Ready(work))
 }

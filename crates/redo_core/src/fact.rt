@@ -5,7 +5,7 @@ ghost use Rattle.redo_core.specs.Build.{rules_of};
 ghost use Rattle.redo_core.specs.Turns.{IsFact};
 
 use redo_path::Path;
-use redo_step::{Deps, Limits, Outcome};
+use redo_step::{Limits, Outcome, Record};
 use redo_tree::Tree;
 use std::marker::Model;
 use std::sync::Arc;
@@ -17,7 +17,7 @@ pub struct Fact {
     limits: Limits,
     target: Path,
     outcome: Outcome,
-    deps: Arc<Deps>,
+    deps: Arc<Record>,
     ruled: bool,
 }
 
@@ -46,7 +46,7 @@ impl Fact {
         limits: Limits,
         target: Path,
         outcome: Outcome,
-        deps: Arc<Deps>,
+        deps: Arc<Record>,
         ruled: bool,
     ) -> Fact
         requires fact { IsFact (rules_of (arc_value tree) limits) target outcome (arc_value deps) }
@@ -78,7 +78,7 @@ impl Fact {
     }
 
     /// Its record: what it is to be made again for, in the order of its declarations, after the search for its rule.
-    pub fn deps(&self) -> &Arc<Deps>
+    pub fn deps(&self) -> &Arc<Record>
         ensures { arc_value result.now ≡ self.now.deps }
     {
         &self.deps

@@ -1,18 +1,23 @@
 //! What is known of the paths that a script asked for.
-ghost use Rattle.std.specs.Prelude.{◌≡◌, []};
-ghost use Rattle.redo_core.specs.Works.{told_in, known_in};
+ghost use Rattle.std.specs.Prelude.{◌≡◌, [], OnOk};
+ghost use Rattle.std.specs.Arc.{arc_value};
+ghost use Rattle.redo_core.specs.Works.{told_in, known_in, AddsFact};
 
 use crate::fact::Fact;
 use indexmap::IndexMap;
 use redo_path::Path;
 use redo_step::{Answers, Outcome};
-use std::alloc::Global;
+use std::alloc::{AllocError, Global};
 use std::sync::Arc;
 
-/// Facts by their targets.
+/// Up to how many facts are compared with a path rather than hashed.
+const FEW: usize = 8;
+
+/// Facts: the first few, and the others by their targets.
 #[derive(Drop)]
 pub(crate) struct Facts {
-    pub(crate) by_target: IndexMap<Path, Arc<Fact>>,
+    few: Vec<Arc<Fact>>,
+    more: Option<Box<IndexMap<Path, Arc<Fact>>>>,
     /// Of so many of the entries that the script declared first, each that is waited for has its fact here.
     pub(crate) gained: usize,
 }
@@ -24,9 +29,38 @@ impl Facts {
         ensures gained { result.gained ≡ 0 }
     {
         Facts {
-            by_target: IndexMap::new(alloc),
+            few: Vec::new(alloc),
+            more: None,
             gained: 0,
         }
+    }
+
+    /// The allocator of the facts.
+    pub(crate) fn allocator(&self) -> Global {
+        *self.few.allocator()
+    }
+
+    /// Adds a fact.
+    pub(crate) fn add(&mut self, fact: Arc<Fact>) -> Result<(), AllocError>
+        ensures { OnOk result (AddsFact (arc_value fact) self.old self.new) }
+    {
+        if self.few.len() < FEW {
+            self.few.push(fact)?;
+            return Ok(());
+        }
+        let target = fact.target().clone()?;
+        match &mut self.more {
+            Some(more) => {
+                more.insert(target, fact)?;
+            }
+            None => {
+                let alloc = *self.few.allocator();
+                let mut more = Box::new(alloc, IndexMap::new(alloc))?;
+                more.insert(target, fact)?;
+                self.more = Some(more);
+            }
+        }
+        Ok(())
     }
 }
 
@@ -36,8 +70,16 @@ impl Answers for Facts {
     ghost ask = { told_in };
 
     fn answer(&self, path: &Path) -> Option<&Outcome> {
-        match self.by_target.get(path) {
-            Some(fact) => Some(fact.outcome()),
+        for fact in &self.few {
+            if fact.target() == path {
+                return Some(fact.outcome());
+            }
+        }
+        match &self.more {
+            Some(more) => match more.get(path) {
+                Some(fact) => Some(fact.outcome()),
+                None => None,
+            },
             None => None,
         }
     }

@@ -1,19 +1,19 @@
 //! What a table comes to where nothing more can happen.
-ghost use Rattle.std.specs.Prelude.{◌≡◌, [], true, IfOk, OnOk, length};
+ghost use Rattle.std.specs.Prelude.{◌≡◌, ◌++◌, [], true, All, IfOk, OnOk, length};
 ghost use Rattle.std.specs.Arc.{arc_value};
 ghost use Rattle.redo_which.specs.Rule.{found_of};
 ghost use Rattle.redo_step.specs.Setting.{is_rule};
-ghost use Rattle.redo_core.specs.Reported.{placed, sources_among, is_settled, IsShown, IsBegunAs, IsRowOf, AllSettled, AllTold, AddsRow, IsReportOf};
+ghost use Rattle.redo_step.specs.declared.outcome.Outcome.TheVariants.{Source};
+ghost use Rattle.redo_core.specs.Reported.{placed, sources_among, listed_paths, IsNumberOf, is_settled, IsShown, IsBegunAs, IsRowOf, AllSettled, AllTold, AddsRow, IsReportOf};
 
 use crate::report::{Report, Row};
-use crate::table::{Stage, Table};
+use crate::table::{Stage, Table, find};
+use indexmap::IndexSet;
 use redo_path::Path;
-use redo_step::{Deps, Outcome};
+use redo_step::{Outcome, Record};
 use redo_tree::Tree;
-use redo_which::Found;
-use redo_which::lookup::find;
+use redo_which::{Found, lookup};
 use std::alloc::{AllocError, Global};
-use std::collections::BTreeSet;
 use std::sync::Arc;
 
 /// The report of the targets of a table and of the requested sources. What still waits is cyclic.
@@ -28,68 +28,91 @@ pub(crate) fn report_of(
     requires told { AllTold tree.now table.now }
     ensures { IfOk result (IsReportOf tree.now request.now table.now) }
 {
-    let mut paths = in_order(alloc, table.targets.as_slice())?;
-    add_sources(tree, request, &mut paths)?;
     let mut report = Report {
         rows: Vec::new(alloc),
         files: Vec::new(alloc),
         begun: Vec::new(alloc),
     };
-    for path in paths {
-        let (row, begun) = row_of(alloc, tree, table, path)?;
+    let listed = in_order(alloc, tree, request, &table.targets)?;
+    for &(path, at) in &listed {
+        let (row, begun) = row_of(alloc, tree, table, path, at)?;
         add_row(row, begun, &mut report)?;
     }
     Ok(report)
 }
 
-/// The paths in path order, each once.
-fn in_order(alloc: Global, targets: &[Path]) -> Result<BTreeSet<Path>, AllocError>
-    ensures { IfOk result (λ paths. paths.keys ≡ placed [] targets.now) }
+/// The targets and the requested sources in path order, each once, with the numbers of the targets.
+fn in_order<'a>(
+    alloc: Global,
+    tree: &Tree,
+    request: &'a [Path],
+    targets: &'a IndexSet<Path>,
+) -> Result<Vec<(&'a Path, Option<usize>)>, AllocError>
+    ensures paths { IfOk result (λ listed. listed_paths listed.items ≡ placed (placed [] targets.now.keys) (sources_among tree.now request.now)) }
+    ensures numbers { IfOk result (λ listed. All (λ e. IsNumberOf targets.now.keys e.0.now e.1) listed.items) }
 {
-    let mut paths = BTreeSet::new(alloc);
-    for path in targets {
-        paths.insert(path.clone()?)?;
+    let mut listed = numbered(alloc, targets.as_slice())?;
+    add_sources(tree, request, targets, &mut listed)?;
+    listed.sort_unstable_by_key(|entry| entry.0);
+    listed.dedup_by(|entry, kept| entry.0 == kept.0);
+    Ok(listed)
+}
+
+/// The targets, each with its number.
+fn numbered(alloc: Global, targets: &[Path]) -> Result<Vec<(&Path, Option<usize>)>, AllocError>
+    ensures paths { IfOk result (λ listed. listed_paths listed.items ≡ targets.now) }
+    ensures numbers { IfOk result (λ listed. All (λ e. IsNumberOf targets.now e.0.now e.1) listed.items) }
+{
+    let mut listed = Vec::with_capacity(alloc, targets.len())?;
+    for (at, path) in targets.iter().enumerate() {
+        listed.push((path, Some(at)))?;
     }
-    Ok(paths)
+    Ok(listed)
 }
 
 /// Adds those of the paths that are sources.
-fn add_sources(tree: &Tree, request: &[Path], paths: &mut BTreeSet<Path>) -> Result<(), AllocError>
-    ensures { OnOk result (paths.new.keys ≡ placed paths.old.keys (sources_among tree.now request.now)) }
+// Nothing here rules out that a source is a target too, so each is looked up.
+fn add_sources<'a>(
+    tree: &Tree,
+    request: &'a [Path],
+    targets: &IndexSet<Path>,
+    listed: &mut Vec<(&'a Path, Option<usize>)>,
+) -> Result<(), AllocError>
+    requires { All (λ e. IsNumberOf targets.now.keys e.0.now e.1) listed.old.items }
+    ensures paths { OnOk result (listed_paths listed.new.items ≡ listed_paths listed.old.items ++ sources_among tree.now request.now) }
+    ensures numbers { OnOk result (All (λ e. IsNumberOf targets.now.keys e.0.now e.1) listed.new.items) }
 {
     for path in request {
         if tree.file(path).is_some() {
-            paths.insert(path.clone()?)?;
+            listed.push((path, find(targets, path)))?;
         }
     }
     Ok(())
 }
 
-/// The row of a path, which is a target of the table or else a source, and whether its script was begun.
-fn row_of(alloc: Global, tree: &Tree, table: &Table, path: Path) -> Result<(Row, bool), AllocError>
+/// The row of a path, which is the target of a number or else a source, and whether its script was begun.
+fn row_of(
+    alloc: Global,
+    tree: &Tree,
+    table: &Table,
+    path: &Path,
+    at: Option<usize>,
+) -> Result<(Row, bool), AllocError>
     requires one_each { length table.now.slots.items ≡ length table.now.targets.keys }
     requires settled { AllSettled table.now }
     requires told { AllTold tree.now table.now }
+    requires number { IsNumberOf table.now.targets.keys path.now at }
     ensures row { IfOk result (λ told. IsRowOf table.now told.0) }
-    ensures path { IfOk result (λ told. told.0.path ≡ path) }
-    ensures begun { IfOk result (λ told. told.1 ≡ is_rule (found_of tree.now path)) }
+    ensures path { IfOk result (λ told. told.0.path ≡ path.now) }
+    ensures begun { IfOk result (λ told. told.1 ≡ is_rule (found_of tree.now path.now)) }
 {
-    let Some(at) = table.targets.get_index_of(&path) else {
-        let begun = has_rule(alloc, tree, &path)?;
-        let outcome = Outcome::Source;
-        let deps = Arc::new(alloc, Deps::new(alloc))?;
-        return Ok((
-            Row {
-                path,
-                outcome,
-                deps,
-            },
-            begun,
-        ));
+    let Some(at) = at else {
+        return source_row(alloc, tree, path);
     };
     let stage = &table.slots[at].stage;
     let (outcome, deps) = came_to(alloc, stage)?;
     let begun = was_begun(stage);
+    let path = path.clone()?;
     Ok((
         Row {
             path,
@@ -98,6 +121,22 @@ fn row_of(alloc: Global, tree: &Tree, table: &Table, path: Path) -> Result<(Row,
         },
         begun,
     ))
+}
+
+/// The row of a source, and whether it has a rule.
+fn source_row(alloc: Global, tree: &Tree, path: &Path) -> Result<(Row, bool), AllocError>
+    ensures path { IfOk result (λ told. told.0.path ≡ path.now) }
+    ensures outcome { IfOk result (λ told. told.0.outcome ≡ Source) }
+    ensures deps { IfOk result (λ told. arc_value told.0.deps ≡ []) }
+    ensures begun { IfOk result (λ told. told.1 ≡ is_rule (found_of tree.now path.now)) }
+{
+    let begun = has_rule(alloc, tree, path)?;
+    let row = Row {
+        path: path.clone()?,
+        outcome: Outcome::Source,
+        deps: Arc::new(alloc, Record::none(alloc))?,
+    };
+    Ok((row, begun))
 }
 
 /// Whether the script of a target was begun, where it waits or is decided.
@@ -113,13 +152,16 @@ fn was_begun(stage: &Stage) -> bool
 }
 
 /// What a target came to, and its record.
-fn came_to(alloc: Global, stage: &Stage) -> Result<(Outcome, Arc<Deps>), AllocError>
+fn came_to(alloc: Global, stage: &Stage) -> Result<(Outcome, Arc<Record>), AllocError>
     requires { is_settled stage.now ≡ true }
     ensures { IfOk result (λ shown. IsShown stage.now shown.0 (arc_value shown.1)) }
 {
     match stage {
         Stage::Decided(fact) => Ok((copied(fact.outcome())?, Arc::try_clone(fact.deps())?)),
-        Stage::Waiting(parked) => Ok((Outcome::Cyclic, Arc::new(alloc, parked.job.record()?)?)),
+        Stage::Waiting(parked) => Ok((
+            Outcome::Cyclic,
+            Arc::new(alloc, parked.begun.job.record()?)?,
+        )),
         Stage::Ready(_) | Stage::Out => unreachable!(),
     }
 }
@@ -155,7 +197,7 @@ fn add_row(row: Row, begun: bool, report: &mut Report) -> Result<(), AllocError>
 fn has_rule(alloc: Global, tree: &Tree, path: &Path) -> Result<bool, AllocError>
     ensures { IfOk result (λ answer. answer ≡ is_rule (found_of tree.now path.now)) }
 {
-    match find(alloc, tree, path)? {
+    match lookup::find(alloc, tree, path)? {
         Found::Rule(_) => Ok(true),
         _ => Ok(false),
     }

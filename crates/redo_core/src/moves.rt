@@ -1,15 +1,15 @@
 //! What the opening and a handed in piece do to the table.
-ghost use Rattle.std.specs.Prelude.{◌≡◌, ◌<◌, ℕ, [], not, is_some, length, IfOk, OnOk, Err};
+ghost use Rattle.std.specs.Prelude.{◌≡◌, ◌<◌, ◌≤◌, ℕ, [], drop, not, is_some, length, IfOk, OnOk, Err};
 ghost use Rattle.std.specs.Arc.{arc_value};
 ghost use Rattle.redo_core.specs.Build.{rules_of};
 ghost use Rattle.redo_core.specs.Rules.{operands};
-ghost use Rattle.redo_core.specs.Slots.{IsPlace, IsTableOf, IsStandingTable, AreEnteredInto, AreTooMany, AreLookedAt, AreReleased, MayTakeIn, IsPutBackThere, IsTakenIn, IsFirstTable, targets_in, table_entries, state_after};
+ghost use Rattle.redo_core.specs.Slots.{IsPlace, AreNumbers, IsTableOf, IsStandingTable, AreEnteredInto, AreTooMany, AreLookedAt, AreReleased, MayTakeIn, IsPutBackThere, IsTakenIn, IsFirstTable, targets_in, table_entries, state_after};
 ghost use Rattle.redo_core.specs.Schedule.{opening};
 ghost use Rattle.redo_tree.specs.Tree.{file_at};
 
 use crate::board::Stop;
 use crate::table::{Table, decide, enter, is_operand, park, settle};
-use crate::work::End;
+use crate::work::{Begun, End};
 use indexmap::IndexSet;
 use redo_path::Path;
 use redo_step::{Dep, Limits};
@@ -18,7 +18,7 @@ use std::alloc::{AllocError, Global};
 use std::collections::VecDeque;
 use std::sync::Arc;
 
-/// Enters what some entries of a record wait for, as far as it is new.
+/// Enters what some entries of a record wait for, as far as it is new, and gives the numbers.
 pub(crate) fn enter_all(
     table: &mut Table,
     alloc: Global,
@@ -26,17 +26,20 @@ pub(crate) fn enter_all(
     tree: &Arc<Tree>,
     limits: Limits,
     freed: &mut Vec<u32>,
-) -> Result<(), Stop>
+) -> Result<Vec<u32>, Stop>
     requires table { IsTableOf (arc_value tree.now) limits table.old freed.old.items }
     ensures ok { OnOk result (AreEnteredInto (arc_value tree.now) limits table.old table.new freed.new.items (operands (rules_of (arc_value tree.now) limits) deps.now)) }
+    ensures numbers { IfOk result (λ ns. AreNumbers table.new.targets.keys ns.items (operands (rules_of (arc_value tree.now) limits) deps.now)) }
     ensures too_many { result ≡ Err Stop.TooMany → AreTooMany (rules_of (arc_value tree.now) limits) limits.0 (table_entries (rules_of (arc_value tree.now) limits) limits.0 table.old) (operands (rules_of (arc_value tree.now) limits) deps.now) }
 {
+    let mut numbers = Vec::new(alloc);
     for dep in deps {
         if is_operand(tree, limits, dep) {
-            enter(table, alloc, &dep.path, tree, limits, freed)?;
+            let at = enter(table, alloc, &dep.path, tree, limits, freed)?;
+            numbers.push(at)?;
         }
     }
-    Ok(())
+    Ok(numbers)
 }
 
 /// Looks again at some numbers.
@@ -71,6 +74,14 @@ pub(crate) fn release(table: &mut Table, mut freed: Vec<u32>) -> Result<(), Allo
     Ok(())
 }
 
+/// The entries that a script declared since its facts were gathered.
+fn asked(begun: &Begun) -> &[Dep]
+    requires { begun.now.facts.gained ≤ length begun.now.job.state.entries }
+    ensures { result.now ≡ drop begun.now.facts.gained begun.now.job.state.entries }
+{
+    &begun.job.declared().as_slice()[begun.facts.gained..]
+}
+
 /// Notes what a job that was out came to, with what it asks for entered, and gives the numbers to look at again.
 fn put_back(
     table: &mut Table,
@@ -88,12 +99,11 @@ fn put_back(
 {
     match end {
         End::Ended(fact) => Ok(decide(table, alloc, at, fact)?),
-        End::Stopped(job, facts) => {
+        End::Stopped(begun) => {
             let mut pending = Vec::new(alloc);
             pending.push(at as u32)?;
-            let asked = &job.declared().as_slice()[facts.gained..];
-            enter_all(table, alloc, asked, tree, limits, freed)?;
-            park(table, at, job, facts);
+            let operands = enter_all(table, alloc, asked(&begun), tree, limits, freed)?;
+            park(table, at, begun, operands);
             Ok(pending)
         }
     }

@@ -20,7 +20,7 @@ pub(crate) fn begun(
     target: Path,
     rule: Rule,
 ) -> Result<Job, AllocError>
-    requires { found_of (arc_value tree.now) target ≡ IsRule rule.do_file rule.missing.items (arguments_view rule.args) }
+    requires { found_of (arc_value tree.now) target ≡ IsRule rule.do_file rule.missing (arguments_view rule.args) }
     ensures { IfOk result (IsBegunJob (arc_value tree.now) limits target) }
 {
     let text = tree.file(&rule.do_file).unwrap_or(b"");

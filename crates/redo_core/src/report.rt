@@ -1,6 +1,6 @@
 //! What a build came to, as data: rows, files and begun scripts.
 use redo_path::Path;
-use redo_step::{Deps, Outcome};
+use redo_step::{Outcome, Record};
 use redo_tree::Content;
 use std::sync::Arc;
 
@@ -10,7 +10,7 @@ pub struct Row {
     pub path: Path,
     pub outcome: Outcome,
     /// The record, also of a target that failed or is cyclic; a source has none.
-    pub deps: Arc<Deps>,
+    pub deps: Arc<Record>,
 }
 
 /// What a build came to, each list in path order.

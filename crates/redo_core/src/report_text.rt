@@ -1,11 +1,12 @@
 //! The report of a build as text.
-ghost use Rattle.std.specs.Prelude.{◌≡◌, ◌++◌, ◌∷◌, IfOk, OnOk, decimal, flat_map};
+ghost use Rattle.std.specs.Prelude.{◌≡◌, ◌++◌, ◌∷◌, IfOk, OnOk, decimal, flat_map, option_copied};
+ghost use Rattle.redo_step.specs.Entries.{change_of};
 ghost use Rattle.redo_core.specs.ReportText.{begun_line, dep_line, file_text, outcome_words, path_line, reason_word, lines_text, report_text, row_text, why_words, word_at};
 
 use crate::report::{Report, Row};
 use redo_path::Path;
 use redo_script::Reason;
-use redo_step::{Dep, DepKind, Outcome, Why};
+use redo_step::{Dep, DepKind, Outcome, Record, Why};
 use redo_tree::Content;
 use std::alloc::{AllocError, Global};
 
@@ -181,7 +182,7 @@ fn push_dep(text: &mut Vec<u8>, dep: &Dep) -> Result<(), AllocError>
     push_path(text, &dep.path)
 }
 
-/// Adds the lines of a record.
+/// Adds the lines of entries.
 fn push_deps(text: &mut Vec<u8>, deps: &[Dep]) -> Result<(), AllocError>
     ensures { OnOk result (text.new.items ≡ text.old.items ++ flat_map dep_line deps.now) }
 {
@@ -191,6 +192,29 @@ fn push_deps(text: &mut Vec<u8>, deps: &[Dep]) -> Result<(), AllocError>
     Ok(())
 }
 
+/// Adds the line of a record's .do file, if it has one.
+fn push_do_file(text: &mut Vec<u8>, do_file: Option<&Path>) -> Result<(), AllocError>
+    ensures { OnOk result (text.new.items ≡ text.old.items ++ flat_map dep_line (change_of (option_copied do_file.entry))) }
+{
+    match do_file {
+        Some(path) => {
+            text.extend_from_slice(b"dep change ")?;
+            push_path(text, path)
+        }
+        None => Ok(()),
+    }
+}
+
+/// Adds the lines of a record. Of its entries none is made.
+fn push_record(alloc: Global, text: &mut Vec<u8>, deps: &Record) -> Result<(), AllocError>
+    ensures { OnOk result (text.new.items ≡ text.old.items ++ flat_map dep_line deps.now) }
+{
+    let parts = deps.parts();
+    parts.missing.add_lines(alloc, b"dep create ", text)?;
+    push_do_file(text, parts.do_file)?;
+    push_deps(text, parts.own)
+}
+
 /// Adds a row, with its record.
 fn push_row(alloc: Global, text: &mut Vec<u8>, row: &Row) -> Result<(), AllocError>
     ensures { OnOk result (text.new.items ≡ text.old.items ++ row_text row.now) }
@@ -198,5 +222,5 @@ fn push_row(alloc: Global, text: &mut Vec<u8>, row: &Row) -> Result<(), AllocErr
     push_outcome(alloc, text, &row.outcome)?;
     text.extend_from_slice(b" ")?;
     push_path(text, &row.path)?;
-    push_deps(text, row.deps.as_slice())
+    push_record(alloc, text, &row.deps)
 }

@@ -3,14 +3,13 @@ ghost use Rattle.std.specs.Prelude.{◌≡◌, ℕ, List, ◌↔◌, ◌<◌, �
 ghost use Rattle.std.specs.Arc.{arc_value};
 ghost use Rattle.redo_core.specs.Paths.{IsAmong, AreDistinct};
 ghost use Rattle.redo_core.specs.Build.{rules_of};
-ghost use Rattle.redo_core.specs.Rules.{operands};
-ghost use Rattle.redo_core.specs.Slots.{IsOperand, IsDecidedSlot, IsFactThere, GainsOne, AllOperandsSeen, IsLackingAt, AnsweredFrom, is_stage_decided, is_stage_ready, is_stage_out, IsOutSlotAt, IsWaitingThere, IsHeldAt, IsTableOf, IsStandingTable, IsWatchAdded, IsFreedAt, IsFed, IsLookedAt, IsBegun, IsPushed, IsEnteredInto, IsFull, table_entries, IsDecidedAt, IsParkedAt, IsOutThere, Gains};
+ghost use Rattle.redo_core.specs.Slots.{IsOperand, IsPlace, IsDecidedNumber, GainsOne, IsLackingAt, AreDecidedFrom, is_stage_decided, is_stage_ready, is_stage_out, IsOutSlotAt, IsWaitingThere, IsHeldAt, IsTableOf, IsStandingTable, IsWatchAdded, IsFreedAt, IsFed, IsLookedAt, IsBegun, IsPushed, IsEnteredInto, IsFull, table_entries, IsDecidedAt, IsParkedAt, IsOutThere, Gains};
 
 use crate::begin::begin;
 use crate::board::Stop;
 use crate::fact::Fact;
 use crate::facts::Facts;
-use crate::work::Work;
+use crate::work::{Begun, Work};
 use indexmap::IndexSet;
 use redo_path::Path;
 use redo_step::{Dep, DepKind, Job, Limits};
@@ -29,11 +28,13 @@ pub enum Stage {
     Decided(Arc<Fact>),
 }
 
-/// A job that waits. Of so many of the entries that it declared first, each that is waited for is decided.
+/// A job that waits.
 #[derive(Drop)]
 pub struct Parked {
-    pub job: Job,
-    pub facts: Facts,
+    pub begun: Box<Begun>,
+    /// The numbers of the targets that it asked for and has no facts of yet, in the order of their entries.
+    pub operands: Vec<u32>,
+    /// So many of them, from the first on, are decided.
     pub held: usize,
 }
 
@@ -62,7 +63,7 @@ pub(crate) fn find(targets: &IndexSet<Path>, path: &Path) -> Option<usize>
 }
 
 /// Whether an entry of a record is waited for.
-// Here and in the functions on operands below, `limits` is for the contract, whose rules are those of a tree under its limits.
+// `limits` is for the contract, whose rules are those of a tree under its limits.
 pub(crate) fn is_operand(tree: &Tree, limits: Limits, dep: &Dep) -> bool
     ensures { IsTrue result ↔ IsOperand (rules_of tree.now limits) dep.now dep.now.path }
 {
@@ -106,35 +107,22 @@ pub(crate) fn out_at(table: &Table, target: &Path, turn: u64) -> Option<usize>
     None
 }
 
-/// The first undecided path that some entries wait for, from an entry on: the entry's number and the path's.
-fn next_lacking(
-    table: &Table,
-    tree: &Tree,
-    limits: Limits,
-    deps: &[Dep],
-    from: usize,
-) -> Option<(usize, usize)>
-    requires within { from ≤ length deps.now }
-    requires one_each { length table.now.slots.items ≡ length table.now.targets.keys }
-    requires seen { AllOperandsSeen (rules_of tree.now limits) table.now deps.now }
-    ensures found { IfSome result (λ f. IsLackingAt (rules_of tree.now limits) table.now deps.now from f.0 f.1) }
-    ensures none { IfNone result (AnsweredFrom (rules_of tree.now limits) table.now deps.now from (length deps.now)) }
+/// The first undecided target of some numbers, from a place on: the place and the number.
+fn next_lacking(table: &Table, operands: &[u32], from: usize) -> Option<(usize, usize)>
+    requires seen { (k : ℕ) → IsPlace operands.now k → k < length table.now.slots.items }
+    ensures found { IfSome result (λ f. IsLackingAt table.now operands.now from f.0 f.1) }
+    ensures none { IfNone result (AreDecidedFrom table.now operands.now from (length operands.now)) }
 {
-    for i in from..deps.len() {
-        let dep = &deps[i];
-        if is_operand(tree, limits, dep) {
-            let Some(at) = find(&table.targets, &dep.path) else {
-                unreachable!()
-            };
-            if !is_decided(&table.slots[at]) {
-                return Some((i, at));
-            }
+    for i in from..operands.len() {
+        let at = operands[i] as usize;
+        if !is_decided(&table.slots[at]) {
+            return Some((i, at));
         }
     }
     None
 }
 
-/// Notes how far the entries of a parked job were looked at.
+/// Notes how far the operands of a parked job were looked at.
 fn hold(table: &mut Table, at: usize, held: usize)
     requires { IsWaitingThere table.old at }
     ensures { IsHeldAt table.old table.new at held }
@@ -155,63 +143,27 @@ pub(crate) fn watch(table: &mut Table, at: u32, place: usize) -> Result<(), Allo
     Ok(())
 }
 
-/// The fact of a target, once it is decided.
-fn fact_of<'a>(table: &'a Table, path: &Path) -> Option<&'a Arc<Fact>>
-    requires one_each { length table.now.slots.items ≡ length table.now.targets.keys }
-    requires distinct { AreDistinct table.now.targets.keys }
-    ensures { MatchOption result (IsDecidedSlot table.now path.now → ⊥) (λ f. IsFactThere table.now path.now f.now) }
+/// Takes over the fact of a decided target.
+fn gain_one(table: &Table, at: u32, facts: &mut Facts) -> Result<(), AllocError>
+    requires { IsDecidedNumber table.now at }
+    ensures { OnOk result (GainsOne table.now at facts.old facts.new) }
 {
-    let Some(at) = find(&table.targets, path) else {
-        return None;
+    let slot = &table.slots[at as usize];
+    let Stage::Decided(fact) = &slot.stage else {
+        unreachable!()
     };
-    match &table.slots[at].stage {
-        Stage::Decided(fact) => Some(fact),
-        _ => None,
-    }
+    facts.add(Arc::try_clone(fact)?)
 }
 
-/// Takes over the fact of what an entry waits for.
-fn gain_one(
-    table: &Table,
-    tree: &Tree,
-    limits: Limits,
-    dep: &Dep,
-    facts: &mut Facts,
-) -> Result<(), AllocError>
-    requires one_each { length table.now.slots.items ≡ length table.now.targets.keys }
-    requires distinct { AreDistinct table.now.targets.keys }
-    requires decided { IsOperand (rules_of tree.now limits) dep.now dep.now.path → IsDecidedSlot table.now dep.now.path }
-    ensures { OnOk result (GainsOne (rules_of tree.now limits) table.now dep.now facts.old facts.new) }
+/// Takes over the facts of the decided targets that a job waited for, which are all that it lacked.
+fn gain(table: &Table, operands: &[u32], job: &Job, facts: &mut Facts) -> Result<(), AllocError>
+    requires { (k n : ℕ) → slice_get operands.now k ≡ Some n → IsDecidedNumber table.now n }
+    ensures { OnOk result (Gains table.now operands.now job.now facts.old facts.new) }
 {
-    if is_operand(tree, limits, dep) {
-        let Some(fact) = fact_of(table, &dep.path) else {
-            unreachable!()
-        };
-        let fact = Arc::try_clone(fact)?;
-        facts.by_target.insert(dep.path.clone()?, fact)?;
+    for at in operands {
+        gain_one(table, *at, facts)?;
     }
-    Ok(())
-}
-
-/// Takes over the facts of what a job's entries wait for, from the first entry on whose facts it lacks.
-fn gain(
-    table: &Table,
-    tree: &Tree,
-    limits: Limits,
-    job: &Job,
-    facts: &mut Facts,
-) -> Result<(), AllocError>
-    requires one_each { length table.now.slots.items ≡ length table.now.targets.keys }
-    requires distinct { AreDistinct table.now.targets.keys }
-    requires within { facts.old.gained ≤ length job.now.state.entries }
-    requires decided { AnsweredFrom (rules_of tree.now limits) table.now job.now.state.entries facts.old.gained (length job.now.state.entries) }
-    ensures { OnOk result (Gains (rules_of tree.now limits) table.now job.now facts.old facts.new) }
-{
-    let deps = job.declared().as_slice();
-    for i in facts.gained..deps.len() {
-        gain_one(table, tree, limits, &deps[i], facts)?;
-    }
-    facts.gained = deps.len();
+    facts.gained = job.declared().len();
     Ok(())
 }
 
@@ -233,13 +185,14 @@ pub(crate) fn free(
         unreachable!()
     };
     let Parked {
-        job,
-        mut facts,
+        mut begun,
+        operands,
         held: _,
     } = parked;
-    gain(table, tree, limits, &job, &mut facts)?;
+    let Begun { job, facts } = &mut *begun;
+    gain(table, &operands, job, facts)?;
     let slot = &mut table.slots[at];
-    slot.stage = Stage::Ready(Work::of(own, limits, job, facts));
+    slot.stage = Stage::Ready(Work::of(own, limits, begun));
     Ok(())
 }
 
@@ -261,8 +214,7 @@ pub(crate) fn settle(
     let Stage::Waiting(parked) = &slot.stage else {
         return Ok(());
     };
-    let deps = parked.job.declared().as_slice();
-    match next_lacking(table, tree, limits, deps, parked.held) {
+    match next_lacking(table, &parked.operands, parked.held) {
         Some((held, place)) => {
             hold(table, at as usize, held);
             watch(table, at, place)
@@ -274,7 +226,7 @@ pub(crate) fn settle(
     }
 }
 
-/// Enters a path, which is freed if it has a rule, if it is new.
+/// Enters a path, which is freed if it has a rule, if it is new. It gives the path's number.
 pub(crate) fn enter(
     table: &mut Table,
     alloc: Global,
@@ -282,19 +234,21 @@ pub(crate) fn enter(
     tree: &Arc<Tree>,
     limits: Limits,
     freed: &mut Vec<u32>,
-) -> Result<(), Stop>
+) -> Result<u32, Stop>
     requires table { IsTableOf (arc_value tree.now) limits table.old freed.old.items }
     ensures ok { OnOk result (IsEnteredInto (arc_value tree.now) limits table.old table.new freed.new.items path.now) }
+    ensures number { IfOk result (λ at. slice_get table.new.targets.keys at ≡ Some path.now) }
     ensures too_many { result ≡ Err Stop.TooMany → IsFull (rules_of (arc_value tree.now) limits) limits.0 (table_entries (rules_of (arc_value tree.now) limits) limits.0 table.old) path.now }
 {
-    if find(&table.targets, path).is_some() {
-        return Ok(());
+    if let Some(at) = find(&table.targets, path) {
+        return Ok(at as u32);
     }
     if table.slots.len() >= limits.targets() as usize {
         return Err(Stop::TooMany);
     }
+    let at = table.slots.len() as u32;
     match enter_new(table, alloc, path, tree, limits, freed) {
-        Ok(()) => Ok(()),
+        Ok(()) => Ok(at),
         Err(_) => Err(Stop::Memory),
     }
 }
@@ -345,14 +299,17 @@ pub(crate) fn decide(
     Ok(pending)
 }
 
-/// Parks a job that was out at its next turn. Its number is to be looked at.
-pub(crate) fn park(table: &mut Table, at: usize, job: Job, facts: Facts)
+/// Parks a job that was out at its next turn, with the numbers of what it waits for. Its own number is to be looked at.
+pub(crate) fn park(table: &mut Table, at: usize, begun: Box<Begun>, operands: Vec<u32>)
     requires { IsOutThere table.old at }
-    ensures { IsParkedAt table.old table.new at job facts }
+    ensures { IsParkedAt table.old table.new at begun operands }
 {
     let slot = &mut table.slots[at];
     slot.turn += 1;
-    let held = facts.gained;
-    slot.stage = Stage::Waiting(Parked { job, facts, held });
+    slot.stage = Stage::Waiting(Parked {
+        begun,
+        operands,
+        held: 0,
+    });
     table.out -= 1;
 }

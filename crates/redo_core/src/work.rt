@@ -16,7 +16,7 @@ use redo_path::Path;
 use redo_step::{Job, Limits, Step};
 use redo_tree::Tree;
 use redo_which::Rule;
-use std::alloc::AllocError;
+use std::alloc::{AllocError, Global};
 use std::marker::Model;
 use std::sync::Arc;
 
@@ -28,14 +28,28 @@ pub struct Work {
     tree: Arc<Tree>,
     limits: Limits,
     script: Script,
-    facts: Facts,
 }
 
-/// A target's script: not read yet, with the rule that names it, or begun.
+/// A target's script: not read yet, or begun. Each is boxed, so that a board's many targets take little room each, and what
+/// is begun is handed on without being moved.
 #[derive(Drop)]
 pub(crate) enum Script {
-    Unread(Path, Rule),
-    Begun(Job),
+    Unread(Box<Unread>),
+    Begun(Box<Begun>),
+}
+
+/// A target whose script wasn't read yet, with the rule that names it.
+#[derive(Drop)]
+pub(crate) struct Unread {
+    target: Path,
+    rule: Rule,
+}
+
+/// A script that was begun, with the facts of what it asked for.
+#[derive(Drop)]
+pub(crate) struct Begun {
+    pub(crate) job: Job,
+    pub(crate) facts: Facts,
 }
 
 impl Model for Work {
@@ -44,8 +58,7 @@ impl Model for Work {
 
     ghost Value = { WorkView };
 
-    ghost use Rattle.redo_core.specs.Works.{known_in};
-    ghost use Rattle.redo_core.specs.Scripts.{IsScriptWith, script_target, script_turn, script_deps};
+    ghost use Rattle.redo_core.specs.Scripts.{IsScriptOf, script_target, script_turn, script_deps, script_known};
 
     ghost view = { λ w. record {
       tree = arc_value w.tree;
@@ -53,10 +66,10 @@ impl Model for Work {
       target = script_target w.script;
       turn = script_turn w.script;
       deps = script_deps w.script;
-      known = known_in w.facts;
+      known = script_known w.script;
     } };
 
-    ghost invariant = { λ w. IsScriptWith (arc_value w.tree) w.limits w.script w.facts };
+    ghost invariant = { λ w. IsScriptOf (arc_value w.tree) w.limits w.script };
 }
 
 /// How far a job came, for the board to take in. It is made by `Work::advance` alone.
@@ -73,7 +86,7 @@ pub struct Piece {
 #[derive(Drop)]
 pub(crate) enum End {
     Ended(Fact),
-    Stopped(Job, Facts),
+    Stopped(Box<Begun>),
 }
 
 impl Model for Piece {
@@ -92,35 +105,32 @@ impl Model for Piece {
 impl Work {
     /// A target whose script wasn't read yet, with the rule that the search finds for it.
     pub(crate) fn unread(
+        alloc: Global,
         tree: Arc<Tree>,
         limits: Limits,
         target: Path,
         rule: Rule,
-        facts: Facts,
-    ) -> Work
-        requires found { found_of (arc_value tree) target ≡ IsRule rule.do_file rule.missing.items (arguments_view rule.args) }
-        requires none_known { known_in facts ≡ [] }
-        requires none_gained { facts.gained ≡ 0 }
-        ensures { result ≡ record { tree = arc_value tree; limits = limits; target = target; turn = 0; deps = []; known = [] } }
+    ) -> Result<Work, AllocError>
+        requires found { found_of (arc_value tree) target ≡ IsRule rule.do_file rule.missing (arguments_view rule.args) }
+        ensures { IfOk result (λ w. w ≡ record { tree = arc_value tree; limits = limits; target = target; turn = 0; deps = []; known = [] }) }
     {
-        Work {
+        let unread = Box::new(alloc, Unread { target, rule })?;
+        Ok(Work {
             tree,
             limits,
-            script: Script::Unread(target, rule),
-            facts,
-        }
+            script: Script::Unread(unread),
+        })
     }
 
     /// A job with the facts of all that it asked for.
-    pub(crate) fn of(tree: Arc<Tree>, limits: Limits, job: Job, facts: Facts) -> Work
-        requires { IsWorkWith (arc_value tree) limits job facts }
-        ensures { result ≡ record { tree = arc_value tree; limits = limits; target = job.target; turn = job.turn; deps = job_deps job; known = known_in facts } }
+    pub(crate) fn of(tree: Arc<Tree>, limits: Limits, begun: Box<Begun>) -> Work
+        requires { IsWorkWith (arc_value tree) limits begun.value.job begun.value.facts }
+        ensures { result ≡ record { tree = arc_value tree; limits = limits; target = begun.value.job.target; turn = begun.value.job.turn; deps = job_deps begun.value.job; known = known_in begun.value.facts } }
     {
         Work {
             tree,
             limits,
-            script: Script::Begun(job),
-            facts,
+            script: Script::Begun(begun),
         }
     }
 
@@ -129,8 +139,8 @@ impl Work {
         ensures { result.now ≡ self.now.target }
     {
         match &self.script {
-            Script::Unread(target, _) => target,
-            Script::Begun(job) => job.target(),
+            Script::Unread(unread) => &unread.target,
+            Script::Begun(begun) => begun.job.target(),
         }
     }
 
@@ -139,8 +149,8 @@ impl Work {
         ensures { result ≡ self.now.turn }
     {
         match &self.script {
-            Script::Unread(_, _) => 0,
-            Script::Begun(job) => job.turn(),
+            Script::Unread(_) => 0,
+            Script::Begun(begun) => begun.job.turn(),
         }
     }
 
@@ -155,14 +165,18 @@ impl Work {
             tree,
             limits,
             script,
-            facts,
         } = self;
         match script {
-            Script::Unread(target, rule) => {
-                let job = begun(*facts.by_target.allocator(), &tree, limits, target, rule)?;
+            Script::Unread(unread) => {
+                let alloc = *Box::allocator(&unread);
+                let Unread { target, rule } = Box::into_inner(unread);
+                let job = begun(alloc, &tree, limits, target, rule)?;
+                advance_job(tree, limits, job, Facts::new(alloc))
+            }
+            Script::Begun(begun) => {
+                let Begun { job, facts } = Box::into_inner(begun);
                 advance_job(tree, limits, job, facts)
             }
-            Script::Begun(job) => advance_job(tree, limits, job, facts),
         }
     }
 }
@@ -174,7 +188,7 @@ fn advance_job(tree: Arc<Tree>, limits: Limits, job: Job, facts: Facts) -> Resul
     ensures progress { IfOk result (λ p. p.progress ≡ (rules_of (arc_value tree) limits).progress job.target (told_in facts)) }
     ensures ended { IfOk result (λ p. (p.progress.outcome ≡ None → ⊥) ↔ (lacking_under (rules_of (arc_value tree) limits) job.target (told_in facts) ≡ [])) }
 {
-    let alloc = *facts.by_target.allocator();
+    let alloc = facts.allocator();
     let turn = job.turn();
     let target = job.target().clone()?;
     let end = match job.advance(&facts)? {
@@ -184,7 +198,7 @@ fn advance_job(tree: Arc<Tree>, limits: Limits, job: Job, facts: Facts) -> Resul
             let deps = Arc::new(alloc, done.deps)?;
             End::Ended(Fact::of(own, limits, path, done.outcome, deps, true))
         }
-        Step::Asks { job, paths: _paths } => End::Stopped(job, facts),
+        Step::Asks { job, paths: _paths } => End::Stopped(Box::new(alloc, Begun { job, facts })?),
     };
     Ok(Piece {
         tree,

@@ -4,7 +4,8 @@
 //! is the empty text. So each file has one path, and paths are compared, ordered and kept as bytes.
 //! [`resolve`] says what a word of a script or of the command line names, read from a directory, as
 //! the operands of redo-ifchange(1) are. It looks at no disk: `zz/../src` is `src` whatever `zz` is.
-//! Stands on `bstr` for searches in bytes and on `thiserror`.
+//! Stands on `redo_bytes` for where a
+//! text is kept, on `bstr` for searches in bytes and on `thiserror`.
 //!
 //! - here: [`Path`] and [`PathFault`];
 //! - `children`: the path of a file name in a directory;
@@ -27,11 +28,11 @@ pub mod laws;
 mod words;
 
 use bstr::ByteSlice;
+use redo_bytes::Bytes;
 use std::alloc::{AllocError, AllocFailed, Global};
 use std::cmp::Ordering;
 use std::hash::{Hash, Hasher};
 use std::marker::Model;
-use std::sync::ArcSlice;
 use thiserror::Error;
 pub use words::resolve;
 
@@ -77,23 +78,22 @@ impl<T: Drop> From<AllocFailed<T>> for PathFault {
     }
 }
 
-/// A canonical path. A clone shares the text. In a contract a path is its text.
+/// A canonical path. A clone copies a short text and shares a long one. In a contract a path is its
+/// text.
 #[derive(Debug)]
 pub struct Path {
-    /// None at the root.
-    text: Option<ArcSlice<u8>>,
+    text: Bytes,
 }
 
 impl Model for Path {
     ghost use Rattle.std.specs.Prelude.{List, ℕ};
     ghost use Rattle.redo_path.specs.Names.{IsPath};
-    ghost use Rattle.redo_path.specs.Shared.{shared_text};
 
     ghost Value = { List ℕ };
 
-    ghost view = { λ p. shared_text p.text };
+    ghost view = { λ p. p.text };
 
-    ghost invariant = { λ p. IsPath (shared_text p.text) };
+    ghost invariant = { λ p. IsPath p.text };
 }
 
 impl Path {
@@ -103,7 +103,9 @@ impl Path {
     pub fn root() -> Path
         ensures { result ≡ [] }
     {
-        Path { text: None }
+        Path {
+            text: Bytes::empty(),
+        }
     }
 
     /// The names, with slashes between them; nothing at the root.
@@ -111,10 +113,7 @@ impl Path {
         ensures text { result.now ≡ self.now }
         ensures path { IsPath self.now }
     {
-        match &self.text {
-            Some(text) => text.as_slice(),
-            None => b"",
-        }
+        self.text.as_slice()
     }
 
     /// The last name, which is empty at the root.
@@ -131,7 +130,9 @@ impl Path {
         ensures names { IfOk result (λ parent. IfSome parent (λ up. names self.now ≡ names up ++ name_of self.now ∷ [])) }
     {
         match front(self.text()) {
-            Some(front) => Ok(Some(share(Vec::from_slice(alloc, front)?)?)),
+            Some(front) => Ok(Some(Path {
+                text: Bytes::from_slice(alloc, front)?,
+            })),
             None => Ok(None),
         }
     }
@@ -173,12 +174,8 @@ impl Clone for Path {
     ghost is_clone = { λ path copy. copy ≡ path };
 
     fn clone(&self) -> Result<Path, AllocError> {
-        match &self.text {
-            Some(text) => Ok(Path {
-                text: Some(text.clone()?),
-            }),
-            None => Ok(Path { text: None }),
-        }
+        let text = self.text.clone()?;
+        Ok(Path { text })
     }
 }
 
@@ -236,11 +233,8 @@ pub(crate) fn share(text: Vec<u8>) -> Result<Path, AllocError>
     requires { IsPath text.items }
     ensures { IfOk result (λ path. path ≡ text.items) }
 {
-    if text.is_empty() {
-        return Ok(Path::root());
-    }
-    let text = ArcSlice::from_vec(text)?;
-    Ok(Path { text: Some(text) })
+    let text = Bytes::from_vec(text)?;
+    Ok(Path { text })
 }
 
 /// Where the last name of a text begins.

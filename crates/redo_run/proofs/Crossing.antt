@@ -26,7 +26,9 @@ use Rattle.redo_script.specs.contracts.ast.Script as Script
 use Rattle.redo_step.specs.contracts.parsed.Parsed as Parsed
 use Rattle.redo_step.specs.contracts.job.Task as Task
 use Rattle.redo_step.specs.contracts.job.Job as Job
-use Rattle.redo_core.specs.contracts.work.Script as Begun
+use Rattle.redo_core.specs.contracts.work.Unread as Unread
+use Rattle.redo_core.specs.contracts.work.Begun as Begun
+use Rattle.redo_core.specs.contracts.work.Script as WorkScript
 use Rattle.redo_core.specs.contracts.work.Work as Work
 use Rattle.redo_core.specs.contracts.table.Parked as Parked
 use Rattle.redo_core.specs.contracts.table.Stage as Stage
@@ -52,14 +54,20 @@ task_send = search (parsed_send, parsed_sync, tree.the_send, tree.the_sync, path
 pub job_send : IsSend (Job.the_field).row
 job_send = search (task_send, path.the_send, place.send-Place, wait.the_field_send, effects.the_field_send, sendable, heap.crosses) depth 20
 
+pub unread_send : IsSend (Unread.the_field).row
+unread_send = search (path.the_send, rule.the_field_send, sendable, heap.crosses) depth 20
+
 pub begun_send : IsSend (Begun.the_field).row
-begun_send = search (job_send, path.the_send, rule.the_field_send, sendable, heap.crosses) depth 20
+begun_send = search (job_send, facts.the_field_send, sendable, heap.crosses) depth 20
+
+pub work_script_send : IsSend (WorkScript.the_field).row
+work_script_send = search (unread_send, begun_send, sendable, heap.crosses) depth 20
 
 pub work_send : IsSend (Work.the_field).row
-work_send = search (begun_send, facts.the_field_send, tree.the_send, tree.the_sync, limits.the_send, sendable, heap.crosses) depth 20
+work_send = search (work_script_send, tree.the_send, tree.the_sync, limits.the_send, sendable, heap.crosses) depth 20
 
 pub parked_send : IsSend (Parked.the_field).row
-parked_send = search (job_send, facts.the_field_send, sendable, heap.crosses) depth 20
+parked_send = search (begun_send, sendable, heap.crosses) depth 20
 
 pub stage_send : IsSend (Stage.the_field).row
 stage_send = search (work_send, parked_send, fact.the_send, fact.the_sync, sendable, heap.crosses) depth 20

@@ -20,3 +20,4 @@ mod OpenQuotes
 mod Runs
 mod Nuls
 mod QuotedRuns
+mod Handed

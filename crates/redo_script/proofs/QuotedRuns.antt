@@ -1,16 +1,19 @@
 -- What runs of bytes in quotes do to reading.
-use Rattle.std.proofs.Common.{◌≡◌, ◌≢◌, ℕ, zero, suc, ◌<◌, ◌+◌, Bool, true, false, not, ◌&&◌, ◌||◌, ◌==◌, List, [], ◌∷◌, ◌++◌, map, take, length, get_or, add-one, refl, sym, ap, ◌∙◌, append_assoc, arith, ◌⊎◌, inl, inr}
+use Rattle.std.proofs.Common.{◌≡◌, ℕ, zero, suc, ◌<◌, ◌≤◌, ◌+◌, ◌-◌, drop, Bool, true, false, not, ◌==◌, List, [], ◌∷◌, ◌++◌, map, take, length, get_or, add-one, refl, sym, ap, ◌∙◌, append_assoc, arith, ◌⊎◌, inl, inr}
 use Rattle.std.proofs.lemmas.List.{append-nil, map-append}
-use Rattle.std.proofs.lemmas.Bool.{and_parts, or_parts, both_ways, eq-eqb}
+use Rattle.std.proofs.lemmas.Bool.{and_parts, or_parts, or_cases, both_ways, eq-eqb, eqb-true}
 use Rattle.redo_script.specs.declared.lexer.Mode.{Mode}
 use Rattle.redo_script.specs.declared.lexer.Mode.TheVariants as modes
 use Rattle.redo_script.specs.declared.ast.Part.{Part}
 use Rattle.redo_script.specs.View.{symbols_of}
 use Rattle.redo_script.specs.Syntax.{byte}
-use Rattle.redo_script.specs.Tokens.{is_escaped, line_after}
+use Rattle.redo_script.specs.Tokens.{is_escaped, line_after, begins_word}
 use Rattle.redo_script.specs.Reading.{Reader, read_on}
-use Rattle.redo_script.specs.Runs.{is_special, all_quotable}
-use Rattle.redo_script.proofs.OneByte.{at, symbol_more, single_byte, double_byte}
+use Rattle.redo_script.specs.Runs.{is_special, is_quote, all_quotable, ends_plainly}
+use Rattle.redo_script.specs.Lexer.{with_quoted}
+use Rattle.redo_script.proofs.OneByte.{at, symbol_more, single_byte, double_byte, word_begun, opened_at, gap_word, word_single, word_double, single_closes, double_closes, word_ends}
+use Rattle.redo_script.proofs.Runs.{in_mode, ends, head_on}
+use Rattle.redo_script.specs.Bytes.{is_plain}
 
 abbrev quoted_more : Reader → List ℕ → Reader
 quoted_more r bs = record r { word = r.word ++ map byte bs }
@@ -63,3 +66,32 @@ quotable_next (x ∷ xs) (suc i) lt h p = let q = and_parts (not (is_special x))
 
 pub quotable_here : (bs : List ℕ) (i : ℕ) → i < length bs → all_quotable (take i bs) ≡ true → is_special (get_or bs i 0) ≡ false → all_quotable (take (i + 1) bs) ≡ true
 quotable_here bs i lt h p = rw (add-one i) (quotable_next bs i lt h p)
+
+quote_run : (m : Mode) → Takes m → (q : ℕ) → ((r : Reader) (bs : List ℕ) → read_on (at modes.Word r.line r) (q ∷ bs) ≡ read_on (at m r.line (opened_at r.line r)) bs) → ((r : Reader) (bs : List ℕ) → read_on (at m r.line r) (q ∷ bs) ≡ read_on (at modes.Word r.line r) bs) → begins_word q ≡ true → (r : Reader) (run rest : List ℕ) → r.mode ≡ modes.Gap → all_quotable run ≡ true → ends_plainly rest ≡ true → read_on (with_quoted r run) rest ≡ read_on r (q ∷ (run ++ q ∷ rest))
+quote_run m takes q opens closes begins r run rest e h n =
+    let same = in_mode r modes.Gap e in
+    let begun = word_begun r.line r in
+    let inside = opened_at r.line begun in
+    let full = quoted_more inside run in
+    let start = gap_word r.line r q (run ++ q ∷ rest) begins in
+    let quote = opens begun (run ++ q ∷ rest) in
+    let taken = quoted_run m takes inside run (q ∷ rest) h in
+    let closed = closes full rest in
+    let ended = word_ends r.line full rest (ends rest n) refl in
+    sym (ap (λ k. read_on k (q ∷ (run ++ q ∷ rest))) (sym same) ∙ (start ∙ (quote ∙ (taken ∙ (closed ∙ ended)))))
+
+-- a word that is one pair of quotes
+quoted_passed : (q c : ℕ) (r : Reader) (run rest : List ℕ) → (q ≡ 39) ⊎ (q ≡ 34) → c ≡ q → r.mode ≡ modes.Gap → all_quotable run ≡ true → ends_plainly rest ≡ true → read_on (with_quoted r run) rest ≡ read_on r (q ∷ (run ++ c ∷ rest))
+unfolding is_plain
+quoted_passed q c r run rest (inl is) same e h n = rw (same, is) (quote_run modes.Single takes_single 39 (λ s bs. word_single s.line s 39 bs refl) (λ s bs. single_closes s.line s 39 bs refl) refl r run rest e h n)
+quoted_passed q c r run rest (inr is) same e h n = rw (same, is) (quote_run modes.Double takes_double 34 (λ s bs. word_double s.line s 34 bs refl) (λ s bs. double_closes s.line s 34 bs refl) refl r run rest e h n)
+
+which_quote : (q : ℕ) → is_quote q ≡ true → (q ≡ 39) ⊎ (q ≡ 34)
+which_quote q h = elim (or_cases (q == 39) (q == 34) h) [ inl e ↦ inl (eqb-true q 39 e) | inr e ↦ inr (eqb-true q 34 e) ]
+
+pub quoted_here : (text bytes closing : List ℕ) (n : ℕ) → 1 ≤ length text → 1 ≤ length closing → is_quote (get_or text 0 0) ≡ true → get_or closing 0 0 ≡ get_or text 0 0 → take (length text - 1) (drop 1 text) ≡ bytes ++ closing → bytes ≡ take n (take (length text - 1) (drop 1 text)) → all_quotable (take n (take (length text - 1) (drop 1 text))) ≡ true → ends_plainly (take (length closing - 1) (drop 1 closing)) ≡ true → (r : Reader) → r.mode ≡ modes.Gap → read_on (with_quoted r bytes) (take (length closing - 1) (drop 1 closing)) ≡ read_on r text
+quoted_here text bytes closing n some last is same split front quotable end r e =
+    let q = get_or text 0 0 in
+    let all : all_quotable bytes ≡ true = ap all_quotable front ∙ quotable in
+    let passed = quoted_passed q (get_or closing 0 0) r bytes (take (length closing - 1) (drop 1 closing)) (which_quote q is) same e all end in
+    passed ∙ (ap (λ xs. read_on r (q ∷ (bytes ++ xs))) (head_on closing last) ∙ (ap (λ xs. read_on r (q ∷ xs)) (sym split) ∙ ap (λ xs. read_on r xs) (head_on text some)))

@@ -5,9 +5,7 @@ use Rattle.redo_script.specs.declared.fault.ScriptFault.{ScriptFault}
 use Rattle.redo_script.specs.declared.fault.Reason.TheVariants as reasons
 use Rattle.redo_script.specs.Faults.{◌>>=◌, Fails, Gives, fault_at}
 use Rattle.redo_script.specs.Syntax.{Script}
-use Rattle.redo_script.specs.Tokens.{Token}
-use Rattle.redo_script.specs.Reading.{tokens_of}
-use Rattle.redo_script.specs.Parsing.{statements_of}
+use Rattle.redo_script.specs.Passes.{script_by_tokens}
 use Rattle.redo_script.specs.Texts.{IsScript, nul_from, interpreter_is_fit, script_in}
 use Rattle.redo_script.proofs.WholeScripts.{only_scripts, found_scripts}
 
@@ -23,13 +21,9 @@ pub interpreter_fails : (text : List ℕ) → nul_from 1 text ≡ Ok [] → inte
 unfolding script_in
 interpreter_fails text n i = rw (n, i) refl
 
-pub tokens_fail : (text : List ℕ) (fault : ScriptFault) → nul_from 1 text ≡ Ok [] → interpreter_is_fit text ≡ true → Fails fault (tokens_of text) → Fails fault (script_in text)
+pub tokens_follow : (text : List ℕ) → nul_from 1 text ≡ Ok [] → interpreter_is_fit text ≡ true → script_in text ≡ script_by_tokens text
 unfolding script_in
-tokens_fail text fault n i h = rw (n, i) (fails_on (tokens_of text) statements_of fault h)
-
-pub statements_follow : (text : List ℕ) (ts : List Token) → nul_from 1 text ≡ Ok [] → interpreter_is_fit text ≡ true → tokens_of text ≡ Ok ts → script_in text ≡ statements_of ts
-unfolding script_in
-statements_follow text ts n i t = rw (n, i, t) refl
+tokens_follow text n i = rw (n, i) refl
 
 -- what reading gives is in the grammar
 pub given_found : {X : Type 0} (view : X → Script) (text : List ℕ) (r : Result X ScriptFault) → Gives view r (script_in text) → IfOk r (λ x. IsScript text (view x))

@@ -1,24 +1,24 @@
 -- Reading token after token, as a loop does.
-use Rattle.std.proofs.Common.{◌≡◌, List, [], ◌∷◌, Result, Ok, sym, inl, inr, length, map}
-use Rattle.std.proofs.lemmas.List.{nil_from_length}
+use Rattle.std.proofs.Common.{◌≡◌, List, [], ◌∷◌, None, Result, Ok, sym, inl, inr}
 use Rattle.redo_script.specs.declared.fault.ScriptFault.{ScriptFault}
-use Rattle.redo_script.specs.declared.token.Token.{Token as TokenTree}
+use Rattle.redo_script.specs.declared.parser.Parser.{Parser as ParserTree}
+use Rattle.redo_script.specs.declared.parser.Statements.{Statements}
 use Rattle.redo_script.specs.Faults.{Fails}
 use Rattle.redo_script.specs.Syntax.{Script}
-use Rattle.redo_script.specs.Lexer.{token_of}
-use Rattle.redo_script.specs.Parsing.{Parser, next_token, end_by_phase, parse_on}
+use Rattle.redo_script.specs.Tokens.{Token}
+use Rattle.redo_script.specs.Parsing.{next_token, end_by_phase, parse_on}
+use Rattle.redo_script.specs.Parser.{parser_of}
+use Rattle.redo_script.specs.Passes.{IsOn}
 
-pub goes_on : (p q : Parser) (before after : List TokenTree) (t : TokenTree) (total : Result Script ScriptFault) → before ≡ t ∷ after → next_token p (token_of t) ≡ Ok q → parse_on p (map token_of before) ≡ total → parse_on q (map token_of after) ≡ total
+pub goes_on : (s : Statements) (q : ParserTree) (t : Token) (ts : List Token) (total : Result Script ScriptFault) → s.fault ≡ None → next_token (parser_of s.parser) t ≡ Ok (parser_of q) → IsOn s (t ∷ ts) total → IsOn (record { parser = q; fault = s.fault }) ts total
 unfolding parse_on
-goes_on p q before after t total b e h = rw e at (rw b at h)
+goes_on s q t ts total none e h = rw none (rw e at (rw none at h))
 
-pub stops : (p : Parser) (before after : List TokenTree) (t : TokenTree) (fault : ScriptFault) (total : Result Script ScriptFault) → before ≡ t ∷ after → Fails fault (next_token p (token_of t)) → parse_on p (map token_of before) ≡ total → Fails fault total
+pub stops : (s : Statements) (t : Token) (ts : List Token) (fault : ScriptFault) (total : Result Script ScriptFault) → s.fault ≡ None → Fails fault (next_token (parser_of s.parser) t) → IsOn s (t ∷ ts) total → Fails fault total
 unfolding parse_on
-stops p before after t fault total b (inl m) h = inl m
-stops p before after t fault total b (inr e) h = inr (sym (rw e at (rw b at h)))
+stops s t ts fault total none (inl m) h = inl m
+stops s t ts fault total none (inr e) h = inr (sym (rw e at (rw none at h)))
 
-pub is_done : (p : Parser) (before : List TokenTree) (total : Result Script ScriptFault) → length before ≡ 0 → parse_on p (map token_of before) ≡ total → end_by_phase p.phase p ≡ total
+pub is_done : (s : Statements) (total : Result Script ScriptFault) → s.fault ≡ None → IsOn s [] total → end_by_phase (parser_of s.parser).phase (parser_of s.parser) ≡ total
 unfolding parse_on
-is_done p before total e h =
-    let none : before ≡ [] = nil_from_length before e in
-    rw none at h
+is_done s total none h = rw none at h

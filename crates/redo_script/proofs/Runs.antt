@@ -13,7 +13,7 @@ use Rattle.redo_script.specs.Tokens.{Token, word, digits_then, begins_word, AtWo
 use Rattle.redo_script.specs.Reading.{Reader, read_on, at_end, with_token, with_begun_word}
 use Rattle.redo_script.specs.Runs.{all_plain, all_digits, ends_plainly}
 use Rattle.redo_script.proofs.Bits.{and_true, and_false, injected}
-use Rattle.redo_script.proofs.OneByte.{at, word_begun, byte_more, word_more, gap_blank, gap_word, comment_on, word_plain, word_ends}
+use Rattle.redo_script.proofs.OneByte.{at, word_begun, byte_more, gap_blank, gap_word, comment_on, word_plain, word_ends}
 
 -- plain bytes more
 abbrev bytes_more : Reader → List ℕ → Reader
@@ -31,7 +31,7 @@ plain_run r (b ∷ run) rest h =
     word_plain r.line r b (run ++ rest) p.0 ∙ (plain_run (byte_more r b) run rest p.1 ∙ ap (λ q. read_on (at modes.Word r.line q) rest) same)
 
 -- a reader that stands in this mode
-in_mode : (r : Reader) (m : modes.the_data) → r.mode ≡ m → at m r.line r ≡ r
+pub in_mode : (r : Reader) (m : modes.the_data) → r.mode ≡ m → at m r.line r ≡ r
 in_mode r m e = ap (λ k. at k r.line r) (sym e)
 
 blank_passed : (r : Reader) (b : ℕ) (bs : List ℕ) → r.mode ≡ modes.Gap → is_blank b ≡ true → read_on r bs ≡ read_on r (b ∷ bs)
@@ -62,7 +62,7 @@ no_digits : (n : Bool) (rest : List ℕ) → ends_plainly rest ≡ true → (n &
 no_digits n [] h = and_false n
 no_digits n (c ∷ cs) h = rw (not_digits c cs h) (and_false n)
 
-ends : (rest : List ℕ) → ends_plainly rest ≡ true → AtWordEnd rest
+pub ends : (rest : List ℕ) → ends_plainly rest ≡ true → AtWordEnd rest
 ends [] h = tt
 ends (c ∷ cs) h = rw h refl
 
@@ -91,7 +91,7 @@ digits_here bs i lt = rw (add-one, drop-cons bs i 0 lt) refl
 pub plain_here : (bs : List ℕ) (i : ℕ) → i < length bs → all_plain (take i bs) ≡ true → is_plain (get_or bs i 0) ≡ true → all_plain (take (i + 1) bs) ≡ true
 plain_here bs i lt h p = rw (add-one i) (all_plain-next bs i lt h p)
 
-head_on : (left : List ℕ) → 1 ≤ length left → get_or left 0 0 ∷ take (length left - 1) (drop 1 left) ≡ left
+pub head_on : (left : List ℕ) → 1 ≤ length left → get_or left 0 0 ∷ take (length left - 1) (drop 1 left) ≡ left
 head_on [] some = absurd (omega (arith, some))
 head_on (x ∷ xs) some = let e : take (length (x ∷ xs) - 1) xs ≡ xs = take_all (length (x ∷ xs) - 1) xs (omega arith) in rw e refl
 

@@ -1,5 +1,5 @@
 -- What contracts see of the lexer.
-use Rattle.std.specs.Prelude.{◌++◌, map}
+use Rattle.std.specs.Prelude.{ℕ, false, List, [], ◌++◌, map}
 use Rattle.redo_script.specs.declared.token.Token.{Token as TokenTree}
 use Rattle.redo_script.specs.declared.token.Token.TheVariants as trees
 use Rattle.redo_script.specs.declared.lexer.Lexer.{Lexer}
@@ -7,7 +7,8 @@ use Rattle.redo_script.specs.Syntax.{byte}
 use Rattle.redo_script.specs.View.{symbols_of}
 use Rattle.redo_script.specs.Parser.{item_of}
 use Rattle.redo_script.specs.Tokens.{Token, word, semicolon, newline, redirect}
-use Rattle.redo_script.specs.Reading.{Reader}
+use Rattle.redo_script.specs.Reading.{Reader, with_token, with_quote, with_begun_word}
+use Rattle.redo_script.specs.declared.lexer.Mode.TheVariants as modes
 
 -- a token, with its word by its symbols
 abbrev pub token_of : TokenTree → Token
@@ -28,3 +29,11 @@ reader_of l = record {
   word = symbols_of l.parts.items ++ map byte l.literal.items;
   tokens = map token_of l.tokens.items;
 }
+
+-- no token is left
+abbrev pub with_no_tokens : Reader → Reader
+with_no_tokens r = record r { tokens = [] }
+
+-- a word that is one pair of quotes with these bytes in it, and then a place between words
+abbrev pub with_quoted : Reader → List ℕ → Reader
+with_quoted r bytes = with_token (with_quote (with_begun_word r) modes.Single) (word r.line false (map byte bytes))

@@ -11,3 +11,4 @@ pub mod Lexer
 pub mod Parser
 pub mod Places
 pub mod Runs
+pub mod Passes

@@ -1,22 +1,23 @@
 -- What contracts see of the reader of statements.
-use Rattle.std.specs.Prelude.{true, ◌+◌, ℕ, ◌&&◌, nat_le, if◌then◌else◌, length, List, [], ◌∷◌, map, Option, None, option_map}
+use Rattle.std.specs.Prelude.{◌+◌, ℕ, ◌&&◌, nat_le, if◌then◌else◌, length, List, [], ◌∷◌, map, Option, None, option_map}
 use Rattle.redo_script.specs.Syntax.{byte, Word}
 use Rattle.redo_script.specs.Grammar.{at_most, digits_value}
 use Rattle.redo_script.specs.declared.item.Item.{Item as ItemTree}
 use Rattle.redo_script.specs.declared.item.Item.TheVariants as items
 use Rattle.redo_script.specs.declared.begun.Begun.{Begun as BegunTree}
+use Rattle.redo_script.specs.declared.ast.Condition.{Condition as ConditionTree}
 use Rattle.redo_script.specs.declared.parser.Phase.{Phase as PhaseTree}
 use Rattle.redo_script.specs.declared.parser.Phase.TheVariants as phases
 use Rattle.redo_script.specs.declared.parser.Open.{Open as OpenTree}
 use Rattle.redo_script.specs.declared.parser.Parser.{Parser as ParserTree}
 use Rattle.redo_script.specs.Grammar.{Item}
 use Rattle.redo_script.specs.Parsing.{Begun, Phase, at_command, in_command, behind_if, in_condition, before_then, behind_fi, Open, Parser}
-use Rattle.redo_script.specs.View.{word_of, redirection_of, condition_of, script_of}
+use Rattle.redo_script.specs.View.{symbols_of, redirection_of, condition_of, script_of}
 
 -- a word of a command, by its symbols
 abbrev pub item_of : ItemTree → Item
-item_of (items.Plain bytes) = record { is_plain = true; word = map byte bytes.now }
-item_of (items.Built is_plain w) = record { is_plain = is_plain; word = word_of w }
+item_of (items.Lent is_plain bytes) = record { is_plain = is_plain; word = map byte bytes.now }
+item_of (items.Built is_plain parts) = record { is_plain = is_plain; word = symbols_of parts.items }
 
 -- what was read of a command
 abbrev pub begun_of : BegunTree → Begun
@@ -29,14 +30,14 @@ begun_of b = record {
   awaits = b.awaits;
 }
 
--- what is expected next
-abbrev pub phase_of : PhaseTree → Phase
-phase_of phases.AtCommand = at_command
-phase_of (phases.InCommand b) = in_command (begun_of b)
-phase_of (phases.BehindIf line) = behind_if line
-phase_of (phases.InCondition b) = in_condition (begun_of b)
-phase_of (phases.BeforeThen line c) = before_then line (condition_of c)
-phase_of (phases.BehindFi line) = behind_fi line
+-- what is expected next, with the command that is being read and the condition that was read last
+abbrev pub phase_of : PhaseTree → BegunTree → ConditionTree → Phase
+phase_of phases.AtCommand b c = at_command
+phase_of phases.InCommand b c = in_command (begun_of b)
+phase_of (phases.BehindIf line) b c = behind_if line
+phase_of phases.InCondition b c = in_condition (begun_of b)
+phase_of (phases.BeforeThen line) b c = before_then line (condition_of c)
+phase_of (phases.BehindFi line) b c = behind_fi line
 
 -- an open if
 abbrev pub open_of : OpenTree → Open
@@ -55,7 +56,7 @@ stack_onto os (x ∷ xs) = stack_onto (open_of x ∷ os) xs
 -- where the parser stands
 abbrev pub parser_of : ParserTree → Parser
 parser_of p = record {
-  phase = phase_of p.phase;
+  phase = phase_of p.phase p.begun p.condition;
   opens = stack_onto [] p.opens.items;
   so_far = script_of p.so_far.items;
 }

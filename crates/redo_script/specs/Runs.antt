@@ -37,3 +37,7 @@ is_special b = is_escaped b || (b == bytes.single_quote) || (b == bytes.newline)
 abbrev pub all_quotable : List ℕ → Bool
 all_quotable [] = true
 all_quotable (b ∷ bs) = not (is_special b) && all_quotable bs
+
+-- a byte that opens or closes quotes
+abbrev pub is_quote : ℕ → Bool
+is_quote b = (b == bytes.single_quote) || (b == bytes.double_quote)

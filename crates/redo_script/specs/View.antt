@@ -4,6 +4,7 @@ use Rattle.std.specs.List.{flat_map}
 use Rattle.redo_script.specs.declared.ast.Part.{Part}
 use Rattle.redo_script.specs.declared.ast.Part.TheVariants as parts
 use Rattle.redo_script.specs.declared.ast.Word.{Word as WordTree}
+use Rattle.redo_script.specs.declared.ast.Word.TheVariants as words
 use Rattle.redo_script.specs.declared.ast.Redirection.{Redirection as RedirectionTree}
 use Rattle.redo_script.specs.declared.ast.Test.{Test as TestTree}
 use Rattle.redo_script.specs.declared.ast.Test.TheVariants as tests
@@ -21,7 +22,7 @@ use Rattle.redo_script.specs.Syntax.{Symbol, byte, quoted, bare, Word, Redirecti
 
 -- the symbols of a piece of a word
 abbrev pub symbols_of_part : Part → List Symbol
-symbols_of_part (parts.Lit bytes) = map byte bytes.items
+symbols_of_part (parts.Lit bytes) = map byte bytes
 symbols_of_part (parts.Quoted p) = quoted p ∷ []
 symbols_of_part (parts.Bare p) = bare p ∷ []
 
@@ -31,7 +32,8 @@ symbols_of ps = flat_map symbols_of_part ps
 
 -- the symbols of a word: how its bytes are cut into pieces isn't seen
 abbrev pub word_of : WordTree → Word
-word_of w = symbols_of w.parts.items
+word_of (words.Literal bytes) = map byte bytes
+word_of (words.Mixed pieces) = symbols_of pieces.items
 
 -- words, each by its symbols
 abbrev pub words_of : List WordTree → List Word

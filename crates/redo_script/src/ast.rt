@@ -1,6 +1,8 @@
 //! The syntax tree of a script: a subset of the POSIX shell command language, with redo-ifchange(1)
 //! and redo-ifcreate(1).
 
+use redo_bytes::Bytes;
+
 /// An argument of a script: `$1`, `$2` or `$3`.
 #[derive(Clone, Copy, Debug, PartialEq, Eq)]
 pub enum Parameter {
@@ -13,7 +15,7 @@ pub enum Parameter {
 #[derive(Debug, Drop)]
 pub enum Part {
     /// Bytes that stand for themselves.
-    Lit(Vec<u8>),
+    Lit(Bytes),
     /// A parameter in double quotes.
     Quoted(Parameter),
     /// A parameter outside quotes, whose value must be plain bytes and not empty
@@ -21,10 +23,13 @@ pub enum Part {
     Bare(Parameter),
 }
 
-/// A word of a command, without its quotes. An empty pair of quotes is a word with no part.
+/// A word of a command, without its quotes.
 #[derive(Debug, Drop)]
-pub struct Word {
-    pub parts: Vec<Part>,
+pub enum Word {
+    /// Bytes that stand in the text as they are; none, where the word is an empty pair of quotes.
+    Literal(Bytes),
+    /// Pieces, one after the other; none, where the word is several empty pairs of quotes.
+    Mixed(Vec<Part>),
 }
 
 /// Where a command's output goes: `> word`, or `>> word` where it is appended.

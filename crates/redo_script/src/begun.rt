@@ -11,8 +11,9 @@ use crate::fault::{Reason, ScriptFault};
 use crate::form::{command_of_items, condition_of_items};
 use crate::item::Item;
 use std::alloc::Global;
+use std::mem;
 
-/// What was read of a command.
+/// What was read of a command. One place serves all commands of a script, one after the other.
 #[derive(Debug, Drop)]
 pub struct Begun<'a> {
     line: u64,
@@ -26,17 +27,28 @@ pub struct Begun<'a> {
 }
 
 impl<'a> Begun<'a> {
-    pub fn new(alloc: Global, line: u64, name: Item<'a>) -> Begun<'a>
-        ensures { begun_of result ≡ begun line (item_of name.entry) }
-    {
+    /// No command yet.
+    pub fn new(alloc: Global) -> Begun<'a> {
         Begun {
-            line,
-            name,
+            line: 0,
+            name: Item::Lent(false, b""),
             items: Vec::new(alloc),
             redirection: None,
             is_ill: false,
             awaits: None,
         }
+    }
+
+    /// Begins another command.
+    pub fn begin(&mut self, line: u64, name: Item<'a>)
+        ensures { begun_of self.new ≡ begun line (item_of name.entry) }
+    {
+        self.line = line;
+        self.name = name;
+        self.items.clear();
+        self.redirection = None;
+        self.is_ill = false;
+        self.awaits = None;
     }
 
     pub fn push_word(&mut self, alloc: Global, item: Item<'a>) -> Result<(), ScriptFault>
@@ -77,8 +89,8 @@ impl<'a> Begun<'a> {
     }
 
     /// The command that ends here.
-    pub fn command(self, alloc: Global) -> Result<Command, ScriptFault>
-        ensures { Gives command_of result (ended_command (begun_of self.entry)) }
+    pub fn command(&mut self, alloc: Global) -> Result<Command, ScriptFault>
+        ensures { Gives command_of result (ended_command (begun_of self.old)) }
     {
         let shape = ScriptFault {
             line: self.line,
@@ -87,18 +99,13 @@ impl<'a> Begun<'a> {
         if self.is_unfinished() {
             return Err(shape);
         }
-        let Begun {
-            name,
-            items,
-            redirection,
-            ..
-        } = self;
-        command_of_items(alloc, &name, items, redirection)?.ok_or(shape)
+        let redirection = mem::replace(&mut self.redirection, None);
+        command_of_items(alloc, &self.name, &mut self.items, redirection)?.ok_or(shape)
     }
 
     /// The condition that ends here.
-    pub fn condition(self, alloc: Global) -> Result<Condition, ScriptFault>
-        ensures { Gives condition_of result (ended_condition (begun_of self.entry)) }
+    pub fn condition(&mut self, alloc: Global) -> Result<Condition, ScriptFault>
+        ensures { Gives condition_of result (ended_condition (begun_of self.old)) }
     {
         let shape = ScriptFault {
             line: self.line,
@@ -107,7 +114,6 @@ impl<'a> Begun<'a> {
         if self.is_unfinished() || self.redirection.is_some() {
             return Err(shape);
         }
-        let Begun { name, items, .. } = self;
-        condition_of_items(alloc, &name, items)?.ok_or(shape)
+        condition_of_items(alloc, &self.name, &mut self.items)?.ok_or(shape)
     }
 }

@@ -9,8 +9,10 @@ ghost use Rattle.redo_script.specs.Bytes.{is_plain};
 pub fn is_plain_byte(byte: u8) -> bool
     ensures { result ≡ is_plain byte }
 {
-    matches!(
+    // Most bytes are small letters, which one comparison tells.
+    byte.is_ascii_lowercase()
+        || matches!(
         byte,
-        b'a'..=b'z' | b'A'..=b'Z' | b'0'..=b'9' | b'_' | b'-' | b'.' | b'/' | b'+' | b',' | b':' | b'=' | b'@' | b'%' | b'!'
+        b'A'..=b'Z' | b'0'..=b'9' | b'_' | b'-' | b'.' | b'/' | b'+' | b',' | b':' | b'=' | b'@' | b'%' | b'!'
     )
 }

@@ -11,8 +11,8 @@ use crate::number::status_of_word;
 use std::alloc::{AllocError, Global};
 
 /// What `test` looks at, where its operands are of a form.
-pub fn test_operands(alloc: Global, mut items: Vec<Item>) -> Result<Option<Test>, AllocError>
-    ensures { IfOk result (λ test. option_map test_of test ≡ test_form (map item_of items.entry.items)) }
+pub fn test_operands(alloc: Global, items: &mut Vec<Item>) -> Result<Option<Test>, AllocError>
+    ensures { IfOk result (λ test. option_map test_of test ≡ test_form (map item_of items.old.items)) }
 {
     let Some(last) = items.pop() else {
         return Ok(None);
@@ -47,19 +47,19 @@ pub fn test_operands(alloc: Global, mut items: Vec<Item>) -> Result<Option<Test>
 
 /// The words of operands.
 #[tactic(auto, using(crate::proofs::Statements::words_push))]
-pub fn words_of_items(alloc: Global, items: Vec<Item>) -> Result<Vec<Word>, AllocError>
-    ensures { IfOk result (λ words. words_of words.items ≡ item_words (map item_of items.entry.items)) }
+pub fn words_of_items(alloc: Global, items: &mut Vec<Item>) -> Result<Vec<Word>, AllocError>
+    ensures { IfOk result (λ words. words_of words.items ≡ item_words (map item_of items.old.items)) }
 {
     let mut words = Vec::with_capacity(alloc, items.len())?;
-    for item in items {
+    for item in items.drain(..) {
         words.push(item.into_word(alloc)?)?;
     }
     Ok(words)
 }
 
 /// The condition, where it has no operands.
-fn lone(mut items: Vec<Item>, condition: Condition) -> Option<Condition>
-    ensures { option_map condition_of result ≡ alone (condition_of condition) (map item_of items.entry.items) }
+fn lone(items: &mut Vec<Item>, condition: Condition) -> Option<Condition>
+    ensures { option_map condition_of result ≡ alone (condition_of condition) (map item_of items.old.items) }
 {
     if items.pop().is_some() {
         return None;
@@ -72,10 +72,10 @@ fn lone(mut items: Vec<Item>, condition: Condition) -> Option<Condition>
 pub fn condition_of_items(
     alloc: Global,
     name: &Item,
-    items: Vec<Item>,
+    items: &mut Vec<Item>,
 ) -> Result<Option<Condition>, AllocError>
     ensures { IfOk result (λ condition.
-        option_map condition_of condition ≡ condition_form (item_of name.now) (map item_of items.entry.items)) }
+        option_map condition_of condition ≡ condition_form (item_of name.now) (map item_of items.old.items)) }
 {
     if name.is_named(b"test") {
         return Ok(test_operands(alloc, items)?.map(Condition::Test));
@@ -92,11 +92,11 @@ pub fn condition_of_items(
 /// `printf` with these operands, of which the first is the format.
 fn printf_of_items(
     alloc: Global,
-    items: Vec<Item>,
+    items: &mut Vec<Item>,
     redirection: Option<Redirection>,
 ) -> Result<Option<Command>, AllocError>
     ensures { IfOk result (λ command.
-        option_map command_of command ≡ print_form (map item_of items.entry.items) (option_map redirection_of redirection)) }
+        option_map command_of command ≡ print_form (map item_of items.old.items) (option_map redirection_of redirection)) }
 {
     let mut words = words_of_items(alloc, items)?;
     if words.is_empty() {
@@ -109,11 +109,11 @@ fn printf_of_items(
 /// `cat` with these operands.
 fn cat_of_items(
     alloc: Global,
-    items: Vec<Item>,
+    items: &mut Vec<Item>,
     redirection: Option<Redirection>,
 ) -> Result<Option<Command>, AllocError>
     ensures { IfOk result (λ command.
-        option_map command_of command ≡ cat_form (map item_of items.entry.items) (option_map redirection_of redirection)) }
+        option_map command_of command ≡ cat_form (map item_of items.old.items) (option_map redirection_of redirection)) }
 {
     if items.is_empty() {
         return Ok(None);
@@ -123,8 +123,8 @@ fn cat_of_items(
 }
 
 /// The command, where it has no operands.
-fn lone_command(mut items: Vec<Item>, command: Command) -> Option<Command>
-    ensures { option_map command_of result ≡ lone (command_of command) (map item_of items.entry.items) }
+fn lone_command(items: &mut Vec<Item>, command: Command) -> Option<Command>
+    ensures { option_map command_of result ≡ lone (command_of command) (map item_of items.old.items) }
 {
     if items.pop().is_some() {
         return None;
@@ -133,8 +133,8 @@ fn lone_command(mut items: Vec<Item>, command: Command) -> Option<Command>
 }
 
 /// `exit` with these operands.
-fn exit_of_items(alloc: Global, mut items: Vec<Item>) -> Result<Option<Command>, AllocError>
-    ensures { IfOk result (λ command. option_map command_of command ≡ exit_form (map item_of items.entry.items)) }
+fn exit_of_items(alloc: Global, items: &mut Vec<Item>) -> Result<Option<Command>, AllocError>
+    ensures { IfOk result (λ command. option_map command_of command ≡ exit_form (map item_of items.old.items)) }
 {
     let Some(item) = items.pop() else {
         return Ok(None);
@@ -148,9 +148,13 @@ fn exit_of_items(alloc: Global, mut items: Vec<Item>) -> Result<Option<Command>,
 }
 
 /// A command that takes no redirection, where its operands are of its form.
-fn bare_command(alloc: Global, name: &Item, items: Vec<Item>) -> Result<Option<Command>, AllocError>
+fn bare_command(
+    alloc: Global,
+    name: &Item,
+    items: &mut Vec<Item>,
+) -> Result<Option<Command>, AllocError>
     ensures { IfOk result (λ command.
-        option_map command_of command ≡ bare_form (item_of name.now) (map item_of items.entry.items)) }
+        option_map command_of command ≡ bare_form (item_of name.now) (map item_of items.old.items)) }
 {
     if name.is_named(b"test") {
         return Ok(test_operands(alloc, items)?.map(Command::Test));
@@ -177,11 +181,11 @@ fn bare_command(alloc: Global, name: &Item, items: Vec<Item>) -> Result<Option<C
 pub fn command_of_items(
     alloc: Global,
     name: &Item,
-    items: Vec<Item>,
+    items: &mut Vec<Item>,
     redirection: Option<Redirection>,
 ) -> Result<Option<Command>, AllocError>
     ensures { IfOk result (λ command.
-        option_map command_of command ≡ command_form (item_of name.now) (map item_of items.entry.items) (option_map redirection_of redirection)) }
+        option_map command_of command ≡ command_form (item_of name.now) (map item_of items.old.items) (option_map redirection_of redirection)) }
 {
     if name.is_named(b"echo") {
         let words = words_of_items(alloc, items)?;

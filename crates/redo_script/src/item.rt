@@ -5,19 +5,20 @@ ghost use Rattle.std.specs.Option.{MatchOption};
 ghost use Rattle.redo_script.specs.Syntax.{Word as Symbols};
 ghost use Rattle.redo_script.specs.Grammar.{spells, is_named};
 ghost use Rattle.redo_script.specs.Parsing.{is_one_of, commands, words_outside};
-ghost use Rattle.redo_script.specs.View.{symbols_of_part, word_of};
+ghost use Rattle.redo_script.specs.View.{symbols_of_part, symbols_of, word_of};
 ghost use Rattle.redo_script.specs.Parser.{item_of};
 
 use crate::ast::{Part, Word};
+use redo_bytes::Bytes;
 use std::alloc::{AllocError, Global};
 
-/// A word of a command.
+/// A word of a command, and whether it is written with plain bytes alone.
 #[derive(Debug, Drop)]
 pub enum Item<'a> {
-    /// These plain bytes of the text.
-    Plain(&'a [u8]),
-    /// Any word, and whether it is written with plain bytes alone.
-    Built(bool, Word),
+    /// These bytes of the text.
+    Lent(bool, &'a [u8]),
+    /// Pieces, one after the other.
+    Built(bool, Vec<Part>),
 }
 
 /// What is left of a name behind a part of a word.
@@ -32,12 +33,12 @@ fn past_part<'a>(part: &Part, name: &'a [u8]) -> Option<&'a [u8]>
     }
 }
 
-/// Whether a word's bytes are this name, with no parameter among them.
-fn word_spells(word: &Word, name: &[u8]) -> bool
-    ensures { result ≡ spells (word_of word.now) name.now }
+/// Whether the parts' bytes are this name, with no parameter among them.
+fn parts_spell(parts: &[Part], name: &[u8]) -> bool
+    ensures { result ≡ spells (symbols_of parts.now) name.now }
 {
     let mut left = name;
-    for part in &word.parts {
+    for part in parts {
         match past_part(part, left) {
             Some(rest) => left = rest,
             None => return false,
@@ -52,8 +53,7 @@ impl Item<'_> {
         ensures { result ≡ (item_of self.now).is_plain }
     {
         match self {
-            Item::Plain(_) => true,
-            Item::Built(is_plain, _) => *is_plain,
+            Item::Lent(is_plain, _) | Item::Built(is_plain, _) => *is_plain,
         }
     }
 
@@ -62,8 +62,8 @@ impl Item<'_> {
         ensures { result ≡ spells (item_of self.now).word name.now }
     {
         match self {
-            Item::Plain(bytes) => *bytes == name,
-            Item::Built(_, word) => word_spells(word, name),
+            Item::Lent(_, bytes) => *bytes == name,
+            Item::Built(_, parts) => parts_spell(parts, name),
         }
     }
 
@@ -77,13 +77,10 @@ impl Item<'_> {
     pub fn into_word(self, alloc: Global) -> Result<Word, AllocError>
         ensures { IfOk result (λ word. word_of word ≡ (item_of self.entry).word) }
     {
-        let bytes = match self {
-            Item::Plain(bytes) => bytes,
-            Item::Built(_, word) => return Ok(word),
-        };
-        let mut parts = Vec::with_capacity(alloc, 1)?;
-        parts.push(Part::Lit(Vec::from_slice(alloc, bytes)?))?;
-        Ok(Word { parts })
+        match self {
+            Item::Lent(_, bytes) => Ok(Word::Literal(Bytes::from_slice(alloc, bytes)?)),
+            Item::Built(_, parts) => Ok(Word::Mixed(parts)),
+        }
     }
 
     /// Whether a command of the subset has this name.

@@ -1,22 +1,24 @@
 //! From bytes to tokens.
 
-ghost use Rattle.std.specs.Prelude.{◌≡◌, ◌+◌, ◌<◌, ◌≤◌, ◌^◌, map, Ok, OnOk, IfOk, [], ◌∷◌, ◌⊎◌, length, take, true};
-ghost use Rattle.redo_script.specs.Faults.{Gives, Leaves, fault_at};
+ghost use Rattle.std.specs.Prelude.{◌≡◌, ◌+◌, ◌<◌, ◌≤◌, ◌^◌, map, Ok, OnOk, IfOk, IfErr, IfSome, [], ◌∷◌, ◌⊎◌, length, take, true};
+ghost use Rattle.redo_script.specs.Faults.{Gives, Leaves, fault_at, no_memory};
 ghost use Rattle.redo_script.specs.Syntax.{byte as byte_symbol};
 ghost use Rattle.redo_script.specs.View.{symbols_of_part};
-ghost use Rattle.redo_script.specs.Reading.{Reader, read_on, tokens_of, next_byte, at_end, at_start, in_word, gap_byte, word_byte, in_single, in_double, after_backslash, after_dollar, after_quoted_dollar, after_redirect, with_word, with_token, with_symbol, with_quote, with_begun_word, with_symbols, parameter_named};
+ghost use Rattle.redo_script.specs.Reading.{Reader, read_on, next_byte, at_end, at_start, in_word, gap_byte, word_byte, in_single, in_double, after_backslash, after_dollar, after_quoted_dollar, after_redirect, with_word, with_token, with_symbol, with_quote, with_begun_word, with_symbols, parameter_named};
 ghost use Rattle.redo_script.specs.declared.fault.Reason.TheVariants as reasons;
 ghost use Rattle.redo_script.specs.declared.lexer.Mode.TheVariants as modes;
 ghost use Rattle.redo_script.specs.Bytes.{is_blank};
-ghost use Rattle.redo_script.specs.Runs.{ReadsOn, is_special, all_quotable, all_plain, all_digits, ends_plainly};
-ghost use Rattle.redo_script.specs.Lexer.{token_of, reader_of};
+ghost use Rattle.redo_script.specs.Runs.{ReadsOn, is_special, is_quote, all_quotable, all_plain, all_digits, ends_plainly};
+ghost use Rattle.redo_script.specs.Lexer.{token_of, reader_of, with_no_tokens, with_quoted};
 
-use crate::ast::{Parameter, Part, Word};
+use crate::ast::{Parameter, Part};
 use crate::bytes::is_plain_byte;
 use crate::fault::{Reason, ScriptFault};
 use crate::item::Item;
 use crate::token::Token;
+use redo_bytes::Bytes;
 use std::alloc::Global;
+use std::mem;
 
 /// What the next byte belongs to.
 #[derive(Clone, Copy, Debug, PartialEq, Eq)]
@@ -41,7 +43,13 @@ pub enum Mode {
     Escape,
 }
 
-/// Reads a text byte by byte.
+/// How many tokens are read before they are taken.
+const MANY: usize = 60;
+
+/// How many more may come before that.
+const AT_ONCE: usize = 3;
+
+/// Reads a text byte by byte. Its tokens are taken from time to time.
 #[derive(Drop)]
 pub struct Lexer<'a> {
     alloc: Global,
@@ -84,7 +92,7 @@ impl<'a> Lexer<'a> {
         ensures emptied { OnOk result (self.new.literal.items ≡ []) }
     {
         if !self.literal.is_empty() {
-            let literal = Vec::from_slice(self.alloc, &self.literal)?;
+            let literal = Bytes::from_slice(self.alloc, &self.literal)?;
             self.parts.push(Part::Lit(literal))?;
             self.literal.clear();
         }
@@ -119,8 +127,7 @@ impl<'a> Lexer<'a> {
         self.end_literal()?;
         let mut parts = Vec::with_capacity(self.alloc, self.parts.len())?;
         parts.append(&mut self.parts)?;
-        let item = Item::Built(self.is_plain, Word { parts });
-        self.push_token(Token::Word(self.word_line, item))
+        self.push_token(Token::Word(self.word_line, Item::Built(self.is_plain, parts)))
     }
 
     fn open_quote(&mut self, mode: Mode)
@@ -345,6 +352,7 @@ impl<'a> Lexer<'a> {
         ensures reads { ReadsOn (reader_of self.new) result (read_on (reader_of self.old) text.now) }
         ensures line { self.new.line ≡ self.old.line }
         ensures rest { IfOk result (λ rest. length rest.now ≤ length text.now) }
+        ensures mode { OnOk result (self.new.mode ≡ modes.Gap) }
     {
         let (bytes, rest) = text.split_at(plain_len(text));
         if bytes.is_empty() || !is_word_end(rest) {
@@ -352,8 +360,43 @@ impl<'a> Lexer<'a> {
         }
         self.begin_word();
         self.is_number = is_number(bytes);
-        self.push_token(Token::Word(self.word_line, Item::Plain(bytes)))?;
+        self.push_token(Token::Word(self.word_line, Item::Lent(true, bytes)))?;
         Ok(rest)
+    }
+
+    /// Takes a word, where one of a single pair of quotes comes next with bytes in it that stand for themselves.
+    fn quoted_word(&mut self, text: &'a [u8]) -> Result<&'a [u8], ScriptFault>
+        requires { self.old.mode ≡ modes.Gap }
+        ensures reads { ReadsOn (reader_of self.new) result (read_on (reader_of self.old) text.now) }
+        ensures line { self.new.line ≡ self.old.line }
+        ensures rest { IfOk result (λ rest. length rest.now ≤ length text.now) }
+        ensures mode { OnOk result (self.new.mode ≡ modes.Gap) }
+    {
+        let Some((bytes, rest)) = quoted_alone(text) else {
+            return Ok(text);
+        };
+        self.begin_word();
+        self.open_quote(Mode::Single);
+        self.push_token(Token::Word(self.word_line, Item::Lent(false, bytes)))?;
+        Ok(rest)
+    }
+
+    /// Takes words that stand in the text as they are, and the blanks before them, as long as such come next and there
+    /// aren't many tokens.
+    fn lent_words(&mut self, text: &'a [u8]) -> Result<&'a [u8], ScriptFault>
+        requires { self.old.mode ≡ modes.Gap }
+        ensures reads { ReadsOn (reader_of self.new) result (read_on (reader_of self.old) text.now) }
+        ensures line { self.new.line ≡ self.old.line }
+        ensures rest { IfOk result (λ rest. length rest.now ≤ length text.now) }
+    {
+        let mut behind = text.len() + 1;
+        let mut left = text;
+        while left.len() < behind && !self.has_many() {
+            behind = left.len();
+            left = self.plain_word(past_blanks(left))?;
+            left = self.quoted_word(past_blanks(left))?;
+        }
+        Ok(left)
     }
 
     /// Takes bytes that are alike here.
@@ -363,7 +406,7 @@ impl<'a> Lexer<'a> {
         ensures rest { IfOk result (λ rest. length rest.now ≤ length text.now) }
     {
         match self.mode {
-            Mode::Gap => self.plain_word(past_blanks(text)),
+            Mode::Gap => self.lent_words(text),
             Mode::Comment => Ok(past_comment(text)),
             Mode::Word => self.plain_bytes(text),
             Mode::Single => self.quoted_bytes(text),
@@ -374,7 +417,7 @@ impl<'a> Lexer<'a> {
 
     /// Reads one byte, and what is alike behind it.
     #[tactic(auto, unfolding(crate::specs::Reading::read_on))]
-    fn step(&mut self, byte: u8, rest: &'a [u8]) -> Result<&'a [u8], ScriptFault>
+    pub fn step(&mut self, byte: u8, rest: &'a [u8]) -> Result<&'a [u8], ScriptFault>
         requires { self.old.line + 1 < 2 ^ 64 }
         ensures reads { ReadsOn (reader_of self.new) result (read_on (reader_of self.old) (byte ∷ rest.now)) }
         ensures line { self.new.line ≤ self.old.line + 1 }
@@ -384,7 +427,7 @@ impl<'a> Lexer<'a> {
         self.run(rest)
     }
 
-    fn new(alloc: Global) -> Lexer<'a>
+    pub fn new(alloc: Global) -> Lexer<'a>
         ensures reader { reader_of result ≡ at_start }
         ensures line { result.line ≡ 1 }
     {
@@ -402,9 +445,25 @@ impl<'a> Lexer<'a> {
         }
     }
 
+    /// Whether it is time for the tokens to be taken.
+    pub fn has_many(&self) -> bool {
+        self.tokens.len() >= MANY
+    }
+
+    /// The tokens since the last call.
+    pub fn take_tokens(&mut self) -> Result<Vec<Token<'a>>, ScriptFault>
+        ensures tokens { IfOk result (λ tokens. map token_of tokens.items ≡ (reader_of self.old).tokens) }
+        ensures taken { OnOk result (reader_of self.new ≡ with_no_tokens (reader_of self.old)) }
+        ensures line { self.new.line ≡ self.old.line }
+        ensures memory { IfErr result (λ fault. fault ≡ no_memory) }
+    {
+        let none = Vec::with_capacity(self.alloc, MANY + AT_ONCE)?;
+        Ok(mem::replace(&mut self.tokens, none))
+    }
+
     /// Ends the text.
     #[tactic(auto, unfolding(crate::specs::Reading::at_end))]
-    fn finish(mut self) -> Result<Vec<Token<'a>>, ScriptFault>
+    pub fn finish(mut self) -> Result<Vec<Token<'a>>, ScriptFault>
         ensures { Gives (λ v. map token_of v.items) result (at_end (reader_of self.entry)) }
     {
         let line = self.line;
@@ -422,18 +481,6 @@ impl<'a> Lexer<'a> {
         }
         Ok(self.tokens)
     }
-}
-
-/// The tokens of a text.
-pub fn tokenize<'a>(alloc: Global, text: &'a [u8]) -> Result<Vec<Token<'a>>, ScriptFault>
-    ensures { Gives (λ v. map token_of v.items) result (tokens_of text.now) }
-{
-    let mut lexer = Lexer::new(alloc);
-    let mut left = text;
-    while let [byte, rest @ ..] = left {
-        left = lexer.step(*byte, rest)?;
-    }
-    lexer.finish()
 }
 
 /// How many plain bytes come first.
@@ -469,6 +516,35 @@ fn quotable_len(text: &[u8]) -> usize
         }
     }
     text.len()
+}
+
+fn is_quote_byte(byte: u8) -> bool
+    ensures { result ≡ is_quote byte }
+{
+    matches!(byte, b'\'' | b'"')
+}
+
+/// The bytes in quotes, and those behind, where a word comes first that is one pair of quotes, with bytes in it that
+/// stand for themselves.
+fn quoted_alone(text: &[u8]) -> Option<(&[u8], &[u8])>
+    ensures reads { IfSome result (λ split. (r : Reader) → r.mode ≡ modes.Gap →
+        read_on (with_quoted r split.0.now) split.1.now ≡ read_on r text.now) }
+    ensures within { IfSome result (λ split. length split.1.now ≤ length text.now) }
+{
+    let [quote, inside @ ..] = text else {
+        return None;
+    };
+    if !is_quote_byte(*quote) {
+        return None;
+    }
+    let (bytes, closing) = inside.split_at(quotable_len(inside));
+    let [close, rest @ ..] = closing else {
+        return None;
+    };
+    if *close != *quote || !is_word_end(rest) {
+        return None;
+    }
+    Some((bytes, rest))
 }
 
 /// Whether the bytes are digits alone.

@@ -2,8 +2,8 @@
 //!
 //! A script is written in a small subset of the POSIX shell command language. [`parse`] reads
 //! exactly the texts of its grammar, each with its one tree, and answers for any other text what is
-//! wrong first, and in which line. The crate stands on no other crate of this repository; running a
-//! script is the work of the crates above.
+//! wrong first, and in which line. The crate stands on `redo_bytes`, in which literal words keep their
+//! bytes; running a script is the work of the crates above.
 //!
 //! - `ast`: the tree that is read.
 //! - `fault`: what can be wrong.

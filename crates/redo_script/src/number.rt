@@ -1,10 +1,10 @@
 //! The status that `exit` is given.
 
-ghost use Rattle.std.specs.Prelude.{◌≡◌, ◌∷◌, ◌++◌, ◌≤◌, None};
+ghost use Rattle.std.specs.Prelude.{◌≡◌, ◌∷◌, ◌++◌, ◌≤◌, None, map, []};
 ghost use Rattle.std.specs.Option.{MatchOption};
 ghost use Rattle.redo_script.specs.Syntax.{Word as Symbols, byte as byte_symbol};
 ghost use Rattle.redo_script.specs.Grammar.{status_of};
-ghost use Rattle.redo_script.specs.View.{symbols_of_part, word_of};
+ghost use Rattle.redo_script.specs.View.{symbols_of_part, symbols_of, word_of};
 ghost use Rattle.redo_script.specs.Parser.{status_on};
 
 use crate::ast::{Part, Word};
@@ -44,20 +44,54 @@ impl Number {
         })
     }
 
+    /// With these digits, where the bytes are digits alone.
+    fn past_bytes(self, bytes: &[u8]) -> Option<Number>
+        ensures { MatchOption result
+            ((w : Symbols) → status_on self.digits self.value (map byte_symbol bytes.now ++ w) ≡ None)
+            (λ number. (w : Symbols) → status_on self.digits self.value (map byte_symbol bytes.now ++ w) ≡ status_on number.digits number.value w) }
+    {
+        let mut number = self;
+        for byte in bytes {
+            number = number.past_digit(*byte)?;
+        }
+        Some(number)
+    }
+
     /// With the digits of this part, where it is digits alone.
     fn past_part(self, part: &Part) -> Option<Number>
         ensures { MatchOption result
             ((w : Symbols) → status_on self.digits self.value (symbols_of_part part.now ++ w) ≡ None)
             (λ number. (w : Symbols) → status_on self.digits self.value (symbols_of_part part.now ++ w) ≡ status_on number.digits number.value w) }
     {
-        let Part::Lit(bytes) = part else {
-            return None;
-        };
+        match part {
+            Part::Lit(bytes) => self.past_bytes(bytes.as_slice()),
+            Part::Quoted(_) | Part::Bare(_) => None,
+        }
+    }
+
+    /// With the digits of these parts, where they are digits alone.
+    fn past_parts(self, parts: &[Part]) -> Option<Number>
+        ensures { MatchOption result
+            (status_on self.digits self.value (symbols_of parts.now) ≡ None)
+            (λ number. status_on self.digits self.value (symbols_of parts.now) ≡ status_on number.digits number.value []) }
+    {
         let mut number = self;
-        for byte in bytes {
-            number = number.past_digit(*byte)?;
+        for part in parts {
+            number = number.past_part(part)?;
         }
         Some(number)
+    }
+
+    /// With the digits of this word, where it is digits alone.
+    fn past_word(self, word: &Word) -> Option<Number>
+        ensures { MatchOption result
+            (status_on self.digits self.value (word_of word.now) ≡ None)
+            (λ number. status_on self.digits self.value (word_of word.now) ≡ status_on number.digits number.value []) }
+    {
+        match word {
+            Word::Literal(bytes) => self.past_bytes(bytes.as_slice()),
+            Word::Mixed(parts) => self.past_parts(parts),
+        }
     }
 }
 
@@ -68,10 +102,7 @@ pub fn status_of_word(is_plain: bool, word: &Word) -> Option<u8>
     if !is_plain {
         return None;
     }
-    let mut number = Number::new();
-    for part in &word.parts {
-        number = number.past_part(part)?;
-    }
+    let number = Number::new().past_word(word)?;
     if number.digits == 0 {
         return None;
     }

@@ -1,6 +1,10 @@
 //! From tokens to statements.
 
-ghost use Rattle.std.specs.Prelude.{◌≡◌, Ok, ◌∷◌, map};
+ghost use Rattle.std.specs.Prelude.{◌≡◌, Ok, [], ◌∷◌, ◌++◌, List, Result, map};
+ghost use Rattle.redo_script.specs.declared.fault.ScriptFault.{ScriptFault};
+ghost use Rattle.redo_script.specs.Syntax.{Script as ScriptTree};
+ghost use Rattle.redo_script.specs.Tokens.{Token as Symbol};
+ghost use Rattle.redo_script.specs.Passes.{IsOn};
 ghost use Rattle.redo_script.specs.Faults.{Gives, Leaves, fault_at};
 ghost use Rattle.redo_script.specs.Parsing.{with_command, with_condition, if_opened, at_else, at_fi, then_word, condition_word, first_word, a_word, a_redirect, a_separator, next_token, unless_open, end_by_phase, at_first, statements_of};
 ghost use Rattle.redo_script.specs.View.{condition_of, script_of};
@@ -16,14 +20,14 @@ use std::alloc::Global;
 use std::mem;
 
 /// What is expected next.
-#[derive(Debug, Drop)]
-pub enum Phase<'a> {
+#[derive(Clone, Copy, Debug)]
+pub enum Phase {
     AtCommand,
-    InCommand(Begun<'a>),
+    InCommand,
     /// Behind `if`, which stands in this line.
     BehindIf(u64),
-    InCondition(Begun<'a>),
-    BeforeThen(u64, Condition),
+    InCondition,
+    BeforeThen(u64),
     BehindFi(u64),
 }
 
@@ -42,7 +46,11 @@ pub struct Open {
 #[derive(Drop)]
 pub struct Parser<'a> {
     alloc: Global,
-    phase: Phase<'a>,
+    phase: Phase,
+    /// The command or condition that is being read, where one is.
+    begun: Begun<'a>,
+    /// The condition that was read last.
+    condition: Condition,
     opens: Vec<Open>,
     so_far: Vec<Stmt>,
 }
@@ -137,15 +145,9 @@ impl<'a> Parser<'a> {
 
     /// A word where `then` must stand.
     #[tactic(auto, using(crate::proofs::Statements::stack_push))]
-    fn then_word(
-        &mut self,
-        line: u64,
-        condition: Condition,
-        at: u64,
-        item: Item<'a>,
-    ) -> Result<(), ScriptFault>
+    fn then_word(&mut self, line: u64, at: u64, item: Item<'a>) -> Result<(), ScriptFault>
         ensures { Leaves parser_of self.new result
-            (then_word (parser_of self.old) line (condition_of condition) at (item_of item.entry)) }
+            (then_word (parser_of self.old) line (condition_of self.old.condition) at (item_of item.entry)) }
     {
         if !item.is_named(b"then") {
             return Parser::fault(at, Reason::IfShape);
@@ -153,6 +155,7 @@ impl<'a> Parser<'a> {
         // Many a branch is one statement.
         let branch = Vec::with_capacity(self.alloc, 1)?;
         let before = mem::replace(&mut self.so_far, branch);
+        let condition = mem::replace(&mut self.condition, Condition::True);
         self.opens.push(Open {
             line,
             condition,
@@ -170,7 +173,8 @@ impl<'a> Parser<'a> {
         if !(item.is_named(b"test") || item.is_named(b"true") || item.is_named(b"false")) {
             return Parser::fault(line, Reason::IfShape);
         }
-        self.phase = Phase::InCondition(Begun::new(self.alloc, line, item));
+        self.begun.begin(line, item);
+        self.phase = Phase::InCondition;
         Ok(())
     }
 
@@ -196,7 +200,8 @@ impl<'a> Parser<'a> {
             }
             return Parser::fault(line, Reason::UnknownCommand);
         }
-        self.phase = Phase::InCommand(Begun::new(self.alloc, line, item));
+        self.begun.begin(line, item);
+        self.phase = Phase::InCommand;
         Ok(())
     }
 
@@ -204,20 +209,12 @@ impl<'a> Parser<'a> {
         ensures { Leaves parser_of self.new result
             (a_word (parser_of self.old).phase (parser_of self.old) line (item_of item.entry)) }
     {
-        match &mut self.phase {
+        match self.phase {
             Phase::AtCommand => self.first_word(line, item),
-            Phase::InCommand(begun) => begun.push_word(self.alloc, item),
-            Phase::BehindIf(if_line) => {
-                let if_line = *if_line;
-                self.condition_word(if_line, item)
-            }
-            Phase::InCondition(begun) => begun.push_word(self.alloc, item),
-            Phase::BeforeThen(if_line, condition) => {
-                let if_line = *if_line;
-                let condition = mem::replace(condition, Condition::True);
-                self.then_word(if_line, condition, line, item)
-            }
-            Phase::BehindFi(fi_line) => Parser::fault(*fi_line, Reason::IfShape),
+            Phase::InCommand | Phase::InCondition => self.begun.push_word(self.alloc, item),
+            Phase::BehindIf(if_line) => self.condition_word(if_line, item),
+            Phase::BeforeThen(if_line) => self.then_word(if_line, line, item),
+            Phase::BehindFi(fi_line) => Parser::fault(fi_line, Reason::IfShape),
         }
     }
 
@@ -226,36 +223,37 @@ impl<'a> Parser<'a> {
         ensures { Leaves parser_of self.new result
             (a_redirect (parser_of self.old).phase (parser_of self.old) line appends) }
     {
-        match &mut self.phase {
-            Phase::AtCommand => return Parser::fault(line, Reason::Shape),
-            Phase::InCommand(begun) => begun.push_redirect(appends),
-            Phase::BehindIf(if_line) => return Parser::fault(*if_line, Reason::IfShape),
-            Phase::InCondition(begun) => begun.push_redirect(appends),
-            Phase::BeforeThen(_, _) => return Parser::fault(line, Reason::IfShape),
-            Phase::BehindFi(fi_line) => return Parser::fault(*fi_line, Reason::IfShape),
+        match self.phase {
+            Phase::AtCommand => Parser::fault(line, Reason::Shape),
+            Phase::InCommand | Phase::InCondition => {
+                self.begun.push_redirect(appends);
+                Ok(())
+            }
+            Phase::BeforeThen(_) => Parser::fault(line, Reason::IfShape),
+            Phase::BehindIf(if_line) => Parser::fault(if_line, Reason::IfShape),
+            Phase::BehindFi(fi_line) => Parser::fault(fi_line, Reason::IfShape),
         }
-        Ok(())
     }
 
     /// Ends a command that stands by itself.
     #[tactic(auto, using(crate::proofs::Statements::simple_push))]
-    fn end_command(&mut self, begun: Begun<'a>) -> Result<(), ScriptFault>
-        ensures { Leaves parser_of self.new result (with_command (parser_of self.old) (begun_of begun.entry)) }
+    fn end_command(&mut self) -> Result<(), ScriptFault>
+        ensures { Leaves parser_of self.new result (with_command (parser_of self.old) (begun_of self.old.begun)) }
     {
-        let line = begun.line();
-        let command = begun.command(self.alloc)?;
+        let line = self.begun.line();
+        let command = self.begun.command(self.alloc)?;
         self.so_far.push(Stmt::Simple(line, command))?;
         self.phase = Phase::AtCommand;
         Ok(())
     }
 
     /// Ends the command behind `if`.
-    fn end_condition(&mut self, begun: Begun<'a>) -> Result<(), ScriptFault>
-        ensures { Leaves parser_of self.new result (with_condition (parser_of self.old) (begun_of begun.entry)) }
+    fn end_condition(&mut self) -> Result<(), ScriptFault>
+        ensures { Leaves parser_of self.new result (with_condition (parser_of self.old) (begun_of self.old.begun)) }
     {
-        let line = begun.line();
-        let condition = begun.condition(self.alloc)?;
-        self.phase = Phase::BeforeThen(line, condition);
+        let line = self.begun.line();
+        self.condition = self.begun.condition(self.alloc)?;
+        self.phase = Phase::BeforeThen(line);
         Ok(())
     }
 
@@ -264,24 +262,17 @@ impl<'a> Parser<'a> {
         ensures { Leaves parser_of self.new result
             (a_separator (parser_of self.old).phase (parser_of self.old) line is_newline) }
     {
-        match mem::replace(&mut self.phase, Phase::AtCommand) {
-            Phase::AtCommand => {
-                if !is_newline {
-                    return Parser::fault(line, Reason::Shape);
-                }
+        match self.phase {
+            Phase::InCommand => self.end_command(),
+            Phase::InCondition => self.end_condition(),
+            Phase::BehindFi(_) => {
+                self.phase = Phase::AtCommand;
                 Ok(())
             }
-            Phase::InCommand(begun) => self.end_command(begun),
             Phase::BehindIf(if_line) => Parser::fault(if_line, Reason::IfShape),
-            Phase::InCondition(begun) => self.end_condition(begun),
-            Phase::BeforeThen(if_line, condition) => {
-                if !is_newline {
-                    return Parser::fault(line, Reason::IfShape);
-                }
-                self.phase = Phase::BeforeThen(if_line, condition);
-                Ok(())
-            }
-            Phase::BehindFi(_) => Ok(()),
+            Phase::AtCommand | Phase::BeforeThen(_) if is_newline => Ok(()),
+            Phase::AtCommand => Parser::fault(line, Reason::Shape),
+            Phase::BeforeThen(_) => Parser::fault(line, Reason::IfShape),
         }
     }
 
@@ -303,6 +294,8 @@ impl<'a> Parser<'a> {
         Parser {
             alloc,
             phase: Phase::AtCommand,
+            begun: Begun::new(alloc),
+            condition: Condition::True,
             opens: Vec::new(alloc),
             so_far: Vec::new(alloc),
         }
@@ -322,31 +315,74 @@ impl<'a> Parser<'a> {
     fn finish(mut self) -> Result<Script, ScriptFault>
         ensures { Gives (λ s. script_of s.stmts.items) result (end_by_phase (parser_of self.entry).phase (parser_of self.entry)) }
     {
-        match mem::replace(&mut self.phase, Phase::AtCommand) {
+        match self.phase {
             Phase::AtCommand | Phase::BehindFi(_) => self.script(),
-            Phase::InCommand(begun) => {
-                self.end_command(begun)?;
+            Phase::InCommand => {
+                self.end_command()?;
                 self.script()
             }
-            Phase::InCondition(begun) => {
-                let line = begun.line();
-                begun.condition(self.alloc)?;
+            Phase::InCondition => {
+                let line = self.begun.line();
+                self.end_condition()?;
                 Parser::fault(line, Reason::IfShape)
             }
-            Phase::BehindIf(line) | Phase::BeforeThen(line, _) => {
-                Parser::fault(line, Reason::IfShape)
-            }
+            Phase::BehindIf(line) => Parser::fault(line, Reason::IfShape),
+            Phase::BeforeThen(line) => Parser::fault(line, Reason::IfShape),
         }
     }
 }
 
-/// The statements that tokens stand for.
-pub fn statements(alloc: Global, tokens: Vec<Token>) -> Result<Script, ScriptFault>
-    ensures { Gives (λ s. script_of s.stmts.items) result (statements_of (map token_of tokens.entry.items)) }
-{
-    let mut parser = Parser::new(alloc);
-    for token in tokens {
-        parser.token(token)?;
+/// Statements as far as they were read, or the first fault among them.
+#[derive(Drop)]
+pub struct Statements<'a> {
+    parser: Parser<'a>,
+    fault: Option<ScriptFault>,
+}
+
+impl<'a> Statements<'a> {
+    #[tactic(auto, unfolding(crate::specs::Parsing::statements_of))]
+    pub fn new(alloc: Global) -> Statements<'a>
+        ensures { (ts : List Symbol) → IsOn result ts (statements_of ts) }
+    {
+        Statements {
+            parser: Parser::new(alloc),
+            fault: None,
+        }
     }
-    parser.finish()
+
+    /// Reads one token more. Behind a fault there is nothing to read.
+    fn token(&mut self, token: Token<'a>)
+        ensures { (ts : List Symbol) (total : Result ScriptTree ScriptFault) →
+            IsOn self.old (token_of token.entry ∷ ts) total → IsOn self.new ts total }
+    {
+        match self.fault {
+            Some(_) => {}
+            None => {
+                if let Err(fault) = self.parser.token(token) {
+                    self.fault = Some(fault);
+                }
+            }
+        }
+    }
+
+    /// Reads these tokens.
+    pub fn tokens(&mut self, tokens: Vec<Token<'a>>)
+        ensures { (ts : List Symbol) (total : Result ScriptTree ScriptFault) →
+            IsOn self.old (map token_of tokens.entry.items ++ ts) total → IsOn self.new ts total }
+    {
+        for token in tokens {
+            self.token(token);
+        }
+    }
+
+    /// Ends the script.
+    pub fn finish(self) -> Result<Script, ScriptFault>
+        ensures { (total : Result ScriptTree ScriptFault) →
+            IsOn self.entry [] total → Gives (λ s. script_of s.stmts.items) result total }
+    {
+        match self.fault {
+            None => self.parser.finish(),
+            Some(fault) => Err(fault),
+        }
+    }
 }

@@ -2,14 +2,15 @@
 
 ghost use Rattle.std.specs.Prelude.{◌≡◌, [], IfOk, Ok, not};
 ghost use Rattle.redo_script.specs.Faults.{Gives};
+ghost use Rattle.redo_script.specs.Passes.{script_by_tokens};
 ghost use Rattle.redo_script.specs.Syntax.{Script as ScriptTree};
 ghost use Rattle.redo_script.specs.View.{script_of};
 ghost use Rattle.redo_script.specs.Texts.{IsScript, has_no_nul, same_bytes, first_line, nul_from, interpreter_is_fit, script_in};
 
 use crate::ast::Script;
 use crate::fault::{Reason, ScriptFault};
-use crate::lexer::tokenize;
-use crate::parser::statements;
+use crate::lexer::Lexer;
+use crate::parser::Statements;
 use std::alloc::Global;
 
 /// Whether a byte 0 is among these. It looks at every byte, which takes less time than to stop at the first 0 does.
@@ -68,6 +69,24 @@ fn has_fit_interpreter(text: &[u8]) -> bool
     }
 }
 
+/// The tree of a text by its tokens and its commands. The two passes go side by side: where the commands have a fault,
+/// the tokens are still read to the end, since theirs go first.
+fn read_statements(alloc: Global, text: &[u8]) -> Result<Script, ScriptFault>
+    ensures { Gives (λ t. script_of t.stmts.items) result (script_by_tokens text.now) }
+{
+    let mut lexer = Lexer::new(alloc);
+    let mut statements = Statements::new(alloc);
+    let mut left = text;
+    while let [byte, rest @ ..] = left {
+        left = lexer.step(*byte, rest)?;
+        if lexer.has_many() {
+            statements.tokens(lexer.take_tokens()?);
+        }
+    }
+    statements.tokens(lexer.finish()?);
+    statements.finish()
+}
+
 /// The tree of a text, or the fault of the first pass that has one.
 fn read(alloc: Global, text: &[u8]) -> Result<Script, ScriptFault>
     ensures { Gives (λ t. script_of t.stmts.items) result (script_in text.now) }
@@ -79,8 +98,7 @@ fn read(alloc: Global, text: &[u8]) -> Result<Script, ScriptFault>
             why: Reason::Interpreter,
         });
     }
-    let tokens = tokenize(alloc, text)?;
-    statements(alloc, tokens)
+    read_statements(alloc, text)
 }
 
 /// Reads a script, in time that grows with its length alone, from any bytes whatever.

@@ -172,42 +172,42 @@ const TREES: &[(&[u8], &str)] = &[
     // `$12` is `$1` and then `2`, and no number, nor is a number in quotes.
     (
         b"echo $12>$3",
-        "[Simple(1, Write(Echo([Word { parts: [Bare(One), Lit([50])] }]), Some(Redirection { appends: false, word: Word { parts: [Bare(Three)] } })))]",
+        "[Simple(1, Write(Echo([Mixed([Bare(One), Lit([50])])]), Some(Redirection { appends: false, word: Mixed([Bare(Three)]) })))]",
     ),
     (
         b"echo \"2\"> $3",
-        "[Simple(1, Write(Echo([Word { parts: [Lit([50])] }]), Some(Redirection { appends: false, word: Word { parts: [Bare(Three)] } })))]",
+        "[Simple(1, Write(Echo([Mixed([Lit([50])])]), Some(Redirection { appends: false, word: Mixed([Bare(Three)]) })))]",
     ),
     (
         b"echo ''2>>'a b'",
-        "[Simple(1, Write(Echo([Word { parts: [Lit([50])] }]), Some(Redirection { appends: true, word: Word { parts: [Lit([97, 32, 98])] } })))]",
+        "[Simple(1, Write(Echo([Mixed([Lit([50])])]), Some(Redirection { appends: true, word: Literal([97, 32, 98]) })))]",
     ),
-    // Pieces of a word; a backslash in double quotes.
+    // Pieces of a word; a backslash in double quotes. Bytes that don't stand in the text as they are make a piece.
     (
         b"echo '' \"a$2\"$3",
-        "[Simple(1, Write(Echo([Word { parts: [] }, Word { parts: [Lit([97]), Quoted(Two), Bare(Three)] }]), None))]",
+        "[Simple(1, Write(Echo([Literal([]), Mixed([Lit([97]), Quoted(Two), Bare(Three)])]), None))]",
     ),
     (
         b"echo \"\\$\\`\\\"\\\\\\a'\" '\\\x01\xff'",
-        "[Simple(1, Write(Echo([Word { parts: [Lit([36, 96, 34, 92, 92, 97, 39])] }, Word { parts: [Lit([92, 1, 255])] }]), None))]",
+        "[Simple(1, Write(Echo([Mixed([Lit([36, 96, 34, 92, 92, 97, 39])]), Mixed([Lit([92, 1, 255])])]), None))]",
     ),
     // Words of the shell's own are words like others behind a command's name, and so are its line's newlines in quotes.
     (
         b"echo fi \"\n\"; true",
-        "[Simple(1, Write(Echo([Word { parts: [Lit([102, 105])] }, Word { parts: [Lit([10])] }]), None)), Simple(2, True)]",
+        "[Simple(1, Write(Echo([Literal([102, 105]), Mixed([Lit([10])])]), None)), Simple(2, True)]",
     ),
     (
         b"printf a b\ncat b >> c",
-        "[Simple(1, Write(Printf(Word { parts: [Lit([97])] }, [Word { parts: [Lit([98])] }]), None)), Simple(2, Write(Cat([Word { parts: [Lit([98])] }]), Some(Redirection { appends: true, word: Word { parts: [Lit([99])] } })))]",
+        "[Simple(1, Write(Printf(Literal([97]), [Literal([98])]), None)), Simple(2, Write(Cat([Literal([98])]), Some(Redirection { appends: true, word: Literal([99]) })))]",
     ),
     (
         b"redo-ifchange a\nredo-ifcreate",
-        "[Simple(1, Change([Word { parts: [Lit([97])] }])), Simple(2, Create([]))]",
+        "[Simple(1, Change([Literal([97])])), Simple(2, Create([]))]",
     ),
     // With three operands of `test` the middle one is the operator; quotes may stand in it.
     (
         b"test -f = x\ntest -''f x\ntest a '!=' b",
-        "[Simple(1, Test(Equal(Word { parts: [Lit([45, 102])] }, Word { parts: [Lit([120])] }))), Simple(2, Test(IsFile(Word { parts: [Lit([120])] }))), Simple(3, Test(Differ(Word { parts: [Lit([97])] }, Word { parts: [Lit([98])] })))]",
+        "[Simple(1, Test(Equal(Literal([45, 102]), Literal([120])))), Simple(2, Test(IsFile(Literal([120])))), Simple(3, Test(Differ(Literal([97]), Literal([98]))))]",
     ),
     // Where newlines may stand in an `if`.
     (

@@ -1,5 +1,7 @@
 pub mod Rows
 pub mod Runs
+pub mod Search
+pub mod Stored
 pub mod Entries
 pub mod Stable
 pub mod Steps

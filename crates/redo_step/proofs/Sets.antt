@@ -9,7 +9,7 @@ use Rattle.redo_step.specs.contracts.deps.DepKind.{the_type}
 use denote.Enum.Bare.{sameb}
 use Rattle.redo_step.specs.Meaning.{same_kind, is_entered, with_entry}
 
-same_kind-is : (x y : DepKind) → sameb the_type x y ≡ same_kind x y
+pub same_kind-is : (x y : DepKind) → sameb the_type x y ≡ same_kind x y
 same_kind-is kinds.Change kinds.Change = refl
 same_kind-is kinds.Change kinds.Create = refl
 same_kind-is kinds.Create kinds.Change = refl

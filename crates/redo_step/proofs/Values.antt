@@ -24,9 +24,13 @@ with_added None v = None
 with_added (Some front) v = with_front front v
 
 value_of-part : (stands_for : Parameter → List ℕ) (part : Part) (w : Word) → value_of stands_for (symbols_of_part part ++ w) ≡ with_added (added stands_for part) (value_of stands_for w)
-value_of-part stands_for (parts.Lit bytes) w = value_of-bytes stands_for bytes.items w
+value_of-part stands_for (parts.Lit bytes) w = value_of-bytes stands_for bytes w
 value_of-part stands_for (parts.Quoted p) w = refl
 value_of-part stands_for (parts.Bare p) w = (elim (is_fit (stands_for p)) as (λ (v : Bool). cond v (with_front (stands_for p) (value_of stands_for w)) None ≡ with_added (cond v (Some (stands_for p)) None) (value_of stands_for w)) [ true ↦ refl | false ↦ refl ])
+
+-- a word of bytes alone
+pub value_of_literal : (stands_for : Parameter → List ℕ) (bytes : List ℕ) → value_of stands_for (map byte bytes) ≡ Some bytes
+value_of_literal stands_for bytes = ap (value_of stands_for) (sym (append-nil (map byte bytes))) ∙ (value_of-bytes stands_for bytes [] ∙ ap Some (append-nil bytes))
 
 -- a word of one part
 

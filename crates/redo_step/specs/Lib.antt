@@ -17,7 +17,9 @@ pub mod Machine
 pub mod JobView
 pub mod Job
 pub mod Endings
+pub mod Entries
 pub mod Sink
+pub mod Stored
 pub mod Printing
 pub mod Writing
 pub mod Asked

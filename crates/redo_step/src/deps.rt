@@ -1,6 +1,7 @@
 //! What a script declares, in order.
 
 ghost use Rattle.std.specs.Prelude.{◌≡◌, ◌<◌, ◌^◌, ◌==◌, [], length, IfOk, OnOk, OnErr};
+ghost use Rattle.redo_step.specs.Entries.{AreOnce};
 ghost use Rattle.redo_step.specs.Meaning.{is_entered, with_entry};
 
 use indexmap::IndexSet;
@@ -22,19 +23,33 @@ pub struct Dep {
     pub path: Path,
 }
 
+/// Up to how many entries are compared with each other rather than hashed.
+const FEW: usize = 8;
+
+/// Where entries are kept.
+#[derive(Drop)]
+enum Store {
+    Few(Vec<Dep>),
+    Many(IndexSet<Dep>),
+}
+
 /// Entries in the order of their first mention, each once. In a contract it is the list of them.
 #[derive(Drop)]
 pub struct Deps {
-    entries: IndexSet<Dep>,
+    store: Store,
 }
 
 impl Model for Deps {
     ghost use Rattle.std.specs.Prelude.{List};
     ghost use Rattle.redo_step.specs.declared.deps.Dep.{Dep};
+    ghost use Rattle.redo_step.specs.Entries.{AreOnce};
+    ghost use Rattle.redo_step.specs.Stored.{stored};
 
     ghost Value = { List Dep };
 
-    ghost view = { λ d. d.entries.keys };
+    ghost view = { λ d. stored d.store };
+
+    ghost invariant = { λ d. AreOnce (stored d.store) };
 }
 
 impl Deps {
@@ -43,17 +58,8 @@ impl Deps {
         ensures { result ≡ [] }
     {
         Deps {
-            entries: IndexSet::new(alloc),
+            store: Store::Few(Vec::new(alloc)),
         }
-    }
-
-    /// No entries, with room for so many.
-    pub(crate) fn with_capacity(alloc: Global, room: usize) -> Result<Deps, AllocError>
-        ensures { IfOk result (λ deps. deps ≡ []) }
-    {
-        Ok(Deps {
-            entries: IndexSet::with_capacity(alloc, room)?,
-        })
     }
 
     /// Puts an entry last, unless it is there.
@@ -61,20 +67,32 @@ impl Deps {
         ensures ok { OnOk result (self.new ≡ with_entry self.old dep.kind dep.path) }
         ensures err { OnErr result (self.new ≡ self.old) }
     {
-        self.entries.insert(dep)?;
+        match &mut self.store {
+            Store::Few(entries) => {
+                if entries.len() < FEW {
+                    return add(entries, dep);
+                }
+                let entries = hashed(entries, dep)?;
+                self.store = Store::Many(entries);
+            }
+            Store::Many(entries) => put(entries, dep)?,
+        }
         Ok(())
     }
 
     pub fn contains(&self, dep: &Dep) -> bool
         ensures { result ≡ is_entered self.now dep.now.kind dep.now.path }
     {
-        self.entries.contains(dep)
+        match &self.store {
+            Store::Few(entries) => is_among(entries, dep),
+            Store::Many(entries) => entries.contains(dep),
+        }
     }
 
     pub fn len(&self) -> usize
         ensures { result ≡ length self.now }
     {
-        self.entries.len()
+        self.as_slice().len()
     }
 
     pub fn is_empty(&self) -> bool
@@ -83,9 +101,78 @@ impl Deps {
         self.len() == 0
     }
 
+    /// No entry stands twice.
+    pub(crate) fn each_once(&self)
+        ensures { AreOnce self.now }
+    {
+        let _ = &self.store;
+    }
+
     pub fn as_slice(&self) -> &[Dep]
         ensures { result.now ≡ self.now }
     {
-        self.entries.as_slice()
+        match &self.store {
+            Store::Few(entries) => entries,
+            Store::Many(entries) => entries.as_slice(),
+        }
     }
+}
+
+/// Whether an entry is in a list.
+fn is_among(entries: &[Dep], dep: &Dep) -> bool
+    ensures { result ≡ is_entered entries.now dep.now.kind dep.now.path }
+{
+    for entry in entries {
+        if dep == entry {
+            return true;
+        }
+    }
+    false
+}
+
+/// Puts an entry last in a list, unless it is there.
+fn add(entries: &mut Vec<Dep>, dep: Dep) -> Result<(), AllocError>
+    requires { AreOnce entries.old.items }
+    ensures ok { OnOk result (entries.new.items ≡ with_entry entries.old.items dep.kind dep.path) }
+    ensures err { OnErr result (entries.new.items ≡ entries.old.items) }
+    ensures once { AreOnce entries.new.items }
+{
+    if !is_among(entries, &dep) {
+        entries.push(dep)?;
+    }
+    Ok(())
+}
+
+/// Puts an entry last in a set, unless it is there.
+fn put(set: &mut IndexSet<Dep>, dep: Dep) -> Result<(), AllocError>
+    requires { AreOnce set.old.keys }
+    ensures ok { OnOk result (set.new.keys ≡ with_entry set.old.keys dep.kind dep.path) }
+    ensures err { OnErr result (set.new.keys ≡ set.old.keys) }
+    ensures once { AreOnce set.new.keys }
+{
+    set.insert(dep)?;
+    Ok(())
+}
+
+/// A set of copies of some entries, with one more put last unless it is there.
+fn hashed(entries: &Vec<Dep>, dep: Dep) -> Result<IndexSet<Dep>, AllocError>
+    requires { AreOnce entries.now.items }
+    ensures entries { IfOk result (λ set. set.keys ≡ with_entry entries.now.items dep.kind dep.path) }
+    ensures once { IfOk result (λ set. AreOnce set.keys) }
+{
+    let mut set = copied(*entries.allocator(), entries)?;
+    put(&mut set, dep)?;
+    Ok(set)
+}
+
+/// A set of copies of some entries, with room for as many again.
+fn copied(alloc: Global, entries: &[Dep]) -> Result<IndexSet<Dep>, AllocError>
+    requires { AreOnce entries.now }
+    ensures { IfOk result (λ set. set.keys ≡ entries.now) }
+{
+    let mut set = IndexSet::with_capacity(alloc, 2 * FEW)?;
+    for entry in entries {
+        put(&mut set, entry.clone()?)?;
+    }
+    Ok(set)
 }

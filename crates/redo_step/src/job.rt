@@ -19,7 +19,7 @@ use crate::machine::{Effects, Progress, resume};
 use crate::outcome::{Outcome, Why};
 use crate::parsed::Parsed;
 use crate::place::Place;
-use crate::record::{search_record, whole_record};
+use crate::record::Record;
 use crate::scene::Scene;
 use crate::stop::Ending;
 use crate::wait::Waiting;
@@ -81,7 +81,7 @@ impl Model for Job {
 
     ghost coded = { Prim.hlevel (codes, stmts.the_row.coded, places.the_row.coded) };
 
-    ghost view = { λ j. record { tree = arc_value j.task.tree; target = j.task.target; do_file = j.task.rule.do_file; missing = j.task.rule.missing.items; arguments = arguments_view j.task.rule.args; limits = j.task.limits; parsed = arc_value j.task.parsed; place = j.place; state = state_of j.effects; turn = j.turn } };
+    ghost view = { λ j. record { tree = arc_value j.task.tree; target = j.task.target; do_file = j.task.rule.do_file; missing = j.task.rule.missing; arguments = arguments_view j.task.rule.args; limits = j.task.limits; parsed = arc_value j.task.parsed; place = j.place; state = state_of j.effects; turn = j.turn } };
 
     ghost use Rattle.redo_step.specs.Parsed.{parsed_of};
     ghost use Rattle.redo_step.specs.Setting.{setting_of};
@@ -94,7 +94,7 @@ impl Model for Job {
 #[derive(Drop)]
 pub struct Done {
     pub outcome: Outcome,
-    pub deps: Deps,
+    pub deps: Record,
 }
 
 /// What an advance came to.
@@ -162,10 +162,10 @@ impl Job {
     }
 
     /// The target's record as far as the script has come: that of the search, and then what it declared.
-    pub fn record(&self) -> Result<Deps, AllocError>
+    pub fn record(&self) -> Result<Record, AllocError>
         ensures { IfOk result (λ deps. deps ≡ record_so_far self.now) }
     {
-        whole_record(self.task.alloc, &self.task.rule, &self.effects.deps)
+        Record::so_far(self.task.alloc, &self.task.rule, &self.effects.deps)
     }
 
     /// Runs on until the script ends, or until redo-ifchange(1) lacks an answer. It asks that the job fits the answers: a
@@ -183,9 +183,10 @@ impl Job {
             turn,
             kept,
         } = self;
-        let script = match &*task.parsed {
+        let parsed = Arc::try_clone(&task.parsed)?;
+        let script = match &*parsed {
             Parsed::Read(script) => script,
-            Parsed::Refused(fault) => return refused(task.alloc, &task.rule, *fault),
+            Parsed::Refused(fault) => return refused(task.alloc, task.rule, *fault),
         };
         match resume(
             &task.scene(),
@@ -195,8 +196,8 @@ impl Job {
             &place,
             kept,
         )? {
-            Progress::Finished => ended(task.alloc, &task.rule, Ending::Exited(0), effects),
-            Progress::Ended(ending) => ended(task.alloc, &task.rule, ending, effects),
+            Progress::Finished => ended(task.alloc, task.rule, Ending::Exited(0), effects),
+            Progress::Ended(ending) => ended(task.alloc, task.rule, ending, effects),
             Progress::Stopped(paths, place, kept) => {
                 let turn = turn + 1;
                 let job = Job {
@@ -213,25 +214,25 @@ impl Job {
 }
 
 /// A target whose script can't be read.
-fn refused(alloc: Global, rule: &Rule, fault: ScriptFault) -> Result<Step, AllocError>
-    ensures { IfOk result (λ step. IsRefused (search_deps rule.now.missing.items rule.now.do_file) fault step) }
+fn refused(alloc: Global, rule: Rule, fault: ScriptFault) -> Result<Step, AllocError>
+    ensures { IfOk result (λ step. IsRefused (search_deps rule.missing rule.do_file) fault step) }
 {
     Ok(Step::Ended(Done {
         outcome: Outcome::Failed(Why::Script(fault)),
-        deps: search_record(alloc, rule, 0)?,
+        deps: Record::of_script(alloc, rule, Deps::new(alloc))?,
     }))
 }
 
 /// What an ended script made of its target.
-fn ended(alloc: Global, rule: &Rule, ending: Ending, effects: Effects) -> Result<Step, AllocError>
-    ensures { IfOk result (λ step. IsEnded (search_deps rule.now.missing.items rule.now.do_file) (ends (end_of ending) (state_of effects)) step) }
+fn ended(alloc: Global, rule: Rule, ending: Ending, effects: Effects) -> Result<Step, AllocError>
+    ensures { IfOk result (λ step. IsEnded (search_deps rule.missing rule.do_file) (ends (end_of ending) (state_of effects)) step) }
 {
     let Effects {
         output,
         third,
         deps,
     } = effects;
-    let deps = whole_record(alloc, rule, &deps)?;
+    let deps = Record::of_script(alloc, rule, deps)?;
     let outcome = outcome_after(ending, output, third)?;
     Ok(Step::Ended(Done { outcome, deps }))
 }

@@ -43,6 +43,7 @@ pub use laws::{more_answers, progress_is_lawful};
 pub use limits::Limits;
 pub use outcome::{Outcome, Why};
 pub use parsed::Parsed;
+pub use record::{Parts, Record};
 
 #[cfg(test)]
 mod tests;

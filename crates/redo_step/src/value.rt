@@ -47,7 +47,7 @@ fn part_value<'a>(args: &'a Args, part: &'a Part) -> Option<&'a [u8]>
     ensures { option_copied result ≡ added (value_in (arguments_view args.now)) part.now }
 {
     match part {
-        Part::Lit(bytes) => Some(bytes),
+        Part::Lit(bytes) => Some(bytes.as_slice()),
         Part::Quoted(parameter) => Some(argument(args, *parameter)),
         Part::Bare(parameter) => {
             let bytes = argument(args, *parameter);
@@ -74,15 +74,15 @@ fn joined_value(alloc: Global, args: &Args, parts: &[Part]) -> Result<Option<Vec
     Ok(Some(value))
 }
 
-/// The value of a word, or none where a bare parameter's bytes aren't fit.
-pub(crate) fn word_value<'a>(
+/// The value of a word in parts, or none where a bare parameter's bytes aren't fit.
+fn parts_value<'a>(
     alloc: Global,
     args: &'a Args,
-    word: &'a Word,
+    parts: &'a [Part],
 ) -> Result<Option<Text<'a>>, AllocError>
-    ensures { IfOk result (λ value. value ≡ value_of (value_in (arguments_view args.now)) (word_of word.now)) }
+    ensures { IfOk result (λ value. value ≡ value_of (value_in (arguments_view args.now)) (symbols_of parts.now)) }
 {
-    match word.parts.as_slice() {
+    match parts {
         [part] => match part_value(args, part) {
             Some(bytes) => Ok(Some(Text::lent(bytes))),
             None => Ok(None),
@@ -91,5 +91,20 @@ pub(crate) fn word_value<'a>(
             Some(bytes) => Ok(Some(Text::held(bytes))),
             None => Ok(None),
         },
+    }
+}
+
+/// The value of a word, or none where a bare parameter's bytes aren't fit.
+#[tactic(auto, using(crate::proofs::Values::value_of_literal))]
+pub(crate) fn word_value<'a>(
+    alloc: Global,
+    args: &'a Args,
+    word: &'a Word,
+) -> Result<Option<Text<'a>>, AllocError>
+    ensures { IfOk result (λ value. value ≡ value_of (value_in (arguments_view args.now)) (word_of word.now)) }
+{
+    match word {
+        Word::Literal(bytes) => Ok(Some(Text::lent(bytes.as_slice()))),
+        Word::Mixed(parts) => parts_value(alloc, args, parts),
     }
 }

@@ -4,31 +4,31 @@ ghost use Rattle.std.specs.Prelude.{◌≡◌, IfOk, nat_eq};
 ghost use Rattle.std.specs.Cmp.{partial_equiv_from_equiv};
 ghost use Rattle.std.specs.Cmp.Lexicographic.{pointwise, nat_list_eq_equiv};
 
+use redo_bytes::Bytes;
 use std::alloc::AllocError;
 use std::marker::Model;
-use std::sync::ArcSlice;
 
-/// The bytes of a file. A clone shares them, and takes no copy. In a contract it is the list of bytes.
+/// The bytes of a file. A clone shares them, but for a few that lie in place. In a contract it is the
+/// list of bytes.
 #[derive(Debug, Drop)]
 pub struct Content {
-    bytes: ArcSlice<u8>,
+    bytes: Bytes,
 }
 
 impl Model for Content {
     ghost use Rattle.std.specs.Prelude.{List, ℕ};
-    ghost use Rattle.std.specs.Arc.{arc_slice_items};
 
     ghost Value = { List ℕ };
 
-    ghost view = { λ c. arc_slice_items c.bytes };
+    ghost view = { λ c. c.bytes };
 }
 
 impl Content {
-    /// Takes the bytes over, without copying them.
+    /// Takes the bytes over, without copying them where they are many.
     pub fn new(bytes: Vec<u8>) -> Result<Content, AllocError>
         ensures { IfOk result (λ content. content ≡ bytes.items) }
     {
-        let bytes = ArcSlice::from_vec(bytes)?;
+        let bytes = Bytes::from_vec(bytes)?;
         Ok(Content { bytes })
     }
 

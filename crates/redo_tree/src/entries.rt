@@ -1,12 +1,15 @@
 //! The tree: what stands at each path.
 
-ghost use Rattle.std.specs.Prelude.{◌≡◌, IfOk, option_copied, map, option_map};
+ghost use Rattle.std.specs.Prelude.{◌≡◌, IfOk, option_copied, map, nat_eq, option_map};
+ghost use Rattle.std.proofs.Common.{ap};
 ghost use Rattle.std.specs.Cmp.{partial_equiv_from_equiv};
+ghost use Rattle.std.specs.Cmp.Lexicographic.{bytes_decides, nat_list_eq_equiv, pointwise};
+ghost use Rattle.std.specs.Hash as fed;
 ghost use Rattle.redo_path.specs.Names.{IsPath};
 ghost use Rattle.redo_tree.specs.Tree.{Directory, File, top, node_at, kind_of, file_at, files_of, node_of, refusal, added, tree_eq, trees_alike, Adds, Allows, IsTree};
 
 use crate::{Content, TreeFault};
-use indexmap::IndexMap;
+use indexmap::{Equivalent, IndexMap};
 use redo_path::Path;
 use std::alloc::{AllocError, Global};
 use std::collections::BTreeMap;
@@ -53,6 +56,22 @@ impl Model for Tree {
     ghost invariant = { λ t. IsKept t.entries.entries };
 }
 
+/// The text of a path, by which its entry is looked up.
+#[derive(Clone, Copy, PartialEq, Eq, Hash)]
+struct PathText<'a>(&'a [u8]);
+
+impl<'a> Equivalent<Path> for PathText<'a> {
+    ghost equivalent = { λ text path. pointwise nat_eq text.0.now path };
+
+    ghost respects_hash = { λ text path h. ap (fed.slice fed.u8) ((bytes_decides text.0.now path).0 h) };
+
+    ghost respects_eq = { λ text x y. nat_list_eq_equiv.congr text.0.now x y };
+
+    fn equivalent(&self, key: &Path) -> bool {
+        self.0 == key.text()
+    }
+}
+
 impl Tree {
     /// The top directory alone.
     pub fn new(alloc: Global) -> Result<Tree, AllocError>
@@ -85,7 +104,15 @@ impl Tree {
     pub fn file(&self, path: &Path) -> Option<&[u8]>
         ensures { option_copied result ≡ file_at self.now path.now }
     {
-        match self.entry(path) {
+        self.file_by_text(path.text())
+    }
+
+    /// The bytes of the file at the path with this text; none where no file stands. It serves where a
+    /// text is looked up and no path is made of it.
+    pub fn file_by_text(&self, text: &[u8]) -> Option<&[u8]>
+        ensures { option_copied result ≡ file_at self.now text.now }
+    {
+        match self.entries.get(PathText(text)) {
             Some(Entry::File(content)) => Some(content.bytes()),
             _ => None,
         }

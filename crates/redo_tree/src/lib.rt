@@ -5,7 +5,8 @@
 //! in it; [`write_bundle`] writes one in path order, so that it is read back as the same tree.
 //! Both work over the two small traits [`ByteIn`] and [`ByteOut`], whose contracts name the bytes
 //! and say whether a call has failed. [`load_dir`] makes a tree of a directory of the system, and
-//! [`store_files`] writes files into one. Stands on `redo_path`, `indexmap` and `thiserror`.
+//! [`store_files`] writes files into one. Stands on `redo_path`, on `redo_bytes` for
+//! what files hold, and on `indexmap` and `thiserror`.
 //!
 //! - `entries`: the tree, and what is added to it; `content`: a file's bytes, which clones share;
 //! - `faults`: why a call was refused;

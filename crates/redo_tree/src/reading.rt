@@ -233,6 +233,26 @@ fn read_directory(
     tell(number, outcome)
 }
 
+/// Reads the bytes of a file, and adds it at a path.
+fn add_file<R: ByteIn>(
+    alloc: Global,
+    held: &mut Held,
+    reader: &mut R,
+    number: u64,
+    tree: &mut Tree,
+    size: usize,
+    path: &Path,
+) -> Result<(), BundleFault>
+    requires { R.has_failed reader.old ≡ false }
+    ensures adds { OnOk result (AddsFile tree.old tree.new path.now size (prepend_known held.old (R.left reader.old)) (prepend_known held.new (R.left reader.new))) }
+    ensures fault { Refuses result (prepend_known held.old (R.left reader.old)) (body_fault number tree.old (Some size) path.now) }
+    ensures failed { R.has_failed reader.new ≡ is_read result }
+{
+    let bytes = read_body(alloc, held, reader, number, size)?;
+    let outcome = tree.add_file(path, bytes);
+    tell(number, outcome)
+}
+
 /// Reads the file that a header names, and adds it.
 fn read_file<R: ByteIn>(
     alloc: Global,
@@ -250,9 +270,7 @@ fn read_file<R: ByteIn>(
     ensures failed { R.has_failed reader.new ≡ is_read result }
 {
     let path = read_path(alloc, number, word)?;
-    let bytes = read_body(alloc, held, reader, number, size)?;
-    let outcome = tree.add_file(&path, bytes);
-    tell(number, outcome)
+    add_file(alloc, held, reader, number, tree, size, &path)
 }
 
 /// Reads what a header announces, and adds the entry to the tree.

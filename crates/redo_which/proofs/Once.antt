@@ -40,7 +40,7 @@ suffixes-shrink (b ∷ bs) =
     let rest : AllByRecursion (λ s. length s < length (b ∷ bs)) (suffixes bs) = all-map (λ s. length s ≤ length bs) (λ s. length s < length (b ∷ bs)) (λ s h. omega (arith, h)) (suffixes bs) (suffixes-short bs) in
     elim (is_dot b) as (λ c. Shrink (cond c ((b ∷ bs) ∷ suffixes bs) (suffixes bs))) [ true ↦ (rest, suffixes-shrink bs) | false ↦ suffixes-shrink bs ]
 
-suffixes-no_slash : (t : List ℕ) → NoSlash t → AllByRecursion NoSlash (suffixes t)
+pub suffixes-no_slash : (t : List ℕ) → NoSlash t → AllByRecursion NoSlash (suffixes t)
 suffixes-no_slash [] h = (tt, tt)
 suffixes-no_slash (b ∷ bs) h =
     elim (is_dot b) as (λ c. AllByRecursion NoSlash (cond c ((b ∷ bs) ∷ suffixes bs) (suffixes bs))) [ true ↦ (h, suffixes-no_slash bs h.1) | false ↦ suffixes-no_slash bs h.1 ]
@@ -192,7 +192,7 @@ one_place dir cut file =
     elim (resolved dir file) as (λ r. fold with_new [] (places r) ≡ places r) [ Ok path ↦ refl | Err fault ↦ refl ]
 
 -- what holds of the path of a file name holds of its place
-place-all : (P : List ℕ → Type 0) (dir : List ℕ) (cut : ℕ) (file : List ℕ) → IsFileName file → P (child_of dir file) → AllByRecursion (λ p. P p.do_file) (place_at dir cut file)
+pub place-all : (P : List ℕ → Type 0) (dir : List ℕ) (cut : ℕ) (file : List ℕ) → IsFileName file → P (child_of dir file) → AllByRecursion (λ p. P p.do_file) (place_at dir cut file)
 place-all P dir cut file h k =
     let places = λ (r : Result (List ℕ) PathFault). elim r as (λ _. List Place) [ Ok path ↦ record { do_file = path; dir = dir; cut = cut } ∷ [] | Err fault ↦ [] ] in
     elim (resolved dir file) as (λ r. resolved dir file ≡ r → AllByRecursion (λ p. P p.do_file) (places r)) [

@@ -1,21 +1,17 @@
 -- Where a search on its way has come.
 use Rattle.std.proofs.Common.{◌≡◌, List, [], ◌∷◌, ◌++◌, ℕ, Bool, true, false, cond, not, ◌||◌, map, refl, sym, ap, subst, ◌∙◌, Option, Some, None, IsSome, ◌<◌, ◌-◌, take, drop, get_or, zero, suc, length, arith, append_assoc, append-nil}
 use Rattle.std.specs.List.{AllByRecursion, ends_with, list_any, take_while}
-use Rattle.std.specs.Prelude.{Err, IfSome, codes, flat_map, nat_eq, option_map, Ok}
+use Rattle.std.specs.Prelude.{IfSome, codes, flat_map, nat_eq}
 use Rattle.std.specs.Option.{option_to_list}
 use Rattle.std.proofs.lemmas.Grind.{common_steps}
-use Rattle.std.proofs.lemmas.List.{map-append}
 use Rattle.std.proofs.lemmas.List.Sums.{fold-append, take_while-cons}
 use Rattle.redo_path.proofs.Apart.{apart}
 use Rattle.redo_path.proofs.Parts.{AllByRecursion-front}
 use Rattle.redo_path.specs.Names.{IsName, IsPart, IsPath, name_of, names, parent_of}
-use Rattle.redo_path.specs.Resolve.{resolved}
 use Rattle.redo_tree.specs.Tree.{Tree}
-use Rattle.redo_which.specs.declared.Candidate.{Candidate}
-use Rattle.redo_which.specs.Candidates.{Place, candidates_of, defaults_in, is_do_file, once, place_at, places_of, suffixes, upward}
+use Rattle.redo_which.specs.Candidates.{LiesIn, Place, candidates_of, defaults_in, is_do_file, once, place_at, places_of, suffixes, upward}
 use Rattle.redo_which.specs.Rule.{chosen_among, chosen_of, is_file, missing_among, missing_of}
-use Rattle.redo_which.specs.Views.{place_of}
-use Rattle.redo_which.specs.Walk.{LiesIn, Walked, above, defaults_by, distinct_places, ends_at, start, path_in, walk_of, walk_on, walk_over, without_whole}
+use Rattle.redo_which.specs.Walk.{Walked, above, defaults_by, distinct_places, ends_at, start, walk_of, walk_on, walk_over, without_whole}
 use Rattle.redo_which.proofs.Once.{once-distinct}
 use Rattle.redo_which.proofs.Places.{chosen_among-next, missing_among-next, upward-first}
 
@@ -33,31 +29,15 @@ walk-found tree walked (p ∷ ps) h =
 
 -- ---- one candidate
 
-pub walked_as : (xs ys : List Candidate) (a b : Bool) → xs ≡ ys → a ≡ b → ◌≡◌ {A = Walked} (record { places = map place_of xs; found = a }) (record { places = map place_of ys; found = b })
-walked_as xs ys a b e h = λ i. record { places = map place_of (e i); found = h i }
+pub walked_as : (xs ys : List Place) (a b : Bool) → xs ≡ ys → a ≡ b → ◌≡◌ {A = Walked} (record { places = xs; found = a }) (record { places = ys; found = b })
+walked_as xs ys a b e h = λ i. record { places = e i; found = h i }
 
-pub walk-new : (tree : Option Tree) (items : List Candidate) (found : Bool) (new : Candidate) → found ≡ false
-    → walk_on tree (record { places = map place_of items; found = found }) (place_of new) ≡ record { places = map place_of (items ++ new ∷ []); found = ends_at tree new.do_file }
+pub walk-new : (tree : Option Tree) (items : List Place) (found : Bool) (new : Place) → found ≡ false
+    → walk_on tree (record { places = items; found = found }) new ≡ record { places = items ++ new ∷ []; found = ends_at tree new.do_file }
 walk-new tree items found new h =
-    let walked : Walked = record { places = map place_of items; found = found } in
-    let more : Walked = record { places = map place_of items ++ place_of new ∷ []; found = ends_at tree new.do_file } in
+    let walked : Walked = record { places = items; found = found } in
+    let more : Walked = record { places = items ++ new ∷ []; found = ends_at tree new.do_file } in
     ap (λ b. cond b walked more) h
-    ∙ ap (λ (ps : List Place). record { places = ps; found = ends_at tree new.do_file }) (sym (map-append place_of items (new ∷ [])))
-
--- the place of a file name is that of its path
-pub walk-path : (tree : Option Tree) (walked : Walked) (dir file path : List ℕ) (cut : ℕ) → Some path ≡ path_in dir file → walk_over tree walked (place_at dir cut file) ≡ walk_on tree walked (record { do_file = path; dir = dir; cut = cut })
-walk-path tree walked dir file path cut h =
-    elim (resolved dir file) as (λ r. Some path ≡ elim r as (λ _. Option (List ℕ)) [ Ok p ↦ Some p | Err fault ↦ None ] → walk_over tree walked (elim r as (λ _. List Place) [ Ok p ↦ record { do_file = p; dir = dir; cut = cut } ∷ [] | Err fault ↦ [] ]) ≡ walk_on tree walked (record { do_file = path; dir = dir; cut = cut })) [
-      | Ok p ↦ λ e. let same : path ≡ p = cc in ap (λ (q : List ℕ). walk_on tree walked (record { do_file = q; dir = dir; cut = cut })) (sym same)
-      | Err fault ↦ λ e. apart cc
-    ] h
-
-pub walk-no_path : (tree : Option Tree) (walked : Walked) (dir file : List ℕ) (cut : ℕ) → None ≡ path_in dir file → walked ≡ walk_over tree walked (place_at dir cut file)
-walk-no_path tree walked dir file cut h =
-    elim (resolved dir file) as (λ r. None ≡ elim r as (λ _. Option (List ℕ)) [ Ok p ↦ Some p | Err fault ↦ None ] → walked ≡ walk_over tree walked (elim r as (λ _. List Place) [ Ok p ↦ record { do_file = p; dir = dir; cut = cut } ∷ [] | Err fault ↦ [] ])) [
-      | Ok p ↦ λ e. apart cc
-      | Err fault ↦ λ e. refl
-    ] h
 
 -- an element of a list that all are
 pub all-at : {X : Type 0} (P : List ℕ → Type 0) (f : X → List ℕ) (xs : List X) (k : ℕ) (d : X) → AllByRecursion P (map f xs) → k < length xs → P (f (get_or xs k d))
@@ -123,8 +103,8 @@ lies_in target dir parent path is split some = record {
 }
 
 -- a walk with an empty list is at its start
-pub walk-start : (tree : Option Tree) (items : List Candidate) (places : List Place) (walked : Walked) → items ≡ [] → walked ≡ walk_over tree (record { places = map place_of items; found = false }) places → walked ≡ walk_over tree start places
-walk-start tree items places walked e h = h ∙ (λ i. walk_over tree (record { places = map place_of (e i); found = false }) places)
+pub walk-start : (tree : Option Tree) (items : List Place) (places : List Place) (walked : Walked) → items ≡ [] → walked ≡ walk_over tree (record { places = items; found = false }) places → walked ≡ walk_over tree start places
+walk-start tree items places walked e h = h ∙ (λ i. walk_over tree (record { places = e i; found = false }) places)
 
 -- ---- the candidates of a target, each once
 
@@ -288,19 +268,15 @@ one_found tree target dir lies places front place found is h e =
       chosen = ap Some same.1 ∙ sym (ap (chosen_among tree) cut.whole ∙ chosen_first tree cut.front cut.place cut.more cut.none cut.file);
     }
 
-do_files-of : (items : List Candidate) → map (λ (c : Candidate). c.do_file) items ≡ map (λ p. p.do_file) (map place_of items)
-do_files-of [] = refl
-do_files-of (c ∷ cs) = ap (λ l. c.do_file ∷ l) (do_files-of cs)
-
 -- the answer of a search, from the candidates before the chosen one
-pub record Answer (tree : Tree) (target : List ℕ) (before : List Candidate) (chosen : Option Candidate) : Type 0 where
-  pub missing : map (λ c. c.do_file) before ≡ missing_of tree target
-  pub chosen_one : option_map place_of chosen ≡ chosen_of tree target
+pub record Answer (tree : Tree) (target : List ℕ) (before : List Place) (chosen : Option Place) : Type 0 where
+  pub missing : map (λ p. p.do_file) before ≡ missing_of tree target
+  pub chosen_one : chosen ≡ chosen_of tree target
 
-pub answer-none : (tree : Tree) (target dir : List ℕ) → LiesIn target dir → (items : List Candidate) (found : Bool) → record { places = map place_of items; found = found } ≡ walk_of (Some tree) target dir → found ≡ false → Answer tree target items None
+pub answer-none : (tree : Tree) (target dir : List ℕ) → LiesIn target dir → (items : List Place) (found : Bool) → record { places = items; found = found } ≡ walk_of (Some tree) target dir → found ≡ false → Answer tree target items None
 answer-none tree target dir lies items found is h =
-    let none = none_found tree target dir lies (map place_of items) found is h in
-    record { missing = do_files-of items ∙ none.missing; chosen_one = none.chosen }
+    let none = none_found tree target dir lies items found is h in
+    record { missing = none.missing; chosen_one = none.chosen }
 
 no_last : (front : List Place) (place : Place) → [] ≡ front ++ place ∷ [] → ⊥
 no_last [] place e = apart cc
@@ -311,10 +287,10 @@ nothing_found tree target dir lies found is h =
     let cut : Ended tree (candidates_of target) [] = subst (λ b. Cut tree (candidates_of target) [] b) h (subst (CutAt tree (candidates_of target)) (sym is) (walk-cut tree target dir lies)) in
     no_last cut.front cut.place cut.cut
 
-pub answer-last : (tree : Tree) (target dir : List ℕ) → LiesIn target dir → (items before : List Candidate) (last : Option Candidate) (found : Bool) → record { places = map place_of items; found = found } ≡ walk_of (Some tree) target dir → found ≡ true
+pub answer-last : (tree : Tree) (target dir : List ℕ) → LiesIn target dir → (items before : List Place) (last : Option Place) (found : Bool) → record { places = items; found = found } ≡ walk_of (Some tree) target dir → found ≡ true
     → items ≡ before ++ option_to_list last → (0 < length items → IsSome last) → Answer tree target before last
 answer-last tree target dir lies [] before last found is h e some = absurd (nothing_found tree target dir lies found is h)
 answer-last tree target dir lies (c ∷ cs) before None found is h e some = absurd (let no : false ≡ true = some (omega arith) in cc)
 answer-last tree target dir lies (c ∷ cs) before (Some last) found is h e some =
-    let one = one_found tree target dir lies (map place_of (c ∷ cs)) (map place_of before) (place_of last) found is h (ap (map place_of) e ∙ map-append place_of before (last ∷ [])) in
-    record { missing = do_files-of before ∙ one.missing; chosen_one = one.chosen }
+    let one = one_found tree target dir lies (c ∷ cs) before last found is h e in
+    record { missing = one.missing; chosen_one = one.chosen }

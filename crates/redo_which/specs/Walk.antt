@@ -1,19 +1,11 @@
 -- A search on its way over the places where a rule may stand.
-use Rattle.std.specs.Prelude.{◌≡◌, Bool, false, ℕ, List, [], ◌∷◌, ◌++◌, Option, Some, None, Ok, Err, codes, flat_map, fold, length, map, if◌then◌else◌}
+use Rattle.std.specs.Prelude.{Bool, false, ℕ, List, [], ◌∷◌, ◌++◌, Option, Some, None, codes, flat_map, fold, length, if◌then◌else◌}
 use Rattle.std.specs.Str.{bytes_eq}
-use Rattle.redo_path.specs.Names.{IsPath, name_of, names, parent_of}
-use Rattle.redo_path.specs.Resolve.{resolved}
+use Rattle.redo_path.specs.Names.{name_of}
 use Rattle.redo_tree.specs.Tree.{Tree}
 use Rattle.redo_which.specs.declared.lookup.Walk.{Walk}
 use Rattle.redo_which.specs.Candidates.{Place, defaults_in, is_do_file, place_at, suffixes, upward}
 use Rattle.redo_which.specs.Rule.{is_file}
-use Rattle.redo_which.specs.Views.{place_of}
-
--- a path, and the directory that holds it
-pub record LiesIn (target dir : List ℕ) : Type 0 where
-  pub is_path : IsPath target
-  pub parent : Some dir ≡ parent_of target
-  pub split : names target ≡ names dir ++ name_of target ∷ []
 
 -- the candidates by these suffixes in a directory
 abbrev pub defaults_by : List (List ℕ) → List ℕ → List Place
@@ -34,17 +26,13 @@ abbrev pub distinct_places : List ℕ → List ℕ → List Place
 distinct_places dir name =
     place_at dir 0 (name ++ codes ".do") ++ defaults_by (without_whole name (suffixes name)) dir ++ flat_map (defaults_in name) (above (upward dir))
 
--- the path of a file name in a directory, unless that is too long for a path
-abbrev pub path_in : List ℕ → List ℕ → Option (List ℕ)
-path_in dir file = elim (resolved dir file) [ Ok path ↦ Some path | Err fault ↦ None ]
-
 -- the candidates so far, and whether the last of them is a file of the tree
 pub record Walked : Type 0 where
   pub places : List Place
   pub found : Bool
 
 abbrev pub walk_view : Walk → Walked
-walk_view w = record { places = map place_of w.list.items; found = w.found }
+walk_view w = record { places = w.list.items; found = w.found }
 
 -- whether a .do file ends the search: without a tree none does
 abbrev pub ends_at : Option Tree → List ℕ → Bool

@@ -8,11 +8,16 @@
 //! first place. Stands on `redo_path` and `redo_tree`.
 //!
 //! - here: what the search finds, as plain data;
-//! - [`lookup`]: the search.
+//! - [`lookup`]: the search;
+//! - `missing`: the candidates that it found no file for, kept as their number;
+//! - `spot`: a candidate in pieces of its target's text.
 #![tactic(auto)]
 
 pub mod lookup;
+mod missing;
+mod spot;
 
+pub use missing::Missing;
 use redo_path::Path;
 
 /// A .do file that may have a target's rule.
@@ -50,18 +55,18 @@ pub struct Args {
 }
 
 /// The script that makes a target.
-#[derive(Debug, Drop)]
+#[derive(Drop)]
 pub struct Rule {
     /// The path of the script.
     pub do_file: Path,
     /// The candidates before it, none of which is a file.
-    pub missing: Vec<Path>,
+    pub missing: Missing,
     /// What the script is called with.
     pub args: Args,
 }
 
 /// What a target is: the first of these that holds.
-#[derive(Debug, Drop)]
+#[derive(Drop)]
 pub enum Found {
     /// A file of the tree, which is not built.
     Source,
@@ -70,7 +75,7 @@ pub enum Found {
     /// Its parent is no directory of the tree.
     NoDirectory,
     /// No candidate is a file.
-    NoRule { missing: Vec<Path> },
+    NoRule { missing: Missing },
     /// A candidate is a file.
     Rule(Rule),
 }

@@ -152,7 +152,7 @@ fn rule_text(alloc: Global, rule: &Rule) -> Result<Vec<u8>, Fail> {
         text.push(b':')?;
     }
     text.push(b' ')?;
-    add_paths(&mut text, &rule.missing)?;
+    add_paths(&mut text, &rule.missing.paths(alloc)?)?;
     Ok(text)
 }
 
@@ -165,7 +165,7 @@ fn found_text(alloc: Global, tree: &Tree, word: &[u8]) -> Result<Vec<u8>, Fail> 
         Found::NoDirectory => Ok(b"nodirectory".to_vec(alloc)?),
         Found::NoRule { missing } => {
             let mut text = b"norule ".to_vec(alloc)?;
-            add_paths(&mut text, &missing)?;
+            add_paths(&mut text, &missing.paths(alloc)?)?;
             Ok(text)
         }
         Found::Rule(rule) => rule_text(alloc, &rule),

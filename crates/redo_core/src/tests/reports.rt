@@ -3,8 +3,9 @@
 use crate::report::{Report, Row};
 use crate::report_text::report_text;
 use redo_path::{Path, resolve};
-use redo_step::{Dep, DepKind, Deps, Outcome, Why};
-use redo_tree::Content;
+use redo_step::{Dep, DepKind, Deps, Outcome, Record, Why};
+use redo_tree::{Content, Tree};
+use redo_which::{Found, lookup};
 use std::alloc::Global;
 use std::sync::Arc;
 use std::test::Fail;
@@ -14,39 +15,51 @@ fn path(alloc: Global, word: &[u8]) -> Result<Path, Fail> {
     Ok(resolve(alloc, &root, word)?)
 }
 
-fn row(
-    alloc: Global,
-    word: &[u8],
-    outcome: Outcome,
-    kind: DepKind,
-    other: &[u8],
-) -> Result<Row, Fail> {
-    let mut deps = Deps::new(alloc);
-    deps.insert(Dep {
-        kind,
-        path: path(alloc, other)?,
-    })?;
+/// The record of a target of the tree whose script declared nothing but this source.
+fn record(alloc: Global, tree: &Tree, target: &Path) -> Result<Record, Fail> {
+    match lookup::find(alloc, tree, target)? {
+        Found::Rule(rule) => {
+            let mut declared = Deps::new(alloc);
+            declared.insert(Dep {
+                kind: DepKind::Change,
+                path: path(alloc, b"src")?,
+            })?;
+            Ok(Record::of_script(alloc, rule, declared)?)
+        }
+        Found::NoRule { missing } => Ok(Record::of_search(alloc, missing)),
+        _ => Ok(Record::none(alloc)),
+    }
+}
+
+fn row(alloc: Global, tree: &Tree, word: &[u8], outcome: Outcome) -> Result<Row, Fail> {
+    let path = path(alloc, word)?;
+    let deps = Arc::new(alloc, record(alloc, tree, &path)?)?;
     Ok(Row {
-        path: path(alloc, word)?,
+        path,
         outcome,
-        deps: Arc::new(alloc, deps)?,
+        deps,
     })
 }
 
-/// A target that was built with two bytes, and one that has no rule.
+/// A target that was built with two bytes, one that has no rule, and a source.
 fn report(alloc: Global) -> Result<Report, Fail> {
+    let mut tree = Tree::new(alloc)?;
+    tree.add_dir(&path(alloc, b"d")?)?;
+    tree.add_file(&path(alloc, b"default.x.do")?, Vec::new(alloc))?;
+    tree.add_file(&path(alloc, b"src")?, Vec::new(alloc))?;
     let mut bytes = Vec::new(alloc);
     bytes.extend_from_slice(b"a\n")?;
     let content = Content::new(bytes)?;
     let built = Outcome::Built(Some(content.clone()?));
-    let mut rows = Vec::new(alloc);
-    rows.push(row(alloc, b"a", built, DepKind::Change, b"a.do")?)?;
     let failed = Outcome::Failed(Why::NoRule);
-    rows.push(row(alloc, b"b", failed, DepKind::Create, b"b.do")?)?;
+    let mut rows = Vec::new(alloc);
+    rows.push(row(alloc, &tree, b"d/a.x", built)?)?;
+    rows.push(row(alloc, &tree, b"d/b", failed)?)?;
+    rows.push(row(alloc, &tree, b"src", Outcome::Source)?)?;
     let mut files = Vec::new(alloc);
-    files.push((path(alloc, b"a")?, content))?;
+    files.push((path(alloc, b"d/a.x")?, content))?;
     let mut begun = Vec::new(alloc);
-    begun.push(path(alloc, b"a")?)?;
+    begun.push(path(alloc, b"d/a.x")?)?;
     Ok(Report { rows, files, begun })
 }
 
@@ -55,12 +68,12 @@ const TEXTS: [(&str, bool, &[u8]); 2] = [
     (
         "rows with their records, begun scripts, files as in a bundle, and the end",
         true,
-        b"built 2 a\ndep change a.do\nfailed norule b\ndep create b.do\nbegun a\nfile 2 a\na\n\nend\n",
+        b"built 2 d/a.x\ndep create d/a.x.do\ndep create d/default.x.do\ndep create d/default.do\ndep change default.x.do\ndep change src\nfailed norule d/b\ndep create d/b.do\ndep create d/default.do\ndep create default.do\nsource src\nbegun d/a.x\nfile 2 d/a.x\na\n\nend\n",
     ),
     (
         "the files are left out where they are not wanted",
         false,
-        b"built 2 a\ndep change a.do\nfailed norule b\ndep create b.do\nbegun a\nend\n",
+        b"built 2 d/a.x\ndep create d/a.x.do\ndep create d/default.x.do\ndep create d/default.do\ndep change default.x.do\ndep change src\nfailed norule d/b\ndep create d/b.do\ndep create d/default.do\ndep create default.do\nsource src\nbegun d/a.x\nend\n",
     ),
 ];
 

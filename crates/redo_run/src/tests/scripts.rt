@@ -12,7 +12,7 @@ fn first_line(text: &[u8]) -> &[u8] {
 }
 
 /// A rule, a bundle, the requested word, and the first line of the report.
-const SCRIPTS: [(&str, &[u8], &[u8], &[u8]); 26] = [
+const SCRIPTS: [(&str, &[u8], &[u8], &[u8]); 28] = [
     (
         "an undeclared source is not read",
         b"file 2 src\nx\n\nfile 8 t.do\ncat src\n\nend\n",
@@ -42,6 +42,18 @@ const SCRIPTS: [(&str, &[u8], &[u8], &[u8]); 26] = [
         b"file 25 w.do\necho a > $3\necho b >> $3\n\nend\n",
         b"w",
         b"built 4 w",
+    ),
+    (
+        "ten targets of one script",
+        b"file 8 default.do\necho $1\n\nfile 58 0.do\nredo-ifchange a b c d e f g h i j\ncat a b c d e f g h i j\n\nend\n",
+        b"0",
+        b"built 20 0",
+    ),
+    (
+        "the last of ten targets fails",
+        b"file 8 default.do\necho $1\n\nfile 7 j.do\nexit 1\n\nfile 34 0.do\nredo-ifchange a b c d e f g h i j\n\nend\n",
+        b"0",
+        b"failed depends 1 0",
     ),
     (
         "a path that is not there",

@@ -1,16 +1,16 @@
 //! The records of targets.
 
 use super::{File, Known, check_target, learned, limits_of, run};
-use crate::{Dep, DepKind, Deps, Limits, Outcome, Why};
-use redo_path::Path;
+use crate::{Dep, DepKind, Deps, Limits, Outcome, Record, Why};
+use redo_path::{Path, resolve};
 use std::alloc::Global;
 use std::process::Abort;
 use std::test::Fail;
 
 /// A record in the words of a report.
-fn listed(alloc: Global, deps: &Deps) -> Result<Vec<u8>, Fail> {
+fn listed(alloc: Global, record: &Record) -> Result<Vec<u8>, Fail> {
     let mut text = Vec::new(alloc);
-    for dep in deps.as_slice() {
+    for dep in &record.entries(alloc)? {
         text.extend_from_slice(match dep.kind {
             DepKind::Change => b"change ".as_slice(),
             DepKind::Create => b"create ",
@@ -73,6 +73,13 @@ const ROWS: &[Row] = &[
         b"t.do",
         b"redo-ifcreate b\nredo-ifchange b src b\n",
         b"change t.do\ncreate b\nchange b\nchange src\n",
+    ),
+    // What the search entered is not entered again, whatever else is declared.
+    (
+        b"d/t",
+        b"default.do",
+        b"redo-ifchange ./default.do src\nredo-ifcreate d/t.do d/x.do\nredo-ifchange src\n",
+        b"create d/t.do\ncreate d/default.do\nchange default.do\nchange src\ncreate d/x.do\n",
     ),
     // A statement that is refused records none of its operands.
     (b"t", b"t.do", b"redo-ifchange src ../x\n", b"change t.do\n"),
@@ -167,6 +174,35 @@ fn entries_are_there_once(rt: HostRuntime) -> Result<(), Fail> {
     assert_eq!(rt; deps.len(), 1);
     assert!(rt; deps.contains(&root_entry(DepKind::Change)));
     assert!(rt; !deps.contains(&root_entry(DepKind::Create)));
+    Ok(())
+}
+
+/// An entry of redo-ifchange for the path that a word names.
+fn change(alloc: Global, word: &str) -> Result<Dep, Fail> {
+    let path = resolve(alloc, &Path::root(), word.as_bytes())?;
+    Ok(Dep {
+        kind: DepKind::Change,
+        path,
+    })
+}
+
+#[test]
+fn entries_stand_in_the_order_of_their_first_mention(rt: HostRuntime) -> Result<(), Fail> {
+    let alloc = rt.alloc();
+    // More than are kept unhashed, and some of them twice.
+    let words = ["f", "b", "k", "a", "h", "c", "j", "d", "g", "i"];
+    let mut deps = Deps::new(alloc);
+    for word in [
+        "f", "b", "f", "k", "a", "h", "c", "b", "j", "d", "g", "k", "i", "i",
+    ] {
+        deps.insert(change(alloc, word)?)?;
+    }
+    assert_eq!(rt; deps.len(), words.len());
+    for (dep, word) in deps.as_slice().iter().zip(words) {
+        assert_eq!(rt; dep.path.text(), word.as_bytes());
+    }
+    assert!(rt; deps.contains(&change(alloc, "i")?));
+    assert!(rt; !deps.contains(&change(alloc, "l")?));
     Ok(())
 }
 

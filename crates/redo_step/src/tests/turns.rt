@@ -137,7 +137,7 @@ fn shows_where_it_stands(rt: HostRuntime) -> Result<(), Fail> {
     let job = stopped(&rt, job, &known, &[b"a", b"b"])?;
     check_shown(&rt, &job, 1, 2);
     let record = job.record()?;
-    assert_eq!(rt; record.len(), 3);
+    assert_eq!(rt; record.entries(alloc)?.len(), 3);
     Ok(())
 }
 

@@ -46,6 +46,26 @@ fn each_path_has_its_kind(rt: HostRuntime) -> Result<(), Fail> {
     Ok(())
 }
 
+#[test]
+fn a_file_is_found_by_the_text_of_its_path(rt: HostRuntime) -> Result<(), Fail> {
+    let tree = small_tree(rt.alloc())?;
+    for (text, bytes) in [
+        ("a", Some("1\n")),
+        ("d/f", Some("")),
+        ("", None),
+        ("d", None),
+        ("d/", None),
+        ("x", None),
+    ] {
+        assert_eq!(rt;
+            tree.file_by_text(text.as_bytes()),
+            bytes.map(|text| text.as_bytes()),
+            "{text}"
+        );
+    }
+    Ok(())
+}
+
 /// What the small tree says of a directory and of a file at a path, and whether it is then as it was.
 fn refusals(
     alloc: Global,

@@ -1,24 +1,25 @@
-use Rattle.std.proofs.Common.{◌≡◌, ◌<◌, ◌+◌, ℕ, List, [], ◌∷◌, ◌++◌, Err, take, length, slice_get, Some, refl, sym, ap, subst, ◌∙◌, arith, append-nil, true, false}
+use Rattle.std.proofs.Common.{◌≡◌, ℕ, List, [], ◌∷◌, ◌++◌, Err, take, refl, sym, ap, subst, ◌∙◌, append-nil, true, false}
 use Rattle.std.specs.Arc.{arc_value}
 use Rattle.redo_tree.specs.Tree.{Tree}
 use Rattle.redo_core.specs.Build.{rules_of}
 use Rattle.redo_core.specs.Rules.{operands}
-use Rattle.redo_core.specs.Slots.{IsOperand, AreEnteredInto, table_entries}
+use Rattle.redo_core.specs.Slots.{IsOperand, AreEnteredInto, AreNumbers, table_entries}
 use Rattle.redo_core.proofs.SlotLemmas.{slice_get-item}
 use Rattle.redo_core.proofs.EnterAll.{enter-more, one-operand, no-operand, operands-more, too-many}
+use Rattle.redo_core.proofs.Numbers.{numbers-kept, numbers-push}
 use Rattle.redo_core.proofs.moves.enter_all.Goals as goal
-use Rattle.redo_core.proofs.moves.enter_all.Goals.{then-is_operand+in_ok-enter, else-is_operand}
+use Rattle.redo_core.proofs.moves.enter_all.Goals.{then-is_operand+in_ok-at+in_ok-push, else-is_operand}
 
-pub returns-in_err-enter-clause-too_many : goal.returns-in_err-enter-clause-too_many
-returns-in_err-enter-clause-too_many c = λ is.
+pub returns-in_err-at-clause-too_many : goal.returns-in_err-at-clause-too_many
+returns-in_err-at-clause-too_many c = λ is.
     let made = rw is at c.from_residual.ensures in
     let tree : Tree = arc_value c.args.tree.now in
     let i = c.loop-dep.dep-index in
     let get = slice_get-item c.args.deps.now i c.dep-item.result c.loop-dep-test.true c.dep-item.is in
     let T : Tree → Type 0 = λ x. IsOperand (rules_of x c.args.limits) c.dep-item.result c.dep-item.result.path in
-    let err = c.in_err-enter.was ∙ ap Err (sym made.1) in
+    let err = c.in_err-at.was ∙ ap Err (sym made.1) in
     too-many (rules_of tree c.args.limits) (table_entries (rules_of tree c.args.limits) c.args.limits.0 c.args.table.now) (table_entries (rules_of tree c.args.limits) c.args.limits.0 c.loop-dep.table)
-    c.args.limits.0 c.args.deps.now i c.dep-item.result get (subst T c.deref.ensures (c.if-is_operand.ensures.0 refl)) c.loop-dep.invariant.entries (c.enter.ensures.too_many err)
+    c.args.limits.0 c.args.deps.now i c.dep-item.result get (subst T c.deref.ensures (c.if-is_operand.ensures.0 refl)) c.loop-dep.invariant.0.entries (c.enter.ensures.too_many err)
 
 pub loop-dep-preserved : goal.loop-dep-preserved
 loop-dep-preserved c =
@@ -26,18 +27,24 @@ loop-dep-preserved c =
     let i = c.loop-dep.dep-index in
     let get = slice_get-item c.args.deps.now i c.dep-item.result c.loop-dep-test.true c.dep-item.is in
     let more = operands-more (rules_of tree c.args.limits) c.args.deps.now i c.dep-item.result get in
-    let P : List (List ℕ) → Type 0 = λ ps. AreEnteredInto tree c.args.limits c.args.table.now c.if-is_operand.table c.if-is_operand.freed.items ps in
+    let so_far = operands (rules_of tree c.args.limits) (take i c.args.deps.now) in
+    let P : List (List ℕ) → Type 0 = λ ps. AreEnteredInto tree c.args.limits c.args.table.now c.if-is_operand.table c.if-is_operand.freed.items ps ×
+    AreNumbers c.if-is_operand.table.targets.keys c.if-is_operand.numbers.items ps in
     let T : Tree → Type 0 = λ x. IsOperand (rules_of x c.args.limits) c.dep-item.result c.dep-item.result.path in
     elim c.if-is_operand.branch [
-      | then-is_operand+in_ok-enter w ↦
+      | then-is_operand+in_ok-at+in_ok-push w ↦
           let one = one-operand (rules_of tree c.args.limits) c.dep-item.result (subst T c.deref.ensures (w.if-is_operand.ensures.0 refl)) in
-          subst P (sym (more ∙ ap (λ xs. operands (rules_of tree c.args.limits) (take i c.args.deps.now) ++ xs) one))
-          (rw (w.table-is, w.freed-is) (enter-more tree c.args.limits c.args.table.now c.loop-dep.table w.enter.new.table c.loop-dep.freed.items w.enter.new.freed.items
-          (operands (rules_of tree c.args.limits) (take i c.args.deps.now)) (c.dep-item.result.path ∷ []) c.loop-dep.invariant w.in_ok-enter.ensures.ok))
+          let kept = numbers-kept c.loop-dep.table.targets.keys w.enter.new.table.targets.keys w.in_ok-at.ensures.ok.keys_kept c.loop-dep.numbers.items so_far c.loop-dep.invariant.1 in
+          let N : List ℕ → Type 0 = λ ns. AreNumbers w.enter.new.table.targets.keys ns (so_far ++ c.dep-item.result.path ∷ []) in
+          subst P (sym (more ∙ ap (λ xs. so_far ++ xs) one))
+          (rw (w.table-is, w.freed-is, w.numbers-is) (
+            enter-more tree c.args.limits c.args.table.now c.loop-dep.table w.enter.new.table c.loop-dep.freed.items w.enter.new.freed.items
+                so_far (c.dep-item.result.path ∷ []) c.loop-dep.invariant.0 w.in_ok-at.ensures.ok,
+            subst N (sym w.in_ok-push.ensures.items) (numbers-push w.enter.new.table.targets.keys c.loop-dep.numbers.items so_far w.in_ok-at.at c.dep-item.result.path kept w.in_ok-at.ensures.number),
+          ))
       | else-is_operand w ↦
           let un : IsOperand (rules_of tree c.args.limits) c.dep-item.result c.dep-item.result.path → ⊥ = λ is.
           (let h : false ≡ true = w.if-is_operand.ensures.1 (subst T (sym c.deref.ensures) is) in cc) in
           let none = no-operand (rules_of tree c.args.limits) c.dep-item.result un in
-          subst P (sym (more ∙ ap (λ xs. operands (rules_of tree c.args.limits) (take i c.args.deps.now) ++ xs) none ∙ append-nil (operands (rules_of tree c.args.limits) (take i c.args.deps.now))))
-          (rw (w.table-is, w.freed-is) c.loop-dep.invariant)
+          subst P (sym (more ∙ ap (λ xs. so_far ++ xs) none ∙ append-nil so_far)) (rw (w.table-is, w.freed-is, w.numbers-is) c.loop-dep.invariant)
     ]

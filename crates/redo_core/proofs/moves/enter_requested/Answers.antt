@@ -1,4 +1,4 @@
-use Rattle.std.proofs.Common.{◌≡◌, ◌<◌, ◌+◌, ℕ, List, [], ◌∷◌, ◌++◌, Err, take, length, slice_get, Some, not, is_some, refl, sym, ap, subst, ◌∙◌, arith, append-nil, true, false}
+use Rattle.std.proofs.Common.{◌≡◌, ℕ, List, [], ◌∷◌, ◌++◌, Err, take, not, is_some, sym, ap, subst, ◌∙◌, append-nil, true}
 use Rattle.std.specs.Arc.{arc_value}
 use Rattle.redo_tree.specs.Tree.{Tree, file_at}
 use Rattle.redo_core.specs.Build.{rules_of}

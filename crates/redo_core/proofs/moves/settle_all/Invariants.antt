@@ -1,6 +1,5 @@
-use Rattle.std.proofs.Common.{ℕ, List, drop, ◌++◌}
+use Rattle.std.proofs.Common.{drop}
 use Rattle.std.specs.Arc.{arc_value}
-use Rattle.redo_core.specs.Build.{rules_of}
 use Rattle.redo_core.specs.Slots.{IsTableOf, AreLookedAtBelow}
 use Rattle.redo_core.proofs.moves.settle_all.Given as goal
 

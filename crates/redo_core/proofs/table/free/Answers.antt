@@ -1,13 +1,12 @@
-use Rattle.std.proofs.Common.{◌≡◌, ◌<◌, refl, sym, ap, subst, ◌∙◌, slice_get, slice_set, length, Some, length-set, arith, rules}
+use Rattle.std.proofs.Common.{ℕ, List, ◌≡◌, ◌<◌, refl, sym, ap, subst, ◌∙◌, slice_get, slice_set, length, Some, length-set, arith, rules}
 use Rattle.std.specs.Arc.{arc_value}
 use Rattle.std.specs.Vec.{with_item}
-use Rattle.redo_tree.specs.Tree.{Tree}
-use Rattle.redo_core.specs.Build.{rules_of}
 use Rattle.redo_core.specs.Slots.{IsFedAs, Gains}
-use Rattle.redo_core.specs.Works.{IsWorkWith}
+use Rattle.redo_core.specs.Works.{job_deps}
+use Rattle.redo_core.specs.declared.work.Begun.{Begun}
 use Rattle.redo_core.specs.Views.{WorkView}
 use Rattle.redo_core.specs.declared.table.Slot.{Slot}
-use Rattle.redo_core.specs.declared.table.Stage.TheVariants.{Ready, Out}
+use Rattle.redo_core.specs.declared.table.Stage.TheVariants.{Ready}
 use Rattle.redo_core.proofs.SlotLemmas.{slice_get-item, slice_get-below_some}
 use Rattle.redo_core.proofs.TableLemmas.{get-set_same, set-twice}
 use Rattle.redo_core.proofs.FreeSteps.{fed-here, gain-decided, fed-work}
@@ -21,15 +20,15 @@ there c = slice_get-item c.args.table.now.slots.items c.args.at c.index_mut-slot
 gone : (c : After-replace-stage) → Slot
 gone c = record { turn = c.index_mut-slot.result.now.turn; watchers = c.index_mut-slot.result.now.watchers; stage = c.replace-stage.new.dest }
 
-pub gain-requires-clause-decided : goal.gain-requires-clause-decided
+pub gain-requires : goal.gain-requires
 unfolding gone
-gain-requires-clause-decided c =
+gain-requires c =
     let t = c.args.table.now in
     let slot = c.index_mut-slot.result.now in
-    let d = (goal.at-gain-requires-clause-decided c).After-replace-stage in
+    let d = (goal.at-gain-requires c).After-replace-stage in
     let fed : IsFedAs (arc_value c.args.tree.now) c.args.limits t c.args.at slot c.in-Waiting.parked =
     fed-here (arc_value c.args.tree.now) c.args.limits t c.args.at slot c.in-Waiting.parked c.requires.fed (there d) (sym c.replace-stage.ensures.value ∙ c.in-Waiting.is) in
-    rw c.deref.ensures (gain-decided (arc_value c.args.tree.now) c.args.limits t c.args.at slot c.in-Waiting.parked fed
+    rw c.deref.ensures.value (gain-decided (arc_value c.args.tree.now) c.args.limits t c.args.at slot c.in-Waiting.parked fed
     (record t { slots = with_item t.slots c.args.at (gone d) }) (gone d) c.replace-stage.ensures.after refl refl)
 
 pub index_mut-slot-requires-2 : goal.index_mut-slot-requires-2
@@ -45,11 +44,13 @@ of-requires c =
     let d = (goal.at-of-requires c).After-replace-stage in
     let fed : IsFedAs (arc_value c.args.tree.now) c.args.limits t c.args.at slot c.in-Waiting.parked =
     fed-here (arc_value c.args.tree.now) c.args.limits t c.args.at slot c.in-Waiting.parked c.requires.fed (there d) (sym c.replace-stage.ensures.value ∙ c.in-Waiting.is) in
+    let inside : c.deref_mut.result.now ≡ c.in-Waiting.parked.begun.value = c.deref_mut.ensures.value in
     let own : arc_value c.in_ok-own.own ≡ arc_value c.args.tree.now = c.in_ok-own.ensures in
     let u = record t { slots = with_item t.slots c.args.at (gone d) } in
-    let P : Tree → Type 0 = λ x. Gains (rules_of x c.args.limits) u c.in-Waiting.parked.job c.in-Waiting.parked.facts c.gain.new.facts in
-    rw own (fed-work (arc_value c.args.tree.now) c.args.limits t c.args.at slot c.in-Waiting.parked fed
-    u (gone d) c.replace-stage.ensures.after refl refl c.gain.new.facts (subst P c.deref.ensures c.in_ok-gain.ensures))
+    let P : List ℕ → Type 0 = λ ns. Gains u ns c.in-Waiting.parked.begun.value.job c.in-Waiting.parked.begun.value.facts c.gain.new.facts in
+    let Q : Begun → Type 0 = λ b. Gains u c.deref.result.now b.job b.facts c.gain.new.facts in
+    rw (own, inside) (fed-work (arc_value c.args.tree.now) c.args.limits t c.args.at slot c.in-Waiting.parked fed
+    u (gone d) c.replace-stage.ensures.after refl refl c.gain.new.facts (subst P c.deref.ensures.value (subst Q inside c.in_ok-gain.ensures)))
 
 pub returns : goal.returns
 unfolding gone
@@ -75,9 +76,9 @@ returns c =
       same = (
         ap (λ (w : WorkView). w.tree) c.of.ensures ∙ c.in_ok-own.ensures,
         ap (λ (w : WorkView). w.limits) c.of.ensures,
-        ap (λ (w : WorkView). w.target) c.of.ensures,
-        ap (λ (w : WorkView). w.turn) c.of.ensures,
-        ap (λ (w : WorkView). w.deps) c.of.ensures,
+        ap (λ (w : WorkView). w.target) c.of.ensures ∙ ap (λ (b : Begun). b.job.target) c.deref_mut.ensures.value,
+        ap (λ (w : WorkView). w.turn) c.of.ensures ∙ ap (λ (b : Begun). b.job.turn) c.deref_mut.ensures.value,
+        ap (λ (w : WorkView). w.deps) c.of.ensures ∙ ap (λ (b : Begun). job_deps b.job) c.deref_mut.ensures.value,
       );
       slots = set-twice t.slots.items c.args.at (gone d) _;
       rest = (refl, refl, refl);

@@ -1,4 +1,4 @@
-use Rattle.std.proofs.Common.{◌≡◌, ◌<◌, ℕ, rules, length, slice_get, Some, true, false, refl, sym, ap, subst, ◌∙◌, arith}
+use Rattle.std.proofs.Common.{◌≡◌, ◌<◌, ℕ, rules, length, slice_get, Some, true, sym, ap, subst, ◌∙◌, arith}
 use Rattle.redo_core.specs.declared.table.Slot.{Slot}
 use Rattle.redo_core.proofs.Queues.{slice_get-among}
 use Rattle.redo_core.proofs.SlotLemmas.{slice_get-item, slice_get-below_some}

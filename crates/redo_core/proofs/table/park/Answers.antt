@@ -12,7 +12,7 @@ returns c =
     let same : c.index_mut-slot.result.now ≡ c.requires.1.0 = cc in
     record {
       old = c.index_mut-slot.result.now;
-      new = record { turn = c.index_mut-slot.result.now.turn + 1; watchers = c.index_mut-slot.result.now.watchers; stage = Waiting (record { job = c.args.job; facts = c.args.facts; held = c.args.facts.gained }) };
+      new = record { turn = c.index_mut-slot.result.now.turn + 1; watchers = c.index_mut-slot.result.now.watchers; stage = Waiting (record { begun = c.args.begun; operands = c.args.operands; held = 0 }) };
       put_back = record {
         there = there;
         was = ap (λ (y : Slot). y.stage) same ∙ c.requires.1.2;
@@ -20,7 +20,7 @@ returns c =
         out = omega (arith, c.requires.0);
         rest = (refl, refl);
       };
-      stage = (refl, refl, refl);
+      stage = refl;
       turn = refl;
       watchers = refl;
     }

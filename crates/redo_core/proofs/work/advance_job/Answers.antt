@@ -1,13 +1,13 @@
 use Rattle.std.proofs.Common.{◌≡◌, sym, ap, subst, ◌∙◌}
 use Rattle.std.specs.Arc.{arc_value}
-use Rattle.redo_core.specs.Views.{FactView, WorkView}
+use Rattle.redo_core.specs.Views.{FactView}
 use Rattle.redo_core.specs.Build.{rules_of}
 use Rattle.redo_core.specs.Works.{told_in}
 use Rattle.redo_core.specs.Ends.{IsEndAt, end_progress}
 use Rattle.redo_core.specs.declared.work.End.{End}
 use Rattle.redo_core.proofs.Advance.{work-fits, fact-parts, stopped-end, ended-end, ended-progress, asks-progress, end-lacks}
 use Rattle.redo_core.proofs.work.advance_job.Goals as goal
-use Rattle.redo_core.proofs.work.advance_job.Goals.{in-Ended+in_ok-own-in-Ended+in_ok-path-in-Ended+in_ok-deps-in-Ended, in-Asks}
+use Rattle.redo_core.proofs.work.advance_job.Goals.{in-Ended+in_ok-own-in-Ended+in_ok-path-in-Ended+in_ok-deps-in-Ended, in-Asks+in_ok-new-in-Asks}
 
 pub advance-requires-clause-fits : goal.advance-requires-clause-fits
 advance-requires-clause-fits c = work-fits (arc_value c.args.tree) c.args.limits c.args.job c.args.facts c.requires
@@ -35,7 +35,7 @@ invariant_of-result c =
           (ap (λ (f : FactView). f.target) w.of.ensures ∙ path)
           (ap (λ (f : FactView). f.outcome) w.of.ensures)
           (ap (λ (f : FactView). f.deps) w.of.ensures ∙ w.in_ok-deps-in-Ended.ensures.ok))
-      | in-Asks w ↦ subst P (sym w.end-is) (stopped-end tree limits job facts c.requires w.in-Asks.job w.in-Asks._paths.items (rw w.in-Asks.is at c.in_ok-done.ensures))
+      | in-Asks+in_ok-new-in-Asks w ↦ subst P (sym w.end-is) (stopped-end tree limits job facts c.requires w.in-Asks.job w.in-Asks._paths.items (rw w.in-Asks.is at c.in_ok-done.ensures) w.in_ok-new-in-Asks.field-0 w.in_ok-new-in-Asks.ensures.ok)
     ])
 
 pub returns-clause-ended : goal.returns-clause-ended
@@ -50,6 +50,6 @@ returns-clause-ended c =
           subst P (sym w.end-is) (ended-progress tree limits job facts c.requires w.in-Ended.done (rw w.in-Ended.is at c.in_ok-done.ensures) w.of.result
           (ap (λ (f : FactView). f.outcome) w.of.ensures)
           (ap (λ (f : FactView). f.deps) w.of.ensures ∙ w.in_ok-deps-in-Ended.ensures.ok))
-      | in-Asks w ↦ subst P (sym w.end-is) (asks-progress tree limits job facts c.requires w.in-Asks.job w.in-Asks._paths.items (rw w.in-Asks.is at c.in_ok-done.ensures))
+      | in-Asks+in_ok-new-in-Asks w ↦ subst P (sym w.end-is) (asks-progress tree limits job facts c.requires w.in-Asks.job w.in-Asks._paths.items (rw w.in-Asks.is at c.in_ok-done.ensures) w.in_ok-new-in-Asks.field-0 w.in_ok-new-in-Asks.ensures.ok)
     ] in
     end-lacks tree limits job facts c.requires c.match-branch-3.end now

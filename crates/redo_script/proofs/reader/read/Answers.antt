@@ -1,6 +1,6 @@
 use Rattle.std.proofs.Common.{sym, ◌∙◌, inr}
 use Rattle.std.proofs.lemmas.Result.{err_from_is_err_and}
-use Rattle.redo_script.proofs.ReadTexts.{nul_fails, interpreter_fails, tokens_fail, statements_follow}
+use Rattle.redo_script.proofs.ReadTexts.{nul_fails, interpreter_fails, tokens_follow}
 use Rattle.redo_script.proofs.reader.read.Goals as goal
 
 pub returns-in_err-refuse_nul : goal.returns-in_err-refuse_nul
@@ -12,11 +12,6 @@ pub returns-then-not-has_fit_interpreter : goal.returns-then-not-has_fit_interpr
 returns-then-not-has_fit_interpreter c =
     inr (interpreter_fails c.args.text.now c.in_ok-refuse_nul.ensures (sym c.has_fit_interpreter.ensures ∙ c.if-not-has_fit_interpreter.true))
 
-pub returns-in_err-tokens : goal.returns-in_err-tokens
-returns-in_err-tokens c =
-    let p = err_from_is_err_and c.from_residual-in_err-tokens.result c.from_residual-in_err-tokens.ensures.1 in
-    rw (p.1, p.2) (tokens_fail c.args.text.now _ c.in_ok-refuse_nul.ensures (sym c.has_fit_interpreter.ensures ∙ c.if-not-has_fit_interpreter.false) c.in_err-tokens.ensures)
-
 pub returns : goal.returns
 returns c =
-    rw (statements_follow c.args.text.now _ c.in_ok-refuse_nul.ensures (sym c.has_fit_interpreter.ensures ∙ c.if-not-has_fit_interpreter.false) c.in_ok-tokens.ensures) c.statements.ensures
+    rw (tokens_follow c.args.text.now c.in_ok-refuse_nul.ensures (sym c.has_fit_interpreter.ensures ∙ c.if-not-has_fit_interpreter.false)) c.read_statements.ensures

@@ -12,4 +12,4 @@ returns-then-walk c =
     ∙ c.loop-suffix.invariant
 
 pub add_default-requires-clause-part : goal.add_default-requires-clause-part
-add_default-requires-clause-part c = all-at IsPart (λ suffix. suffix.now) c.args.ends.now c.loop-suffix.suffix-index _ c.requires c.loop-suffix-test.true
+add_default-requires-clause-part c = all-at IsPart (λ suffix. suffix.now) c.args.ends.now c.loop-suffix.suffix-index _ c.requires.parts c.loop-suffix-test.true

@@ -1,12 +1,11 @@
 use Rattle.std.proofs.Common.{rules, ◌≡◌, ◌≤◌, ℕ, List, Option, Some, None, Ok, Err, IsNone, MatchOption, length, refl, sym, ap, subst, ◌∙◌, arith}
 use Rattle.std.specs.Arc.{arc_value}
 use Rattle.redo_tree.specs.Tree.{Tree}
-use Rattle.redo_core.specs.Schedule.{State, IsOutAt}
+use Rattle.redo_core.specs.Schedule.{IsOutAt}
 use Rattle.redo_core.specs.Ends.{IsEndAt}
 use Rattle.redo_core.specs.Faults.{fault_of, Refused, RefusedRunning}
-use Rattle.redo_core.specs.Slots.{IsKept, IsOutSlotAt, rules_inside, state_of}
+use Rattle.redo_core.specs.Slots.{IsKept, IsOutSlotAt, state_of}
 use Rattle.redo_core.specs.Views.{BoardView, PieceView}
-use Rattle.redo_core.specs.Outcomes.{outcome_at, IsTooMany}
 use Rattle.redo_core.specs.declared.board.Stop.{Stop}
 use Rattle.redo_core.specs.declared.board.Stop.TheVariants.{TooMany}
 use Rattle.redo_core.specs.declared.board.HandFault.{HandFault}

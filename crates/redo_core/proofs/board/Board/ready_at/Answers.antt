@@ -1,7 +1,7 @@
-use Rattle.std.proofs.Common.{rules, ◌≡◌, ◌<◌, ℕ, List, cond, map, is_some, length, slice_get, Some, refl, sym, ap, subst, ◌∙◌, arith}
+use Rattle.std.proofs.Common.{rules, ◌≡◌, ◌<◌, ℕ, List, cond, map, is_some, length, slice_get, Some, refl, ap, subst, ◌∙◌, arith}
 use Rattle.redo_core.specs.Slots.{IsKept, path_at}
 use Rattle.redo_core.specs.Views.{BoardView}
-use Rattle.redo_core.proofs.SlotLemmas.{slice_get-item, slice_get-map}
+use Rattle.redo_core.proofs.SlotLemmas.{slice_get-map}
 use Rattle.redo_core.proofs.TakeLemmas.{running, first_item}
 use Rattle.redo_core.proofs.TableLemmas.{slice_get-place}
 use Rattle.redo_core.proofs.board.Board.ready_at.Goals as goal

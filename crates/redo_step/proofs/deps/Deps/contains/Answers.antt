@@ -1,6 +1,12 @@
-use Rattle.std.proofs.Common.{◌∙◌}
+use Rattle.std.proofs.Common.{◌≡◌, sym, ap, ◌∙◌}
+use Rattle.redo_step.specs.Meaning.{is_entered}
+use Rattle.redo_step.specs.Stored.{stored}
 use Rattle.redo_step.proofs.Sets.{any_entered}
 use Rattle.redo_step.proofs.deps.Deps.contains.Goals as goal
 
-pub returns : goal.returns
-returns c = c.contains.ensures ∙ rw (← c.self.view_is) (any_entered c.args.dep.now c.self.inside.entries.keys)
+pub returns-in-Many : goal.returns-in-Many
+returns-in-Many c =
+    let dep = c.args.dep.now in
+    let entries = c.in-Many.entries.keys in
+    let kept : entries ≡ c.args.self.now = sym (ap stored c.in-Many.is) ∙ c.self.view_is in
+    c.contains.ensures ∙ any_entered dep entries ∙ ap (λ es. is_entered es dep.kind dep.path) kept

@@ -1,0 +1,160 @@
+//! Bytes that clones share, the short ones in place.
+//!
+//! A build keeps many small texts: the paths of its targets, scripts of a line, files of a word. [`Bytes`]
+//! keeps up to 22 bytes in itself, so that they take no memory beside it and are copied with it. More
+//! bytes stand in memory once, and the clones share them. Stands on the standard library alone.
+#![tactic(auto)]
+
+ghost use Rattle.std.specs.Prelude.{◌≡◌, ◌<◌, [], IfNone, IfOk, IfSome, length, nat_eq};
+ghost use Rattle.std.specs.Cmp.{partial_equiv_from_equiv};
+ghost use Rattle.std.specs.Cmp.Lexicographic.{nat_list_eq_equiv, pointwise};
+ghost use Rattle.redo_bytes.specs.Kept.{IsFit, bytes_of};
+
+use std::alloc::{AllocError, Global};
+use std::marker::Model;
+use std::sync::ArcSlice;
+
+/// Up to how many bytes lie in the value itself, which so has the size of three words.
+const SHORT: usize = 22;
+
+/// A few bytes, in place, and how many they are.
+#[derive(Clone, Copy, Debug)]
+struct Short {
+    len: u8,
+    bytes: [u8; SHORT],
+}
+
+/// Bytes that lie here, or that are shared.
+#[derive(Debug, Drop)]
+enum Kept {
+    Short(Short),
+    Shared(ArcSlice<u8>),
+}
+
+/// A list of bytes that doesn't change. A clone copies up to 22 bytes, and shares more. In a contract it is
+/// the list of its bytes.
+#[derive(Debug)]
+pub struct Bytes {
+    kept: Kept,
+}
+
+impl Model for Bytes {
+    ghost use Rattle.std.specs.Prelude.{List, ℕ};
+    ghost use Rattle.redo_bytes.specs.Kept.{IsKept, bytes_in};
+
+    ghost Value = { List ℕ };
+
+    ghost view = { λ b. bytes_in b.kept };
+
+    ghost invariant = { λ b. IsKept b.kept };
+}
+
+impl Short {
+    /// A copy of these bytes, where they are few enough.
+    fn of(bytes: &[u8]) -> Option<Short>
+        ensures fit { IfSome result IsFit }
+        ensures few { IfSome result (λ short. bytes_of short ≡ bytes.now) }
+        ensures many { IfNone result (22 < length bytes.now) }
+    {
+        let len = bytes.len();
+        if len > SHORT {
+            return None;
+        }
+        let mut copy = [0; SHORT];
+        copy[..len].copy_from_slice(bytes);
+        Some(Short {
+            len: len as u8,
+            bytes: copy,
+        })
+    }
+
+    fn as_slice(&self) -> &[u8]
+        requires { IsFit self.now }
+        ensures { result.now ≡ bytes_of self.now }
+    {
+        &self.bytes[..self.len as usize]
+    }
+}
+
+impl Bytes {
+    /// No bytes, which take no memory.
+    pub fn empty() -> Bytes
+        ensures { result ≡ [] }
+    {
+        let none = Short {
+            len: 0,
+            bytes: [0; SHORT],
+        };
+        Bytes {
+            kept: Kept::Short(none),
+        }
+    }
+
+    /// A copy of these bytes.
+    pub fn from_slice(alloc: Global, bytes: &[u8]) -> Result<Bytes, AllocError>
+        ensures { IfOk result (λ copy. copy ≡ bytes.now) }
+    {
+        let kept = match Short::of(bytes) {
+            Some(short) => Kept::Short(short),
+            None => Kept::Shared(ArcSlice::from_slice(alloc, bytes)?),
+        };
+        Ok(Bytes { kept })
+    }
+
+    /// The bytes of a vector, which are taken over; up to 22 are copied, and the vector is let go.
+    pub fn from_vec(bytes: Vec<u8>) -> Result<Bytes, AllocError>
+        ensures { IfOk result (λ taken. taken ≡ bytes.items) }
+    {
+        let kept = match Short::of(&bytes) {
+            Some(short) => Kept::Short(short),
+            None => Kept::Shared(ArcSlice::from_vec(bytes)?),
+        };
+        Ok(Bytes { kept })
+    }
+
+    /// The bytes, in their order.
+    pub fn as_slice(&self) -> &[u8]
+        ensures { result.now ≡ self.now }
+    {
+        match &self.kept {
+            Kept::Short(short) => short.as_slice(),
+            Kept::Shared(bytes) => bytes.as_slice(),
+        }
+    }
+}
+
+// By hand, so that letting bytes go is one call in the code above, and no match on where they are kept.
+impl Drop for Bytes {
+    fn drop(self) {
+        let Bytes { kept: _kept } = self;
+    }
+}
+
+impl Clone for Bytes {
+    ghost is_clone = { λ bytes copy. copy ≡ bytes };
+
+    fn clone(&self) -> Result<Bytes, AllocError> {
+        let kept = match &self.kept {
+            Kept::Short(short) => Kept::Short(*short),
+            Kept::Shared(bytes) => Kept::Shared(bytes.clone()?),
+        };
+        Ok(Bytes { kept })
+    }
+}
+
+impl PartialEq for Bytes {
+    ghost eq = { pointwise nat_eq };
+
+    ghost laws = { partial_equiv_from_equiv nat_list_eq_equiv };
+
+    fn eq(&self, other: &Bytes) -> bool {
+        self.as_slice() == other.as_slice()
+    }
+}
+
+impl Eq for Bytes {
+    ghost laws = { nat_list_eq_equiv };
+}
+
+#[cfg(test)]
+mod tests;

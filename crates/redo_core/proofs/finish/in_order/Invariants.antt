@@ -1,7 +1,0 @@
-use Rattle.std.proofs.Common.{◌≡◌, [], drop}
-use Rattle.redo_core.specs.Reported.{placed}
-use Rattle.redo_core.proofs.finish.in_order.Given as goal
-
--- the paths so far, with those that are left, are all
-abbrev pub invariant-loop-path : goal.invariant-loop-path
-invariant-loop-path l = placed l.paths.keys (drop l.path-index l.targets) ≡ placed [] l.targets

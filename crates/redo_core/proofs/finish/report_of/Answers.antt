@@ -1,0 +1,50 @@
+use Rattle.std.proofs.Common.{◌≡◌, ◌++◌, ◌∷◌, [], ◌+◌, ◌<◌, ℕ, List, Option, Bor, length, map, drop, if◌then◌else◌, slice_index_or, sym, ap, subst, ◌∙◌, arith}
+use Rattle.std.proofs.lemmas.List.{append_assoc, drop_more, map-append}
+use Rattle.std.specs.List.{AllByRecursion}
+use Rattle.redo_which.specs.Rule.{found_of}
+use Rattle.redo_step.specs.Setting.{is_rule}
+use Rattle.redo_core.specs.Reported.{file_of, listed_paths, row_begun, row_files, IsNumberOf, IsRowOf}
+use Rattle.redo_core.specs.declared.report.Row.{Row}
+use Rattle.redo_core.proofs.Rows.{rows-added, files-added, begun-added}
+use Rattle.redo_core.proofs.finish.report_of.Goals as goal
+
+pub row_of-requires-clause-number : goal.row_of-requires-clause-number
+row_of-requires-clause-number c =
+    let P : Bor (List ℕ) × Option ℕ → Type 0 = λ e. IsNumberOf c.args.table.now.targets.keys e.0.now e.1 in
+    let Q : List (Bor (List ℕ) × Option ℕ) → Type 0 = λ es. (k : ℕ) (d : Bor (List ℕ) × Option ℕ) → k < length es → P (slice_index_or es k d) in
+    let numbers : Q c.deref-path-items.result.now = subst Q (sym c.deref-path-items.ensures.value) c.in_ok-listed.ensures.numbers in
+    subst P (sym c.loop-path-item.is) (numbers c.loop-path.path-index c.loop-path-item.result (omega (arith, c.loop-path-test.true, c.loop-path.auto.path-index-end)))
+
+pub loop-path-preserved : goal.loop-path-preserved
+loop-path-preserved c =
+    let items = c.deref-path-items.result.now in
+    let i = c.loop-path.path-index in
+    let left = listed_paths (drop (i + 1) items) in
+    let below : i < length items = omega (arith, c.loop-path-test.true, c.loop-path.auto.path-index-end) in
+    let paths = λ (rows : List Row). map (λ (row : Row). row.path) rows in
+    let first : listed_paths (drop i items) ≡ c.in_ok-row.row.path ∷ left =
+    ap listed_paths (drop_more items i c.loop-path-item.result below)
+    ∙ ap (λ (e : Bor (List ℕ) × Option ℕ). e.0.now ∷ left) (sym c.loop-path-item.is)
+    ∙ ap (λ p. p ∷ left) (sym c.in_ok-row.ensures.path) in
+    record {
+      paths =
+          ap (λ rows. paths rows ++ left) c.in_ok-add_row.ensures.rows
+          ∙ ap (λ ps. ps ++ left) (map-append (λ (row : Row). row.path) c.loop-path.report.rows.items (c.in_ok-row.row ∷ []))
+          ∙ append_assoc (paths c.loop-path.report.rows.items) (c.in_ok-row.row.path ∷ []) left
+          ∙ ap (λ ps. paths c.loop-path.report.rows.items ++ ps) (sym first)
+          ∙ c.loop-path.invariant.paths;
+      rows =
+          let P : List Row → Type 0 = AllByRecursion (IsRowOf c.args.table.now) in
+          subst P (sym c.in_ok-add_row.ensures.rows) (rows-added (IsRowOf c.args.table.now) c.loop-path.report.rows.items c.in_ok-row.row c.loop-path.invariant.rows c.in_ok-row.ensures.row);
+      files =
+          c.in_ok-add_row.ensures.files
+          ∙ ap (λ fs. fs ++ file_of c.in_ok-row.row.path c.in_ok-row.row.outcome) c.loop-path.invariant.files
+          ∙ sym (files-added c.loop-path.report.rows.items c.in_ok-row.row)
+          ∙ ap row_files (sym c.in_ok-add_row.ensures.rows);
+      begun =
+          let ruled = c.in_ok-row.ensures.begun ∙ ap (λ p. is_rule (found_of c.args.tree.now p)) (sym c.in_ok-row.ensures.path) in
+          c.in_ok-add_row.ensures.begun
+          ∙ ap (λ ps. ps ++ (if c.in_ok-row.begun then c.in_ok-row.row.path ∷ [] else [])) c.loop-path.invariant.begun
+          ∙ sym (begun-added c.args.tree.now c.loop-path.report.rows.items c.in_ok-row.row c.in_ok-row.begun ruled)
+          ∙ ap (row_begun c.args.tree.now) (sym c.in_ok-add_row.ensures.rows);
+    }

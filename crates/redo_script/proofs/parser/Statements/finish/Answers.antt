@@ -1,0 +1,5 @@
+use Rattle.redo_script.proofs.ReadTokens.{is_done}
+use Rattle.redo_script.proofs.parser.Statements.finish.Goals as goal
+
+pub returns-in-None : goal.returns-in-None
+returns-in-None c = λ total h. rw (is_done c.args.self total c.in-None.is h) at c.finish.ensures

@@ -1,0 +1,35 @@
+use Rattle.std.proofs.Common.{◌≡◌, [], rules, arith, sym}
+use Rattle.std.proofs.lemmas.Result.{err_from_is_err_and}
+use Rattle.std.proofs.lemmas.List.{nil_from_length}
+use Rattle.redo_script.specs.Lexer.{reader_of}
+use Rattle.redo_script.specs.Reading.{read_on, tokens_of}
+use Rattle.redo_script.specs.Passes.{Follows, script_by_tokens}
+use Rattle.redo_script.proofs.Runs.{head_on}
+use Rattle.redo_script.proofs.Handed.{first, tokens_taken, end_fails, last_taken}
+use Rattle.redo_script.proofs.reader.read_statements.Goals as goal
+
+pub loop-left-init : goal.loop-left-init
+unfolding tokens_of
+loop-left-init c = record {
+  reads = rw c.new-lexer.ensures.reader (first c.new-statements.result c.args.text.now c.new-statements.ensures);
+  line = omega (arith, c.new-lexer.ensures.line);
+}
+
+pub loop-left-preserved-then-has_many : goal.loop-left-preserved-then-has_many
+loop-left-preserved-then-has_many c =
+    let read : Follows c.loop-left.statements (read_on (reader_of c.step.new.self) c.in_ok-left.left.now) (script_by_tokens c.args.text.now) = rw (c.in_ok-left.ensures.reads, head_on c.loop-left.left.now c.in-len1-up.len_at_least) c.loop-left.invariant.reads in
+    record {
+      reads = tokens_taken c.loop-left.statements c.tokens.new.self _ (reader_of c.step.new.self) (reader_of c.take_tokens.new.self) c.in_ok-left.left.now (script_by_tokens c.args.text.now) (sym c.in_ok-take_tokens.ensures.tokens) c.in_ok-take_tokens.ensures.taken c.tokens.ensures read;
+      line = search rules;
+    }
+
+pub returns-in_err-finish : goal.returns-in_err-finish
+returns-in_err-finish c =
+    let p = err_from_is_err_and c.from_residual-in_err-finish.result c.from_residual-in_err-finish.ensures.1 in
+    let none : c.loop-left.left.now ≡ [] = nil_from_length c.loop-left.left.now (omega (arith, c.in_default.len_below)) in
+    rw (p.1, p.2) (end_fails c.loop-left.statements (reader_of c.loop-left.lexer) _ (script_by_tokens c.args.text.now) c.in_err-finish.ensures (rw none at c.loop-left.invariant.reads))
+
+pub returns : goal.returns
+returns c =
+    let none : c.loop-left.left.now ≡ [] = nil_from_length c.loop-left.left.now (omega (arith, c.in_default.len_below)) in
+    c.finish-2.ensures (script_by_tokens c.args.text.now) (last_taken c.loop-left.statements c.tokens-2.new.self (reader_of c.loop-left.lexer) _ (script_by_tokens c.args.text.now) c.in_ok-finish.ensures c.tokens-2.ensures (rw none at c.loop-left.invariant.reads))

@@ -1,0 +1,11 @@
+use Rattle.std.proofs.Common.{◌≡◌, length, Some, sym, ap, ◌∙◌, arith}
+use Rattle.redo_which.specs.Views.{arguments_view}
+use Rattle.redo_step.specs.Setting.{value_in}
+use Rattle.redo_step.proofs.Values.{value_of_one}
+use Rattle.redo_step.proofs.value.parts_value.Goals as goal
+
+pub returns-in-Some : goal.returns-in-Some
+returns-in-Some c =
+    let one : length c.args.parts.now ≡ 1 = omega arith in
+    let value = value_of_one (value_in (arguments_view c.args.args.now)) c.args.parts.now c.part-item.result one c.part-item.is in
+    ap Some c.lent.ensures ∙ c.in-Some.ensures ∙ sym value

@@ -1,0 +1,151 @@
+//! A candidate in pieces of its target's text, so that no path is made of one that is no file.
+
+ghost use Rattle.std.specs.Prelude.{◌≡◌, ◌++◌, ◌∷◌, ◌≤◌, [], IfOk, IfSome, OnOk, codes, length, map, nat_le, option_copied, ◌&&◌};
+ghost use Rattle.std.specs.Option.{option_to_list};
+ghost use Rattle.redo_path.specs.Names.{IsNameStart, IsPart, IsPath, child_of, name_of, names, parent_of};
+ghost use Rattle.redo_path.specs.Resolve.{resolved};
+ghost use Rattle.redo_which.specs.Candidates.{place_at};
+ghost use Rattle.redo_which.specs.Views.{place_of};
+
+use crate::Candidate;
+use redo_path::{Path, PathFault, resolve};
+use std::alloc::{AllocError, Global};
+use std::marker::Model;
+
+/// The most bytes that a name has.
+const LONGEST_NAME: usize = 255;
+
+/// The most bytes that a path has.
+const LONGEST_PATH: usize = 1024;
+
+/// A candidate: a .do file in a directory, whose stem is in two pieces. In a contract it is the place
+/// of a candidate.
+#[derive(Drop)]
+pub(crate) struct Spot<'a> {
+    dir: &'a [u8],
+    front: &'a [u8],
+    suffix: &'a [u8],
+    cut: usize,
+}
+
+impl<'a> Model for Spot<'a> {
+    ghost use Rattle.redo_which.specs.Candidates.{Place};
+    ghost use Rattle.redo_which.specs.Spots.{IsSpot, spot_place};
+
+    ghost Value = { Place };
+
+    ghost view = { λ s. spot_place s.dir.now s.front.now s.suffix.now s.cut };
+
+    ghost invariant = { λ s. IsSpot s.dir.now s.front.now s.suffix.now };
+}
+
+impl<'a> Spot<'a> {
+    /// The candidate of this stem in a directory, unless its path is too long.
+    pub(crate) fn new(
+        dir: &'a [u8],
+        front: &'a [u8],
+        suffix: &'a [u8],
+        cut: usize,
+    ) -> Option<Spot<'a>>
+        requires path { IsPath dir.now }
+        requires part { IsPart (front.now ++ suffix.now) }
+        ensures { option_to_list result ≡ place_at dir.now cut (front.now ++ suffix.now ++ codes ".do") }
+    {
+        if !fits(dir, front, suffix) {
+            return None;
+        }
+        Some(Spot {
+            dir,
+            front,
+            suffix,
+            cut,
+        })
+    }
+
+    /// Adds the text of the .do file's path to a text.
+    pub(crate) fn spell(&self, text: &mut Vec<u8>) -> Result<(), AllocError>
+        ensures path { IsPath self.now.do_file }
+        ensures text { OnOk result (text.new.items ≡ text.old.items ++ self.now.do_file) }
+    {
+        if !self.dir.is_empty() {
+            text.extend_from_slice(self.dir)?;
+            text.push(b'/')?;
+        }
+        text.extend_from_slice(self.front)?;
+        text.extend_from_slice(self.suffix)?;
+        text.extend_from_slice(b".do")
+    }
+
+    /// The path of the .do file.
+    pub(crate) fn do_file(&self, alloc: Global) -> Result<Path, AllocError>
+        ensures { IfOk result (λ path. path ≡ self.now.do_file) }
+    {
+        let mut text = Vec::new(alloc);
+        self.spell(&mut text)?;
+        path_of(alloc, &text)
+    }
+
+    /// The candidate, with paths of its own.
+    pub(crate) fn candidate(&self, alloc: Global) -> Result<Candidate, AllocError>
+        ensures { IfOk result (λ candidate. place_of candidate ≡ self.now) }
+    {
+        let do_file = self.do_file(alloc)?;
+        let dir = path_of(alloc, self.dir)?;
+        let cut = self.cut;
+        Ok(Candidate { do_file, dir, cut })
+    }
+}
+
+/// Whether the path of a .do file in a directory isn't too long.
+fn fits(dir: &[u8], front: &[u8], suffix: &[u8]) -> bool
+    requires { IsPath dir.now }
+    ensures { result ≡ (nat_le (length (front.now ++ suffix.now ++ codes ".do")) 255
+        && nat_le (length (child_of dir.now (front.now ++ suffix.now ++ codes ".do"))) 1024) }
+{
+    let name = front.len().saturating_add(suffix.len()).saturating_add(3);
+    let above = if dir.is_empty() {
+        0
+    } else {
+        dir.len().saturating_add(1)
+    };
+    name <= LONGEST_NAME && above.saturating_add(name) <= LONGEST_PATH
+}
+
+/// The path with this text, which is refused only for want of memory.
+fn path_of(alloc: Global, text: &[u8]) -> Result<Path, AllocError>
+    requires { IsPath text.now }
+    ensures { IfOk result (λ path. path ≡ text.now) }
+{
+    let root = Path::root();
+    if text.is_empty() {
+        return Ok(root);
+    }
+    match resolve(alloc, &root, text) {
+        Ok(path) => Ok(path),
+        Err(_) => Err(AllocError),
+    }
+}
+
+/// The text of the directory that holds a path; the root lies in none.
+pub(crate) fn upper(text: &[u8]) -> Option<&[u8]>
+    requires { IsPath text.now }
+    ensures text { option_copied result ≡ parent_of text.now }
+    ensures path { IfSome result (λ up. IsPath up.now) }
+    ensures names { IfSome result (λ up. names text.now ≡ names up.now ++ name_of text.now ∷ []) }
+{
+    if text.is_empty() {
+        return None;
+    }
+    let end = name_start(text).saturating_sub(1);
+    Some(&text[..end])
+}
+
+/// Where the last name of a text begins.
+fn name_start(text: &[u8]) -> usize
+    ensures { IsNameStart text.now result }
+{
+    match text.iter().rposition(|byte| *byte == b'/') {
+        Some(slash) => slash + 1,
+        None => 0,
+    }
+}
