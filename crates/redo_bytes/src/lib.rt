@@ -11,6 +11,7 @@ ghost use Rattle.std.specs.Cmp.Lexicographic.{nat_list_eq_equiv, pointwise};
 ghost use Rattle.redo_bytes.specs.Kept.{IsFit, bytes_of};
 
 use std::alloc::{AllocError, Global};
+use std::fmt;
 use std::marker::Model;
 use std::sync::ArcSlice;
 
@@ -18,14 +19,14 @@ use std::sync::ArcSlice;
 const SHORT: usize = 22;
 
 /// A few bytes, in place, and how many they are.
-#[derive(Clone, Copy, Debug)]
+#[derive(Clone, Copy)]
 struct Short {
     len: u8,
     bytes: [u8; SHORT],
 }
 
 /// Bytes that lie here, or that are shared.
-#[derive(Debug, Drop)]
+#[derive(Drop)]
 enum Kept {
     Short(Short),
     Shared(ArcSlice<u8>),
@@ -33,7 +34,6 @@ enum Kept {
 
 /// A list of bytes that doesn't change. A clone copies up to 22 bytes, and shares more. In a contract it is
 /// the list of its bytes.
-#[derive(Debug)]
 pub struct Bytes {
     kept: Kept,
 }
@@ -154,6 +154,13 @@ impl PartialEq for Bytes {
 
 impl Eq for Bytes {
     ghost laws = { nat_list_eq_equiv };
+}
+
+/// The numbers of the bytes, as a slice prints them.
+impl fmt::Debug for Bytes {
+    fn fmt<W: fmt::Write>(&self, f: &mut fmt::Formatter<W>) -> fmt::Result {
+        f.debug_list().entries(self.as_slice()).finish()
+    }
 }
 
 #[cfg(test)]

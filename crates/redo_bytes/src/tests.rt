@@ -52,3 +52,21 @@ fn other_bytes_are_told_apart(rt: HostRuntime) -> Result<(), Fail> {
     }
     Ok(())
 }
+
+#[test]
+fn bytes_are_printed_as_a_slice_of_them(rt: HostRuntime) -> Result<(), Fail> {
+    let alloc = rt.alloc();
+    for (bytes, want) in [
+        (b"".as_slice(), "[]"),
+        (b"a\n", "[97, 10]"),
+        (
+            b"12345678901234567890123",
+            "[49, 50, 51, 52, 53, 54, 55, 56, 57, 48, 49, 50, 51, 52, 53, 54, 55, 56, 57, 48, 49, 50, 51]",
+        ),
+    ] {
+        let bytes = Bytes::from_slice(alloc, bytes)?;
+        let printed = format!(in alloc; "{bytes:?}")?;
+        assert_eq!(rt; printed.as_str(), want);
+    }
+    Ok(())
+}
