@@ -17,8 +17,9 @@ use redo_tree::Tree;
 use std::alloc::Global;
 use std::sync::Arc;
 
-/// Takes the target that has been ready longest, advances its script, and hands it in.
-fn advance_first(board: &mut Board) -> Result<(), RunFault>
+/// Takes the target that became ready last, advances its script, and hands it in. So what was just asked for is built before
+/// more is asked for, and few scripts stand begun at a time.
+fn advance_newest(board: &mut Board) -> Result<(), RunFault>
     requires ready { 0 < ready_count board.old }
     requires none_out { jobs_out board.old ≡ 0 }
     requires running { IsNone board.old.stopped }
@@ -28,7 +29,7 @@ fn advance_first(board: &mut Board) -> Result<(), RunFault>
     ensures left { OnOk result (takes_left board.new.limits.0 board.new.state < takes_left board.old.limits.0 board.old.state) }
     ensures too_many { result ≡ Err RunFault.TooMany → IsTooMany (rules_on board.old) board.old.request board.old.limits.0 }
 {
-    let work = board.take(0)?;
+    let work = board.take(board.ready() - 1)?;
     let piece = work.advance()?;
     match board.hand_in(piece) {
         Ok(()) => Ok(()),
@@ -50,7 +51,7 @@ pub fn build_one(
 {
     let mut board = Board::open(alloc, Arc::new(alloc, tree)?, request, limits)?;
     while board.ready() > 0 {
-        advance_first(&mut board)?;
+        advance_newest(&mut board)?;
     }
     Ok(board.finish()?)
 }

@@ -116,16 +116,17 @@ impl<B: Build> Desk<B> {
         !self.refused && self.board.ready() == 0 && self.board.out() > 0
     }
 
-    /// The first job that is ready, if there is one and the run hasn't ended.
+    /// The job that became ready last, if there is one and the run hasn't ended.
     fn take(&mut self) -> Result<Option<Work>, AllocError>
         ensures work { IfOk result (λ found. IfSome found (IsWorkOf B.tree B.limits)) }
         ensures ended { self.old.refused ≡ true → result ≡ Ok None }
         ensures noted { OnErr result (self.new.refused ≡ true) }
     {
-        if self.refused || self.board.ready() == 0 {
+        let ready = self.board.ready();
+        if self.refused || ready == 0 {
             return Ok(None);
         }
-        match self.board.take(0) {
+        match self.board.take(ready - 1) {
             Ok(work) => Ok(Some(work)),
             Err(error) => {
                 self.refused = true;
