@@ -12,11 +12,15 @@ use redo_run::{Exit, NoGate, Options, run_bundle, run_dir, whichdo_bundle, which
 use redo_tree::Plain;
 use status::Fault;
 use std::alloc::Global;
+use std::io::{BufWriter, Write};
 use std::process::ExitCode;
 use std::rt::Runtime;
 use std::sync::Wait;
 use std::thread::Threads;
 use std::{env, io};
+
+/// The size of the buffer before standard output.
+const BUFFER_BYTES: usize = 65_536;
 
 fn main(rt: HostRuntime) -> ExitCode {
     let alloc = rt.alloc();
@@ -79,19 +83,28 @@ fn build<H: Runtime + Threads + Wait + Sync>(
     options: &Options,
     place: &Place,
 ) -> Result<bool, Fault> {
-    let mut writer = Plain::new(io::writer(rt));
-    let exit = match place {
+    let mut writer = Plain::new(buffered(alloc, io::writer(rt))?);
+    let (exit, passed) = match place {
         Place::Bundle => {
             let mut reader = Plain::new(rt.reader());
-            run_bundle(rt, alloc, &mut reader, &mut writer, options, &NoGate)?
+            let exit = run_bundle(rt, alloc, &mut reader, &mut writer, options, &NoGate)?;
+            (exit, 0)
         }
-        Place::Directory(dir) => {
-            let (exit, passed) = run_dir(rt, alloc, dir, &mut writer, options, &NoGate)?;
-            note_passed(rt, passed);
-            exit
-        }
+        Place::Directory(dir) => run_dir(rt, alloc, dir, &mut writer, options, &NoGate)?,
     };
+    flush(&mut writer.stream)?;
+    note_passed(rt, passed);
     Ok(exit == Exit::Good)
+}
+
+/// A writer with a buffer, since a report comes in many small pieces.
+fn buffered<S: Write + Drop>(alloc: Global, stream: S) -> Result<BufWriter<S>, Fault> {
+    BufWriter::with_capacity(alloc, BUFFER_BYTES, stream).map_err(|_| Fault::Memory)
+}
+
+/// Writes what is left in the buffer.
+fn flush<S: Write + Drop>(writer: &mut BufWriter<S>) -> Result<(), Fault> {
+    writer.flush().map_err(|_| Fault::Output)
 }
 
 /// Lists a target's candidates, and answers whether one of them is a file.
@@ -114,5 +127,32 @@ fn list<H: Runtime>(rt: &H, alloc: Global, target: &Path, place: &Place) -> Resu
 fn note_passed<H: Runtime>(rt: &H, passed: u64) {
     if passed != 0 {
         let _shown = eprintln!(rt; "redo: {passed} names passed over");
+    }
+}
+
+#[cfg(test)]
+mod tests {
+    use super::{buffered, flush};
+    use crate::status::Fault;
+    use std::io::Write;
+    use std::test::Fail;
+
+    /// What comes of three bytes that go through the buffer to a device with so much room.
+    fn gone_out(rt: &HostRuntime, room: &mut [u8]) -> Result<Result<(), Fault>, Fail> {
+        let Ok(mut writer) = buffered(rt.alloc(), room) else {
+            return Err("no memory".into());
+        };
+        writer.write_all(b"end")?;
+        Ok(flush(&mut writer))
+    }
+
+    #[test]
+    fn what_is_in_the_buffer_goes_out_or_the_output_failed(rt: HostRuntime) -> Result<(), Fail> {
+        let mut room = [0u8; 3];
+        assert_eq!(rt; gone_out(&rt, room.as_mut_slice())?, Ok(()));
+        assert_eq!(rt; room.as_slice(), b"end".as_slice());
+        let mut small = [0u8; 2];
+        assert_eq!(rt; gone_out(&rt, small.as_mut_slice())?, Err(Fault::Output));
+        Ok(())
     }
 }

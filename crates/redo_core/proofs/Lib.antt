@@ -44,3 +44,4 @@ pub mod Ordered
 pub mod Rows
 pub mod Reported
 pub mod Lines
+pub mod Writing

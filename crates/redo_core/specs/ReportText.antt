@@ -80,10 +80,6 @@ begun_line path = codes "begun " ++ path_line path
 abbrev pub file_text : List ℕ × List ℕ → List ℕ
 file_text file = spelling (file.0, File file.1)
 
--- the rows with their records, and the scripts that were begun
-abbrev pub lines_text : Report → List ℕ
-lines_text report = flat_map row_text report.rows.items ++ flat_map begun_line report.begun.items
-
 -- the rows with their records, the scripts that were begun, the files that were built if they are wanted, and the end
 abbrev pub report_text : Report → Bool → List ℕ
 report_text report with_files =

@@ -4,8 +4,9 @@
 //! recursion on a depth that stands still once every needed target is decided. The board holds the entries of a running
 //! build; whatever order its works are taken and handed in, it shows a part of that one build, and all of it once it is
 //! quiet. Targets that still wait then are cyclic. The crate stands on `redo_step` for what a script does, on `redo_which` and
-//! `redo_tree` for rules and sources, on `redo_path` and `redo_script` for what a report spells, and on `indexmap`, which
-//! numbers targets by first sight. It starts no thread and runs nothing by itself: a layer above takes, advances and hands in.
+//! `redo_tree` for rules and sources, on `redo_path` and `redo_script` for what a report spells, on `indexmap`, which numbers
+//! targets by first sight, and on `itoa`, which spells numbers. It starts no thread and runs nothing by itself: a layer above
+//! takes, advances and hands in.
 //!
 //! - `laws`: what holds of every build and every order, as contracts of functions that do nothing.
 //! - `board`: the board; `table`, `moves` and `begin` are its inside, and `same` compares by value.

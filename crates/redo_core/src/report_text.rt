@@ -1,13 +1,15 @@
-//! The report of a build as text.
-ghost use Rattle.std.specs.Prelude.{◌≡◌, ◌++◌, ◌∷◌, IfOk, OnOk, decimal, flat_map, option_copied};
+//! The report of a build as text, written piece by piece. Nothing here allocates but [`report_text`].
+ghost use Rattle.std.specs.Prelude.{◌≡◌, ◌++◌, ◌∷◌, [], IfOk, false, flat_map, is_err, option_copied};
 ghost use Rattle.redo_step.specs.Entries.{change_of};
-ghost use Rattle.redo_core.specs.ReportText.{begun_line, dep_line, file_text, outcome_words, path_line, reason_word, lines_text, report_text, row_text, why_words, word_at};
+ghost use Rattle.redo_tree.specs.Bundle.{Writes};
+ghost use Rattle.redo_core.specs.ReportText.{begun_line, dep_line, file_text, outcome_words, path_line, reason_word, report_text, row_text, why_words, word_at};
 
 use crate::report::{Report, Row};
+use itoa::Buffer;
 use redo_path::Path;
-use redo_script::Reason;
+use redo_script::{Reason, ScriptFault};
 use redo_step::{Dep, DepKind, Outcome, Record, Why};
-use redo_tree::Content;
+use redo_tree::{Broken, ByteOut, Content, Plain, write_all};
 use std::alloc::{AllocError, Global};
 
 /// The report's text: the rows with their records, the scripts that were begun, the files that were built, each as it
@@ -15,71 +17,185 @@ use std::alloc::{AllocError, Global};
 pub fn report_text(alloc: Global, report: &Report, with_files: bool) -> Result<Vec<u8>, AllocError>
     ensures { IfOk result (λ text. text.items ≡ report_text report.now with_files) }
 {
-    let mut text = report_lines(alloc, report)?;
+    let mut out = Plain::new(Vec::new(alloc));
+    match write_report(&mut out, report, with_files) {
+        Ok(()) => {
+            let Plain { stream, broken: _ } = out;
+            Ok(stream)
+        }
+        Err(Broken) => Err(AllocError),
+    }
+}
+
+/// Writes the text that [`report_text`] makes. It allocates nothing, and goes out in many small pieces, so hand in a writer
+/// with a buffer. After a failure a beginning of the text was written.
+pub fn write_report<W: ByteOut>(
+    out: &mut W,
+    report: &Report,
+    with_files: bool,
+) -> Result<(), Broken>
+    requires { W.has_failed out.old ≡ false }
+    ensures writes { Writes (W.held out.old) (W.held out.new) result (report_text report.now with_files) }
+    ensures failed { W.has_failed out.new ≡ is_err result }
+{
+    write_rows(out, &report.rows)?;
+    write_begun(out, &report.begun)?;
     if with_files {
-        push_files(alloc, &mut text, &report.files)?;
+        write_files(out, &report.files)?;
     }
-    text.extend_from_slice(b"end\n")?;
-    Ok(text)
+    write_all(out, b"end\n")
 }
 
-/// The lines of a report that stand before the files: the rows with their records, and the scripts that were begun. It
-/// serves who writes the files' bytes from where they are.
-pub fn report_lines(alloc: Global, report: &Report) -> Result<Vec<u8>, AllocError>
-    ensures { IfOk result (λ text. text.items ≡ lines_text report.now) }
+/// Writes the rows, with their records.
+fn write_rows<W: ByteOut>(out: &mut W, rows: &[Row]) -> Result<(), Broken>
+    requires { W.has_failed out.old ≡ false }
+    ensures writes { Writes (W.held out.old) (W.held out.new) result (flat_map row_text rows.now) }
+    ensures failed { W.has_failed out.new ≡ is_err result }
 {
-    let mut text = rows_text(alloc, &report.rows)?;
-    push_begun(&mut text, &report.begun)?;
-    Ok(text)
-}
-
-/// The rows, with their records.
-fn rows_text(alloc: Global, rows: &[Row]) -> Result<Vec<u8>, AllocError>
-    ensures { IfOk result (λ text. text.items ≡ flat_map row_text rows.now) }
-{
-    let mut text = Vec::new(alloc);
     for row in rows {
-        push_row(alloc, &mut text, row)?;
+        write_row(out, row)?;
     }
-    Ok(text)
+    Ok(())
 }
 
-/// Adds a line for each script that was begun.
-fn push_begun(text: &mut Vec<u8>, begun: &[Path]) -> Result<(), AllocError>
-    ensures { OnOk result (text.new.items ≡ text.old.items ++ flat_map begun_line begun.now) }
+/// Writes a line for each script that was begun.
+fn write_begun<W: ByteOut>(out: &mut W, begun: &[Path]) -> Result<(), Broken>
+    requires { W.has_failed out.old ≡ false }
+    ensures writes { Writes (W.held out.old) (W.held out.new) result (flat_map begun_line begun.now) }
+    ensures failed { W.has_failed out.new ≡ is_err result }
 {
     for path in begun {
-        text.extend_from_slice(b"begun ")?;
-        push_path(text, path)?;
+        write_path_line(out, b"begun ", path)?;
     }
     Ok(())
 }
 
-/// Adds a file that was built, in a bundle's form.
-fn push_file(alloc: Global, text: &mut Vec<u8>, file: &(Path, Content)) -> Result<(), AllocError>
-    ensures { OnOk result (text.new.items ≡ text.old.items ++ file_text file.now) }
-{
-    let bytes = file.1.bytes();
-    text.extend_from_slice(b"file ")?;
-    push_number(alloc, text, bytes.len() as u64)?;
-    text.extend_from_slice(b" ")?;
-    push_path(text, &file.0)?;
-    text.extend_from_slice(bytes)?;
-    text.extend_from_slice(b"\n")
-}
-
-/// Adds the files that were built.
-fn push_files(
-    alloc: Global,
-    text: &mut Vec<u8>,
-    files: &[(Path, Content)],
-) -> Result<(), AllocError>
-    ensures { OnOk result (text.new.items ≡ text.old.items ++ flat_map file_text files.now) }
+/// Writes the files that were built.
+fn write_files<W: ByteOut>(out: &mut W, files: &[(Path, Content)]) -> Result<(), Broken>
+    requires { W.has_failed out.old ≡ false }
+    ensures writes { Writes (W.held out.old) (W.held out.new) result (flat_map file_text files.now) }
+    ensures failed { W.has_failed out.new ≡ is_err result }
 {
     for file in files {
-        push_file(alloc, text, file)?;
+        write_file(out, file)?;
     }
     Ok(())
+}
+
+/// Writes a row, with its record.
+fn write_row<W: ByteOut>(out: &mut W, row: &Row) -> Result<(), Broken>
+    requires { W.has_failed out.old ≡ false }
+    ensures writes { Writes (W.held out.old) (W.held out.new) result (row_text row.now) }
+    ensures failed { W.has_failed out.new ≡ is_err result }
+{
+    write_outcome(out, &row.outcome)?;
+    write_path_line(out, b" ", &row.path)?;
+    write_record(out, &row.deps)
+}
+
+/// Writes the lines of a record. Of its entries none is made.
+fn write_record<W: ByteOut>(out: &mut W, deps: &Record) -> Result<(), Broken>
+    requires { W.has_failed out.old ≡ false }
+    ensures writes { Writes (W.held out.old) (W.held out.new) result (flat_map dep_line deps.now) }
+    ensures failed { W.has_failed out.new ≡ is_err result }
+{
+    let parts = deps.parts();
+    parts.missing.write_lines(b"dep create ", out)?;
+    write_do_file(out, parts.do_file)?;
+    write_deps(out, parts.own)
+}
+
+/// Writes the line of a record's .do file, if it has one.
+fn write_do_file<W: ByteOut>(out: &mut W, do_file: Option<&Path>) -> Result<(), Broken>
+    requires { W.has_failed out.old ≡ false }
+    ensures writes { Writes (W.held out.old) (W.held out.new) result (flat_map dep_line (change_of (option_copied do_file.entry))) }
+    ensures failed { W.has_failed out.new ≡ is_err result }
+{
+    match do_file {
+        Some(path) => write_path_line(out, b"dep change ", path),
+        None => Ok(()),
+    }
+}
+
+/// Writes the lines of entries.
+fn write_deps<W: ByteOut>(out: &mut W, deps: &[Dep]) -> Result<(), Broken>
+    requires { W.has_failed out.old ≡ false }
+    ensures writes { Writes (W.held out.old) (W.held out.new) result (flat_map dep_line deps.now) }
+    ensures failed { W.has_failed out.new ≡ is_err result }
+{
+    for dep in deps {
+        write_dep(out, dep)?;
+    }
+    Ok(())
+}
+
+/// Writes the line of an entry of a record.
+fn write_dep<W: ByteOut>(out: &mut W, dep: &Dep) -> Result<(), Broken>
+    requires { W.has_failed out.old ≡ false }
+    ensures writes { Writes (W.held out.old) (W.held out.new) result (dep_line dep.now) }
+    ensures failed { W.has_failed out.new ≡ is_err result }
+{
+    match dep.kind {
+        DepKind::Change => write_path_line(out, b"dep change ", &dep.path),
+        DepKind::Create => write_path_line(out, b"dep create ", &dep.path),
+    }
+}
+
+/// Writes the words for what became of a path.
+fn write_outcome<W: ByteOut>(out: &mut W, outcome: &Outcome) -> Result<(), Broken>
+    requires { W.has_failed out.old ≡ false }
+    ensures writes { Writes (W.held out.old) (W.held out.new) result (outcome_words outcome.now) }
+    ensures failed { W.has_failed out.new ≡ is_err result }
+{
+    match outcome {
+        Outcome::Source => write_all(out, b"source"),
+        Outcome::Built(None) => write_all(out, b"built none"),
+        Outcome::Built(Some(content)) => {
+            write_word_at(out, b"built", content.bytes().len() as u64)
+        }
+        Outcome::Failed(why) => {
+            write_all(out, b"failed ")?;
+            write_why(out, *why)
+        }
+        Outcome::Cyclic => write_all(out, b"cyclic"),
+    }
+}
+
+/// Writes the words for why a target failed.
+fn write_why<W: ByteOut>(out: &mut W, why: Why) -> Result<(), Broken>
+    requires { W.has_failed out.old ≡ false }
+    ensures writes { Writes (W.held out.old) (W.held out.new) result (why_words why) }
+    ensures failed { W.has_failed out.new ≡ is_err result }
+{
+    match why {
+        Why::NoRule => write_all(out, b"norule"),
+        Why::Directory => write_all(out, b"directory"),
+        Why::NoDirectory => write_all(out, b"nodirectory"),
+        Why::Script(fault) => write_fault(out, fault),
+        Why::Exit(status) => write_word_at(out, b"exit", u64::from(status)),
+        Why::Depends(line) => write_word_at(out, b"depends", line),
+        Why::Unquoted(line) => write_word_at(out, b"unquoted", line),
+        Why::Outside(line) => write_word_at(out, b"outside", line),
+        Why::Undeclared(line) => write_word_at(out, b"undeclared", line),
+        Why::Exists(line) => write_word_at(out, b"exists", line),
+        Why::Buildable(line) => write_word_at(out, b"buildable", line),
+        Why::Direct(line) => write_word_at(out, b"direct", line),
+        Why::Elsewhere(line) => write_word_at(out, b"elsewhere", line),
+        Why::BothOutputs => write_all(out, b"both"),
+        Why::TooLarge(line) => write_word_at(out, b"toolarge", line),
+        Why::Format(line) => write_word_at(out, b"format", line),
+    }
+}
+
+/// Writes the words for what is wrong with a script.
+fn write_fault<W: ByteOut>(out: &mut W, fault: ScriptFault) -> Result<(), Broken>
+    requires { W.has_failed out.old ≡ false }
+    ensures writes { Writes (W.held out.old) (W.held out.new) result (why_words (Why.Script fault)) }
+    ensures failed { W.has_failed out.new ≡ is_err result }
+{
+    let mut digits = Buffer::new();
+    let line = digits.format(fault.line).as_bytes();
+    write_parts(out, &[b"script ", line, b" ", word_of_reason(fault.why)])
 }
 
 /// The word for what is wrong with a script.
@@ -99,128 +215,48 @@ fn word_of_reason(reason: Reason) -> &'static [u8]
     }
 }
 
-/// Adds a number's decimal digits.
-fn push_number(alloc: Global, text: &mut Vec<u8>, number: u64) -> Result<(), AllocError>
-    ensures { OnOk result (text.new.items ≡ text.old.items ++ decimal number) }
+/// Writes a word and a number, as the line of a script that it speaks of.
+fn write_word_at<W: ByteOut>(out: &mut W, word: &[u8], number: u64) -> Result<(), Broken>
+    requires { W.has_failed out.old ≡ false }
+    ensures writes { Writes (W.held out.old) (W.held out.new) result (word_at word.now number) }
+    ensures failed { W.has_failed out.new ≡ is_err result }
 {
-    let digits = number.to_string(alloc)?;
-    text.extend_from_slice(digits.as_bytes())
+    let mut digits = Buffer::new();
+    write_parts(out, &[word, b" ", digits.format(number).as_bytes()])
 }
 
-/// Adds a word and the line of a script that it speaks of.
-fn push_word_at(alloc: Global, text: &mut Vec<u8>, word: &[u8], line: u64) -> Result<(), AllocError>
-    ensures { OnOk result (text.new.items ≡ text.old.items ++ word_at word.now line) }
+/// Writes a path behind some words, and a newline.
+fn write_path_line<W: ByteOut>(out: &mut W, front: &[u8], path: &Path) -> Result<(), Broken>
+    requires { W.has_failed out.old ≡ false }
+    ensures writes { Writes (W.held out.old) (W.held out.new) result (front.now ++ path_line path.now) }
+    ensures failed { W.has_failed out.new ≡ is_err result }
 {
-    text.extend_from_slice(word)?;
-    text.extend_from_slice(b" ")?;
-    push_number(alloc, text, line)
+    write_parts(out, &[front, path.text(), b"\n"])
 }
 
-/// Adds the words for why a target failed.
-fn push_why(alloc: Global, text: &mut Vec<u8>, why: Why) -> Result<(), AllocError>
-    ensures { OnOk result (text.new.items ≡ text.old.items ++ why_words why) }
+/// Writes a file that was built, in a bundle's form.
+fn write_file<W: ByteOut>(out: &mut W, file: &(Path, Content)) -> Result<(), Broken>
+    requires { W.has_failed out.old ≡ false }
+    ensures writes { Writes (W.held out.old) (W.held out.new) result (file_text file.now) }
+    ensures failed { W.has_failed out.new ≡ is_err result }
 {
-    match why {
-        Why::NoRule => text.extend_from_slice(b"norule"),
-        Why::Directory => text.extend_from_slice(b"directory"),
-        Why::NoDirectory => text.extend_from_slice(b"nodirectory"),
-        Why::Script(fault) => {
-            push_word_at(alloc, text, b"script", fault.line)?;
-            text.extend_from_slice(b" ")?;
-            text.extend_from_slice(word_of_reason(fault.why))
-        }
-        Why::Exit(status) => push_word_at(alloc, text, b"exit", u64::from(status)),
-        Why::Depends(line) => push_word_at(alloc, text, b"depends", line),
-        Why::Unquoted(line) => push_word_at(alloc, text, b"unquoted", line),
-        Why::Outside(line) => push_word_at(alloc, text, b"outside", line),
-        Why::Undeclared(line) => push_word_at(alloc, text, b"undeclared", line),
-        Why::Exists(line) => push_word_at(alloc, text, b"exists", line),
-        Why::Buildable(line) => push_word_at(alloc, text, b"buildable", line),
-        Why::Direct(line) => push_word_at(alloc, text, b"direct", line),
-        Why::Elsewhere(line) => push_word_at(alloc, text, b"elsewhere", line),
-        Why::BothOutputs => text.extend_from_slice(b"both"),
-        Why::TooLarge(line) => push_word_at(alloc, text, b"toolarge", line),
-        Why::Format(line) => push_word_at(alloc, text, b"format", line),
-    }
+    let bytes = file.1.bytes();
+    let mut digits = Buffer::new();
+    let size = digits.format(bytes.len()).as_bytes();
+    write_parts(
+        out,
+        &[b"file ", size, b" ", file.0.text(), b"\n", bytes, b"\n"],
+    )
 }
 
-/// Adds the words for what became of a path.
-fn push_outcome(alloc: Global, text: &mut Vec<u8>, outcome: &Outcome) -> Result<(), AllocError>
-    ensures { OnOk result (text.new.items ≡ text.old.items ++ outcome_words outcome.now) }
+/// Writes bytes that lie in several places, one after another.
+fn write_parts<W: ByteOut>(out: &mut W, parts: &[&[u8]]) -> Result<(), Broken>
+    requires { W.has_failed out.old ≡ false }
+    ensures writes { Writes (W.held out.old) (W.held out.new) result (flat_map (λ part. part.now) parts.now) }
+    ensures failed { W.has_failed out.new ≡ is_err result }
 {
-    match outcome {
-        Outcome::Source => text.extend_from_slice(b"source"),
-        Outcome::Built(None) => text.extend_from_slice(b"built none"),
-        Outcome::Built(Some(content)) => {
-            text.extend_from_slice(b"built ")?;
-            push_number(alloc, text, content.bytes().len() as u64)
-        }
-        Outcome::Failed(why) => {
-            text.extend_from_slice(b"failed ")?;
-            push_why(alloc, text, *why)
-        }
-        Outcome::Cyclic => text.extend_from_slice(b"cyclic"),
-    }
-}
-
-/// Adds a path and a newline.
-fn push_path(text: &mut Vec<u8>, path: &Path) -> Result<(), AllocError>
-    ensures { OnOk result (text.new.items ≡ text.old.items ++ path_line path.now) }
-{
-    text.extend_from_slice(path.text())?;
-    text.extend_from_slice(b"\n")
-}
-
-/// Adds the line of an entry of a record.
-fn push_dep(text: &mut Vec<u8>, dep: &Dep) -> Result<(), AllocError>
-    ensures { OnOk result (text.new.items ≡ text.old.items ++ dep_line dep.now) }
-{
-    match dep.kind {
-        DepKind::Change => text.extend_from_slice(b"dep change ")?,
-        DepKind::Create => text.extend_from_slice(b"dep create ")?,
-    }
-    push_path(text, &dep.path)
-}
-
-/// Adds the lines of entries.
-fn push_deps(text: &mut Vec<u8>, deps: &[Dep]) -> Result<(), AllocError>
-    ensures { OnOk result (text.new.items ≡ text.old.items ++ flat_map dep_line deps.now) }
-{
-    for dep in deps {
-        push_dep(text, dep)?;
+    for part in parts {
+        write_all(out, part)?;
     }
     Ok(())
-}
-
-/// Adds the line of a record's .do file, if it has one.
-fn push_do_file(text: &mut Vec<u8>, do_file: Option<&Path>) -> Result<(), AllocError>
-    ensures { OnOk result (text.new.items ≡ text.old.items ++ flat_map dep_line (change_of (option_copied do_file.entry))) }
-{
-    match do_file {
-        Some(path) => {
-            text.extend_from_slice(b"dep change ")?;
-            push_path(text, path)
-        }
-        None => Ok(()),
-    }
-}
-
-/// Adds the lines of a record. Of its entries none is made.
-fn push_record(alloc: Global, text: &mut Vec<u8>, deps: &Record) -> Result<(), AllocError>
-    ensures { OnOk result (text.new.items ≡ text.old.items ++ flat_map dep_line deps.now) }
-{
-    let parts = deps.parts();
-    parts.missing.add_lines(alloc, b"dep create ", text)?;
-    push_do_file(text, parts.do_file)?;
-    push_deps(text, parts.own)
-}
-
-/// Adds a row, with its record.
-fn push_row(alloc: Global, text: &mut Vec<u8>, row: &Row) -> Result<(), AllocError>
-    ensures { OnOk result (text.new.items ≡ text.old.items ++ row_text row.now) }
-{
-    push_outcome(alloc, text, &row.outcome)?;
-    text.extend_from_slice(b" ")?;
-    push_path(text, &row.path)?;
-    push_record(alloc, text, &row.deps)
 }

@@ -1,7 +1,7 @@
 -- A path's text names the path, and what a word names is a path.
 use Rattle.std.proofs.Common.{◌≡◌, ◌≢◌, ℕ, ◌+◌, ◌-◌, ◌<◌, ◌≤◌, Bool, true, false, cond, not, List, [], ◌∷◌, ◌++◌, length, take, refl, sym, ap, subst, ◌∙◌, zero, suc, arith, Some, None, nat_lt, ◌==◌, append_assoc, append-nil, codes}
 use Rattle.std.proofs.lemmas.Grind.{common_steps}
-use Rattle.std.proofs.lemmas.List.Splits.{length-slice_split}
+use Rattle.std.proofs.lemmas.List.Splits.{length-slice_split, join_with_byte-slice_split}
 use Rattle.std.proofs.lemmas.Slice.Eq.{bytes_eq-Decides}
 use Rattle.std.proofs.lemmas.Cmp.{tied_itself, nat_cmp_total}
 use Rattle.std.specs.Cmp.Lexicographic.{slice_cmp}
@@ -15,8 +15,8 @@ use Rattle.redo_path.proofs.Apart.{apart}
 use Rattle.redo_path.specs.declared.PathFault.TheVariants.{Absolute, BadByte, LongName, LongPath}
 use Rattle.redo_path.specs.Names.{is_slash, is_control, parts, names, text_of, parent_of, IsPart, IsName, IsPath}
 use Rattle.redo_path.specs.Resolve.{step, up_from, walk, word_fault, resolved, within_limit, ◌>>=◌}
-use Rattle.redo_path.proofs.Parts.{parts-append, parts-name, parts-names, text_of-names, AllByRecursion-append}
-use Rattle.redo_path.proofs.Cuts.{IsPart-parts, printable-word, within_limit-short}
+use Rattle.redo_path.proofs.Parts.{parts-append, parts-name, parts-names, AllByRecursion-append}
+use Rattle.redo_path.proofs.Cuts.{IsPart-parts, printable-word, resolved-walk, within_limit-short}
 use Rattle.redo_path.proofs.Steps.{IsPlain, IsName-plain, step-plain}
 use borrow.Author.Tests.{ltb-false}
 
@@ -95,12 +95,15 @@ path_word (b ∷ bs) some h =
     let none : position is_control (b ∷ bs) ≡ None = no_place_of _ _ is_control (no_control (b ∷ bs) (printable_path (b ∷ bs) h)) in
     ap (λ t. cond t (Some Absolute) (option_map BadByte (position is_control (b ∷ bs)))) (first_slash b bs h.each) ∙ ap (option_map BadByte) none
 
+-- a word of names, read from the top, is its own path, unless it is too long
+pub resolved-names : (base word : List ℕ) → length base ≡ 0 → word_fault word ≡ None → AllByRecursion IsName (parts word) → resolved base word ≡ within_limit word
+resolved-names [] word top fine named =
+    resolved-walk [] word (Ok (parts word)) fine (walk-names [] (parts word) named) ∙ ap within_limit (join_with_byte-slice_split 47 word)
+resolved-names (b ∷ bs) word top fine named = absurd (omega arith)
+
 pub resolved-path : (text : List ℕ) → text ≢ [] → IsPath text → resolved [] text ≡ Ok text
 resolved-path text some h =
-    ap (λ o. option_map_or Err o (walk [] (parts text) >>= λ ns. within_limit (text_of ns))) (path_word text some h)
-    ∙ ap (λ ps. walk [] ps >>= λ ns. within_limit (text_of ns)) (sym (parts-names text some))
-    ∙ ap (λ r. r >>= λ ns. within_limit (text_of ns)) (walk-names [] (names text) h.each)
-    ∙ ap within_limit (text_of-names text) ∙ within_limit-short text h.short
+    resolved-names [] text refl (path_word text some h) (subst (AllByRecursion IsName) (parts-names text some) h.each) ∙ within_limit-short text h.short
 
 -- ---- what a word names is a path
 

@@ -130,9 +130,7 @@ impl Path {
         ensures names { IfOk result (λ parent. IfSome parent (λ up. names self.now ≡ names up ++ name_of self.now ∷ [])) }
     {
         match front(self.text()) {
-            Some(front) => Ok(Some(Path {
-                text: Bytes::from_slice(alloc, front)?,
-            })),
+            Some(front) => Ok(Some(copied(alloc, front)?)),
             None => Ok(None),
         }
     }
@@ -234,6 +232,15 @@ pub(crate) fn share(text: Vec<u8>) -> Result<Path, AllocError>
     ensures { IfOk result (λ path. path ≡ text.items) }
 {
     let text = Bytes::from_vec(text)?;
+    Ok(Path { text })
+}
+
+/// The path with a copy of this text.
+pub(crate) fn copied(alloc: Global, text: &[u8]) -> Result<Path, AllocError>
+    requires { IsPath text.now }
+    ensures { IfOk result (λ path. path ≡ text.now) }
+{
+    let text = Bytes::from_slice(alloc, text)?;
     Ok(Path { text })
 }
 

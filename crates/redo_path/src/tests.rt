@@ -30,12 +30,19 @@ fn names_and_dots_lead_to_a_path(rt: HostRuntime) -> Result<(), Fail> {
         (".", "src/", "src"),
         (".", "src/.", "src"),
         (".", "zz/../src", "src"),
+        (".", "a/b/c.x", "a/b/c.x"),
+        (".", "a/./b", "a/b"),
+        (".", "a/..", ""),
         (".", "a//b///c", "a/b/c"),
         (".", ".", ""),
         ("p", ".", "p"),
         ("p", "..", ""),
         ("p/q", "..", "p"),
         ("p/q", "../..", ""),
+        ("p", "./a", "p/a"),
+        ("p", "a/./b", "p/a/b"),
+        ("p", "a//b", "p/a/b"),
+        ("p", "a/..", "p"),
         ("p/q", "x", "p/q/x"),
         ("p/q", "../x//y", "p/x/y"),
         (".", "...", "..."),
@@ -111,6 +118,12 @@ fn names_and_paths_have_limits(rt: HostRuntime) -> Result<(), Fail> {
     let past = names_of(alloc, &[255, 255, 255, 255, 1])?;
     assert_eq!(rt; past.len(), 1025);
     assert_eq!(rt; fault_of(alloc, &past)?, Some(PathFault::LongPath));
+    let below = names_of(alloc, &[255, 255, 255, 254])?;
+    assert_eq!(rt; text_of(alloc, b"p", &below)?.err(), None);
+    assert_eq!(rt;
+        text_of(alloc, b"pp", &below)?.err(),
+        Some(PathFault::LongPath)
+    );
     Ok(())
 }
 
@@ -120,6 +133,8 @@ fn the_first_name_at_fault_decides(rt: HostRuntime) -> Result<(), Fail> {
     let long = names_of(alloc, &[256])?;
     for (front, back, fault) in [
         ("", "/..", PathFault::LongName),
+        ("", "/a", PathFault::LongName),
+        ("a/", "", PathFault::LongName),
         ("../", "", PathFault::Above),
         ("", "/../..", PathFault::LongName),
         ("a/../../", "", PathFault::Above),

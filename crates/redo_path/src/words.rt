@@ -1,12 +1,12 @@
 //! What a word names, read from a directory: part by part, as a shell reads it.
 
-ghost use Rattle.std.specs.Prelude.{◌≡◌, Err, IfErr, IfOk, IsOk, MatchOption, position};
+ghost use Rattle.std.specs.Prelude.{◌≡◌, ◌↔◌, Err, IfErr, IfOk, IsOk, IsTrue, MatchOption, None, position};
 ghost use Rattle.std.specs.List.{AllByRecursion};
 ghost use Rattle.redo_path.specs.declared.PathFault.TheVariants.{Memory};
-ghost use Rattle.redo_path.specs.Names.{IsName, IsPart, child_of, is_control, names};
+ghost use Rattle.redo_path.specs.Names.{IsName, IsPart, child_of, is_control, names, parts};
 ghost use Rattle.redo_path.specs.Resolve.{Answers, Leads, resolved, step, up_from, within_limit, word_fault};
 
-use crate::{Path, PathFault, name_start, share};
+use crate::{Path, PathFault, copied, name_start, share};
 use std::alloc::{AllocError, Global};
 
 /// The most bytes that a name has.
@@ -92,6 +92,52 @@ pub fn resolve(alloc: Global, base: &Path, word: &[u8]) -> Result<Path, PathFaul
     ensures { Answers result (resolved base.now word.now) }
 {
     check_word(word)?;
+    if base.text().is_empty() && are_names(word) {
+        return spelled(alloc, word);
+    }
+    follow_word(alloc, base, word)
+}
+
+/// Whether each part of a word is a name, as in nearly all words of a build.
+fn are_names(word: &[u8]) -> bool
+    requires { word_fault word.now ≡ None }
+    ensures { IsTrue result ↔ AllByRecursion IsName (parts word.now) }
+{
+    for part in word.split(|byte| *byte == b'/') {
+        if !is_name(part) {
+            return false;
+        }
+    }
+    true
+}
+
+/// Whether a part of a word stands for a file or a directory in its directory.
+fn is_name(part: &[u8]) -> bool
+    requires { IsPart part.now }
+    ensures { IsTrue result ↔ IsName part.now }
+{
+    match part {
+        [] | [b'.'] | [b'.', b'.'] => false,
+        name => name.len() <= LONGEST_NAME,
+    }
+}
+
+/// The path whose text is the word, unless it is too long.
+fn spelled(alloc: Global, word: &[u8]) -> Result<Path, PathFault>
+    requires { AllByRecursion IsName (names word.now) }
+    ensures { Answers result (within_limit word.now) }
+{
+    if word.len() > LONGEST_PATH {
+        return Err(PathFault::LongPath);
+    }
+    Ok(copied(alloc, word)?)
+}
+
+/// Follows a word from a directory, part by part.
+fn follow_word(alloc: Global, base: &Path, word: &[u8]) -> Result<Path, PathFault>
+    requires { word_fault word.now ≡ None }
+    ensures { Answers result (resolved base.now word.now) }
+{
     let mut text = with_room(alloc, base.text(), word.len().saturating_add(1))?;
     for part in word.split(|byte| *byte == b'/') {
         follow(&mut text, part)?;

@@ -2,6 +2,5 @@ pub mod Driving
 pub mod Exiting
 pub mod Refusals
 pub mod StaysOut
-pub mod Texts
 pub mod Told
 mod Crossing

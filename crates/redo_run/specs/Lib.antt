@@ -5,7 +5,6 @@ pub mod Driving
 pub mod Exits
 pub mod Faults
 pub mod Picks
-pub mod Pieces
 pub mod RunFaults
 pub mod Runs
 pub mod Workers

@@ -6,10 +6,10 @@ ghost use Rattle.redo_run.specs.Runs.{Explains, ExplainsList, IsUntouched, Lists
 
 use crate::candidates::text_of_search;
 use crate::exit::exit_after;
-use crate::pieces::{pieces_of, write_pieces};
 use crate::request::requested;
 use crate::workers::build_many;
 use crate::{Exit, Gate, Options, RunIoFault};
+use redo_core::report_text::write_report;
 use redo_path::Path;
 use redo_tree::{ByteIn, ByteOut, read_bundle, write_all};
 use redo_which::lookup::search;
@@ -19,6 +19,9 @@ use std::thread::Threads;
 
 /// Reads a bundle to its end, builds the targets of its tree, and writes the report, with the files that were built. The
 /// report is the same for every number of workers. Nothing is written before the build has answered.
+///
+/// The report goes out in many small pieces: hand in a writer with a buffer, as `Plain::new` over std's `BufWriter`, and flush
+/// it afterwards.
 pub fn run_bundle<H: Threads + Wait + Sync, R: ByteIn, W: ByteOut, G: Gate>(
     rt: &H,
     alloc: Global,
@@ -50,8 +53,7 @@ pub fn run_bundle<H: Threads + Wait + Sync, R: ByteIn, W: ByteOut, G: Gate>(
         gate,
     )?;
     let exit = exit_after(alloc, &report, &request)?;
-    let pieces = pieces_of(alloc, &report)?;
-    write_pieces(writer, &pieces)?;
+    write_report(writer, &report, true)?;
     Ok(exit)
 }
 

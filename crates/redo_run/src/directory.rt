@@ -8,7 +8,7 @@ use crate::exit::exit_after;
 use crate::request::requested;
 use crate::workers::build_many;
 use crate::{Exit, Gate, Options, RunDirFault};
-use redo_core::report_text::report_text;
+use redo_core::report_text::write_report;
 use redo_path::Path;
 use redo_tree::{ByteOut, load_dir, store_files, write_all};
 use redo_which::lookup::search;
@@ -23,6 +23,8 @@ use std::thread::Threads;
 /// Nothing is written before the build has answered. Where a file can't be stored, those before it in path order were, and
 /// no report is written; where the report can't be written, all files were stored. A file that stands in the directory, one
 /// of an earlier run too, is a source.
+///
+/// The report goes out in many small pieces: hand in a writer with a buffer, and flush it afterwards.
 pub fn run_dir<H: Threads + Wait + Sync + Files, W: ByteOut, G: Gate>(
     rt: &H,
     alloc: Global,
@@ -49,9 +51,8 @@ pub fn run_dir<H: Threads + Wait + Sync + Files, W: ByteOut, G: Gate>(
         gate,
     )?;
     let exit = exit_after(alloc, &report, &request)?;
-    let text = report_text(alloc, &report, false)?;
     store_files(rt, alloc, dir, &report.files)?;
-    write_all(writer, &text)?;
+    write_report(writer, &report, false)?;
     Ok((exit, passed))
 }
 

@@ -10,7 +10,7 @@
 //!   `picks`: a build in an order that is given beforehand;
 //! - `run_fault`: why a build has no report; `exit`: whether all that was requested is there;
 //! - `bundle`: the two calls over bundles; `options` and `fault`: what they take and refuse; `directory` and `dir_fault`: the
-//!   same over a directory; `request`, `candidates` and `pieces`: what both share.
+//!   same over a directory; `request` and `candidates`: what both share.
 #![tactic(auto)]
 
 mod bundle;
@@ -23,7 +23,6 @@ mod gate;
 mod one;
 mod options;
 mod picks;
-mod pieces;
 mod request;
 mod run_fault;
 mod workers;

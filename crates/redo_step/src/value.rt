@@ -17,9 +17,9 @@ fn argument(args: &Args, parameter: Parameter) -> &[u8]
     ensures { result.now ≡ value_in (arguments_view args.now) parameter }
 {
     match parameter {
-        Parameter::One => &args.one,
-        Parameter::Two => &args.two,
-        Parameter::Three => &args.three,
+        Parameter::One => args.one.as_slice(),
+        Parameter::Two => args.two.as_slice(),
+        Parameter::Three => args.three.as_slice(),
     }
 }
 

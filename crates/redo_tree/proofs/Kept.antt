@@ -1,7 +1,7 @@
 -- The entries that the code keeps: they grow to a tree, and look-ups by hash find what stands in it.
 use Rattle.std.proofs.Common.{◌≡◌, List, [], ◌∷◌, ◌++◌, ℕ, Bool, true, false, cond, refl, sym, ap, subst, ◌∙◌, Option, Some, None, IsSome, nat_eq, T, arith}
 use Rattle.std.proofs.lemmas.Map.Keys.{sorted_head, sorted_tail}
-use Rattle.std.specs.Prelude.{option_map, ◌&&◌}
+use Rattle.std.specs.Prelude.{IfSome, option_map, ◌&&◌}
 use Rattle.std.specs.Cmp.Lexicographic.{slice_cmp, pointwise, nat_list_cmp_total, nat_list_eq_equiv}
 use Rattle.std.specs.FinMap.{slice_cmp-IsAntisymmetric, nat_cmp-IsAntisymmetric}
 use Rattle.std.specs.FinMap.Entries.{below_all, is_sorted, same_entries as same_lists}
@@ -16,10 +16,11 @@ use Rattle.redo_path.specs.Names.{IsPath, parent_of}
 use Rattle.redo_tree.specs.contracts.entries.EntryPartialEq.TheImpl.{ghosts}
 use Rattle.redo_tree.specs.declared.entries.Entry.{Entry}
 use Rattle.redo_tree.specs.declared.entries.Entry.TheVariants as entries
-use Rattle.redo_tree.specs.Tree.{Directory, Tree, IsKept, IsTree, node_at, node_of, refusal, top, tree_eq, tree_of, with_node}
+use Rattle.redo_tree.specs.Tree.{Directory, Tree, IsKept, IsNoted, IsTree, NotesDefaults, default_dir, node_at, node_of, refusal, top, tree_eq, tree_of, with_node}
 use Rattle.redo_tree.proofs.Alike.{alike, found_alike, same_entries, same_found}
 use Rattle.redo_tree.proofs.Grows.{IsTree-with, Puts-with, free, is_path}
 use Rattle.redo_tree.proofs.Nodes.{node_of-cond, tree_of-last}
+use Rattle.redo_tree.proofs.Noted.{noted-with, noted_top}
 
 -- ---- the top directory alone
 
@@ -35,7 +36,7 @@ found_top : (path : List ℕ) → option_map node_of (lookup (pointwise nat_eq p
 found_top [] = refl
 found_top (byte ∷ bytes) = refl
 
-pub IsKept-top : IsKept (([], entries.Directory) ∷ [])
+pub IsKept-top : IsKept (([], entries.Directory) ∷ []) []
 IsKept-top = record {
   tree = record {
     sorted = sorted_top;
@@ -44,6 +45,7 @@ IsKept-top = record {
     parents = parents_top;
   };
   found = found_top;
+  noted = noted_top;
 }
 
 -- ---- one entry more
@@ -53,12 +55,16 @@ none_found : (o : Option Entry) → option_map node_of o ≡ None → o ≡ None
 none_found None h = refl
 none_found (Some entry) h = cc
 
-pub absent : (es : List (List ℕ × Entry)) (path : List ℕ) (entry : Entry) → IsKept es → refusal (tree_of es) path (node_of entry) ≡ None → lookup (pointwise nat_eq path) es ≡ None
-absent es path entry is h = none_found (lookup (pointwise nat_eq path) es) (is.found path ∙ free (tree_of es) path (node_of entry) h)
+pub absent : (es : List (List ℕ × Entry)) (dirs : List (List ℕ)) (path : List ℕ) (entry : Entry) → IsKept es dirs → refusal (tree_of es) path (node_of entry) ≡ None → lookup (pointwise nat_eq path) es ≡ None
+absent es dirs path entry is h = none_found (lookup (pointwise nat_eq path) es) (is.found path ∙ free (tree_of es) path (node_of entry) h)
 
-pub IsKept-with : (old new : List (List ℕ × Entry)) (path : List ℕ) (entry : Entry) → IsKept old → IsPath path → refusal (tree_of old) path (node_of entry) ≡ None → new ≡ old ++ (path, entry) ∷ []
-    → ((q : List ℕ) → lookup (pointwise nat_eq q) new ≡ cond (is_path path q) (Some entry) (lookup (pointwise nat_eq q) old)) → IsKept new
-IsKept-with old new path entry is fits h put finds =
+-- more directories may be noted
+pub IsKept-noted : (es : List (List ℕ × Entry)) (dirs more : List (List ℕ)) → IsKept es dirs → ((d : List ℕ) → IsNoted dirs d → IsNoted more d) → IsKept es more
+IsKept-noted es dirs more is kept = record { tree = is.tree; found = is.found; noted = λ path dir node at e. kept dir (is.noted path dir node at e) }
+
+pub IsKept-with : (old new : List (List ℕ × Entry)) (dirs : List (List ℕ)) (path : List ℕ) (entry : Entry) → IsKept old dirs → IfSome (default_dir path (node_of entry)) (IsNoted dirs) → IsPath path → refusal (tree_of old) path (node_of entry) ≡ None → new ≡ old ++ (path, entry) ∷ []
+    → ((q : List ℕ) → lookup (pointwise nat_eq q) new ≡ cond (is_path path q) (Some entry) (lookup (pointwise nat_eq q) old)) → IsKept new dirs
+IsKept-with old new dirs path entry is noted fits h put finds =
     let grown : tree_of new ≡ with_node (tree_of old) path (node_of entry) = ap tree_of put ∙ tree_of-last old path entry in
     record {
       tree = subst IsTree (sym grown) (IsTree-with (tree_of old) path (node_of entry) is.tree fits h);
@@ -66,6 +72,7 @@ IsKept-with old new path entry is fits h put finds =
           ∙ ap (λ o. cond (is_path path q) (Some (node_of entry)) o) (is.found q)
           ∙ sym ((Puts-with (tree_of old) path (node_of entry)).at q)
           ∙ ap (λ t. node_at t q) (sym grown);
+      noted = subst (NotesDefaults dirs) (sym grown) (noted-with dirs dirs (tree_of old) (with_node (tree_of old) path (node_of entry)) path (node_of entry) (Puts-with (tree_of old) path (node_of entry)) is.noted (λ d k. k) noted);
     }
 
 -- ---- trees in which look-ups find the same are one
@@ -92,8 +99,8 @@ both_ways false true f g = g refl
 both_ways false false f g = refl
 
 -- the map's `==` is that of the trees
-pub kept_alike : {S : Type 0} (m n : IndexMap (List ℕ) Entry S) → IsKept m.entries → IsKept n.entries → index_map_eq (pointwise nat_eq) ghosts.eq m n ≡ tree_eq (tree_of m.entries) (tree_of n.entries)
-kept_alike m n is is_other =
+pub kept_alike : {S : Type 0} (m n : IndexMap (List ℕ) Entry S) (dirs others : List (List ℕ)) → IsKept m.entries dirs → IsKept n.entries others → index_map_eq (pointwise nat_eq) ghosts.eq m n ≡ tree_eq (tree_of m.entries) (tree_of n.entries)
+kept_alike m n dirs others is is_other =
     both_ways _ _ (
     λ h. alike (tree_of m.entries) (tree_of n.entries) (
     one_tree (tree_of m.entries) (tree_of n.entries) is.tree is_other.tree (

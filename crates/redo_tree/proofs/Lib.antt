@@ -8,6 +8,7 @@ pub mod Kept
 pub mod Keys
 pub mod Lines
 pub mod Nodes
+pub mod Noted
 pub mod Once
 pub mod Pieces
 pub mod Small

@@ -77,6 +77,16 @@ grown-append old mid new (x ∷ xs) e h k = elim (added old x.0 x.1) as (λ r. o
   | Err fault ↦ λ g. cc
 ] h
 
+-- before the first entry
+pub Reached-first : (start : Option (List ℕ)) (held : List ℕ) (tree : Tree) → held ≡ [] → tree ≡ top → Reached start (prepend_known held start) tree 1
+Reached-first start held tree none only = record {
+  es = [];
+  number = refl;
+  entries = tt;
+  makes = ap Ok (sym only);
+  came = elim start as (λ o. Consumes o (prepend_known held o) []) [ None ↦ tt | Some text ↦ sym (ap (λ h. h ++ text) none) ];
+}
+
 pub Reached-next : (start b c : Option (List ℕ)) (old new : Tree) (n : ℕ) → Reached start b old n → AddsNext old new b c → Reached start c new (n + 1)
 Reached-next start b c old new n r h =
     let (e, fit, adds, p) = h in

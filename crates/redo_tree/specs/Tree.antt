@@ -1,15 +1,15 @@
 -- A tree: what stands at each path, in the order of the paths' texts.
-use Rattle.std.specs.Prelude.{◌≡◌, ◌&&◌, Bool, nat_eq, ℕ, List, [], ◌∷◌, filter_map, fold, Option, Some, None, Result, Ok, Err, IsSome, option_and_then, option_map, refl}
+use Rattle.std.specs.Prelude.{◌≡◌, ◌&&◌, Bool, true, nat_eq, ℕ, List, [], ◌∷◌, ◌++◌, codes, filter_map, fold, Option, Some, None, Result, Ok, Err, IsSome, option_and_then, option_map, refl, if◌then◌else◌}
 use Rattle.std.specs.BTreeMap.{insert_entry, is_at}
 use Rattle.std.specs.Cmp.{IsEquivalence, and_equiv, on_equiv}
 use Rattle.std.specs.Cmp.Lexicographic.{lists_equiv, nat_list_eq_equiv, options_equiv, pointwise, slice_cmp}
 use Rattle.std.specs.Coded.{Coded, code_by, coded_list, coded_option, coded_ℕ}
-use Rattle.std.specs.List.{AllByRecursion}
+use Rattle.std.specs.List.{AllByRecursion, ends_with, list_any, starts_with}
 use Rattle.std.specs.List.Sorted.{IsStrictlySortedBy}
 use Rattle.std.specs.Map.{keys_of, lookup}
 use Rattle.std.specs.Option.{option_eq, option_map_or, option_or}
 use Rattle.std.specs.Ordering.{nat_cmp}
-use Rattle.redo_path.specs.Names.{IsPath, parent_of}
+use Rattle.redo_path.specs.Names.{IsPart, IsPath, child_of, name_of, parent_of}
 use Rattle.redo_tree.specs.declared.entries.Entry.{Entry}
 use Rattle.redo_tree.specs.declared.entries.Entry.TheVariants as entries
 use Rattle.redo_tree.specs.declared.entries.Kind.{Kind}
@@ -50,6 +50,19 @@ bytes_of (File bytes) = Some bytes
 -- the bytes of the file at a path
 abbrev pub file_at : Tree → List ℕ → Option (List ℕ)
 file_at tree path = option_and_then bytes_of (node_at tree path)
+
+-- no file stands in the directory whose name is `default`, a suffix and `.do`
+abbrev pub HasNoDefaults : Tree → List ℕ → Type 0
+HasNoDefaults tree dir = (suffix : List ℕ) → IsPart suffix → file_at tree (child_of dir (codes "default" ++ suffix ++ codes ".do")) ≡ None
+
+-- a name that begins with `default` and ends in `.do`
+abbrev pub is_default : List ℕ → Bool
+is_default name = starts_with nat_eq name (codes "default") && ends_with nat_eq name (codes ".do")
+
+-- the directory of a node that is a file with such a name
+abbrev pub default_dir : List ℕ → Node → Option (List ℕ)
+default_dir path Directory = None
+default_dir path (File bytes) = if is_default (name_of path) then parent_of path else None
 
 -- whether two entries are the same
 abbrev pub entry_eq : List ℕ × Node → List ℕ × Node → Bool
@@ -129,7 +142,16 @@ with_entries tree es = fold (λ done e. with_node done e.0 (node_of e.1)) tree e
 abbrev pub tree_of : List (List ℕ × Entry) → Tree
 tree_of es = with_entries [] es
 
--- the code keeps a tree, and looking for a path among its entries finds what stands there
-pub record IsKept (es : List (List ℕ × Entry)) : Type 0 where
+-- a directory is among these
+abbrev pub IsNoted : List (List ℕ) → List ℕ → Type 0
+IsNoted dirs dir = list_any (pointwise nat_eq dir) dirs ≡ true
+
+-- the directory of each file with such a name is among these
+abbrev pub NotesDefaults : List (List ℕ) → Tree → Type 0
+NotesDefaults dirs tree = (path dir : List ℕ) (node : Node) → node_at tree path ≡ Some node → default_dir path node ≡ Some dir → IsNoted dirs dir
+
+-- the code keeps a tree, looking for a path among its entries finds what stands there, and looking for a directory among those noted finds each with such a file
+pub record IsKept (es : List (List ℕ × Entry)) (dirs : List (List ℕ)) : Type 0 where
   pub tree : IsTree (tree_of es)
   pub found : (path : List ℕ) → option_map node_of (lookup (pointwise nat_eq path) es) ≡ node_at (tree_of es) path
+  pub noted : NotesDefaults dirs (tree_of es)

@@ -1,15 +1,15 @@
 //! The tree: what stands at each path.
 
-ghost use Rattle.std.specs.Prelude.{◌≡◌, IfOk, option_copied, map, nat_eq, option_map};
+ghost use Rattle.std.specs.Prelude.{◌≡◌, IfOk, IfSome, OnOk, false, option_copied, map, nat_eq, option_map, List, ℕ};
 ghost use Rattle.std.proofs.Common.{ap};
 ghost use Rattle.std.specs.Cmp.{partial_equiv_from_equiv};
 ghost use Rattle.std.specs.Cmp.Lexicographic.{bytes_decides, nat_list_eq_equiv, pointwise};
 ghost use Rattle.std.specs.Hash as fed;
 ghost use Rattle.redo_path.specs.Names.{IsPath};
-ghost use Rattle.redo_tree.specs.Tree.{Directory, File, top, node_at, kind_of, file_at, files_of, node_of, refusal, added, tree_eq, trees_alike, Adds, Allows, IsTree};
+ghost use Rattle.redo_tree.specs.Tree.{Directory, File, top, node_at, kind_of, file_at, files_of, node_of, refusal, added, tree_eq, trees_alike, default_dir as dir_of_default, is_default as begins_and_ends, Adds, Allows, HasNoDefaults, IsNoted, IsTree};
 
 use crate::{Content, TreeFault};
-use indexmap::{Equivalent, IndexMap};
+use indexmap::{Equivalent, IndexMap, IndexSet};
 use redo_path::Path;
 use std::alloc::{AllocError, Global};
 use std::collections::BTreeMap;
@@ -40,6 +40,8 @@ pub(crate) enum Entry {
 #[derive(Drop)]
 pub struct Tree {
     entries: IndexMap<Path, Entry>,
+    /// The directories of the files whose names begin with `default` and end in `.do`.
+    defaults: IndexSet<Path>,
     alloc: Global,
 }
 
@@ -53,7 +55,7 @@ impl Model for Tree {
 
     ghost view = { λ t. tree_of t.entries.entries };
 
-    ghost invariant = { λ t. IsKept t.entries.entries };
+    ghost invariant = { λ t. IsKept t.entries.entries t.defaults.keys };
 }
 
 /// The text of a path, by which its entry is looked up.
@@ -79,21 +81,32 @@ impl Tree {
     {
         let mut entries = IndexMap::new(alloc);
         entries.insert(Path::root(), Entry::Directory)?;
-        Ok(Tree { entries, alloc })
+        Ok(Tree {
+            entries,
+            defaults: IndexSet::new(alloc),
+            alloc,
+        })
     }
 
-    /// What is kept at a path.
-    fn entry(&self, path: &Path) -> Option<&Entry>
-        ensures { option_map node_of (option_copied result) ≡ node_at self.now path.now }
+    /// What is kept at the path with this text.
+    fn entry(&self, text: &[u8]) -> Option<&Entry>
+        ensures { option_map node_of (option_copied result) ≡ node_at self.now text.now }
     {
-        self.entries.get(path)
+        self.entries.get(PathText(text))
     }
 
     /// What stands at a path.
     pub fn kind(&self, path: &Path) -> Kind
         ensures { result ≡ kind_of (node_at self.now path.now) }
     {
-        match self.entry(path) {
+        self.kind_by_text(path.text())
+    }
+
+    /// What stands at the path with this text. It serves where no path is made of the text.
+    pub fn kind_by_text(&self, text: &[u8]) -> Kind
+        ensures { result ≡ kind_of (node_at self.now text.now) }
+    {
+        match self.entry(text) {
             Some(Entry::File(_)) => Kind::File,
             Some(Entry::Directory) => Kind::Dir,
             None => Kind::Nothing,
@@ -112,10 +125,19 @@ impl Tree {
     pub fn file_by_text(&self, text: &[u8]) -> Option<&[u8]>
         ensures { option_copied result ≡ file_at self.now text.now }
     {
-        match self.entries.get(PathText(text)) {
+        match self.entry(text) {
             Some(Entry::File(content)) => Some(content.bytes()),
             _ => None,
         }
+    }
+
+    /// Whether a file whose name begins with `default` and ends in `.do` may stand in the directory
+    /// at the path with this text. Where the answer is `false` none does, so a search need not look
+    /// up such names there one by one.
+    pub fn holds_defaults(&self, dir: &[u8]) -> bool
+        ensures none { result ≡ false → HasNoDefaults self.now dir.now }
+    {
+        self.defaults.contains(PathText(dir))
     }
 
     /// The entries in path order, the top directory first. They are sorted at each call.
@@ -189,9 +211,43 @@ impl Tree {
     {
         self.check_place(path, &entry)?;
         let path = path.clone()?;
+        note_default(self.alloc, &mut self.defaults, &path, &entry)?;
         self.entries.insert(path, entry)?;
         Ok(())
     }
+}
+
+/// Notes the directory of a file whose name begins with `default` and ends in `.do`.
+fn note_default(
+    alloc: Global,
+    dirs: &mut IndexSet<Path>,
+    path: &Path,
+    entry: &Entry,
+) -> Result<(), AllocError>
+    ensures kept { (dir : List ℕ) → IsNoted dirs.old.keys dir → IsNoted dirs.new.keys dir }
+    ensures noted { OnOk result (IfSome (dir_of_default path.now (node_of entry.now)) (IsNoted dirs.new.keys)) }
+{
+    if let Some(dir) = default_dir(alloc, path, entry)? {
+        dirs.insert(dir)?;
+    }
+    Ok(())
+}
+
+/// The directory of a file whose name begins with `default` and ends in `.do`.
+fn default_dir(alloc: Global, path: &Path, entry: &Entry) -> Result<Option<Path>, AllocError>
+    ensures { IfOk result (λ dir. dir ≡ dir_of_default path.now (node_of entry.now)) }
+{
+    match entry {
+        Entry::File(_) if is_default(path.name()) => path.parent(alloc),
+        _ => Ok(None),
+    }
+}
+
+/// Whether a name begins with `default` and ends in `.do`.
+fn is_default(name: &[u8]) -> bool
+    ensures { result ≡ begins_and_ends name.now }
+{
+    name.starts_with(b"default") && name.ends_with(b".do")
 }
 
 /// Two trees are equal that have the same entries. Trees of different sizes are told apart at once.

@@ -57,12 +57,6 @@ do_file_name stem h =
       };
     }
 
-pub default_part : (suffix : List ℕ) → IsPart suffix → IsPart (codes "default" ++ suffix)
-default_part suffix h = record {
-  no_slash = AllByRecursion-append (λ byte. is_slash byte ≡ false) (codes "default") suffix (refl, (refl, (refl, (refl, (refl, (refl, (refl, tt))))))) h.no_slash;
-  printable = AllByRecursion-append (λ byte. is_control byte ≡ false) (codes "default") suffix (refl, (refl, (refl, (refl, (refl, (refl, (refl, tt))))))) h.printable;
-}
-
 pub suffixes_part : (name : List ℕ) → IsPart name → AllByRecursion IsPart (suffixes name)
 suffixes_part [] h = (h, tt)
 suffixes_part (b ∷ bs) h =

@@ -10,10 +10,10 @@ use Rattle.redo_path.proofs.Parts.{AllByRecursion-append}
 use Rattle.redo_path.specs.Names.{child_of, name_of, parent_of}
 use Rattle.redo_which.specs.Candidates.{LiesIn, Place, candidates_of, defaults_in, is_do_file, once, place_at, places_of, suffixes, upward, with_new}
 use Rattle.redo_which.specs.Missing.{AreDistinct, AreFirst, AreNewAfter, IsTarget, first_candidates}
-use Rattle.redo_which.specs.Walk.{above, defaults_by, distinct_places, without_whole}
+use Rattle.redo_which.specs.Distinct.{above, defaults_by, distinct_places, without_whole}
 use Rattle.redo_which.proofs.Files.{IsFileName-default, IsFileName-named, NoSlash, default_file, named_file, not_same}
 use Rattle.redo_which.proofs.Once.{place-all, suffixes-no_slash, without_whole-all}
-use Rattle.redo_which.proofs.Walks.{candidates-distinct, name_part}
+use Rattle.redo_which.proofs.Distinct.{candidates-distinct, name_part}
 
 -- ---- no path stands twice
 

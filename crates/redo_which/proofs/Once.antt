@@ -13,7 +13,7 @@ use Rattle.redo_path.specs.Names.{IsName, child_of, names, parts, text_of}
 use Rattle.redo_path.specs.declared.PathFault.{PathFault}
 use Rattle.redo_path.specs.Resolve.{resolved}
 use Rattle.redo_which.specs.Candidates.{Place, defaults_in, fronts, is_dot, place_at, places_of, suffixes, upward, with_new}
-use Rattle.redo_which.specs.Walk.{above, defaults_by, distinct_places, without_whole}
+use Rattle.redo_which.specs.Distinct.{above, defaults_by, distinct_places, without_whole}
 use Rattle.redo_which.proofs.Files.{IsFileName, IsFileName-default, IsFileName-named, NoSlash, child-depth, child-resolved, child-same, default-named, default-same, default_file, named-default, named_file, not_same}
 use Rattle.redo_which.proofs.Places.{fronts-append, upward-first}
 

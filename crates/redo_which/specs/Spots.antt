@@ -1,6 +1,6 @@
 -- A candidate in the pieces of its text.
-use Rattle.std.specs.Prelude.{ℕ, List, ◌++◌, codes}
-use Rattle.redo_path.specs.Names.{IsPath, child_of}
+use Rattle.std.specs.Prelude.{◌≡◌, ℕ, List, ◌++◌, codes}
+use Rattle.redo_path.specs.Names.{IsPart, IsPath, child_of}
 use Rattle.redo_which.specs.Candidates.{Place}
 
 -- the path of the .do file of a stem in a directory
@@ -14,3 +14,10 @@ spot_place dir front suffix cut = record { do_file = spelled dir front suffix; d
 pub record IsSpot (dir front suffix : List ℕ) : Type 0 where
   pub is_dir : IsPath dir
   pub is_path : IsPath (spelled dir front suffix)
+  pub is_part : IsPart suffix
+
+-- a candidate by a suffix
+pub record IsBySuffix (place : Place) : Type 0 where
+  pub suffix : List ℕ
+  pub part : IsPart suffix
+  pub is : place.do_file ≡ spelled place.dir (codes "default") suffix

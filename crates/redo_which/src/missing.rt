@@ -1,13 +1,16 @@
 //! The candidates of a target that were looked for in vain.
 
-ghost use Rattle.std.specs.Prelude.{◌≡◌, ◌≤◌, ◌++◌, ◌∷◌, List, ℕ, IfOk, OnOk, [], bytes_eq, flat_map, length, map};
+ghost use Rattle.std.specs.Prelude.{◌≡◌, ◌≤◌, ◌++◌, ◌∷◌, List, ℕ, IfOk, [], bytes_eq, false, flat_map, is_err, length, map, take};
+ghost use Rattle.std.specs.Iterator.Adapters.{take_count, take_source};
 ghost use Rattle.std.specs.List.{list_any};
+ghost use Rattle.redo_tree.specs.Bundle.{Writes};
 ghost use Rattle.redo_which.specs.Missing.{AreDistinct, AreFirst, first_candidates};
 
-use crate::lookup::spots;
-use crate::spot::Spot;
+use crate::spots::Spots;
 use redo_path::Path;
+use redo_tree::{Broken, ByteOut};
 use std::alloc::{AllocError, Global};
+use std::iter::Take;
 use std::marker::Model;
 
 /// The candidates of a target that stand before its rule, or all of them where it has none. In a
@@ -68,16 +71,18 @@ impl Missing {
     pub fn paths(&self, alloc: Global) -> Result<Vec<Path>, AllocError>
         ensures { IfOk result (λ paths. paths.items ≡ self.now) }
     {
-        do_files(alloc, &self.spots(alloc)?)
+        let mut paths = Vec::with_capacity(alloc, self.count)?;
+        for spot in self.spots() {
+            paths.push(spot.do_file(alloc)?)?;
+        }
+        Ok(paths)
     }
 
-    /// Them, as pieces of the target's text.
-    fn spots<'a>(&'a self, alloc: Global) -> Result<Vec<Spot<'a>>, AllocError>
-        ensures { IfOk result (λ list. map (λ place. place.do_file) list.items ≡ self.now) }
+    /// Them, one after another.
+    fn spots(&self) -> Take<Spots<'_>>
+        ensures { map (λ place. place.do_file) (take (take_count result) (take_source result)) ≡ self.now }
     {
-        let mut list = spots(alloc, &self.target)?;
-        list.truncate(self.count);
-        Ok(list)
+        Spots::of(&self.target).take(self.count)
     }
 
     /// Whether a path is one of them. It is quick where the path doesn't end in `.do`.
@@ -89,7 +94,7 @@ impl Missing {
             return Ok(false);
         }
         let mut text = Vec::new(alloc);
-        for other in &self.spots(alloc)? {
+        for other in self.spots() {
             text.clear();
             other.spell(&mut text)?;
             if path.text() == text.as_slice() {
@@ -99,17 +104,14 @@ impl Missing {
         Ok(false)
     }
 
-    /// Adds a line for each of them to a text, with the same front.
-    pub fn add_lines(
-        &self,
-        alloc: Global,
-        front: &[u8],
-        text: &mut Vec<u8>,
-    ) -> Result<(), AllocError>
-        ensures { OnOk result (text.new.items ≡ text.old.items ++ flat_map (λ path. front.now ++ path ++ 10 ∷ []) self.now) }
+    /// Writes a line for each of them, with the same front. Nothing is allocated.
+    pub fn write_lines<W: ByteOut>(&self, front: &[u8], out: &mut W) -> Result<(), Broken>
+        requires { W.has_failed out.old ≡ false }
+        ensures writes { Writes (W.held out.old) (W.held out.new) result (flat_map (λ path. front.now ++ path ++ 10 ∷ []) self.now) }
+        ensures failed { W.has_failed out.new ≡ is_err result }
     {
-        for spot in &self.spots(alloc)? {
-            add_line(front, spot, text)?;
+        for spot in self.spots() {
+            spot.write_line(front, out)?;
         }
         Ok(())
     }
@@ -121,24 +123,4 @@ impl Clone for Missing {
     fn clone(&self) -> Result<Missing, AllocError> {
         Missing::first(&self.target, self.count)
     }
-}
-
-/// Adds the path of a .do file between a front and a newline.
-fn add_line(front: &[u8], spot: &Spot<'_>, text: &mut Vec<u8>) -> Result<(), AllocError>
-    ensures { OnOk result (text.new.items ≡ text.old.items ++ front.now ++ spot.now.do_file ++ 10 ∷ []) }
-{
-    text.extend_from_slice(front)?;
-    spot.spell(text)?;
-    text.extend_from_slice(b"\n")
-}
-
-/// The .do files of candidates.
-pub(crate) fn do_files(alloc: Global, list: &[Spot<'_>]) -> Result<Vec<Path>, AllocError>
-    ensures { IfOk result (λ paths. paths.items ≡ map (λ place. place.do_file) list.now) }
-{
-    let mut paths = Vec::with_capacity(alloc, list.len())?;
-    for spot in list {
-        paths.push(spot.do_file(alloc)?)?;
-    }
-    Ok(paths)
 }

@@ -1,14 +1,17 @@
 //! A candidate in pieces of its target's text, so that no path is made of one that is no file.
 
-ghost use Rattle.std.specs.Prelude.{◌≡◌, ◌++◌, ◌∷◌, ◌≤◌, [], IfOk, IfSome, OnOk, codes, length, map, nat_le, option_copied, ◌&&◌};
+ghost use Rattle.std.specs.Prelude.{◌≡◌, ◌++◌, ◌∷◌, ◌≤◌, [], IfOk, IfSome, OnOk, codes, false, flat_map, is_err, length, map, nat_le, option_copied, true, ◌&&◌};
 ghost use Rattle.std.specs.Option.{option_to_list};
 ghost use Rattle.redo_path.specs.Names.{IsNameStart, IsPart, IsPath, child_of, name_of, names, parent_of};
 ghost use Rattle.redo_path.specs.Resolve.{resolved};
+ghost use Rattle.redo_tree.specs.Bundle.{Writes};
 ghost use Rattle.redo_which.specs.Candidates.{place_at};
+ghost use Rattle.redo_which.specs.Spots.{IsBySuffix};
 ghost use Rattle.redo_which.specs.Views.{place_of};
 
 use crate::Candidate;
 use redo_path::{Path, PathFault, resolve};
+use redo_tree::{Broken, ByteOut, write_all};
 use std::alloc::{AllocError, Global};
 use std::marker::Model;
 
@@ -62,6 +65,20 @@ impl<'a> Spot<'a> {
         })
     }
 
+    /// The text of the directory that it is in.
+    pub(crate) fn dir(&self) -> &'a [u8]
+        ensures { result.now ≡ self.now.dir }
+    {
+        self.dir
+    }
+
+    /// Whether it is a candidate by suffix.
+    pub(crate) fn is_default(&self) -> bool
+        ensures { result ≡ true → IsBySuffix self.now }
+    {
+        self.front == b"default".as_slice()
+    }
+
     /// Adds the text of the .do file's path to a text.
     pub(crate) fn spell(&self, text: &mut Vec<u8>) -> Result<(), AllocError>
         ensures path { IsPath self.now.do_file }
@@ -74,6 +91,23 @@ impl<'a> Spot<'a> {
         text.extend_from_slice(self.front)?;
         text.extend_from_slice(self.suffix)?;
         text.extend_from_slice(b".do")
+    }
+
+    /// Writes the text of the .do file's path between a front and a newline.
+    pub(crate) fn write_line<W: ByteOut>(&self, front: &[u8], out: &mut W) -> Result<(), Broken>
+        requires { W.has_failed out.old ≡ false }
+        ensures writes { Writes (W.held out.old) (W.held out.new) result (front.now ++ self.now.do_file ++ 10 ∷ []) }
+        ensures failed { W.has_failed out.new ≡ is_err result }
+    {
+        let slash = if self.dir.is_empty() {
+            b"".as_slice()
+        } else {
+            b"/".as_slice()
+        };
+        write_each(
+            &[front, self.dir, slash, self.front, self.suffix, b".do\n"],
+            out,
+        )
     }
 
     /// The path of the .do file.
@@ -94,6 +128,18 @@ impl<'a> Spot<'a> {
         let cut = self.cut;
         Ok(Candidate { do_file, dir, cut })
     }
+}
+
+/// Writes pieces of a text one after another.
+fn write_each<W: ByteOut>(pieces: &[&[u8]], out: &mut W) -> Result<(), Broken>
+    requires { W.has_failed out.old ≡ false }
+    ensures writes { Writes (W.held out.old) (W.held out.new) result (flat_map (λ piece. piece.now) pieces.now) }
+    ensures failed { W.has_failed out.new ≡ is_err result }
+{
+    for piece in pieces {
+        write_all(out, piece)?;
+    }
+    Ok(())
 }
 
 /// Whether the path of a .do file in a directory isn't too long.

@@ -1,9 +1,9 @@
 //! Candidates, searches and arguments, a table each.
 
 use crate::lookup::{candidates, find, search};
-use crate::{Found, Rule};
+use crate::{Found, Missing, Rule};
 use redo_path::{Path, PathFault, resolve};
-use redo_tree::Tree;
+use redo_tree::{Broken, Plain, Tree};
 use std::alloc::Global;
 use std::test::Fail;
 
@@ -198,8 +198,14 @@ fn the_first_that_holds_is_found(rt: HostRuntime) -> Result<(), Fail> {
 #[test]
 fn arguments_are_read_from_the_directory_of_the_script(rt: HostRuntime) -> Result<(), Fail> {
     let alloc = rt.alloc();
-    let files = ["d/default.x.do", "d/e/f.do", "default.c.do", "default.x.do"];
-    let tree = tree_of(alloc, &["a", "d", "d/e"], &files)?;
+    let files = [
+        "d/default.x.do",
+        "d/e/f.do",
+        "g/default.q.do",
+        "default.c.do",
+        "default.x.do",
+    ];
+    let tree = tree_of(alloc, &["a", "d", "d/e", "g"], &files)?;
     for (word, meant) in [
         (
             "a/x.y.c",
@@ -210,6 +216,10 @@ fn arguments_are_read_from_the_directory_of_the_script(rt: HostRuntime) -> Resul
             "rule d/default.x.do:d:q.x:q:q.x.redo.tmp: d/q.x.do ",
         ),
         ("d/e/f", "rule d/e/f.do:d/e:f:f:f.redo.tmp: "),
+        (
+            "g/x.c",
+            "rule default.c.do::g/x.c:g/x:g/x.c.redo.tmp: g/x.c.do g/default.c.do g/default.do ",
+        ),
         (
             "d/e/q.x",
             "rule d/default.x.do:d:e/q.x:e/q:e/q.x.redo.tmp: d/e/q.x.do d/e/default.x.do d/e/default.do ",
@@ -226,6 +236,36 @@ fn arguments_are_read_from_the_directory_of_the_script(rt: HostRuntime) -> Resul
     ] {
         let text = found_text(alloc, &tree, word.as_bytes())?;
         assert_eq!(rt; text.as_slice(), meant.as_bytes(), "{word}");
+    }
+    Ok(())
+}
+
+/// The lines of what is missing for a target that has no rule.
+const LINES: &[u8] =
+    b"no a/x.c.do\nno a/default.c.do\nno a/default.do\nno default.c.do\nno default.do\n";
+
+/// What a writer with so much room holds of the lines, and whether it failed.
+fn written(alloc: Global, missing: &Missing, size: usize) -> Result<(Vec<u8>, bool), Fail> {
+    let mut room = Vec::new(alloc);
+    room.resize(size, 0)?;
+    let mut writer = Plain::new(room.as_mut_slice());
+    let outcome = missing.write_lines(b"no ", &mut writer);
+    let told = outcome.err() == Some(Broken);
+    Ok((room, told))
+}
+
+#[test]
+fn lines_are_written_up_to_the_end_of_the_room(rt: HostRuntime) -> Result<(), Fail> {
+    let alloc = rt.alloc();
+    let tree = tree_of(alloc, &["a"], &[])?;
+    let target = path(alloc, b"a/x.c")?;
+    let Found::NoRule { missing } = find(alloc, &tree, &target)? else {
+        return Err(Fail::from("a rule was found"));
+    };
+    for size in 0..=LINES.len() {
+        let (text, told) = written(alloc, &missing, size)?;
+        assert_eq!(rt; text.as_slice(), &LINES[..size], "room for {size} bytes");
+        assert_eq!(rt; told, size < LINES.len(), "room for {size} bytes");
     }
     Ok(())
 }

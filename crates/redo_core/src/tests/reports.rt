@@ -1,10 +1,10 @@
 //! The text of reports.
 
 use crate::report::{Report, Row};
-use crate::report_text::report_text;
+use crate::report_text::{report_text, write_report};
 use redo_path::{Path, resolve};
 use redo_step::{Dep, DepKind, Deps, Outcome, Record, Why};
-use redo_tree::{Content, Tree};
+use redo_tree::{Content, Plain, Tree};
 use redo_which::{Found, lookup};
 use std::alloc::Global;
 use std::sync::Arc;
@@ -84,6 +84,21 @@ fn says_what_was_built(rt: HostRuntime) -> Result<(), Fail> {
     for (rule, with_files, text) in TEXTS {
         let written = report_text(alloc, &report, with_files)?;
         assert_eq!(rt; written.as_slice(), text, "{rule}");
+    }
+    Ok(())
+}
+
+#[test]
+fn a_device_that_is_full_holds_a_beginning(rt: HostRuntime) -> Result<(), Fail> {
+    let alloc = rt.alloc();
+    let report = report(alloc)?;
+    let (_, with_files, text) = TEXTS[0];
+    for size in 0..=text.len() {
+        let mut device = vec![in alloc; 0u8; size]?;
+        let mut out = Plain::new(device.as_mut_slice());
+        let is_told = write_report(&mut out, &report, with_files).is_err();
+        assert_eq!(rt; is_told, size < text.len());
+        assert_eq!(rt; device.as_slice(), &text[..size]);
     }
     Ok(())
 }

@@ -143,3 +143,21 @@ fn a_writer_may_fail_at_any_call(rt: HostRuntime) -> Result<(), Fail> {
     }
     Ok(())
 }
+
+/// With each allocation refused in turn, by `rt try --test --fail-alloc N`.
+#[test]
+fn a_refusal_of_memory_leaves_nothing(rt: HostRuntime) -> Result<(), Fail> {
+    let alloc = rt.alloc();
+    let options = options(alloc, &[b"hello"], 1, 1, 3)?;
+    let mut room = [0u8; 100];
+    let mut reader = make_drops(usize::MAX);
+    let mut writer = Plain::new(room.as_mut_slice());
+    let outcome = run_bundle(&rt, alloc, &mut reader, &mut writer, &options, &NoGate);
+    if outcome == Err(RunIoFault::Memory) {
+        assert_eq!(rt; writer.stream.len(), 100);
+    } else {
+        assert_eq!(rt; outcome, GOOD);
+        assert_eq!(rt; writer.stream.len(), 100 - HELLO_REPORT.len());
+    }
+    Ok(())
+}

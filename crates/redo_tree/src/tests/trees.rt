@@ -66,6 +66,61 @@ fn a_file_is_found_by_the_text_of_its_path(rt: HostRuntime) -> Result<(), Fail> 
     Ok(())
 }
 
+#[test]
+fn a_kind_is_found_by_the_text_of_a_path(rt: HostRuntime) -> Result<(), Fail> {
+    let tree = small_tree(rt.alloc())?;
+    for (text, kind) in [
+        ("", Kind::Dir),
+        ("a", Kind::File),
+        ("d", Kind::Dir),
+        ("d/f", Kind::File),
+        ("d/", Kind::Nothing),
+        ("x", Kind::Nothing),
+    ] {
+        assert_eq!(rt; tree.kind_by_text(text.as_bytes()), kind, "{text}");
+    }
+    Ok(())
+}
+
+/// The small tree, a directory `default.d.do`, and files whose names are near to `default.do`.
+fn tree_of_defaults(alloc: Global, files: &[&str]) -> Result<Tree, Fail> {
+    let mut tree = small_tree(alloc)?;
+    for word in ["e", "e/f", "e/default.d.do"] {
+        let dir = path(alloc, word)?;
+        tree.add_dir(&dir)?;
+    }
+    for word in files {
+        let file = path(alloc, word)?;
+        tree.add_file(&file, Vec::new(alloc))?;
+    }
+    Ok(tree)
+}
+
+#[test]
+fn directories_with_default_files_are_told(rt: HostRuntime) -> Result<(), Fail> {
+    for (file, top, outer, inner) in [
+        ("default.do", true, false, false),
+        ("e/default.do", false, true, false),
+        ("e/default.x.y.do", false, true, false),
+        ("e/f/default.x.do", false, false, true),
+        ("e/f/default.do", false, false, true),
+        ("e/defaults.txt", false, false, false),
+        ("e/xdefault.do", false, false, false),
+        ("e/x.do", false, false, false),
+        ("e/default", false, false, false),
+        ("e/defaul.do", false, false, false),
+        ("e/default.d.do/x", false, false, false),
+    ] {
+        let tree = tree_of_defaults(rt.alloc(), &[file])?;
+        assert_eq!(rt; tree.holds_defaults(b""), top, "{file}");
+        assert_eq!(rt; tree.holds_defaults(b"e"), outer, "{file}");
+        assert_eq!(rt; tree.holds_defaults(b"e/f"), inner, "{file}");
+        assert!(rt; !tree.holds_defaults(b"d"), "{file}");
+        assert!(rt; !tree.holds_defaults(b"e/"), "{file}");
+    }
+    Ok(())
+}
+
 /// What the small tree says of a directory and of a file at a path, and whether it is then as it was.
 fn refusals(
     alloc: Global,

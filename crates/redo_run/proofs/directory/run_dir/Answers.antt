@@ -1,4 +1,4 @@
-use Rattle.std.proofs.Common.{◌≡◌, ℕ, List, sym, ap, subst, ◌∙◌}
+use Rattle.std.proofs.Common.{ℕ, List, refl, sym, ap, subst, ◌∙◌}
 use Rattle.redo_core.specs.Build.{rules_of}
 use Rattle.redo_core.specs.Reports.{IsReport}
 use Rattle.redo_run.specs.Exits.{IsExit}
@@ -16,4 +16,4 @@ returns-clause-report g c =
     let exit = subst X c.deref-3.ensures.value (c.in_ok-exit.ensures rules limits.0 (subst E (sym c.deref-3.ensures.value) is)) in
     reports_tree c.args.options.now c.in_ok-tree.tree c.in_ok-request.request.items
     (c.in_ok-request.ensures ∙ ap request_of c.deref.ensures.value) _ _ c.in_ok-report.report _ c.in_ok-exit.exit
-    is (c.deref-5.ensures.value ∙ c.in_ok-text.ensures) c.in_ok-write_all.ensures.writes exit
+    is refl c.in_ok-write_report.ensures.writes exit

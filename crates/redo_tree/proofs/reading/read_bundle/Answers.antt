@@ -1,11 +1,17 @@
-use Rattle.std.proofs.Common.{arith, inr, Ok, sym, subst, IfSome}
+use Rattle.std.proofs.Common.{rules, arith, inr, Ok, sym, subst, IfSome}
 use Rattle.std.proofs.lemmas.Grind.{common_steps}
 use Rattle.std.proofs.lemmas.Result.{err_from_is_err_and}
 use Rattle.redo_tree.specs.Bundle.{Reads}
 use Rattle.redo_tree.proofs.Once.{reads_each}
-use Rattle.redo_tree.proofs.Turns.{Reached-next, Reached-long, nothing_held, reads_all, reads_fault}
+use Rattle.redo_tree.proofs.Turns.{Reached-first, Reached-next, Reached-long, nothing_held, reads_all, reads_fault}
 use Rattle.redo_tree.proofs.Small.{reached_small}
 use Rattle.redo_tree.proofs.reading.read_bundle.Goals as goal
+
+pub loop-number-init : goal.loop-number-init
+loop-number-init g c = record {
+  works = search rules;
+  reached = Reached-first _ c.in_ok-held.held c.in_ok-tree.tree (search rules) (search rules);
+}
 
 pub returns-in_err-read_next-clause-reads : goal.returns-in_err-read_next-clause-reads
 returns-in_err-read_next-clause-reads g c =

@@ -1,8 +1,8 @@
-use Rattle.std.proofs.Common.{◌≡◌, ◌++◌, drop, map}
+use Rattle.std.proofs.Common.{◌≡◌, ◌++◌, map}
 use Rattle.redo_which.specs.Candidates.{candidates_of}
 use Rattle.redo_which.specs.Views.{place_of}
 use Rattle.redo_which.proofs.lookup.candidates.Given as goal
 
 -- the candidates so far, with those that are left, are all
 abbrev pub invariant-loop-spot : goal.invariant-loop-spot
-invariant-loop-spot l = map place_of l.list.items ++ drop l.spot-index l.spot-items ≡ candidates_of l.target
+invariant-loop-spot l = map place_of l.list.items ++ l.spot-iterator ≡ candidates_of l.target

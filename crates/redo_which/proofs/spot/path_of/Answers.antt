@@ -1,7 +1,7 @@
 use Rattle.std.proofs.Common.{◌<◌, arith, length, subst}
 use Rattle.std.proofs.lemmas.Grind.{common_steps}
 use Rattle.redo_path.specs.Resolve.{Answers, resolved}
-use Rattle.redo_which.proofs.Spots.{path_itself}
+use Rattle.redo_which.proofs.Pieces.{path_itself}
 use Rattle.redo_which.proofs.spot.path_of.Goals as goal
 
 pub returns-in-Ok : goal.returns-in-Ok

@@ -1,8 +1,11 @@
 use Rattle.std.proofs.Common.{◌≡◌, ◌+◌, ◌∷◌, drop}
 use Rattle.std.proofs.lemmas.Result.{err_from_is_err_and}
 use Rattle.redo_step.specs.Scene.{scene_setting}
-use Rattle.redo_step.proofs.Rounds.{drop_split, catted_goes, catted_stops}
+use Rattle.redo_step.proofs.Rounds.{drop_split, catted_begins, catted_goes, catted_stops}
 use Rattle.redo_step.proofs.scene.Scene.cat.Goals as goal
+
+pub loop-text-init : goal.loop-text-init
+loop-text-init g c = catted_begins (scene_setting c.args.self.now) _ _ _ c.args.texts.now c.args.sink.now
 
 pub returns-in_err-cat_one : goal.returns-in_err-cat_one
 returns-in_err-cat_one g c =

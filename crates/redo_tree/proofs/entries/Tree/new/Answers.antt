@@ -9,4 +9,5 @@ use Rattle.redo_tree.proofs.entries.Tree.new.Goals as goal
 pub invariant_of-result : goal.invariant_of-result
 invariant_of-result c =
     let only : c.insert.new.self.entries ≡ ([], Directory) ∷ [] = c.in_ok-insert.ensures.entries ∙ (λ i. insert_entry (pointwise nat_eq) (c.new-entries.ensures.empty i) (c.root.ensures i) Directory) in
-    subst IsKept (sym only) IsKept-top
+    let none = c.new.ensures.empty in
+    subst (λ es. IsKept es c.new.result.keys) (sym only) (subst (IsKept (([], Directory) ∷ [])) (sym none) IsKept-top)

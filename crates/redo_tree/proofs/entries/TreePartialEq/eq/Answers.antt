@@ -4,4 +4,4 @@ use Rattle.redo_tree.proofs.Kept.{kept_alike}
 use Rattle.redo_tree.proofs.entries.TreePartialEq.eq.Goals as goal
 
 pub returns : goal.returns
-returns c = c.eq.ensures ∙ kept_alike c.self.inside.entries c.other.inside.entries c.self.invariant c.other.invariant ∙ (λ i. tree_eq (c.self.view_is i) (c.other.view_is i))
+returns c = c.eq.ensures ∙ kept_alike c.self.inside.entries c.other.inside.entries c.self.inside.defaults.keys c.other.inside.defaults.keys c.self.invariant c.other.invariant ∙ (λ i. tree_eq (c.self.view_is i) (c.other.view_is i))

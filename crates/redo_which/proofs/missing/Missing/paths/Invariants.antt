@@ -1,0 +1,7 @@
+use Rattle.std.proofs.Common.{◌≡◌, ◌++◌, map, take}
+use Rattle.std.specs.Iterator.Adapters.{take_count, take_source}
+use Rattle.redo_which.proofs.missing.Missing.paths.Given as goal
+
+-- the paths so far, with those that are left, are all
+abbrev pub invariant-loop-spot : goal.invariant-loop-spot
+invariant-loop-spot l = l.paths.items ++ map (λ p. p.do_file) (take (take_count l.spot-iterator) (take_source l.spot-iterator)) ≡ l.self

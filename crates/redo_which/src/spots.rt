@@ -1,0 +1,197 @@
+//! The candidates of a target one after another, without a list of them.
+
+ghost use Rattle.std.specs.Prelude.{◌≡◌, ◌≤◌, ◌^◌, ◌∷◌, ◌++◌, [], codes, flat_map, length, nat_eq, if◌then◌else◌};
+ghost use Rattle.std.specs.List.{ends_with};
+ghost use Rattle.std.specs.Iterator.{YieldsFirst, YieldsFirstBy, item_count};
+ghost use Rattle.std.specs.Option.{option_to_list};
+ghost use Rattle.std.specs.Str.{bytes_eq};
+ghost use Rattle.redo_path.specs.Names.{IsPart, IsPath};
+ghost use Rattle.redo_which.specs.Candidates.{candidates_of, suffixes};
+ghost use Rattle.redo_which.specs.Missing.{IsTarget};
+ghost use Rattle.redo_which.specs.Stems.{IsFirstDot, IsNext, shorter, stems_above, stems_by, stems_left};
+ghost use Rattle.redo_which.specs.Distinct.{distinct_places, without_whole};
+
+use crate::spot::{Spot, upper};
+use redo_path::Path;
+use std::marker::Model;
+
+/// The candidates of a target that are still to come, in the order of the search. In a contract it
+/// is the list of their places.
+#[derive(Drop)]
+pub(crate) struct Spots<'a> {
+    stems: Stems<'a>,
+}
+
+impl<'a> Model for Spots<'a> {
+    ghost use Rattle.std.specs.Prelude.{List, flat_map};
+    ghost use Rattle.redo_which.specs.Candidates.{Place};
+
+    ghost Value = { List Place };
+
+    ghost view = { λ s. flat_map (λ places. places) s.stems };
+}
+
+impl<'a> Spots<'a> {
+    /// The candidates of a target.
+    pub(crate) fn of(target: &'a Path) -> Spots<'a>
+        ensures spots { result ≡ candidates_of target.now }
+        ensures few { length result ≤ 2 ^ 20 }
+        ensures target { IsTarget target.now }
+    {
+        let name = target.name();
+        let next = match upper(target.text()) {
+            Some(dir) => first_stem(name, dir),
+            None => Next::Nothing,
+        };
+        Spots {
+            stems: Stems { name, next },
+        }
+    }
+}
+
+impl<'a> Iterator for Spots<'a> {
+    type Item = Spot<'a>;
+
+    ghost next_gives = { YieldsFirst (λ left. left) };
+
+    ghost remaining = { item_count (λ left. left) };
+
+    fn next(&mut self) -> Option<Spot<'a>> {
+        while let Some(spot) = self.stems.next() {
+            if spot.is_some() {
+                return spot;
+            }
+        }
+        None
+    }
+}
+
+/// The stems of the .do files that are looked for: for each its candidate, or none where the path is
+/// too long. In a contract it is the list of their places, each a list of one or none.
+#[derive(Drop)]
+struct Stems<'a> {
+    name: &'a [u8],
+    next: Next<'a>,
+}
+
+/// The stem that comes next.
+#[derive(Drop)]
+enum Next<'a> {
+    /// The whole name, in a directory.
+    Whole(&'a [u8]),
+    /// `default` and the first suffix of this end of the name, in a directory.
+    Suffix(&'a [u8], &'a [u8]),
+    /// None.
+    Nothing,
+}
+
+impl<'a> Model for Stems<'a> {
+    ghost use Rattle.std.specs.Prelude.{List};
+    ghost use Rattle.redo_which.specs.Candidates.{Place};
+    ghost use Rattle.redo_which.specs.Stems.{IsNext, stems_left};
+
+    ghost Value = { List (List Place) };
+
+    ghost view = { λ s. stems_left s.name.now s.next };
+
+    ghost invariant = { λ s. IsNext s.name.now s.next };
+}
+
+impl<'a> Iterator for Stems<'a> {
+    type Item = Option<Spot<'a>>;
+
+    ghost next_gives = { YieldsFirstBy option_to_list (λ left. left) };
+
+    ghost remaining = { item_count (λ left. left) };
+
+    fn next(&mut self) -> Option<Option<Spot<'a>>> {
+        match self.next {
+            Next::Whole(dir) => {
+                self.next = behind_whole(self.name, dir);
+                Some(Spot::new(dir, b"", self.name, 0))
+            }
+            Next::Suffix(dir, end) => {
+                let suffix = first_suffix(end);
+                self.next = behind(self.name, dir, suffix);
+                Some(Spot::new(dir, b"default", suffix, suffix.len()))
+            }
+            Next::Nothing => None,
+        }
+    }
+}
+
+/// What comes first in a target's directory.
+fn first_stem<'a>(name: &'a [u8], dir: &'a [u8]) -> Next<'a>
+    requires path { IsPath dir.now }
+    requires part { IsPart name.now }
+    ensures left { flat_map (λ places. places) (stems_left name.now result) ≡ if ends_with nat_eq name.now (codes ".do") then [] else distinct_places dir.now name.now }
+    ensures next { IsNext name.now result }
+{
+    if name.ends_with(b".do") {
+        Next::Nothing
+    } else {
+        Next::Whole(dir)
+    }
+}
+
+/// What comes behind the whole name: the suffixes, but not the longest where the candidate by it is
+/// the one by the whole name.
+fn behind_whole<'a>(name: &'a [u8], dir: &'a [u8]) -> Next<'a>
+    requires path { IsPath dir.now }
+    requires part { IsPart name.now }
+    ensures left { stems_left name.now result ≡ stems_by (without_whole name.now (suffixes name.now)) dir.now ++ stems_above name.now dir.now }
+    ensures next { IsNext name.now result }
+{
+    let longest = first_suffix(name);
+    if is_default(name, longest) {
+        behind(name, dir, longest)
+    } else {
+        Next::Suffix(dir, name)
+    }
+}
+
+/// What comes behind a suffix: the shorter ones, and then those in the directory above.
+fn behind<'a>(name: &'a [u8], dir: &'a [u8], suffix: &'a [u8]) -> Next<'a>
+    requires path { IsPath dir.now }
+    requires name { IsPart name.now }
+    requires suffix { IsPart suffix.now }
+    ensures left { stems_left name.now result ≡ stems_by (shorter suffix.now) dir.now ++ stems_above name.now dir.now }
+    ensures next { IsNext name.now result }
+{
+    if !suffix.is_empty() {
+        return Next::Suffix(dir, &suffix[1..]);
+    }
+    match upper(dir) {
+        Some(parent) => Next::Suffix(parent, name),
+        None => Next::Nothing,
+    }
+}
+
+/// The longest suffix of a text.
+fn first_suffix(text: &[u8]) -> &[u8]
+    requires { IsPart text.now }
+    ensures first { suffixes text.now ≡ result.now ∷ shorter result.now }
+    ensures part { IsPart result.now }
+{
+    &text[first_dot(text)..]
+}
+
+/// Where the first dot of a text is, or its end.
+fn first_dot(text: &[u8]) -> usize
+    ensures { IsFirstDot text.now result }
+{
+    match text.iter().position(|byte| *byte == b'.') {
+        Some(dot) => dot,
+        None => text.len(),
+    }
+}
+
+/// Whether a name is `default` and this suffix.
+fn is_default(name: &[u8], suffix: &[u8]) -> bool
+    ensures { result ≡ bytes_eq name.now (codes "default" ++ suffix.now) }
+{
+    match name.strip_prefix(b"default") {
+        Some(rest) => rest == suffix,
+        None => false,
+    }
+}
