@@ -1,6 +1,6 @@
 -- What a run over a bundle tells of the text that it read.
-use Rattle.std.proofs.Common.{◌≡◌, ◌∙◌, [], ◌∷◌, length, List, ℕ, Option, Some, None, true, false, sym, subst, refl}
-use Rattle.std.specs.Prelude.{IfSome, Err}
+use Rattle.std.proofs.Common.{rules, ◌≡◌, ◌↔◌, ◌∙◌, [], ◌∷◌, length, List, ℕ, Bool, Option, Some, None, IsTrue, is_some, option_map, true, false, sym, subst, refl}
+use Rattle.std.specs.Prelude.{IfSome, IsSome, Err}
 use Rattle.std.specs.Io.KnownBytes.{Appends}
 use Rattle.redo_core.specs.Build.{rules_of}
 use Rattle.redo_core.specs.Outcomes.{IsTooMany}
@@ -17,7 +17,12 @@ use Rattle.redo_run.specs.declared.run_fault.RunFault.TheVariants as build
 use Rattle.redo_run.specs.Exits.{IsExit}
 use Rattle.redo_run.specs.Directories.{ReportsTree}
 use Rattle.redo_run.specs.Faults.{of_build}
-use Rattle.redo_run.specs.Runs.{Explains, Reports, request_in, request_of}
+use Rattle.redo_run.specs.Runs.{Explains, ExplainsList, Lists, Reports, request_in, request_of}
+use Rattle.redo_run.specs.Candidates.{candidate_text, search_text}
+use Rattle.redo_which.specs.Candidates.{Place}
+use Rattle.redo_which.specs.Rule.{chosen_of, missing_of}
+use Rattle.redo_which.specs.Views.{place_of}
+use Rattle.redo_which.specs.declared.Search.{Search}
 
 -- targets that are named are the request
 pub named_targets : (targets : List (List ℕ)) → (length targets ≡ 0 → ⊥) → request_of targets ≡ targets
@@ -80,4 +85,33 @@ module _ (options : Options) (tree : Tree) (request : List (List ℕ)) (named : 
     is = moved (λ ps. IsReport (rules_of tree options.limits) ps options.limits.0 report) is;
     written = subst (Appends old new) made h;
     good = moved (λ ps. IsExit (rules_of tree options.limits) options.limits.0 ps exit) good;
+  }
+
+-- what a search looked at is the list of the target's candidates
+pub listed : (tree : Tree) (target : List ℕ) (found : Search) → found.missing.items ≡ missing_of tree target →
+    option_map place_of found.chosen ≡ chosen_of tree target → search_text found ≡ candidate_text tree target
+listed tree target found missing chosen = rw (missing, chosen) refl
+
+found_some : {A B : Type 0} (f : A → B) (o : Option A) (p : Option B) (r : Bool) → option_map f o ≡ p → r ≡ is_some o → IsTrue r ↔ IsSome p
+found_some f None p r e i = rw (← e, i) (search rules)
+found_some f (Some x) p r e i = rw (← e, i) (search rules)
+
+module _ (tree : Tree) (target : List ℕ) where
+  -- a writer that fails in the list took a beginning of it
+  pub explains_list : (A : Type 0) {E : Type 0} (f : E) (left old new : Option (List ℕ)) (written : List ℕ) →
+      IfSome left (λ text. IsBundle text tree) → written ≡ candidate_text tree target → Writes {E = E} old new (Err f) written →
+      IfSome left (λ text. ExplainsList {A = A} target text old new (Err run.Device))
+  explains_list A f None old new written bundle made h = tt
+  explains_list A f (Some text) old new written bundle made h = (tree, bundle, h.0, h.1, sym made ∙ h.2, h.3)
+
+  -- the whole list was written
+  pub lists : {A : Type 0} (f : A → Place) (o : Option A) (left old new : Option (List ℕ)) (written : List ℕ) (found : Bool) →
+      IfSome left (λ text. IsBundle text tree) → written ≡ candidate_text tree target → Appends old new written →
+      option_map f o ≡ chosen_of tree target → found ≡ is_some o → IfSome left (λ text. Lists target text old new found)
+  lists f o None old new written found bundle made h chosen is = tt
+  lists f o (Some text) old new written found bundle made h chosen is = record {
+    tree = tree;
+    bundle = bundle;
+    written = subst (Appends old new) made h;
+    chosen = found_some f o _ found chosen is;
   }
