@@ -21,6 +21,8 @@ use Rattle.redo_core.specs.Turns.{IsFact, IsPiece, progress_at_turn}
 use Rattle.redo_core.specs.Works.{IsWorkWith, IsJobOf, IsStopped, AreKnownBelow, job_deps, told_in}
 use Rattle.redo_core.specs.Lacking.{lacking_under}
 use Rattle.redo_core.specs.Ends.{IsEndAt, end_progress}
+use Rattle.std.specs.Arc.{arc_value}
+use Rattle.std.specs.declared.sync.Arc.{Arc}
 use Rattle.redo_core.specs.Views.{FactView}
 use Rattle.redo_core.specs.declared.work.End.{End}
 use Rattle.redo_core.specs.declared.work.End.TheVariants.{Ended, Stopped}
@@ -151,17 +153,19 @@ module _ (tree : Tree) (limits : ℕ × ℕ) (job : JobView) (facts : Facts) (wo
     asks-progress begun is = rw is (work-progress (record { outcome = None; deps = record_so_far later }) asks.progress)
 
   -- a fact of what it came to is the end of a piece that ended
-  pub ended-end : (done : Done) → EndsAs (told_in facts) job done → (fact : FactView) → fact.tree ≡ tree → fact.limits ≡ limits → fact.target ≡ job.target →
-      fact.outcome ≡ done.outcome → fact.deps ≡ done.deps → IsEndAt tree limits job.target job.turn (Ended fact)
+  pub ended-end : (done : Done) → EndsAs (told_in facts) job done → (fact : Arc FactView Global) → (arc_value {X = FactView} fact).tree ≡ tree → (arc_value {X = FactView} fact).limits ≡ limits →
+      (arc_value {X = FactView} fact).target ≡ job.target → (arc_value {X = FactView} fact).outcome ≡ done.outcome → (arc_value {X = FactView} fact).deps ≡ done.deps →
+      IsEndAt tree limits job.target job.turn (Ended fact)
   ended-end done ends fact of_tree of_limits of_target outcome deps = record {
-    is_piece = advanced-piece (record { outcome = Some fact.outcome; deps = fact.deps }) (ends ∙ rw (outcome, deps) refl);
+    is_piece = advanced-piece (record { outcome = Some (arc_value {X = FactView} fact).outcome; deps = (arc_value {X = FactView} fact).deps }) (ends ∙ rw (outcome, deps) refl);
     is_end = (of_tree, of_limits, of_target);
   }
 
   -- what an end says is how far the target comes with what the work holds
-  pub ended-progress : (done : Done) → EndsAs (told_in facts) job done → (fact : FactView) → fact.outcome ≡ done.outcome → fact.deps ≡ done.deps →
-      end_progress (Ended fact) ≡ (rules_of tree limits).progress job.target (told_in facts)
-  ended-progress done ends fact outcome deps = work-progress (record { outcome = Some fact.outcome; deps = fact.deps }) (ends ∙ rw (outcome, deps) refl)
+  pub ended-progress : (done : Done) → EndsAs (told_in facts) job done → (fact : Arc FactView Global) → (arc_value {X = FactView} fact).outcome ≡ done.outcome →
+      (arc_value {X = FactView} fact).deps ≡ done.deps → end_progress (Ended fact) ≡ (rules_of tree limits).progress job.target (told_in facts)
+  ended-progress done ends fact outcome deps =
+      work-progress (record { outcome = Some (arc_value {X = FactView} fact).outcome; deps = (arc_value {X = FactView} fact).deps }) (ends ∙ rw (outcome, deps) refl)
 
   -- the same, of a fact that is still to be made
   pub fact-parts : (done : Done) → EndsAs (told_in facts) job done → (own : Tree) (path : List ℕ) (deps : List Dep) → own ≡ tree → path ≡ job.target → deps ≡ done.deps →

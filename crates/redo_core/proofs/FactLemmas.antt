@@ -38,12 +38,6 @@ pub lookup-append : (f : List ℕ → Bool) (ks ms : List (List ℕ × Outcome))
 lookup-append f [] ms = refl
 lookup-append f (k ∷ ks) ms = elim (cases_Bool (f k.0)) [ inl t ↦ rw t refl | inr n ↦ rw n (lookup-append f ks ms) ]
 
--- a fact that was put behind the first few
-pub lookup-push : (f : List ℕ → Bool) (ks ms : List (List ℕ × Outcome)) (e : List ℕ × Outcome) →
-    lookup f ((ks ++ e ∷ []) ++ ms) ≡ first_of (lookup f ks) (cond (f e.0) (Some e.1) (lookup f ms))
-lookup-push f [] ms e = refl
-lookup-push f (k ∷ ks) ms e = elim (cases_Bool (f k.0)) [ inl t ↦ rw t refl | inr n ↦ rw n (lookup-push f ks ms e) ]
-
 pub map-push : (fs : List (Arc FactView Global)) (fact : Arc FactView Global) → few_known (fs ++ fact ∷ []) ≡ few_known fs ++ ((arc_value {X = FactView} fact).target, (arc_value {X = FactView} fact).outcome) ∷ []
 map-push [] fact = refl
 map-push (f ∷ fs) fact = ap (λ es. ((arc_value {X = FactView} f).target, (arc_value {X = FactView} f).outcome) ∷ es) (map-push fs fact)
@@ -63,13 +57,13 @@ drop-item (x ∷ xs) zero d h = refl
 drop-item (x ∷ xs) (suc i) d h = let e : suc i + 1 ≡ suc (i + 1) = omega arith in rw e (drop-item xs i d (omega arith))
 
 -- of the facts that are left, the first answers for its target
-pub left-answers : (fs : List (Arc FactView Global)) (i : ℕ) (x : Arc FactView Global) (ms : List (List ℕ × Outcome)) (p : List ℕ) → i < length fs → x ≡ slice_index_or fs i x →
-    lookup (bytes_eq p) (few_known (drop i fs) ++ ms) ≡
-    cond (bytes_eq (arc_value {X = FactView} x).target p) (Some (arc_value {X = FactView} x).outcome) (lookup (bytes_eq p) (few_known (drop (i + 1) fs) ++ ms))
-left-answers fs i x ms p below is =
+pub left-answers : (fs : List (Arc FactView Global)) (i : ℕ) (x : Arc FactView Global) (p : List ℕ) → i < length fs → x ≡ slice_index_or fs i x →
+    lookup (bytes_eq p) (few_known (drop i fs)) ≡
+    cond (bytes_eq (arc_value {X = FactView} x).target p) (Some (arc_value {X = FactView} x).outcome) (lookup (bytes_eq p) (few_known (drop (i + 1) fs)))
+left-answers fs i x p below is =
     let target = (arc_value {X = FactView} x).target in
-    let rest = lookup (bytes_eq p) (few_known (drop (i + 1) fs) ++ ms) in
-    ap (λ xs. lookup (bytes_eq p) (few_known xs ++ ms)) (drop-item fs i x below ∙ ap (λ y. y ∷ drop (i + 1) fs) (sym is)) ∙
+    let rest = lookup (bytes_eq p) (few_known (drop (i + 1) fs)) in
+    ap (λ xs. lookup (bytes_eq p) (few_known xs)) (drop-item fs i x below ∙ ap (λ y. y ∷ drop (i + 1) fs) (sym is)) ∙
     ap (λ b. cond b (Some (arc_value {X = FactView} x).outcome) rest) (either-way target p)
 
 pub none-left : (fs : List (Arc FactView Global)) (i : ℕ) → length fs ≤ i → drop i fs ≡ []

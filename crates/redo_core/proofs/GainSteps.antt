@@ -1,8 +1,9 @@
 -- Facts that are taken over from the table.
-use Rattle.std.proofs.Common.{◌≡◌, ℕ, ◌+◌, List, Some, None, true, cond, inl, inr, slice_get, refl, sym, ap, subst, ◌∙◌, arith, bytes_eq, Global, [], ◌∷◌, ◌++◌, Option}
+use Rattle.std.proofs.Common.{◌≡◌, ℕ, ◌+◌, List, Bool, Some, None, true, false, cond, inl, inr, slice_get, refl, sym, ap, subst, ◌∙◌, arith, bytes_eq, Global, [], ◌∷◌, ◌++◌, Option}
 use Rattle.std.specs.Arc.{arc_value}
 use Rattle.std.specs.Map.{lookup}
 use Rattle.std.specs.declared.sync.Arc.{Arc}
+use Rattle.std.proofs.lemmas.List.{append_assoc}
 use Rattle.std.proofs.lemmas.Bool.{cases_Bool, cases_lt}
 use Rattle.std.proofs.lemmas.Slice.Eq.{bytes_eq-Decides}
 use Rattle.redo_core.specs.Views.{FactView}
@@ -15,7 +16,7 @@ use Rattle.redo_core.specs.declared.table.Table.{Table}
 use Rattle.redo_core.specs.declared.table.Slot.{Slot}
 use Rattle.redo_core.specs.declared.table.Stage.{Stage}
 use Rattle.redo_core.specs.declared.table.Stage.TheVariants.{Waiting, Ready, Out, Decided}
-use Rattle.redo_core.proofs.FactLemmas.{insert-told, first_of, lookup-append, lookup-push, map-push, either-way}
+use Rattle.redo_core.proofs.FactLemmas.{insert-told, first_of, lookup-append, map-push, either-way}
 use Rattle.redo_core.proofs.Depth.{cases_Option}
 
 pub decided-fact : (stage : Stage) → is_stage_decided stage ≡ true → (fact : Arc FactView Global) × (stage ≡ Decided fact)
@@ -24,7 +25,7 @@ decided-fact (Ready w) h = cc
 decided-fact Out h = cc
 decided-fact (Decided f) h = (f, refl)
 
--- a fact that was put to the others, behind the first few
+-- a fact that was put to the others, behind some of them
 pub adds-fact : (fact : FactView) (old new : Facts) (ks ms : List (List ℕ × Outcome)) → new.gained ≡ old.gained →
     ((q : List ℕ) → told_in old q ≡ first_of (lookup (bytes_eq q) ks) (lookup (bytes_eq q) ms)) →
     ((q : List ℕ) → told_in new q ≡ first_of (lookup (bytes_eq q) ks) (cond (bytes_eq fact.target q) (Some fact.outcome) (lookup (bytes_eq q) ms))) →
@@ -57,6 +58,14 @@ adds-fact fact old new ks ms same was now = record {
       ];
 }
 
+first-alone : (a : Option Outcome) → first_of a None ≡ a
+first-alone None = refl
+first-alone (Some o) = refl
+
+put-first : (b : Bool) (o : Outcome) (x y : Option Outcome) → first_of (cond b (Some o) x) y ≡ cond b (Some o) (first_of x y)
+put-first true o x y = refl
+put-first false o x y = refl
+
 pub adds-few : (fact : Arc FactView Global) (old new : Facts) → new.gained ≡ old.gained → more_known new.more ≡ more_known old.more → new.few.items ≡ old.few.items ++ fact ∷ [] →
     AddsFact (arc_value fact) old new
 adds-few fact old new same more few =
@@ -65,19 +74,24 @@ adds-few fact old new same more few =
     let ks = few_known old.few.items in
     let ms = more_known old.more in
     let both = ap few_known few ∙ map-push old.few.items fact in
-    adds-fact (arc_value fact) old new ks ms same (λ q. lookup-append (bytes_eq q) ks ms)
-    (λ q. ap (λ xs. lookup (bytes_eq q) (xs ++ more_known new.more)) both ∙ ap (λ xs. lookup (bytes_eq q) ((ks ++ (key, outcome) ∷ []) ++ xs)) more ∙
-    lookup-push (bytes_eq q) ks ms (key, outcome) ∙ ap (λ b. first_of (lookup (bytes_eq q) ks) (cond b (Some outcome) (lookup (bytes_eq q) ms))) (either-way key q))
+    adds-fact (arc_value fact) old new (ms ++ ks) [] same
+    (λ q. sym (first-alone (lookup (bytes_eq q) (ms ++ ks))))
+    (λ q. ap (λ xs. lookup (bytes_eq q) (more_known new.more ++ xs)) both ∙ ap (λ xs. lookup (bytes_eq q) (xs ++ (ks ++ (key, outcome) ∷ []))) more ∙
+    ap (lookup (bytes_eq q)) (sym (append_assoc ms ks ((key, outcome) ∷ []))) ∙ lookup-append (bytes_eq q) (ms ++ ks) ((key, outcome) ∷ []) ∙
+    ap (λ b. first_of (lookup (bytes_eq q) (ms ++ ks)) (cond b (Some outcome) None)) (either-way key q))
 
 pub adds-more : (fact : Arc FactView Global) (old new : Facts) → new.gained ≡ old.gained → new.few ≡ old.few →
     ((q : List ℕ) → lookup (bytes_eq q) (more_known new.more) ≡ cond (bytes_eq (arc_value {X = FactView} fact).target q) (Some (arc_value {X = FactView} fact).outcome) (lookup (bytes_eq q) (more_known old.more))) →
     AddsFact (arc_value fact) old new
 adds-more fact old new same few more =
+    let key = (arc_value {X = FactView} fact).target in
+    let outcome = (arc_value {X = FactView} fact).outcome in
     let ks = few_known old.few.items in
     let ms = more_known old.more in
-    adds-fact (arc_value fact) old new ks ms same (λ q. lookup-append (bytes_eq q) ks ms)
-    (λ q. ap (λ (v : Vec (Arc FactView Global) Global). lookup (bytes_eq q) (few_known v.items ++ more_known new.more)) few ∙ lookup-append (bytes_eq q) ks (more_known new.more) ∙
-    ap (first_of (lookup (bytes_eq q) ks)) (more q))
+    adds-fact (arc_value fact) old new [] (ms ++ ks) same (λ q. refl)
+    (λ q. ap (λ (v : Vec (Arc FactView Global) Global). lookup (bytes_eq q) (more_known new.more ++ few_known v.items)) few ∙ lookup-append (bytes_eq q) (more_known new.more) ks ∙
+    ap (λ a. first_of a (lookup (bytes_eq q) ks)) (more q) ∙ put-first (bytes_eq key q) outcome (lookup (bytes_eq q) ms) (lookup (bytes_eq q) ks) ∙
+    ap (cond (bytes_eq key q) (Some outcome)) (sym (lookup-append (bytes_eq q) ms ks)))
 
 pub more-told : (fact : Arc FactView Global) (key : List ℕ) → key ≡ (arc_value {X = FactView} fact).target → (ms : List (List ℕ × Outcome)) (old new : List (List ℕ × Arc FactView Global)) →
     ms ≡ entries_known old → ((q : List ℕ) → lookup (bytes_eq q) new ≡ cond (bytes_eq key q) (Some fact) (lookup (bytes_eq q) old)) →

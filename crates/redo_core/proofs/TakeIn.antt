@@ -16,6 +16,8 @@ use Rattle.redo_core.specs.Schedule.{Entry, State, outcomes_of, paths_of, entry_
 use Rattle.redo_core.specs.Schedule.Event.{Hand_in}
 use Rattle.redo_core.specs.Standing.{decided_count}
 use Rattle.redo_core.specs.Turns.{CameTo, deps_at_turn}
+use Rattle.std.specs.Arc.{arc_value}
+use Rattle.std.specs.declared.sync.Arc.{Arc}
 use Rattle.redo_core.specs.Views.{FactView}
 use Rattle.redo_core.specs.Works.{job_deps, told_in, IsStopped}
 use Rattle.redo_core.specs.Ends.{end_progress}
@@ -190,22 +192,22 @@ module _ (tree : Tree) (limits : ℕ × ℕ) (t : Table) (at : ℕ) (end : End) 
   small = omega (arith, slice_get-below_some t.slots.items at may.slot may.there, may.table.within_limit, may.table.few)
 
   -- a script that ended asked for what is decided alone
-  module _ (fact : FactView) (ended : end ≡ Ended fact) (u : Table) (pending : List ℕ) (d : IsDecidedAt t u at fact pending) where
+  module _ (fact : Arc FactView Global) (ended : end ≡ Ended fact) (u : Table) (pending : List ℕ) (d : IsDecidedAt t u at (arc_value {X = FactView} fact) pending) where
     old-slot : d.old ≡ may.slot
     old-slot = let both : Some d.old ≡ Some may.slot = sym d.put_back.there ∙ may.there in cc
 
-    fact-now : record { outcome = Some fact.outcome; deps = fact.deps } ≡ advanced (rules_of tree limits) (table_entries (rules_of tree limits) limits.0 t) (slot_entry (rules_of tree limits) (outcome_at (rules_of tree limits) limits.0) (path_at t.targets.keys at) may.slot)
+    fact-now : record { outcome = Some (arc_value {X = FactView} fact).outcome; deps = (arc_value {X = FactView} fact).deps } ≡ advanced (rules_of tree limits) (table_entries (rules_of tree limits) limits.0 t) (slot_entry (rules_of tree limits) (outcome_at (rules_of tree limits) limits.0) (path_at t.targets.keys at) may.slot)
     fact-now = let P : End → Type 0 = λ x. end_progress x ≡ advanced r es e in subst P ended now-is
 
-    asked-seen : (q : List ℕ) → IsAmong (operands (rules_of tree limits) fact.deps) q → IsAmong (paths_of (table_entries (rules_of tree limits) limits.0 t)) q
+    asked-seen : (q : List ℕ) → IsAmong (operands (rules_of tree limits) (arc_value {X = FactView} fact).deps) q → IsAmong (paths_of (table_entries (rules_of tree limits) limits.0 t)) q
     asked-seen q m =
         let ask : Ask = only (operands r e.deps) (outcomes_of es) in
-        let outcome : (r.progress target ask).outcome ≡ Some fact.outcome = ap (λ (x : Progress). x.outcome) (sym fact-now) in
+        let outcome : (r.progress target ask).outcome ≡ Some (arc_value {X = FactView} fact).outcome = ap (λ (x : Progress). x.outcome) (sym fact-now) in
         let D : Progress → Type 0 = λ x. IsAmong (operands r x.deps) q in
         let asked = subst D fact-now m in
         elim (cases_Bool (is_among (operands r e.deps) q)) [
           | inl yes' ↦ sound.standing.closed target q e entry-there (is_among-true (operands r e.deps) q yes')
-          | inr no' ↦ absurd (lawful.answered target q ask fact.outcome outcome asked (rw no' refl))
+          | inr no' ↦ absurd (lawful.answered target q ask (arc_value {X = FactView} fact).outcome outcome asked (rw no' refl))
         ]
 
     decided-moved : table_entries (rules_of tree limits) limits.0 u ≡ moved
@@ -213,10 +215,10 @@ module _ (tree : Tree) (limits : ℕ × ℕ) (t : Table) (at : ℕ) (end : End) 
     decided-moved =
         let put-in = put-entries tree limits t u [] may.table keys_distinct at d.old d.new d.put_back in
         let turn : d.new.turn ≡ may.slot.turn = d.turn ∙ ap (λ (y : Slot). y.turn) old-slot in
-        let shows = decided-shows r (outcome_at r limits.0) fact target d.new.turn d.new.stage d.stage in
-        let M : ℕ → Entry = λ n. record { path = target; turn = n; deps = fact.deps; outcome = Some fact.outcome; is_out = false } in
+        let shows = decided-shows r (outcome_at r limits.0) (arc_value {X = FactView} fact) target d.new.turn d.new.stage d.stage in
+        let M : ℕ → Entry = λ n. record { path = target; turn = n; deps = (arc_value {X = FactView} fact).deps; outcome = Some (arc_value {X = FactView} fact).outcome; is_out = false } in
         let E : End → List Entry = λ x. put (entered r es (operands r (end_progress x).deps)) (moved_on e (end_progress x)) in
-        let seen = entered-seen r es (operands r fact.deps) asked-seen in
+        let seen = entered-seen r es (operands r (arc_value {X = FactView} fact).deps) asked-seen in
         put-in ∙ ap (put es) (shows ∙ ap M turn) ∙ sym (ap (λ xs. put xs (M may.slot.turn)) seen) ∙ ap E (sym ended)
 
     pub decided-put : IsPutBackThere tree limits t u at [] pending
@@ -226,14 +228,14 @@ module _ (tree : Tree) (limits : ℕ × ℕ) (t : Table) (at : ℕ) (end : End) 
         let len = ap length d.put_back.slots ∙ Rattle.std.proofs.Common.length-set t.slots.items at d.new in
         let K : List (List ℕ) → Type 0 = λ xs. (k : ℕ) (p : List ℕ) → slice_get t.targets.keys k ≡ Some p → slice_get xs k ≡ Some p in
         record {
-          table = decided-table tree limits t u [] may.table keys_distinct at fact pending d of_fact.0 of_fact.1 of_fact.2;
+          table = decided-table tree limits t u [] may.table keys_distinct at (arc_value {X = FactView} fact) pending d of_fact.0 of_fact.1 of_fact.2;
           entries = decided-moved ∙ sym after-entries;
           ready = d.put_back.rest.1;
           keys_kept = λ k p h. rw d.put_back.rest.0 h;
           within = λ k m.
               let L : List ℕ → Type 0 = λ xs. IsPlace xs k in
               omega (arith, len, may.table.watchers_below at k d.old d.put_back.there (subst L d.pending_is m));
-          watched = decided-watched tree limits t u [] may.table keys_distinct at fact pending d of_fact.0 of_fact.1 of_fact.2 may.watched;
+          watched = decided-watched tree limits t u [] may.table keys_distinct at (arc_value {X = FactView} fact) pending d of_fact.0 of_fact.1 of_fact.2 may.watched;
         }
 
   -- a script that stopped

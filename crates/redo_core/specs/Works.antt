@@ -38,7 +38,7 @@ more_known None = []
 more_known (Some more) = entries_known more.value.entries
 
 abbrev pub known_in : Facts → List (List ℕ × Outcome)
-known_in facts = few_known facts.few.items ++ more_known facts.more
+known_in facts = more_known facts.more ++ few_known facts.few.items
 
 abbrev pub told_in : Facts → Ask
 told_in facts = told_by (known_in facts)

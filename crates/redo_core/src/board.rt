@@ -222,7 +222,7 @@ impl Board {
         let stage = mem::replace(&mut slot.stage, Stage::Out);
         self.table.out += 1;
         match stage {
-            Stage::Ready(work) => Ok(work),
+            Stage::Ready(work) => Ok(work.numbered(at)),
             _ => unreachable!(),
         }
     }
@@ -241,7 +241,7 @@ impl Board {
         if let Some(stop) = self.stopped {
             return Err(HandFault::from(stop));
         }
-        let Some(at) = out_at(&self.table, piece.target(), piece.turn()) else {
+        let Some(at) = out_at(&self.table, piece.number(), piece.target(), piece.turn()) else {
             return Err(HandFault::Stranger(piece));
         };
         match take_in(

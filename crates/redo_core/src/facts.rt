@@ -1,7 +1,8 @@
 //! What is known of the paths that a script asked for.
-ghost use Rattle.std.specs.Prelude.{◌≡◌, [], OnOk};
+ghost use Rattle.std.specs.Prelude.{◌≡◌, [], OnOk, bytes_eq, option_copied};
 ghost use Rattle.std.specs.Arc.{arc_value};
-ghost use Rattle.redo_core.specs.Works.{told_in, known_in, AddsFact};
+ghost use Rattle.std.specs.Map.{lookup};
+ghost use Rattle.redo_core.specs.Works.{told_in, known_in, few_known, AddsFact};
 
 use crate::fact::Fact;
 use indexmap::IndexMap;
@@ -64,23 +65,30 @@ impl Facts {
     }
 }
 
+/// What some facts tell of a path.
+fn told_of<'a>(facts: &'a [Arc<Fact>], path: &Path) -> Option<&'a Outcome>
+    ensures { option_copied result ≡ lookup (bytes_eq path.now) (few_known facts.now) }
+{
+    for fact in facts {
+        if fact.target() == path {
+            return Some(fact.outcome());
+        }
+    }
+    None
+}
+
 impl Answers for Facts {
     ghost use Rattle.redo_core.specs.Works.{told_in};
 
     ghost ask = { told_in };
 
     fn answer(&self, path: &Path) -> Option<&Outcome> {
-        for fact in &self.few {
-            if fact.target() == path {
-                return Some(fact.outcome());
-            }
-        }
         match &self.more {
             Some(more) => match more.get(path) {
                 Some(fact) => Some(fact.outcome()),
-                None => None,
+                None => told_of(&self.few, path),
             },
-            None => None,
+            None => told_of(&self.few, path),
         }
     }
 }

@@ -98,7 +98,7 @@ fn put_back(
     ensures too_many { result ≡ Err Stop.TooMany → limits.0 < length (state_after (arc_value tree.now) limits table.old at).entries }
 {
     match end {
-        End::Ended(fact) => Ok(decide(table, alloc, at, fact)?),
+        End::Ended(fact) => Ok(decide(table, alloc, at, fact)),
         End::Stopped(begun) => {
             let mut pending = Vec::new(alloc);
             pending.push(at as u32)?;

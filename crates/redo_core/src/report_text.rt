@@ -9,7 +9,7 @@ use itoa::Buffer;
 use redo_path::Path;
 use redo_script::{Reason, ScriptFault};
 use redo_step::{Dep, DepKind, Outcome, Record, Why};
-use redo_tree::{Broken, ByteOut, Content, Plain, write_all};
+use redo_tree::{Broken, ByteOut, Content, Plain, write_all, write_parts};
 use std::alloc::{AllocError, Global};
 
 /// The report's text: the rows with their records, the scripts that were begun, the files that were built, each as it
@@ -247,16 +247,4 @@ fn write_file<W: ByteOut>(out: &mut W, file: &(Path, Content)) -> Result<(), Bro
         out,
         &[b"file ", size, b" ", file.0.text(), b"\n", bytes, b"\n"],
     )
-}
-
-/// Writes bytes that lie in several places, one after another.
-fn write_parts<W: ByteOut>(out: &mut W, parts: &[&[u8]]) -> Result<(), Broken>
-    requires { W.has_failed out.old ≡ false }
-    ensures writes { Writes (W.held out.old) (W.held out.new) result (flat_map (λ part. part.now) parts.now) }
-    ensures failed { W.has_failed out.new ≡ is_err result }
-{
-    for part in parts {
-        write_all(out, part)?;
-    }
-    Ok(())
 }

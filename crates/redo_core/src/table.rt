@@ -91,13 +91,23 @@ fn is_out(stage: &Stage) -> bool
     matches!(stage, Stage::Out)
 }
 
-/// The number of a target, if its job is out at this turn.
-pub(crate) fn out_at(table: &Table, target: &Path, turn: u64) -> Option<usize>
+/// The number of a path, which may be the one that is guessed.
+fn find_near(targets: &IndexSet<Path>, guess: usize, path: &Path) -> Option<usize>
+    ensures { MatchOption result (IsAmong targets.now.keys path.now → ⊥) (λ at. slice_get targets.now.keys at ≡ Some path.now) }
+{
+    if guess < targets.len() && targets[guess] == *path {
+        return Some(guess);
+    }
+    find(targets, path)
+}
+
+/// The number of a target, if its job is out at this turn. It may be the one that is guessed, which spares a search.
+pub(crate) fn out_at(table: &Table, guess: usize, target: &Path, turn: u64) -> Option<usize>
     requires one_each { length table.now.slots.items ≡ length table.now.targets.keys }
     requires distinct { AreDistinct table.now.targets.keys }
     ensures { MatchOption result ((at : ℕ) → IsOutSlotAt table.now target.now turn at → ⊥) (λ at. IsOutSlotAt table.now target.now turn at) }
 {
-    let Some(at) = find(&table.targets, target) else {
+    let Some(at) = find_near(&table.targets, guess, target) else {
         return None;
     };
     let slot = &table.slots[at];
@@ -282,21 +292,15 @@ pub(crate) fn enter_new(
 }
 
 /// Notes what a target that was out came to, and gives the numbers to look at again.
-pub(crate) fn decide(
-    table: &mut Table,
-    alloc: Global,
-    at: usize,
-    fact: Fact,
-) -> Result<Vec<u32>, AllocError>
+pub(crate) fn decide(table: &mut Table, alloc: Global, at: usize, fact: Arc<Fact>) -> Vec<u32>
     requires { IsOutThere table.old at }
-    ensures { IfOk result (λ pending. IsDecidedAt table.old table.new at fact pending.items) }
+    ensures { IsDecidedAt table.old table.new at (arc_value fact) result.items }
 {
-    let fact = Arc::new(alloc, fact)?;
     let slot = &mut table.slots[at];
     slot.stage = Stage::Decided(fact);
     let pending = mem::replace(&mut slot.watchers, Vec::new(alloc));
     table.out -= 1;
-    Ok(pending)
+    pending
 }
 
 /// Parks a job that was out at its next turn, with the numbers of what it waits for. Its own number is to be looked at.

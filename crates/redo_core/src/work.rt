@@ -27,6 +27,8 @@ use std::sync::Arc;
 pub struct Work {
     tree: Arc<Tree>,
     limits: Limits,
+    /// The number of the target in the table of the board that gave the work.
+    number: u32,
     script: Script,
 }
 
@@ -77,6 +79,7 @@ impl Model for Work {
 pub struct Piece {
     tree: Arc<Tree>,
     limits: Limits,
+    number: u32,
     target: Path,
     turn: u64,
     pub(crate) end: End,
@@ -85,7 +88,7 @@ pub struct Piece {
 /// How a script came to stand: it ended, or it stopped with what is left of it.
 #[derive(Drop)]
 pub(crate) enum End {
-    Ended(Fact),
+    Ended(Arc<Fact>),
     Stopped(Box<Begun>),
 }
 
@@ -118,6 +121,7 @@ impl Work {
         Ok(Work {
             tree,
             limits,
+            number: 0,
             script: Script::Unread(unread),
         })
     }
@@ -130,7 +134,26 @@ impl Work {
         Work {
             tree,
             limits,
+            number: 0,
             script: Script::Begun(begun),
+        }
+    }
+
+    /// The same work, of the target of this number.
+    pub(crate) fn numbered(self, number: u32) -> Work
+        ensures { result ≡ self }
+    {
+        let Work {
+            tree,
+            limits,
+            number: _,
+            script,
+        } = self;
+        Work {
+            tree,
+            limits,
+            number,
+            script,
         }
     }
 
@@ -164,6 +187,7 @@ impl Work {
         let Work {
             tree,
             limits,
+            number,
             script,
         } = self;
         match script {
@@ -171,18 +195,24 @@ impl Work {
                 let alloc = *Box::allocator(&unread);
                 let Unread { target, rule } = Box::into_inner(unread);
                 let job = begun(alloc, &tree, limits, target, rule)?;
-                advance_job(tree, limits, job, Facts::new(alloc))
+                advance_job(tree, limits, number, job, Facts::new(alloc))
             }
             Script::Begun(begun) => {
                 let Begun { job, facts } = Box::into_inner(begun);
-                advance_job(tree, limits, job, facts)
+                advance_job(tree, limits, number, job, facts)
             }
         }
     }
 }
 
 /// Advances a job with the facts of all that it asked for.
-fn advance_job(tree: Arc<Tree>, limits: Limits, job: Job, facts: Facts) -> Result<Piece, AllocError>
+fn advance_job(
+    tree: Arc<Tree>,
+    limits: Limits,
+    number: u32,
+    job: Job,
+    facts: Facts,
+) -> Result<Piece, AllocError>
     requires { IsWorkWith (arc_value tree) limits job facts }
     ensures place { IfOk result (λ p. (p.tree ≡ arc_value tree) × (p.limits ≡ limits) × (p.target ≡ job.target) × (p.turn ≡ job.turn)) }
     ensures progress { IfOk result (λ p. p.progress ≡ (rules_of (arc_value tree) limits).progress job.target (told_in facts)) }
@@ -196,13 +226,15 @@ fn advance_job(tree: Arc<Tree>, limits: Limits, job: Job, facts: Facts) -> Resul
             let own = Arc::try_clone(&tree)?;
             let path = target.clone()?;
             let deps = Arc::new(alloc, done.deps)?;
-            End::Ended(Fact::of(own, limits, path, done.outcome, deps, true))
+            let fact = Fact::of(own, limits, path, done.outcome, deps, true);
+            End::Ended(Arc::new(alloc, fact)?)
         }
         Step::Asks { job, paths: _paths } => End::Stopped(Box::new(alloc, Begun { job, facts })?),
     };
     Ok(Piece {
         tree,
         limits,
+        number,
         target,
         turn,
         end,
@@ -222,6 +254,11 @@ impl Piece {
         ensures { result ≡ self.now.turn }
     {
         self.turn
+    }
+
+    /// The number of the target in the table of the board that gave its work.
+    pub(crate) fn number(&self) -> usize {
+        self.number as usize
     }
 
     /// Whether the piece is of this tree and these limits.

@@ -1,14 +1,14 @@
 -- The path of a file name in a directory.
-use Rattle.std.proofs.Common.{◌≡◌, ◌≢◌, ℕ, ◌-◌, ◌<◌, ◌≤◌, true, false, cond, List, [], ◌∷◌, ◌++◌, length, refl, sym, ap, subst, ◌∙◌, arith, Some, None, nat_lt, append_assoc, length-append, codes, le-ltb, lt-ltb}
-use Rattle.std.specs.List.{AllByRecursion, position}
+use Rattle.std.proofs.Common.{◌≡◌, ◌≢◌, ℕ, true, false, cond, List, [], ◌∷◌, ◌++◌, length, refl, sym, ap, subst, ◌∙◌, Some, None, nat_lt, codes}
+use Rattle.std.specs.List.{position}
 use Rattle.std.specs.Option.{option_map, option_map_or}
 use Rattle.std.specs.Prelude.{Result, Ok, Err}
 use Rattle.std.specs.Str.{bytes_eq}
 use Rattle.redo_path.specs.declared.PathFault.{PathFault}
 use Rattle.redo_path.specs.declared.PathFault.TheVariants.{Absolute, BadByte, LongName}
-use Rattle.redo_path.specs.Names.{is_control, parts, names, text_of, child_of, front_of, IsPart, IsName, IsFileName}
+use Rattle.redo_path.specs.Names.{is_control, parts, names, text_of, child_of, IsPart, IsFileName}
 use Rattle.redo_path.specs.Resolve.{Answers, step, walk, word_fault, resolved, within_limit, ◌>>=◌}
-use Rattle.redo_path.proofs.Parts.{AllByRecursion-append, names-child, parts-name, text_of-names}
+use Rattle.redo_path.proofs.Parts.{names-child, parts-name, text_of-names}
 use Rattle.redo_path.proofs.Canonical.{no_control, no_place_of, not_same}
 
 some_name : (name : List ℕ) → name ≢ [] → bytes_eq name [] ≡ false
@@ -38,31 +38,5 @@ resolved-file dir name h =
       | false ↦ ap within_limit (text_of-child dir name h.nonempty h.part)
     ]
 
--- the text of a child, put together
-front-child : (dir name : List ℕ) → front_of dir ++ name ≡ child_of dir name
-front-child [] name = refl
-front-child (b ∷ bs) name = append_assoc (b ∷ bs) (47 ∷ []) name
-
-pub child-pieces : (dir text front middle end : List ℕ) → text ≡ front_of dir ++ front ++ middle ++ end → text ≡ child_of dir (front ++ middle ++ end)
-child-pieces dir text front middle end h =
-    h ∙ ap (λ t. t ++ end) (append_assoc (front_of dir) front middle) ∙ append_assoc (front_of dir) (front ++ middle) end ∙ front-child dir (front ++ middle ++ end)
-
-pub length-pieces : (dir text front middle end : List ℕ) → text ≡ front_of dir ++ front ++ middle ++ end → length text - length (front_of dir) ≡ length (front ++ middle ++ end)
-length-pieces dir text front middle end h =
-    let e : length text ≡ length (front_of dir ++ front ++ middle ++ end) = ap length h in
-    omega (arith, e, length-append (front_of dir ++ front ++ middle) end, length-append (front_of dir ++ front) middle, length-append (front_of dir) front, length-append (front ++ middle) end, length-append front middle)
-
-pub too_long : (dir name : List ℕ) → IsFileName name → 255 < length name → resolved dir name ≡ Err LongName
-too_long dir name h over = resolved-file dir name h ∙ ap (λ b. cond b (Err LongName) (within_limit (child_of dir name))) (lt-ltb 255 (length name) over)
-
-pub names-file : (dir text name : List ℕ) → text ≡ child_of dir name → IsFileName name → length name ≤ 255 → AllByRecursion IsName (names dir) → AllByRecursion IsName (names text)
-names-file dir text name is h short named =
-    let name_of : IsName name = record { nonempty = h.nonempty; not_here = h.not_here; not_parent = h.not_parent; part = h.part; short = short } in
-    subst (AllByRecursion IsName) (sym (ap names is ∙ names-child dir name h.nonempty h.part.no_slash)) (AllByRecursion-append IsName (names dir) (name ∷ []) named (name_of, tt))
-
 pub Answers-file : {A : Type 0} (result : Result A PathFault) (meant other : Result A PathFault) → meant ≡ other → Answers result other → Answers result meant
 Answers-file result meant other e h = subst (Answers result) (sym e) h
-
-pub within-file : (dir text name : List ℕ) → text ≡ child_of dir name → IsFileName name → length name ≤ 255 → resolved dir name ≡ within_limit text
-within-file dir text name is h short =
-    resolved-file dir name h ∙ ap (λ b. cond b (Err LongName) (within_limit (child_of dir name))) (le-ltb 255 (length name) short) ∙ ap within_limit (sym is)

@@ -8,7 +8,6 @@
 //! text is kept, on `bstr` for searches in bytes and on `thiserror`.
 //!
 //! - here: [`Path`] and [`PathFault`];
-//! - `children`: the path of a file name in a directory;
 //! - `words`: a word, part by part;
 //! - [`laws`]: what the definitions say together, for the crates above.
 #![tactic(auto)]
@@ -23,7 +22,6 @@ ghost use Rattle.std.proofs.Common.{rules};
 ghost use Rattle.redo_path.specs.declared.PathFault.TheVariants.{Memory};
 ghost use Rattle.redo_path.specs.Names.{IsNameStart, IsPath, name_of, names, parent_of};
 
-mod children;
 pub mod laws;
 mod words;
 
@@ -137,7 +135,8 @@ impl Path {
 
     /// The text of the directory that holds it, which takes no memory.
     pub fn parent_text(&self) -> Option<&[u8]>
-        ensures { option_copied result ≡ parent_of self.now }
+        ensures path { IsPath self.now }
+        ensures text { option_copied result ≡ parent_of self.now }
     {
         front(self.text())
     }

@@ -185,17 +185,6 @@ fn a_path_has_a_name_and_a_directory(rt: HostRuntime) -> Result<(), Fail> {
 }
 
 #[test]
-fn a_child_is_a_name_in_its_directory(rt: HostRuntime) -> Result<(), Fail> {
-    let alloc = rt.alloc();
-    for (dir, meant) in [(".", "default.x.do"), ("a/b", "a/b/default.x.do")] {
-        let dir = path(alloc, dir)?;
-        let child = dir.child(alloc, b"default", b".x", b".do")?;
-        assert_eq!(rt; child.text(), meant.as_bytes(), "{meant}");
-    }
-    Ok(())
-}
-
-#[test]
 fn below_is_what_follows_a_directory(rt: HostRuntime) -> Result<(), Fail> {
     let alloc = rt.alloc();
     for (text, dir, below) in [

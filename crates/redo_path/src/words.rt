@@ -10,7 +10,7 @@ use crate::{Path, PathFault, copied, name_start, share};
 use std::alloc::{AllocError, Global};
 
 /// The most bytes that a name has.
-pub(crate) const LONGEST_NAME: usize = 255;
+const LONGEST_NAME: usize = 255;
 
 /// The most bytes that a path has.
 const LONGEST_PATH: usize = 1024;
@@ -146,7 +146,7 @@ fn follow_word(alloc: Global, base: &Path, word: &[u8]) -> Result<Path, PathFaul
 }
 
 /// A copy of a text with room for so many bytes more, up to the length of the longest path.
-pub(crate) fn with_room(alloc: Global, text: &[u8], more: usize) -> Result<Vec<u8>, AllocError>
+fn with_room(alloc: Global, text: &[u8], more: usize) -> Result<Vec<u8>, AllocError>
     ensures { IfOk result (λ copy. copy.items ≡ text.now) }
 {
     let room = text.len().saturating_add(more).min(LONGEST_PATH);
@@ -156,7 +156,7 @@ pub(crate) fn with_room(alloc: Global, text: &[u8], more: usize) -> Result<Vec<u
 }
 
 /// The path of a text of names, unless it is too long.
-pub(crate) fn finish(text: Vec<u8>) -> Result<Path, PathFault>
+fn finish(text: Vec<u8>) -> Result<Path, PathFault>
     requires { AllByRecursion IsName (names text.items) }
     ensures { Answers result (within_limit text.items) }
 {

@@ -1,17 +1,20 @@
 -- What runs of bytes in quotes do to reading.
-use Rattle.std.proofs.Common.{◌≡◌, ℕ, zero, suc, ◌<◌, ◌≤◌, ◌+◌, ◌-◌, drop, Bool, true, false, not, ◌==◌, List, [], ◌∷◌, ◌++◌, map, take, length, get_or, add-one, refl, sym, ap, ◌∙◌, append_assoc, arith, ◌⊎◌, inl, inr}
-use Rattle.std.proofs.lemmas.List.{append-nil, map-append}
+use Rattle.std.proofs.Common.{◌≡◌, ℕ, zero, suc, ◌<◌, ◌≤◌, ◌+◌, ◌-◌, drop, Bool, true, false, not, ◌==◌, List, [], ◌∷◌, ◌++◌, map, take, length, get_or, add-one, refl, sym, ap, ◌∙◌, append_assoc, arith, ◌⊎◌, inl, inr, Some, Result, Ok}
+use Rattle.std.proofs.lemmas.List.{append-nil, map-append, take_all}
 use Rattle.std.proofs.lemmas.Bool.{and_parts, or_parts, or_cases, both_ways, eq-eqb, eqb-true}
 use Rattle.redo_script.specs.declared.lexer.Mode.{Mode}
 use Rattle.redo_script.specs.declared.lexer.Mode.TheVariants as modes
 use Rattle.redo_script.specs.declared.ast.Part.{Part}
 use Rattle.redo_script.specs.View.{symbols_of}
-use Rattle.redo_script.specs.Syntax.{byte}
+use Rattle.redo_script.specs.declared.ast.Parameter.{Parameter}
+use Rattle.redo_script.specs.declared.fault.ScriptFault.{ScriptFault}
+use Rattle.redo_script.specs.Syntax.{byte, quoted}
 use Rattle.redo_script.specs.Tokens.{is_escaped, line_after, begins_word}
-use Rattle.redo_script.specs.Reading.{Reader, read_on}
+use Rattle.redo_script.specs.Reading.{Reader, read_on, parameter_named, with_symbols}
 use Rattle.redo_script.specs.Runs.{is_special, is_quote, all_quotable, ends_plainly}
 use Rattle.redo_script.specs.Lexer.{with_quoted}
-use Rattle.redo_script.proofs.OneByte.{at, symbol_more, single_byte, double_byte, word_begun, opened_at, gap_word, word_single, word_double, single_closes, double_closes, word_ends}
+use Rattle.redo_script.proofs.Bits.{injected}
+use Rattle.redo_script.proofs.OneByte.{at, symbol_more, single_byte, double_byte, word_begun, opened_at, gap_word, word_single, word_double, single_closes, double_closes, double_dollar, quoted_dollar_read, word_ends}
 use Rattle.redo_script.proofs.Runs.{in_mode, ends, head_on}
 use Rattle.redo_script.specs.Bytes.{is_plain}
 
@@ -47,12 +50,20 @@ quoted_run m takes r (b ∷ run) rest h =
     let same : quoted_more (symbol_more r (byte b)) run ≡ quoted_more r (b ∷ run) = rw (append_assoc r.word (byte b ∷ []) (map byte run)) refl in
     takes r b (run ++ rest) (not_so (is_special b) p.0) ∙ (quoted_run m takes (symbol_more r (byte b)) run rest p.1 ∙ ap (λ q. read_on (at m r.line q) rest) same)
 
+run_over : (m : Mode) → Takes m → (r : Reader) (text bytes rest : List ℕ) (n : ℕ) → r.mode ≡ m → text ≡ bytes ++ rest → bytes ≡ take n text → all_quotable (take n text) ≡ true → read_on (quoted_more r bytes) rest ≡ read_on r text
+run_over m takes r text bytes rest n e t f quotable =
+    let all : all_quotable bytes ≡ true = ap all_quotable f ∙ quotable in
+    let same = in_mode r m e in
+    ap (λ q. read_on (quoted_more q bytes) rest) (sym same) ∙ (sym (quoted_run m takes r bytes rest all) ∙ (ap (λ q. read_on q (bytes ++ rest)) same ∙ ap (λ bs. read_on r bs) (sym t)))
+
 run_passed : (m : Mode) → Takes m → (r : Reader) (text bytes rest : List ℕ) (n : ℕ) (parts : List Part) (literal literal' : List ℕ) → r.mode ≡ m → r.word ≡ symbols_of parts ++ map byte literal → text ≡ bytes ++ rest → bytes ≡ take n text → all_quotable (take n text) ≡ true → literal' ≡ literal ++ bytes → read_on (record r { word = symbols_of parts ++ map byte literal' }) rest ≡ read_on r text
 run_passed m takes r text bytes rest n parts literal literal' e w t f quotable l =
-    let all : all_quotable bytes ≡ true = ap all_quotable f ∙ quotable in
-    let same : at m r.line r ≡ r = ap (λ k. at k r.line r) (sym e) in
     let more : symbols_of parts ++ map byte literal' ≡ r.word ++ map byte bytes = rw (l, w, map-append byte literal bytes) (sym (append_assoc (symbols_of parts) (map byte literal) (map byte bytes))) in
-    rw more (ap (λ q. read_on (quoted_more q bytes) rest) (sym same) ∙ (sym (quoted_run m takes r bytes rest all) ∙ (ap (λ q. read_on q (bytes ++ rest)) same ∙ ap (λ bs. read_on r bs) (sym t))))
+    rw more (run_over m takes r text bytes rest n e t f quotable)
+
+-- bytes in double quotes that are a piece of their own
+pub piece_taken : (r new : Reader) (text bytes rest : List ℕ) (n : ℕ) → r.mode ≡ modes.Double → text ≡ bytes ++ rest → bytes ≡ take n text → all_quotable (take n text) ≡ true → (let made : Result Reader ScriptFault = Ok (with_symbols r r.mode (map byte bytes)) in made ≡ Ok new) → read_on new rest ≡ read_on r text
+piece_taken r new text bytes rest n e t f quotable made = ap (λ q. read_on q rest) (sym (injected made)) ∙ run_over modes.Double takes_double r text bytes rest n e t f quotable
 
 -- bytes behind the pieces of a word, in quotes
 pub quoted_taken : (r : Reader) (text bytes rest : List ℕ) (n : ℕ) (parts : List Part) (literal literal' : List ℕ) → (r.mode ≡ modes.Single) ⊎ (r.mode ≡ modes.Double) → r.word ≡ symbols_of parts ++ map byte literal → text ≡ bytes ++ rest → bytes ≡ take n text → all_quotable (take n text) ≡ true → literal' ≡ literal ++ bytes → read_on (record r { word = symbols_of parts ++ map byte literal' }) rest ≡ read_on r text
@@ -95,3 +106,14 @@ quoted_here text bytes closing n some last is same split front quotable end r e 
     let all : all_quotable bytes ≡ true = ap all_quotable front ∙ quotable in
     let passed = quoted_passed q (get_or closing 0 0) r bytes (take (length closing - 1) (drop 1 closing)) (which_quote q is) same e all end in
     passed ∙ (ap (λ xs. read_on r (q ∷ (bytes ++ xs))) (head_on closing last) ∙ (ap (λ xs. read_on r (q ∷ xs)) (sym split) ∙ ap (λ xs. read_on r xs) (head_on text some)))
+
+-- a parameter in double quotes
+pub parameter_taken : (r new : Reader) (text : List ℕ) (p : Parameter) → 2 ≤ length text → get_or text 0 0 ≡ 36 → parameter_named (get_or text 1 0) ≡ Some p → r.mode ≡ modes.Double → (let made : Result Reader ScriptFault = Ok (with_symbols r modes.Double (quoted p ∷ [])) in made ≡ Ok new) → read_on new (take (length text - 2) (drop 2 text)) ≡ read_on r text
+parameter_taken r new [] p some is named e made = absurd (omega (arith, some))
+parameter_taken r new (a ∷ []) p some is named e made = absurd (omega (arith, some))
+parameter_taken r new (a ∷ b ∷ bs) p some is named e made =
+    let same = in_mode r modes.Double e in
+    let dollar = double_dollar r.line r a (b ∷ bs) is in
+    let read = quoted_dollar_read r.line r b p bs named in
+    let whole : take (length (a ∷ b ∷ bs) - 2) bs ≡ bs = take_all (length (a ∷ b ∷ bs) - 2) bs (omega arith) in
+    rw whole (sym (ap (λ q. read_on q (a ∷ b ∷ bs)) (sym same) ∙ (dollar ∙ (read ∙ ap (λ q. read_on q bs) (injected made)))))

@@ -1,23 +1,25 @@
 -- Reading token after token, as a loop does.
 use Rattle.std.proofs.Common.{◌≡◌, List, [], ◌∷◌, None, Result, Ok, sym, inl, inr}
 use Rattle.redo_script.specs.declared.fault.ScriptFault.{ScriptFault}
-use Rattle.redo_script.specs.declared.parser.Parser.{Parser as ParserTree}
 use Rattle.redo_script.specs.declared.parser.Statements.{Statements}
 use Rattle.redo_script.specs.Faults.{Fails}
 use Rattle.redo_script.specs.Syntax.{Script}
 use Rattle.redo_script.specs.Tokens.{Token}
-use Rattle.redo_script.specs.Parsing.{next_token, end_by_phase, parse_on}
+use Rattle.redo_script.specs.Parsing.{Parser, next_token, end_by_phase, parse_on}
 use Rattle.redo_script.specs.Parser.{parser_of}
 use Rattle.redo_script.specs.Passes.{IsOn}
 
-pub goes_on : (s : Statements) (q : ParserTree) (t : Token) (ts : List Token) (total : Result Script ScriptFault) → s.fault ≡ None → next_token (parser_of s.parser) t ≡ Ok (parser_of q) → IsOn s (t ∷ ts) total → IsOn (record { parser = q; fault = s.fault }) ts total
+pub token_read : (p q : Parser) (t : Token) (ts : List Token) (total : Result Script ScriptFault) → next_token p t ≡ Ok q → parse_on p (t ∷ ts) ≡ total → parse_on q ts ≡ total
 unfolding parse_on
-goes_on s q t ts total none e h = rw none (rw e at (rw none at h))
+token_read p q t ts total e h = rw e at h
 
-pub stops : (s : Statements) (t : Token) (ts : List Token) (fault : ScriptFault) (total : Result Script ScriptFault) → s.fault ≡ None → Fails fault (next_token (parser_of s.parser) t) → IsOn s (t ∷ ts) total → Fails fault total
+pub token_fails : (p : Parser) (t : Token) (ts : List Token) (fault : ScriptFault) (total : Result Script ScriptFault) → Fails fault (next_token p t) → parse_on p (t ∷ ts) ≡ total → Fails fault total
 unfolding parse_on
-stops s t ts fault total none (inl m) h = inl m
-stops s t ts fault total none (inr e) h = inr (sym (rw e at (rw none at h)))
+token_fails p t ts fault total (inl m) h = inl m
+token_fails p t ts fault total (inr e) h = inr (sym (rw e at h))
+
+pub is_read : (s : Statements) (ts : List Token) (total : Result Script ScriptFault) → s.fault ≡ None → IsOn s ts total → parse_on (parser_of s.parser) ts ≡ total
+is_read s ts total none h = rw none at h
 
 pub is_done : (s : Statements) (total : Result Script ScriptFault) → s.fault ≡ None → IsOn s [] total → end_by_phase (parser_of s.parser).phase (parser_of s.parser) ≡ total
 unfolding parse_on

@@ -10,10 +10,10 @@ use Rattle.redo_script.specs.declared.ast.Part.{Part}
 use Rattle.redo_script.specs.View.{symbols_of}
 use Rattle.redo_script.specs.Syntax.{byte}
 use Rattle.redo_script.specs.Tokens.{Token, word, digits_then, begins_word, AtWordEnd}
-use Rattle.redo_script.specs.Reading.{Reader, read_on, at_end, with_token, with_begun_word}
+use Rattle.redo_script.specs.Reading.{Reader, read_on, at_end, with_token, with_word, with_begun_word}
 use Rattle.redo_script.specs.Runs.{all_plain, all_digits, ends_plainly}
 use Rattle.redo_script.proofs.Bits.{and_true, and_false, injected}
-use Rattle.redo_script.proofs.OneByte.{at, word_begun, byte_more, gap_blank, gap_word, comment_on, word_plain, word_ends}
+use Rattle.redo_script.proofs.OneByte.{at, word_begun, byte_more, gap_blank, gap_comment, gap_word, comment_on, word_plain, word_ends}
 
 -- plain bytes more
 abbrev bytes_more : Reader → List ℕ → Reader
@@ -115,6 +115,18 @@ word_taken r begun new text bytes rest n is_number m b d made t f plain some sto
     let left : with_token (record begun { is_number = is_number }) (word begun.word_line true (map byte bytes)) ≡ new = injected made in
     let same : with_token (record (with_begun_word r) { is_number = all_digits bytes }) (word r.line true (map byte bytes)) ≡ new = ap₂ (λ q k. with_token (record q { is_number = k }) (word q.word_line true (map byte bytes))) (sym b) (sym d) ∙ left in
     ap (λ q. read_on q rest) (sym same) ∙ (word_passed r bytes rest m some all stop ∙ ap (λ bs. read_on r bs) (sym t))
+
+-- a comment begins
+pub comment_begun : (r : Reader) (text rest : List ℕ) → 1 ≤ length text → get_or text 0 0 ≡ 35 → r.mode ≡ modes.Gap → read_on (at modes.Comment r.line r) rest ≡ read_on (at modes.Comment r.line r) (take (length text - 1) (drop 1 text)) → read_on (at modes.Comment r.line r) rest ≡ read_on r text
+comment_begun r text rest some is e h =
+    let behind = take (length text - 1) (drop 1 text) in
+    h ∙ (sym (gap_comment r.line r (get_or text 0 0) behind is) ∙ (ap (λ q. read_on q (get_or text 0 0 ∷ behind)) (in_mode r modes.Gap e) ∙ ap (λ bs. read_on r bs) (head_on text some)))
+
+-- a word ends, behind which another can't go on
+pub word_over : (r ended : Reader) (left : List ℕ) → r.mode ≡ modes.Word → ends_plainly left ≡ true → (let made : Result Reader ScriptFault = Ok (with_word r) in made ≡ Ok ended) → read_on r left ≡ read_on ended left
+word_over r ended left e n made =
+    let over = word_ends r.line r left (ends left n) (no_digits r.is_number left n) in
+    ap (λ q. read_on q left) (sym (in_mode r modes.Word e)) ∙ (over ∙ ap (λ q. read_on q left) (injected made))
 
 pub is_done : (r : Reader) (left : List ℕ) (total : Result (List Token) ScriptFault) → length left ≤ 0 → read_on r left ≡ total → at_end r ≡ total
 unfolding read_on

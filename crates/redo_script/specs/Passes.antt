@@ -5,13 +5,19 @@ use Rattle.redo_script.specs.declared.parser.Statements.{Statements}
 use Rattle.redo_script.specs.Faults.{◌>>=◌, Fails}
 use Rattle.redo_script.specs.Syntax.{Script}
 use Rattle.redo_script.specs.Tokens.{Token}
-use Rattle.redo_script.specs.Parsing.{parse_on, statements_of}
+use Rattle.redo_script.specs.Parsing.{Parser, parse_on, statements_of}
 use Rattle.redo_script.specs.Reading.{tokens_of}
 use Rattle.redo_script.specs.Parser.{parser_of}
 
 -- With these tokens to come, reading statements gives this whole, unless memory ran out.
 abbrev pub IsOn : Statements → List Token → Result Script ScriptFault → Type 0
 IsOn s ts total = elim s.fault [ None ↦ parse_on (parser_of s.parser) ts ≡ total | Some e ↦ Fails e total ]
+
+-- After part of the tokens the parser goes on with the others, and gives what all of them give, unless memory ran out or the
+-- part has the fault.
+abbrev pub ParsesOn : {U : Type 0} → Parser → Result U ScriptFault → List Token → Result Script ScriptFault → Type 0
+ParsesOn p (Ok u) ts total = parse_on p ts ≡ total
+ParsesOn p (Err e) ts total = Fails e total
 
 -- With what is read of the text to come, reading it gives this whole: a fault of the tokens goes before one of the commands.
 abbrev pub Follows : Statements → Result (List Token) ScriptFault → Result Script ScriptFault → Type 0

@@ -40,6 +40,7 @@ impl<'a> Begun<'a> {
     }
 
     /// Begins another command.
+    #[inline(always)]
     pub fn begin(&mut self, line: u64, name: Item<'a>)
         ensures { begun_of self.new ≡ begun line (item_of name.entry) }
     {

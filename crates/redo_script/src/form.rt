@@ -47,6 +47,7 @@ pub fn test_operands(alloc: Global, items: &mut Vec<Item>) -> Result<Option<Test
 
 /// The words of operands.
 #[tactic(auto, using(crate::proofs::Statements::words_push))]
+#[inline(always)]
 pub fn words_of_items(alloc: Global, items: &mut Vec<Item>) -> Result<Vec<Word>, AllocError>
     ensures { IfOk result (λ words. words_of words.items ≡ item_words (map item_of items.old.items)) }
 {

@@ -58,6 +58,7 @@ impl Item<'_> {
     }
 
     /// Whether the word's bytes are this name, with no parameter among them.
+    #[inline(always)]
     pub fn spells(&self, name: &[u8]) -> bool
         ensures { result ≡ spells (item_of self.now).word name.now }
     {
@@ -67,6 +68,7 @@ impl Item<'_> {
         }
     }
 
+    #[inline(always)]
     pub fn is_named(&self, name: &[u8]) -> bool
         ensures { result ≡ is_named name.now (item_of self.now) }
     {

@@ -1,20 +1,22 @@
 //! From bytes to tokens.
 
-ghost use Rattle.std.specs.Prelude.{◌≡◌, ◌+◌, ◌<◌, ◌≤◌, ◌^◌, map, Ok, OnOk, IfOk, IfErr, IfSome, [], ◌∷◌, ◌⊎◌, length, take, true};
+ghost use Rattle.std.specs.Prelude.{◌≡◌, ◌+◌, ◌<◌, ◌≤◌, ◌^◌, map, Ok, OnOk, IfOk, IfErr, [], ◌∷◌, ◌⊎◌, length, true};
 ghost use Rattle.redo_script.specs.Faults.{Gives, Leaves, fault_at, no_memory};
 ghost use Rattle.redo_script.specs.Syntax.{byte as byte_symbol};
 ghost use Rattle.redo_script.specs.View.{symbols_of_part};
-ghost use Rattle.redo_script.specs.Reading.{Reader, read_on, next_byte, at_end, at_start, in_word, gap_byte, word_byte, in_single, in_double, after_backslash, after_dollar, after_quoted_dollar, after_redirect, with_word, with_token, with_symbol, with_quote, with_begun_word, with_symbols, parameter_named};
+ghost use Rattle.redo_script.specs.Reading.{read_on, next_byte, at_end, at_start, in_word, gap_byte, word_byte, in_single, in_double, after_backslash, after_dollar, after_quoted_dollar, after_redirect, with_word, with_token, with_symbol, with_quote, with_begun_word, with_symbols, parameter_named};
 ghost use Rattle.redo_script.specs.declared.fault.Reason.TheVariants as reasons;
 ghost use Rattle.redo_script.specs.declared.lexer.Mode.TheVariants as modes;
-ghost use Rattle.redo_script.specs.Bytes.{is_blank};
-ghost use Rattle.redo_script.specs.Runs.{ReadsOn, is_special, is_quote, all_quotable, all_plain, all_digits, ends_plainly};
-ghost use Rattle.redo_script.specs.Lexer.{token_of, reader_of, with_no_tokens, with_quoted};
+ghost use Rattle.redo_script.specs.Runs.{ReadsOn};
+ghost use Rattle.redo_script.specs.Lexer.{token_of, reader_of, with_no_tokens};
 
 use crate::ast::{Parameter, Part};
 use crate::bytes::is_plain_byte;
 use crate::fault::{Reason, ScriptFault};
 use crate::item::Item;
+use crate::spans::{
+    is_number, is_word_end, past_blanks, past_comment, plain_len, quotable_len, quoted_alone,
+};
 use crate::token::Token;
 use redo_bytes::Bytes;
 use std::alloc::Global;
@@ -44,10 +46,13 @@ pub enum Mode {
 }
 
 /// How many tokens are read before they are taken.
-const MANY: usize = 60;
+const MANY: usize = 15;
 
-/// How many more may come before that.
-const AT_ONCE: usize = 3;
+/// How many there is room for at first: those, and what most lines add to them before they are taken.
+const ROOM: usize = 21;
+
+/// How many tokens end a run of words, so that they can be taken.
+const MOST: usize = 60;
 
 /// Reads a text byte by byte. Its tokens are taken from time to time.
 #[derive(Drop)]
@@ -86,9 +91,11 @@ impl<'a> Lexer<'a> {
     }
 
     /// Makes a part of the bytes behind the parts.
+    #[inline(always)]
     fn end_literal(&mut self) -> Result<(), ScriptFault>
         ensures same { Leaves reader_of self.new result (Ok (reader_of self.old)) }
         ensures line { self.new.line ≡ self.old.line }
+        ensures mode { OnOk result (self.new.mode ≡ self.old.mode) }
         ensures emptied { OnOk result (self.new.literal.items ≡ []) }
     {
         if !self.literal.is_empty() {
@@ -99,6 +106,23 @@ impl<'a> Lexer<'a> {
         Ok(())
     }
 
+    /// Makes a part of these bytes.
+    #[inline(always)]
+    fn push_literal(&mut self, bytes: &[u8]) -> Result<(), ScriptFault>
+        ensures reads { Leaves reader_of self.new result
+            (Ok (with_symbols (reader_of self.old) self.old.mode (map byte_symbol bytes.now))) }
+        ensures line { self.new.line ≡ self.old.line }
+        ensures mode { OnOk result (self.new.mode ≡ self.old.mode) }
+    {
+        self.end_literal()?;
+        if !bytes.is_empty() {
+            let literal = Bytes::from_slice(self.alloc, bytes)?;
+            self.parts.push(Part::Lit(literal))?;
+        }
+        Ok(())
+    }
+
+    #[inline(always)]
     fn push_parameter(&mut self, mode: Mode, part: Part) -> Result<(), ScriptFault>
         ensures reads { Leaves reader_of self.new result
             (Ok (with_symbols (reader_of self.old) mode (symbols_of_part part))) }
@@ -110,6 +134,7 @@ impl<'a> Lexer<'a> {
         Ok(())
     }
 
+    #[inline(always)]
     fn push_token(&mut self, token: Token<'a>) -> Result<(), ScriptFault>
         ensures reads { Leaves reader_of self.new result (Ok (with_token (reader_of self.old) (token_of token.entry))) }
         ensures line { self.new.line ≡ self.old.line }
@@ -120,6 +145,7 @@ impl<'a> Lexer<'a> {
     }
 
     /// Ends the word that was begun.
+    #[inline(always)]
     fn push_word(&mut self) -> Result<(), ScriptFault>
         ensures reads { Leaves reader_of self.new result (Ok (with_word (reader_of self.old))) }
         ensures line { self.new.line ≡ self.old.line }
@@ -238,6 +264,7 @@ impl<'a> Lexer<'a> {
         self.literal.clear();
     }
 
+    #[inline(always)]
     fn gap_byte(&mut self, byte: u8) -> Result<(), ScriptFault>
         requires { self.old.line + 1 < 2 ^ 64 }
         ensures reads { Leaves reader_of self.new result (gap_byte (reader_of self.old) byte) }
@@ -327,8 +354,12 @@ impl<'a> Lexer<'a> {
         ensures reads { ReadsOn (reader_of self.new) result (read_on (reader_of self.old) text.now) }
         ensures line { self.new.line ≡ self.old.line }
         ensures rest { IfOk result (λ rest. length rest.now ≤ length text.now) }
+        ensures mode { OnOk result (self.new.mode ≡ modes.Word) }
     {
         let (bytes, rest) = text.split_at(plain_len(text));
+        if bytes.is_empty() {
+            return Ok(text);
+        }
         self.literal.extend_from_slice(bytes)?;
         self.is_number = self.is_number && is_number(bytes);
         Ok(rest)
@@ -340,6 +371,7 @@ impl<'a> Lexer<'a> {
         ensures reads { ReadsOn (reader_of self.new) result (read_on (reader_of self.old) text.now) }
         ensures line { self.new.line ≡ self.old.line }
         ensures rest { IfOk result (λ rest. length rest.now ≤ length text.now) }
+        ensures mode { OnOk result (self.new.mode ≡ self.old.mode) }
     {
         let (bytes, rest) = text.split_at(quotable_len(text));
         self.literal.extend_from_slice(bytes)?;
@@ -381,22 +413,127 @@ impl<'a> Lexer<'a> {
         Ok(rest)
     }
 
-    /// Takes words that stand in the text as they are, and the blanks before them, as long as such come next and there
+    /// Takes a word, where one that stands in the text as it is comes next.
+    fn lent_word(&mut self, text: &'a [u8]) -> Result<&'a [u8], ScriptFault>
+        requires { self.old.mode ≡ modes.Gap }
+        ensures reads { ReadsOn (reader_of self.new) result (read_on (reader_of self.old) text.now) }
+        ensures line { self.new.line ≡ self.old.line }
+        ensures rest { IfOk result (λ rest. length rest.now ≤ length text.now) }
+        ensures mode { OnOk result (self.new.mode ≡ modes.Gap) }
+    {
+        match text {
+            [b'\'' | b'"', ..] => self.quoted_word(text),
+            _ => self.plain_word(text),
+        }
+    }
+
+    /// Takes words that stand in the text as they are, and the blanks around them, as long as such come next and there
     /// aren't many tokens.
     fn lent_words(&mut self, text: &'a [u8]) -> Result<&'a [u8], ScriptFault>
         requires { self.old.mode ≡ modes.Gap }
         ensures reads { ReadsOn (reader_of self.new) result (read_on (reader_of self.old) text.now) }
         ensures line { self.new.line ≡ self.old.line }
         ensures rest { IfOk result (λ rest. length rest.now ≤ length text.now) }
+        ensures mode { OnOk result (self.new.mode ≡ modes.Gap) }
     {
         let mut behind = text.len() + 1;
-        let mut left = text;
-        while left.len() < behind && !self.has_many() {
+        let mut left = past_blanks(text);
+        while left.len() < behind && self.tokens.len() < MOST {
             behind = left.len();
-            left = self.plain_word(past_blanks(left))?;
-            left = self.quoted_word(past_blanks(left))?;
+            left = past_blanks(self.lent_word(left)?);
         }
         Ok(left)
+    }
+
+    /// Takes a comment, where one comes next, up to the end of its line.
+    fn comment(&mut self, text: &'a [u8]) -> &'a [u8]
+        requires { self.old.mode ≡ modes.Gap }
+        ensures reads { read_on (reader_of self.new) result.now ≡ read_on (reader_of self.old) text.now }
+        ensures line { self.new.line ≡ self.old.line }
+        ensures rest { length result.now ≤ length text.now }
+    {
+        let [byte, rest @ ..] = text else {
+            return text;
+        };
+        if *byte != b'#' {
+            return text;
+        }
+        self.mode = Mode::Comment;
+        past_comment(rest)
+    }
+
+    /// Takes words that stand in the text as they are, and a comment behind them.
+    pub fn between_words(&mut self, text: &'a [u8]) -> Result<&'a [u8], ScriptFault>
+        requires { self.old.mode ≡ modes.Gap }
+        ensures reads { ReadsOn (reader_of self.new) result (read_on (reader_of self.old) text.now) }
+        ensures line { self.new.line ≡ self.old.line }
+        ensures rest { IfOk result (λ rest. length rest.now ≤ length text.now) }
+    {
+        let left = self.lent_words(text)?;
+        Ok(self.comment(left))
+    }
+
+    /// Takes plain bytes of the word that was begun, and where it ends there, what comes behind it.
+    fn word_bytes(&mut self, text: &'a [u8]) -> Result<&'a [u8], ScriptFault>
+        requires { self.old.mode ≡ modes.Word }
+        ensures reads { ReadsOn (reader_of self.new) result (read_on (reader_of self.old) text.now) }
+        ensures line { self.new.line ≡ self.old.line }
+        ensures rest { IfOk result (λ rest. length rest.now ≤ length text.now) }
+    {
+        let left = self.plain_bytes(text)?;
+        if !is_word_end(left) {
+            return Ok(left);
+        }
+        self.push_word()?;
+        self.between_words(left)
+    }
+
+    /// Takes a parameter in double quotes, where one comes next.
+    fn quoted_parameter(&mut self, text: &'a [u8]) -> Result<&'a [u8], ScriptFault>
+        requires { self.old.mode ≡ modes.Double }
+        ensures reads { ReadsOn (reader_of self.new) result (read_on (reader_of self.old) text.now) }
+        ensures line { self.new.line ≡ self.old.line }
+        ensures rest { IfOk result (λ rest. length rest.now ≤ length text.now) }
+    {
+        let [dollar, digit, rest @ ..] = text else {
+            return Ok(text);
+        };
+        if *dollar != b'$' {
+            return Ok(text);
+        }
+        let Some(parameter) = parameter_of(*digit) else {
+            return Ok(text);
+        };
+        self.push_parameter(Mode::Double, Part::Quoted(parameter))?;
+        Ok(rest)
+    }
+
+    /// Takes bytes in double quotes that stand for themselves. A parameter behind them ends their part of the word.
+    fn double_run(&mut self, text: &'a [u8]) -> Result<&'a [u8], ScriptFault>
+        requires { self.old.mode ≡ modes.Double }
+        ensures reads { ReadsOn (reader_of self.new) result (read_on (reader_of self.old) text.now) }
+        ensures line { self.new.line ≡ self.old.line }
+        ensures rest { IfOk result (λ rest. length rest.now ≤ length text.now) }
+        ensures mode { OnOk result (self.new.mode ≡ modes.Double) }
+    {
+        let (bytes, rest) = text.split_at(quotable_len(text));
+        if matches!(rest, [b'$', ..]) {
+            self.push_literal(bytes)?;
+            return Ok(rest);
+        }
+        self.literal.extend_from_slice(bytes)?;
+        Ok(rest)
+    }
+
+    /// Takes bytes in double quotes that stand for themselves, and a parameter behind them.
+    fn double_bytes(&mut self, text: &'a [u8]) -> Result<&'a [u8], ScriptFault>
+        requires { self.old.mode ≡ modes.Double }
+        ensures reads { ReadsOn (reader_of self.new) result (read_on (reader_of self.old) text.now) }
+        ensures line { self.new.line ≡ self.old.line }
+        ensures rest { IfOk result (λ rest. length rest.now ≤ length text.now) }
+    {
+        let left = self.double_run(text)?;
+        self.quoted_parameter(left)
     }
 
     /// Takes bytes that are alike here.
@@ -406,11 +543,11 @@ impl<'a> Lexer<'a> {
         ensures rest { IfOk result (λ rest. length rest.now ≤ length text.now) }
     {
         match self.mode {
-            Mode::Gap => self.lent_words(text),
+            Mode::Gap => self.between_words(text),
             Mode::Comment => Ok(past_comment(text)),
-            Mode::Word => self.plain_bytes(text),
+            Mode::Word => self.word_bytes(text),
             Mode::Single => self.quoted_bytes(text),
-            Mode::Double => self.quoted_bytes(text),
+            Mode::Double => self.double_bytes(text),
             _ => Ok(text),
         }
     }
@@ -457,7 +594,7 @@ impl<'a> Lexer<'a> {
         ensures line { self.new.line ≡ self.old.line }
         ensures memory { IfErr result (λ fault. fault ≡ no_memory) }
     {
-        let none = Vec::with_capacity(self.alloc, MANY + AT_ONCE)?;
+        let none = Vec::with_capacity(self.alloc, ROOM)?;
         Ok(mem::replace(&mut self.tokens, none))
     }
 
@@ -481,124 +618,6 @@ impl<'a> Lexer<'a> {
         }
         Ok(self.tokens)
     }
-}
-
-/// How many plain bytes come first.
-#[tactic(auto, using(crate::proofs::Runs::plain_here))]
-fn plain_len(text: &[u8]) -> usize
-    ensures within { result ≤ length text.now }
-    ensures plain { all_plain (take result text.now) ≡ true }
-{
-    for (i, byte) in text.iter().enumerate() {
-        if !is_plain_byte(*byte) {
-            return i;
-        }
-    }
-    text.len()
-}
-
-/// Whether a byte means something in quotes of one kind or the other, or ends a line.
-fn is_special_byte(byte: u8) -> bool
-    ensures { result ≡ is_special byte }
-{
-    matches!(byte, b'$' | b'`' | b'"' | b'\\' | b'\'' | b'\n')
-}
-
-/// How many bytes come first that stand for themselves in quotes, on one line.
-#[tactic(auto, using(crate::proofs::QuotedRuns::quotable_here))]
-fn quotable_len(text: &[u8]) -> usize
-    ensures within { result ≤ length text.now }
-    ensures quotable { all_quotable (take result text.now) ≡ true }
-{
-    for (i, byte) in text.iter().enumerate() {
-        if is_special_byte(*byte) {
-            return i;
-        }
-    }
-    text.len()
-}
-
-fn is_quote_byte(byte: u8) -> bool
-    ensures { result ≡ is_quote byte }
-{
-    matches!(byte, b'\'' | b'"')
-}
-
-/// The bytes in quotes, and those behind, where a word comes first that is one pair of quotes, with bytes in it that
-/// stand for themselves.
-fn quoted_alone(text: &[u8]) -> Option<(&[u8], &[u8])>
-    ensures reads { IfSome result (λ split. (r : Reader) → r.mode ≡ modes.Gap →
-        read_on (with_quoted r split.0.now) split.1.now ≡ read_on r text.now) }
-    ensures within { IfSome result (λ split. length split.1.now ≤ length text.now) }
-{
-    let [quote, inside @ ..] = text else {
-        return None;
-    };
-    if !is_quote_byte(*quote) {
-        return None;
-    }
-    let (bytes, closing) = inside.split_at(quotable_len(inside));
-    let [close, rest @ ..] = closing else {
-        return None;
-    };
-    if *close != *quote || !is_word_end(rest) {
-        return None;
-    }
-    Some((bytes, rest))
-}
-
-/// Whether the bytes are digits alone.
-#[tactic(auto, using(crate::proofs::Runs::digits_here))]
-fn is_number(bytes: &[u8]) -> bool
-    ensures { result ≡ all_digits bytes.now }
-{
-    for byte in bytes {
-        if !byte.is_ascii_digit() {
-            return false;
-        }
-    }
-    true
-}
-
-/// Whether a word of plain bytes ends here.
-fn is_word_end(rest: &[u8]) -> bool
-    ensures { result ≡ ends_plainly rest.now }
-{
-    matches!(rest, [] | [b' ' | b'\t' | b'\n' | b';', ..])
-}
-
-fn is_blank_byte(byte: u8) -> bool
-    ensures { result ≡ is_blank byte }
-{
-    matches!(byte, b' ' | b'\t')
-}
-
-/// The bytes behind blanks.
-fn past_blanks(text: &[u8]) -> &[u8]
-    ensures reads { (r : Reader) → r.mode ≡ modes.Gap → read_on r result.now ≡ read_on r text.now }
-    ensures within { length result.now ≤ length text.now }
-{
-    let mut left = text;
-    while let [byte, rest @ ..] = left
-        && is_blank_byte(*byte)
-    {
-        left = rest;
-    }
-    left
-}
-
-/// The end of a comment's line.
-fn past_comment(text: &[u8]) -> &[u8]
-    ensures reads { (r : Reader) → r.mode ≡ modes.Comment → read_on r result.now ≡ read_on r text.now }
-    ensures within { length result.now ≤ length text.now }
-{
-    let mut left = text;
-    while let [byte, rest @ ..] = left
-        && *byte != b'\n'
-    {
-        left = rest;
-    }
-    left
 }
 
 fn parameter_of(digit: u8) -> Option<Parameter>

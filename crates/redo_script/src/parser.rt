@@ -4,9 +4,9 @@ ghost use Rattle.std.specs.Prelude.{◌≡◌, Ok, [], ◌∷◌, ◌++◌, List
 ghost use Rattle.redo_script.specs.declared.fault.ScriptFault.{ScriptFault};
 ghost use Rattle.redo_script.specs.Syntax.{Script as ScriptTree};
 ghost use Rattle.redo_script.specs.Tokens.{Token as Symbol};
-ghost use Rattle.redo_script.specs.Passes.{IsOn};
+ghost use Rattle.redo_script.specs.Passes.{IsOn, ParsesOn};
 ghost use Rattle.redo_script.specs.Faults.{Gives, Leaves, fault_at};
-ghost use Rattle.redo_script.specs.Parsing.{with_command, with_condition, if_opened, at_else, at_fi, then_word, condition_word, first_word, a_word, a_redirect, a_separator, next_token, unless_open, end_by_phase, at_first, statements_of};
+ghost use Rattle.redo_script.specs.Parsing.{with_command, with_condition, if_opened, at_else, at_fi, then_word, condition_word, first_word, a_word, a_redirect, a_separator, next_token, unless_open, end_by_phase, at_first, parse_on, statements_of};
 ghost use Rattle.redo_script.specs.View.{condition_of, script_of};
 ghost use Rattle.redo_script.specs.Lexer.{token_of};
 ghost use Rattle.redo_script.specs.Parser.{item_of, begun_of, open_of, parser_of};
@@ -179,6 +179,7 @@ impl<'a> Parser<'a> {
     }
 
     /// A word in a command's place.
+    #[inline(never)]
     fn first_word(&mut self, line: u64, item: Item<'a>) -> Result<(), ScriptFault>
         ensures { Leaves parser_of self.new result (first_word (parser_of self.old) line (item_of item.entry)) }
     {
@@ -205,6 +206,7 @@ impl<'a> Parser<'a> {
         Ok(())
     }
 
+    #[inline(always)]
     fn word(&mut self, line: u64, item: Item<'a>) -> Result<(), ScriptFault>
         ensures { Leaves parser_of self.new result
             (a_word (parser_of self.old).phase (parser_of self.old) line (item_of item.entry)) }
@@ -288,6 +290,17 @@ impl<'a> Parser<'a> {
         }
     }
 
+    /// Reads these tokens, up to the first that has a fault.
+    fn tokens(&mut self, tokens: Vec<Token<'a>>) -> Result<(), ScriptFault>
+        ensures { (ts : List Symbol) (total : Result ScriptTree ScriptFault) →
+            parse_on (parser_of self.old) (map token_of tokens.entry.items ++ ts) ≡ total → ParsesOn (parser_of self.new) result ts total }
+    {
+        for token in tokens {
+            self.token(token)?;
+        }
+        Ok(())
+    }
+
     fn new(alloc: Global) -> Parser<'a>
         ensures { parser_of result ≡ at_first }
     {
@@ -350,28 +363,18 @@ impl<'a> Statements<'a> {
         }
     }
 
-    /// Reads one token more. Behind a fault there is nothing to read.
-    fn token(&mut self, token: Token<'a>)
-        ensures { (ts : List Symbol) (total : Result ScriptTree ScriptFault) →
-            IsOn self.old (token_of token.entry ∷ ts) total → IsOn self.new ts total }
-    {
-        match self.fault {
-            Some(_) => {}
-            None => {
-                if let Err(fault) = self.parser.token(token) {
-                    self.fault = Some(fault);
-                }
-            }
-        }
-    }
-
-    /// Reads these tokens.
+    /// Reads these tokens. Behind a fault there is nothing to read.
     pub fn tokens(&mut self, tokens: Vec<Token<'a>>)
         ensures { (ts : List Symbol) (total : Result ScriptTree ScriptFault) →
             IsOn self.old (map token_of tokens.entry.items ++ ts) total → IsOn self.new ts total }
     {
-        for token in tokens {
-            self.token(token);
+        match self.fault {
+            Some(_) => {}
+            None => {
+                if let Err(fault) = self.parser.tokens(tokens) {
+                    self.fault = Some(fault);
+                }
+            }
         }
     }
 

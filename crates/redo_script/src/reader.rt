@@ -76,7 +76,7 @@ fn read_statements(alloc: Global, text: &[u8]) -> Result<Script, ScriptFault>
 {
     let mut lexer = Lexer::new(alloc);
     let mut statements = Statements::new(alloc);
-    let mut left = text;
+    let mut left = lexer.between_words(text)?;
     while let [byte, rest @ ..] = left {
         left = lexer.step(*byte, rest)?;
         if lexer.has_many() {

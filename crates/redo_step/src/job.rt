@@ -57,15 +57,22 @@ impl Task {
     }
 }
 
-/// A target's script, the place that it stopped at, and what it has done.
+/// How far a script has come.
 #[derive(Drop)]
-pub struct Job {
+struct Course {
     task: Task,
     place: Place,
     effects: Effects,
     turn: u64,
     /// The redo-ifchange that waits at the place.
     kept: Option<Waiting>,
+}
+
+/// A target's script, the place that it stopped at, and what it has done. These are boxed, since a job is handed on from
+/// one stop to the next and is large.
+#[derive(Drop)]
+pub struct Job {
+    course: Box<Course>,
 }
 
 impl Model for Job {
@@ -81,13 +88,13 @@ impl Model for Job {
 
     ghost coded = { Prim.hlevel (codes, stmts.the_row.coded, places.the_row.coded) };
 
-    ghost view = { λ j. record { tree = arc_value j.task.tree; target = j.task.target; do_file = j.task.rule.do_file; missing = j.task.rule.missing; arguments = arguments_view j.task.rule.args; limits = j.task.limits; parsed = arc_value j.task.parsed; place = j.place; state = state_of j.effects; turn = j.turn } };
+    ghost view = { λ j. let c = j.course.value in record { tree = arc_value c.task.tree; target = c.task.target; do_file = c.task.rule.do_file; missing = c.task.rule.missing; arguments = arguments_view c.task.rule.args; limits = c.task.limits; parsed = arc_value c.task.parsed; place = c.place; state = state_of c.effects; turn = c.turn } };
 
     ghost use Rattle.redo_step.specs.Parsed.{parsed_of};
     ghost use Rattle.redo_step.specs.Setting.{setting_of};
     ghost use Rattle.redo_step.specs.Kept.{IsKeptIn};
 
-    ghost invariant = { λ j. IsKeptIn (setting_of (arc_value j.task.tree) j.task.limits.1 j.task.target (arguments_view j.task.rule.args)) (parsed_of (arc_value j.task.parsed)) j.place (state_of j.effects) j.kept };
+    ghost invariant = { λ j. let c = j.course.value in IsKeptIn (setting_of (arc_value c.task.tree) c.task.limits.1 c.task.target (arguments_view c.task.rule.args)) (parsed_of (arc_value c.task.parsed)) c.place (state_of c.effects) c.kept };
 }
 
 /// What became of a target whose script ended, with its record.
@@ -127,45 +134,49 @@ impl Job {
             parsed,
             limits,
         };
-        Ok(Job {
+        let effects = Effects {
+            output: Vec::new(alloc),
+            third: None,
+            deps: Deps::new(alloc),
+        };
+        let course = Course {
             task,
             place: Place::Before(0),
-            effects: Effects {
-                output: Vec::new(alloc),
-                third: None,
-                deps: Deps::new(alloc),
-            },
+            effects,
             turn: 0,
             kept: None,
-        })
+        };
+        let course = Box::new(alloc, course)?;
+        Ok(Job { course })
     }
 
     /// The target that the script makes.
     pub fn target(&self) -> &Path
         ensures { result.now ≡ self.now.target }
     {
-        &self.task.target
+        &self.course.task.target
     }
 
     /// How often the script has stopped.
     pub fn turn(&self) -> u64
         ensures { result ≡ self.now.turn }
     {
-        self.turn
+        self.course.turn
     }
 
     /// What the script itself has declared so far.
     pub fn declared(&self) -> &Deps
         ensures { result.now ≡ self.now.state.entries }
     {
-        &self.effects.deps
+        &self.course.effects.deps
     }
 
     /// The target's record as far as the script has come: that of the search, and then what it declared.
     pub fn record(&self) -> Result<Record, AllocError>
         ensures { IfOk result (λ deps. deps ≡ record_so_far self.now) }
     {
-        Record::so_far(self.task.alloc, &self.task.rule, &self.effects.deps)
+        let Course { task, effects, .. } = &*self.course;
+        Record::so_far(task.alloc, &task.rule, &effects.deps)
     }
 
     /// Runs on until the script ends, or until redo-ifchange(1) lacks an answer. It asks that the job fits the answers: a
@@ -176,37 +187,37 @@ impl Job {
         requires turn { self.turn + 1 < 2 ^ 64 }
         ensures { IfOk result (Advances (A.ask answers.now) self) }
     {
-        let Job {
+        let Job { mut course } = self;
+        let Course {
             task,
             place,
-            mut effects,
-            turn,
+            effects,
             kept,
-        } = self;
-        let parsed = Arc::try_clone(&task.parsed)?;
-        let script = match &*parsed {
+            ..
+        } = &mut *course;
+        let script = match &*task.parsed {
             Parsed::Read(script) => script,
-            Parsed::Refused(fault) => return refused(task.alloc, task.rule, *fault),
+            Parsed::Refused(fault) => {
+                let fault = *fault;
+                return refused(course, fault);
+            }
         };
         match resume(
             &task.scene(),
             answers,
-            &mut effects,
+            effects,
             &script.stmts,
-            &place,
-            kept,
+            place,
+            kept.take(),
         )? {
-            Progress::Finished => ended(task.alloc, task.rule, Ending::Exited(0), effects),
-            Progress::Ended(ending) => ended(task.alloc, task.rule, ending, effects),
+            Progress::Finished => ended(course, Ending::Exited(0)),
+            Progress::Ended(ending) => ended(course, ending),
             Progress::Stopped(paths, place, kept) => {
-                let turn = turn + 1;
-                let job = Job {
-                    task,
-                    place,
-                    effects,
-                    turn,
-                    kept,
-                };
+                let here = &mut *course;
+                here.place = place;
+                here.kept = kept;
+                here.turn += 1;
+                let job = Job { course };
                 Ok(Step::Asks { job, paths })
             }
         }
@@ -214,9 +225,10 @@ impl Job {
 }
 
 /// A target whose script can't be read.
-fn refused(alloc: Global, rule: Rule, fault: ScriptFault) -> Result<Step, AllocError>
-    ensures { IfOk result (λ step. IsRefused (search_deps rule.missing rule.do_file) fault step) }
+fn refused(course: Box<Course>, fault: ScriptFault) -> Result<Step, AllocError>
+    ensures { IfOk result (λ step. IsRefused (search_deps course.value.task.rule.missing course.value.task.rule.do_file) fault step) }
 {
+    let Task { alloc, rule, .. } = Box::into_inner(course).task;
     Ok(Step::Ended(Done {
         outcome: Outcome::Failed(Why::Script(fault)),
         deps: Record::of_script(alloc, rule, Deps::new(alloc))?,
@@ -224,9 +236,11 @@ fn refused(alloc: Global, rule: Rule, fault: ScriptFault) -> Result<Step, AllocE
 }
 
 /// What an ended script made of its target.
-fn ended(alloc: Global, rule: Rule, ending: Ending, effects: Effects) -> Result<Step, AllocError>
-    ensures { IfOk result (λ step. IsEnded (search_deps rule.missing rule.do_file) (ends (end_of ending) (state_of effects)) step) }
+fn ended(course: Box<Course>, ending: Ending) -> Result<Step, AllocError>
+    ensures { IfOk result (λ step. IsEnded (search_deps course.value.task.rule.missing course.value.task.rule.do_file) (ends (end_of ending) (state_of course.value.effects)) step) }
 {
+    let Course { task, effects, .. } = Box::into_inner(course);
+    let Task { alloc, rule, .. } = task;
     let Effects {
         output,
         third,

@@ -1,9 +1,9 @@
 -- What is written piece by piece.
-use Rattle.std.proofs.Common.{◌≡◌, ℕ, List, [], ◌∷◌, ◌++◌, length, take, drop, sym, ap, ◌∙◌, Option, append_assoc, append-nil, take-append-drop}
+use Rattle.std.proofs.Common.{◌≡◌, ◌<◌, ◌+◌, ℕ, List, [], ◌∷◌, ◌++◌, length, take, drop, sym, ap, ◌∙◌, Option, append_assoc, append-nil, take-append-drop, slice_index_or, suc, zero, refl, arith}
 use Rattle.std.specs.Prelude.{Result, Ok, Err}
 use Rattle.std.specs.Io.KnownBytes.{Appends, Keeps}
 use Rattle.std.proofs.KnownBytes.{Appends-trans, Appends-kept}
-use Rattle.std.specs.Prelude.{codes, decimal}
+use Rattle.std.specs.Prelude.{codes, decimal, flat_map}
 use Rattle.redo_tree.specs.Tree.{Node, Directory, File}
 use Rattle.redo_tree.specs.Steps.{header_bytes}
 use Rattle.redo_tree.specs.Bundle.{Writes, spelling}
@@ -49,3 +49,13 @@ bundle-cut body done left text rest end e h =
 
 pub bundle-end : (body done left end : List ℕ) → body ≡ done ++ left → left ≡ [] → body ++ end ≡ done ++ end
 bundle-end body done left end e h = ap (λ l. l ++ end) (e ∙ ap (λ l. done ++ l) h ∙ append-nil done)
+
+-- the text of the pieces from one on is that piece's, and that of the pieces behind it
+piece-first : {X : Type 0} (f : X → List ℕ) (xs : List X) (k : ℕ) (d : X) → k < length xs → flat_map f (drop k xs) ≡ f (slice_index_or xs k d) ++ flat_map f (drop (k + 1) xs)
+piece-first f [] k d h = absurd (omega (arith, h))
+piece-first f (x ∷ xs) zero d h = refl
+piece-first f (x ∷ xs) (suc k) d h = let e : suc k + 1 ≡ suc (k + 1) = omega arith in rw e (piece-first f xs k d (omega (arith, h)))
+
+-- a piece more was written
+pub piece-more : {X : Type 0} (f : X → List ℕ) (all done : List ℕ) (xs : List X) (k : ℕ) (d : X) → k < length xs → all ≡ done ++ flat_map f (drop k xs) → all ≡ (done ++ f (slice_index_or xs k d)) ++ flat_map f (drop (k + 1) xs)
+piece-more f all done xs k d h e = e ∙ ap (λ l. done ++ l) (piece-first f xs k d h) ∙ sym (append_assoc done (f (slice_index_or xs k d)) (flat_map f (drop (k + 1) xs)))

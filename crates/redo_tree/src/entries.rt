@@ -37,7 +37,6 @@ pub(crate) enum Entry {
 /// the tree. In a contract it is the list of its entries, in path order, the top directory among
 /// them. They are kept by the hashes of their paths, so that a look-up takes the same time in a tree
 /// of any size.
-#[derive(Drop)]
 pub struct Tree {
     entries: IndexMap<Path, Entry>,
     /// The directories of the files whose names begin with `default` and end in `.do`.
@@ -190,8 +189,8 @@ impl Tree {
         ensures path { IsPath path.now }
         ensures place { Allows result (refusal self.now path.now (node_of entry.now)) }
     {
-        if let Some(parent) = path.parent(self.alloc)? {
-            match self.kind(&parent) {
+        if let Some(parent) = path.parent_text() {
+            match self.kind_by_text(parent) {
                 Kind::Dir => {}
                 Kind::File => return Err(TreeFault::IsFile),
                 Kind::Nothing => return Err(TreeFault::NoDirectory),
@@ -248,6 +247,17 @@ fn is_default(name: &[u8]) -> bool
     ensures { result ≡ begins_and_ends name.now }
 {
     name.starts_with(b"default") && name.ends_with(b".do")
+}
+
+// By hand, so that letting a tree go is one call in the code above, and no walk over its fields.
+impl Drop for Tree {
+    fn drop(self) {
+        let Tree {
+            entries: _entries,
+            defaults: _defaults,
+            alloc: _,
+        } = self;
+    }
 }
 
 /// Two trees are equal that have the same entries. Trees of different sizes are told apart at once.

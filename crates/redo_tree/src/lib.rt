@@ -6,7 +6,7 @@
 //! Both work over the two small traits [`ByteIn`] and [`ByteOut`], whose contracts name the bytes
 //! and say whether a call has failed. [`load_dir`] makes a tree of a directory of the system, and
 //! [`store_files`] writes files into one. Stands on `redo_path`, on `redo_bytes` for
-//! what files hold, and on `indexmap` and `thiserror`.
+//! what files hold, and on `indexmap`, `itoa` and `thiserror`.
 //!
 //! - `entries`: the tree, and what is added to it; `content`: a file's bytes, which clones share;
 //! - `faults`: why a call was refused;
@@ -36,7 +36,7 @@ pub use faults::{BundleFault, LoadFault, StoreFault, TreeFault, WriteFault};
 pub use loading::load_dir;
 pub use reading::read_bundle;
 pub use storing::store_files;
-pub use writing::{write_all, write_bundle};
+pub use writing::{write_all, write_bundle, write_parts};
 
 #[cfg(test)]
 mod tests;

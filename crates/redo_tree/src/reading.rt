@@ -10,8 +10,9 @@ ghost use Rattle.redo_tree.specs.Steps.{is_read, Finds, Refuses, IsLine, IsPlace
 
 use crate::buffer::Held;
 use crate::{BundleFault, ByteIn, Tree, TreeFault};
+use itoa::Buffer;
 use redo_path::{Path, PathFault, resolve};
-use std::alloc::{AllocError, Global};
+use std::alloc::Global;
 
 /// The most bytes of a header line, without its newline.
 const LONGEST_LINE: usize = 1100;
@@ -37,20 +38,20 @@ fn line_end(bytes: &[u8]) -> usize
     }
 }
 
-/// Reads a header line and its newline.
+/// Reads a header line and its newline, in place of a line.
 fn read_line<R: ByteIn>(
-    alloc: Global,
     held: &mut Held,
     reader: &mut R,
     number: u64,
-) -> Result<Vec<u8>, BundleFault>
+    line: &mut Vec<u8>,
+) -> Result<(), BundleFault>
     requires { R.has_failed reader.old ≡ false }
-    ensures line { IfOk result (λ line. IsLine line.items) }
-    ensures bytes { IfOk result (λ line. Consumes (prepend_known held.old (R.left reader.old)) (prepend_known held.new (R.left reader.new)) (line.items ++ 10 ∷ [])) }
+    ensures line { OnOk result (IsLine line.new.items) }
+    ensures bytes { OnOk result (Consumes (prepend_known held.old (R.left reader.old)) (prepend_known held.new (R.left reader.new)) (line.new.items ++ 10 ∷ [])) }
     ensures fault { Refuses result (prepend_known held.old (R.left reader.old)) (line_fault number) }
     ensures failed { R.has_failed reader.new ≡ is_read result }
 {
-    let mut line = Vec::new(alloc);
+    line.clear();
     loop {
         if !held.fill(reader)? {
             return Err(BundleFault::Truncated);
@@ -64,7 +65,7 @@ fn read_line<R: ByteIn>(
         line.extend_from_slice(&bytes[..end])?;
         if end < size {
             held.skip(end + 1);
-            return Ok(line);
+            return Ok(());
         }
         held.skip(end);
     }
@@ -133,18 +134,18 @@ fn read_body<R: ByteIn>(
 }
 
 /// The number that decimal digits spell, where it is no larger than a file may be.
-fn read_size(alloc: Global, digits: &[u8]) -> Result<Option<usize>, AllocError>
-    ensures { IfOk result (λ size. size ≡ size_of digits.now) }
+fn read_size(digits: &[u8]) -> Option<usize>
+    ensures { result ≡ size_of digits.now }
 {
     let mut sum = 0usize;
     for digit in digits {
         sum = 10 * sum + (*digit as usize).saturating_sub(48);
         if sum > LARGEST_FILE {
-            return Ok(None);
+            return None;
         }
     }
-    let spelled = sum.to_string(alloc)?;
-    Ok((spelled.as_bytes() == digits).then_some(sum))
+    let mut spelled = Buffer::new();
+    (spelled.format(sum).as_bytes() == digits).then_some(sum)
 }
 
 /// Where the first blank stands.
@@ -156,33 +157,25 @@ fn blank_at(bytes: &[u8]) -> Option<usize>
 
 /// The size and the path that follow the first word of a file's header.
 #[tactic(auto, using(crate::proofs::Lines::words_none, crate::proofs::Lines::words_at))]
-fn read_words(alloc: Global, words: &[u8]) -> Result<Option<(usize, &[u8])>, AllocError>
-    ensures { IfOk result (λ found. option_map (λ f. (f.0, f.1.now)) found ≡ words_of words.now) }
+fn read_words(words: &[u8]) -> Option<(usize, &[u8])>
+    ensures { option_map (λ f. (f.0, f.1.now)) result ≡ words_of words.now }
 {
-    let Some(blank) = blank_at(words) else {
-        return Ok(None);
-    };
-    match read_size(alloc, &words[..blank])? {
-        None => Ok(None),
-        Some(size) => Ok(Some((size, &words[blank + 1..]))),
-    }
+    let blank = blank_at(words)?;
+    let size = read_size(&words[..blank])?;
+    Some((size, &words[blank + 1..]))
 }
 
 /// What a header line says: the size of a file, none of a directory, and the path.
 #[tactic(auto, using(crate::proofs::Lines::header_none, crate::proofs::Lines::header_file))]
-fn read_header(alloc: Global, line: &[u8]) -> Result<Option<(Option<usize>, &[u8])>, AllocError>
-    ensures { IfOk result (λ header. option_map (λ h. (h.0, h.1.now)) header ≡ header_of line.now) }
+fn read_header(line: &[u8]) -> Option<(Option<usize>, &[u8])>
+    ensures { option_map (λ h. (h.0, h.1.now)) result ≡ header_of line.now }
 {
     if let Some(path) = line.strip_prefix(b"dir ") {
-        return Ok(Some((None, path)));
+        return Some((None, path));
     }
-    let Some(words) = line.strip_prefix(b"file ") else {
-        return Ok(None);
-    };
-    match read_words(alloc, words)? {
-        None => Ok(None),
-        Some((size, path)) => Ok(Some((Some(size), path))),
-    }
+    let words = line.strip_prefix(b"file ")?;
+    let (size, path) = read_words(words)?;
+    Some((Some(size), path))
 }
 
 /// The path of a header, which has to be spelled as the path's text.
@@ -287,20 +280,21 @@ fn read_entry<R: ByteIn>(
     ensures fault { Refuses result (prepend_known held.old (R.left reader.old)) (entry_fault number tree.old line.now) }
     ensures failed { R.has_failed reader.new ≡ is_read result }
 {
-    match read_header(alloc, line)? {
+    match read_header(line) {
         None => Err(BundleFault::Line(number)),
         Some((None, word)) => read_directory(alloc, number, tree, word),
         Some((Some(size), word)) => read_file(alloc, held, reader, number, tree, size, word),
     }
 }
 
-/// Reads one more entry, or the end: whether there was an entry.
+/// Reads one more entry, or the end: whether there was an entry. Its line is read in place of a line.
 fn read_next<R: ByteIn>(
     alloc: Global,
     held: &mut Held,
     reader: &mut R,
     number: u64,
     tree: &mut Tree,
+    line: &mut Vec<u8>,
 ) -> Result<bool, BundleFault>
     requires works { R.has_failed reader.old ≡ false }
     requires more { number < 2 ^ 64 - 1 }
@@ -309,14 +303,14 @@ fn read_next<R: ByteIn>(
     ensures fault { Refuses result (prepend_known held.old (R.left reader.old)) (fault_at number tree.old) }
     ensures failed { R.has_failed reader.new ≡ is_read result }
 {
-    let line = read_line(alloc, held, reader, number)?;
+    read_line(held, reader, number, line)?;
     if line.as_slice() == b"end".as_slice() {
         if held.fill(reader)? {
             return Err(BundleFault::Line(number + 1));
         }
         return Ok(false);
     }
-    read_entry(alloc, held, reader, number, tree, &line)?;
+    read_entry(alloc, held, reader, number, tree, line)?;
     Ok(true)
 }
 
@@ -339,8 +333,9 @@ pub fn read_bundle<R: ByteIn>(alloc: Global, reader: &mut R) -> Result<Tree, Bun
 {
     let mut held = Held::new(alloc)?;
     let mut tree = Tree::new(alloc)?;
+    let mut line = Vec::with_capacity(alloc, LONGEST_LINE)?;
     for number in 1..u64::MAX {
-        if !read_next(alloc, &mut held, reader, number, &mut tree)? {
+        if !read_next(alloc, &mut held, reader, number, &mut tree, &mut line)? {
             return Ok(tree);
         }
     }

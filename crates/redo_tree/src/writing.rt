@@ -1,6 +1,6 @@
 //! Writing a bundle, entry by entry.
 
-ghost use Rattle.std.specs.Prelude.{◌≡◌, ◌++◌, ◌∷◌, [], is_err, true, false, IfOk, OnOk, IsErrOf};
+ghost use Rattle.std.specs.Prelude.{◌≡◌, ◌++◌, ◌∷◌, [], flat_map, is_err, true, false, IfOk, OnOk, IsErrOf};
 ghost use Rattle.redo_tree.specs.Tree.{node_of};
 ghost use Rattle.redo_tree.specs.Bundle.{Writes, HasSmallFiles, IsBundle, bundle_of, spelling};
 ghost use Rattle.redo_tree.specs.Steps.{is_device, header_bytes};
@@ -24,6 +24,19 @@ pub fn write_all<W: ByteOut>(writer: &mut W, bytes: &[u8]) -> Result<(), Broken>
             return Err(Broken);
         }
         rest = &rest[count..];
+    }
+    Ok(())
+}
+
+/// Writes bytes that lie in several places, one after another. After a failure the writer holds a
+/// beginning of them.
+pub fn write_parts<W: ByteOut>(writer: &mut W, parts: &[&[u8]]) -> Result<(), Broken>
+    requires { W.has_failed writer.old ≡ false }
+    ensures writes { Writes (W.held writer.old) (W.held writer.new) result (flat_map (λ part. part.now) parts.now) }
+    ensures failed { W.has_failed writer.new ≡ is_err result }
+{
+    for part in parts {
+        write_all(writer, part)?;
     }
     Ok(())
 }

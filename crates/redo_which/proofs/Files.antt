@@ -43,7 +43,7 @@ IsFileName-named name h = record {
   long = omega (arith, length-append name (codes ".do"));
 }
 
--- what child asks of the name of a .do file
+-- the name of a .do file is that of a file in its directory
 pub do_file_name : (stem : List ℕ) → IsPart stem → IsChildName (stem ++ codes ".do")
 do_file_name stem h =
     let size : length (stem ++ codes ".do") ≡ length stem + 3 = length-append stem (codes ".do") in

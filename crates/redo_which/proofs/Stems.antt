@@ -49,10 +49,10 @@ above-first name up =
 
 -- ---- the places of all stems
 
-abbrev flat : List (List Place) → List Place
+abbrev pub flat : List (List Place) → List Place
 flat stems = flat_map (λ places. places) stems
 
-flat-append : (xs ys : List (List Place)) → flat (xs ++ ys) ≡ flat xs ++ flat ys
+pub flat-append : (xs ys : List (List Place)) → flat (xs ++ ys) ≡ flat xs ++ flat ys
 flat-append [] ys = refl
 flat-append (x ∷ xs) ys = ap (λ l. x ++ l) (flat-append xs ys) ∙ sym (append_assoc x (flat xs) (flat ys))
 

@@ -15,9 +15,3 @@ pub record IsSpot (dir front suffix : List ℕ) : Type 0 where
   pub is_dir : IsPath dir
   pub is_path : IsPath (spelled dir front suffix)
   pub is_part : IsPart suffix
-
--- a candidate by a suffix
-pub record IsBySuffix (place : Place) : Type 0 where
-  pub suffix : List ℕ
-  pub part : IsPart suffix
-  pub is : place.do_file ≡ spelled place.dir (codes "default") suffix

@@ -1,17 +1,16 @@
 //! A candidate in pieces of its target's text, so that no path is made of one that is no file.
 
-ghost use Rattle.std.specs.Prelude.{◌≡◌, ◌++◌, ◌∷◌, ◌≤◌, [], IfOk, IfSome, OnOk, codes, false, flat_map, is_err, length, map, nat_le, option_copied, true, ◌&&◌};
+ghost use Rattle.std.specs.Prelude.{◌≡◌, ◌++◌, ◌∷◌, ◌≤◌, [], IfOk, IfSome, OnOk, codes, false, is_err, length, map, nat_le, option_copied, true, ◌&&◌};
 ghost use Rattle.std.specs.Option.{option_to_list};
 ghost use Rattle.redo_path.specs.Names.{IsNameStart, IsPart, IsPath, child_of, name_of, names, parent_of};
 ghost use Rattle.redo_path.specs.Resolve.{resolved};
 ghost use Rattle.redo_tree.specs.Bundle.{Writes};
 ghost use Rattle.redo_which.specs.Candidates.{place_at};
-ghost use Rattle.redo_which.specs.Spots.{IsBySuffix};
 ghost use Rattle.redo_which.specs.Views.{place_of};
 
 use crate::Candidate;
 use redo_path::{Path, PathFault, resolve};
-use redo_tree::{Broken, ByteOut, write_all};
+use redo_tree::{Broken, ByteOut, write_parts};
 use std::alloc::{AllocError, Global};
 use std::marker::Model;
 
@@ -65,20 +64,6 @@ impl<'a> Spot<'a> {
         })
     }
 
-    /// The text of the directory that it is in.
-    pub(crate) fn dir(&self) -> &'a [u8]
-        ensures { result.now ≡ self.now.dir }
-    {
-        self.dir
-    }
-
-    /// Whether it is a candidate by suffix.
-    pub(crate) fn is_default(&self) -> bool
-        ensures { result ≡ true → IsBySuffix self.now }
-    {
-        self.front == b"default".as_slice()
-    }
-
     /// Adds the text of the .do file's path to a text.
     pub(crate) fn spell(&self, text: &mut Vec<u8>) -> Result<(), AllocError>
         ensures path { IsPath self.now.do_file }
@@ -104,9 +89,9 @@ impl<'a> Spot<'a> {
         } else {
             b"/".as_slice()
         };
-        write_each(
-            &[front, self.dir, slash, self.front, self.suffix, b".do\n"],
+        write_parts(
             out,
+            &[front, self.dir, slash, self.front, self.suffix, b".do\n"],
         )
     }
 
@@ -130,20 +115,8 @@ impl<'a> Spot<'a> {
     }
 }
 
-/// Writes pieces of a text one after another.
-fn write_each<W: ByteOut>(pieces: &[&[u8]], out: &mut W) -> Result<(), Broken>
-    requires { W.has_failed out.old ≡ false }
-    ensures writes { Writes (W.held out.old) (W.held out.new) result (flat_map (λ piece. piece.now) pieces.now) }
-    ensures failed { W.has_failed out.new ≡ is_err result }
-{
-    for piece in pieces {
-        write_all(out, piece)?;
-    }
-    Ok(())
-}
-
 /// Whether the path of a .do file in a directory isn't too long.
-fn fits(dir: &[u8], front: &[u8], suffix: &[u8]) -> bool
+pub(crate) fn fits(dir: &[u8], front: &[u8], suffix: &[u8]) -> bool
     requires { IsPath dir.now }
     ensures { result ≡ (nat_le (length (front.now ++ suffix.now ++ codes ".do")) 255
         && nat_le (length (child_of dir.now (front.now ++ suffix.now ++ codes ".do"))) 1024) }

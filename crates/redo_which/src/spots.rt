@@ -1,6 +1,6 @@
 //! The candidates of a target one after another, without a list of them.
 
-ghost use Rattle.std.specs.Prelude.{◌≡◌, ◌≤◌, ◌^◌, ◌∷◌, ◌++◌, [], codes, flat_map, length, nat_eq, if◌then◌else◌};
+ghost use Rattle.std.specs.Prelude.{◌≡◌, ◌<◌, ◌≤◌, ◌^◌, ◌∷◌, ◌++◌, [], IfSome, codes, flat_map, length, nat_eq, if◌then◌else◌};
 ghost use Rattle.std.specs.List.{ends_with};
 ghost use Rattle.std.specs.Iterator.{YieldsFirst, YieldsFirstBy, item_count};
 ghost use Rattle.std.specs.Option.{option_to_list};
@@ -8,11 +8,13 @@ ghost use Rattle.std.specs.Str.{bytes_eq};
 ghost use Rattle.redo_path.specs.Names.{IsPart, IsPath};
 ghost use Rattle.redo_which.specs.Candidates.{candidates_of, suffixes};
 ghost use Rattle.redo_which.specs.Missing.{IsTarget};
+ghost use Rattle.redo_which.specs.Passed.{Passes, places_left};
 ghost use Rattle.redo_which.specs.Stems.{IsFirstDot, IsNext, shorter, stems_above, stems_by, stems_left};
 ghost use Rattle.redo_which.specs.Distinct.{distinct_places, without_whole};
 
-use crate::spot::{Spot, upper};
+use crate::spot::{Spot, fits, upper};
 use redo_path::Path;
+use redo_tree::Tree;
 use std::marker::Model;
 
 /// The candidates of a target that are still to come, in the order of the search. In a contract it
@@ -46,6 +48,68 @@ impl<'a> Spots<'a> {
         Spots {
             stems: Stems { name, next },
         }
+    }
+
+    /// Passes over the directories that come next, as long as the tree knows of each that no file in
+    /// it begins with `default` and ends in `.do`. Answers how many candidates lie in them. In the
+    /// middle of a directory it passes over nothing.
+    pub(crate) fn pass_bare(&mut self, tree: &Tree) -> usize
+        requires { length self.old ≤ 2 ^ 20 }
+        ensures { Passes tree.now result self.old self.new }
+    {
+        self.stems.pass_bare(tree)
+    }
+}
+
+impl Stems<'_> {
+    /// Passes over directories, as [`Spots::pass_bare`] does.
+    fn pass_bare(&mut self, tree: &Tree) -> usize
+        requires { length (flat_map (λ places. places) self.old) ≤ 2 ^ 20 }
+        ensures { Passes tree.now result (flat_map (λ places. places) self.old) (flat_map (λ places. places) self.new) }
+    {
+        let mut count = 0;
+        while let Some((more, next)) = past_bare(tree, self.name, &self.next) {
+            count += more;
+            self.next = next;
+        }
+        count
+    }
+}
+
+/// Where the candidates by suffix in a directory come next, from the first on, and the tree knows
+/// that none is a file: how many they are, and what comes behind them.
+fn past_bare<'a>(tree: &Tree, name: &'a [u8], next: &Next<'a>) -> Option<(usize, Next<'a>)>
+    requires { IsNext name.now next.now }
+    ensures next { IfSome result (λ past. IsNext name.now past.1) }
+    ensures passes { IfSome result (λ past. Passes tree.now past.0 (places_left name.now next.now) (places_left name.now past.1)) }
+    ensures fewer { IfSome result (λ past. length (stems_left name.now past.1) < length (stems_left name.now next.now)) }
+{
+    let Next::Suffix(dir, end) = *next else {
+        return None;
+    };
+    if end.len() != name.len() || tree.holds_defaults(dir) {
+        return None;
+    }
+    Some((count_by(dir, end), above(name, dir)))
+}
+
+/// How many candidates there are in a directory by the suffixes of this end of a name.
+fn count_by(dir: &[u8], end: &[u8]) -> usize
+    requires path { IsPath dir.now }
+    requires part { IsPart end.now }
+    ensures { result ≡ length (flat_map (λ places. places) (stems_by (suffixes end.now) dir.now)) }
+{
+    let mut count = 0;
+    let mut left = end;
+    loop {
+        let suffix = first_suffix(left);
+        if fits(dir, b"default", suffix) {
+            count += 1;
+        }
+        if suffix.is_empty() {
+            return count;
+        }
+        left = &suffix[1..];
     }
 }
 
@@ -158,9 +222,20 @@ fn behind<'a>(name: &'a [u8], dir: &'a [u8], suffix: &'a [u8]) -> Next<'a>
     ensures left { stems_left name.now result ≡ stems_by (shorter suffix.now) dir.now ++ stems_above name.now dir.now }
     ensures next { IsNext name.now result }
 {
-    if !suffix.is_empty() {
-        return Next::Suffix(dir, &suffix[1..]);
+    if suffix.is_empty() {
+        above(name, dir)
+    } else {
+        Next::Suffix(dir, &suffix[1..])
     }
+}
+
+/// What comes behind a directory: the suffixes in the one above.
+fn above<'a>(name: &'a [u8], dir: &'a [u8]) -> Next<'a>
+    requires path { IsPath dir.now }
+    requires name { IsPart name.now }
+    ensures left { stems_left name.now result ≡ stems_above name.now dir.now }
+    ensures next { IsNext name.now result }
+{
     match upper(dir) {
         Some(parent) => Next::Suffix(parent, name),
         None => Next::Nothing,
@@ -172,6 +247,7 @@ fn first_suffix(text: &[u8]) -> &[u8]
     requires { IsPart text.now }
     ensures first { suffixes text.now ≡ result.now ∷ shorter result.now }
     ensures part { IsPart result.now }
+    ensures within { length result.now ≤ length text.now }
 {
     &text[first_dot(text)..]
 }

@@ -60,10 +60,10 @@ park-requires c =
     let d = (goal.at-park-requires c).In_ok-operands-in-Stopped in
     out-still (arc_value c.args.tree.now) c.args.limits c.args.table.now c.args.at c.args.end c.requires.may c.in-Stopped.begun c.in-Stopped.is c.enter_all.new.table _ (enters d)
 
-pub returns-in_ok-decide-in-Ended-clause-ok : goal.returns-in_ok-decide-in-Ended-clause-ok
-returns-in_ok-decide-in-Ended-clause-ok c =
-    let P : List ℕ → Type 0 = λ xs. IsPutBackThere (arc_value c.args.tree.now) c.args.limits c.args.table.now c.decide.new.table c.args.at xs c.in_ok-decide-in-Ended.field-0.items in
-    subst P (sym c.requires.none_freed) (decided-put (arc_value c.args.tree.now) c.args.limits c.args.table.now c.args.at c.args.end c.requires.may c.in-Ended.fact c.in-Ended.is c.decide.new.table _ c.in_ok-decide-in-Ended.ensures)
+pub returns-in-Ended-clause-ok : goal.returns-in-Ended-clause-ok
+returns-in-Ended-clause-ok c =
+    let P : List ℕ → Type 0 = λ xs. IsPutBackThere (arc_value c.args.tree.now) c.args.limits c.args.table.now c.decide.new.table c.args.at xs c.decide.result.items in
+    subst P (sym c.requires.none_freed) (decided-put (arc_value c.args.tree.now) c.args.limits c.args.table.now c.args.at c.args.end c.requires.may c.in-Ended.fact c.in-Ended.is c.decide.new.table _ c.decide.ensures)
 
 pub returns-in_ok-operands-in-Stopped-clause-ok : goal.returns-in_ok-operands-in-Stopped-clause-ok
 returns-in_ok-operands-in-Stopped-clause-ok c =

@@ -7,13 +7,13 @@ use Rattle.redo_core.specs.Ends.{IsEndAt, end_progress}
 use Rattle.redo_core.specs.declared.work.End.{End}
 use Rattle.redo_core.proofs.Advance.{work-fits, fact-parts, stopped-end, ended-end, ended-progress, asks-progress, end-lacks}
 use Rattle.redo_core.proofs.work.advance_job.Goals as goal
-use Rattle.redo_core.proofs.work.advance_job.Goals.{in-Ended+in_ok-own-in-Ended+in_ok-path-in-Ended+in_ok-deps-in-Ended, in-Asks+in_ok-new-in-Asks}
+use Rattle.redo_core.proofs.work.advance_job.Goals.{in-Ended+in_ok-own-in-Ended+in_ok-path-in-Ended+in_ok-deps-in-Ended+in_ok-new-in-Ended, in-Asks+in_ok-new-in-Asks}
 
 pub advance-requires-clause-fits : goal.advance-requires-clause-fits
 advance-requires-clause-fits c = work-fits (arc_value c.args.tree) c.args.limits c.args.job c.args.facts c.requires
 
-pub of-requires-clause-fact : goal.of-requires-clause-fact
-of-requires-clause-fact c =
+pub of-fact-requires-clause-fact : goal.of-fact-requires-clause-fact
+of-fact-requires-clause-fact c =
     fact-parts (arc_value c.args.tree) c.args.limits c.args.job c.args.facts c.requires
     c.in-Ended.done (rw c.in-Ended.is at c.in_ok-done.ensures)
     (arc_value c.in_ok-own-in-Ended.own) c.in_ok-path-in-Ended.path (arc_value c.in_ok-deps-in-Ended.deps)
@@ -27,14 +27,14 @@ invariant_of-result c =
     let facts = c.args.facts in
     let P : End → Type 0 = λ end. IsEndAt tree limits job.target job.turn end in
     rw (c.in_ok-target.ensures.cases, c.target.ensures, c.turn-turn.ensures) (elim c.match-branch-3.branch [
-      | in-Ended+in_ok-own-in-Ended+in_ok-path-in-Ended+in_ok-deps-in-Ended w ↦
+      | in-Ended+in_ok-own-in-Ended+in_ok-path-in-Ended+in_ok-deps-in-Ended+in_ok-new-in-Ended w ↦
           let path = w.in_ok-path-in-Ended.ensures.cases ∙ c.in_ok-target.ensures.cases ∙ c.target.ensures in
-          subst P (sym w.end-is) (ended-end tree limits job facts c.requires w.in-Ended.done (rw w.in-Ended.is at c.in_ok-done.ensures) w.of.result
-          (ap (λ (f : FactView). f.tree) w.of.ensures ∙ w.in_ok-own-in-Ended.ensures)
-          (ap (λ (f : FactView). f.limits) w.of.ensures)
-          (ap (λ (f : FactView). f.target) w.of.ensures ∙ path)
-          (ap (λ (f : FactView). f.outcome) w.of.ensures)
-          (ap (λ (f : FactView). f.deps) w.of.ensures ∙ w.in_ok-deps-in-Ended.ensures.ok))
+          subst P (sym w.end-is) (ended-end tree limits job facts c.requires w.in-Ended.done (rw w.in-Ended.is at c.in_ok-done.ensures) w.in_ok-new-in-Ended.field-0
+          (ap (λ (f : FactView). f.tree) (w.in_ok-new-in-Ended.ensures.ok ∙ w.of-fact.ensures) ∙ w.in_ok-own-in-Ended.ensures)
+          (ap (λ (f : FactView). f.limits) (w.in_ok-new-in-Ended.ensures.ok ∙ w.of-fact.ensures))
+          (ap (λ (f : FactView). f.target) (w.in_ok-new-in-Ended.ensures.ok ∙ w.of-fact.ensures) ∙ path)
+          (ap (λ (f : FactView). f.outcome) (w.in_ok-new-in-Ended.ensures.ok ∙ w.of-fact.ensures))
+          (ap (λ (f : FactView). f.deps) (w.in_ok-new-in-Ended.ensures.ok ∙ w.of-fact.ensures) ∙ w.in_ok-deps-in-Ended.ensures.ok))
       | in-Asks+in_ok-new-in-Asks w ↦ subst P (sym w.end-is) (stopped-end tree limits job facts c.requires w.in-Asks.job w.in-Asks._paths.items (rw w.in-Asks.is at c.in_ok-done.ensures) w.in_ok-new-in-Asks.field-0 w.in_ok-new-in-Asks.ensures.ok)
     ])
 
@@ -46,10 +46,10 @@ returns-clause-ended c =
     let facts = c.args.facts in
     let P : End → Type 0 = λ end. end_progress end ≡ (rules_of tree limits).progress job.target (told_in facts) in
     let now : P c.match-branch-3.end = elim c.match-branch-3.branch [
-      | in-Ended+in_ok-own-in-Ended+in_ok-path-in-Ended+in_ok-deps-in-Ended w ↦
-          subst P (sym w.end-is) (ended-progress tree limits job facts c.requires w.in-Ended.done (rw w.in-Ended.is at c.in_ok-done.ensures) w.of.result
-          (ap (λ (f : FactView). f.outcome) w.of.ensures)
-          (ap (λ (f : FactView). f.deps) w.of.ensures ∙ w.in_ok-deps-in-Ended.ensures.ok))
+      | in-Ended+in_ok-own-in-Ended+in_ok-path-in-Ended+in_ok-deps-in-Ended+in_ok-new-in-Ended w ↦
+          subst P (sym w.end-is) (ended-progress tree limits job facts c.requires w.in-Ended.done (rw w.in-Ended.is at c.in_ok-done.ensures) w.in_ok-new-in-Ended.field-0
+          (ap (λ (f : FactView). f.outcome) (w.in_ok-new-in-Ended.ensures.ok ∙ w.of-fact.ensures))
+          (ap (λ (f : FactView). f.deps) (w.in_ok-new-in-Ended.ensures.ok ∙ w.of-fact.ensures) ∙ w.in_ok-deps-in-Ended.ensures.ok))
       | in-Asks+in_ok-new-in-Asks w ↦ subst P (sym w.end-is) (asks-progress tree limits job facts c.requires w.in-Asks.job w.in-Asks._paths.items (rw w.in-Asks.is at c.in_ok-done.ensures) w.in_ok-new-in-Asks.field-0 w.in_ok-new-in-Asks.ensures.ok)
     ] in
     end-lacks tree limits job facts c.requires c.match-branch-3.end now

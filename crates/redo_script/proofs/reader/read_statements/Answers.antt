@@ -5,21 +5,28 @@ use Rattle.redo_script.specs.Lexer.{reader_of}
 use Rattle.redo_script.specs.Reading.{read_on, tokens_of}
 use Rattle.redo_script.specs.Passes.{Follows, script_by_tokens}
 use Rattle.redo_script.proofs.Runs.{head_on}
-use Rattle.redo_script.proofs.Handed.{first, tokens_taken, end_fails, last_taken}
+use Rattle.redo_script.proofs.Handed.{first, step_fails, tokens_taken, end_fails, last_taken}
 use Rattle.redo_script.proofs.reader.read_statements.Goals as goal
 
 pub loop-left-init : goal.loop-left-init
 unfolding tokens_of
 loop-left-init c = record {
-  reads = rw c.new-lexer.ensures.reader (first c.new-statements.result c.args.text.now c.new-statements.ensures);
-  line = omega (arith, c.new-lexer.ensures.line);
+  reads = rw (c.in_ok-left.ensures.reads, c.new-lexer.ensures.reader) (first c.new-statements.result c.args.text.now c.new-statements.ensures);
+  line = let a = c.new-lexer.ensures.line in let b = c.in_ok-left.ensures.line in let d = c.in_ok-left.ensures.rest in omega (arith, a, b, d);
 }
+
+pub returns-in_err-left : goal.returns-in_err-left
+unfolding tokens_of
+returns-in_err-left c =
+    let p = err_from_is_err_and c.from_residual.result c.from_residual.ensures.1 in
+    let reads : Follows c.new-statements.result (read_on (reader_of c.new-lexer.result) c.args.text.now) (script_by_tokens c.args.text.now) = rw c.new-lexer.ensures.reader (first c.new-statements.result c.args.text.now c.new-statements.ensures) in
+    rw (p.1, p.2) (step_fails c.new-statements.result (read_on (reader_of c.new-lexer.result) c.args.text.now) _ (script_by_tokens c.args.text.now) c.in_err-left.ensures.reads reads)
 
 pub loop-left-preserved-then-has_many : goal.loop-left-preserved-then-has_many
 loop-left-preserved-then-has_many c =
-    let read : Follows c.loop-left.statements (read_on (reader_of c.step.new.self) c.in_ok-left.left.now) (script_by_tokens c.args.text.now) = rw (c.in_ok-left.ensures.reads, head_on c.loop-left.left.now c.in-len1-up.len_at_least) c.loop-left.invariant.reads in
+    let read : Follows c.loop-left.statements (read_on (reader_of c.step.new.self) c.in_ok-left-2.left.now) (script_by_tokens c.args.text.now) = rw (c.in_ok-left-2.ensures.reads, head_on c.loop-left.left.now c.in-len1-up.len_at_least) c.loop-left.invariant.reads in
     record {
-      reads = tokens_taken c.loop-left.statements c.tokens.new.self _ (reader_of c.step.new.self) (reader_of c.take_tokens.new.self) c.in_ok-left.left.now (script_by_tokens c.args.text.now) (sym c.in_ok-take_tokens.ensures.tokens) c.in_ok-take_tokens.ensures.taken c.tokens.ensures read;
+      reads = tokens_taken c.loop-left.statements c.tokens.new.self _ (reader_of c.step.new.self) (reader_of c.take_tokens.new.self) c.in_ok-left-2.left.now (script_by_tokens c.args.text.now) (sym c.in_ok-take_tokens.ensures.tokens) c.in_ok-take_tokens.ensures.taken c.tokens.ensures read;
       line = search rules;
     }
 

@@ -35,9 +35,12 @@ pub returns-then-not-branch-clause-small : goal.returns-then-not-branch-clause-s
 returns-then-not-branch-clause-small g c =
     reached_small _ _ c.loop-number.tree c.read_next.new.tree _ c.loop-number.invariant.reached (c.in_ok-read_next.ensures.end (grind (arith, common_steps))).0
 
-pub returns-then-not-branch-clause-each : goal.returns-then-not-branch-clause-each
-returns-then-not-branch-clause-each g c =
+pub returns-then-not-branch-clause-reads : goal.returns-then-not-branch-clause-reads
+returns-then-not-branch-clause-reads g c =
     let before = c.loop-number.invariant.reached in
     let (same, end, empty, past) = c.in_ok-read_next.ensures.end (grind (arith, common_steps)) in
-    reads_each (Ok c.read_next.new.tree) (g.R.ByteIn.left c.args.reader.now)
-    (subst (λ t. IfSome (g.R.ByteIn.left c.args.reader.now) (λ text. Reads (Ok t) text)) (sym same) (reads_all _ _ _ c.loop-number.tree _ before end (nothing_held _ _ empty past)))
+    subst (λ t. IfSome (g.R.ByteIn.left c.args.reader.now) (λ text. Reads (Ok t) text)) (sym same) (reads_all _ _ _ c.loop-number.tree _ before end (nothing_held _ _ empty past))
+
+pub returns-then-not-branch-clause-each : goal.returns-then-not-branch-clause-each
+returns-then-not-branch-clause-each g c =
+    reads_each (Ok c.read_next.new.tree) (g.R.ByteIn.left c.args.reader.now) (returns-then-not-branch-clause-reads g c)

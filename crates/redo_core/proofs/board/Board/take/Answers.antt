@@ -3,7 +3,7 @@ use Rattle.redo_core.specs.Slots.{IsKept, path_at, state_of}
 use Rattle.redo_core.proofs.SlotLemmas.{slice_get-item}
 use Rattle.redo_core.proofs.TakeLemmas.{fits_one_more, found_job, taken_state, work_taken, running, first_item, kept-taken, below_items, turn_small, part-inside}
 use Rattle.redo_core.proofs.TableLemmas.{slice_get-place}
-use Rattle.redo_core.specs.Views.{BoardView, IsWorkTaken, jobs_out}
+use Rattle.redo_core.specs.Views.{BoardView, WorkView, IsWorkTaken, jobs_out}
 use Rattle.redo_core.specs.Schedule.{IsOutAt}
 use Rattle.redo_core.specs.TakesLeft.{takes_left}
 use Rattle.redo_core.proofs.BoardCounts.{work_out, one_more, left_less}
@@ -39,8 +39,9 @@ returns-clause-work c =
     let d = (goal.at-returns-clause-work c).After-replace-stage in
     let b = d.self.inside in
     let P : BoardView → Type 0 = λ v. IsWorkTaken v d.args.which c.in-Ready.work in
-    subst P c.self.view_is (work_taken b (kept d) d.args.which d.in-Some.at d.index_mut-slot.result.now (first d) (there d)
-    _ refl refl refl c.in-Ready.work (sym c.replace-stage.ensures.value ∙ c.in-Ready.is))
+    let W : WorkView → Type 0 = IsWorkTaken c.args.self.now c.args.which in
+    subst W (sym c.numbered.ensures) (subst P c.self.view_is (work_taken b (kept d) d.args.which d.in-Some.at d.index_mut-slot.result.now (first d) (there d)
+    _ refl refl refl c.in-Ready.work (sym c.replace-stage.ensures.value ∙ c.in-Ready.is)))
 
 pub invariant_of-self : goal.invariant_of-self
 invariant_of-self c =
@@ -66,8 +67,9 @@ returns-clause-turn c =
     let d = (goal.at-returns-clause-turn c).After-replace-stage in
     let b = d.self.inside in
     let P : BoardView → Type 0 = λ v. c.in-Ready.work.turn < v.limits.0 in
-    subst P c.self.view_is (turn_small b (kept d) d.args.which d.in-Some.at d.index_mut-slot.result.now (first d) (there d)
-    c.in-Ready.work (sym c.replace-stage.ensures.value ∙ c.in-Ready.is))
+    let W : WorkView → Type 0 = λ w. w.turn < c.args.self.now.limits.0 in
+    subst W (sym c.numbered.ensures) (subst P c.self.view_is (turn_small b (kept d) d.args.which d.in-Some.at d.index_mut-slot.result.now (first d) (there d)
+    c.in-Ready.work (sym c.replace-stage.ensures.value ∙ c.in-Ready.is)))
 
 pub returns-clause-part : goal.returns-clause-part
 returns-clause-part c =
@@ -90,8 +92,8 @@ below c = rw (running c.self.inside.stopped _ c.args.which (count c)) at (count 
 pub returns-clause-is_out : goal.returns-clause-is_out
 returns-clause-is_out c =
     let d = (goal.at-returns-clause-is_out c).After-replace-stage in
-    let P : BoardView → Type 0 = λ v. IsOutAt v.state c.in-Ready.work.target c.in-Ready.work.turn in
-    subst P (sym (returns-clause-ok c)) (work_out d.self.inside (kept d) (running d.self.inside.stopped _ d.args.which (count d)) d.args.which (below d) _ d.self.view_is c.in-Ready.work (returns-clause-work c))
+    let P : BoardView → Type 0 = λ v. IsOutAt v.state c.numbered.result.target c.numbered.result.turn in
+    subst P (sym (returns-clause-ok c)) (work_out d.self.inside (kept d) (running d.self.inside.stopped _ d.args.which (count d)) d.args.which (below d) _ d.self.view_is c.numbered.result (returns-clause-work c))
 
 pub returns-clause-one_more : goal.returns-clause-one_more
 returns-clause-one_more c =

@@ -1,0 +1,129 @@
+//! Spans of bytes that are alike: how far they go, and what stands behind them.
+
+ghost use Rattle.std.specs.Prelude.{◌≡◌, ◌≤◌, IfSome, length, take, true};
+ghost use Rattle.redo_script.specs.Reading.{Reader, read_on};
+ghost use Rattle.redo_script.specs.declared.lexer.Mode.TheVariants as modes;
+ghost use Rattle.redo_script.specs.Bytes.{is_blank};
+ghost use Rattle.redo_script.specs.Runs.{is_special, is_quote, all_quotable, all_plain, all_digits, ends_plainly};
+ghost use Rattle.redo_script.specs.Lexer.{with_quoted};
+
+use crate::bytes::is_plain_byte;
+
+/// How many plain bytes come first.
+#[tactic(auto, using(crate::proofs::Runs::plain_here))]
+pub fn plain_len(text: &[u8]) -> usize
+    ensures within { result ≤ length text.now }
+    ensures plain { all_plain (take result text.now) ≡ true }
+{
+    for (i, byte) in text.iter().enumerate() {
+        if !is_plain_byte(*byte) {
+            return i;
+        }
+    }
+    text.len()
+}
+
+/// Whether a byte means something in quotes of one kind or the other, or ends a line.
+fn is_special_byte(byte: u8) -> bool
+    ensures { result ≡ is_special byte }
+{
+    // Most bytes are small letters, which one comparison tells.
+    !byte.is_ascii_lowercase() && matches!(byte, b'$' | b'`' | b'"' | b'\\' | b'\'' | b'\n')
+}
+
+/// How many bytes come first that stand for themselves in quotes, on one line.
+#[tactic(auto, using(crate::proofs::QuotedRuns::quotable_here))]
+pub fn quotable_len(text: &[u8]) -> usize
+    ensures within { result ≤ length text.now }
+    ensures quotable { all_quotable (take result text.now) ≡ true }
+{
+    for (i, byte) in text.iter().enumerate() {
+        if is_special_byte(*byte) {
+            return i;
+        }
+    }
+    text.len()
+}
+
+fn is_quote_byte(byte: u8) -> bool
+    ensures { result ≡ is_quote byte }
+{
+    matches!(byte, b'\'' | b'"')
+}
+
+/// The bytes in quotes, and those behind, where a word comes first that is one pair of quotes, with bytes in it that
+/// stand for themselves.
+pub fn quoted_alone(text: &[u8]) -> Option<(&[u8], &[u8])>
+    ensures reads { IfSome result (λ split. (r : Reader) → r.mode ≡ modes.Gap →
+        read_on (with_quoted r split.0.now) split.1.now ≡ read_on r text.now) }
+    ensures within { IfSome result (λ split. length split.1.now ≤ length text.now) }
+{
+    let [quote, inside @ ..] = text else {
+        return None;
+    };
+    if !is_quote_byte(*quote) {
+        return None;
+    }
+    let (bytes, closing) = inside.split_at(quotable_len(inside));
+    let [close, rest @ ..] = closing else {
+        return None;
+    };
+    if *close != *quote || !is_word_end(rest) {
+        return None;
+    }
+    Some((bytes, rest))
+}
+
+/// Whether the bytes are digits alone.
+#[tactic(auto, using(crate::proofs::Runs::digits_here))]
+pub fn is_number(bytes: &[u8]) -> bool
+    ensures { result ≡ all_digits bytes.now }
+{
+    for byte in bytes {
+        if !byte.is_ascii_digit() {
+            return false;
+        }
+    }
+    true
+}
+
+/// Whether a word of plain bytes ends here.
+pub fn is_word_end(rest: &[u8]) -> bool
+    ensures { result ≡ ends_plainly rest.now }
+{
+    matches!(rest, [] | [b' ' | b'\t' | b'\n' | b';', ..])
+}
+
+fn is_blank_byte(byte: u8) -> bool
+    ensures { result ≡ is_blank byte }
+{
+    matches!(byte, b' ' | b'\t')
+}
+
+/// The bytes behind blanks.
+pub fn past_blanks(text: &[u8]) -> &[u8]
+    ensures reads { (r : Reader) → r.mode ≡ modes.Gap → read_on r result.now ≡ read_on r text.now }
+    ensures within { length result.now ≤ length text.now }
+{
+    let mut left = text;
+    while let [byte, rest @ ..] = left
+        && is_blank_byte(*byte)
+    {
+        left = rest;
+    }
+    left
+}
+
+/// The end of a comment's line.
+pub fn past_comment(text: &[u8]) -> &[u8]
+    ensures reads { (r : Reader) → r.mode ≡ modes.Comment → read_on r result.now ≡ read_on r text.now }
+    ensures within { length result.now ≤ length text.now }
+{
+    let mut left = text;
+    while let [byte, rest @ ..] = left
+        && *byte != b'\n'
+    {
+        left = rest;
+    }
+    left
+}
