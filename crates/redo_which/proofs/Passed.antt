@@ -10,7 +10,6 @@ use Rattle.redo_tree.specs.Tree.{HasNoDefaults, Tree}
 use Rattle.redo_which.specs.Candidates.{Place, is_dot, place_at, suffixes}
 use Rattle.redo_which.specs.Passed.{Passes}
 use Rattle.redo_which.specs.Rule.{chosen_among, is_file, missing_among}
-use Rattle.redo_which.specs.Spots.{spelled}
 use Rattle.redo_which.specs.Stems.{shorter, stems_by}
 use Rattle.redo_which.proofs.Files.{IsFileName-default, suffixes_part}
 use Rattle.redo_which.proofs.Once.{place-all}

@@ -1,5 +1,5 @@
 -- The pieces of a candidate, put together.
-use Rattle.std.proofs.Common.{◌≡◌, ◌≢◌, ◌<◌, ℕ, Bool, true, false, cond, List, [], ◌∷◌, ◌++◌, ◌&&◌, length, codes, refl, sym, ap, ◌∙◌, arith, nat_lt}
+use Rattle.std.proofs.Common.{◌≡◌, ◌≢◌, ◌<◌, ℕ, Bool, true, false, cond, List, [], ◌∷◌, ◌++◌, ◌&&◌, length, codes, refl, sym, ap, ◌∙◌, arith, nat_lt, append_assoc}
 use Rattle.std.proofs.lemmas.Grind.{common_steps}
 use Rattle.std.specs.List.{AllByRecursion}
 use Rattle.std.specs.Prelude.{Result, Ok, Err, nat_le}
@@ -12,7 +12,7 @@ use Rattle.redo_path.specs.Names.{IsFileName, IsPart, IsPath, child_of, is_contr
 use Rattle.redo_path.specs.Resolve.{Answers, resolved}
 use Rattle.redo_which.proofs.Files.{do_file_name}
 use Rattle.redo_which.specs.Candidates.{Place, place_at}
-use Rattle.redo_which.specs.Spots.{spelled, spot_place}
+use Rattle.redo_which.specs.Spots.{lead_of, spelled}
 
 -- what fits is the path of a child
 fits_to : (long over : Bool) (n m : ℕ) (path : List ℕ) → nat_lt 255 n ≡ long → nat_lt 1024 m ≡ over → (nat_le n 255 && nat_le m 1024) ≡ true → cond long (Err LongName) (cond over (Err LongPath) (Ok path)) ≡ Ok path
@@ -34,17 +34,22 @@ none_from dir cut true over n m path l o h = refl
 none_from dir cut false true n m path l o h = refl
 none_from dir cut false false n m path l o h = let no : false ≡ true = grind (arith, common_steps) in apart cc
 
-pub no_place : (dir front suffix : List ℕ) (cut : ℕ) → IsPart (front ++ suffix) → (nat_le (length (front ++ suffix ++ codes ".do")) 255 && nat_le (length (spelled dir front suffix)) 1024) ≡ false → [] ≡ place_at dir cut (front ++ suffix ++ codes ".do")
+pub no_place : (dir front suffix : List ℕ) (cut : ℕ) → IsPart (front ++ suffix) → (nat_le (length (front ++ suffix ++ codes ".do")) 255 && nat_le (length (child_of dir (front ++ suffix ++ codes ".do"))) 1024) ≡ false → [] ≡ place_at dir cut (front ++ suffix ++ codes ".do")
 no_place dir front suffix cut h k =
     let file = front ++ suffix ++ codes ".do" in
     sym (ap (place_from dir cut) (resolved-file dir file (do_file_name (front ++ suffix) h))
     ∙ none_from dir cut (nat_lt 255 (length file)) (nat_lt 1024 (length (child_of dir file))) (length file) (length (child_of dir file)) (child_of dir file) refl refl k)
 
-pub one_place : (dir front suffix : List ℕ) (cut : ℕ) → IsPart (front ++ suffix) → (nat_le (length (front ++ suffix ++ codes ".do")) 255 && nat_le (length (spelled dir front suffix)) 1024) ≡ true → spot_place dir front suffix cut ∷ [] ≡ place_at dir cut (front ++ suffix ++ codes ".do")
+pub one_place : (dir front suffix : List ℕ) (cut : ℕ) → IsPart (front ++ suffix) → (nat_le (length (front ++ suffix ++ codes ".do")) 255 && nat_le (length (child_of dir (front ++ suffix ++ codes ".do"))) 1024) ≡ true → record { do_file = child_of dir (front ++ suffix ++ codes ".do"); dir = dir; cut = cut } ∷ [] ≡ place_at dir cut (front ++ suffix ++ codes ".do")
 one_place dir front suffix cut h k = sym (ap (place_from dir cut) (resolved-fits dir (front ++ suffix ++ codes ".do") (do_file_name (front ++ suffix) h) k))
 
-pub spelled_path : (dir front suffix : List ℕ) → IsPath dir → IsPart (front ++ suffix) → (nat_le (length (front ++ suffix ++ codes ".do")) 255 && nat_le (length (spelled dir front suffix)) 1024) ≡ true → IsPath (spelled dir front suffix)
-spelled_path dir front suffix d h k = path-resolved dir (front ++ suffix ++ codes ".do") (spelled dir front suffix) d (resolved-fits dir (front ++ suffix ++ codes ".do") (do_file_name (front ++ suffix) h) k)
+pub child_path : (dir front suffix : List ℕ) → IsPath dir → IsPart (front ++ suffix) → (nat_le (length (front ++ suffix ++ codes ".do")) 255 && nat_le (length (child_of dir (front ++ suffix ++ codes ".do"))) 1024) ≡ true → IsPath (child_of dir (front ++ suffix ++ codes ".do"))
+child_path dir front suffix d h k = path-resolved dir (front ++ suffix ++ codes ".do") (child_of dir (front ++ suffix ++ codes ".do")) d (resolved-fits dir (front ++ suffix ++ codes ".do") (do_file_name (front ++ suffix) h) k)
+
+-- a path in its pieces
+pub spelled-child : (dir front stem : List ℕ) → spelled dir (lead_of dir front) stem ≡ child_of dir (front ++ stem ++ codes ".do")
+spelled-child [] front stem = refl
+spelled-child (b ∷ bs) front stem = ap (λ l. l ++ codes ".do") (append_assoc (b ∷ bs) (47 ∷ front) stem) ∙ append_assoc (b ∷ bs) ((47 ∷ front) ++ stem) (codes ".do")
 
 not_nil : (text : List ℕ) → 0 < length text → text ≢ []
 not_nil [] h e = absurd (omega (arith, h))

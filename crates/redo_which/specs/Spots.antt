@@ -1,17 +1,21 @@
 -- A candidate in the pieces of its text.
-use Rattle.std.specs.Prelude.{◌≡◌, ℕ, List, ◌++◌, codes}
-use Rattle.redo_path.specs.Names.{IsPart, IsPath, child_of}
+use Rattle.std.specs.Prelude.{ℕ, List, [], ◌∷◌, ◌++◌, codes}
+use Rattle.redo_path.specs.Names.{IsPath}
 use Rattle.redo_which.specs.Candidates.{Place}
 
--- the path of the .do file of a stem in a directory
+-- what stands behind a directory, before the rest of the name of a file in it that begins so
+abbrev pub lead_of : List ℕ → List ℕ → List ℕ
+lead_of [] front = front
+lead_of (byte ∷ bytes) front = 47 ∷ front
+
+-- the path of the .do file
 abbrev pub spelled : List ℕ → List ℕ → List ℕ → List ℕ
-spelled dir front suffix = child_of dir (front ++ suffix ++ codes ".do")
+spelled dir lead stem = dir ++ lead ++ stem ++ codes ".do"
 
 abbrev pub spot_place : List ℕ → List ℕ → List ℕ → ℕ → Place
-spot_place dir front suffix cut = record { do_file = spelled dir front suffix; dir = dir; cut = cut }
+spot_place dir lead stem cut = record { do_file = spelled dir lead stem; dir = dir; cut = cut }
 
 -- pieces that are put together to a path
-pub record IsSpot (dir front suffix : List ℕ) : Type 0 where
+pub record IsSpot (dir lead stem : List ℕ) : Type 0 where
   pub is_dir : IsPath dir
-  pub is_path : IsPath (spelled dir front suffix)
-  pub is_part : IsPart suffix
+  pub is_path : IsPath (spelled dir lead stem)

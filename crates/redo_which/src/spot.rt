@@ -6,6 +6,7 @@ ghost use Rattle.redo_path.specs.Names.{IsNameStart, IsPart, IsPath, child_of, n
 ghost use Rattle.redo_path.specs.Resolve.{resolved};
 ghost use Rattle.redo_tree.specs.Bundle.{Writes};
 ghost use Rattle.redo_which.specs.Candidates.{place_at};
+ghost use Rattle.redo_which.specs.Spots.{lead_of};
 ghost use Rattle.redo_which.specs.Views.{place_of};
 
 use crate::Candidate;
@@ -20,13 +21,15 @@ const LONGEST_NAME: usize = 255;
 /// The most bytes that a path has.
 const LONGEST_PATH: usize = 1024;
 
-/// A candidate: a .do file in a directory, whose stem is in two pieces. In a contract it is the place
-/// of a candidate.
+/// A candidate: a .do file in a directory, in pieces. In a contract it is the place of a candidate.
 #[derive(Drop)]
 pub(crate) struct Spot<'a> {
     dir: &'a [u8],
-    front: &'a [u8],
-    suffix: &'a [u8],
+    /// What stands behind the directory: a slash, unless that is the root, and then `default`,
+    /// unless it is the candidate by the whole name.
+    lead: &'a [u8],
+    /// The whole name, or a suffix of it.
+    stem: &'a [u8],
     cut: usize,
 }
 
@@ -36,30 +39,50 @@ impl<'a> Model for Spot<'a> {
 
     ghost Value = { Place };
 
-    ghost view = { λ s. spot_place s.dir.now s.front.now s.suffix.now s.cut };
+    ghost view = { λ s. spot_place s.dir.now s.lead.now s.stem.now s.cut };
 
-    ghost invariant = { λ s. IsSpot s.dir.now s.front.now s.suffix.now };
+    ghost invariant = { λ s. IsSpot s.dir.now s.lead.now s.stem.now };
 }
 
 impl<'a> Spot<'a> {
-    /// The candidate of this stem in a directory, unless its path is too long.
-    pub(crate) fn new(
+    /// The candidate by the whole name in a directory, unless its path is too long.
+    pub(crate) fn by_name(dir: &'a [u8], name: &'a [u8]) -> Option<Spot<'a>>
+        requires path { IsPath dir.now }
+        requires part { IsPart name.now }
+        ensures { option_to_list result ≡ place_at dir.now 0 (name.now ++ codes ".do") }
+    {
+        Spot::new(dir, b"", name_lead(dir), name, 0)
+    }
+
+    /// The candidate by a suffix in a directory, unless its path is too long.
+    pub(crate) fn by_suffix(dir: &'a [u8], suffix: &'a [u8]) -> Option<Spot<'a>>
+        requires path { IsPath dir.now }
+        requires part { IsPart suffix.now }
+        ensures { option_to_list result ≡ place_at dir.now (length suffix.now) (codes "default" ++ suffix.now ++ codes ".do") }
+    {
+        Spot::new(dir, b"default", default_lead(dir), suffix, suffix.len())
+    }
+
+    /// The candidate of this stem behind a front, which the lead ends in.
+    fn new(
         dir: &'a [u8],
-        front: &'a [u8],
-        suffix: &'a [u8],
+        front: &[u8],
+        lead: &'a [u8],
+        stem: &'a [u8],
         cut: usize,
     ) -> Option<Spot<'a>>
         requires path { IsPath dir.now }
-        requires part { IsPart (front.now ++ suffix.now) }
-        ensures { option_to_list result ≡ place_at dir.now cut (front.now ++ suffix.now ++ codes ".do") }
+        requires part { IsPart (front.now ++ stem.now) }
+        requires lead { lead.now ≡ lead_of dir.now front.now }
+        ensures { option_to_list result ≡ place_at dir.now cut (front.now ++ stem.now ++ codes ".do") }
     {
-        if !fits(dir, front, suffix) {
+        if !fits(dir, front, stem) {
             return None;
         }
         Some(Spot {
             dir,
-            front,
-            suffix,
+            lead,
+            stem,
             cut,
         })
     }
@@ -69,12 +92,9 @@ impl<'a> Spot<'a> {
         ensures path { IsPath self.now.do_file }
         ensures text { OnOk result (text.new.items ≡ text.old.items ++ self.now.do_file) }
     {
-        if !self.dir.is_empty() {
-            text.extend_from_slice(self.dir)?;
-            text.push(b'/')?;
-        }
-        text.extend_from_slice(self.front)?;
-        text.extend_from_slice(self.suffix)?;
+        text.extend_from_slice(self.dir)?;
+        text.extend_from_slice(self.lead)?;
+        text.extend_from_slice(self.stem)?;
         text.extend_from_slice(b".do")
     }
 
@@ -84,15 +104,7 @@ impl<'a> Spot<'a> {
         ensures writes { Writes (W.held out.old) (W.held out.new) result (front.now ++ self.now.do_file ++ 10 ∷ []) }
         ensures failed { W.has_failed out.new ≡ is_err result }
     {
-        let slash = if self.dir.is_empty() {
-            b"".as_slice()
-        } else {
-            b"/".as_slice()
-        };
-        write_parts(
-            out,
-            &[front, self.dir, slash, self.front, self.suffix, b".do\n"],
-        )
+        write_parts(out, &[front, self.dir, self.lead, self.stem, b".do\n"])
     }
 
     /// The path of the .do file.
@@ -112,6 +124,26 @@ impl<'a> Spot<'a> {
         let dir = path_of(alloc, self.dir)?;
         let cut = self.cut;
         Ok(Candidate { do_file, dir, cut })
+    }
+}
+
+/// What stands between a directory and a name in it.
+fn name_lead(dir: &[u8]) -> &[u8]
+    ensures { result.now ≡ lead_of dir.now [] }
+{
+    match dir {
+        [] => b"",
+        _ => b"/",
+    }
+}
+
+/// What stands between a directory and the suffix of a candidate in it.
+fn default_lead(dir: &[u8]) -> &[u8]
+    ensures { result.now ≡ lead_of dir.now (codes "default") }
+{
+    match dir {
+        [] => b"default",
+        _ => b"/default",
     }
 }
 

@@ -172,12 +172,12 @@ impl<'a> Iterator for Stems<'a> {
         match self.next {
             Next::Whole(dir) => {
                 self.next = behind_whole(self.name, dir);
-                Some(Spot::new(dir, b"", self.name, 0))
+                Some(Spot::by_name(dir, self.name))
             }
             Next::Suffix(dir, end) => {
                 let suffix = first_suffix(end);
                 self.next = behind(self.name, dir, suffix);
-                Some(Spot::new(dir, b"default", suffix, suffix.len()))
+                Some(Spot::by_suffix(dir, suffix))
             }
             Next::Nothing => None,
         }
