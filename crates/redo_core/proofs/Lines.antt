@@ -16,6 +16,10 @@ created : (missing : List (List ℕ)) → create_lines missing ≡ flat_map dep_
 created [] = refl
 created (p ∷ ps) = ap (λ rest. (codes "dep create " ++ p ++ 10 ∷ []) ++ rest) (created ps)
 
+-- lines with that front are these
+pub front-lines : (front : List ℕ) (missing : List (List ℕ)) → front ≡ codes "dep create " → flat_map (λ path. front ++ path ++ 10 ∷ []) missing ≡ create_lines missing
+front-lines front missing e = ap (λ f. flat_map (λ path. f ++ path ++ 10 ∷ []) missing) e
+
 -- a record's text is that of the candidates, of the .do file and of what the script declared
 pub record-lines : (missing : List (List ℕ)) (do_file : Option (List ℕ)) (own deps : List Dep) → deps ≡ entries_of missing do_file own
     → flat_map dep_line deps ≡ (create_lines missing ++ flat_map dep_line (change_of do_file)) ++ flat_map dep_line own

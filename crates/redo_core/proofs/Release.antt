@@ -12,7 +12,7 @@ use Rattle.redo_step.specs.declared.deps.Dep.{Dep}
 use Rattle.redo_core.specs.declared.work.End.{End}
 use Rattle.redo_core.proofs.TakeIn.{after-sound, after-state, after-entries, moved}
 use Rattle.redo_core.proofs.SlotLemmas.{slice_get-from}
-use Rattle.redo_core.specs.Slots.{MayTakeIn, IsPutBackThere, IsTakenIn, AreLookedAt, table_entries, table_state, path_at, IsPlace, IsQueue, IsTable, IsTableOf, AllWatched, AreReleased}
+use Rattle.redo_core.specs.Slots.{MayTakeIn, IsPutBackThere, IsTakenIn, IsLookedAt, AreLookedAt, table_entries, table_state, path_at, IsPlace, IsQueue, IsTable, IsTableOf, AllWatched, AreReleased}
 use Rattle.redo_core.specs.declared.table.Slot.{Slot}
 use Rattle.redo_core.specs.declared.table.Table.{Table}
 use Rattle.redo_core.proofs.SlotLemmas.{paths_of-slots}
@@ -89,27 +89,41 @@ map-same f g (x ∷ xs) h =
     let rest = map-same f g xs (λ k m. h k (inr m)) in
     ap (λ y. y ∷ map f xs) (h x (inl refl)) ∙ ap (λ ys. g x ∷ ys) rest
 
+-- the numbers left are looked at
+pub looked-put : (tree : Tree) (limits : ℕ × ℕ) (t u v : Table) (at : ℕ) (freed freed' pending : List ℕ) →
+    IsPutBackThere tree limits t u at freed pending → IsTableOf tree limits v freed' → AreLookedAt tree limits u v pending → IsPutBackThere tree limits t v at freed' []
+looked-put tree limits t u v at freed freed' pending put table looked =
+    let P : List ℕ → Type 0 = λ xs. AllWatched (rules_of tree limits) limits.0 u.targets.keys u.slots.items xs in
+    record {
+      table = table;
+      entries = looked.entries ∙ put.entries;
+      ready = looked.rest.1 ∙ put.ready;
+      keys_kept = λ k p h. rw looked.rest.0 (put.keys_kept k p h);
+      within = λ k m. absurd m;
+      watched = looked.watched [] (subst P (sym (append-nil pending)) put.watched);
+    }
+
+-- one number is looked at
+pub looked-one : (tree : Tree) (limits : ℕ × ℕ) (t u : Table) (at : ℕ) → IsLookedAt tree limits t u at → AreLookedAt tree limits t u (at ∷ [])
+looked-one tree limits t u at one = record { entries = one.entries; rest = one.rest; slots = one.slots; watched = one.watched }
+
 -- all the steps together
-pub taken-in : (tree : Tree) (limits : ℕ × ℕ) (t u v w : Table) (at : ℕ) (end : End) (freed freed' pending : List ℕ) (may : MayTakeIn tree limits t at end) →
-    IsPutBackThere tree limits t u at freed pending → IsTableOf tree limits v freed' → AreLookedAt tree limits u v pending → AreReleased v w freed' → IsTakenIn tree limits t w at
-taken-in tree limits t u v w at end freed freed' pending may put table looked released' =
+pub taken-in : (tree : Tree) (limits : ℕ × ℕ) (t u v : Table) (at : ℕ) (end : End) (freed : List ℕ) (may : MayTakeIn tree limits t at end) →
+    IsPutBackThere tree limits t u at freed [] → AreReleased u v freed → IsTakenIn tree limits t v at
+taken-in tree limits t u v at end freed may put released' =
     let r = rules_of tree limits in
-    let P : List ℕ → Type 0 = λ xs. AllWatched r limits.0 u.targets.keys u.slots.items xs in
-    let watched : AllWatched r limits.0 v.targets.keys v.slots.items [] = looked.watched [] (subst P (sym (append-nil pending)) put.watched) in
     let S : List Entry → Type 0 = AreStanding r may.request in
-    let entries = looked.entries ∙ put.entries in
-    let standing = subst S (sym entries) (after-sound tree limits t at end may).standing in
+    let standing = subst S (sym put.entries) (after-sound tree limits t at end may).standing in
     let T : List Entry → List (List ℕ) → State = λ xs ps. record { entries = xs; ready = ps } in
-    let numbers : v.ready ≡ t.ready = looked.rest.1 ∙ put.ready in
-    let names : map (path_at v.targets.keys) v.ready.items ≡ map (path_at t.targets.keys) t.ready.items =
-    (let one : map (path_at v.targets.keys) v.ready.items ≡ map (path_at u.targets.keys) t.ready.items = rw (looked.rest.0, numbers) refl in
+    let names : map (path_at u.targets.keys) u.ready.items ≡ map (path_at t.targets.keys) t.ready.items =
+    (let one : map (path_at u.targets.keys) u.ready.items ≡ map (path_at u.targets.keys) t.ready.items = rw put.ready refl in
     one ∙ map-same (path_at u.targets.keys) (path_at t.targets.keys) t.ready.items (λ k m.
     let found = slice_get-from t.targets.keys k (omega (arith, may.table.one_each, may.table.queue.ready_below k m)) in
     rw (put.keys_kept k found.0 found.1, found.1) refl)) in
-    let before : table_state r limits.0 v ≡ T (moved tree limits t at end may) (map (path_at t.targets.keys) t.ready.items) =
-    ap (λ xs. T xs (map (path_at v.targets.keys) v.ready.items)) (entries ∙ after-entries tree limits t at end may) ∙ ap (T (moved tree limits t at end may)) names in
+    let before : table_state r limits.0 u ≡ T (moved tree limits t at end may) (map (path_at t.targets.keys) t.ready.items) =
+    ap (λ xs. T xs (map (path_at u.targets.keys) u.ready.items)) (put.entries ∙ after-entries tree limits t at end may) ∙ ap (T (moved tree limits t at end may)) names in
     record {
-      table = released-table tree limits may.request v w freed' table standing watched released';
-      watched = released-watched tree limits may.request v w freed' table standing watched released';
-      state = released-state tree limits may.request v w freed' table standing watched released' ∙ ap (released r) before ∙ sym (after-state tree limits t at end may);
+      table = released-table tree limits may.request u v freed put.table standing put.watched released';
+      watched = released-watched tree limits may.request u v freed put.table standing put.watched released';
+      state = released-state tree limits may.request u v freed put.table standing put.watched released' ∙ ap (released r) before ∙ sym (after-state tree limits t at end may);
     }

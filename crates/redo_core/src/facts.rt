@@ -41,6 +41,15 @@ impl Facts {
         *self.few.allocator()
     }
 
+    /// Makes room for so many more facts, as far as they are among the first few.
+    pub(crate) fn reserve(&mut self, additional: usize) -> Result<(), AllocError>
+        ensures known { known_in self.new ≡ known_in self.old }
+        ensures gained { self.new.gained ≡ self.old.gained }
+    {
+        let room = FEW.saturating_sub(self.few.len());
+        self.few.reserve(additional.min(room))
+    }
+
     /// Adds a fact.
     pub(crate) fn add(&mut self, fact: Arc<Fact>) -> Result<(), AllocError>
         ensures { OnOk result (AddsFact (arc_value fact) self.old self.new) }

@@ -8,6 +8,7 @@ ghost use Rattle.redo_core.specs.Schedule.{opening};
 ghost use Rattle.redo_tree.specs.Tree.{file_at};
 
 use crate::board::Stop;
+use crate::fact::Fact;
 use crate::table::{Table, decide, enter, is_operand, park, settle};
 use crate::work::{Begun, End};
 use indexmap::IndexSet;
@@ -32,7 +33,7 @@ pub(crate) fn enter_all(
     ensures numbers { IfOk result (λ ns. AreNumbers table.new.targets.keys ns.items (operands (rules_of (arc_value tree.now) limits) deps.now)) }
     ensures too_many { result ≡ Err Stop.TooMany → AreTooMany (rules_of (arc_value tree.now) limits) limits.0 (table_entries (rules_of (arc_value tree.now) limits) limits.0 table.old) (operands (rules_of (arc_value tree.now) limits) deps.now) }
 {
-    let mut numbers = Vec::new(alloc);
+    let mut numbers = Vec::with_capacity(alloc, deps.len())?;
     for dep in deps {
         if is_operand(tree, limits, dep) {
             let at = enter(table, alloc, &dep.path, tree, limits, freed)?;
@@ -82,31 +83,43 @@ fn asked(begun: &Begun) -> &[Dep]
     &begun.job.declared().as_slice()[begun.facts.gained..]
 }
 
-/// Notes what a job that was out came to, with what it asks for entered, and gives the numbers to look at again.
-fn put_back(
+/// Notes the fact that a job that was out ended with, and looks again at what watches its target.
+fn conclude(
     table: &mut Table,
     alloc: Global,
     at: usize,
-    end: End,
+    fact: Arc<Fact>,
     tree: &Arc<Tree>,
     limits: Limits,
     freed: &mut Vec<u32>,
-) -> Result<Vec<u32>, Stop>
-    requires may { MayTakeIn (arc_value tree.now) limits table.old at end }
+) -> Result<(), AllocError>
+    requires may { MayTakeIn (arc_value tree.now) limits table.old at (End.Ended fact) }
     requires none_freed { freed.old.items ≡ [] }
-    ensures ok { IfOk result (λ pending. IsPutBackThere (arc_value tree.now) limits table.old table.new at freed.new.items pending.items) }
+    ensures { OnOk result (IsPutBackThere (arc_value tree.now) limits table.old table.new at freed.new.items []) }
+{
+    let watchers = decide(table, alloc, at, fact);
+    settle_all(table, &watchers, tree, limits, freed)
+}
+
+/// Parks a job that was out and stopped, with what it asks for entered, and looks at it.
+fn suspend(
+    table: &mut Table,
+    alloc: Global,
+    at: usize,
+    begun: Box<Begun>,
+    tree: &Arc<Tree>,
+    limits: Limits,
+    freed: &mut Vec<u32>,
+) -> Result<(), Stop>
+    requires may { MayTakeIn (arc_value tree.now) limits table.old at (End.Stopped begun) }
+    requires none_freed { freed.old.items ≡ [] }
+    ensures ok { OnOk result (IsPutBackThere (arc_value tree.now) limits table.old table.new at freed.new.items []) }
     ensures too_many { result ≡ Err Stop.TooMany → limits.0 < length (state_after (arc_value tree.now) limits table.old at).entries }
 {
-    match end {
-        End::Ended(fact) => Ok(decide(table, alloc, at, fact)),
-        End::Stopped(begun) => {
-            let mut pending = Vec::new(alloc);
-            pending.push(at as u32)?;
-            let operands = enter_all(table, alloc, asked(&begun), tree, limits, freed)?;
-            park(table, at, begun, operands);
-            Ok(pending)
-        }
-    }
+    let operands = enter_all(table, alloc, asked(&begun), tree, limits, freed)?;
+    park(table, at, begun, operands);
+    settle(table, at as u32, tree, limits, freed)?;
+    Ok(())
 }
 
 /// Takes in what a job that was out came to.
@@ -123,8 +136,10 @@ pub(crate) fn take_in(
     ensures too_many { result ≡ Err Stop.TooMany → limits.0 < length (state_after (arc_value tree.now) limits table.old at).entries }
 {
     let mut freed = Vec::new(alloc);
-    let pending = put_back(table, alloc, at, end, tree, limits, &mut freed)?;
-    settle_all(table, &pending, tree, limits, &mut freed)?;
+    match end {
+        End::Ended(fact) => conclude(table, alloc, at, fact, tree, limits, &mut freed)?,
+        End::Stopped(begun) => suspend(table, alloc, at, begun, tree, limits, &mut freed)?,
+    }
     release(table, freed)?;
     Ok(())
 }

@@ -1,5 +1,6 @@
-//! The report of a build as text, written piece by piece. Nothing here allocates but [`report_text`].
-ghost use Rattle.std.specs.Prelude.{◌≡◌, ◌++◌, ◌∷◌, [], IfOk, false, flat_map, is_err, option_copied};
+//! The report of a build as text, written piece by piece. Nothing here allocates but [`report_text`], and what keeps the
+//! lines of candidates for the next row.
+ghost use Rattle.std.specs.Prelude.{◌≡◌, ◌++◌, ◌∷◌, [], IfOk, codes, false, flat_map, is_err, option_copied};
 ghost use Rattle.redo_step.specs.Entries.{change_of};
 ghost use Rattle.redo_tree.specs.Bundle.{Writes};
 ghost use Rattle.redo_core.specs.ReportText.{begun_line, dep_line, file_text, outcome_words, path_line, reason_word, report_text, row_text, why_words, word_at};
@@ -10,6 +11,7 @@ use redo_path::Path;
 use redo_script::{Reason, ScriptFault};
 use redo_step::{Dep, DepKind, Outcome, Record, Why};
 use redo_tree::{Broken, ByteOut, Content, Plain, write_all, write_parts};
+use redo_which::Lines;
 use std::alloc::{AllocError, Global};
 
 /// The report's text: the rows with their records, the scripts that were begun, the files that were built, each as it
@@ -27,8 +29,8 @@ pub fn report_text(alloc: Global, report: &Report, with_files: bool) -> Result<V
     }
 }
 
-/// Writes the text that [`report_text`] makes. It allocates nothing, and goes out in many small pieces, so hand in a writer
-/// with a buffer. After a failure a beginning of the text was written.
+/// Writes the text that [`report_text`] makes. It goes out in many small pieces, so hand in a writer with a buffer. After a
+/// failure a beginning of the text was written. It needs no memory but to write faster: neighbours' candidates are spelled once.
 pub fn write_report<W: ByteOut>(
     out: &mut W,
     report: &Report,
@@ -38,7 +40,8 @@ pub fn write_report<W: ByteOut>(
     ensures writes { Writes (W.held out.old) (W.held out.new) result (report_text report.now with_files) }
     ensures failed { W.has_failed out.new ≡ is_err result }
 {
-    write_rows(out, &report.rows)?;
+    let lines = Lines::new(*report.rows.allocator(), b"dep create ");
+    write_rows(out, &report.rows, lines)?;
     write_begun(out, &report.begun)?;
     if with_files {
         write_files(out, &report.files)?;
@@ -47,13 +50,18 @@ pub fn write_report<W: ByteOut>(
 }
 
 /// Writes the rows, with their records.
-fn write_rows<W: ByteOut>(out: &mut W, rows: &[Row]) -> Result<(), Broken>
-    requires { W.has_failed out.old ≡ false }
+fn write_rows<'a, W: ByteOut>(
+    out: &mut W,
+    rows: &'a [Row],
+    mut lines: Lines<'a>,
+) -> Result<(), Broken>
+    requires works { W.has_failed out.old ≡ false }
+    requires front { lines.0 ≡ codes "dep create " }
     ensures writes { Writes (W.held out.old) (W.held out.new) result (flat_map row_text rows.now) }
     ensures failed { W.has_failed out.new ≡ is_err result }
 {
     for row in rows {
-        write_row(out, row)?;
+        write_row(out, row, &mut lines)?;
     }
     Ok(())
 }
@@ -83,24 +91,32 @@ fn write_files<W: ByteOut>(out: &mut W, files: &[(Path, Content)]) -> Result<(),
 }
 
 /// Writes a row, with its record.
-fn write_row<W: ByteOut>(out: &mut W, row: &Row) -> Result<(), Broken>
-    requires { W.has_failed out.old ≡ false }
+fn write_row<'a, W: ByteOut>(out: &mut W, row: &'a Row, lines: &mut Lines<'a>) -> Result<(), Broken>
+    requires works { W.has_failed out.old ≡ false }
+    requires front { lines.old.0 ≡ codes "dep create " }
+    ensures front { lines.new.0 ≡ lines.old.0 }
     ensures writes { Writes (W.held out.old) (W.held out.new) result (row_text row.now) }
     ensures failed { W.has_failed out.new ≡ is_err result }
 {
     write_outcome(out, &row.outcome)?;
     write_path_line(out, b" ", &row.path)?;
-    write_record(out, &row.deps)
+    write_record(out, &row.deps, lines)
 }
 
 /// Writes the lines of a record. Of its entries none is made.
-fn write_record<W: ByteOut>(out: &mut W, deps: &Record) -> Result<(), Broken>
-    requires { W.has_failed out.old ≡ false }
+fn write_record<'a, W: ByteOut>(
+    out: &mut W,
+    deps: &'a Record,
+    lines: &mut Lines<'a>,
+) -> Result<(), Broken>
+    requires works { W.has_failed out.old ≡ false }
+    requires front { lines.old.0 ≡ codes "dep create " }
+    ensures front { lines.new.0 ≡ lines.old.0 }
     ensures writes { Writes (W.held out.old) (W.held out.new) result (flat_map dep_line deps.now) }
     ensures failed { W.has_failed out.new ≡ is_err result }
 {
     let parts = deps.parts();
-    parts.missing.write_lines(b"dep create ", out)?;
+    lines.write(parts.missing, out)?;
     write_do_file(out, parts.do_file)?;
     write_deps(out, parts.own)
 }

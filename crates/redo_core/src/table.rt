@@ -170,6 +170,7 @@ fn gain(table: &Table, operands: &[u32], job: &Job, facts: &mut Facts) -> Result
     requires { (k n : ℕ) → slice_get operands.now k ≡ Some n → IsDecidedNumber table.now n }
     ensures { OnOk result (Gains table.now operands.now job.now facts.old facts.new) }
 {
+    facts.reserve(operands.len())?;
     for at in operands {
         gain_one(table, *at, facts)?;
     }

@@ -106,6 +106,17 @@ impl Path {
         }
     }
 
+    /// The path with a copy of this text, through which it doesn't look: for a text that is known to be
+    /// a path's, as one that was put together of names. What is read from outside is a word, and goes
+    /// to [`resolve`].
+    pub fn of_text(alloc: Global, text: &[u8]) -> Result<Path, AllocError>
+        requires { IsPath text.now }
+        ensures { IfOk result (λ path. path ≡ text.now) }
+    {
+        let text = Bytes::from_slice(alloc, text)?;
+        Ok(Path { text })
+    }
+
     /// The names, with slashes between them; nothing at the root.
     pub fn text(&self) -> &[u8]
         ensures text { result.now ≡ self.now }
@@ -128,7 +139,7 @@ impl Path {
         ensures names { IfOk result (λ parent. IfSome parent (λ up. names self.now ≡ names up ++ name_of self.now ∷ [])) }
     {
         match front(self.text()) {
-            Some(front) => Ok(Some(copied(alloc, front)?)),
+            Some(front) => Ok(Some(Path::of_text(alloc, front)?)),
             None => Ok(None),
         }
     }
@@ -231,15 +242,6 @@ pub(crate) fn share(text: Vec<u8>) -> Result<Path, AllocError>
     ensures { IfOk result (λ path. path ≡ text.items) }
 {
     let text = Bytes::from_vec(text)?;
-    Ok(Path { text })
-}
-
-/// The path with a copy of this text.
-pub(crate) fn copied(alloc: Global, text: &[u8]) -> Result<Path, AllocError>
-    requires { IsPath text.now }
-    ensures { IfOk result (λ path. path ≡ text.now) }
-{
-    let text = Bytes::from_slice(alloc, text)?;
     Ok(Path { text })
 }
 

@@ -173,6 +173,8 @@ fn a_path_has_a_name_and_a_directory(rt: HostRuntime) -> Result<(), Fail> {
         let whole = path(alloc, text)?;
         let copy = whole.clone()?;
         assert!(rt; copy == whole, "{text}");
+        let same = Path::of_text(alloc, copy.text())?;
+        assert!(rt; same == whole, "{text}");
         assert_eq!(rt; copy.name(), name.as_bytes(), "{text}");
         let parent = copy.parent(alloc)?.ok_or("no parent")?;
         assert_eq!(rt; parent.text(), up.as_bytes(), "{text}");

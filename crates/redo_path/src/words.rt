@@ -6,7 +6,7 @@ ghost use Rattle.redo_path.specs.declared.PathFault.TheVariants.{Memory};
 ghost use Rattle.redo_path.specs.Names.{IsName, IsPart, child_of, is_control, names, parts};
 ghost use Rattle.redo_path.specs.Resolve.{Answers, Leads, resolved, step, up_from, within_limit, word_fault};
 
-use crate::{Path, PathFault, copied, name_start, share};
+use crate::{Path, PathFault, name_start, share};
 use std::alloc::{AllocError, Global};
 
 /// The most bytes that a name has.
@@ -130,7 +130,7 @@ fn spelled(alloc: Global, word: &[u8]) -> Result<Path, PathFault>
     if word.len() > LONGEST_PATH {
         return Err(PathFault::LongPath);
     }
-    Ok(copied(alloc, word)?)
+    Ok(Path::of_text(alloc, word)?)
 }
 
 /// Follows a word from a directory, part by part.

@@ -320,7 +320,12 @@ impl<'a> Parser<'a> {
     {
         match self.opens.pop() {
             Some(open) => Parser::fault(open.line, Reason::IfShape),
-            None => Ok(Script { stmts: self.so_far }),
+            None => {
+                // A script may wait for long, and many at a time.
+                let mut stmts = self.so_far;
+                stmts.shrink_to_fit();
+                Ok(Script { stmts })
+            }
         }
     }
 

@@ -17,6 +17,7 @@ use std::alloc::AllocError;
 pub(crate) fn declare(deps: &mut Deps, kind: DepKind, paths: &[Path]) -> Result<(), AllocError>
     ensures { OnOk result (deps.new ≡ with_entries deps.old kind paths.now) }
 {
+    deps.reserve(paths.len())?;
     for path in paths {
         deps.insert(Dep {
             kind,

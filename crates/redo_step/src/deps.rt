@@ -26,11 +26,11 @@ pub struct Dep {
 /// Up to how many entries are compared with each other rather than hashed.
 const FEW: usize = 8;
 
-/// Where entries are kept.
+/// Where entries are kept. A set is boxed, since most records have a few entries and each target has one.
 #[derive(Drop)]
 enum Store {
     Few(Vec<Dep>),
-    Many(IndexSet<Dep>),
+    Many(Box<IndexSet<Dep>>),
 }
 
 /// Entries in the order of their first mention, each once. In a contract it is the list of them.
@@ -62,6 +62,17 @@ impl Deps {
         }
     }
 
+    /// Makes room for so many more entries, and for no others, as long as they are few.
+    pub(crate) fn reserve(&mut self, additional: usize) -> Result<(), AllocError>
+        ensures { self.new ≡ self.old }
+    {
+        if let Store::Few(entries) = &mut self.store {
+            let room = FEW.saturating_sub(entries.len());
+            entries.reserve_exact(additional.min(room))?;
+        }
+        Ok(())
+    }
+
     /// Puts an entry last, unless it is there.
     pub fn insert(&mut self, dep: Dep) -> Result<(), AllocError>
         ensures ok { OnOk result (self.new ≡ with_entry self.old dep.kind dep.path) }
@@ -72,8 +83,8 @@ impl Deps {
                 if entries.len() < FEW {
                     return add(entries, dep);
                 }
-                let entries = hashed(entries, dep)?;
-                self.store = Store::Many(entries);
+                let set = Box::new(*entries.allocator(), hashed(entries, dep)?)?;
+                self.store = Store::Many(set);
             }
             Store::Many(entries) => put(entries, dep)?,
         }

@@ -102,7 +102,8 @@ impl Scene<'_> {
     pub(crate) fn is_third(&self, path: &Path) -> Result<bool, AllocError>
         ensures { IfOk result (λ found. found ≡ is_third (scene_setting self.now).third path.now) }
     {
-        match resolve(self.alloc, &self.args.dir, self.args.three.as_slice()) {
+        let three = self.args.three(self.alloc)?;
+        match resolve(self.alloc, &self.args.dir, &three) {
             Ok(third) => Ok(third == *path),
             Err(PathFault::Memory) => Err(AllocError),
             Err(_) => Ok(false),

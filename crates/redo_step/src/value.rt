@@ -12,14 +12,14 @@ use redo_script::{Parameter, Part, Word, is_plain_byte};
 use redo_which::Args;
 use std::alloc::{AllocError, Global};
 
-/// The bytes that a parameter stands for.
-fn argument(args: &Args, parameter: Parameter) -> &[u8]
-    ensures { result.now ≡ value_in (arguments_view args.now) parameter }
+/// What a parameter stands for.
+fn argument<'a>(alloc: Global, args: &'a Args, parameter: Parameter) -> Result<Text<'a>, AllocError>
+    ensures { IfOk result (λ text. text ≡ value_in (arguments_view args.now) parameter) }
 {
     match parameter {
-        Parameter::One => args.one.as_slice(),
-        Parameter::Two => args.two.as_slice(),
-        Parameter::Three => args.three.as_slice(),
+        Parameter::One => Ok(Text::lent(args.one())),
+        Parameter::Two => Ok(Text::lent(args.two())),
+        Parameter::Three => Ok(Text::held(args.three(alloc)?)),
     }
 }
 
@@ -43,18 +43,22 @@ fn are_plain_bytes(bytes: &[u8]) -> bool
 }
 
 /// What a part stands for, or none where its bytes aren't fit.
-fn part_value<'a>(args: &'a Args, part: &'a Part) -> Option<&'a [u8]>
-    ensures { option_copied result ≡ added (value_in (arguments_view args.now)) part.now }
+fn part_value<'a>(
+    alloc: Global,
+    args: &'a Args,
+    part: &'a Part,
+) -> Result<Option<Text<'a>>, AllocError>
+    ensures { IfOk result (λ value. value ≡ added (value_in (arguments_view args.now)) part.now) }
 {
     match part {
-        Part::Lit(bytes) => Some(bytes.as_slice()),
-        Part::Quoted(parameter) => Some(argument(args, *parameter)),
+        Part::Lit(bytes) => Ok(Some(Text::lent(bytes.as_slice()))),
+        Part::Quoted(parameter) => Ok(Some(argument(alloc, args, *parameter)?)),
         Part::Bare(parameter) => {
-            let bytes = argument(args, *parameter);
-            if is_fit_value(bytes) {
-                Some(bytes)
+            let text = argument(alloc, args, *parameter)?;
+            if is_fit_value(text.bytes()) {
+                Ok(Some(text))
             } else {
-                None
+                Ok(None)
             }
         }
     }
@@ -66,10 +70,10 @@ fn joined_value(alloc: Global, args: &Args, parts: &[Part]) -> Result<Option<Vec
 {
     let mut value = Vec::new(alloc);
     for part in parts {
-        let Some(bytes) = part_value(args, part) else {
+        let Some(text) = part_value(alloc, args, part)? else {
             return Ok(None);
         };
-        value.extend_from_slice(bytes)?;
+        value.extend_from_slice(text.bytes())?;
     }
     Ok(Some(value))
 }
@@ -83,10 +87,7 @@ fn parts_value<'a>(
     ensures { IfOk result (λ value. value ≡ value_of (value_in (arguments_view args.now)) (symbols_of parts.now)) }
 {
     match parts {
-        [part] => match part_value(args, part) {
-            Some(bytes) => Ok(Some(Text::lent(bytes))),
-            None => Ok(None),
-        },
+        [part] => part_value(alloc, args, part),
         parts => match joined_value(alloc, args, parts)? {
             Some(bytes) => Ok(Some(Text::held(bytes))),
             None => Ok(None),

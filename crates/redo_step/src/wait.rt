@@ -1,6 +1,6 @@
 //! What a redo-ifchange waits for.
 
-ghost use Rattle.std.specs.Prelude.{◌≡◌, IfOk, is_none, []};
+ghost use Rattle.std.specs.Prelude.{◌≡◌, IfOk, IsTrue, false, is_none, []};
 ghost use Rattle.redo_step.specs.Meaning.{State};
 ghost use Rattle.redo_step.specs.Machine.{GoesOn};
 ghost use Rattle.redo_step.specs.Waiting.{unanswered, any_failure, waited_on};
@@ -27,6 +27,9 @@ impl Waiting {
     pub(crate) fn go_on<A: Answers>(self, alloc: Global, answers: &A) -> Result<(), Stop>
         ensures { (s : State) → GoesOn self result (waited_on (A.ask answers.now) self.line self.targets.items (unanswered (A.ask answers.now) [] self.targets.items) s) s }
     {
+        if are_made(answers, &self.targets) {
+            return Ok(());
+        }
         let found = without_answer(alloc, answers, &self.targets)?;
         if !found.is_empty() {
             return Err(Stop::Waits(found, self));
@@ -36,6 +39,20 @@ impl Waiting {
         }
         Ok(())
     }
+}
+
+/// Whether all of these targets have answers, and none of them failed. Mostly it is so once a script goes on.
+fn are_made<A: Answers>(answers: &A, targets: &[Path]) -> bool
+    ensures answered { IsTrue result → unanswered (A.ask answers.now) [] targets.now ≡ [] }
+    ensures good { IsTrue result → any_failure (A.ask answers.now) targets.now ≡ false }
+{
+    for path in targets {
+        match answers.answer(path) {
+            Some(outcome) if !outcome.has_failed() => {}
+            _ => return false,
+        }
+    }
+    true
 }
 
 /// Whether one of these targets has failed.

@@ -1,11 +1,11 @@
 -- Candidates that are passed over.
-use Rattle.std.proofs.Common.{◌≡◌, ◌≢◌, ◌≤◌, ◌<◌, ◌+◌, ◌-◌, ℕ, Bool, true, false, cond, not, List, [], ◌∷◌, ◌++◌, length, map, take, drop, codes, refl, sym, ap, subst, ◌∙◌, arith, suc, Option, None, append_assoc, length-append, ◌&&◌}
+use Rattle.std.proofs.Common.{◌≡◌, ◌≢◌, ◌<◌, ◌≤◌, filter, ◌+◌, ◌-◌, ℕ, Bool, true, false, cond, not, List, [], ◌∷◌, ◌++◌, length, map, take, drop, codes, refl, sym, ap, subst, ◌∙◌, arith, suc, append_assoc, length-append, ◌&&◌}
 use Rattle.std.proofs.lemmas.Grind.{common_steps}
-use Rattle.std.proofs.lemmas.List.Sums.{take_while-cons}
+use Rattle.std.proofs.lemmas.List.Sums.{count_by-le-length, length-filter, take_while-cons}
 use Rattle.std.specs.List.{AllByRecursion}
-use Rattle.std.specs.Prelude.{find, flat_map, is_some, nat_le, take_while}
+use Rattle.std.specs.Prelude.{is_some, nat_le, take_while}
 use Rattle.redo_path.proofs.Parts.{AllByRecursion-append}
-use Rattle.redo_path.specs.Names.{IsPart, IsPath, child_of}
+use Rattle.redo_path.specs.Names.{IsPart, child_of}
 use Rattle.redo_tree.specs.Tree.{HasNoDefaults, Tree}
 use Rattle.redo_which.specs.Candidates.{Place, is_dot, place_at, suffixes}
 use Rattle.redo_which.specs.Passed.{Passes}
@@ -14,7 +14,7 @@ use Rattle.redo_which.specs.Stems.{shorter, stems_by}
 use Rattle.redo_which.proofs.Files.{IsFileName-default, suffixes_part}
 use Rattle.redo_which.proofs.Once.{place-all}
 use Rattle.redo_which.proofs.Pieces.{no_place, one_place, part_end}
-use Rattle.redo_which.proofs.Stems.{flat, flat-append, shorter-none}
+use Rattle.redo_which.proofs.Stems.{flat, flat-append}
 
 abbrev IsNoFile : Tree → Place → Type 0
 IsNoFile tree p = is_file tree p.do_file ≡ false
@@ -106,6 +106,46 @@ pub count-none : (dir left suffix : List ℕ) → IsPart suffix → suffixes lef
 count-none dir left suffix part e h =
     ap (λ ends. length (flat (stems_by ends dir))) e
     ∙ ap (λ places. length (places ++ flat (stems_by (shorter suffix) dir))) (sym (no_place dir (codes "default") suffix (length suffix) (default_part suffix part) h))
+
+fit-less : (n m k l : ℕ) → k ≤ n → l ≤ m → (nat_le n 255 && nat_le m 1024) ≡ true → (nat_le k 255 && nat_le l 1024) ≡ true
+fit-less n m k l h g e = grind (arith, common_steps)
+
+child-less : (dir f g : List ℕ) → length f ≤ length g → length (child_of dir f) ≤ length (child_of dir g)
+child-less [] f g h = h
+child-less (d ∷ ds) f g h = let a = length-append (d ∷ ds) (47 ∷ f) in let b = length-append (d ∷ ds) (47 ∷ g) in omega (arith, a, b, h)
+
+-- where an end fits, a shorter one does
+fit-rest : (dir : List ℕ) (b : ℕ) (bs : List ℕ) → fit dir (b ∷ bs) ≡ true → fit dir bs ≡ true
+fit-rest dir b bs h =
+    let less : length (codes "default" ++ bs ++ codes ".do") ≤ length (codes "default" ++ (b ∷ bs) ++ codes ".do") = omega arith in
+    fit-less _ _ _ _ less (child-less dir (codes "default" ++ bs ++ codes ".do") (codes "default" ++ (b ∷ bs) ++ codes ".do") less) h
+
+-- where an end fits, there is a candidate by each of its suffixes: one for each dot, and one more
+pub count-all : (dir end : List ℕ) → IsPart end → fit dir end ≡ true → length (flat (stems_by (suffixes end) dir)) ≡ length (filter is_dot end) + 1
+count-all dir [] part h = count-fits dir [] [] part refl h
+count-all dir (b ∷ bs) part h =
+    let rest = count-all dir bs (part_end (b ∷ []) bs part) (fit-rest dir b bs h) in
+    let first : is_dot b ≡ true → length (flat (stems_by (suffixes (b ∷ bs)) dir)) ≡ length (filter is_dot (b ∷ bs)) + 1 = λ dot.
+    let e = count-fits dir (b ∷ bs) (b ∷ bs) part (ap (λ c. cond c ((b ∷ bs) ∷ suffixes bs) (suffixes bs)) dot) h in
+    let f : length (filter is_dot (b ∷ bs)) ≡ suc (length (filter is_dot bs)) = ap (λ c. length (cond c (b ∷ filter is_dot bs) (filter is_dot bs))) dot in
+    omega (arith, e, f, rest) in
+    let other : is_dot b ≡ false → length (flat (stems_by (suffixes (b ∷ bs)) dir)) ≡ length (filter is_dot (b ∷ bs)) + 1 = λ dot.
+    let e = ap (λ c. length (flat (stems_by (cond c ((b ∷ bs) ∷ suffixes bs) (suffixes bs)) dir))) dot in
+    let f : length (filter is_dot (b ∷ bs)) ≡ length (filter is_dot bs) = ap (λ c. length (cond c (b ∷ filter is_dot bs) (filter is_dot bs))) dot in
+    omega (arith, e, f, rest) in
+    elim (is_dot b) as (λ c. is_dot b ≡ c → length (flat (stems_by (suffixes (b ∷ bs)) dir)) ≡ length (filter is_dot (b ∷ bs)) + 1) [ true ↦ first | false ↦ other ] refl
+
+-- an end that fits has few dots
+fit-short : (n m : ℕ) → (nat_le n 255 && nat_le m 1024) ≡ true → n ≤ 255
+fit-short n m h = grind (arith, common_steps)
+
+pub few-dots : (dir end : List ℕ) → fit dir end ≡ true → length (filter is_dot end) ≤ 255
+few-dots dir end h =
+    let short : length (codes "default" ++ end ++ codes ".do") ≤ 255 = fit-short _ _ h in
+    let size = length-append end (codes ".do") in
+    let dots = length-filter is_dot end in
+    let within = count_by-le-length is_dot end in
+    omega (arith, short, size, dots, within)
 
 -- what is left behind the first byte of a suffix
 pub record IsRest (suffix rest : List ℕ) : Type 0 where

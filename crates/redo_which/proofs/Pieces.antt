@@ -1,15 +1,15 @@
 -- The pieces of a candidate, put together.
-use Rattle.std.proofs.Common.{◌≡◌, ◌≢◌, ◌<◌, ℕ, Bool, true, false, cond, List, [], ◌∷◌, ◌++◌, ◌&&◌, length, codes, refl, sym, ap, ◌∙◌, arith, nat_lt, append_assoc}
+use Rattle.std.proofs.Common.{◌≡◌, ℕ, Bool, true, false, cond, List, [], ◌∷◌, ◌++◌, ◌&&◌, length, codes, refl, sym, ap, ◌∙◌, arith, nat_lt, append_assoc}
 use Rattle.std.proofs.lemmas.Grind.{common_steps}
 use Rattle.std.specs.List.{AllByRecursion}
 use Rattle.std.specs.Prelude.{Result, Ok, Err, nat_le}
 use Rattle.redo_path.proofs.Apart.{apart}
-use Rattle.redo_path.proofs.Canonical.{path-resolved, resolved-path}
+use Rattle.redo_path.proofs.Canonical.{path-resolved}
 use Rattle.redo_path.proofs.FileNames.{resolved-file}
 use Rattle.redo_path.specs.declared.PathFault.{PathFault}
 use Rattle.redo_path.specs.declared.PathFault.TheVariants.{LongName, LongPath}
 use Rattle.redo_path.specs.Names.{IsFileName, IsPart, IsPath, child_of, is_control, is_slash}
-use Rattle.redo_path.specs.Resolve.{Answers, resolved}
+use Rattle.redo_path.specs.Resolve.{resolved}
 use Rattle.redo_which.proofs.Files.{do_file_name}
 use Rattle.redo_which.specs.Candidates.{Place, place_at}
 use Rattle.redo_which.specs.Spots.{lead_of, spelled}
@@ -50,15 +50,6 @@ child_path dir front suffix d h k = path-resolved dir (front ++ suffix ++ codes 
 pub spelled-child : (dir front stem : List ℕ) → spelled dir (lead_of dir front) stem ≡ child_of dir (front ++ stem ++ codes ".do")
 spelled-child [] front stem = refl
 spelled-child (b ∷ bs) front stem = ap (λ l. l ++ codes ".do") (append_assoc (b ∷ bs) (47 ∷ front) stem) ∙ append_assoc (b ∷ bs) ((47 ∷ front) ++ stem) (codes ".do")
-
-not_nil : (text : List ℕ) → 0 < length text → text ≢ []
-not_nil [] h e = absurd (omega (arith, h))
-not_nil (b ∷ bs) h e = apart cc
-
-pub path_itself : (root text path : List ℕ) → root ≡ [] → IsPath text → 0 < length text → Answers (Ok path) (resolved root text) → path ≡ text
-path_itself root text path r h some e =
-    let same : Ok text ≡ Ok path = sym (resolved-path text (not_nil text some) h) ∙ ap (λ d. resolved d text) (sym r) ∙ e in
-    cc
 
 all_end : {X : Type 0} (P : X → Type 0) (xs ys : List X) → AllByRecursion P (xs ++ ys) → AllByRecursion P ys
 all_end P [] ys h = h

@@ -5,22 +5,24 @@
 //! begins at a dot, longest first, and `default.do`. The first that is a file of the tree is the rule.
 //! The search ends at the top directory. Names that end in `.do`, and the top directory, have no
 //! candidates; one that is too long for a path is left out, and one that occurs twice stands at its
-//! first place. Stands on `redo_path` and `redo_tree`,
-//! and on `redo_bytes` for a script's arguments.
+//! first place. Stands on `redo_path` and `redo_tree`.
 //!
 //! - here: what the search finds, as plain data;
-//! - [`lookup`]: the search;
-//! - `missing`: the candidates that it found no file for, kept as their number;
+//! - [`lookup`]: the search; `args`: what a script is called with;
+//! - `missing`: the candidates that it found no file for, kept as their number; `lines`: them as text;
 //! - `spot`: a candidate in pieces of its target's text; `spots`: the candidates one after another.
 #![tactic(auto)]
 
+mod args;
+mod lines;
 pub mod lookup;
 mod missing;
 mod spot;
 mod spots;
 
+pub use args::Args;
+pub use lines::Lines;
 pub use missing::Missing;
-use redo_bytes::Bytes;
 use redo_path::Path;
 
 /// A .do file that may have a target's rule.
@@ -42,19 +44,6 @@ pub struct Search {
     pub missing: Vec<Path>,
     /// The first candidate that is a file of the tree.
     pub chosen: Option<Candidate>,
-}
-
-/// What a script is called with, as redo(1) has it.
-#[derive(Debug, Drop)]
-pub struct Args {
-    /// The directory of the .do file, in which the script runs.
-    pub dir: Path,
-    /// `$1`: the target, relative to the directory.
-    pub one: Bytes,
-    /// `$2`: the same without the suffix that `default<suffix>.do` matched.
-    pub two: Bytes,
-    /// `$3`: the temporary file, relative to the directory; `$1` and then `.redo.tmp`.
-    pub three: Bytes,
 }
 
 /// The script that makes a target.

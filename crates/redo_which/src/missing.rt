@@ -1,14 +1,13 @@
 //! The candidates of a target that were looked for in vain.
 
-ghost use Rattle.std.specs.Prelude.{◌≡◌, ◌≤◌, ◌++◌, ◌∷◌, List, ℕ, IfOk, [], bytes_eq, false, flat_map, is_err, length, map, take};
+ghost use Rattle.std.specs.Prelude.{◌≡◌, ◌≤◌, ◌∷◌, List, ℕ, IfNone, IfOk, IfSome, IsTrue, [], bytes_eq, length, map, take};
 ghost use Rattle.std.specs.Iterator.Adapters.{take_count, take_source};
 ghost use Rattle.std.specs.List.{list_any};
-ghost use Rattle.redo_tree.specs.Bundle.{Writes};
 ghost use Rattle.redo_which.specs.Missing.{AreDistinct, AreFirst, first_candidates};
 
+use crate::spot::Spot;
 use crate::spots::Spots;
 use redo_path::Path;
-use redo_tree::{Broken, ByteOut};
 use std::alloc::{AllocError, Global};
 use std::iter::Take;
 use std::marker::Model;
@@ -104,16 +103,15 @@ impl Missing {
         Ok(false)
     }
 
-    /// Writes a line for each of them, with the same front. Nothing is allocated.
-    pub fn write_lines<W: ByteOut>(&self, front: &[u8], out: &mut W) -> Result<(), Broken>
-        requires { W.has_failed out.old ≡ false }
-        ensures writes { Writes (W.held out.old) (W.held out.new) result (flat_map (λ path. front.now ++ path ++ 10 ∷ []) self.now) }
-        ensures failed { W.has_failed out.new ≡ is_err result }
+    /// The first of them, and the rest.
+    pub(crate) fn split_first(&self) -> Option<(Spot<'_>, Rest<'_>)>
+        ensures some { IfSome result (λ split. self.now ≡ split.0.do_file ∷ map (λ place. place.do_file) split.1) }
+        ensures none { IfNone result (self.now ≡ []) }
     {
-        for spot in self.spots() {
-            spot.write_line(front, out)?;
-        }
-        Ok(())
+        let len = self.count.checked_sub(1)?;
+        let mut spots = Spots::of(&self.target);
+        let first = spots.next()?;
+        Some((first, Rest { spots, len }))
     }
 }
 
@@ -122,5 +120,57 @@ impl Clone for Missing {
 
     fn clone(&self) -> Result<Missing, AllocError> {
         Missing::first(&self.target, self.count)
+    }
+}
+
+/// So many of the candidates that come next. In a contract it is the list of their places.
+#[derive(Drop)]
+pub(crate) struct Rest<'a> {
+    spots: Spots<'a>,
+    len: usize,
+}
+
+impl<'a> Model for Rest<'a> {
+    ghost use Rattle.std.specs.Prelude.{List, take};
+    ghost use Rattle.redo_which.specs.Candidates.{Place};
+
+    ghost Value = { List Place };
+
+    ghost view = { λ r. take r.len r.spots };
+}
+
+impl<'a> Rest<'a> {
+    /// No candidates.
+    pub(crate) fn none() -> Rest<'a>
+        ensures { result ≡ [] }
+    {
+        Rest {
+            spots: Spots::none(),
+            len: 0,
+        }
+    }
+
+    /// Them, one after another.
+    pub(crate) fn spots(&self) -> Take<Spots<'a>>
+        ensures { take (take_count result) (take_source result) ≡ self.now }
+    {
+        self.spots.again().take(self.len)
+    }
+
+    /// The same candidates once more.
+    pub(crate) fn again(&self) -> Rest<'a>
+        ensures { result ≡ self.now }
+    {
+        Rest {
+            spots: self.spots.again(),
+            len: self.len,
+        }
+    }
+
+    /// Whether they are seen at once to be the same as others.
+    pub(crate) fn is_same(&self, other: &Rest<'_>) -> bool
+        ensures { IsTrue result → self.now ≡ other.now }
+    {
+        self.len == other.len && self.spots.is_same(&other.spots)
     }
 }

@@ -10,7 +10,7 @@ ghost use Rattle.redo_which.specs.Spots.{lead_of};
 ghost use Rattle.redo_which.specs.Views.{place_of};
 
 use crate::Candidate;
-use redo_path::{Path, PathFault, resolve};
+use redo_path::Path;
 use redo_tree::{Broken, ByteOut, write_parts};
 use std::alloc::{AllocError, Global};
 use std::marker::Model;
@@ -107,13 +107,23 @@ impl<'a> Spot<'a> {
         write_parts(out, &[front, self.dir, self.lead, self.stem, b".do\n"])
     }
 
+    /// Adds the text of the .do file's path between a front and a newline to a text.
+    pub(crate) fn add_line(&self, front: &[u8], text: &mut Vec<u8>) -> Result<(), AllocError>
+        ensures { OnOk result (text.new.items ≡ text.old.items ++ (front.now ++ self.now.do_file ++ 10 ∷ [])) }
+    {
+        text.extend_from_slice(front)?;
+        self.spell(text)?;
+        text.push(b'\n')?;
+        Ok(())
+    }
+
     /// The path of the .do file.
     pub(crate) fn do_file(&self, alloc: Global) -> Result<Path, AllocError>
         ensures { IfOk result (λ path. path ≡ self.now.do_file) }
     {
         let mut text = Vec::new(alloc);
         self.spell(&mut text)?;
-        path_of(alloc, &text)
+        Path::of_text(alloc, &text)
     }
 
     /// The candidate, with paths of its own.
@@ -121,7 +131,19 @@ impl<'a> Spot<'a> {
         ensures { IfOk result (λ candidate. place_of candidate ≡ self.now) }
     {
         let do_file = self.do_file(alloc)?;
-        let dir = path_of(alloc, self.dir)?;
+        self.candidate_with(alloc, do_file)
+    }
+
+    /// The candidate with this path, which is that of its .do file.
+    pub(crate) fn candidate_with(
+        &self,
+        alloc: Global,
+        do_file: Path,
+    ) -> Result<Candidate, AllocError>
+        requires { do_file ≡ self.now.do_file }
+        ensures { IfOk result (λ candidate. place_of candidate ≡ self.now) }
+    {
+        let dir = Path::of_text(alloc, self.dir)?;
         let cut = self.cut;
         Ok(Candidate { do_file, dir, cut })
     }
@@ -160,21 +182,6 @@ pub(crate) fn fits(dir: &[u8], front: &[u8], suffix: &[u8]) -> bool
         dir.len().saturating_add(1)
     };
     name <= LONGEST_NAME && above.saturating_add(name) <= LONGEST_PATH
-}
-
-/// The path with this text, which is refused only for want of memory.
-fn path_of(alloc: Global, text: &[u8]) -> Result<Path, AllocError>
-    requires { IsPath text.now }
-    ensures { IfOk result (λ path. path ≡ text.now) }
-{
-    let root = Path::root();
-    if text.is_empty() {
-        return Ok(root);
-    }
-    match resolve(alloc, &root, text) {
-        Ok(path) => Ok(path),
-        Err(_) => Err(AllocError),
-    }
 }
 
 /// The text of the directory that holds a path; the root lies in none.

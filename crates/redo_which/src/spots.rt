@@ -1,12 +1,12 @@
 //! The candidates of a target one after another, without a list of them.
 
-ghost use Rattle.std.specs.Prelude.{◌≡◌, ◌<◌, ◌≤◌, ◌^◌, ◌∷◌, ◌++◌, [], IfSome, codes, flat_map, length, nat_eq, if◌then◌else◌};
+ghost use Rattle.std.specs.Prelude.{◌≡◌, ◌<◌, ◌≤◌, ◌^◌, ◌∷◌, ◌++◌, [], IfSome, IsTrue, codes, filter, flat_map, length, nat_eq, if◌then◌else◌};
 ghost use Rattle.std.specs.List.{ends_with};
 ghost use Rattle.std.specs.Iterator.{YieldsFirst, YieldsFirstBy, item_count};
 ghost use Rattle.std.specs.Option.{option_to_list};
 ghost use Rattle.std.specs.Str.{bytes_eq};
 ghost use Rattle.redo_path.specs.Names.{IsPart, IsPath};
-ghost use Rattle.redo_which.specs.Candidates.{candidates_of, suffixes};
+ghost use Rattle.redo_which.specs.Candidates.{candidates_of, is_dot, suffixes};
 ghost use Rattle.redo_which.specs.Missing.{IsTarget};
 ghost use Rattle.redo_which.specs.Passed.{Passes, places_left};
 ghost use Rattle.redo_which.specs.Stems.{IsFirstDot, IsNext, shorter, stems_above, stems_by, stems_left};
@@ -50,6 +50,35 @@ impl<'a> Spots<'a> {
         }
     }
 
+    /// No candidates.
+    pub(crate) fn none() -> Spots<'a>
+        ensures { result ≡ [] }
+    {
+        let stems = Stems {
+            name: b"",
+            next: Next::Nothing,
+        };
+        Spots { stems }
+    }
+
+    /// The same candidates once more.
+    pub(crate) fn again(&self) -> Spots<'a>
+        ensures { result ≡ self.now }
+    {
+        let Stems { name, next } = self.stems;
+        Spots {
+            stems: Stems { name, next },
+        }
+    }
+
+    /// Whether they are seen at once to be the same as others: by the same suffixes, from the same
+    /// directory upwards.
+    pub(crate) fn is_same(&self, other: &Spots<'_>) -> bool
+        ensures { IsTrue result → self.now ≡ other.now }
+    {
+        self.stems.is_same(&other.stems)
+    }
+
     /// Passes over the directories that come next, as long as the tree knows of each that no file in
     /// it begins with `default` and ends in `.do`. Answers how many candidates lie in them. In the
     /// middle of a directory it passes over nothing.
@@ -62,6 +91,19 @@ impl<'a> Spots<'a> {
 }
 
 impl Stems<'_> {
+    /// Whether they are seen at once to be the same as others.
+    fn is_same(&self, other: &Stems<'_>) -> bool
+        ensures { IsTrue result → self.now ≡ other.now }
+    {
+        let (Next::Suffix(dir, end), Next::Suffix(other_dir, other_end)) = (self.next, other.next)
+        else {
+            return false;
+        };
+        dir == other_dir
+            && first_suffix(end) == first_suffix(other_end)
+            && first_suffix(self.name) == first_suffix(other.name)
+    }
+
     /// Passes over directories, as [`Spots::pass_bare`] does.
     fn pass_bare(&mut self, tree: &Tree) -> usize
         requires { length (flat_map (λ places. places) self.old) ≤ 2 ^ 20 }
@@ -93,8 +135,29 @@ fn past_bare<'a>(tree: &Tree, name: &'a [u8], next: &Next<'a>) -> Option<(usize,
     Some((count_by(dir, end), above(name, dir)))
 }
 
-/// How many candidates there are in a directory by the suffixes of this end of a name.
+/// How many candidates there are in a directory by the suffixes of this end of a name. Where the end
+/// itself isn't too long, no suffix of it is.
 fn count_by(dir: &[u8], end: &[u8]) -> usize
+    requires path { IsPath dir.now }
+    requires part { IsPart end.now }
+    ensures { result ≡ length (flat_map (λ places. places) (stems_by (suffixes end.now) dir.now)) }
+{
+    if fits(dir, b"default", end) {
+        dots(end) + 1
+    } else {
+        count_each(dir, end)
+    }
+}
+
+/// How many dots a text has.
+fn dots(text: &[u8]) -> usize
+    ensures { result ≡ length (filter is_dot text.now) }
+{
+    text.iter().filter(|byte| **byte == b'.').count()
+}
+
+/// How many these candidates are, by a look at each suffix.
+fn count_each(dir: &[u8], end: &[u8]) -> usize
     requires path { IsPath dir.now }
     requires part { IsPart end.now }
     ensures { result ≡ length (flat_map (λ places. places) (stems_by (suffixes end.now) dir.now)) }
@@ -139,7 +202,7 @@ struct Stems<'a> {
 }
 
 /// The stem that comes next.
-#[derive(Drop)]
+#[derive(Clone, Copy)]
 enum Next<'a> {
     /// The whole name, in a directory.
     Whole(&'a [u8]),

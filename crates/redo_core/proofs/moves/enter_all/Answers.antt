@@ -12,7 +12,7 @@ use Rattle.redo_core.proofs.moves.enter_all.Goals.{then-is_operand+in_ok-at+in_o
 
 pub returns-in_err-at-clause-too_many : goal.returns-in_err-at-clause-too_many
 returns-in_err-at-clause-too_many c = λ is.
-    let made = rw is at c.from_residual.ensures in
+    let made = rw is at c.from_residual-in_err-at.ensures in
     let tree : Tree = arc_value c.args.tree.now in
     let i = c.loop-dep.dep-index in
     let get = slice_get-item c.args.deps.now i c.dep-item.result c.loop-dep-test.true c.dep-item.is in

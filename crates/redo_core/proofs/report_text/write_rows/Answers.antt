@@ -1,4 +1,4 @@
-use Rattle.std.proofs.Common.{rules, arith, ◌++◌, ◌+◌, drop}
+use Rattle.std.proofs.Common.{rules, arith, ◌++◌, ◌+◌, ◌∙◌, drop}
 use Rattle.std.proofs.lemmas.Grind.{common_steps}
 use Rattle.std.specs.Prelude.{flat_map}
 use Rattle.std.proofs.KnownBytes.{Appends-trans}
@@ -11,6 +11,7 @@ loop-row-preserved g c =
     let before = c.loop-row.invariant in
     let item = c.row-item.result in
     record {
+      front = c.in_ok-write_row.ensures.front ∙ before.front;
       works = grind (arith, common_steps);
       done = before.done ++ row_text item;
       split = split-next row_text c.args.rows.now c.loop-row.row-index item item before.done _ (search rules) c.row-item.is before.split;

@@ -1,4 +1,7 @@
-use Rattle.std.proofs.Common.{length, arith, ap, ◌∙◌}
+use Rattle.std.proofs.Common.{◌≡◌, ◌⊎◌, None, Some, length, arith, ap, subst, ◌∙◌}
+use Rattle.redo_core.specs.Rules.{Ask}
+use Rattle.redo_core.specs.Slots.{IsToldBy}
+use Rattle.redo_core.specs.Works.{told_by, told_in}
 use Rattle.redo_core.proofs.SettleAll.{get-index}
 use Rattle.redo_core.proofs.GainSteps.{gains-step}
 use Rattle.redo_core.proofs.table.gain.Goals as goal
@@ -8,15 +11,21 @@ gain_one-requires c = c.requires c.loop-at.at-index _ (get-index c.args.operands
 
 pub loop-at-preserved : goal.loop-at-preserved
 loop-at-preserved c =
-    gains-step c.args.table.now c.args.operands.now c.args.facts.now c.loop-at.facts c.gain_one.new.facts c.loop-at.at-index _
+    gains-step c.args.table.now c.args.operands.now c.reserve.new.self c.loop-at.facts c.gain_one.new.facts c.loop-at.at-index _
     (get-index c.args.operands.now c.loop-at.at-index 0 c.loop-at-test.true) c.loop-at.invariant c.in_ok-gain_one.ensures
 
 pub returns : goal.returns
-returns c = record {
-  all = c.len-facts.ensures ∙ ap length c.declared.ensures;
-  below = record {
-    kept = c.loop-at.invariant.kept;
-    origin = c.loop-at.invariant.origin;
-    known = λ k n fact below. c.loop-at.invariant.known k n fact (omega (arith, below));
-  };
-}
+returns c =
+    let same : told_in c.reserve.new.self ≡ told_in c.args.facts.now = ap told_by c.reserve.ensures.known in
+    record {
+      all = c.len-facts.ensures ∙ ap length c.declared.ensures;
+      below = record {
+        kept = λ q none.
+            let P : Ask → Type 0 = λ ask. ask q ≡ None in
+            subst P same (c.loop-at.invariant.kept q none);
+        origin = λ q o told.
+            let P : Ask → Type 0 = λ ask. (ask q ≡ Some o) ⊎ IsToldBy c.args.table.now c.args.operands.now q o in
+            subst P same (c.loop-at.invariant.origin q o told);
+        known = λ k n fact below. c.loop-at.invariant.known k n fact (omega (arith, below));
+      };
+    }

@@ -1,45 +1,15 @@
-use Rattle.std.proofs.Common.{arith, ◌≡◌, ◌∙◌, [], ap, length, sym, drop, take, ◌-◌}
-use Rattle.std.proofs.lemmas.Grind.{common_steps}
-use Rattle.redo_which.specs.Stems.{shorter, stems_by}
-use Rattle.redo_which.proofs.Passed.{count-fits, count-none, shorter-some}
-use Rattle.redo_which.proofs.Stems.{flat, shorter-none}
+use Rattle.std.proofs.Common.{◌∙◌, arith, sym}
+use Rattle.redo_which.proofs.Passed.{count-all, few-dots}
 use Rattle.redo_which.proofs.spots.count_by.Goals as goal
-use Rattle.redo_which.proofs.spots.count_by.Goals.{then-fits, else-fits}
 
-pub returns-then-is_empty : goal.returns-then-is_empty
-returns-then-is_empty c =
-    let dir = c.args.dir.now in
-    let left = c.loop-count.left.now in
-    let suffix = c.first_suffix-suffix.result.now in
-    let found = c.first_suffix-suffix.ensures in
-    let total = c.loop-count.invariant.total in
-    let rest : length (flat (stems_by (shorter suffix) dir)) ≡ 0 = ap (λ ends. length (flat (stems_by ends dir))) (shorter-none suffix (grind (arith, common_steps))) in
-    elim c.if-fits.branch [
-      | then-fits w ↦ let e = count-fits dir left suffix found.part found.first (sym c.fits.ensures ∙ w.if-fits.true) in let k = w.count-is in omega (arith, e, k, rest, total)
-      | else-fits w ↦ let e = count-none dir left suffix found.part found.first (sym c.fits.ensures ∙ w.if-fits.false) in let k = w.count-is in omega (arith, e, k, rest, total)
-    ]
+pub overflow_add-result : goal.overflow_add-result
+overflow_add-result c =
+    let count = c.dots.ensures in
+    let few = few-dots c.args.dir.now c.args.end.now (sym c.fits.ensures ∙ c.if-fits.true) in
+    omega (arith, count, few)
 
-pub loop-count-preserved : goal.loop-count-preserved
-loop-count-preserved c =
-    let dir = c.args.dir.now in
-    let left = c.loop-count.left.now in
-    let suffix = c.first_suffix-suffix.result.now in
-    let found = c.first_suffix-suffix.ensures in
-    let within = found.within in
-    let before = c.loop-count.invariant in
-    let total = before.total in
-    let small = before.small in
-    let some = shorter-some suffix (grind (arith, common_steps)) in
-    let rest = ap (λ ends. length (flat (stems_by ends dir))) some.ends in
-    let size = some.size in
-    record {
-      total = elim c.if-fits.branch [
-        | then-fits w ↦ let e = count-fits dir left suffix found.part found.first (sym c.fits.ensures ∙ w.if-fits.true) in let k = w.count-is in omega (arith, e, k, rest, total)
-        | else-fits w ↦ let e = count-none dir left suffix found.part found.first (sym c.fits.ensures ∙ w.if-fits.false) in let k = w.count-is in omega (arith, e, k, rest, total)
-      ];
-      part = some.part found.part;
-      small = elim c.if-fits.branch [
-        | then-fits w ↦ let k = w.count-is in omega (arith, k, small, within, size)
-        | else-fits w ↦ let k = w.count-is in omega (arith, k, small, within, size)
-      ];
-    }
+pub returns-then-fits : goal.returns-then-fits
+returns-then-fits c =
+    let count = c.dots.ensures in
+    let all = count-all c.args.dir.now c.args.end.now c.requires.part (sym c.fits.ensures ∙ c.if-fits.true) in
+    omega (arith, count, all)

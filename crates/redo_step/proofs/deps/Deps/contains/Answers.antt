@@ -7,6 +7,7 @@ use Rattle.redo_step.proofs.deps.Deps.contains.Goals as goal
 pub returns-in-Many : goal.returns-in-Many
 returns-in-Many c =
     let dep = c.args.dep.now in
-    let entries = c.in-Many.entries.keys in
-    let kept : entries ≡ c.args.self.now = sym (ap stored c.in-Many.is) ∙ c.self.view_is in
+    let entries = c.deref-in-Many.result.now.keys in
+    let here : entries ≡ c.in-Many.entries.value.keys = ap (λ set. set.keys) c.deref-in-Many.ensures in
+    let kept : entries ≡ c.args.self.now = here ∙ sym (ap stored c.in-Many.is) ∙ c.self.view_is in
     c.contains.ensures ∙ any_entered dep entries ∙ ap (λ es. is_entered es dep.kind dep.path) kept

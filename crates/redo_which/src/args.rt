@@ -1,0 +1,50 @@
+//! What a script is called with.
+
+ghost use Rattle.std.specs.Prelude.{◌≡◌, IfOk};
+ghost use Rattle.redo_which.specs.Views.{arguments_view};
+
+use redo_path::Path;
+use std::alloc::{AllocError, Global};
+
+/// What follows `$1` in `$3`.
+const TEMPORARY: &[u8] = b".redo.tmp";
+
+/// What a script is called with, as redo(1) has it. The parameters follow from the target, so they take no
+/// memory of their own.
+#[derive(Debug, Drop)]
+pub struct Args {
+    /// The directory of the .do file, in which the script runs.
+    pub dir: Path,
+    /// The target.
+    pub target: Path,
+    /// How many bytes at the target's end `default<suffix>.do` matched.
+    pub cut: usize,
+}
+
+impl Args {
+    /// `$1`: the target, relative to the directory.
+    pub fn one(&self) -> &[u8]
+        ensures { result.now ≡ (arguments_view self.now).one }
+    {
+        self.target.below(&self.dir).unwrap_or(b"")
+    }
+
+    /// `$2`: the same without the suffix that `default<suffix>.do` matched.
+    pub fn two(&self) -> &[u8]
+        ensures { result.now ≡ (arguments_view self.now).two }
+    {
+        let one = self.one();
+        &one[..one.len().saturating_sub(self.cut)]
+    }
+
+    /// `$3`: the temporary file, relative to the directory; `$1` and then `.redo.tmp`.
+    pub fn three(&self, alloc: Global) -> Result<Vec<u8>, AllocError>
+        ensures { IfOk result (λ three. three.items ≡ (arguments_view self.now).three) }
+    {
+        let one = self.one();
+        let mut three = Vec::with_capacity(alloc, one.len().saturating_add(TEMPORARY.len()))?;
+        three.extend_from_slice(one)?;
+        three.extend_from_slice(TEMPORARY)?;
+        Ok(three)
+    }
+}
