@@ -41,3 +41,12 @@ IsUnwritten (Err TooMany) old new = new ≡ old
 IsUnwritten (Err (Store place)) old new = new ≡ old
 IsUnwritten (Err Device) old new = Unit {0}
 IsUnwritten (Err Memory) old new = new ≡ old
+
+-- a list of candidates builds and stores nothing, and has none of the faults of that
+abbrev pub FallsInList : {A : Type 0} → Result A RunDirFault → Type 0
+FallsInList (Ok x) = Unit {0}
+FallsInList (Err Load) = Unit {0}
+FallsInList (Err TooMany) = ⊥
+FallsInList (Err (Store place)) = ⊥
+FallsInList (Err Device) = Unit {0}
+FallsInList (Err Memory) = Unit {0}

@@ -1,6 +1,6 @@
 //! Runs over a bundle: the report of its build, and where the rule of a target is looked for.
 
-ghost use Rattle.std.specs.Prelude.{◌≡◌, ◌≤◌, ◌⊎◌, ◌^◌, ◌-◌, false, IfOk, IfSome, IsErrOf, length, true};
+ghost use Rattle.std.specs.Prelude.{◌≡◌, ◌↔◌, false, IfOk, IfSome, IsErrOf, true};
 ghost use Rattle.redo_tree.specs.declared.faults.BundleFault.TheVariants as bundle_faults;
 ghost use Rattle.redo_run.specs.Runs.{Explains, ExplainsList, IsUntouched, Lists, Reports};
 
@@ -37,9 +37,9 @@ pub fn run_bundle<H: Threads + Wait + Sync, R: ByteIn, W: ByteOut, G: Gate>(
     ensures fault { IfSome (R.left reader.old)
         (λ text. Explains options.now text (W.held writer.old) (W.held writer.new) result) }
     ensures untouched { IsUntouched result writer.old writer.new }
-    ensures read { IsErrOf result (RunIoFault.Bundle bundle_faults.Read) →
-        (R.has_failed reader.new ≡ true) ⊎ IfSome (R.left reader.old) (λ text. 2 ^ 64 - 1 ≤ length text) }
-    ensures device { IsErrOf result RunIoFault.Device → W.has_failed writer.new ≡ true }
+    ensures read { IsErrOf result (RunIoFault.Bundle bundle_faults.Read) ↔ (R.has_failed reader.new ≡ true) }
+    ensures device { IsErrOf result RunIoFault.Device ↔ (W.has_failed writer.new ≡ true) }
+    ensures memory { IsErrOf result (RunIoFault.Bundle bundle_faults.Memory) → ⊥ }
 {
     let tree = read_bundle(alloc, reader)?;
     let request = requested(alloc, &options.targets)?;
@@ -73,9 +73,9 @@ pub fn whichdo_bundle<R: ByteIn, W: ByteOut>(
     ensures fault { IfSome (R.left reader.old)
         (λ text. ExplainsList target.now text (W.held writer.old) (W.held writer.new) result) }
     ensures untouched { IsUntouched result writer.old writer.new }
-    ensures read { IsErrOf result (RunIoFault.Bundle bundle_faults.Read) →
-        (R.has_failed reader.new ≡ true) ⊎ IfSome (R.left reader.old) (λ text. 2 ^ 64 - 1 ≤ length text) }
-    ensures device { IsErrOf result RunIoFault.Device → W.has_failed writer.new ≡ true }
+    ensures read { IsErrOf result (RunIoFault.Bundle bundle_faults.Read) ↔ (R.has_failed reader.new ≡ true) }
+    ensures device { IsErrOf result RunIoFault.Device ↔ (W.has_failed writer.new ≡ true) }
+    ensures memory { IsErrOf result (RunIoFault.Bundle bundle_faults.Memory) → ⊥ }
 {
     let tree = read_bundle(alloc, reader)?;
     let found = search(alloc, &tree, target)?;

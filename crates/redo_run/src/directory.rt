@@ -1,7 +1,7 @@
 //! Runs over a directory of the system.
 
-ghost use Rattle.std.specs.Prelude.{◌≡◌, false, IfOk, IsErrOf, true};
-ghost use Rattle.redo_run.specs.Directories.{IsUnwritten, ListsTree, ReportsTree, NeedsTooMany};
+ghost use Rattle.std.specs.Prelude.{◌≡◌, ◌↔◌, false, IfOk, IsErrOf, true};
+ghost use Rattle.redo_run.specs.Directories.{FallsInList, IsUnwritten, ListsTree, ReportsTree, NeedsTooMany};
 
 use crate::candidates::text_of_search;
 use crate::exit::exit_after;
@@ -37,7 +37,7 @@ pub fn run_dir<H: Threads + Wait + Sync + Files, W: ByteOut, G: Gate>(
     ensures report { IfOk result (λ run. ReportsTree options.now (W.held writer.old) (W.held writer.new) run.0) }
     ensures too_many { IsErrOf result RunDirFault.TooMany → NeedsTooMany options.now }
     ensures untouched { IsUnwritten result writer.old writer.new }
-    ensures device { IsErrOf result RunDirFault.Device → W.has_failed writer.new ≡ true }
+    ensures device { IsErrOf result RunDirFault.Device ↔ (W.has_failed writer.new ≡ true) }
 {
     let (tree, passed) = load_dir(rt, alloc, dir)?;
     let request = requested(alloc, &options.targets)?;
@@ -68,7 +68,8 @@ pub fn whichdo_dir<H: Files, W: ByteOut>(
     requires writer { W.has_failed writer.old ≡ false }
     ensures list { IfOk result (λ run. ListsTree target.now (W.held writer.old) (W.held writer.new) run.0) }
     ensures untouched { IsUnwritten result writer.old writer.new }
-    ensures device { IsErrOf result RunDirFault.Device → W.has_failed writer.new ≡ true }
+    ensures no_build { FallsInList result }
+    ensures device { IsErrOf result RunDirFault.Device ↔ (W.has_failed writer.new ≡ true) }
 {
     let (tree, passed) = load_dir(rt, alloc, dir)?;
     let found = search(alloc, &tree, target)?;

@@ -13,6 +13,7 @@ use std::thread::Threads;
 
 mod directories;
 mod ends;
+mod one;
 mod picks;
 mod refusals;
 mod reports;

@@ -4,13 +4,13 @@
 //! came; one that finds nothing ready sleeps until another has handed in. What a lock keeps is known by its type alone, so
 //! that type names the build, which contracts alone see: no piece is compared with the board when the program runs.
 
-ghost use Rattle.std.specs.Prelude.{◌≡◌, ◌≤◌, true, Ok, Err, None, IfOk, IfSome, OnErr};
+ghost use Rattle.std.specs.Prelude.{◌≡◌, ◌↔◌, ◌<◌, ◌≤◌, true, false, Ok, Err, None, IfOk, IfSome, IsTrue, OnErr};
 ghost use Rattle.redo_core.specs.Build.{rules_of};
 ghost use Rattle.redo_core.specs.Faults.{IsSameBuild};
 ghost use Rattle.redo_core.specs.Outcomes.{IsTooMany};
 ghost use Rattle.redo_core.specs.Reports.{IsReport};
 ghost use Rattle.redo_core.specs.Schedule.{IsOutAt};
-ghost use Rattle.redo_core.specs.Views.{Belongs};
+ghost use Rattle.redo_core.specs.Views.{Belongs, jobs_out, ready_count};
 ghost use Rattle.redo_run.specs.Workers.{IsAnswerTo, IsBoardOf, IsPieceOf, IsWorkOf};
 
 use crate::gate::Gate;
@@ -112,7 +112,9 @@ impl<B: Build> Desk<B> {
     }
 
     /// Whether one who has no job is to wait for a change: nothing is ready, but a job is out.
-    fn is_waiting(&self) -> bool {
+    fn is_waiting(&self) -> bool
+        ensures { IsTrue result ↔ ((self.now.refused ≡ false) × (ready_count self.now.board ≡ 0) × (0 < jobs_out self.now.board)) }
+    {
         !self.refused && self.board.ready() == 0 && self.board.out() > 0
     }
 

@@ -163,7 +163,7 @@ fn holds_the_limit_of_targets(rt: HostRuntime) -> Result<(), Fail> {
     Ok(())
 }
 
-/// Holds who enters until two have entered, for so many yields at most, and notes who waited in vain.
+/// Holds who enters until two have entered, for so many yields at most, and notes who waited in vain. The target `top` isn't held.
 #[derive(Drop)]
 struct Pair {
     entered: AtomicU64,
@@ -171,7 +171,10 @@ struct Pair {
 }
 
 impl Gate for Pair {
-    fn enter(&self, _target: &Path, _turn: u64) {
+    fn enter(&self, target: &Path, _turn: u64) {
+        if target.text() == b"top".as_slice() {
+            return;
+        }
         self.entered.fetch_add(1, Ordering::SeqCst);
         for _ in 0..1_000_000u32 {
             if self.entered.load(Ordering::SeqCst) >= 2 {
@@ -192,18 +195,31 @@ impl Pair {
         }
     }
 
-    fn nobody_waited_in_vain(&self) -> bool {
-        self.in_vain.load(Ordering::SeqCst) == 0
+    /// Whether two entered, and neither waited in vain.
+    fn both_were_inside(&self) -> bool {
+        self.entered.load(Ordering::SeqCst) == 2 && self.in_vain.load(Ordering::SeqCst) == 0
     }
 }
+
+/// Two targets without dependencies, and one that asks for both.
+const TWO: Files = &[
+    (b"a.do", b"echo a\n"),
+    (b"b.do", b"echo b\n"),
+    (b"top.do", b"redo-ifchange a b\n"),
+];
 
 #[test]
 fn both_must_be_inside(rt: HostRuntime) -> Result<(), Fail> {
     let alloc = rt.alloc();
-    let tree = tree_of(alloc, &[(b"a.do", b"echo a\n"), (b"b.do", b"echo b\n")])?;
-    let pair = Pair::new();
-    let answer = built_by(&rt, alloc, tree, &[b"a", b"b"], 100, 2, &pair)?;
-    assert!(rt; answer.is_ok() && pair.nobody_waited_in_vain());
+    let rows: [(&str, &[&[u8]]); 2] = [
+        ("two that are requested", &[b"a", b"b"]),
+        ("two that become ready later", &[b"top"]),
+    ];
+    for (rule, words) in rows {
+        let pair = Pair::new();
+        let answer = built_by(&rt, alloc, tree_of(alloc, TWO)?, words, 100, 2, &pair)?;
+        assert!(rt; answer.is_ok() && pair.both_were_inside(), "{rule}");
+    }
     Ok(())
 }
 
@@ -214,7 +230,52 @@ fn both_must_be_inside_a_run(rt: HostRuntime) -> Result<(), Fail> {
     let options = options(alloc, &[b"a", b"b"], 2, 100, 1_000_000)?;
     let pair = Pair::new();
     let (outcome, _report) = run_through(&rt, alloc, bundle, &options, &pair)?;
-    assert!(rt; outcome == GOOD && pair.nobody_waited_in_vain());
+    assert!(rt; outcome == GOOD && pair.both_were_inside());
+    Ok(())
+}
+
+/// Holds who enters until more are inside than there are workers, for so many yields at most. It notes how often it was
+/// entered, and whether ever more were inside.
+#[derive(Drop)]
+struct Crowd {
+    workers: u64,
+    entered: AtomicU64,
+    inside: AtomicU64,
+    too_many: AtomicU64,
+}
+
+impl Gate for Crowd {
+    fn enter(&self, _target: &Path, _turn: u64) {
+        self.entered.fetch_add(1, Ordering::SeqCst);
+        self.inside.fetch_add(1, Ordering::SeqCst);
+        for _ in 0..10_000u32 {
+            if self.inside.load(Ordering::SeqCst) > self.workers {
+                self.too_many.fetch_add(1, Ordering::SeqCst);
+                break;
+            }
+            yield_now();
+        }
+        self.inside.fetch_sub(1, Ordering::SeqCst);
+    }
+}
+
+/// A diamond has seven jobs: each of four scripts from its first statement on, and three that go on after they stopped.
+#[test]
+fn each_job_enters_once_and_no_more_are_inside_than_workers(rt: HostRuntime) -> Result<(), Fail> {
+    let alloc = rt.alloc();
+    for workers in [1, 2] {
+        let crowd = Crowd {
+            workers: workers as u64,
+            entered: AtomicU64::new(0),
+            inside: AtomicU64::new(0),
+            too_many: AtomicU64::new(0),
+        };
+        let tree = tree_of(alloc, DIAMOND)?;
+        let answer = built_by(&rt, alloc, tree, &[b"top"], 100, workers, &crowd)?;
+        assert!(rt; answer.is_ok(), "{workers} workers");
+        assert_eq!(rt; crowd.entered.load(Ordering::SeqCst), 7);
+        assert_eq!(rt; crowd.too_many.load(Ordering::SeqCst), 0, "{workers} workers");
+    }
     Ok(())
 }
 
