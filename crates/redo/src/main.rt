@@ -3,12 +3,14 @@
 //! This crate holds the command line, the words on standard error and the exit statuses; all else is `redo_run`'s.
 #![tactic(auto)]
 
+mod causes;
 mod options;
 mod status;
 
-use options::{Call, Place, Refusal};
+use clap::ArgMatches;
+use options::{Call, Place, Refusal, Task};
 use redo_path::Path;
-use redo_run::{Exit, NoGate, Options, run_bundle, run_dir, whichdo_bundle, whichdo_dir};
+use redo_run::{Cause, Exit, NoGate, Options, run_bundle, run_dir, whichdo_bundle, whichdo_dir};
 use redo_tree::Plain;
 use status::Fault;
 use std::alloc::Global;
@@ -28,11 +30,15 @@ fn main(rt: HostRuntime) -> ExitCode {
         Ok(call) => call,
         Err(status) => return ExitCode::from(status),
     };
-    match run(&rt, alloc, call) {
+    let mut cause = Cause::new(alloc);
+    match run(&rt, alloc, &call.task, &mut cause) {
         Ok(true) => ExitCode::from(status::GOOD),
         Ok(false) => ExitCode::from(status::FAILED),
         Err(fault) => {
             let _shown = eprintln!(rt; "redo: {fault}");
+            if call.verbose {
+                show_cause(&rt, causes::of_fault(alloc, fault, &cause));
+            }
             ExitCode::from(status::of_fault(fault))
         }
     }
@@ -50,7 +56,7 @@ fn read_call(rt: &HostRuntime, alloc: Global) -> Result<Call, u8> {
             return Err(status::of_parse(&error));
         }
     };
-    options::call_of(alloc, &matches).map_err(|refusal| refuse(rt, refusal))
+    options::call_of(alloc, &matches).map_err(|refusal| refuse_call(rt, alloc, refusal, &matches))
 }
 
 /// The words of the command line, the program's name before them.
@@ -64,15 +70,32 @@ fn refuse(rt: &HostRuntime, refusal: Refusal) -> u8 {
     status::of_refusal(refusal)
 }
 
+/// Shows why words that were read are refused, and with `-v` the word. Answers the exit status.
+fn refuse_call(rt: &HostRuntime, alloc: Global, refusal: Refusal, matches: &ArgMatches<'_>) -> u8 {
+    let status = refuse(rt, refusal);
+    if refusal == Refusal::BadTarget && matches.get_flag("verbose") {
+        show_cause(rt, causes::of_target(alloc, options::bad_target(alloc, matches)));
+    }
+    status
+}
+
+/// Shows a cause behind a message, if it is known and there is memory for its words.
+fn show_cause<E: Drop>(rt: &HostRuntime, cause: Result<Option<String>, E>) {
+    if let Ok(Some(words)) = cause {
+        let _shown = eprintln!(rt; "redo: {words}");
+    }
+}
+
 /// Does what was asked for, and answers whether all went well.
 fn run<H: Runtime + Threads + Wait + Sync>(
     rt: &H,
     alloc: Global,
-    call: Call,
+    task: &Task,
+    cause: &mut Cause,
 ) -> Result<bool, Fault> {
-    match call {
-        Call::Build(options, place) => build(rt, alloc, &options, &place),
-        Call::Whichdo(target, place) => list(rt, alloc, &target, &place),
+    match task {
+        Task::Build(options, place) => build(rt, alloc, options, place, cause),
+        Task::Whichdo(target, place) => list(rt, alloc, target, place, cause),
     }
 }
 
@@ -82,15 +105,16 @@ fn build<H: Runtime + Threads + Wait + Sync>(
     alloc: Global,
     options: &Options,
     place: &Place,
+    cause: &mut Cause,
 ) -> Result<bool, Fault> {
     let mut writer = Plain::new(buffered(alloc, io::writer(rt))?);
     let (exit, passed) = match place {
         Place::Bundle => {
             let mut reader = Plain::new(rt.reader());
-            let exit = run_bundle(rt, alloc, &mut reader, &mut writer, options, &NoGate)?;
+            let exit = run_bundle(rt, alloc, &mut reader, &mut writer, options, &NoGate, cause)?;
             (exit, 0)
         }
-        Place::Directory(dir) => run_dir(rt, alloc, dir, &mut writer, options, &NoGate)?,
+        Place::Directory(dir) => run_dir(rt, alloc, dir, &mut writer, options, &NoGate, cause)?,
     };
     flush(&mut writer.stream)?;
     note_passed(rt, passed);
@@ -108,15 +132,21 @@ fn flush<S: Write + Drop>(writer: &mut BufWriter<S>) -> Result<(), Fault> {
 }
 
 /// Lists a target's candidates, and answers whether one of them is a file.
-fn list<H: Runtime>(rt: &H, alloc: Global, target: &Path, place: &Place) -> Result<bool, Fault> {
+fn list<H: Runtime>(
+    rt: &H,
+    alloc: Global,
+    target: &Path,
+    place: &Place,
+    cause: &mut Cause,
+) -> Result<bool, Fault> {
     let mut writer = Plain::new(io::writer(rt));
     match place {
         Place::Bundle => {
             let mut reader = Plain::new(rt.reader());
-            Ok(whichdo_bundle(alloc, &mut reader, &mut writer, target)?)
+            Ok(whichdo_bundle(alloc, &mut reader, &mut writer, target, cause)?)
         }
         Place::Directory(dir) => {
-            let (found, passed) = whichdo_dir(rt, alloc, dir, &mut writer, target)?;
+            let (found, passed) = whichdo_dir(rt, alloc, dir, &mut writer, target, cause)?;
             note_passed(rt, passed);
             Ok(found)
         }

@@ -11,8 +11,11 @@ use std::io;
 use std::io::ErrorKind;
 use thiserror::Error;
 
+/// The program's version, as `--version` prints it.
+const VERSION: &str = "0.1.0";
+
 /// The program's limits: 65,536 targets, and 16 MiB a file.
-const TARGETS: u32 = 65_536;
+pub(crate) const TARGETS: u32 = 65_536;
 
 const FILE_BYTES: u32 = 16_777_216;
 
@@ -29,7 +32,15 @@ pub(crate) enum Place {
 
 /// What the command line asks for.
 #[derive(Drop)]
-pub(crate) enum Call {
+pub(crate) struct Call {
+    pub(crate) task: Task,
+    /// Whether a message is to be followed by its cause.
+    pub(crate) verbose: bool,
+}
+
+/// What is to be done.
+#[derive(Drop)]
+pub(crate) enum Task {
     Build(Options, Place),
     Whichdo(Path, Place),
 }
@@ -105,17 +116,24 @@ pub(crate) fn command<'a>(alloc: Global) -> Result<Command<'a>, AllocError> {
         .long("whichdo")
         .value_name("TARGET")
         .help("Print where the rule of TARGET is looked for, and build nothing");
+    let verbose = Arg::new(alloc, "verbose")
+        .short('v')
+        .long("verbose")
+        .action(ArgAction::SetTrue)
+        .help("Say the cause behind a message, where it is known");
     let targets = Arg::new(alloc, "targets")
         .value_name("TARGETS")
         .action(ArgAction::Append)
         .help("What to build [default: all]");
     Command::new(alloc, "redo")
+        .version(VERSION)
         .about("Builds targets by their .do scripts, in parallel")
         .arg(jobs)?
         .arg(keep_going)?
         .arg(bundle)?
         .arg(directory)?
         .arg(whichdo)?
+        .arg(verbose)?
         .arg(targets)
 }
 
@@ -138,9 +156,30 @@ pub(crate) fn call_of(alloc: Global, matches: &ArgMatches<'_>) -> Result<Call, R
         let dir = matches.get_str("directory").unwrap_or(".");
         Place::Directory(String::from_str(alloc, dir)?)
     };
-    match whichdo {
-        Some(word) => Ok(Call::Whichdo(target(alloc, word)?, place)),
-        None => Ok(Call::Build(options(alloc, matches)?, place)),
+    let task = match whichdo {
+        Some(word) => Task::Whichdo(target(alloc, word)?, place),
+        None => Task::Build(options(alloc, matches)?, place),
+    };
+    let verbose = matches.get_flag("verbose");
+    Ok(Call { task, verbose })
+}
+
+/// The first word that names no target, and why.
+pub(crate) fn bad_target<'m>(
+    alloc: Global,
+    matches: &'m ArgMatches<'_>,
+) -> Option<(&'m str, PathFault)> {
+    if let Some(word) = matches.get_str("whichdo") {
+        return fault_of(alloc, word);
+    }
+    matches.get_strs("targets")?.find_map(|word| fault_of(alloc, word))
+}
+
+/// The word, and why it names no target, if it names none.
+fn fault_of(alloc: Global, word: &str) -> Option<(&str, PathFault)> {
+    match target(alloc, word) {
+        Ok(_) => None,
+        Err(fault) => Some((word, fault)),
     }
 }
 
@@ -172,7 +211,9 @@ fn options(alloc: Global, matches: &ArgMatches<'_>) -> Result<Options, Refusal> 
 
 #[cfg(test)]
 mod tests {
-    use super::{Call, Place, Refusal, call_of, command};
+    use super::{Call, Place, Refusal, Task, bad_target, call_of, command};
+    use crate::status::of_parse;
+    use redo_path::PathFault;
     use std::alloc::Global;
     use std::io;
     use std::io::ErrorKind;
@@ -249,11 +290,15 @@ mod tests {
     #[test]
     fn reads_calls(rt: HostRuntime) -> Result<(), Fail> {
         let alloc = rt.alloc();
-        let Some(Ok(Call::Build(options, place))) = read(
+        let Some(Ok(call)) = read(
             alloc,
-            &["redo", "-j", "64", "-k", "--bundle", "a", "./b"],
+            &["redo", "-j", "64", "-v", "-k", "--bundle", "a", "./b"],
         )?
         else {
+            return Err("no call".into());
+        };
+        assert!(rt; call.verbose);
+        let Task::Build(options, place) = call.task else {
             return Err("no build".into());
         };
         assert!(rt; matches!(place, Place::Bundle));
@@ -262,11 +307,11 @@ mod tests {
         assert_eq!(rt; options.targets[1].text(), b"b".as_slice());
         assert_eq!(rt; options.limits.targets(), 65_536);
         assert_eq!(rt; options.limits.file_bytes(), 16_777_216);
-        let Some(Ok(Call::Whichdo(target, place))) = read(
-            alloc,
-            &["redo", "--whichdo", "a//x", "-C", "d"],
-        )?
-        else {
+        let Some(Ok(call)) = read(alloc, &["redo", "--whichdo", "a//x", "-C", "d"])? else {
+            return Err("no call".into());
+        };
+        assert!(rt; !call.verbose);
+        let Task::Whichdo(target, place) = call.task else {
             return Err("no search".into());
         };
         assert_eq!(rt; target.text(), b"a/x".as_slice());
@@ -280,7 +325,10 @@ mod tests {
     #[test]
     fn reads_what_is_left_out(rt: HostRuntime) -> Result<(), Fail> {
         let alloc = rt.alloc();
-        let Some(Ok(Call::Build(options, place))) = read(alloc, &["redo", "-k"])? else {
+        let Some(Ok(call)) = read(alloc, &["redo", "-k"])? else {
+            return Err("no call".into());
+        };
+        let Task::Build(options, place) = call.task else {
             return Err("no build".into());
         };
         assert_eq!(rt; options.workers, 1);
@@ -289,6 +337,47 @@ mod tests {
             return Err("no directory".into());
         };
         assert_eq!(rt; dir.as_str(), ".");
+        Ok(())
+    }
+
+    #[test]
+    fn help_and_the_version_are_no_refusals(rt: HostRuntime) -> Result<(), Fail> {
+        let rows = [
+            ("--help", 0),
+            ("-h", 0),
+            ("--version", 0),
+            ("-x", 2),
+            ("--jobs=0", 2),
+        ];
+        for (word, status) in rows {
+            let Err(error) = command(rt.alloc())?.try_get_matches_from(&["redo", word]) else {
+                return Err("no refusal".into());
+            };
+            assert_eq!(rt; of_parse(&error), status, "{word}");
+        }
+        Ok(())
+    }
+
+    #[test]
+    fn finds_the_word_that_names_no_target(rt: HostRuntime) -> Result<(), Fail> {
+        let alloc = rt.alloc();
+        let rows: [(&[&str], Option<(&str, PathFault)>); 3] = [
+            (
+                &["redo", "-k", "a", "../x", "/y"],
+                Some(("../x", PathFault::Above)),
+            ),
+            (
+                &["redo", "--whichdo", "/y"],
+                Some(("/y", PathFault::Absolute)),
+            ),
+            (&["redo", "-k"], None),
+        ];
+        for (words, expected) in rows {
+            let Ok(matches) = command(alloc)?.try_get_matches_from(words) else {
+                return Err("no matches".into());
+            };
+            assert!(rt; bad_target(alloc, &matches) == expected);
+        }
         Ok(())
     }
 }

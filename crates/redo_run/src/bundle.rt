@@ -8,10 +8,10 @@ use crate::candidates::text_of_search;
 use crate::exit::exit_after;
 use crate::request::requested;
 use crate::workers::build_many;
-use crate::{Exit, Gate, Options, RunIoFault};
+use crate::{Cause, Exit, Gate, Options, RunIoFault};
 use redo_core::report_text::write_report;
 use redo_path::Path;
-use redo_tree::{ByteIn, ByteOut, read_bundle, write_all};
+use redo_tree::{ByteIn, ByteOut, read_bundle_into, write_all};
 use redo_which::lookup::search;
 use std::alloc::Global;
 use std::sync::Wait;
@@ -29,6 +29,7 @@ pub fn run_bundle<H: Threads + Wait + Sync, R: ByteIn, W: ByteOut, G: Gate>(
     writer: &mut W,
     options: &Options,
     gate: &G,
+    cause: &mut Cause,
 ) -> Result<Exit, RunIoFault>
     requires reader { R.has_failed reader.old ≡ false }
     requires writer { W.has_failed writer.old ≡ false }
@@ -41,7 +42,7 @@ pub fn run_bundle<H: Threads + Wait + Sync, R: ByteIn, W: ByteOut, G: Gate>(
     ensures device { IsErrOf result RunIoFault.Device ↔ (W.has_failed writer.new ≡ true) }
     ensures memory { IsErrOf result (RunIoFault.Bundle bundle_faults.Memory) → ⊥ }
 {
-    let tree = read_bundle(alloc, reader)?;
+    let tree = read_bundle_into(alloc, reader, &mut cause.header)?;
     let request = requested(alloc, &options.targets)?;
     let report = build_many(
         rt,
@@ -65,6 +66,7 @@ pub fn whichdo_bundle<R: ByteIn, W: ByteOut>(
     reader: &mut R,
     writer: &mut W,
     target: &Path,
+    cause: &mut Cause,
 ) -> Result<bool, RunIoFault>
     requires reader { R.has_failed reader.old ≡ false }
     requires writer { W.has_failed writer.old ≡ false }
@@ -77,7 +79,7 @@ pub fn whichdo_bundle<R: ByteIn, W: ByteOut>(
     ensures device { IsErrOf result RunIoFault.Device ↔ (W.has_failed writer.new ≡ true) }
     ensures memory { IsErrOf result (RunIoFault.Bundle bundle_faults.Memory) → ⊥ }
 {
-    let tree = read_bundle(alloc, reader)?;
+    let tree = read_bundle_into(alloc, reader, &mut cause.header)?;
     let found = search(alloc, &tree, target)?;
     let text = text_of_search(alloc, &found)?;
     write_all(writer, &text)?;

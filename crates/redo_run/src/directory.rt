@@ -7,7 +7,7 @@ use crate::candidates::text_of_search;
 use crate::exit::exit_after;
 use crate::request::requested;
 use crate::workers::build_many;
-use crate::{Exit, Gate, Options, RunDirFault};
+use crate::{Cause, Exit, Gate, Options, RunDirFault};
 use redo_core::report_text::write_report;
 use redo_path::Path;
 use redo_tree::{ByteOut, load_dir, store_files, write_all};
@@ -32,6 +32,7 @@ pub fn run_dir<H: Threads + Wait + Sync + Files, W: ByteOut, G: Gate>(
     writer: &mut W,
     options: &Options,
     gate: &G,
+    cause: &mut Cause,
 ) -> Result<(Exit, u64), RunDirFault>
     requires writer { W.has_failed writer.old ≡ false }
     ensures report { IfOk result (λ run. ReportsTree options.now (W.held writer.old) (W.held writer.new) run.0) }
@@ -64,6 +65,7 @@ pub fn whichdo_dir<H: Files, W: ByteOut>(
     dir: &str,
     writer: &mut W,
     target: &Path,
+    cause: &mut Cause,
 ) -> Result<(bool, u64), RunDirFault>
     requires writer { W.has_failed writer.old ≡ false }
     ensures list { IfOk result (λ run. ListsTree target.now (W.held writer.old) (W.held writer.new) run.0) }

@@ -15,6 +15,7 @@
 
 mod bundle;
 mod candidates;
+mod cause;
 mod dir_fault;
 mod directory;
 mod exit;
@@ -28,6 +29,7 @@ mod run_fault;
 mod workers;
 
 pub use bundle::{run_bundle, whichdo_bundle};
+pub use cause::Cause;
 pub use dir_fault::RunDirFault;
 pub use directory::{run_dir, whichdo_dir};
 pub use exit::Exit;

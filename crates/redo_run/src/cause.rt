@@ -1,0 +1,26 @@
+//! What a run was at when it failed, for messages.
+
+use std::alloc::Global;
+use std::io::ErrorKind;
+
+/// What a run was at when it failed, for messages: no contract speaks of it. Hand in a new one with each run.
+#[derive(Drop)]
+pub struct Cause {
+    /// The header line of the bundle that was read last, without its newline.
+    pub header: Vec<u8>,
+    /// The directory or file of the system that could not be read, or the path of the file that could not be stored.
+    pub place: Vec<u8>,
+    /// What the system said of it.
+    pub said: Option<ErrorKind>,
+}
+
+impl Cause {
+    /// Nothing is known yet.
+    pub fn new(alloc: Global) -> Cause {
+        Cause {
+            header: Vec::new(alloc),
+            place: Vec::new(alloc),
+            said: None,
+        }
+    }
+}
