@@ -114,7 +114,10 @@ fn build<H: Runtime + Threads + Wait + Sync>(
             let exit = run_bundle(rt, alloc, &mut reader, &mut writer, options, &NoGate, cause)?;
             (exit, 0)
         }
-        Place::Directory(dir) => run_dir(rt, alloc, dir, &mut writer, options, &NoGate, cause)?,
+        Place::Directory(dir) => {
+            let run = run_dir(rt, alloc, dir, &mut writer, options, &NoGate, cause)?;
+            (run.exit, run.passed)
+        }
     };
     flush(&mut writer.stream)?;
     note_passed(rt, passed);

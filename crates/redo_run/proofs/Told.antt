@@ -8,7 +8,9 @@ use Rattle.redo_core.specs.Reports.{IsReport}
 use Rattle.redo_core.specs.ReportText.{report_text}
 use Rattle.redo_core.specs.declared.report.Report.{Report}
 use Rattle.redo_tree.specs.Bundle.{IsBundle, Writes}
+use Rattle.redo_tree.specs.Directory.{IsLoaded, places_in}
 use Rattle.redo_tree.specs.Tree.{Tree}
+use Rattle.redo_run.specs.declared.directory.DirRun.{DirRun}
 use Rattle.redo_run.specs.declared.options.Options.{Options}
 use Rattle.redo_run.specs.declared.fault.RunIoFault.TheVariants as run
 use Rattle.redo_run.specs.declared.exit.Exit.{Exit}
@@ -75,16 +77,19 @@ module _ (options : Options) (tree : Tree) (request : List (List ℕ)) (named : 
   }
 
   -- the whole report of a directory was written
-  pub reports_tree : (old new : Option (List ℕ)) (report : Report) (written : List ℕ) (exit : Exit) →
-      IsReport (rules_of tree options.limits) request options.limits.0 report →
-      written ≡ report_text report false → Appends old new written → IsExit (rules_of tree options.limits) options.limits.0 request exit →
-      ReportsTree options old new exit
-  reports_tree old new report written exit is made h good = record {
+  pub reports_tree : (dir : List ℕ) (old new : Option (List ℕ)) (report : Report) (written : List ℕ) (run : DirRun) →
+      IsLoaded tree run.passed → IsReport (rules_of tree options.limits) request options.limits.0 report →
+      run.stored ≡ places_in dir report.files.items →
+      written ≡ report_text report false → Appends old new written → IsExit (rules_of tree options.limits) options.limits.0 request run.exit →
+      ReportsTree options dir old new run
+  reports_tree dir old new report written run loaded is stored made h good = record {
     tree = tree;
+    loaded = loaded;
     report = report;
     is = moved (λ ps. IsReport (rules_of tree options.limits) ps options.limits.0 report) is;
+    stored = stored;
     written = subst (Appends old new) made h;
-    good = moved (λ ps. IsExit (rules_of tree options.limits) options.limits.0 ps exit) good;
+    good = moved (λ ps. IsExit (rules_of tree options.limits) options.limits.0 ps run.exit) good;
   }
 
 -- what a search looked at is the list of the target's candidates

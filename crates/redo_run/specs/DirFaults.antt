@@ -9,7 +9,7 @@ use Rattle.redo_run.specs.declared.dir_fault.RunDirFault.{RunDirFault}
 use Rattle.redo_run.specs.declared.dir_fault.RunDirFault.TheVariants as run
 
 abbrev pub of_load : LoadFault → RunDirFault
-of_load load.Device = run.Load
+of_load (load.Device kind) = run.Load
 of_load load.Memory = run.Memory
 
 abbrev pub of_run : RunFault → RunDirFault
@@ -18,6 +18,6 @@ of_run build.Memory = run.Memory
 
 -- a file that couldn't be written, and one whose path is no text, are told by their place
 abbrev pub of_store : StoreFault → RunDirFault
-of_store (store.Device place) = run.Store place
+of_store (store.Device place kind) = run.Store place
 of_store (store.Name place) = run.Store place
 of_store (store.Memory place) = run.Memory

@@ -7,7 +7,8 @@ use Rattle.redo_core.specs.ReportText.{report_text}
 use Rattle.redo_core.specs.declared.report.Report.{Report}
 use Rattle.redo_tree.specs.Tree.{Tree}
 use Rattle.redo_which.specs.Rule.{chosen_of}
-use Rattle.redo_run.specs.declared.exit.Exit.{Exit}
+use Rattle.redo_tree.specs.Directory.{IsLoaded, places_in}
+use Rattle.redo_run.specs.declared.directory.DirRun.{DirRun}
 use Rattle.redo_run.specs.declared.options.Options.{Options}
 use Rattle.redo_run.specs.declared.dir_fault.RunDirFault.{RunDirFault}
 use Rattle.redo_run.specs.declared.dir_fault.RunDirFault.TheVariants.{Load, TooMany, Store, Device, Memory}
@@ -15,21 +16,25 @@ use Rattle.redo_run.specs.Candidates.{candidate_text}
 use Rattle.redo_run.specs.Exits.{IsExit}
 use Rattle.redo_run.specs.Runs.{IsReportFor, request_in}
 
--- the writer took the report of the build of a tree, without the files, and nothing else
-pub record ReportsTree (options : Options) (old new : Option (List ℕ)) (exit : Exit) : Type 0 where
+-- a tree was loaded, the files of its build were stored in the directory, and the writer took the report, without the
+-- files, and nothing else
+pub record ReportsTree (options : Options) (dir : List ℕ) (old new : Option (List ℕ)) (run : DirRun) : Type 0 where
   pub tree : Tree
+  pub loaded : IsLoaded tree run.passed
   pub report : Report
   pub is : IsReportFor options tree report
+  pub stored : run.stored ≡ places_in dir report.files.items
   pub written : Appends old new (report_text report false)
-  pub good : IsExit (rules_of tree options.limits) options.limits.0 (request_in options) exit
+  pub good : IsExit (rules_of tree options.limits) options.limits.0 (request_in options) run.exit
 
 -- a tree needs too many targets
 abbrev pub NeedsTooMany : Options → Type 0
 NeedsTooMany options = (tree : Tree) × IsTooMany (rules_of tree options.limits) (request_in options) options.limits.0
 
--- the writer took the list of the target's candidates in a tree, and nothing else
-pub record ListsTree (target : List ℕ) (old new : Option (List ℕ)) (found : Bool) : Type 0 where
+-- a tree was loaded, and the writer took the list of the target's candidates in it, and nothing else
+pub record ListsTree (target : List ℕ) (old new : Option (List ℕ)) (found : Bool) (passed : ℕ) : Type 0 where
   pub tree : Tree
+  pub loaded : IsLoaded tree passed
   pub written : Appends old new (candidate_text tree target)
   pub chosen : IsTrue found ↔ IsSome (chosen_of tree target)
 

@@ -11,7 +11,7 @@ use crate::workers::build_many;
 use crate::{Cause, Exit, Gate, Options, RunIoFault};
 use redo_core::report_text::write_report;
 use redo_path::Path;
-use redo_tree::{ByteIn, ByteOut, read_bundle_into, write_all};
+use redo_tree::{ByteIn, ByteOut, read_bundle_by_line, write_all};
 use redo_which::lookup::search;
 use std::alloc::Global;
 use std::sync::Wait;
@@ -42,7 +42,7 @@ pub fn run_bundle<H: Threads + Wait + Sync, R: ByteIn, W: ByteOut, G: Gate>(
     ensures device { IsErrOf result RunIoFault.Device ↔ (W.has_failed writer.new ≡ true) }
     ensures memory { IsErrOf result (RunIoFault.Bundle bundle_faults.Memory) → ⊥ }
 {
-    let tree = read_bundle_into(alloc, reader, &mut cause.header)?;
+    let tree = read_bundle_by_line(alloc, reader, &mut cause.header)?;
     let request = requested(alloc, &options.targets)?;
     let report = build_many(
         rt,
@@ -79,7 +79,7 @@ pub fn whichdo_bundle<R: ByteIn, W: ByteOut>(
     ensures device { IsErrOf result RunIoFault.Device ↔ (W.has_failed writer.new ≡ true) }
     ensures memory { IsErrOf result (RunIoFault.Bundle bundle_faults.Memory) → ⊥ }
 {
-    let tree = read_bundle_into(alloc, reader, &mut cause.header)?;
+    let tree = read_bundle_by_line(alloc, reader, &mut cause.header)?;
     let found = search(alloc, &tree, target)?;
     let text = text_of_search(alloc, &found)?;
     write_all(writer, &text)?;

@@ -1,5 +1,7 @@
 //! What a run was at when it failed, for messages.
 
+use redo_path::Path;
+use redo_tree::{Content, StoreFault};
 use std::alloc::Global;
 use std::io::ErrorKind;
 
@@ -21,6 +23,21 @@ impl Cause {
             header: Vec::new(alloc),
             place: Vec::new(alloc),
             said: None,
+        }
+    }
+
+    /// Notes a file of the list that could not be stored. A path that isn't UTF-8 is a name that the system would refuse.
+    pub(crate) fn note_unstored(&mut self, files: &[(Path, Content)], fault: StoreFault) {
+        let (place, said) = match fault {
+            StoreFault::Device(place, kind) => (place, kind),
+            StoreFault::Name(place) => (place, ErrorKind::InvalidFilename),
+            StoreFault::Memory(_) => return,
+        };
+        if let Some((path, _)) = files.get(place) {
+            self.place.clear();
+            if self.place.extend_from_slice(path.text()).is_ok() {
+                self.said = Some(said);
+            }
         }
     }
 }

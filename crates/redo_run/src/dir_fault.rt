@@ -61,7 +61,7 @@ impl From<LoadFault> for RunDirFault {
 
     fn from(error: LoadFault) -> RunDirFault {
         match error {
-            LoadFault::Device => RunDirFault::Load,
+            LoadFault::Device(_) => RunDirFault::Load,
             LoadFault::Memory => RunDirFault::Memory,
         }
     }
@@ -88,7 +88,7 @@ impl From<StoreFault> for RunDirFault {
 
     fn from(error: StoreFault) -> RunDirFault {
         match error {
-            StoreFault::Device(place) | StoreFault::Name(place) => RunDirFault::Store(place),
+            StoreFault::Device(place, _) | StoreFault::Name(place) => RunDirFault::Store(place),
             StoreFault::Memory(_) => RunDirFault::Memory,
         }
     }

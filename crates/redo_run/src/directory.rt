@@ -2,6 +2,7 @@
 
 ghost use Rattle.std.specs.Prelude.{◌≡◌, ◌↔◌, false, IfOk, IsErrOf, true};
 ghost use Rattle.redo_run.specs.Directories.{FallsInList, IsUnwritten, ListsTree, ReportsTree, NeedsTooMany};
+ghost use Rattle.redo_tree.specs.Directory.{IsLoaded, places_in};
 
 use crate::candidates::text_of_search;
 use crate::exit::exit_after;
@@ -10,15 +11,64 @@ use crate::workers::build_many;
 use crate::{Cause, Exit, Gate, Options, RunDirFault};
 use redo_core::report_text::write_report;
 use redo_path::Path;
-use redo_tree::{ByteOut, load_dir, store_files, write_all};
+use redo_tree::{ByteOut, Content, LoadFault, StoreFault, Stored, Tree, load_dir, store_files, write_all};
 use redo_which::lookup::search;
 use std::alloc::Global;
 use std::rt::Files;
 use std::sync::Wait;
 use std::thread::Threads;
 
+/// What a run over a directory came to.
+#[derive(Drop)]
+pub struct DirRun {
+    /// Whether every requested path is a source or built.
+    pub exit: Exit,
+    /// How many names were passed over, as `load_dir` says.
+    pub passed: u64,
+    /// The files that were stored.
+    pub stored: Stored,
+}
+
+/// Reads a directory. Where it can't be read, the cause names what can't.
+fn load<H: Files>(
+    rt: &H,
+    alloc: Global,
+    dir: &str,
+    cause: &mut Cause,
+) -> Result<(Tree, u64), LoadFault>
+    ensures { IfOk result (λ loaded. IsLoaded loaded.0 loaded.1) }
+{
+    let mut place = String::new(alloc);
+    let loaded = load_dir(rt, alloc, dir, &mut place);
+    if let Err(LoadFault::Device(kind)) = &loaded {
+        cause.place = place.into_bytes();
+        cause.said = Some(*kind);
+    }
+    loaded
+}
+
+/// Stores files. Where one can't be stored, the cause names it.
+fn store<H: Files>(
+    rt: &H,
+    alloc: Global,
+    dir: &str,
+    files: &[(Path, Content)],
+    cause: &mut Cause,
+) -> Result<Stored, StoreFault>
+    ensures { IfOk result (λ stored. stored ≡ places_in dir.now files.now) }
+{
+    let (stored, outcome) = store_files(rt, alloc, dir, files);
+    match outcome {
+        Ok(()) => Ok(stored),
+        Err(fault) => {
+            cause.note_unstored(files, fault);
+            Err(fault)
+        }
+    }
+}
+
 /// Reads a directory with all that is below it, builds the targets, writes the files that were built into the directory,
-/// and then writes the report, without the files. Answers too how many names were passed over, as `load_dir` says.
+/// and then writes the report, without the files.
 ///
 /// Nothing is written before the build has answered. Where a file can't be stored, those before it in path order were, and
 /// no report is written; where the report can't be written, all files were stored. A file that stands in the directory, one
@@ -33,14 +83,14 @@ pub fn run_dir<H: Threads + Wait + Sync + Files, W: ByteOut, G: Gate>(
     options: &Options,
     gate: &G,
     cause: &mut Cause,
-) -> Result<(Exit, u64), RunDirFault>
+) -> Result<DirRun, RunDirFault>
     requires writer { W.has_failed writer.old ≡ false }
-    ensures report { IfOk result (λ run. ReportsTree options.now (W.held writer.old) (W.held writer.new) run.0) }
+    ensures report { IfOk result (λ run. ReportsTree options.now dir.now (W.held writer.old) (W.held writer.new) run) }
     ensures too_many { IsErrOf result RunDirFault.TooMany → NeedsTooMany options.now }
     ensures untouched { IsUnwritten result writer.old writer.new }
     ensures device { IsErrOf result RunDirFault.Device ↔ (W.has_failed writer.new ≡ true) }
 {
-    let (tree, passed) = load_dir(rt, alloc, dir)?;
+    let (tree, passed) = load(rt, alloc, dir, cause)?;
     let request = requested(alloc, &options.targets)?;
     let report = build_many(
         rt,
@@ -52,9 +102,13 @@ pub fn run_dir<H: Threads + Wait + Sync + Files, W: ByteOut, G: Gate>(
         gate,
     )?;
     let exit = exit_after(alloc, &report, &request)?;
-    store_files(rt, alloc, dir, &report.files)?;
+    let stored = store(rt, alloc, dir, &report.files, cause)?;
     write_report(writer, &report, false)?;
-    Ok((exit, passed))
+    Ok(DirRun {
+        exit,
+        passed,
+        stored,
+    })
 }
 
 /// Reads a directory with all that is below it, and writes the candidates for a target's rule, as `whichdo_bundle` does.
@@ -68,12 +122,12 @@ pub fn whichdo_dir<H: Files, W: ByteOut>(
     cause: &mut Cause,
 ) -> Result<(bool, u64), RunDirFault>
     requires writer { W.has_failed writer.old ≡ false }
-    ensures list { IfOk result (λ run. ListsTree target.now (W.held writer.old) (W.held writer.new) run.0) }
-    ensures untouched { IsUnwritten result writer.old writer.new }
+    ensures list { IfOk result (λ run. ListsTree target.now (W.held writer.old) (W.held writer.new) run.0 run.1) }
     ensures no_build { FallsInList result }
+    ensures untouched { IsUnwritten result writer.old writer.new }
     ensures device { IsErrOf result RunDirFault.Device ↔ (W.has_failed writer.new ≡ true) }
 {
-    let (tree, passed) = load_dir(rt, alloc, dir)?;
+    let (tree, passed) = load(rt, alloc, dir, cause)?;
     let found = search(alloc, &tree, target)?;
     let text = text_of_search(alloc, &found)?;
     write_all(writer, &text)?;

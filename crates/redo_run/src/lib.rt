@@ -31,7 +31,7 @@ mod workers;
 pub use bundle::{run_bundle, whichdo_bundle};
 pub use cause::Cause;
 pub use dir_fault::RunDirFault;
-pub use directory::{run_dir, whichdo_dir};
+pub use directory::{DirRun, run_dir, whichdo_dir};
 pub use exit::Exit;
 pub use fault::RunIoFault;
 pub use gate::{Gate, NoGate};

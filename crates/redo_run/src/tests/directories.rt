@@ -2,7 +2,7 @@
 //! small, and a test holds little more than its directory, so that each is proved in a few seconds.
 
 use super::options;
-use crate::{Exit, NoGate, RunDirFault, run_dir, whichdo_dir};
+use crate::{Cause, Exit, NoGate, RunDirFault, run_dir, whichdo_dir};
 use redo_path::{Path, resolve};
 use redo_tree::Plain;
 use std::alloc::Global;
@@ -67,16 +67,18 @@ fn gives<R: Threads + Wait + Sync + Files>(
 ) -> Result<bool, Fail> {
     let options = options(alloc, &[b"hello"], 2, 9, 9)?;
     let mut writer = Plain::new(Vec::new(alloc));
-    let found = run_dir(rt, alloc, dir.as_str(), &mut writer, &options, &NoGate);
+    let mut cause = Cause::new(alloc);
+    let found = run_dir(rt, alloc, dir.as_str(), &mut writer, &options, &NoGate, &mut cause);
     let Plain { stream, broken: _ } = writer;
-    Ok(found == outcome && stream.as_slice() == report)
+    Ok(found.map(|run| (run.exit, run.passed)) == outcome && stream.as_slice() == report)
 }
 
 /// Whether a search for `hello` answers this, with this list.
 fn lists(rt: &HostRuntime, dir: &PathBuf, answer: Listed, list: &[u8]) -> Result<bool, Fail> {
     let target = resolve(rt.alloc(), &Path::root(), b"hello")?;
     let mut writer = Plain::new(Vec::new(rt.alloc()));
-    let found = whichdo_dir(rt, rt.alloc(), dir.as_str(), &mut writer, &target);
+    let mut cause = Cause::new(rt.alloc());
+    let found = whichdo_dir(rt, rt.alloc(), dir.as_str(), &mut writer, &target, &mut cause);
     let Plain { stream, broken: _ } = writer;
     Ok(found == answer && stream.as_slice() == list)
 }
@@ -118,7 +120,9 @@ fn a_directory_that_is_not_there_gives_no_report(rt: HostRuntime) -> Result<(), 
 #[test]
 fn candidates_are_listed_over_a_directory(rt: HostRuntime) -> Result<(), Fail> {
     let dir = new_directory(&rt)?;
-    let listed = lists(&rt, &dir, Ok((true, 0)), b"hello.do\n")?;
+    // A name that is passed over.
+    write_file(&rt, &dir, "a\tb", "1\n")?;
+    let listed = lists(&rt, &dir, Ok((true, 1)), b"hello.do\n")?;
     remove(&rt, &dir)?;
     assert!(rt; listed);
     Ok(())

@@ -15,5 +15,6 @@ returns-clause-report g c =
     let X : List (List ℕ) → Type 0 = λ ps. IsExit rules limits.0 ps c.in_ok-exit.exit in
     let exit = subst X c.deref-3.ensures.value (c.in_ok-exit.ensures rules limits.0 (subst E (sym c.deref-3.ensures.value) is)) in
     reports_tree c.args.options.now c.in_ok-tree.tree c.in_ok-request.request.items
-    (c.in_ok-request.ensures ∙ ap request_of c.deref.ensures.value) _ _ c.in_ok-report.report _ c.in_ok-exit.exit
-    is refl c.in_ok-write_report.ensures.writes exit
+    (c.in_ok-request.ensures ∙ ap request_of c.deref.ensures.value) _ _ _ c.in_ok-report.report _
+    record { exit = c.in_ok-exit.exit; passed = c.in_ok-tree.passed; stored = c.in_ok-stored.stored }
+    c.in_ok-tree.ensures is (c.in_ok-stored.ensures ∙ ap _ c.deref-4.ensures.value) refl c.in_ok-write_report.ensures.writes exit
