@@ -115,7 +115,7 @@ statements_blame ts = parse_blames ts _
 
 of_tokens : (text : List ℕ) (fault : ScriptFault) → StopsAtByte text fault ⊎ StopsAtEnd text fault → fault.why ≢ reasons.Memory
 of_tokens text fault (inl s) = rw s.fault_is (λ e. cc e)
-of_tokens text fault (inr s) = elim s.fault_is [ inl q ↦ rw q.fault_is (λ e. cc e) | inr e ↦ rw e (λ e. cc e) ]
+of_tokens text fault (inr s) = elim s.fault_is [ inl e ↦ rw e.1 (λ e. cc e) | inr q ↦ rw q.1.fault_is (λ e. cc e) ]
 
 tokens_blame : (text : List ℕ) (read : Result (List Token) ScriptFault) → tokens_of text ≡ read → Blames read
 tokens_blame text (Ok ts) e = tt
