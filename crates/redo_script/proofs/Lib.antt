@@ -13,6 +13,7 @@ mod Spelled
 mod Statements
 mod Numbers
 mod Interpreters
+mod Blames
 mod ReadTokens
 mod ReadTexts
 mod StopsTokens

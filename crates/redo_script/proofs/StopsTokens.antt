@@ -1,17 +1,18 @@
 -- Where reading of bytes stops.
-use Rattle.std.proofs.Common.{◌≡◌, ◌⊎◌, ℕ, Bool, true, false, ◌&&◌, ◌==◌, if◌then◌else◌, List, [], ◌∷◌, ◌++◌, Result, Ok, Err, refl, sym, ◌∙◌, ap, inl, inr, append_assoc, add-one}
-use Rattle.std.proofs.lemmas.Bool.{cases_Bool}
+use Rattle.std.proofs.Common.{◌≡◌, ◌⊎◌, ℕ, Bool, true, false, ◌&&◌, ◌==◌, if◌then◌else◌, List, [], ◌∷◌, ◌++◌, Some, None, Result, Ok, Err, refl, sym, ◌∙◌, ap, subst, inl, inr, append_assoc, add-one}
+use Rattle.std.proofs.lemmas.Bool.{cases_Bool, eqb-true}
 use Rattle.std.proofs.lemmas.List.{append-nil}
 use Rattle.redo_script.specs.declared.ast.Parameter.{Parameter}
+use Rattle.redo_script.specs.declared.ast.Parameter.TheVariants.{One, Two, Three}
 use Rattle.redo_script.specs.declared.fault.ScriptFault.{ScriptFault}
 use Rattle.redo_script.specs.declared.fault.Reason.TheVariants as reasons
 use Rattle.redo_script.specs.declared.lexer.Mode.{Mode}
 use Rattle.redo_script.specs.declared.lexer.Mode.TheVariants as modes
 use Rattle.redo_script.specs.Bytes.{is_plain, is_blank}
 use Rattle.redo_script.specs.Syntax.{Symbol, bare, quoted}
-use Rattle.redo_script.specs.Tokens.{Token, redirect, line_after, ends_word, is_escaped}
+use Rattle.redo_script.specs.Tokens.{Token, redirect, Names, one, two, three, line_after, ends_word, is_escaped}
 use Rattle.redo_script.specs.Reading.{Reader, at_start, with_token, with_begun_word, with_word, word_byte, gap_byte, in_word, in_single, in_double, after_backslash, parameter_named, with_parameter, next_byte, at_end, read_on, tokens_of}
-use Rattle.redo_script.specs.Places.{line_from, CanGoOn, QuoteIsOpen, StopsAtByte, StopsAtEnd}
+use Rattle.redo_script.specs.Places.{line_from, CanGoOn, NeedsDigit, QuoteIsOpen, StopsAtByte, StopsAtEnd}
 use Rattle.redo_script.proofs.Bits.{never, not_same, not_in}
 use Rattle.redo_script.proofs.OneByte.{at}
 use Rattle.redo_script.proofs.OpenQuotes.{is_inside, out, QuoteOpens, opens_from, remains_from, inside_ends}
@@ -99,6 +100,26 @@ mode_keeps modes.Escape r b = escape_keeps (at modes.Escape r.line r) b
 
 keeps : (r : Reader) (b : ℕ) → KeepsLine r.line b (next_byte r b)
 keeps r b = mode_keeps r.mode r b
+
+named : (b : ℕ) → ((p : Parameter) × Names b p) ⊎ (parameter_named b ≡ None)
+named b = elim (cases_Bool (b == 49)) [
+  | inl e ↦ inl (One, subst (λ (x : ℕ). Names x One) (sym (eqb-true b 49 e)) one)
+  | inr e1 ↦ elim (cases_Bool (b == 50)) [
+    | inl e ↦ inl (Two, subst (λ (x : ℕ). Names x Two) (sym (eqb-true b 50 e)) two)
+    | inr e2 ↦ elim (cases_Bool (b == 51)) [
+      | inl e ↦ inl (Three, subst (λ (x : ℕ). Names x Three) (sym (eqb-true b 51 e)) three)
+      | inr e ↦ inr (rw (e1, e2, e) refl)
+    ]
+  ]
+]
+
+taken : {b : ℕ} {p : Parameter} → Names b p → parameter_named b ≡ Some p
+taken one = refl
+taken two = refl
+taken three = refl
+
+blank_names : (p : Parameter) → Names 32 p → ⊥
+blank_names p g = let e : None ≡ Some p = taken g in cc e
 
 -- Bytes that close what is open.
 pub record Closes (r : Reader) : Type 0 where
@@ -259,23 +280,47 @@ quote_is_open text last fault q f = record {
         let all : read_on at_start (q.before ++ q.quote ∷ x) ≡ Err stuck.0 = leads_on (q.quote ∷ x) q.leads ∙ (on ∙ (reads_to s.leads ∙ stuck.1)) in
         never (sym all ∙ h)
 
-end_fault : (m : Mode) (r : Reader) (fault : ScriptFault) → at_end (at m r.line r) ≡ Err fault → ((is_inside m ≡ true) × (fault ≡ record { line = r.opened; why = reasons.OpenQuote })) ⊎ (fault ≡ record { line = r.line; why = reasons.Unsupported })
-unfolding at_end
-end_fault modes.Gap r fault h = absurd (cc h)
-end_fault modes.Semicolon r fault h = absurd (cc h)
-end_fault modes.Redirect r fault h = absurd (cc h)
-end_fault modes.Comment r fault h = absurd (cc h)
-end_fault modes.Word r fault h = absurd (cc h)
-end_fault modes.Dollar r fault h = inr (cc h)
-end_fault modes.QuotedDollar r fault h = inr (cc h)
-end_fault modes.Single r fault h = inl (refl, cc h)
-end_fault modes.Double r fault h = inl (refl, cc h)
-end_fault modes.Escape r fault h = inl (refl, cc h)
+leads_one : {r mid last : Reader} {bs : List ℕ} (b : ℕ) → Leads r bs mid → next_byte mid b ≡ Ok last → Leads r (bs ++ b ∷ []) last
+leads_one b nowhere e = further e nowhere
+leads_one b (further k i) e = further k (leads_one b i e)
 
-at_the_end : (text : List ℕ) (last : Reader) (fault : ScriptFault) → Leads at_start text last → at_end last ≡ Err fault → QuoteIsOpen text fault ⊎ (fault ≡ record { line = line_from 1 text; why = reasons.Unsupported })
-at_the_end text last fault k h = elim (end_fault last.mode last fault h) [
-  | inl q ↦ elim (quote_of k q.0) [ inl w ↦ out (is_within w) | inr i ↦ inl (quote_is_open text last fault i q.1) ]
-  | inr e ↦ inr (rw (leads_line k) at e)
+-- one more byte can come
+goes_on : (text : List ℕ) (last next : Reader) (b : ℕ) → Leads at_start text last → next_byte last b ≡ Ok next → CanGoOn (text ++ b ∷ [])
+goes_on text last next b k e = can_go_on (text ++ b ∷ []) next (leads_one b k e)
+
+-- behind a `$` only a digit can come
+digit_next : (text : List ℕ) (last : Reader) (m : Mode) (symbol : Parameter → Symbol) → Leads at_start text last → ((b : ℕ) → next_byte last b ≡ with_parameter last m symbol (parameter_named b)) → NeedsDigit text
+digit_next text last m symbol k e b g = elim (named b) [
+  | inl n ↦ n
+  | inr none ↦ absurd (can_not text b last (record { line = last.line; why = reasons.Unsupported }) k (rw (e b, none) refl) g)
+]
+
+-- a blank in quotes stands for itself
+no_digit : (text : List ℕ) (last next : Reader) → Leads at_start text last → next_byte last 32 ≡ Ok next → NeedsDigit text → ⊥
+no_digit text last next k e g = let n = g 32 (goes_on text last next 32 k e) in blank_names n.0 n.1
+
+abbrev EndsAs : List ℕ → Reader → ScriptFault → Type 0
+EndsAs text r fault =
+    (NeedsDigit text × (fault ≡ record { line = r.line; why = reasons.Unsupported }))
+    ⊎ ((NeedsDigit text → ⊥) × (is_inside r.mode ≡ true) × (fault ≡ record { line = r.opened; why = reasons.OpenQuote }))
+
+end_fault : (text : List ℕ) (m : Mode) (r : Reader) (fault : ScriptFault) → Leads at_start text (at m r.line r) → at_end (at m r.line r) ≡ Err fault → EndsAs text (at m r.line r) fault
+unfolding at_end next_byte
+end_fault text modes.Gap r fault k h = absurd (cc h)
+end_fault text modes.Semicolon r fault k h = absurd (cc h)
+end_fault text modes.Redirect r fault k h = absurd (cc h)
+end_fault text modes.Comment r fault k h = absurd (cc h)
+end_fault text modes.Word r fault k h = absurd (cc h)
+end_fault text modes.Dollar r fault k h = inl (digit_next text (at modes.Dollar r.line r) modes.Word bare k (λ b. refl), cc h)
+end_fault text modes.QuotedDollar r fault k h = inl (digit_next text (at modes.QuotedDollar r.line r) modes.Double quoted k (λ b. refl), cc h)
+end_fault text modes.Single r fault k h = inr (no_digit text (at modes.Single r.line r) _ k refl, refl, cc h)
+end_fault text modes.Double r fault k h = inr (no_digit text (at modes.Double r.line r) _ k refl, refl, cc h)
+end_fault text modes.Escape r fault k h = inr (no_digit text (at modes.Escape r.line r) _ k refl, refl, cc h)
+
+at_the_end : (text : List ℕ) (last : Reader) (fault : ScriptFault) → Leads at_start text last → at_end last ≡ Err fault → (NeedsDigit text × (fault ≡ record { line = line_from 1 text; why = reasons.Unsupported })) ⊎ ((NeedsDigit text → ⊥) × QuoteIsOpen text fault)
+at_the_end text last fault k h = elim (end_fault text last.mode last fault k h) [
+  | inl e ↦ inl (e.0, rw (leads_line k) at e.1)
+  | inr q ↦ inr (q.0, elim (quote_of k q.1) [ inl w ↦ out (is_within w) | inr i ↦ quote_is_open text last fault i q.2 ])
 ]
 
 pub stops_tokens : (text : List ℕ) (fault : ScriptFault) → tokens_of text ≡ Err fault → StopsAtByte text fault ⊎ StopsAtEnd text fault

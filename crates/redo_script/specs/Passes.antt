@@ -9,9 +9,9 @@ use Rattle.redo_script.specs.Parsing.{Parser, parse_on, statements_of}
 use Rattle.redo_script.specs.Reading.{tokens_of}
 use Rattle.redo_script.specs.Parser.{parser_of}
 
--- With these tokens to come, reading statements gives this whole, unless memory ran out.
+-- With these tokens to come, reading statements gives this whole: a fault that is kept is the one that they have.
 abbrev pub IsOn : Statements → List Token → Result Script ScriptFault → Type 0
-IsOn s ts total = elim s.fault [ None ↦ parse_on (parser_of s.parser) ts ≡ total | Some e ↦ Fails e total ]
+IsOn s ts total = elim s.fault [ None ↦ parse_on (parser_of s.parser) ts ≡ total | Some e ↦ total ≡ Err e ]
 
 -- After part of the tokens the parser goes on with the others, and gives what all of them give, unless memory ran out or the
 -- part has the fault.

@@ -1,7 +1,8 @@
 //! Why a text is no script.
 
-ghost use Rattle.std.specs.Prelude.{◌≡◌};
+ghost use Rattle.std.specs.Prelude.{◌≡◌, ◌≢◌, true, false};
 ghost use Rattle.redo_script.specs.Faults.{no_memory};
+ghost use Rattle.redo_script.specs.declared.fault.Reason.TheVariants as reasons;
 
 use std::alloc::{AllocError, AllocFailed};
 use thiserror::Error;
@@ -45,6 +46,16 @@ pub enum Reason {
 pub struct ScriptFault {
     pub line: u64,
     pub why: Reason,
+}
+
+impl ScriptFault {
+    /// Whether this is want of memory, and so no fault of a text.
+    pub fn is_memory(&self) -> bool
+        ensures memory { result ≡ true → self.now.why ≡ reasons.Memory }
+        ensures fault { result ≡ false → self.now.why ≢ reasons.Memory }
+    {
+        matches!(self.why, Reason::Memory)
+    }
 }
 
 const NO_MEMORY: ScriptFault = ScriptFault {

@@ -1,7 +1,8 @@
 //! What ties the grammar to the functions that read.
 
-ghost use Rattle.std.specs.Prelude.{◌≡◌, ◌⊎◌, ℕ, List, Ok, Err};
+ghost use Rattle.std.specs.Prelude.{◌≡◌, ◌≢◌, ◌⊎◌, ℕ, List, Ok, Err};
 ghost use Rattle.redo_script.specs.declared.fault.ScriptFault.{ScriptFault};
+ghost use Rattle.redo_script.specs.declared.fault.Reason.TheVariants as reasons;
 ghost use Rattle.redo_script.specs.Tokens.{AreTokens, Token};
 ghost use Rattle.redo_script.specs.Places.{StopsAtByte, StopsAtEnd};
 ghost use Rattle.redo_script.specs.Reading.{tokens_of};
@@ -49,4 +50,9 @@ pub fn one_tree()
 pub fn tokens_stop_at_their_fault()
     ensures { (text : List ℕ) (fault : ScriptFault) →
         tokens_of text ≡ Err fault → StopsAtByte text fault ⊎ StopsAtEnd text fault }
+{}
+
+/// What is wrong with a text is never want of memory, which [`parse`](crate::parse) answers of itself.
+pub fn no_text_wants_memory()
+    ensures { (text : List ℕ) (fault : ScriptFault) → script_in text ≡ Err fault → fault.why ≢ reasons.Memory }
 {}

@@ -1,11 +1,11 @@
 //! From tokens to statements.
 
-ghost use Rattle.std.specs.Prelude.{◌≡◌, Ok, [], ◌∷◌, ◌++◌, List, Result, map};
+ghost use Rattle.std.specs.Prelude.{◌≡◌, Ok, OnOk, IfErr, [], ◌∷◌, ◌++◌, List, Result, map};
 ghost use Rattle.redo_script.specs.declared.fault.ScriptFault.{ScriptFault};
 ghost use Rattle.redo_script.specs.Syntax.{Script as ScriptTree};
 ghost use Rattle.redo_script.specs.Tokens.{Token as Symbol};
 ghost use Rattle.redo_script.specs.Passes.{IsOn, ParsesOn};
-ghost use Rattle.redo_script.specs.Faults.{Gives, Leaves, fault_at};
+ghost use Rattle.redo_script.specs.Faults.{Gives, Leaves, fault_at, no_memory};
 ghost use Rattle.redo_script.specs.Parsing.{with_command, with_condition, if_opened, at_else, at_fi, then_word, condition_word, first_word, a_word, a_redirect, a_separator, next_token, unless_open, end_by_phase, at_first, parse_on, statements_of};
 ghost use Rattle.redo_script.specs.View.{condition_of, script_of};
 ghost use Rattle.redo_script.specs.Lexer.{token_of};
@@ -368,17 +368,24 @@ impl<'a> Statements<'a> {
         }
     }
 
-    /// Reads these tokens. Behind a fault there is nothing to read.
-    pub fn tokens(&mut self, tokens: Vec<Token<'a>>)
-        ensures { (ts : List Symbol) (total : Result ScriptTree ScriptFault) →
-            IsOn self.old (map token_of tokens.entry.items ++ ts) total → IsOn self.new ts total }
+    /// Reads these tokens. A fault among them is kept, and behind it there is nothing to read; want of memory is none,
+    /// and is answered at once.
+    pub fn tokens(&mut self, tokens: Vec<Token<'a>>) -> Result<(), ScriptFault>
+        ensures reads { (ts : List Symbol) (total : Result ScriptTree ScriptFault) →
+            IsOn self.old (map token_of tokens.entry.items ++ ts) total → OnOk result (IsOn self.new ts total) }
+        ensures memory { IfErr result (λ fault. fault ≡ no_memory) }
     {
-        match self.fault {
-            Some(_) => {}
-            None => {
-                if let Err(fault) = self.parser.tokens(tokens) {
-                    self.fault = Some(fault);
+        if self.fault.is_some() {
+            return Ok(());
+        }
+        match self.parser.tokens(tokens) {
+            Ok(()) => Ok(()),
+            Err(fault) => {
+                if fault.is_memory() {
+                    return Err(fault);
                 }
+                self.fault = Some(fault);
+                Ok(())
             }
         }
     }

@@ -70,7 +70,7 @@ fn has_fit_interpreter(text: &[u8]) -> bool
 }
 
 /// The tree of a text by its tokens and its commands. The two passes go side by side: where the commands have a fault,
-/// the tokens are still read to the end, since theirs go first.
+/// the tokens are still read to the end, since theirs go first. Only want of memory ends both at once.
 fn read_statements(alloc: Global, text: &[u8]) -> Result<Script, ScriptFault>
     ensures { Gives (λ t. script_of t.stmts.items) result (script_by_tokens text.now) }
 {
@@ -80,10 +80,10 @@ fn read_statements(alloc: Global, text: &[u8]) -> Result<Script, ScriptFault>
     while let [byte, rest @ ..] = left {
         left = lexer.step(*byte, rest)?;
         if lexer.has_many() {
-            statements.tokens(lexer.take_tokens()?);
+            statements.tokens(lexer.take_tokens()?)?;
         }
     }
-    statements.tokens(lexer.finish()?);
+    statements.tokens(lexer.finish()?)?;
     statements.finish()
 }
 

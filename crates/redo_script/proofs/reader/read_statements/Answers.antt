@@ -22,11 +22,11 @@ returns-in_err-left c =
     let reads : Follows c.new-statements.result (read_on (reader_of c.new-lexer.result) c.args.text.now) (script_by_tokens c.args.text.now) = rw c.new-lexer.ensures.reader (first c.new-statements.result c.args.text.now c.new-statements.ensures) in
     rw (p.1, p.2) (step_fails c.new-statements.result (read_on (reader_of c.new-lexer.result) c.args.text.now) _ (script_by_tokens c.args.text.now) c.in_err-left.ensures.reads reads)
 
-pub loop-left-preserved-then-has_many : goal.loop-left-preserved-then-has_many
-loop-left-preserved-then-has_many c =
+pub loop-left-preserved-in_ok-tokens : goal.loop-left-preserved-in_ok-tokens
+loop-left-preserved-in_ok-tokens c =
     let read : Follows c.loop-left.statements (read_on (reader_of c.step.new.self) c.in_ok-left-2.left.now) (script_by_tokens c.args.text.now) = rw (c.in_ok-left-2.ensures.reads, head_on c.loop-left.left.now c.in-len1-up.len_at_least) c.loop-left.invariant.reads in
     record {
-      reads = tokens_taken c.loop-left.statements c.tokens.new.self _ (reader_of c.step.new.self) (reader_of c.take_tokens.new.self) c.in_ok-left-2.left.now (script_by_tokens c.args.text.now) (sym c.in_ok-take_tokens.ensures.tokens) c.in_ok-take_tokens.ensures.taken c.tokens.ensures read;
+      reads = tokens_taken c.loop-left.statements c.tokens.new.self _ (reader_of c.step.new.self) (reader_of c.take_tokens.new.self) c.in_ok-left-2.left.now (script_by_tokens c.args.text.now) (sym c.in_ok-take_tokens.ensures.tokens) c.in_ok-take_tokens.ensures.taken c.in_ok-tokens.ensures.reads read;
       line = search rules;
     }
 
@@ -39,4 +39,4 @@ returns-in_err-finish c =
 pub returns : goal.returns
 returns c =
     let none : c.loop-left.left.now ≡ [] = nil_from_length c.loop-left.left.now (omega (arith, c.in_default.len_below)) in
-    c.finish-2.ensures (script_by_tokens c.args.text.now) (last_taken c.loop-left.statements c.tokens-2.new.self (reader_of c.loop-left.lexer) _ (script_by_tokens c.args.text.now) c.in_ok-finish.ensures c.tokens-2.ensures (rw none at c.loop-left.invariant.reads))
+    c.finish-2.ensures (script_by_tokens c.args.text.now) (last_taken c.loop-left.statements c.tokens-2.new.self (reader_of c.loop-left.lexer) _ (script_by_tokens c.args.text.now) c.in_ok-finish.ensures c.in_ok-tokens-2.ensures.reads (rw none at c.loop-left.invariant.reads))
