@@ -20,7 +20,8 @@ use Rattle.redo_core.specs.Rules.{Rules, AreLawful}
 use Rattle.redo_core.specs.Outcomes.{outcome_at}
 use Rattle.redo_core.specs.Schedule.{nothing_known}
 use Rattle.redo_core.specs.Turns.{IsFact}
-use Rattle.redo_core.specs.Works.{known_in, told_by, IsWorkWith}
+use Rattle.redo_core.specs.Views.{told_by}
+use Rattle.redo_core.specs.Works.{known_in, IsWorkWith}
 use Rattle.redo_core.specs.declared.facts.Facts.{Facts}
 
 -- without a rule no answer makes a difference

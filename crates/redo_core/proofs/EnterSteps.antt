@@ -298,3 +298,28 @@ full tree limits t freed p table out h =
       length-append es (new_entry (rules_of tree limits) p ∷ []),
       slots-length (rules_of tree limits) a t.targets.keys t.slots.items table.one_each,
     ))
+
+-- what was entered is within the limit
+pub entered-room : (tree : Tree) (limits : ℕ × ℕ) (t u : Table) (freed : List ℕ) (p : List ℕ) → IsEnteredInto tree limits t u freed p →
+    IsFull (rules_of tree limits) limits.0 (table_entries (rules_of tree limits) limits.0 t) p → ⊥
+entered-room tree limits t u freed p entered many =
+    let r = rules_of tree limits in
+    omega (
+      arith,
+      many,
+      ap length entered.entries,
+      slots-length r (outcome_at r limits.0) u.targets.keys u.slots.items entered.table.one_each,
+      entered.table.within_limit,
+    )
+
+-- where a slot is free, one more path is within the limit
+pub room-left : (tree : Tree) (limits : ℕ × ℕ) (t : Table) (freed : List ℕ) (p : List ℕ) → IsTableOf tree limits t freed → length t.slots.items < limits.0 →
+    IsFull (rules_of tree limits) limits.0 (table_entries (rules_of tree limits) limits.0 t) p → ⊥
+room-left tree limits t freed p table room many =
+    let r = rules_of tree limits in
+    let es = table_entries (rules_of tree limits) limits.0 t in
+    let len = slots-length r (outcome_at r limits.0) t.targets.keys t.slots.items table.one_each in
+    elim (cases_Bool (is_among (paths_of es) p)) [
+      | inl old ↦ let few = rw old at many in omega (arith, few, len, room)
+      | inr new ↦ let few = rw new at many in omega (arith, few, len, room, length-append es (new_entry r p ∷ []))
+    ]

@@ -97,7 +97,7 @@ none-stopped None h = refl
 none-stopped (Some s) h = absurd (h s refl)
 
 -- what a board that ran answers once it has stopped
-pub refused-after : (old new : BoardView) (piece : PieceView) (stop : Stop) → IsSameBuild old new → new.stopped ≡ Some stop → (stop ≡ TooMany → IsTooMany (rules_on old) old.request old.limits.0) →
-    RefusedRunning old new piece (fault_of stop)
-refused-after old new piece TooMany same is many = (same, is, many refl)
-refused-after old new piece Memory same is many = (same, is)
+pub refused-after : (old new : BoardView) (piece : PieceView) (stop : Stop) → IsOutAt old.state piece.target piece.turn → IsSameBuild old new → new.stopped ≡ Some stop →
+    (stop ≡ TooMany → IsTooMany (rules_on old) old.request old.limits.0) → RefusedRunning old new piece (fault_of stop)
+refused-after old new piece TooMany out same is many = (same, is, many refl, out)
+refused-after old new piece Memory out same is many = (same, is, out)

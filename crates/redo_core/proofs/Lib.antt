@@ -19,6 +19,7 @@ pub mod Handover
 pub mod SlotLemmas
 pub mod TableLemmas
 pub mod Numbers
+pub mod Holding
 pub mod TakeLemmas
 pub mod TableSteps
 pub mod EnterSteps

@@ -2,24 +2,28 @@
 use Rattle.std.proofs.Common.{Bool, true, false, not, zero, suc, ◌++◌, map, Vec, Global, length-set, ◌≡◌, ℕ, ◌+◌, ◌<◌, ◌≤◌, true, false, cond, inl, inr, List, [], ◌∷◌, length, filter, Option, Some, None, is_some, slice_get, slice_set, slice_index_or, remove, refl, sym, ap, subst, ◌∙◌, arith}
 use Rattle.std.specs.Arc.{arc_value}
 use Rattle.std.proofs.lemmas.Bool.{cases_Bool}
-use Rattle.redo_core.specs.Rules.{Rules}
+use Rattle.redo_tree.specs.Tree.{Tree}
+use Rattle.redo_core.specs.Rules.{Rules, operands}
 use Rattle.redo_core.specs.Paths.{IsAmong}
 use Rattle.redo_core.proofs.Numbers.{numbered-set}
 use Rattle.redo_core.proofs.Queues.{remove-gone, slice_get-among}
 use Rattle.std.specs.declared.collections.VecDeque.{VecDeque}
 use Rattle.redo_core.specs.Schedule.{Entry, State, Event, IsOpen, AllOpen, entry_of, opening, run, happens}
 use Rattle.redo_core.specs.Schedule.Event.{Take}
-use Rattle.redo_core.specs.Slots.{stage_outcome, rules_inside, state_of, state_from, slot_entry, path_at, is_stage_out, is_stage_ready, IsKept, IsBoard, IsParked, IsPlace, IsQueue, IsTable, AllWatched, stage_deps}
+use Rattle.redo_core.specs.Slots.{stage_outcome, rules_inside, state_of, state_from, slot_entry, path_at, is_stage_out, is_stage_ready, AllAnswered, IsKept, IsBoard, IsParked, IsPlace, IsQueue, IsTable, AllWatched, stage_deps}
 use Rattle.redo_core.specs.Outcomes.{outcome_at}
 use Rattle.redo_core.specs.Rules.{AreLawful}
 use Rattle.redo_core.specs.Paths.{AreDistinct}
-use Rattle.redo_core.specs.Schedule.{outcomes_of}
+use Rattle.redo_core.specs.Schedule.{outcomes_of, only}
 use Rattle.redo_core.proofs.TableLemmas.{slice_get-place, place-slice_get, remove-place, remove-place_cases, get-set_cases, fits-set, outcomes-more, watchers-set, watched-set}
-use Rattle.redo_core.specs.Views.{jobs_out, ready_count, rules_on, BoardView, WorkView, IsReached, IsWorkTaken}
+use Rattle.redo_core.specs.Build.{rules_of}
+use Rattle.redo_core.specs.Views.{jobs_out, ready_count, rules_on, told_by, BoardView, WorkView, IsReached, IsWorkTaken}
+use Rattle.redo_core.specs.Works.{HoldsOutcomes}
 use Rattle.redo_core.specs.declared.board.Board.TheInside.{Inside}
 use Rattle.redo_core.specs.declared.table.Slot.{Slot}
 use Rattle.redo_core.specs.declared.table.Stage.TheVariants.{Ready, Out}
 use Rattle.redo_core.specs.declared.work.Work.{Work}
+use Rattle.redo_core.proofs.Holding.{same-answers}
 use Rattle.redo_core.proofs.Lawful.{rules_lawful}
 use Rattle.redo_core.proofs.Quiet.{is_part, shows}
 use Rattle.redo_core.specs.Theorems.{IsPartOfBuild, ShowsBuild}
@@ -57,12 +61,13 @@ module _ (b : Inside) (kept : IsKept b) (which at : ℕ) (slot : Slot)
   pub found_path : (p : List ℕ) × (slice_get b.table.targets.keys at ≡ Some p)
   found_path = slice_get-from b.table.targets.keys at here
 
-  pub found_job : (work : Work) × (slot.stage ≡ Ready work) × IsParked (arc_value b.tree) b.limits (path_at b.table.targets.keys at) slot.turn work
+  pub found_job : (work : Work) × (slot.stage ≡ Ready work) × IsParked (arc_value b.tree) b.limits (path_at b.table.targets.keys at) slot.turn work ×
+      AllAnswered (rules_inside b) (outcomes_of (state_of b).entries) work.deps
   found_job =
       let first' = slice_get-place b.table.ready.items which at first in
       let job = ready-job (rules_inside b) (outcomes_of (state_of b).entries) (arc_value b.tree) b.limits (path_at b.table.targets.keys at) slot.turn slot.stage
       (kept.table.fits at slot there) (kept.table.queue.ready_is at slot (inl first') there) in
-      (job.0, job.1, job.2)
+      (job.0, job.1, job.2, job.3)
 
   pub taken_state : state_from (rules_inside b) b.limits.0 b.table.targets.keys (slice_set b.table.slots.items at (record slot { stage = Out })) (remove b.table.ready.items which) ≡
       happens (rules_inside b) (state_of b) (Take which)
@@ -70,8 +75,8 @@ module _ (b : Inside) (kept : IsKept b) (which at : ℕ) (slot : Slot)
       which at found_path.0 slot found_job.0 first found_path.1 there found_job.1
 
   pub work_taken : (view : BoardView) → (view.tree ≡ arc_value b.tree) → (view.limits ≡ b.limits) → (view.state ≡ state_of b) →
-      (work : Work) → slot.stage ≡ Ready work → IsWorkTaken view which work
-  work_taken view tree limits state work is =
+      (work : Work) → slot.stage ≡ Ready work → HoldsOutcomes work → IsWorkTaken view which work
+  work_taken view tree limits state work is holds =
       let job = found_job in
       let same : job.0 ≡ work = let both : Ready job.0 ≡ Ready work = sym job.1 ∙ is in cc in
       let P : WorkView → Type 0 = λ w. IsParked (arc_value b.tree) b.limits (path_at b.table.targets.keys at) slot.turn w in
@@ -96,6 +101,18 @@ module _ (b : Inside) (kept : IsKept b) (which at : ℕ) (slot : Slot)
               parked.3 ∙ ap (λ (x : Entry). x.turn) e_is,
               sym (deps_parked path.0) ∙ ap (λ (x : Entry). x.deps) e_is,
             );
+        known = λ q.
+            let r = rules_inside b in
+            let es = (state_of b).entries in
+            let own : rules_of work.tree work.limits ≡ r = ap (λ (t : Tree). rules_of t work.limits) parked.0 ∙ ap (rules_of (arc_value b.tree)) parked.1 in
+            let H : Rules → Type 0 = λ x. AllAnswered x (outcome_at x holds.depth) work.deps in
+            let K : Rules → Type 0 = λ x. told_by work.known q ≡ only (operands x work.deps) (outcome_at x holds.depth) q in
+            let A : WorkView → Type 0 = λ w. AllAnswered r (outcomes_of es) w.deps in
+            let same_answers = same-answers r (lawful_inside b) b.request.items es (sound-inside b kept).standing holds.depth work.deps (subst H own holds.fed) (subst A same job.3) q in
+            let shown : rules_on view ≡ r = ap (λ (t : Tree). rules_of t view.limits) tree ∙ ap (rules_of (arc_value b.tree)) limits in
+            let S : State → Type 0 = λ s. told_by work.known q ≡ only (operands r work.deps) (outcomes_of s.entries) q in
+            let R : Rules → Type 0 = λ x. told_by work.known q ≡ only (operands x work.deps) (outcomes_of view.state.entries) q in
+            subst R (sym shown) (subst S (sym state) (subst K own (holds.exact q) ∙ same_answers));
       }
     where
       deps_parked : (p : List ℕ) → stage_deps (rules_inside b) (outcome_at (rules_inside b) b.limits.0) p slot.turn slot.stage ≡ work.deps

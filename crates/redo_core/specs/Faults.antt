@@ -24,11 +24,13 @@ opening_fault_of Stopped_for_memory = Opened_without_memory
 abbrev pub IsSameBuild : BoardView → BoardView → Type 0
 IsSameBuild old new = (new.tree ≡ old.tree) × (new.request ≡ old.request) × (new.limits ≡ old.limits)
 
--- a board that ran: a stranger comes back and changes nothing, and after any other fault the board has stopped
+-- a board that ran: exactly a piece whose target isn't out at its turn is a stranger, comes back and changes nothing; after any
+-- other fault the board has stopped
 abbrev pub RefusedRunning : BoardView → BoardView → PieceView → HandFault → Type 0
 RefusedRunning old new piece (Stranger back) = (back ≡ piece) × (new ≡ old) × (IsOutAt old.state piece.target piece.turn → ⊥)
-RefusedRunning old new piece TooMany = IsSameBuild old new × (new.stopped ≡ Some Stopped_at_limit) × IsTooMany (rules_on old) old.request old.limits.0
-RefusedRunning old new piece Memory = IsSameBuild old new × (new.stopped ≡ Some Stopped_for_memory)
+RefusedRunning old new piece TooMany =
+    IsSameBuild old new × (new.stopped ≡ Some Stopped_at_limit) × IsTooMany (rules_on old) old.request old.limits.0 × IsOutAt old.state piece.target piece.turn
+RefusedRunning old new piece Memory = IsSameBuild old new × (new.stopped ≡ Some Stopped_for_memory) × IsOutAt old.state piece.target piece.turn
 
 -- a board that had stopped answers why, for good
 abbrev pub Refused : BoardView → BoardView → PieceView → HandFault → Type 0

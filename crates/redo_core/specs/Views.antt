@@ -1,10 +1,11 @@
 -- What contracts see of facts, works, pieces and boards.
-use Rattle.std.specs.Prelude.{◌≡◌, ℕ, List, length, Option, Some, None, IsNone, slice_get, is_some, if◌then◌else◌}
+use Rattle.std.specs.Prelude.{◌≡◌, ℕ, List, length, Option, Some, None, IsNone, slice_get, is_some, if◌then◌else◌, bytes_eq}
+use Rattle.std.specs.Map.{lookup}
 use Rattle.redo_step.specs.Record.{Progress}
-use Rattle.redo_core.specs.Rules.{Rules}
+use Rattle.redo_core.specs.Rules.{Ask, Rules, operands}
 use Rattle.redo_tree.specs.Tree.{Tree}
 use Rattle.redo_core.specs.Build.{rules_of}
-use Rattle.redo_core.specs.Schedule.{Entry, State, Event, AllOpen, entry_of, opening, run, happens, out_count}
+use Rattle.redo_core.specs.Schedule.{Entry, State, Event, AllOpen, entry_of, outcomes_of, only, opening, run, happens, out_count}
 use Rattle.redo_step.specs.declared.deps.Dep.{Dep}
 use Rattle.redo_step.specs.declared.outcome.Outcome.{Outcome}
 use Rattle.redo_core.specs.declared.board.Stop.{Stop}
@@ -26,6 +27,10 @@ pub record WorkView : Type 0 where
   pub deps : List Dep
   -- the outcomes that it holds
   pub known : List (List ℕ × Outcome)
+
+-- what a list of paths with their outcomes tells
+abbrev pub told_by : List (List ℕ × Outcome) → Ask
+told_by known p = lookup (bytes_eq p) known
 
 -- how far a job came
 pub record PieceView : Type 0 where
@@ -83,9 +88,10 @@ Belongs b piece = (piece.tree ≡ b.tree) × (piece.limits ≡ b.limits)
 abbrev pub IsFor : BoardView → Tree → List (List ℕ) → ℕ × ℕ → Type 0
 IsFor b tree request limits = (b.tree ≡ tree) × (b.request ≡ request) × (b.limits ≡ limits)
 
--- the work is of the target at that place, at its turn
+-- the work is of the target at that place, at its turn, and holds the decided outcomes of all that it asked for, and no others
 pub record IsWorkTaken (b : BoardView) (which : ℕ) (w : WorkView) : Type 0 where
   pub tree : w.tree ≡ b.tree
   pub limits : w.limits ≡ b.limits
   pub target : slice_get b.state.ready which ≡ Some w.target
   pub turn : (e : Entry) → entry_of b.state.entries w.target ≡ Some e → (w.turn ≡ e.turn) × (w.deps ≡ e.deps)
+  pub known : (q : List ℕ) → told_by w.known q ≡ only (operands (rules_on b) w.deps) (outcomes_of b.state.entries) q

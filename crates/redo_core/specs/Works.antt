@@ -1,11 +1,10 @@
 -- Jobs as the board keeps them, with the outcomes that they hold.
-use Rattle.std.specs.Prelude.{◌≡◌, ◌⊎◌, ℕ, zero, suc, false, ◌+◌, ◌<◌, ◌≤◌, List, [], Some, None, map, length, slice_get, unwrap_or, bytes_eq}
+use Rattle.std.specs.Prelude.{◌≡◌, ◌⊎◌, ℕ, zero, suc, false, ◌+◌, ◌<◌, ◌≤◌, List, [], Some, None, map, length, slice_get, unwrap_or}
 use Rattle.std.specs.Arc.{arc_value}
 use Rattle.std.specs.Prelude.{Box, Option, ◌++◌}
 use Rattle.std.specs.declared.sync.Arc.{Arc}
 use Rattle.std.specs.declared.alloc.Global.{Global}
 use Rattle.indexmap.specs.IndexMap.{IndexMap}
-use Rattle.std.specs.Map.{lookup}
 use Rattle.redo_script.specs.Texts.{script_in}
 use Rattle.redo_tree.specs.Tree.{Tree, file_at}
 use Rattle.redo_which.specs.Rule.{Rule, found_of}
@@ -19,12 +18,8 @@ use Rattle.redo_core.specs.Outcomes.{outcome_at}
 use Rattle.redo_core.specs.Schedule.{only}
 use Rattle.redo_core.specs.Turns.{IsWork, deps_at_turn}
 use Rattle.redo_core.specs.Build.{rules_of}
-use Rattle.redo_core.specs.Views.{FactView}
+use Rattle.redo_core.specs.Views.{FactView, WorkView, told_by}
 use Rattle.redo_core.specs.declared.facts.Facts.{Facts}
-
--- what a list of paths with their outcomes tells
-abbrev pub told_by : List (List ℕ × Outcome) → Ask
-told_by known p = lookup (bytes_eq p) known
 
 -- the paths of some facts with their outcomes
 abbrev pub few_known : List (Arc FactView Global) → List (List ℕ × Outcome)
@@ -94,3 +89,9 @@ pub record IsStopped (tree : Tree) (limits : ℕ × ℕ) (depth : ℕ) (target :
   pub goes_on : GoesOn job (told_in facts)
   pub within : facts.gained ≤ length job.state.entries
   pub gained : AreKnownBelow (rules_of tree limits) job (told_in facts) facts.gained
+
+-- a work holds the outcomes of the build at some depth for all that it asked for, and no others
+pub record HoldsOutcomes (w : WorkView) : Type 0 where
+  pub depth : ℕ
+  pub fed : (q : List ℕ) → IsAmong (operands (rules_of w.tree w.limits) w.deps) q → outcome_at (rules_of w.tree w.limits) depth q ≡ None → ⊥
+  pub exact : (q : List ℕ) → told_by w.known q ≡ only (operands (rules_of w.tree w.limits) w.deps) (outcome_at (rules_of w.tree w.limits) depth) q

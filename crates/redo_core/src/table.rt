@@ -249,7 +249,7 @@ pub(crate) fn enter(
     requires table { IsTableOf (arc_value tree.now) limits table.old freed.old.items }
     ensures ok { OnOk result (IsEnteredInto (arc_value tree.now) limits table.old table.new freed.new.items path.now) }
     ensures number { IfOk result (λ at. slice_get table.new.targets.keys at ≡ Some path.now) }
-    ensures too_many { result ≡ Err Stop.TooMany → IsFull (rules_of (arc_value tree.now) limits) limits.0 (table_entries (rules_of (arc_value tree.now) limits) limits.0 table.old) path.now }
+    ensures too_many { result ≡ Err Stop.TooMany ↔ IsFull (rules_of (arc_value tree.now) limits) limits.0 (table_entries (rules_of (arc_value tree.now) limits) limits.0 table.old) path.now }
 {
     if let Some(at) = find(&table.targets, path) {
         return Ok(at as u32);

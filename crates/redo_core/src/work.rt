@@ -3,7 +3,8 @@ ghost use Rattle.std.specs.Prelude.{◌≡◌, ◌↔◌, [], Some, None, is_som
 ghost use Rattle.std.specs.Arc.{arc_value};
 ghost use Rattle.redo_core.specs.Lacking.{lacking_under};
 ghost use Rattle.redo_core.specs.Build.{rules_of};
-ghost use Rattle.redo_core.specs.Works.{IsWorkWith, job_deps, known_in, told_by, told_in};
+ghost use Rattle.redo_core.specs.Views.{told_by};
+ghost use Rattle.redo_core.specs.Works.{IsWorkWith, HoldsOutcomes, job_deps, known_in, told_in};
 ghost use Rattle.redo_which.specs.Rule.{Rule as IsRule, found_of};
 ghost use Rattle.redo_which.specs.Views.{arguments_view};
 ghost use Rattle.redo_core.specs.Ends.{IsEndAt};
@@ -141,7 +142,8 @@ impl Work {
 
     /// The same work, of the target of this number.
     pub(crate) fn numbered(self, number: u32) -> Work
-        ensures { result ≡ self }
+        ensures same { result ≡ self }
+        ensures holds { HoldsOutcomes self }
     {
         let Work {
             tree,

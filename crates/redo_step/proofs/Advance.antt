@@ -7,6 +7,7 @@ use Rattle.redo_step.specs.declared.outcome.Outcome.{Outcome}
 use Rattle.redo_step.specs.declared.job.Step.{Step}
 use Rattle.redo_step.specs.declared.job.Step.TheVariants as steps
 use Rattle.redo_step.specs.declared.parsed.Parsed.TheVariants.{Read, Refused}
+use Rattle.redo_step.specs.declared.refusal.Refusal.{Refusal}
 use Rattle.redo_script.specs.declared.fault.ScriptFault.{ScriptFault}
 use Rattle.redo_step.specs.declared.place.Place.{Place, Before}
 use Rattle.redo_step.specs.Path.{Path}
@@ -31,7 +32,7 @@ Reaches-later setting ask later a b s t k r = record { extends = r.extends; same
 pub begun_fits : (setting : Setting) (ask : Ask) (parsed : _) → FitsWhole setting ask (parsed_of parsed) (Before 0) start
 unfolding left_at skip
 begun_fits setting ask (Read script) = Reaches-refl setting ask (script_of script.stmts.items) start
-begun_fits setting ask (Refused fault) = tt
+begun_fits setting ask (Refused refusal) = tt
 
 module _ (setting : Setting) (ask : Ask) (script : Script) (rest : Script) (s : State) (fits : Fits setting ask script rest s) where
   meaning_is : meaning setting ask script ≡ run setting ask rest s
@@ -93,9 +94,9 @@ module _ (ask : Ask) (job : JobView) (tree : ScriptTree) (fit : IsFit job ask) (
         progress = by_meaning (ends (stopped paths) t) all;
       }
 
-pub refused : (ask : Ask) (job : JobView) (fault : ScriptFault) (step : Step) → job.parsed ≡ Refused fault → IsRefused (found_deps job) fault step → Advances ask job step
-refused ask job fault (steps.Ended done) is h = ap (λ p. by_script (job_setting job) (found_deps job) (parsed_of p) ask) is ∙ sym h
-refused ask job fault (steps.Asks later paths) is h = absurd h
+pub refused : (ask : Ask) (job : JobView) (refusal : Refusal) (step : Step) → job.parsed ≡ Refused refusal → IsRefused (found_deps job) refusal.fault step → Advances ask job step
+refused ask job refusal (steps.Ended done) is h = ap (λ p. by_script (job_setting job) (found_deps job) (parsed_of p) ask) is ∙ sym h
+refused ask job refusal (steps.Asks later paths) is h = absurd h
 
 -- with more answers a job that asked goes on
 pub fits_more : (ask later : Ask) (job next : JobView) (paths : List Path) → AsksFor ask job next paths → ((p : Path) (o : Outcome) → ask p ≡ Some o → later p ≡ Some o) → IsFit next later

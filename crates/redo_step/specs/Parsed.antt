@@ -9,4 +9,4 @@ use Rattle.redo_step.specs.declared.parsed.Parsed.TheVariants.{Read, Refused}
 -- the script, or the fault of its text
 abbrev pub parsed_of : Parsed → Result Script ScriptFault
 parsed_of (Read script) = Ok (script_of script.stmts.items)
-parsed_of (Refused fault) = Err fault
+parsed_of (Refused refusal) = Err refusal.fault

@@ -197,8 +197,8 @@ impl Job {
         } = &mut *course;
         let script = match &*task.parsed {
             Parsed::Read(script) => script,
-            Parsed::Refused(fault) => {
-                let fault = *fault;
+            Parsed::Refused(refusal) => {
+                let fault = refusal.fault;
                 return refused(course, fault);
             }
         };

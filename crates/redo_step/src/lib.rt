@@ -5,7 +5,7 @@
 //! It stands on redo_path for the paths that words name, on redo_tree for sources, on redo_which for a target's rule
 //! and arguments, and on redo_script for the reader.
 //!
-//! - What a script is given: `limits`, `parsed`, `answers`.
+//! - What a script is given: `limits`, `parsed` and `refusal`, `answers`.
 //! - What becomes of a target: `outcome`, `deps`, `record`.
 //! - A job and how it goes on: `job`, `machine`, `place`, `stop`.
 //! - Commands, one idea each: `scene` (what they see), `text`, `value` and `words`, `reading`, `printf`, `sink` and `writing`,
@@ -27,6 +27,7 @@ mod place;
 mod printf;
 mod reading;
 mod record;
+mod refusal;
 mod scene;
 mod sink;
 mod stop;
@@ -44,6 +45,7 @@ pub use limits::Limits;
 pub use outcome::{Outcome, Why};
 pub use parsed::Parsed;
 pub use record::{Parts, Record};
+pub use refusal::Refusal;
 
 #[cfg(test)]
 mod tests;

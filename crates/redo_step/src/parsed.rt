@@ -4,6 +4,7 @@ ghost use Rattle.std.specs.Prelude.{◌≡◌, IfOk};
 ghost use Rattle.redo_script.specs.Texts.{script_in};
 ghost use Rattle.redo_step.specs.Parsed.{parsed_of};
 
+use crate::refusal::Refusal;
 use redo_script::{Reason, Script, ScriptFault, parse};
 use std::alloc::{AllocError, Global};
 
@@ -11,7 +12,7 @@ use std::alloc::{AllocError, Global};
 #[derive(Debug, Drop)]
 pub enum Parsed {
     Read(Script),
-    Refused(ScriptFault),
+    Refused(Refusal),
 }
 
 impl Parsed {
@@ -27,7 +28,7 @@ impl Parsed {
                     ..
                 },
             ) => Err(AllocError),
-            Err(fault) => Ok(Parsed::Refused(fault)),
+            Err(fault) => Ok(Parsed::Refused(Refusal { fault })),
         }
     }
 }

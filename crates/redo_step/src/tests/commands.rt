@@ -317,3 +317,29 @@ fn long_names(rt: HostRuntime) -> Result<(), Fail> {
     }
     Ok(())
 }
+
+/// A word so often after itself, and what redo-ifcreate makes of it: one row for each reason that it names no path, and the
+/// longest name and path.
+const WORDS: &[(&[u8], usize, &[u8])] = &[
+    (b"", 1, b"outside 1"),
+    (b"/x", 1, b"outside 1"),
+    (b"../x", 1, b"outside 1"),
+    (b"a\tb", 1, b"outside 1"),
+    (b"n", 255, b"none"),
+    (b"n", 256, b"outside 1"),
+    (b"a/", 512, b"none"),
+    (b"a/", 513, b"outside 1"),
+];
+
+#[test]
+fn words_that_name_no_path(rt: HostRuntime) -> Result<(), Fail> {
+    let alloc = rt.alloc();
+    let known = Known::nothing(alloc);
+    for (word, times, want) in WORDS {
+        let word = word.repeat(alloc, *times)?;
+        let script = [b"redo-ifcreate '".as_slice(), &word, b"'\n"].concat(alloc)?;
+        let files: &[File] = &[(b"t.do", &script)];
+        check_target(&rt, alloc, files, b"t", &known, limits_of(1000)?, want)?;
+    }
+    Ok(())
+}

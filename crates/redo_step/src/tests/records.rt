@@ -1,6 +1,6 @@
 //! The records of targets.
 
-use super::{File, Known, check_target, learned, limits_of, run};
+use super::{File, Known, check_outcome, check_target, learned, limits_of, path, run};
 use crate::{Dep, DepKind, Deps, Limits, Outcome, Record, Why};
 use redo_path::{Path, resolve};
 use std::alloc::Global;
@@ -135,8 +135,14 @@ fn records(rt: HostRuntime) -> Result<(), Fail> {
     Ok(())
 }
 
-/// Scripts that can't be read.
+/// Scripts that can't be read, for each reason.
 const REFUSED: &[(&[u8], &[u8])] = &[
+    (b"echo a\necho \0\n", b"script 2 nul"),
+    (b"true\nls\n", b"script 2 unknowncommand"),
+    (
+        b"if true; then if true; then if true; then if true; then\nif true; then if true; then if true; then if true; then\nif true; then if true; then if true; then if true; then\nif true; then if true; then if true; then if true; then\nif true; then\n",
+        b"script 5 toodeep",
+    ),
     (b"echo a 2> $3\n", b"script 1 unsupported"),
     (b"true\nif cat x; then true; fi\n", b"script 2 ifshape"),
     (b"exit 256\n", b"script 1 shape"),
@@ -154,6 +160,26 @@ fn refused_scripts(rt: HostRuntime) -> Result<(), Fail> {
         let files: &[File] = &[(b"t.do", script)];
         check_target(&rt, alloc, files, b"t", &known, limits, want)?;
     }
+    Ok(())
+}
+
+/// More operands than anything here sets aside room for.
+#[test]
+fn a_thousand_operands(rt: HostRuntime) -> Result<(), Fail> {
+    let alloc = rt.alloc();
+    let mut known = Known::nothing(alloc);
+    let mut script = Vec::from_slice(alloc, b"redo-ifchange")?;
+    for number in 0..1000u64 {
+        let name = format!(in alloc; "a{number}")?;
+        script.extend_from_slice(b" ")?;
+        script.extend_from_slice(name.as_bytes())?;
+        known.learn(path(alloc, name.as_bytes())?, Outcome::Built(None))?;
+    }
+    script.extend_from_slice(b"\necho ok\n")?;
+    let files: &[File] = &[(b"t.do", &script)];
+    let done = run(alloc, files, b"t", &known, limits_of(1000)?)?;
+    check_outcome(&rt, alloc, &done.outcome, b"file ok\n")?;
+    assert_eq!(rt; done.deps.entries(alloc)?.len(), 1001);
     Ok(())
 }
 

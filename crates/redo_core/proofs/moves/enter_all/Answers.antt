@@ -19,7 +19,7 @@ returns-in_err-at-clause-too_many c = λ is.
     let T : Tree → Type 0 = λ x. IsOperand (rules_of x c.args.limits) c.dep-item.result c.dep-item.result.path in
     let err = c.in_err-at.was ∙ ap Err (sym made.1) in
     too-many (rules_of tree c.args.limits) (table_entries (rules_of tree c.args.limits) c.args.limits.0 c.args.table.now) (table_entries (rules_of tree c.args.limits) c.args.limits.0 c.loop-dep.table)
-    c.args.limits.0 c.args.deps.now i c.dep-item.result get (subst T c.deref.ensures (c.if-is_operand.ensures.0 refl)) c.loop-dep.invariant.0.entries (c.enter.ensures.too_many err)
+    c.args.limits.0 c.args.deps.now i c.dep-item.result get (subst T c.deref.ensures (c.if-is_operand.ensures.0 refl)) c.loop-dep.invariant.0.entries (c.enter.ensures.too_many.0 err)
 
 pub loop-dep-preserved : goal.loop-dep-preserved
 loop-dep-preserved c =

@@ -18,7 +18,7 @@ returns-in_err-enter-clause-too_many c = λ is.
     let err = c.in_err-enter.was ∙ ap Err (sym made.1) in
     let target : not (is_some (file_at tree c.path-item.result)) ≡ true = ap (λ t. not (is_some (file_at t c.path-item.result))) (sym c.deref.ensures) ∙ sym c.if-is_target.ensures in
     too-many-requested (rules_of tree c.args.limits) tree (table_entries (rules_of tree c.args.limits) c.args.limits.0 c.args.table.now) (table_entries (rules_of tree c.args.limits) c.args.limits.0 c.loop-path.table)
-    c.args.limits.0 c.args.request.now i c.path-item.result get target c.loop-path.invariant.entries (c.enter.ensures.too_many err)
+    c.args.limits.0 c.args.request.now i c.path-item.result get target c.loop-path.invariant.entries (c.enter.ensures.too_many.0 err)
 
 pub loop-path-preserved : goal.loop-path-preserved
 loop-path-preserved c =

@@ -1,7 +1,8 @@
 use Rattle.std.proofs.Common.{◌≡◌, ◌⊎◌, None, Some, length, arith, ap, subst, ◌∙◌}
 use Rattle.redo_core.specs.Rules.{Ask}
 use Rattle.redo_core.specs.Slots.{IsToldBy}
-use Rattle.redo_core.specs.Works.{told_by, told_in}
+use Rattle.redo_core.specs.Views.{told_by}
+use Rattle.redo_core.specs.Works.{told_in}
 use Rattle.redo_core.proofs.SettleAll.{get-index}
 use Rattle.redo_core.proofs.GainSteps.{gains-step}
 use Rattle.redo_core.proofs.table.gain.Goals as goal

@@ -101,7 +101,8 @@ returns-in-Err-clause-err c =
     let e = (goal.at-returns-in-Err-clause-err c).In-Some-out_at in
     let b = c.self.inside in
     let new : BoardView = view_of (record b { table = c.take_in.new.table; stopped = Some c.in-Err.stop }) in
-    let running = refused-after (view_of b) new c.args.piece c.in-Err.stop (refl, refl, refl) refl (λ is.
+    let out = open-out b (kept d) c.args.piece.target c.args.piece.turn c.in-Some-out_at.at (slot e) in
+    let running = refused-after (view_of b) new c.args.piece c.in-Err.stop out (refl, refl, refl) refl (λ is.
     too-many-after b (kept d) c.args.piece.target c.args.piece.turn c.in-Some-out_at.at (slot e) (c.in-Err.ensures.too_many (ap Err is))) in
     let F : HandFault → Type 0 = λ f. Refused c.args.self.now new c.args.piece f in
     let P : BoardView → Type 0 = λ v. Refused v new c.args.piece (fault_of c.in-Err.stop) in

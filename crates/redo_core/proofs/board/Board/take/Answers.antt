@@ -40,8 +40,8 @@ returns-clause-work c =
     let b = d.self.inside in
     let P : BoardView → Type 0 = λ v. IsWorkTaken v d.args.which c.in-Ready.work in
     let W : WorkView → Type 0 = IsWorkTaken c.args.self.now c.args.which in
-    subst W (sym c.numbered.ensures) (subst P c.self.view_is (work_taken b (kept d) d.args.which d.in-Some.at d.index_mut-slot.result.now (first d) (there d)
-    _ refl refl refl c.in-Ready.work (sym c.replace-stage.ensures.value ∙ c.in-Ready.is)))
+    subst W (sym c.numbered.ensures.same) (subst P c.self.view_is (work_taken b (kept d) d.args.which d.in-Some.at d.index_mut-slot.result.now (first d) (there d)
+    _ refl refl refl c.in-Ready.work (sym c.replace-stage.ensures.value ∙ c.in-Ready.is) c.numbered.ensures.holds))
 
 pub invariant_of-self : goal.invariant_of-self
 invariant_of-self c =
@@ -68,7 +68,7 @@ returns-clause-turn c =
     let b = d.self.inside in
     let P : BoardView → Type 0 = λ v. c.in-Ready.work.turn < v.limits.0 in
     let W : WorkView → Type 0 = λ w. w.turn < c.args.self.now.limits.0 in
-    subst W (sym c.numbered.ensures) (subst P c.self.view_is (turn_small b (kept d) d.args.which d.in-Some.at d.index_mut-slot.result.now (first d) (there d)
+    subst W (sym c.numbered.ensures.same) (subst P c.self.view_is (turn_small b (kept d) d.args.which d.in-Some.at d.index_mut-slot.result.now (first d) (there d)
     c.in-Ready.work (sym c.replace-stage.ensures.value ∙ c.in-Ready.is)))
 
 pub returns-clause-part : goal.returns-clause-part
