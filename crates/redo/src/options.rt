@@ -91,50 +91,71 @@ impl From<PathFault> for Refusal {
     }
 }
 
-/// The command line's forms.
-pub(crate) fn command<'a>(alloc: Global) -> Result<Command<'a>, AllocError> {
-    let jobs = Arg::new(alloc, "jobs")
+fn jobs<'a>(alloc: Global) -> Arg<'a> {
+    Arg::new(alloc, "jobs")
         .short('j')
         .long("jobs")
         .value_name("N")
         .value_parser(value_parser!(usize).range(1..=64))
-        .help("Run at most N scripts side by side, 1 to 64 [default: 1]");
-    let keep_going = Arg::new(alloc, "keep-going")
+        .help("Run at most N scripts side by side, 1 to 64 [default: 1]")
+}
+
+fn keep_going<'a>(alloc: Global) -> Arg<'a> {
+    Arg::new(alloc, "keep-going")
         .short('k')
         .long("keep-going")
         .action(ArgAction::SetTrue)
-        .help("Keep going though targets fail; required when targets are built");
-    let bundle = Arg::new(alloc, "bundle")
+        .help("Keep going though targets fail; required when targets are built")
+}
+
+fn bundle<'a>(alloc: Global) -> Arg<'a> {
+    Arg::new(alloc, "bundle")
         .long("bundle")
         .action(ArgAction::SetTrue)
-        .help("Read the tree as a bundle from standard input");
-    let directory = Arg::new(alloc, "directory")
+        .help("Read the tree as a bundle from standard input")
+}
+
+fn directory<'a>(alloc: Global) -> Arg<'a> {
+    Arg::new(alloc, "directory")
         .short('C')
         .value_name("DIR")
-        .help("Read the tree from a directory [default: .]");
-    let whichdo = Arg::new(alloc, "whichdo")
+        .help("Read the tree from a directory [default: .]")
+}
+
+fn whichdo<'a>(alloc: Global) -> Arg<'a> {
+    Arg::new(alloc, "whichdo")
         .long("whichdo")
         .value_name("TARGET")
-        .help("Print where the rule of TARGET is looked for, and build nothing");
-    let verbose = Arg::new(alloc, "verbose")
+        .help("Print where the rule of TARGET is looked for, and build nothing")
+}
+
+fn verbose<'a>(alloc: Global) -> Arg<'a> {
+    Arg::new(alloc, "verbose")
         .short('v')
         .long("verbose")
         .action(ArgAction::SetTrue)
-        .help("Say the cause behind a message, where it is known");
-    let targets = Arg::new(alloc, "targets")
+        .help("Say the cause behind a message, where it is known")
+}
+
+fn targets<'a>(alloc: Global) -> Arg<'a> {
+    Arg::new(alloc, "targets")
         .value_name("TARGETS")
         .action(ArgAction::Append)
-        .help("What to build [default: all]");
+        .help("What to build [default: all]")
+}
+
+/// The command line's forms.
+pub(crate) fn command<'a>(alloc: Global) -> Result<Command<'a>, AllocError> {
     Command::new(alloc, "redo")
         .version(VERSION)
         .about("Builds targets by their .do scripts, in parallel")
-        .arg(jobs)?
-        .arg(keep_going)?
-        .arg(bundle)?
-        .arg(directory)?
-        .arg(whichdo)?
-        .arg(verbose)?
-        .arg(targets)
+        .arg(jobs(alloc))?
+        .arg(keep_going(alloc))?
+        .arg(bundle(alloc))?
+        .arg(directory(alloc))?
+        .arg(whichdo(alloc))?
+        .arg(verbose(alloc))?
+        .arg(targets(alloc))
 }
 
 /// What the words ask for together. Of several refusals it is the first in the order of the enum.
@@ -189,10 +210,10 @@ fn target(alloc: Global, word: &str) -> Result<Path, PathFault> {
 }
 
 fn options(alloc: Global, matches: &ArgMatches<'_>) -> Result<Options, Refusal> {
-    let mut targets = Vec::new(alloc);
+    let mut paths = Vec::new(alloc);
     if let Some(words) = matches.get_strs("targets") {
         for word in words {
-            targets.push(target(alloc, word)?)?;
+            paths.push(target(alloc, word)?)?;
         }
     }
     let workers = match matches.get_one::<usize>("jobs") {
@@ -201,7 +222,7 @@ fn options(alloc: Global, matches: &ArgMatches<'_>) -> Result<Options, Refusal> 
     };
     match Limits::new(TARGETS, FILE_BYTES) {
         Some(limits) => Ok(Options {
-            targets,
+            targets: paths,
             workers,
             limits,
         }),
