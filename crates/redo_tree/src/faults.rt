@@ -64,7 +64,7 @@ pub enum BundleFault {
     /// The input ends before the bundle does.
     #[error("the bundle is truncated")]
     Truncated,
-    /// The reader failed, or gave 2^64 - 1 bytes without an end.
+    /// The reader failed.
     #[error("the reader failed")]
     Read,
     /// No memory was left.
