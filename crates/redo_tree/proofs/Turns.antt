@@ -71,7 +71,7 @@ entries-append (x ∷ xs) e h k = (h.0, entries-append xs e h.1 k)
 abbrev pub onward : List (List ℕ × Node) → Result Tree TreeFault → Result Tree TreeFault
 onward es r = elim r [ Ok next ↦ grown next es | Err fault ↦ Err fault ]
 
-grown-append : (old mid new : Tree) (es : List (List ℕ × Node)) (e : List ℕ × Node) → grown old es ≡ Ok mid → added mid e.0 e.1 ≡ Ok new → grown old (es ++ e ∷ []) ≡ Ok new
+pub grown-append : (old mid new : Tree) (es : List (List ℕ × Node)) (e : List ℕ × Node) → grown old es ≡ Ok mid → added mid e.0 e.1 ≡ Ok new → grown old (es ++ e ∷ []) ≡ Ok new
 grown-append old mid new [] e h k = let same : old ≡ mid = cc in ap (λ t. onward [] (added t e.0 e.1)) same ∙ ap (onward []) k
 grown-append old mid new (x ∷ xs) e h k = elim (added old x.0 x.1) as (λ r. onward xs r ≡ Ok mid → onward (xs ++ e ∷ []) r ≡ Ok new) [
   | Ok next ↦ λ g. grown-append next mid new xs e g k

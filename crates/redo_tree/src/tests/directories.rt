@@ -253,8 +253,12 @@ fn what_is_no_directory_is_a_fault(rt: HostRuntime) -> Result<(), Fail> {
     let file = load_fault(&rt, &dir, "file")?;
     remove(&rt, &dir)?;
     let empty = load_dir(&rt, rt.alloc(), "").err();
-    for fault in [missing, file, empty] {
-        assert_eq!(rt; fault, Some(LoadFault::Device));
+    for (fault, kind) in [
+        (missing, ErrorKind::NotFound),
+        (file, ErrorKind::NotADirectory),
+        (empty, ErrorKind::NotFound),
+    ] {
+        assert_eq!(rt; fault, Some(LoadFault::Device(kind)));
     }
     Ok(())
 }
@@ -301,11 +305,14 @@ fn second_fails(rt: &HostRuntime, second: &[u8]) -> Result<(Option<StoreFault>, 
 #[test]
 fn storing_stops_at_the_first_fault(rt: HostRuntime) -> Result<(), Fail> {
     let list = [
-        (b"no/b".as_slice(), StoreFault::Device(1)),
-        (b"a/b", StoreFault::Device(1)),
-        (b"d", StoreFault::Device(1)),
+        (
+            b"no/b".as_slice(),
+            StoreFault::Device(1, ErrorKind::NotFound),
+        ),
+        (b"a/b", StoreFault::Device(1, ErrorKind::NotADirectory)),
+        (b"d", StoreFault::Device(1, ErrorKind::IsADirectory)),
         (b"d/\xff", StoreFault::Name(1)),
-        (b".", StoreFault::Device(1)),
+        (b".", StoreFault::Device(1, ErrorKind::NotADirectory)),
     ];
     for (second, fault) in list {
         let (found, first_alone) = second_fails(&rt, second)?;
@@ -322,7 +329,7 @@ fn a_missing_directory_is_written_to_by_an_empty_list_alone(rt: HostRuntime) -> 
     let found = store_fault(&rt, &missing, &[(b"a", "1\n")])?;
     let nothing = store_fault(&rt, &missing, &[])?;
     remove(&rt, &dir)?;
-    assert_eq!(rt; found, Some(StoreFault::Device(0)));
+    assert_eq!(rt; found, Some(StoreFault::Device(0, ErrorKind::NotFound)));
     assert_eq!(rt; nothing, None);
     Ok(())
 }
