@@ -36,7 +36,7 @@ pub use ends::{Broken, ByteIn, ByteOut, Plain};
 pub use entries::{Kind, Tree};
 pub use faults::{BundleFault, LoadFault, StoreFault, TreeFault, WriteFault};
 pub use loading::load_dir;
-pub use reading::read_bundle;
+pub use reading::{read_bundle, read_bundle_by_line};
 pub use storing::{Stored, store_files};
 pub use writing::{write_all, write_bundle, write_parts};
 

@@ -2,7 +2,7 @@
 //! order in which the directories are met, and those that are still to be read wait in a list, so
 //! that no depth costs stack.
 
-ghost use Rattle.std.specs.Prelude.{◌≡◌, [], ◌∷◌, IfOk, IsUtf8, OnOk};
+ghost use Rattle.std.specs.Prelude.{◌≡◌, [], ◌∷◌, IfOk, IsUtf8, OnOk, string_bytes};
 ghost use Rattle.redo_tree.specs.Tree.{Directory, File, top};
 ghost use Rattle.redo_tree.specs.Directory.{Enters, HasTextPaths, IsLoaded, MetText, Receives, Shows, TakesIn, TakesInListed, node_found, progress, told_load, with_passed};
 
@@ -59,6 +59,14 @@ fn read_found<R: Files>(rt: &R, alloc: Global, text: &str, about: &Metadata) -> 
         return Ok(Found::File(bytes));
     }
     Ok(Found::Other)
+}
+
+/// Keeps the place in the system that is looked at now.
+fn stand_at(place: &mut String, text: &str) -> Result<(), AllocError>
+    ensures { OnOk result (string_bytes place.new ≡ text.now) }
+{
+    place.clear();
+    place.push_str(text)
 }
 
 /// What the tree answered of a name. It refuses only what a directory that changes meanwhile shows,
@@ -150,12 +158,14 @@ impl Loading {
         &mut self,
         rt: &R,
         alloc: Global,
+        place: &mut String,
         dir: &Path,
         name: &str,
         text: &str,
     ) -> Result<(), LoadFault>
         ensures { OnOk result (TakesIn (progress self.old) (progress self.new) dir.now name.now) }
     {
+        stand_at(place, text)?;
         let Some(path) = place_of(alloc, dir, name.as_bytes())? else {
             self.pass_over();
             return Ok(());
@@ -170,22 +180,26 @@ impl Loading {
         &mut self,
         rt: &R,
         alloc: Global,
-        dir: &Path,
+        place: &mut String,
+        dir: &Waiting,
         listed: io::Result<DirEntry<F, Global>>,
     ) -> Result<(), LoadFault>
-        ensures { OnOk result (TakesInListed (progress self.old) (progress self.new) dir.now listed) }
+        ensures { OnOk result (TakesInListed (progress self.old) (progress self.new) dir.now.path listed) }
     {
         match listed {
             Ok(entry) => {
                 let text = entry.path().to_string_lossy();
-                self.take_in(rt, alloc, dir, entry.file_name(), text)
+                self.take_in(rt, alloc, place, &dir.path, entry.file_name(), text)
             }
             // A name that is no text.
             Err(error) if error.kind() == ErrorKind::InvalidFilename => {
                 self.pass_over();
                 Ok(())
             }
-            Err(error) => Err(LoadFault::from(error)),
+            Err(error) => {
+                stand_at(place, &dir.text)?;
+                Err(LoadFault::from(error))
+            }
         }
     }
 
@@ -194,6 +208,7 @@ impl Loading {
         &mut self,
         rt: &R,
         alloc: Global,
+        place: &mut String,
         dir: &Waiting,
     ) -> Result<(), LoadFault>
         requires text { MetText (progress self.old) }
@@ -202,9 +217,10 @@ impl Loading {
         ensures text { OnOk result (MetText (progress self.new)) }
         ensures loaded { OnOk result (IsLoaded (progress self.new).tree (progress self.new).passed) }
     {
+        stand_at(place, &dir.text)?;
         let reader = (rt, alloc);
         for listed in fs::read_dir(&reader, dir.text.as_str())? {
-            self.take_in_listed(rt, alloc, &dir.path, listed)?;
+            self.take_in_listed(rt, alloc, place, dir, listed)?;
         }
         Ok(())
     }
@@ -220,7 +236,15 @@ impl Loading {
 /// contract says; that the list is whole, and that a file's bytes are its own, is only tested. A file of
 /// any length is read, and its bytes are not copied. A directory that others change meanwhile may be
 /// read as it never was.
-pub fn load_dir<R: Files>(rt: &R, alloc: Global, dir: &str) -> Result<(Tree, u64), LoadFault>
+///
+/// `place` is left at the directory or the file, as the system names it, that was looked at last: after a
+/// fault it is the one that can't be read.
+pub fn load_dir<R: Files>(
+    rt: &R,
+    alloc: Global,
+    dir: &str,
+    place: &mut String,
+) -> Result<(Tree, u64), LoadFault>
     ensures loaded { IfOk result (λ loaded. IsLoaded loaded.0 loaded.1) }
     ensures text { IfOk result (λ loaded. HasTextPaths loaded.0) }
 {
@@ -229,7 +253,7 @@ pub fn load_dir<R: Files>(rt: &R, alloc: Global, dir: &str) -> Result<(Tree, u64
         let Some(next) = loading.waiting.pop() else {
             return Ok(loading.end());
         };
-        loading.read_names(rt, alloc, &next)?;
+        loading.read_names(rt, alloc, place, &next)?;
     }
     Err(LoadFault::Device(ErrorKind::Other))
 }

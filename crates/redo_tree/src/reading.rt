@@ -331,13 +331,31 @@ pub fn read_bundle<R: ByteIn>(alloc: Global, reader: &mut R) -> Result<Tree, Bun
     ensures small { IfOk result HasSmallFiles }
     ensures read { IsErrOf result BundleFault.Read ↔ (R.has_failed reader.new ≡ true) }
 {
+    let mut line = Vec::with_capacity(alloc, LONGEST_LINE)?;
+    read_bundle_by_line(alloc, reader, &mut line)
+}
+
+/// Reads a bundle as [`read_bundle`] does, each header line in place of `line`. So after a refusal the
+/// caller can show the line that it is about: it is the last of which anything was read, without its
+/// newline, and a beginning of it where it is too long or the input ends in it.
+pub fn read_bundle_by_line<R: ByteIn>(
+    alloc: Global,
+    reader: &mut R,
+    line: &mut Vec<u8>,
+) -> Result<Tree, BundleFault>
+    requires { R.has_failed reader.old ≡ false }
+    ensures reads { IfSome (R.left reader.old) (λ text. Reads result text) }
+    ensures each { IfSome (R.left reader.old) (λ text. ReadsEach result text) }
+    ensures whole { OnOk result (IfSome (R.left reader.new) (λ rest. rest ≡ [])) }
+    ensures small { IfOk result HasSmallFiles }
+    ensures read { IsErrOf result BundleFault.Read ↔ (R.has_failed reader.new ≡ true) }
+{
     let mut held = Held::new(alloc)?;
     let mut tree = Tree::new(alloc)?;
-    let mut line = Vec::with_capacity(alloc, LONGEST_LINE)?;
     loop {
         // The top directory counts for the header that comes.
         let number = tree.len() as u64;
-        if !read_next(alloc, &mut held, reader, number, &mut tree, &mut line)? {
+        if !read_next(alloc, &mut held, reader, number, &mut tree, line)? {
             return Ok(tree);
         }
     }

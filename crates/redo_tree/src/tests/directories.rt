@@ -138,21 +138,25 @@ fn passed_over(
     files: &[(&str, &str)],
 ) -> Result<Option<u64>, Fail> {
     let meant = tree_of(rt.alloc(), dirs, files)?;
-    let (tree, passed) = load_dir(rt, rt.alloc(), dir.as_str())?;
+    let mut place = String::new(rt.alloc());
+    let (tree, passed) = load_dir(rt, rt.alloc(), dir.as_str(), &mut place)?;
     Ok((tree == meant).then_some(passed))
 }
 
 /// How many files a directory holds, and how many names were passed over.
 fn counts(rt: &HostRuntime, dir: &PathBuf) -> Result<(usize, u64), Fail> {
-    let (tree, passed) = load_dir(rt, rt.alloc(), dir.as_str())?;
+    let mut place = String::new(rt.alloc());
+    let (tree, passed) = load_dir(rt, rt.alloc(), dir.as_str(), &mut place)?;
     let files = tree.files(rt.alloc())?;
     Ok((files.len(), passed))
 }
 
-/// Why what stands below a directory isn't read.
+/// Why what stands below a directory isn't read, where it is said so of its own place.
 fn load_fault(rt: &HostRuntime, dir: &PathBuf, name: &str) -> Result<Option<LoadFault>, Fail> {
-    let place = dir.join(rt.alloc(), name)?;
-    Ok(load_dir(rt, rt.alloc(), place.as_str()).err())
+    let below = dir.join(rt.alloc(), name)?;
+    let mut place = String::new(rt.alloc());
+    let fault = load_dir(rt, rt.alloc(), below.as_str(), &mut place).err();
+    Ok(fault.filter(|_| place.as_str() == below.as_str()))
 }
 
 /// A file of a list.
@@ -252,7 +256,8 @@ fn what_is_no_directory_is_a_fault(rt: HostRuntime) -> Result<(), Fail> {
     let missing = load_fault(&rt, &dir, "missing")?;
     let file = load_fault(&rt, &dir, "file")?;
     remove(&rt, &dir)?;
-    let empty = load_dir(&rt, rt.alloc(), "").err();
+    let mut place = String::new(rt.alloc());
+    let empty = load_dir(&rt, rt.alloc(), "", &mut place).err();
     for (fault, kind) in [
         (missing, ErrorKind::NotFound),
         (file, ErrorKind::NotADirectory),
