@@ -1,12 +1,14 @@
 -- A tree with one more node is a tree.
-use Rattle.std.proofs.Common.{◌≡◌, List, [], ◌∷◌, ℕ, Bool, true, false, cond, refl, sym, ap, subst, ◌∙◌, Option, Some, None, IsSome, nat_eq}
+use Rattle.std.proofs.Common.{◌≡◌, List, [], ◌∷◌, ℕ, Bool, true, false, cond, refl, sym, ap, subst, ◌∙◌, Option, Some, None, IsSome, nat_eq, ◌+◌, length, arith}
+use Rattle.std.proofs.lemmas.Grind.{common_steps}
 use Rattle.std.specs.Prelude.{option_and_then, Ok, Err}
 use Rattle.std.specs.Cmp.Lexicographic.{slice_cmp, pointwise, same_text, texts_ties, nat_list_cmp_total, nat_list_eq_equiv}
 use Rattle.std.specs.FinMap.Entries.{by_order, put, find-put}
 use Rattle.std.specs.Option.{option_or, option_map_or}
-use Rattle.std.specs.Ordering.{nat_cmp, match_ordering}
+use Rattle.std.specs.Ordering.{nat_cmp, match_ordering, is_eq}
 use Rattle.std.specs.declared.cmp.Ordering.TheVariants.{Less, Equal, Greater}
 use Rattle.redo_path.specs.Names.{IsPath, parent_of}
+use Rattle.redo_path.proofs.Apart.{apart}
 use Rattle.redo_tree.specs.declared.faults.TreeFault.{TreeFault}
 use Rattle.redo_tree.specs.Tree.{Node, Directory, File, Tree, IsTree, node_at, parent_refusal, place_refusal, refusal, added, with_node}
 use Rattle.redo_tree.proofs.Keys.{keys-with, sorted-with}
@@ -93,3 +95,23 @@ added-free tree path node h = ap (λ o. option_map_or Err o (Ok (with_node tree 
 
 pub added-refused : (tree : Tree) (path : List ℕ) (node : Node) (fault : TreeFault) → refusal tree path node ≡ Some fault → added tree path node ≡ Err fault
 added-refused tree path node fault h = ap (λ o. option_map_or Err o (Ok (with_node tree path node))) h
+
+-- a node more where nothing stood is an entry more
+pub length-with : (tree : Tree) (path : List ℕ) (node : Node) → node_at tree path ≡ None → length (with_node tree path node) ≡ length tree + 1
+length-with [] path node h = refl
+length-with (e ∷ es) path node h =
+    elim (slice_cmp nat_cmp path e.0) as (λ o. slice_cmp nat_cmp path e.0 ≡ o → length (match_ordering {X = Tree} o ((path, node) ∷ e ∷ es) ((e.0, node) ∷ es) (e ∷ with_node es path node)) ≡ length (e ∷ es) + 1) [
+      | Less ↦ λ o. grind (arith, common_steps)
+      | Equal ↦ λ o. let there : Some e.1 ≡ None = sym (ap (λ c. cond (is_eq c) (Some e.1) (node_at es path)) o) ∙ h in apart cc
+      | Greater ↦ λ o. let r = length-with es path node (sym (ap (λ c. cond (is_eq c) (Some e.1) (node_at es path)) o) ∙ h) in grind (arith, common_steps)
+    ] refl
+
+added-with : (o : Option TreeFault) (next new : Tree) → option_map_or Err o (Ok next) ≡ Ok new → (o ≡ None) × (next ≡ new)
+added-with None next new h = (refl, cc)
+added-with (Some fault) next new h = apart cc
+
+-- an entry was added
+pub length-added : (old new : Tree) (path : List ℕ) (node : Node) → added old path node ≡ Ok new → length new ≡ length old + 1
+length-added old new path node h =
+    let a = added-with (refusal old path node) (with_node old path node) new h in
+    sym (ap length a.1) ∙ length-with old path node (free old path node a.0)

@@ -1,5 +1,5 @@
 -- The entries that the code keeps: they grow to a tree, and look-ups by hash find what stands in it.
-use Rattle.std.proofs.Common.{◌≡◌, List, [], ◌∷◌, ◌++◌, ℕ, Bool, true, false, cond, refl, sym, ap, subst, ◌∙◌, Option, Some, None, IsSome, nat_eq, T, arith}
+use Rattle.std.proofs.Common.{◌≡◌, List, [], ◌∷◌, ◌++◌, ℕ, Bool, true, false, cond, refl, sym, ap, subst, ◌∙◌, Option, Some, None, IsSome, nat_eq, T, arith, ◌+◌, length, length-append}
 use Rattle.std.proofs.lemmas.Map.Keys.{sorted_head, sorted_tail}
 use Rattle.std.specs.Prelude.{IfSome, option_map, ◌&&◌}
 use Rattle.std.specs.Cmp.Lexicographic.{slice_cmp, pointwise, nat_list_cmp_total, nat_list_eq_equiv}
@@ -18,7 +18,7 @@ use Rattle.redo_tree.specs.declared.entries.Entry.{Entry}
 use Rattle.redo_tree.specs.declared.entries.Entry.TheVariants as entries
 use Rattle.redo_tree.specs.Tree.{Directory, Tree, IsKept, IsNoted, IsTree, NotesDefaults, default_dir, node_at, node_of, refusal, top, tree_eq, tree_of, with_node}
 use Rattle.redo_tree.proofs.Alike.{alike, found_alike, same_entries, same_found}
-use Rattle.redo_tree.proofs.Grows.{IsTree-with, Puts-with, free, is_path}
+use Rattle.redo_tree.proofs.Grows.{IsTree-with, Puts-with, free, is_path, length-with}
 use Rattle.redo_tree.proofs.Nodes.{node_of-cond, tree_of-last}
 use Rattle.redo_tree.proofs.Noted.{noted-with, noted_top}
 
@@ -44,6 +44,7 @@ IsKept-top = record {
     root = refl;
     parents = parents_top;
   };
+  counted = refl;
   found = found_top;
   noted = noted_top;
 }
@@ -60,7 +61,7 @@ absent es dirs path entry is h = none_found (lookup (pointwise nat_eq path) es) 
 
 -- more directories may be noted
 pub IsKept-noted : (es : List (List ℕ × Entry)) (dirs more : List (List ℕ)) → IsKept es dirs → ((d : List ℕ) → IsNoted dirs d → IsNoted more d) → IsKept es more
-IsKept-noted es dirs more is kept = record { tree = is.tree; found = is.found; noted = λ path dir node at e. kept dir (is.noted path dir node at e) }
+IsKept-noted es dirs more is kept = record { tree = is.tree; counted = is.counted; found = is.found; noted = λ path dir node at e. kept dir (is.noted path dir node at e) }
 
 pub IsKept-with : (old new : List (List ℕ × Entry)) (dirs : List (List ℕ)) (path : List ℕ) (entry : Entry) → IsKept old dirs → IfSome (default_dir path (node_of entry)) (IsNoted dirs) → IsPath path → refusal (tree_of old) path (node_of entry) ≡ None → new ≡ old ++ (path, entry) ∷ []
     → ((q : List ℕ) → lookup (pointwise nat_eq q) new ≡ cond (is_path path q) (Some entry) (lookup (pointwise nat_eq q) old)) → IsKept new dirs
@@ -68,6 +69,7 @@ IsKept-with old new dirs path entry is noted fits h put finds =
     let grown : tree_of new ≡ with_node (tree_of old) path (node_of entry) = ap tree_of put ∙ tree_of-last old path entry in
     record {
       tree = subst IsTree (sym grown) (IsTree-with (tree_of old) path (node_of entry) is.tree fits h);
+      counted = ap length grown ∙ length-with (tree_of old) path (node_of entry) (free (tree_of old) path (node_of entry) h) ∙ ap (λ n. n + 1) is.counted ∙ sym (ap length put ∙ length-append old ((path, entry) ∷ []));
       found = λ q. ap (option_map node_of) (finds q) ∙ node_of-cond (is_path path q) entry (lookup (pointwise nat_eq q) old)
           ∙ ap (λ o. cond (is_path path q) (Some (node_of entry)) o) (is.found q)
           ∙ sym ((Puts-with (tree_of old) path (node_of entry)).at q)

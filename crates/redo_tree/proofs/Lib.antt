@@ -7,12 +7,14 @@ pub mod Grows
 pub mod Kept
 pub mod Keys
 pub mod Lines
+pub mod Loaded
 pub mod Nodes
 pub mod Noted
 pub mod Once
 pub mod Pieces
 pub mod Small
 pub mod Spelled
+pub mod StoredFiles
 pub mod Texts
 pub mod Turns
 pub mod Written

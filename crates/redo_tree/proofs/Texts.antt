@@ -1,7 +1,10 @@
 -- Lists of paths that are text, and trees of them.
 use Rattle.std.proofs.Common.{◌≡◌, ◌<◌, ◌+◌, ℕ, List, [], ◌∷◌, get_or, length, map, take, refl, sym, ap, subst, zero, suc, arith, Option, Some, None}
 use Rattle.std.specs.Prelude.{Err, IsUtf8, slice_get}
+use Rattle.std.specs.Fs.{dir_entry_name}
 use Rattle.std.specs.List.{AllByRecursion}
+use Rattle.std.specs.declared.fs.dir.DirEntry.{DirEntry}
+use Rattle.std.specs.declared.io.Error.{Error}
 use Rattle.redo_path.proofs.Apart.{apart}
 use Rattle.redo_tree.specs.declared.storing.Unwritten.{Unwritten}
 use Rattle.redo_tree.specs.declared.storing.Unwritten.TheVariants.{Device, Name, Memory}
@@ -13,13 +16,13 @@ use Rattle.std.specs.BTreeMap.{insert_entry}
 use Rattle.std.specs.Cmp.Lexicographic.{slice_cmp}
 use Rattle.std.specs.Option.{option_map_or}
 use Rattle.std.specs.Ordering.{nat_cmp, match_ordering}
-use Rattle.std.specs.Prelude.{Ok}
+use Rattle.std.specs.Prelude.{Ok, Result}
 use Rattle.std.specs.declared.cmp.Ordering.TheVariants.{Less, Equal, Greater}
 use Rattle.redo_path.specs.Names.{child_of}
 use Rattle.redo_path.proofs.Parts.{AllByRecursion-append, AllByRecursion-front}
 use Rattle.redo_tree.specs.declared.faults.TreeFault.{TreeFault}
 use Rattle.redo_tree.specs.Tree.{Node, Directory, File, Tree, added, refusal, with_node}
-use Rattle.redo_tree.specs.Directory.{HasTextPaths, MetText, Progress, Stores, TakesIn, Written, fault_at, with_passed, with_waiting}
+use Rattle.redo_tree.specs.Directory.{HasTextPaths, HasTexts, MeansText, MetText, Progress, Receives, TakesIn, TakesInListed, fault_at, with_passed, with_waiting}
 
 -- what a list that was made of another one has at a place
 pub at_map : {A : Type 0} (f : A → List ℕ) (xs : List A) (k : ℕ) (d : A) → k < length xs → d ≡ get_or xs k d → slice_get (map f xs) k ≡ Some (f d)
@@ -38,14 +41,14 @@ texts_next paths k path e u h =
     let more : suc k ≡ k + 1 = omega arith in
     subst (λ n. AllByRecursion IsUtf8 (take n paths)) more (texts_suc paths k path e u h)
 
-refused_so : (paths : List (List ℕ)) (k : ℕ) (path : List ℕ) (fault : Unwritten) → slice_get paths k ≡ Some path → Written (Err fault) path → AllByRecursion IsUtf8 (take k paths) → Stores (Err (fault_at fault k)) paths
-refused_so paths k path Device e w h = (path, e, w, h)
+refused_so : (paths : List (List ℕ)) (k : ℕ) (path : List ℕ) (fault : Unwritten) → slice_get paths k ≡ Some path → MeansText {A = Unit {0}} (Err fault) path → AllByRecursion IsUtf8 (take k paths) → HasTexts {A = Unit {0}} (Err (fault_at fault k)) paths
+refused_so paths k path (Device kind) e w h = (path, e, w, h)
 refused_so paths k path Name e w h = (path, e, w, h)
 refused_so paths k path Memory e w h = (path, e, w, h)
 
 -- the file at a place wasn't written
-pub refused_at : (paths : List (List ℕ)) (k : ℕ) (path : List ℕ) (fault : Unwritten) (answer : StoreFault) → slice_get paths k ≡ Some path → Written (Err fault) path → AllByRecursion IsUtf8 (take k paths) → answer ≡ fault_at fault k → Stores (Err answer) paths
-refused_at paths k path fault answer e w h same = subst (λ f. Stores (Err f) paths) (sym same) (refused_so paths k path fault e w h)
+pub refused_at : (paths : List (List ℕ)) (k : ℕ) (path : List ℕ) (fault : Unwritten) (answer : StoreFault) → slice_get paths k ≡ Some path → MeansText {A = Unit {0}} (Err fault) path → AllByRecursion IsUtf8 (take k paths) → answer ≡ fault_at fault k → HasTexts {A = Unit {0}} (Err answer) paths
+refused_at paths k path fault answer e w h same = subst (λ f. HasTexts {A = Unit {0}} (Err f) paths) (sym same) (refused_so paths k path fault e w h)
 
 -- the path of a text name in a directory whose path is text
 child_text : (dir name : List ℕ) → IsUtf8 dir → IsUtf8 name → IsUtf8 (child_of dir name)
@@ -76,22 +79,26 @@ text-waiting waiting path Directory h k = AllByRecursion-append IsUtf8 waiting (
 text-waiting waiting path (File bytes) h k = h
 
 -- a name that was passed over leaves all that was met text
-pub text_passed : (old new : Progress) → MetText old → new ≡ with_passed old → MetText new
+text_passed : (old new : Progress) → MetText old → new ≡ with_passed old → MetText new
 text_passed old new h e = subst MetText (sym e) (record { entered = h.entered; ahead = h.ahead })
 
+text_received : (old new : Progress) (path : List ℕ) (node : Option Node) → MetText old → IsUtf8 path → Receives old new path node → MetText new
+text_received old new path None h k r = text_passed old new h r
+text_received old new path (Some node) h k r = record {
+  entered = text-added old.tree new.tree path node h.entered k r.adds;
+  ahead = subst (AllByRecursion IsUtf8) (sym r.waits) (text-waiting old.waiting path node h.ahead k);
+}
+
 -- all that was met is text after one more name
-pub text_taken : (old new : Progress) (dir name : List ℕ) → MetText old → IsUtf8 dir → IsUtf8 name → TakesIn old new dir name → MetText new
-text_taken old new dir name h d n t =
-    elim t [
-      | inl e ↦ text_passed old new h e
-      | inr s ↦
-          let path = child_text dir name d n in
-          let enters = s.1.1 in
-          record {
-            entered = text-added old.tree new.tree (child_of dir name) s.1.0 h.entered path enters.adds;
-            ahead = subst (AllByRecursion IsUtf8) (sym enters.waits) (text-waiting old.waiting (child_of dir name) s.1.0 h.ahead path);
-          }
-    ]
+text_taken : (old new : Progress) (dir name : List ℕ) → MetText old → IsUtf8 dir → IsUtf8 name → TakesIn old new dir name → MetText new
+text_taken old new dir name h d n t = elim t [
+  | inl s ↦ text_passed old new h s.1
+  | inr s ↦ text_received old new (child_of dir name) s.1.0 h (child_text dir name d n) s.1.1
+]
+
+pub text_listed : {R A F D : Type 0} (old new : Progress) (dir : List ℕ) (listed : Result (DirEntry R A F D) Error) → MetText old → IsUtf8 dir → TakesInListed old new dir listed → MetText new
+text_listed old new dir (Ok entry) h d t = text_taken old new dir (dir_entry_name entry) h d t.0 t.1
+text_listed old new dir (Err error) h d t = text_passed old new h t.1
 
 last_text : (paths : List (List ℕ)) (path : List ℕ) → AllByRecursion IsUtf8 (paths ++ path ∷ []) → IsUtf8 path
 last_text [] path h = h.0

@@ -1,5 +1,5 @@
 -- What one turn of reading finds, and what the turns so far make.
-use Rattle.std.proofs.Common.{◌≡◌, ℕ, ◌+◌, ◌*◌, ◌-◌, ◌<◌, ◌≤◌, ◌^◌, Bool, true, false, cond, not, List, [], ◌∷◌, ◌++◌, length, refl, sym, ap, subst, ◌∙◌, arith, Option, Some, None, nat_lt, le-ltb, append_assoc, append-nil, IfSome}
+use Rattle.std.proofs.Common.{◌≡◌, ℕ, ◌+◌, ◌<◌, ◌≤◌, Bool, true, false, cond, not, List, [], ◌∷◌, ◌++◌, length, refl, sym, ap, subst, ◌∙◌, arith, Option, Some, None, nat_lt, le-ltb, append_assoc, append-nil, IfSome}
 use Rattle.std.proofs.lemmas.Grind.{common_steps, flat_map-append}
 use Rattle.std.specs.List.{AllByRecursion}
 use Rattle.std.specs.Prelude.{Result, Ok, Err, codes}
@@ -12,6 +12,7 @@ use Rattle.redo_tree.specs.declared.faults.TreeFault.{TreeFault}
 use Rattle.redo_tree.specs.Tree.{Node, Directory, File, Tree, top, added}
 use Rattle.redo_tree.specs.Bundle.{is_newline, entry_fault, fault_at, IsEntry, IsRefused, Reads, spelling, body_of, grown}
 use Rattle.redo_tree.specs.Steps.{Refuses, IsLine, AddsNext}
+use Rattle.redo_tree.proofs.Grows.{length-added}
 use Rattle.redo_tree.proofs.Lines.{IsCut, cut_first}
 
 -- ---- one turn
@@ -54,7 +55,7 @@ behind_end n tree line held a b left l e p q some = end_known n tree line held a
 
 -- ---- the turns so far
 
--- these entries were read, and make this tree
+-- these entries were read, before the n-th, and make this tree
 pub record Reached (start now : Option (List ℕ)) (tree : Tree) (n : ℕ) : Type 0 where
   pub es : List (List ℕ × Node)
   pub number : length es + 1 ≡ n
@@ -70,7 +71,7 @@ entries-append (x ∷ xs) e h k = (h.0, entries-append xs e h.1 k)
 abbrev pub onward : List (List ℕ × Node) → Result Tree TreeFault → Result Tree TreeFault
 onward es r = elim r [ Ok next ↦ grown next es | Err fault ↦ Err fault ]
 
-grown-append : (old mid new : Tree) (es : List (List ℕ × Node)) (e : List ℕ × Node) → grown old es ≡ Ok mid → added mid e.0 e.1 ≡ Ok new → grown old (es ++ e ∷ []) ≡ Ok new
+pub grown-append : (old mid new : Tree) (es : List (List ℕ × Node)) (e : List ℕ × Node) → grown old es ≡ Ok mid → added mid e.0 e.1 ≡ Ok new → grown old (es ++ e ∷ []) ≡ Ok new
 grown-append old mid new [] e h k = let same : old ≡ mid = cc in ap (λ t. onward [] (added t e.0 e.1)) same ∙ ap (onward []) k
 grown-append old mid new (x ∷ xs) e h k = elim (added old x.0 x.1) as (λ r. onward xs r ≡ Ok mid → onward (xs ++ e ∷ []) r ≡ Ok new) [
   | Ok next ↦ λ g. grown-append next mid new xs e g k
@@ -78,21 +79,21 @@ grown-append old mid new (x ∷ xs) e h k = elim (added old x.0 x.1) as (λ r. o
 ] h
 
 -- before the first entry
-pub Reached-first : (start : Option (List ℕ)) (held : List ℕ) (tree : Tree) → held ≡ [] → tree ≡ top → Reached start (prepend_known held start) tree 1
+pub Reached-first : (start : Option (List ℕ)) (held : List ℕ) (tree : Tree) → held ≡ [] → tree ≡ top → Reached start (prepend_known held start) tree (length tree)
 Reached-first start held tree none only = record {
   es = [];
-  number = refl;
+  number = ap length (sym only);
   entries = tt;
   makes = ap Ok (sym only);
   came = elim start as (λ o. Consumes o (prepend_known held o) []) [ None ↦ tt | Some text ↦ sym (ap (λ h. h ++ text) none) ];
 }
 
-pub Reached-next : (start b c : Option (List ℕ)) (old new : Tree) (n : ℕ) → Reached start b old n → AddsNext old new b c → Reached start c new (n + 1)
-Reached-next start b c old new n r h =
+pub Reached-next : (start b c : Option (List ℕ)) (old new : Tree) → Reached start b old (length old) → AddsNext old new b c → Reached start c new (length new)
+Reached-next start b c old new r h =
     let (e, fit, adds, p) = h in
     record {
       es = r.es ++ e ∷ [];
-      number = let l = r.number in grind (arith, common_steps);
+      number = let l = r.number in let m = length-added old new e.0 e.1 adds in grind (arith, common_steps);
       entries = entries-append r.es e r.entries fit;
       makes = grown-append top old new r.es e r.makes adds;
       came = subst (Consumes start c) (sym (flat_map-append spelling r.es (e ∷ []) ∙ ap (λ l. body_of r.es ++ l) (append-nil (spelling e)))) (Consumes-trans start b c (body_of r.es) (spelling e) r.came p);
@@ -101,20 +102,6 @@ Reached-next start b c old new n r h =
 pub two_bytes : (e : List ℕ × Node) → 2 ≤ length (spelling e)
 two_bytes (path, Directory) = omega arith
 two_bytes (path, File bytes) = omega arith
-
-many_bytes : (es : List (List ℕ × Node)) → 2 * length es ≤ length (body_of es)
-many_bytes [] = omega arith
-many_bytes (e ∷ es) = let r = many_bytes es in let s = two_bytes e in let t : length (body_of (e ∷ es)) ≡ length (spelling e) + length (body_of es) = grind (arith, common_steps) in omega arith
-
--- the numbers are used up only by a text that long
-pub Reached-long : (start now : Option (List ℕ)) (tree : Tree) (n : ℕ) → Reached start now tree n → 2 ^ 64 - 1 ≤ n → IfSome start (λ text. 2 ^ 64 - 1 ≤ length text)
-Reached-long None now tree n r l = tt
-Reached-long (Some x) None tree n r l = absurd r.came
-Reached-long (Some x) (Some y) tree n r l =
-    let m = many_bytes r.es in
-    let k : length x ≡ length (body_of r.es) + length y = ap length r.came ∙ grind (arith, common_steps) in
-    let c = r.number in
-    omega arith
 
 -- ---- the answer
 
@@ -150,3 +137,7 @@ reads_fault Truncated (Some x) (Some y) tree n r h = refused x y tree n Truncate
 reads_fault (Line k) (Some x) (Some y) tree n r h = refused x y tree n (Line k) r h
 reads_fault (Path k f) (Some x) (Some y) tree n r h = refused x y tree n (Path k f) r h
 reads_fault (TreeAt k f) (Some x) (Some y) tree n r h = refused x y tree n (TreeAt k f) r h
+
+-- an entry that was read is one more in the tree
+pub longer : (b c : Option (List ℕ)) (old new : Tree) → AddsNext old new b c → length new ≡ length old + 1
+longer b c old new h = length-added old new h.0.0 h.0.1 h.2

@@ -1,5 +1,5 @@
 -- A tree: what stands at each path, in the order of the paths' texts.
-use Rattle.std.specs.Prelude.{◌≡◌, ◌&&◌, Bool, true, nat_eq, ℕ, List, [], ◌∷◌, ◌++◌, codes, filter_map, fold, Option, Some, None, Result, Ok, Err, IsSome, option_and_then, option_map, refl, if◌then◌else◌}
+use Rattle.std.specs.Prelude.{◌≡◌, ◌&&◌, Bool, true, nat_eq, ℕ, List, [], ◌∷◌, ◌++◌, codes, filter_map, fold, length, Option, Some, None, Result, Ok, Err, IsSome, option_and_then, option_map, refl, if◌then◌else◌}
 use Rattle.std.specs.BTreeMap.{insert_entry, is_at}
 use Rattle.std.specs.Cmp.{IsEquivalence, and_equiv, on_equiv}
 use Rattle.std.specs.Cmp.Lexicographic.{lists_equiv, nat_list_eq_equiv, options_equiv, pointwise, slice_cmp}
@@ -150,8 +150,9 @@ IsNoted dirs dir = list_any (pointwise nat_eq dir) dirs ≡ true
 abbrev pub NotesDefaults : List (List ℕ) → Tree → Type 0
 NotesDefaults dirs tree = (path dir : List ℕ) (node : Node) → node_at tree path ≡ Some node → default_dir path node ≡ Some dir → IsNoted dirs dir
 
--- the code keeps a tree, looking for a path among its entries finds what stands there, and looking for a directory among those noted finds each with such a file
+-- the code keeps a tree, each entry once, looking for a path among its entries finds what stands there, and looking for a directory among those noted finds each with such a file
 pub record IsKept (es : List (List ℕ × Entry)) (dirs : List (List ℕ)) : Type 0 where
   pub tree : IsTree (tree_of es)
+  pub counted : length (tree_of es) ≡ length es
   pub found : (path : List ℕ) → option_map node_of (lookup (pointwise nat_eq path) es) ≡ node_at (tree_of es) path
   pub noted : NotesDefaults dirs (tree_of es)

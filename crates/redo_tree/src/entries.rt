@@ -1,6 +1,6 @@
 //! The tree: what stands at each path.
 
-ghost use Rattle.std.specs.Prelude.{◌≡◌, IfOk, IfSome, OnOk, false, option_copied, map, nat_eq, option_map, List, ℕ};
+ghost use Rattle.std.specs.Prelude.{◌≡◌, ◌<◌, ◌^◌, IfOk, IfSome, OnOk, false, length, option_copied, map, nat_eq, option_map, List, ℕ};
 ghost use Rattle.std.proofs.Common.{ap};
 ghost use Rattle.std.specs.Cmp.{partial_equiv_from_equiv};
 ghost use Rattle.std.specs.Cmp.Lexicographic.{bytes_decides, nat_list_eq_equiv, pointwise};
@@ -85,6 +85,14 @@ impl Tree {
             defaults: IndexSet::new(alloc),
             alloc,
         })
+    }
+
+    /// How many entries there are, the top directory among them.
+    pub(crate) fn len(&self) -> usize
+        ensures count { result ≡ length self.now }
+        ensures small { result < 2 ^ 63 }
+    {
+        self.entries.len()
     }
 
     /// What is kept at the path with this text.

@@ -64,7 +64,7 @@ pub enum BundleFault {
     /// The input ends before the bundle does.
     #[error("the bundle is truncated")]
     Truncated,
-    /// The reader failed, or gave 2^64 - 1 bytes without an end.
+    /// The reader failed.
     #[error("the reader failed")]
     Read,
     /// No memory was left.
@@ -146,10 +146,10 @@ impl<T: Drop> From<AllocFailed<T>> for WriteFault {
 /// Why a directory was not read.
 #[derive(Clone, Copy, Debug, PartialEq, Eq, Error)]
 pub enum LoadFault {
-    /// The directory, or something in it, can't be read: it isn't there, its rights forbid it, or it
-    /// changed meanwhile.
-    #[error("the directory can't be read")]
-    Device,
+    /// The directory, or something in it, can't be read, and what the system says of it: it isn't
+    /// there, its rights forbid it, or (`InvalidData`) it changed meanwhile.
+    #[error("the directory can't be read: {0}")]
+    Device(ErrorKind),
     /// No memory was left.
     #[error("out of memory")]
     Memory,
@@ -184,7 +184,7 @@ impl From<io::Error> for LoadFault {
     fn from(error: io::Error) -> LoadFault {
         match error.kind() {
             ErrorKind::OutOfMemory => LoadFault::Memory,
-            _ => LoadFault::Device,
+            kind => LoadFault::Device(kind),
         }
     }
 }
@@ -192,9 +192,9 @@ impl From<io::Error> for LoadFault {
 /// Why a file was not written: its place in the list, counted from 0. The files before it were.
 #[derive(Clone, Copy, Debug, PartialEq, Eq, Error)]
 pub enum StoreFault {
-    /// The file can't be written.
-    #[error("file {0} can't be written")]
-    Device(usize),
+    /// The file can't be written, and what the system says of it.
+    #[error("file {0} can't be written: {1}")]
+    Device(usize, ErrorKind),
     /// The path isn't UTF-8.
     #[error("the path of file {0} isn't UTF-8")]
     Name(usize),

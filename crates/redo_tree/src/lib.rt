@@ -13,6 +13,7 @@
 //! - `ends`: where bytes come from and go to; `buffer`: what came and was not used yet;
 //! - `reading`, `writing`: bundles, entry by entry;
 //! - `loading`, `storing`: directories of the system; `places`: which of their names a tree takes in;
+//!   `whole`: a file that was written;
 //! - [`laws`]: a text is a bundle of one tree or has one first fault, and a tree's bundle is read as
 //!   that tree.
 #![tactic(auto)]
@@ -27,6 +28,7 @@ mod loading;
 mod places;
 mod reading;
 mod storing;
+mod whole;
 mod writing;
 
 pub use content::Content;
@@ -34,8 +36,8 @@ pub use ends::{Broken, ByteIn, ByteOut, Plain};
 pub use entries::{Kind, Tree};
 pub use faults::{BundleFault, LoadFault, StoreFault, TreeFault, WriteFault};
 pub use loading::load_dir;
-pub use reading::read_bundle;
-pub use storing::store_files;
+pub use reading::{read_bundle, read_bundle_by_line};
+pub use storing::{Stored, store_files};
 pub use writing::{write_all, write_bundle, write_parts};
 
 #[cfg(test)]

@@ -1,6 +1,6 @@
 //! Reading a bundle: a step for each part of an entry, over a buffer of what came and was not used.
 
-ghost use Rattle.std.specs.Prelude.{◌≡◌, ◌≢◌, ◌<◌, ◌≤◌, ◌+◌, ◌-◌, ◌*◌, ◌^◌, ◌⊎◌, ℕ, List, [], ◌∷◌, ◌++◌, length, drop, take, codes, Bool, true, false, is_err, Option, Some, None, option_map, Result, Ok, Err, IfOk, OnOk, IfSome, IsErrOf, position};
+ghost use Rattle.std.specs.Prelude.{◌≡◌, ◌≢◌, ◌<◌, ◌≤◌, ◌+◌, ◌-◌, ◌*◌, ◌^◌, ◌↔◌, ℕ, List, [], ◌∷◌, ◌++◌, length, drop, take, codes, Bool, true, false, is_err, Option, Some, None, option_map, Result, Ok, Err, IfOk, OnOk, IfSome, IsErrOf, position};
 ghost use Rattle.std.specs.Io.KnownBytes.{Consumes, IsAtEnd, prepend_known};
 ghost use Rattle.std.specs.List.{position_or_len};
 ghost use Rattle.std.specs.Option.{option_or};
@@ -329,15 +329,34 @@ pub fn read_bundle<R: ByteIn>(alloc: Global, reader: &mut R) -> Result<Tree, Bun
     ensures each { IfSome (R.left reader.old) (λ text. ReadsEach result text) }
     ensures whole { OnOk result (IfSome (R.left reader.new) (λ rest. rest ≡ [])) }
     ensures small { IfOk result HasSmallFiles }
-    ensures read { IsErrOf result BundleFault.Read → (R.has_failed reader.new ≡ true) ⊎ IfSome (R.left reader.old) (λ text. 2 ^ 64 - 1 ≤ length text) }
+    ensures read { IsErrOf result BundleFault.Read ↔ (R.has_failed reader.new ≡ true) }
+{
+    let mut line = Vec::with_capacity(alloc, LONGEST_LINE)?;
+    read_bundle_by_line(alloc, reader, &mut line)
+}
+
+/// Reads a bundle as [`read_bundle`] does, each header line in place of `line`. So after a refusal the
+/// caller can show the line that it is about: it is the last of which anything was read, without its
+/// newline, and a beginning of it where it is too long or the input ends in it.
+pub fn read_bundle_by_line<R: ByteIn>(
+    alloc: Global,
+    reader: &mut R,
+    line: &mut Vec<u8>,
+) -> Result<Tree, BundleFault>
+    requires { R.has_failed reader.old ≡ false }
+    ensures reads { IfSome (R.left reader.old) (λ text. Reads result text) }
+    ensures each { IfSome (R.left reader.old) (λ text. ReadsEach result text) }
+    ensures whole { OnOk result (IfSome (R.left reader.new) (λ rest. rest ≡ [])) }
+    ensures small { IfOk result HasSmallFiles }
+    ensures read { IsErrOf result BundleFault.Read ↔ (R.has_failed reader.new ≡ true) }
 {
     let mut held = Held::new(alloc)?;
     let mut tree = Tree::new(alloc)?;
-    let mut line = Vec::with_capacity(alloc, LONGEST_LINE)?;
-    for number in 1..u64::MAX {
-        if !read_next(alloc, &mut held, reader, number, &mut tree, &mut line)? {
+    loop {
+        // The top directory counts for the header that comes.
+        let number = tree.len() as u64;
+        if !read_next(alloc, &mut held, reader, number, &mut tree, line)? {
             return Ok(tree);
         }
     }
-    Err(BundleFault::Read)
 }

@@ -1,14 +1,16 @@
 //! Writing files into a directory of the system, each of which appears whole or not at all.
 
-ghost use Rattle.std.specs.Prelude.{◌≡◌, map, IfOk, string_bytes};
-ghost use Rattle.std.specs.Path.{path_buf_bytes};
-ghost use Rattle.redo_tree.specs.Directory.{IsBeside, Stores, Written, fault_at, temporary_name};
+ghost use Rattle.std.specs.Prelude.{◌≡◌, ◌++◌, ◌∷◌, [], map, take, IfOk, OnErr, OnOk, string_bytes};
+ghost use Rattle.std.specs.Path.{path_buf_bytes, path_join};
+ghost use Rattle.redo_tree.specs.Directory.{HasTexts, IsBeside, MeansText, fault_at, places_in, stored_count, temporary_name};
 
+use crate::whole::{Whole, finish};
 use crate::{Content, StoreFault};
 use redo_path::Path;
-use std::alloc::{AllocError, Global};
+use std::alloc::{AllocError, AllocFailed, Global};
 use std::fs::File;
-use std::io::{ErrorKind, Write};
+use std::io::ErrorKind;
+use std::marker::Model;
 use std::path::{Path as SystemPath, PathBuf};
 use std::rt::Files;
 use std::{fs, io};
@@ -19,7 +21,7 @@ const MOST_TRIES: u64 = 1000;
 /// Why one file was not written.
 #[derive(Clone, Copy, Debug, PartialEq, Eq)]
 pub(crate) enum Unwritten {
-    Device,
+    Device(ErrorKind),
     Name,
     Memory,
 }
@@ -34,6 +36,16 @@ impl From<AllocError> for Unwritten {
     }
 }
 
+impl<T: Drop> From<AllocFailed<T>> for Unwritten {
+    ghost use Rattle.redo_tree.specs.declared.storing.Unwritten.TheVariants.{Memory};
+
+    ghost from_gives = { λ _ fault. fault ≡ Memory };
+
+    fn from(_error: AllocFailed<T>) -> Unwritten {
+        Unwritten::Memory
+    }
+}
+
 impl From<io::Error> for Unwritten {
     ghost use Rattle.std.specs.IoError.{error_kind};
     ghost use Rattle.redo_tree.specs.Directory.{store_fault};
@@ -43,7 +55,7 @@ impl From<io::Error> for Unwritten {
     fn from(error: io::Error) -> Unwritten {
         match error.kind() {
             ErrorKind::OutOfMemory => Unwritten::Memory,
-            _ => Unwritten::Device,
+            kind => Unwritten::Device(kind),
         }
     }
 }
@@ -74,45 +86,94 @@ fn begin<R: Files>(rt: &R, alloc: Global, target: &PathBuf) -> io::Result<(R::Fi
     Err(io::Error::from(ErrorKind::AlreadyExists))
 }
 
-/// Writes a new file whole, closes it, and gives it the target's name.
-fn finish<R: Files>(
-    rt: &R,
-    mut file: R::File,
-    beside: &PathBuf,
-    target: &PathBuf,
-    bytes: &[u8],
-) -> io::Result<()> {
-    file.write_all(bytes)?;
-    drop(file);
-    fs::rename(rt, beside.as_path(), target.as_path())
-}
-
 /// Writes a file, which appears whole or not at all.
-fn write_file<R: Files>(rt: &R, alloc: Global, target: &PathBuf, bytes: &[u8]) -> io::Result<()> {
-    let (file, beside) = begin(rt, alloc, target)?;
-    let outcome = finish(rt, file, &beside, target, bytes);
+fn write_file<R: Files>(
+    rt: &R,
+    alloc: Global,
+    target: PathBuf,
+    content: &Content,
+) -> io::Result<Whole>
+    ensures { IfOk result (λ whole. whole ≡ (path_buf_bytes target, content.now)) }
+{
+    let (file, beside) = begin(rt, alloc, &target)?;
+    let outcome = finish(rt, file, &beside, target, content);
     if outcome.is_err() {
         let _removed = fs::remove_file(rt, beside.as_path());
     }
     outcome
 }
 
-/// Writes the file of a path below a directory.
-fn store_file<R: Files>(
-    rt: &R,
-    alloc: Global,
-    dir: &str,
-    path: &Path,
-    content: &Content,
-) -> Result<(), Unwritten>
-    ensures { Written result path.now }
-{
-    let Ok(text) = str::from_utf8(path.text()) else {
-        return Err(Unwritten::Name);
-    };
-    let target = SystemPath::new(dir).join(alloc, text)?;
-    write_file(rt, alloc, &target, content.bytes())?;
-    Ok(())
+/// What was written by [`store_files`], which alone makes one: the files' places in the system and their
+/// bytes, in the order in which they were written.
+#[derive(Drop)]
+pub struct Stored {
+    files: Vec<Whole>,
+}
+
+impl Model for Stored {
+    ghost use Rattle.std.specs.Prelude.{List, ℕ};
+    ghost use Rattle.std.specs.Coded.{coded×, coded_list, coded_ℕ};
+
+    ghost Value = { List (List ℕ × List ℕ) };
+
+    ghost coded = { coded_list (coded× (coded_list coded_ℕ) (coded_list coded_ℕ)) };
+
+    ghost view = { λ s. s.files.items };
+}
+
+impl Stored {
+    /// Nothing was written yet.
+    fn new(alloc: Global) -> Stored
+        ensures { result ≡ [] }
+    {
+        Stored {
+            files: Vec::new(alloc),
+        }
+    }
+
+    /// Writes one file more.
+    fn write<R: Files>(
+        &mut self,
+        rt: &R,
+        alloc: Global,
+        dir: &str,
+        path: &Path,
+        content: &Content,
+    ) -> Result<(), Unwritten>
+        ensures text { MeansText result path.now }
+        ensures file { OnOk result (self.new ≡ self.old ++ (path_join dir.now path.now, content.now) ∷ []) }
+        ensures kept { OnErr result (self.new ≡ self.old) }
+    {
+        let Ok(text) = str::from_utf8(path.text()) else {
+            return Err(Unwritten::Name);
+        };
+        // So that no file is written that can't be noted.
+        self.files.reserve(1)?;
+        let target = SystemPath::new(dir).join(alloc, text)?;
+        let whole = write_file(rt, alloc, target, content)?;
+        self.files.push(whole)?;
+        Ok(())
+    }
+
+    /// Writes files, in the order of the list, and stops at the first that can't be written.
+    fn write_each<R: Files>(
+        &mut self,
+        rt: &R,
+        alloc: Global,
+        dir: &str,
+        files: &[(Path, Content)],
+    ) -> Result<(), StoreFault>
+        requires { self.old ≡ [] }
+        ensures text { HasTexts result (map (λ file. file.0) files.now) }
+        ensures files { self.new ≡ places_in dir.now (take (stored_count result files.now) files.now) }
+    {
+        for (place, (path, content)) in files.iter().enumerate() {
+            if let Err(fault) = self.write(rt, alloc, dir, path, content) {
+                return Err(at_place(fault, place));
+            }
+        }
+        Ok(())
+    }
 }
 
 /// The fault of the file at a place of the list.
@@ -120,7 +181,7 @@ fn at_place(fault: Unwritten, place: usize) -> StoreFault
     ensures { result ≡ fault_at fault place }
 {
     match fault {
-        Unwritten::Device => StoreFault::Device(place),
+        Unwritten::Device(kind) => StoreFault::Device(place, kind),
         Unwritten::Name => StoreFault::Name(place),
         Unwritten::Memory => StoreFault::Memory(place),
     }
@@ -131,20 +192,18 @@ fn at_place(fault: Unwritten, place: usize) -> StoreFault
 /// seen. The directories that the paths lie in have to be there.
 ///
 /// A file is written beside its place and then takes it, so nobody reads half of it, and what stood
-/// there before, as a link, is replaced and not written through. What no contract says, that the
-/// bytes arrive, is only tested.
+/// there before, as a link, is replaced and not written through. [`Stored`] tells which files were
+/// written, and where; that their bytes arrive on the disk is known to no contract, and only tested.
 pub fn store_files<R: Files>(
     rt: &R,
     alloc: Global,
     dir: &str,
     files: &[(Path, Content)],
-) -> Result<(), StoreFault>
-    ensures { Stores result (map (λ file. file.0) files.now) }
+) -> Result<Stored, StoreFault>
+    ensures text { HasTexts result (map (λ file. file.0) files.now) }
+    ensures files { IfOk result (λ stored. stored ≡ places_in dir.now files.now) }
 {
-    for (place, (path, content)) in files.iter().enumerate() {
-        if let Err(fault) = store_file(rt, alloc, dir, path, content) {
-            return Err(at_place(fault, place));
-        }
-    }
-    Ok(())
+    let mut stored = Stored::new(alloc);
+    stored.write_each(rt, alloc, dir, files)?;
+    Ok(stored)
 }

@@ -1,6 +1,6 @@
 //! Writing a bundle, entry by entry.
 
-ghost use Rattle.std.specs.Prelude.{◌≡◌, ◌++◌, ◌∷◌, [], flat_map, is_err, true, false, IfOk, OnOk, IsErrOf};
+ghost use Rattle.std.specs.Prelude.{◌≡◌, ◌↔◌, ◌++◌, ◌∷◌, [], flat_map, is_err, true, false, IfOk, OnOk, IsErrOf};
 ghost use Rattle.redo_tree.specs.Tree.{node_of};
 ghost use Rattle.redo_tree.specs.Bundle.{Writes, HasSmallFiles, IsBundle, bundle_of, spelling};
 ghost use Rattle.redo_tree.specs.Steps.{is_device, header_bytes};
@@ -92,8 +92,7 @@ pub fn write_bundle<W: ByteOut>(
     requires small { HasSmallFiles tree.now }
     ensures writes { Writes (W.held writer.old) (W.held writer.new) result (bundle_of tree.now) }
     ensures readable { IsBundle (bundle_of tree.now) tree.now }
-    ensures works { OnOk result (W.has_failed writer.new ≡ false) }
-    ensures device { IsErrOf result WriteFault.Device → W.has_failed writer.new ≡ true }
+    ensures device { IsErrOf result WriteFault.Device ↔ (W.has_failed writer.new ≡ true) }
 {
     let mut entries = tree.in_order(alloc)?.into_iter();
     let _root = entries.next();

@@ -138,21 +138,25 @@ fn passed_over(
     files: &[(&str, &str)],
 ) -> Result<Option<u64>, Fail> {
     let meant = tree_of(rt.alloc(), dirs, files)?;
-    let (tree, passed) = load_dir(rt, rt.alloc(), dir.as_str())?;
+    let mut place = String::new(rt.alloc());
+    let (tree, passed) = load_dir(rt, rt.alloc(), dir.as_str(), &mut place)?;
     Ok((tree == meant).then_some(passed))
 }
 
 /// How many files a directory holds, and how many names were passed over.
 fn counts(rt: &HostRuntime, dir: &PathBuf) -> Result<(usize, u64), Fail> {
-    let (tree, passed) = load_dir(rt, rt.alloc(), dir.as_str())?;
+    let mut place = String::new(rt.alloc());
+    let (tree, passed) = load_dir(rt, rt.alloc(), dir.as_str(), &mut place)?;
     let files = tree.files(rt.alloc())?;
     Ok((files.len(), passed))
 }
 
-/// Why what stands below a directory isn't read.
+/// Why what stands below a directory isn't read, where it is said so of its own place.
 fn load_fault(rt: &HostRuntime, dir: &PathBuf, name: &str) -> Result<Option<LoadFault>, Fail> {
-    let place = dir.join(rt.alloc(), name)?;
-    Ok(load_dir(rt, rt.alloc(), place.as_str()).err())
+    let below = dir.join(rt.alloc(), name)?;
+    let mut place = String::new(rt.alloc());
+    let fault = load_dir(rt, rt.alloc(), below.as_str(), &mut place).err();
+    Ok(fault.filter(|_| place.as_str() == below.as_str()))
 }
 
 /// A file of a list.
@@ -252,9 +256,14 @@ fn what_is_no_directory_is_a_fault(rt: HostRuntime) -> Result<(), Fail> {
     let missing = load_fault(&rt, &dir, "missing")?;
     let file = load_fault(&rt, &dir, "file")?;
     remove(&rt, &dir)?;
-    let empty = load_dir(&rt, rt.alloc(), "").err();
-    for fault in [missing, file, empty] {
-        assert_eq!(rt; fault, Some(LoadFault::Device));
+    let mut place = String::new(rt.alloc());
+    let empty = load_dir(&rt, rt.alloc(), "", &mut place).err();
+    for (fault, kind) in [
+        (missing, ErrorKind::NotFound),
+        (file, ErrorKind::NotADirectory),
+        (empty, ErrorKind::NotFound),
+    ] {
+        assert_eq!(rt; fault, Some(LoadFault::Device(kind)));
     }
     Ok(())
 }
@@ -301,11 +310,14 @@ fn second_fails(rt: &HostRuntime, second: &[u8]) -> Result<(Option<StoreFault>, 
 #[test]
 fn storing_stops_at_the_first_fault(rt: HostRuntime) -> Result<(), Fail> {
     let list = [
-        (b"no/b".as_slice(), StoreFault::Device(1)),
-        (b"a/b", StoreFault::Device(1)),
-        (b"d", StoreFault::Device(1)),
+        (
+            b"no/b".as_slice(),
+            StoreFault::Device(1, ErrorKind::NotFound),
+        ),
+        (b"a/b", StoreFault::Device(1, ErrorKind::NotADirectory)),
+        (b"d", StoreFault::Device(1, ErrorKind::IsADirectory)),
         (b"d/\xff", StoreFault::Name(1)),
-        (b".", StoreFault::Device(1)),
+        (b".", StoreFault::Device(1, ErrorKind::NotADirectory)),
     ];
     for (second, fault) in list {
         let (found, first_alone) = second_fails(&rt, second)?;
@@ -322,7 +334,7 @@ fn a_missing_directory_is_written_to_by_an_empty_list_alone(rt: HostRuntime) -> 
     let found = store_fault(&rt, &missing, &[(b"a", "1\n")])?;
     let nothing = store_fault(&rt, &missing, &[])?;
     remove(&rt, &dir)?;
-    assert_eq!(rt; found, Some(StoreFault::Device(0)));
+    assert_eq!(rt; found, Some(StoreFault::Device(0, ErrorKind::NotFound)));
     assert_eq!(rt; nothing, None);
     Ok(())
 }

@@ -3,7 +3,7 @@
 ghost use Rattle.std.specs.Prelude.{◌≡◌, false};
 
 use super::ends::{Drops, fault_in};
-use crate::{BundleFault, ByteIn, Kind, Plain, TreeFault, read_bundle};
+use crate::{BundleFault, ByteIn, Kind, Plain, TreeFault, read_bundle, read_bundle_by_line};
 use redo_path::{Path, PathFault, resolve};
 use std::alloc::Global;
 use std::test::Fail;
@@ -221,6 +221,24 @@ fn a_header_has_at_most_1100_bytes(rt: HostRuntime) -> Result<(), Fail> {
     ] {
         let text = header(alloc, size, back.as_bytes())?;
         assert!(rt; always(alloc, &text, fault)?, "{size} bytes");
+    }
+    Ok(())
+}
+
+#[test]
+fn a_refused_entry_leaves_its_line(rt: HostRuntime) -> Result<(), Fail> {
+    let alloc = rt.alloc();
+    for (text, line) in [
+        ("dir a\ndir a\nend\n", "dir a"),
+        ("dir a\nfile 0 ../b\n\nend\n", "file 0 ../b"),
+        ("dir a\nfile 2 a/b\nx", "file 2 a/b"),
+        ("dir a\nfile 2", "file 2"),
+        ("dir a\nend\nx", "end"),
+    ] {
+        let mut reader = Plain::new(text.as_bytes());
+        let mut last = Vec::new(alloc);
+        assert!(rt; read_bundle_by_line(alloc, &mut reader, &mut last).is_err());
+        assert_eq!(rt; last.as_slice(), line.as_bytes(), "{text}");
     }
     Ok(())
 }
