@@ -66,7 +66,7 @@ abbrev Ended : List Open → Script → List Token → Script → Type 0
 Ended os s ts script = EndsAll os s ts script ⊎ Separated (λ next. Rest os s next script) ts
 
 -- What is left of a command of which these items, this redirection, or > alone, were read
-abbrev Takes : Bool → Option Bool → Option Redirection → List Item → List Token → List Item → Option Redirection → List Token → Type 0
+abbrev pub Takes : Bool → Option Bool → Option Redirection → List Item → List Token → List Item → Option Redirection → List Token → Type 0
 Takes true a red its ts items r rest = ⊥
 Takes false (Some a) red its ts items r rest = (k : ℕ) × (p : Bool) × (w : Word) × (ts ≡ word k p w ∷ rest) × AtSeparator rest × (items ≡ its) × (r ≡ Some (record { appends = a; word = w }))
 Takes false None (Some red) its ts items r rest = AtSeparator ts × (ts ≡ rest) × (items ≡ its) × (r ≡ Some red)
@@ -118,23 +118,23 @@ After (in_condition b) os s ts script = InCondition b os s ts script
 After (before_then l c) os s ts script = BeforeThen l c os s ts script
 After (behind_fi l) os s ts script = Ended os s ts script
 
-abbrev parser : Phase → List Open → Script → Parser
+abbrev pub parser : Phase → List Open → Script → Parser
 parser phase os s = record { phase = phase; opens = os; so_far = s }
 
 abbrev Found : List Token → Type 0
 Found ts = (phase : Phase) (os : List Open) (s script : Script) → parse_on (parser phase os s) ts ≡ Ok script → After phase os s ts script
 
 -- tools
-shape_ok : {A : Type 0} (l : ℕ) (b : Bool) (o : Option A) (x : A) → or_shape l b o ≡ Ok x → (b ≡ false) × (o ≡ Some x)
+pub shape_ok : {A : Type 0} (l : ℕ) (b : Bool) (o : Option A) (x : A) → or_shape l b o ≡ Ok x → (b ≡ false) × (o ≡ Some x)
 shape_ok l true o x h = never h
 shape_ok l false None x h = never h
 shape_ok l false (Some y) x h = (refl, ap (λ z. Some z) (injected h))
 
-skips_both : {ts mid rest : List Token} → SkipsNewlines ts mid → SkipsNewlines mid rest → SkipsNewlines ts rest
+pub skips_both : {ts mid rest : List Token} → SkipsNewlines ts mid → SkipsNewlines mid rest → SkipsNewlines ts rest
 skips_both here k = k
 skips_both (past g) k = past (skips_both g k)
 
-separates_on : {ts mid rest : List Token} → Separates ts mid → SkipsNewlines mid rest → Separates ts rest
+pub separates_on : {ts mid rest : List Token} → Separates ts mid → SkipsNewlines mid rest → Separates ts rest
 separates_on (by_semicolon g) k = by_semicolon (skips_both g k)
 separates_on (by_newline g) k = by_newline (skips_both g k)
 
@@ -202,47 +202,47 @@ if_closes os s l k v w p t1 script e lt g =
     ]
 
 -- what a word in a command's place does
-if_opens : (l : ℕ) (w : Word) (ts : List Token) (os : List Open) (s : Script) → spells w (codes "if") ≡ true → nat_lt (length_of os) 16 ≡ true → parse_on (in_place os s) (word l true w ∷ ts) ≡ parse_on (parser (behind_if l) os s) ts
+pub if_opens : (l : ℕ) (w : Word) (ts : List Token) (os : List Open) (s : Script) → spells w (codes "if") ≡ true → nat_lt (length_of os) 16 ≡ true → parse_on (in_place os s) (word l true w ∷ ts) ≡ parse_on (parser (behind_if l) os s) ts
 unfolding parse_on
 if_opens l w ts os s e lt = rw (e, lt) refl
 
-if_too_deep : (l : ℕ) (w : Word) (ts : List Token) (os : List Open) (s : Script) → spells w (codes "if") ≡ true → nat_lt (length_of os) 16 ≡ false → parse_on (in_place os s) (word l true w ∷ ts) ≡ fault_at l reasons.TooDeep
+pub if_too_deep : (l : ℕ) (w : Word) (ts : List Token) (os : List Open) (s : Script) → spells w (codes "if") ≡ true → nat_lt (length_of os) 16 ≡ false → parse_on (in_place os s) (word l true w ∷ ts) ≡ fault_at l reasons.TooDeep
 unfolding parse_on
 if_too_deep l w ts os s e lt = rw (e, lt) refl
 
-then_out : (l : ℕ) (w : Word) (ts : List Token) (os : List Open) (s : Script) → spells w (codes "then") ≡ true → parse_on (in_place os s) (word l true w ∷ ts) ≡ fault_at l reasons.IfShape
+pub then_out : (l : ℕ) (w : Word) (ts : List Token) (os : List Open) (s : Script) → spells w (codes "then") ≡ true → parse_on (in_place os s) (word l true w ∷ ts) ≡ fault_at l reasons.IfShape
 unfolding parse_on
 then_out l w ts os s e = rw (spells_is w (codes "then") e) refl
 
-else_alone : (l : ℕ) (w : Word) (ts : List Token) (s : Script) → spells w (codes "else") ≡ true → parse_on (in_place [] s) (word l true w ∷ ts) ≡ fault_at l reasons.IfShape
+pub else_alone : (l : ℕ) (w : Word) (ts : List Token) (s : Script) → spells w (codes "else") ≡ true → parse_on (in_place [] s) (word l true w ∷ ts) ≡ fault_at l reasons.IfShape
 unfolding parse_on
 else_alone l w ts s e = rw (spells_is w (codes "else") e) refl
 
-else_twice : (l : ℕ) (w : Word) (ts : List Token) (k : ℕ) (c : Condition) (f before : Script) (os : List Open) (s : Script) → spells w (codes "else") ≡ true → parse_on (in_place (opened k c (Some f) before ∷ os) s) (word l true w ∷ ts) ≡ fault_at l reasons.IfShape
+pub else_twice : (l : ℕ) (w : Word) (ts : List Token) (k : ℕ) (c : Condition) (f before : Script) (os : List Open) (s : Script) → spells w (codes "else") ≡ true → parse_on (in_place (opened k c (Some f) before ∷ os) s) (word l true w ∷ ts) ≡ fault_at l reasons.IfShape
 unfolding parse_on
 else_twice l w ts k c f before os s e = rw (spells_is w (codes "else") e) refl
 
-else_early : (l : ℕ) (w : Word) (ts : List Token) (k : ℕ) (c : Condition) (before : Script) (os : List Open) (s : Script) → spells w (codes "else") ≡ true → is_empty s ≡ true → parse_on (in_place (opened k c None before ∷ os) s) (word l true w ∷ ts) ≡ fault_at l reasons.IfShape
+pub else_early : (l : ℕ) (w : Word) (ts : List Token) (k : ℕ) (c : Condition) (before : Script) (os : List Open) (s : Script) → spells w (codes "else") ≡ true → is_empty s ≡ true → parse_on (in_place (opened k c None before ∷ os) s) (word l true w ∷ ts) ≡ fault_at l reasons.IfShape
 unfolding parse_on
 else_early l w ts k c before os s e none = rw (spells_is w (codes "else") e, none) refl
 
-fi_alone : (l : ℕ) (w : Word) (ts : List Token) (s : Script) → spells w (codes "fi") ≡ true → parse_on (in_place [] s) (word l true w ∷ ts) ≡ fault_at l reasons.IfShape
+pub fi_alone : (l : ℕ) (w : Word) (ts : List Token) (s : Script) → spells w (codes "fi") ≡ true → parse_on (in_place [] s) (word l true w ∷ ts) ≡ fault_at l reasons.IfShape
 unfolding parse_on
 fi_alone l w ts s e = rw (spells_is w (codes "fi") e) refl
 
-fi_early : (l : ℕ) (w : Word) (ts : List Token) (o : Open) (os : List Open) (s : Script) → spells w (codes "fi") ≡ true → is_empty s ≡ true → parse_on (in_place (o ∷ os) s) (word l true w ∷ ts) ≡ fault_at l reasons.IfShape
+pub fi_early : (l : ℕ) (w : Word) (ts : List Token) (o : Open) (os : List Open) (s : Script) → spells w (codes "fi") ≡ true → is_empty s ≡ true → parse_on (in_place (o ∷ os) s) (word l true w ∷ ts) ≡ fault_at l reasons.IfShape
 unfolding parse_on
 fi_early l w ts o os s e none = rw (spells_is w (codes "fi") e, none) refl
 
-fi_closes : (l : ℕ) (w : Word) (ts : List Token) (o : Open) (os : List Open) (s : Script) → spells w (codes "fi") ≡ true → is_empty s ≡ false → parse_on (in_place (o ∷ os) s) (word l true w ∷ ts) ≡ parse_on (behind l os (closed o s)) ts
+pub fi_closes : (l : ℕ) (w : Word) (ts : List Token) (o : Open) (os : List Open) (s : Script) → spells w (codes "fi") ≡ true → is_empty s ≡ false → parse_on (in_place (o ∷ os) s) (word l true w ∷ ts) ≡ parse_on (behind l os (closed o s)) ts
 unfolding parse_on
 fi_closes l w ts o os s e full = rw (spells_is w (codes "fi") e, full) refl
 
-name_outside : (l : ℕ) (w : Word) (ts : List Token) (os : List Open) (s : Script) → spells w (codes "if") ≡ false → spells w (codes "then") ≡ false → spells w (codes "else") ≡ false → spells w (codes "fi") ≡ false → is_one_of commands (item true w) ≡ false → is_one_of words_outside (item true w) ≡ true → parse_on (in_place os s) (word l true w ∷ ts) ≡ fault_at l reasons.Unsupported
+pub name_outside : (l : ℕ) (w : Word) (ts : List Token) (os : List Open) (s : Script) → spells w (codes "if") ≡ false → spells w (codes "then") ≡ false → spells w (codes "else") ≡ false → spells w (codes "fi") ≡ false → is_one_of commands (item true w) ≡ false → is_one_of words_outside (item true w) ≡ true → parse_on (in_place os s) (word l true w ∷ ts) ≡ fault_at l reasons.Unsupported
 unfolding parse_on
 name_outside l w ts os s e1 e2 e3 e4 e5 e6 = rw (e1, e2, e3, e4, e5, e6) refl
 
-name_unknown : (l : ℕ) (w : Word) (ts : List Token) (os : List Open) (s : Script) → spells w (codes "if") ≡ false → spells w (codes "then") ≡ false → spells w (codes "else") ≡ false → spells w (codes "fi") ≡ false → is_one_of commands (item true w) ≡ false → is_one_of words_outside (item true w) ≡ false → parse_on (in_place os s) (word l true w ∷ ts) ≡ fault_at l reasons.UnknownCommand
+pub name_unknown : (l : ℕ) (w : Word) (ts : List Token) (os : List Open) (s : Script) → spells w (codes "if") ≡ false → spells w (codes "then") ≡ false → spells w (codes "else") ≡ false → spells w (codes "fi") ≡ false → is_one_of commands (item true w) ≡ false → is_one_of words_outside (item true w) ≡ false → parse_on (in_place os s) (word l true w ∷ ts) ≡ fault_at l reasons.UnknownCommand
 unfolding parse_on
 name_unknown l w ts os s e1 e2 e3 e4 e5 e6 = rw (e1, e2, e3, e4, e5, e6) refl
 
@@ -323,19 +323,19 @@ word_in_place ts f l true w os s script h = elim (cases_Bool (spells w (codes "i
 ]
 
 -- commands that were begun
-abbrev TakesOf : Begun → List Token → List Item → Option Redirection → List Token → Type 0
+abbrev pub TakesOf : Begun → List Token → List Item → Option Redirection → List Token → Type 0
 TakesOf b ts items r rest = Takes b.is_ill b.awaits b.redirection b.items ts items r rest
 
 -- what b takes from ts' is what b' takes from ts
-record Continues (b b' : Begun) (ts ts' : List Token) : Type 0 where
-  line : b'.line ≡ b.line
-  name : b'.name ≡ b.name
-  takes : (items : List Item) (r : Option Redirection) (rest : List Token) → TakesOf b' ts items r rest → TakesOf b ts' items r rest
+pub record Continues (b b' : Begun) (ts ts' : List Token) : Type 0 where
+  pub line : b'.line ≡ b.line
+  pub name : b'.name ≡ b.name
+  pub takes : (items : List Item) (r : Option Redirection) (rest : List Token) → TakesOf b' ts items r rest → TakesOf b ts' items r rest
 
-abbrev state : ℕ → Item → List Item → Bool → Option Bool → Option Redirection → Begun
+abbrev pub state : ℕ → Item → List Item → Bool → Option Bool → Option Redirection → Begun
 state l n its ill aw red = record { line = l; name = n; items = its; redirection = red; is_ill = ill; awaits = aw }
 
-word_continues : (l : ℕ) (n : Item) (its : List Item) (ill : Bool) (aw : Option Bool) (red : Option Redirection) (k : ℕ) (p : Bool) (w : Word) (ts : List Token) → Continues (state l n its ill aw red) (with_word (state l n its ill aw red) (item p w)) ts (word k p w ∷ ts)
+pub word_continues : (l : ℕ) (n : Item) (its : List Item) (ill : Bool) (aw : Option Bool) (red : Option Redirection) (k : ℕ) (p : Bool) (w : Word) (ts : List Token) → Continues (state l n its ill aw red) (with_word (state l n its ill aw red) (item p w)) ts (word k p w ∷ ts)
 word_continues l n its true (Some a) red k p w ts = record { line = refl; name = refl; takes = λ items r rest x. absurd x }
 word_continues l n its true None (Some red) k p w ts = record { line = refl; name = refl; takes = λ items r rest x. absurd x }
 word_continues l n its true None None k p w ts = record { line = refl; name = refl; takes = λ items r rest x. absurd x }
@@ -343,7 +343,7 @@ word_continues l n its false (Some a) red k p w ts = record { line = refl; name 
 word_continues l n its false None (Some red) k p w ts = record { line = refl; name = refl; takes = λ items r rest x. absurd x }
 word_continues l n its false None None k p w ts = record { line = refl; name = refl; takes = λ items r rest x. (item p w ∷ x.0, one_item x.1, x.2 ∙ append_assoc its (item p w ∷ []) x.0) }
 
-redirect_continues : (l : ℕ) (n : Item) (its : List Item) (ill : Bool) (aw : Option Bool) (red : Option Redirection) (k : ℕ) (a : Bool) (ts : List Token) → Continues (state l n its ill aw red) (with_redirect (state l n its ill aw red) a) ts (redirect k a ∷ ts)
+pub redirect_continues : (l : ℕ) (n : Item) (its : List Item) (ill : Bool) (aw : Option Bool) (red : Option Redirection) (k : ℕ) (a : Bool) (ts : List Token) → Continues (state l n its ill aw red) (with_redirect (state l n its ill aw red) a) ts (redirect k a ∷ ts)
 redirect_continues l n its ill (Some b) red k a ts = record { line = refl; name = refl; takes = λ items r rest x. absurd x }
 redirect_continues l n its ill None (Some red) k a ts = record { line = refl; name = refl; takes = λ items r rest x. absurd x }
 redirect_continues l n its true None None k a ts = record { line = refl; name = refl; takes = λ items r rest x. absurd x }
@@ -373,7 +373,7 @@ condition_goes b b' os s ts ts' script k g = record {
   goes = subst (λ (x : ℕ). AtThen x g.c os s g.next script) k.line g.goes;
 }
 
-takes_end : (ill : Bool) (aw : Option Bool) (red : Option Redirection) (its : List Item) (ts : List Token) → AtSeparator ts → (ill || elim aw [ Some a ↦ true | None ↦ false ]) ≡ false → Takes ill aw red its ts its red ts
+pub takes_end : (ill : Bool) (aw : Option Bool) (red : Option Redirection) (its : List Item) (ts : List Token) → AtSeparator ts → (ill || elim aw [ Some a ↦ true | None ↦ false ]) ≡ false → Takes ill aw red its ts its red ts
 takes_end true aw red its ts a e = absurd (both_ways true e refl)
 takes_end false (Some x) red its ts a e = absurd (both_ways true e refl)
 takes_end false None (Some red) its ts a e = (a, refl, refl, refl)

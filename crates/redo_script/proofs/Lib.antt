@@ -22,3 +22,4 @@ mod Runs
 mod Nuls
 mod QuotedRuns
 mod Handed
+mod Refused

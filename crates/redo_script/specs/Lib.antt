@@ -12,3 +12,4 @@ pub mod Parser
 pub mod Places
 pub mod Runs
 pub mod Passes
+pub mod Refusals

@@ -9,6 +9,7 @@ ghost use Rattle.redo_script.specs.Reading.{tokens_of};
 ghost use Rattle.redo_script.specs.Syntax.{Script};
 ghost use Rattle.redo_script.specs.Grammar.{IsProgram};
 ghost use Rattle.redo_script.specs.Parsing.{statements_of};
+ghost use Rattle.redo_script.specs.Refusals.{FaultStands};
 ghost use Rattle.redo_script.specs.Texts.{IsScript, script_in};
 
 /// Bytes that have tokens by the grammar are read as these.
@@ -55,4 +56,9 @@ pub fn tokens_stop_at_their_fault()
 /// What is wrong with a text is never want of memory, which [`parse`](crate::parse) answers of itself.
 pub fn no_text_wants_memory()
     ensures { (text : List ℕ) (fault : ScriptFault) → script_in text ≡ Err fault → fault.why ≢ reasons.Memory }
+{}
+
+/// A fault of the commands stands at a place of the grammar, and is what the table has for it.
+pub fn commands_stop_at_their_fault()
+    ensures { (ts : List Token) (fault : ScriptFault) → statements_of ts ≡ Err fault → FaultStands ts fault }
 {}
