@@ -199,11 +199,11 @@ pub fn store_files<R: Files>(
     alloc: Global,
     dir: &str,
     files: &[(Path, Content)],
-) -> Result<Stored, StoreFault>
-    ensures text { HasTexts result (map (λ file. file.0) files.now) }
-    ensures files { IfOk result (λ stored. stored ≡ places_in dir.now files.now) }
+) -> (Stored, Result<(), StoreFault>)
+    ensures text { HasTexts result.1 (map (λ file. file.0) files.now) }
+    ensures files { result.0 ≡ places_in dir.now (take (stored_count result.1 files.now) files.now) }
 {
     let mut stored = Stored::new(alloc);
-    stored.write_each(rt, alloc, dir, files)?;
-    Ok(stored)
+    let outcome = stored.write_each(rt, alloc, dir, files);
+    (stored, outcome)
 }

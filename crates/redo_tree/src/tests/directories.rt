@@ -182,7 +182,7 @@ fn store_fault(
     files: &[(&[u8], &str)],
 ) -> Result<Option<StoreFault>, Fail> {
     let list = list_of(rt.alloc(), files)?;
-    Ok(store_files(rt, rt.alloc(), dir.as_str(), &list).err())
+    Ok(store_files(rt, rt.alloc(), dir.as_str(), &list).1.err())
 }
 
 // ---- reading
