@@ -1,0 +1,101 @@
+"""What the scripts beside this file share: the program under test, bundles, and what a run came to."""
+
+import os
+import subprocess
+import sys
+import tempfile
+from collections import namedtuple
+
+# What a run came to: its exit status, and what it wrote on standard output and on standard error.
+Run = namedtuple("Run", "status out said")
+
+
+def find():
+    """The program's path: what REDO names, or that of this repository, which is built first where it is old."""
+    named = os.environ.get("REDO")
+    if named:
+        return os.path.abspath(named)
+    top = os.path.dirname(os.path.dirname(os.path.abspath(__file__)))
+    subprocess.run([top + "/bin/redo", "--help"], stdout=subprocess.DEVNULL, check=True)
+    return top + "/crates/redo/out/redo"
+
+
+REDO = find()
+
+
+def run(words, text=b"", **more):
+    """Runs the program on the words of a command line, with a text on its standard input."""
+    if "stdin" not in more:
+        more["input"] = text
+    more = {"stdout": subprocess.PIPE, "stderr": subprocess.PIPE, "timeout": 60, **more}
+    done = subprocess.run([REDO, *words], check=False, **more)
+    return Run(done.returncode, done.stdout, done.stderr)
+
+
+def as_bytes(content):
+    return content if isinstance(content, bytes) else content.encode()
+
+
+def bundle(tree):
+    """The bundle of a tree: each path, in order, with its content, or with None for a directory."""
+    text = bytearray()
+    for path, content in tree.items():
+        if content is None:
+            text += b"dir %s\n" % path.encode()
+        else:
+            content = as_bytes(content)
+            text += b"file %d %s\n%s\n" % (len(content), path.encode(), content)
+    return bytes(text + b"end\n")
+
+
+def put(place, tree):
+    """Makes the files and directories of a tree, as `bundle` takes it, in a directory."""
+    for path, content in tree.items():
+        if content is None:
+            os.mkdir(f"{place}/{path}")
+        else:
+            with open(f"{place}/{path}", "wb") as file:
+                file.write(as_bytes(content))
+
+
+def room():
+    """A new directory, for `with`: it is removed at the end."""
+    return tempfile.TemporaryDirectory()
+
+
+def shown(value):
+    """A value for a message, cut where it is long."""
+    text = repr(value)
+    return text if len(text) <= 3000 else text[:3000] + ".."
+
+
+class Tests:
+    """Says what isn't as expected, and remembers that something wasn't."""
+
+    def __init__(self):
+        self.good = True
+
+    def fail(self, name, message):
+        self.good = False
+        print(f"{name}: {message}")
+
+    def equal(self, name, what, found, expected):
+        """Says so where something that a run came to isn't what was expected."""
+        if found != expected:
+            self.fail(name, f"{what} is\n  {shown(found)}\nexpected\n  {shown(expected)}")
+
+    def run(self, name, words, text, status, out, said=b"", **more):
+        """Runs the program, and compares all that it answered, where something is expected of it."""
+        found = run(words, text, **more)
+        self.equal(name, "the exit status", found.status, status)
+        self.equal(name, "standard output", found.out, out)
+        self.equal(name, "standard error", found.said, said)
+
+    def build(self, name, text, targets, status, report):
+        """Builds targets over a bundle with 1 and with 8 workers, which is to come to the same."""
+        for jobs in "1", "8":
+            self.run(f"{name}, -j {jobs}", ["-j", jobs, "-k", "--bundle", *targets], text, status, as_bytes(report))
+
+    def finish(self):
+        """Ends the script, with status 0 where all was as expected."""
+        sys.exit(0 if self.good else 1)
