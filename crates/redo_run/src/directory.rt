@@ -11,7 +11,9 @@ use crate::workers::build_many;
 use crate::{Cause, Exit, Gate, Options, RunDirFault};
 use redo_core::report_text::write_report;
 use redo_path::Path;
-use redo_tree::{ByteOut, Content, LoadFault, StoreFault, Stored, Tree, load_dir, store_files, write_all};
+use redo_tree::{
+    ByteOut, Content, LoadFault, StoreFault, Stored, Tree, load_dir, store_files, write_all,
+};
 use redo_which::lookup::search;
 use std::alloc::Global;
 use std::rt::Files;

@@ -73,7 +73,15 @@ fn run_through<R: Threads + Wait + Sync, G: Gate>(
 ) -> Result<(Outcome, Vec<u8>), Fail> {
     let mut reader = Plain::new(bundle);
     let mut writer = Plain::new(Vec::new(alloc));
-    let outcome = run_bundle(rt, alloc, &mut reader, &mut writer, options, gate, &mut Cause::new(alloc));
+    let outcome = run_bundle(
+        rt,
+        alloc,
+        &mut reader,
+        &mut writer,
+        options,
+        gate,
+        &mut Cause::new(alloc),
+    );
     let Plain { stream, broken: _ } = writer;
     Ok((outcome, stream))
 }

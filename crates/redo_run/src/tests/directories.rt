@@ -68,7 +68,15 @@ fn gives<R: Threads + Wait + Sync + Files>(
     let options = options(alloc, &[b"hello"], 2, 9, 9)?;
     let mut writer = Plain::new(Vec::new(alloc));
     let mut cause = Cause::new(alloc);
-    let found = run_dir(rt, alloc, dir.as_str(), &mut writer, &options, &NoGate, &mut cause);
+    let found = run_dir(
+        rt,
+        alloc,
+        dir.as_str(),
+        &mut writer,
+        &options,
+        &NoGate,
+        &mut cause,
+    );
     let Plain { stream, broken: _ } = writer;
     Ok(found.map(|run| (run.exit, run.passed)) == outcome && stream.as_slice() == report)
 }
@@ -78,7 +86,14 @@ fn lists(rt: &HostRuntime, dir: &PathBuf, answer: Listed, list: &[u8]) -> Result
     let target = resolve(rt.alloc(), &Path::root(), b"hello")?;
     let mut writer = Plain::new(Vec::new(rt.alloc()));
     let mut cause = Cause::new(rt.alloc());
-    let found = whichdo_dir(rt, rt.alloc(), dir.as_str(), &mut writer, &target, &mut cause);
+    let found = whichdo_dir(
+        rt,
+        rt.alloc(),
+        dir.as_str(),
+        &mut writer,
+        &target,
+        &mut cause,
+    );
     let Plain { stream, broken: _ } = writer;
     Ok(found == answer && stream.as_slice() == list)
 }

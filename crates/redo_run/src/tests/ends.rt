@@ -110,7 +110,15 @@ fn a_reader_may_fail_at_any_call(rt: HostRuntime) -> Result<(), Fail> {
     for call in 0..=HELLO.len() + 1 {
         let mut reader = make_drops(call);
         let mut writer = Plain::new(Vec::new(alloc));
-        let outcome = run_bundle(&rt, alloc, &mut reader, &mut writer, &options, &NoGate, &mut Cause::new(alloc));
+        let outcome = run_bundle(
+            &rt,
+            alloc,
+            &mut reader,
+            &mut writer,
+            &options,
+            &NoGate,
+            &mut Cause::new(alloc),
+        );
         let Plain { stream, broken: _ } = writer;
         if call <= HELLO.len() {
             assert_eq!(rt; outcome, Err(RunIoFault::Bundle(BundleFault::Read)));
@@ -131,7 +139,15 @@ fn a_writer_may_fail_at_any_call(rt: HostRuntime) -> Result<(), Fail> {
         for takes_nothing in [false, true] {
             let mut reader = make_drops(usize::MAX);
             let mut writer = make_sink(alloc, call, takes_nothing);
-            let outcome = run_bundle(&rt, alloc, &mut reader, &mut writer, &options, &NoGate, &mut Cause::new(alloc));
+            let outcome = run_bundle(
+                &rt,
+                alloc,
+                &mut reader,
+                &mut writer,
+                &options,
+                &NoGate,
+                &mut Cause::new(alloc),
+            );
             let want = if call < HELLO_REPORT.len() {
                 Err(RunIoFault::Device)
             } else {
@@ -152,7 +168,15 @@ fn a_refusal_of_memory_leaves_nothing(rt: HostRuntime) -> Result<(), Fail> {
     let mut room = [0u8; 100];
     let mut reader = make_drops(usize::MAX);
     let mut writer = Plain::new(room.as_mut_slice());
-    let outcome = run_bundle(&rt, alloc, &mut reader, &mut writer, &options, &NoGate, &mut Cause::new(alloc));
+    let outcome = run_bundle(
+        &rt,
+        alloc,
+        &mut reader,
+        &mut writer,
+        &options,
+        &NoGate,
+        &mut Cause::new(alloc),
+    );
     if outcome == Err(RunIoFault::Memory) {
         assert_eq!(rt; writer.stream.len(), 100);
     } else {

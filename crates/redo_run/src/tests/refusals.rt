@@ -45,7 +45,13 @@ fn lists_candidates(rt: HostRuntime) -> Result<(), Fail> {
         let target = resolve(alloc, &Path::root(), word)?;
         let mut reader = Plain::new(bundle);
         let mut writer = Plain::new(Vec::new(alloc));
-        let outcome = whichdo_bundle(alloc, &mut reader, &mut writer, &target, &mut Cause::new(alloc));
+        let outcome = whichdo_bundle(
+            alloc,
+            &mut reader,
+            &mut writer,
+            &target,
+            &mut Cause::new(alloc),
+        );
         let Plain { stream, broken: _ } = writer;
         assert_eq!(rt; outcome, Ok(found));
         assert_eq!(rt; stream.as_slice(), list);

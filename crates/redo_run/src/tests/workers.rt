@@ -274,7 +274,11 @@ fn each_job_enters_once_and_no_more_are_inside_than_workers(rt: HostRuntime) -> 
         let answer = built_by(&rt, alloc, tree, &[b"top"], 100, workers, &crowd)?;
         assert!(rt; answer.is_ok(), "{workers} workers");
         assert_eq!(rt; crowd.entered.load(Ordering::SeqCst), 7);
-        assert_eq!(rt; crowd.too_many.load(Ordering::SeqCst), 0, "{workers} workers");
+        assert_eq!(rt;
+            crowd.too_many.load(Ordering::SeqCst),
+            0,
+            "{workers} workers"
+        );
     }
     Ok(())
 }

@@ -1,6 +1,7 @@
 use Rattle.std.proofs.Common.{ℕ, List, refl, sym, ap, subst, ◌∙◌}
 use Rattle.redo_core.specs.Build.{rules_of}
 use Rattle.redo_core.specs.Reports.{IsReport}
+use Rattle.redo_tree.specs.Directory.{places_in}
 use Rattle.redo_run.specs.Exits.{IsExit}
 use Rattle.redo_run.specs.Runs.{request_of}
 use Rattle.redo_run.proofs.Told.{reports_tree}
@@ -17,4 +18,4 @@ returns-clause-report g c =
     reports_tree c.args.options.now c.in_ok-tree.tree c.in_ok-request.request.items
     (c.in_ok-request.ensures ∙ ap request_of c.deref.ensures.value) _ _ _ c.in_ok-report.report _
     record { exit = c.in_ok-exit.exit; passed = c.in_ok-tree.passed; stored = c.in_ok-stored.stored }
-    c.in_ok-tree.ensures is (c.in_ok-stored.ensures ∙ ap _ c.deref-4.ensures.value) refl c.in_ok-write_report.ensures.writes exit
+    c.in_ok-tree.ensures is (c.in_ok-stored.ensures ∙ ap (places_in c.args.dir.now) c.deref-4.ensures.value) refl c.in_ok-write_report.ensures.writes exit
