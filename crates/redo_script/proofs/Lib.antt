@@ -23,3 +23,4 @@ mod Nuls
 mod QuotedRuns
 mod Handed
 mod Refused
+mod RefusedTexts
