@@ -24,3 +24,4 @@ mod QuotedRuns
 mod Handed
 mod Refused
 mod RefusedTexts
+mod Refusing

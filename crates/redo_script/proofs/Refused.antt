@@ -213,7 +213,7 @@ record EndsTest (b : Begun) (ts rest : List Token) (name : Item) (c : Condition)
   is : IsItems ts items None rest
   form : condition_form name items ≡ Some c
 
-no_redirection_is : (r : Option Redirection) (o : Option Condition) (c : Condition) → no_redirection r o ≡ Some c → (r ≡ None) × (o ≡ Some c)
+pub no_redirection_is : (r : Option Redirection) (o : Option Condition) (c : Condition) → no_redirection r o ≡ Some c → (r ≡ None) × (o ≡ Some c)
 no_redirection_is None o c h = (refl, h)
 no_redirection_is (Some r) o c h = none_some h
 
@@ -228,11 +228,11 @@ ends_test {b} {ts} {rest} {name} c g a h =
     }
 
 -- the command ends ill
-abbrev IsShape : {A : Type 0} → ℕ → Result A ScriptFault → Type 0
+abbrev pub IsShape : {A : Type 0} → ℕ → Result A ScriptFault → Type 0
 IsShape line (Ok x) = Unit {0}
 IsShape line (Err f) = f ≡ in_line line reasons.Shape
 
-shape_is : {A : Type 0} (line : ℕ) (ill : Bool) (o : Option A) → IsShape line (or_shape line ill o)
+pub shape_is : {A : Type 0} (line : ℕ) (ill : Bool) (o : Option A) → IsShape line (or_shape line ill o)
 shape_is line true o = refl
 shape_is line false None = refl
 shape_is line false (Some x) = tt
@@ -260,15 +260,15 @@ test_ill {b} {ts} {rest} {name} {line} f g a h =
 
 -- Where reading stands
 
-abbrev second_of : Option Script → Bool
+abbrev pub second_of : Option Script → Bool
 second_of None = false
 second_of (Some s) = true
 
-abbrev ifs : List Open → List OpenIf
+abbrev pub ifs : List Open → List OpenIf
 ifs [] = []
 ifs (o ∷ os) = record { line = o.line; has_else = second_of o.first } ∷ ifs os
 
-same_depth : (os : List Open) → length (ifs os) ≡ length_of os
+pub same_depth : (os : List Open) → length (ifs os) ≡ length_of os
 same_depth [] = refl
 same_depth (o ∷ os) = ap (λ n. suc n) (same_depth os)
 

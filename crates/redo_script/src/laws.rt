@@ -62,3 +62,8 @@ pub fn no_text_wants_memory()
 pub fn commands_stop_at_their_fault()
     ensures { (ts : List Token) (fault : ScriptFault) → statements_of ts ≡ Err fault → FaultStands ts fault }
 {}
+
+/// Tokens that have a fault by the table are refused with it, and so they have at most one.
+pub fn faults_of_the_table_are_answered()
+    ensures { (ts : List Token) (fault : ScriptFault) → FaultStands ts fault → statements_of ts ≡ Err fault }
+{}
