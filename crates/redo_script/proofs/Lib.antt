@@ -22,6 +22,7 @@ mod Runs
 mod Nuls
 mod QuotedRuns
 mod Handed
+mod BegunCommands
 mod Refused
 mod RefusedTexts
 mod Refusing

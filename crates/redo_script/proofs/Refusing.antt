@@ -14,7 +14,8 @@ use Rattle.redo_script.proofs.Names.{item, condition_named, not_named}
 use Rattle.redo_script.proofs.OneToken.{parts, in_place, within, within_condition, awaiting_then, behind, opened, condition_items_read, newlines_read, condition_ends, then_read, else_read, command_begins, if_begins}
 use Rattle.redo_script.proofs.OnlyScripts.{command_read, block_read}
 use Rattle.redo_script.proofs.FoundScripts.{if_opens, if_too_deep, then_out, else_alone, else_twice, else_early, fi_alone, fi_early, fi_closes, name_outside, name_unknown, TakesOf, word_continues, redirect_continues, shape_ok, takes_end, parser}
-use Rattle.redo_script.proofs.Refused.{second_of, ifs, same_depth, shape_is, no_redirection_is}
+use Rattle.redo_script.proofs.Refused.{second_of, ifs, same_depth}
+use Rattle.redo_script.proofs.BegunCommands.{shape_is, no_redirection_is}
 
 -- Reading up to a place of the grammar
 
