@@ -26,3 +26,4 @@ mod BegunCommands
 mod Refused
 mod RefusedTexts
 mod Refusing
+mod OneFault

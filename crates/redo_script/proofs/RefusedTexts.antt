@@ -35,7 +35,7 @@ nul_stands (b ∷ bs) line = elim (cases_Bool (b == 0)) [
   ]
 ]
 
-nul_passes : (text : List ℕ) (line : ℕ) → has_no_nul text ≡ true → nul_from line text ≡ Ok []
+pub nul_passes : (text : List ℕ) (line : ℕ) → has_no_nul text ≡ true → nul_from line text ≡ Ok []
 nul_passes [] line h = refl
 nul_passes (b ∷ bs) line h = elim (cases_Bool (b == 0)) [
   | inl e ↦ absurd (cc (rw e at h))
