@@ -22,4 +22,8 @@ mod Runs
 mod Nuls
 mod QuotedRuns
 mod Handed
+mod BegunCommands
 mod Refused
+mod RefusedTexts
+mod Refusing
+mod OneFault

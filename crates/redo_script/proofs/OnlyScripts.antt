@@ -23,15 +23,15 @@ stays_full (simple l c rest) t e = refl
 stays_full (choice l c a b rest) t e = refl
 
 -- a command is read as one statement
-record ReadsOne (depth : ℕ) (ts rest : List Token) (after whole : Script) : Type 0 where
-  one : Script
-  makes : with_last one after ≡ whole
-  full : is_empty one ≡ false
-  reads : (os : List Open) (s : Script) → length_of os ≡ depth → AtSeparator rest → parse_on (in_place os s) ts ≡ parse_on (behind 0 os (with_last s one)) rest
+pub record ReadsOne (depth : ℕ) (ts rest : List Token) (after whole : Script) : Type 0 where
+  pub one : Script
+  pub makes : with_last one after ≡ whole
+  pub full : is_empty one ≡ false
+  pub reads : (os : List Open) (s : Script) → length_of os ≡ depth → AtSeparator rest → parse_on (in_place os s) ts ≡ parse_on (behind 0 os (with_last s one)) rest
 
-record ReadsList (depth : ℕ) (ts : List Token) (script : Script) (rest : List Token) : Type 0 where
-  full : is_empty script ≡ false
-  reads : (os : List Open) (s : Script) → length_of os ≡ depth → parse_on (in_place os s) ts ≡ parse_on (in_place os (with_last s script)) rest
+pub record ReadsList (depth : ℕ) (ts : List Token) (script : Script) (rest : List Token) : Type 0 where
+  pub full : is_empty script ≡ false
+  pub reads : (os : List Open) (s : Script) → length_of os ≡ depth → parse_on (in_place os s) ts ≡ parse_on (in_place os (with_last s script)) rest
 
 one_deeper : (o : Open) (os : List Open) (depth : ℕ) → length_of os ≡ depth → length_of (o ∷ os) ≡ suc depth
 one_deeper o os depth e = ap (λ n. suc n) e
@@ -51,7 +51,7 @@ list_more {depth} {ts} {mid} {next} {rest} {whole} {script} c g k = record {
 }
 
 mutual
-  command_read : {depth : ℕ} {ts rest : List Token} {after whole : Script} → IsCommand depth ts rest after whole → ReadsOne depth ts rest after whole
+  pub command_read : {depth : ℕ} {ts rest : List Token} {after whole : Script} → IsCommand depth ts rest after whole → ReadsOne depth ts rest after whole
   command_read (a_command {depth} {l} {p} {w} {ts} {rest} {items} {r} {c} {after} g e) = record {
     one = simple l c finish;
     makes = refl;
@@ -90,7 +90,7 @@ mutual
             ∙ fi_read is_fi (opened l c (Some first) s) os second b'.full a))))));
       }
 
-  block_read : {depth : ℕ} {ts rest : List Token} {script : Script} → IsBlock depth ts script rest → ReadsList depth ts script rest
+  pub block_read : {depth : ℕ} {ts rest : List Token} {script : Script} → IsBlock depth ts script rest → ReadsList depth ts script rest
   block_read (after_newlines {depth} {ts} {rest} {more} {script} g k) =
       let b : ReadsList depth rest script more = list_read k in
       record { full = b.full; reads = λ os s e. newlines_read g os s ∙ b.reads os s e }

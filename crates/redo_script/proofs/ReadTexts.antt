@@ -1,12 +1,13 @@
 -- The passes over a text, one after the other.
 use Rattle.std.proofs.Common.{◌≡◌, ℕ, true, false, List, [], Result, Ok, Err, refl, inl, inr}
-use Rattle.std.specs.Prelude.{IfOk}
+use Rattle.std.specs.Prelude.{IfOk, IfErr}
 use Rattle.redo_script.specs.declared.fault.ScriptFault.{ScriptFault}
 use Rattle.redo_script.specs.declared.fault.Reason.TheVariants as reasons
-use Rattle.redo_script.specs.Faults.{◌>>=◌, Fails, Gives, fault_at}
+use Rattle.redo_script.specs.Faults.{◌>>=◌, Fails, Gives, fault_at, no_memory}
 use Rattle.redo_script.specs.Syntax.{Script}
 use Rattle.redo_script.specs.Passes.{script_by_tokens}
 use Rattle.redo_script.specs.Texts.{IsScript, nul_from, interpreter_is_fit, script_in}
+use Rattle.redo_script.proofs.Blames.{of_texts}
 use Rattle.redo_script.proofs.WholeScripts.{only_scripts, found_scripts}
 
 fails_on : {A C : Type 0} (m : Result A ScriptFault) (f : A → Result C ScriptFault) (fault : ScriptFault) → Fails fault m → Fails fault (m >>= f)
@@ -33,3 +34,9 @@ given_found view text (Err e) h = tt
 -- what is in the grammar is what reading gives
 pub given_only : {X : Type 0} (view : X → Script) (text : List ℕ) (r : Result X ScriptFault) → Gives view r (script_in text) → (s : Script) → IsScript text s → Gives view r (Ok s)
 given_only view text r h s g = rw (only_scripts text s g) at h
+
+-- want of memory is none that a text has
+pub given_memory : {X : Type 0} (view : X → Script) (text : List ℕ) (r : Result X ScriptFault) → Gives view r (script_in text) → IfErr r (λ fault. fault.why ≡ reasons.Memory → fault ≡ no_memory)
+given_memory view text (Ok x) h = tt
+given_memory view text (Err e) (inl m) = λ w. m
+given_memory view text (Err e) (inr h) = λ w. absurd (of_texts text e h w)

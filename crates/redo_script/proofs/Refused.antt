@@ -1,21 +1,21 @@
 -- Tokens that are no program have the fault of the table.
-use Rattle.std.proofs.Common.{◌≡◌, ℕ, suc, ◌<◌, ◌≤◌, Bool, true, false, ◌||◌, List, [], ◌∷◌, ◌++◌, length, Option, Some, None, Result, Ok, Err, refl, sym, ap, ◌∙◌, subst, append_assoc, inl, inr}
+use Rattle.std.proofs.Common.{◌≡◌, ℕ, suc, ◌<◌, ◌≤◌, Bool, true, false, List, [], ◌∷◌, length, Option, Some, None, Result, Ok, Err, refl, sym, ap, ◌∙◌, subst, inl, inr}
 use Rattle.std.specs.Prelude.{codes, nat_lt}
-use Rattle.std.proofs.lemmas.List.{append-nil}
 use Rattle.std.proofs.lemmas.Bool.{cases_Bool, both_ways, ltb-true, ltb-false}
 use Rattle.redo_script.specs.declared.fault.ScriptFault.{ScriptFault}
 use Rattle.redo_script.specs.declared.fault.Reason.TheVariants as reasons
 use Rattle.redo_script.specs.Faults.{◌>>=◌, fault_at}
-use Rattle.redo_script.specs.Syntax.{Word, Redirection, Command, Condition, Script, finish, simple, choice}
+use Rattle.redo_script.specs.Syntax.{Word, Command, Condition, Script, finish, simple, choice}
 use Rattle.redo_script.specs.Tokens.{Token, word, semicolon, newline, redirect}
-use Rattle.redo_script.specs.Grammar.{Item, spells, command_form, condition_form, AtSeparator, IsItems, none_left, one_item, redirected, SkipsNewlines, here, past, Separates, by_semicolon, by_newline, IsKeyword, keyword, opens_if, IsCommand, a_command, if_then, if_else, IsBlock, after_newlines, IsList, last, more}
-use Rattle.redo_script.specs.Parsing.{Begun, Phase, at_command, in_command, behind_if, in_condition, before_then, behind_fi, Open, is_empty, with_last, is_one_of, commands, words_outside, begun, length_of, closed, or_shape, is_unfinished, with_word, with_redirect, no_redirection, parse_on, statements_of, with_command, with_condition, ended_command, ended_condition, unless_open}
+use Rattle.redo_script.specs.Grammar.{Item, spells, condition_form, AtSeparator, IsItems, SkipsNewlines, here, past, Separates, by_semicolon, by_newline, IsKeyword, keyword, opens_if, IsCommand, a_command, if_then, if_else, IsBlock, after_newlines, IsList, last, more}
+use Rattle.redo_script.specs.Parsing.{Begun, Phase, at_command, in_command, behind_if, in_condition, before_then, behind_fi, Open, is_empty, with_last, is_one_of, commands, words_outside, begun, length_of, closed, with_word, with_redirect, parse_on, statements_of, with_command, with_condition, ended_command, ended_condition, unless_open}
 use Rattle.redo_script.specs.Refusals.{OpenIf, IsPart, bare, full, IsOpened, to_then, to_else, IsPlace, outside, inside, in_line, conditions, AtCondition, IsNoThen, line_of, HasNoForm, HasNoTest, MayElse, MayEnd, HasCondition, a_condition, IsWrong, a_separator, a_redirection, too_deep, no_condition, no_test, no_then, ends_before_then, then_alone, no_else_here, no_fi_here, ends_inside, ends_behind, left_out, unknown, no_form, FaultStands}
 use Rattle.redo_script.specs.Refusals as refusals
 use Rattle.redo_script.proofs.Bits.{never}
-use Rattle.redo_script.proofs.Names.{item, none_some}
+use Rattle.redo_script.proofs.Names.{item}
 use Rattle.redo_script.proofs.OneToken.{in_place, opened, else_read, command_begins}
-use Rattle.redo_script.proofs.FoundScripts.{if_opens, if_too_deep, then_out, else_alone, else_twice, else_early, fi_alone, fi_early, fi_closes, name_outside, name_unknown, skips_both, separates_on, Takes, TakesOf, state, word_continues, redirect_continues, shape_ok, takes_end, parser}
+use Rattle.redo_script.proofs.BegunCommands.{IsBegun, begins, goes_word, goes_redirect, ends_well, EndsTest, ends_test, ends_ill, test_ill}
+use Rattle.redo_script.proofs.FoundScripts.{if_opens, if_too_deep, then_out, else_alone, else_twice, else_early, fi_alone, fi_early, fi_closes, name_outside, name_unknown, skips_both, separates_on, parser}
 
 -- A command, and what follows it
 
@@ -91,184 +91,17 @@ place_second {o} {os} {ts} {rest} (inside {o = o'} {os = os'} g lt op p) e n f k
     subst (λ (x : List OpenIf). IsPlace (record { line = o.line; has_else = true } ∷ x) true ts rest) same
     (subst (λ (x : OpenIf). IsPlace (record { line = x.line; has_else = true } ∷ os') true ts rest) one (inside g lt (if_second op first block.1 k) (bare here)))
 
--- What is left of a command that was begun
-
-items_word : {us rest : List Token} {others : List Item} {r : Option Redirection} (k : ℕ) (p : Bool) (w : Word) (ts : List Token) → IsItems us others r rest → us ≡ word k p w ∷ ts → (more : List Item) × (others ≡ item p w ∷ more) × IsItems ts more r rest
-items_word k p w ts (none_left a) e = absurd (subst AtSeparator e a)
-items_word {us} {rest} {others} {r} k p w ts (one_item {l} {p = p'} {w = w'} {ts = ts'} {items} g) e =
-    let same : ts' ≡ ts = cc e in
-    let plain : p' ≡ p = cc e in
-    let words : w' ≡ w = cc e in
-    (items, rw (plain, words) refl, subst (λ (x : List Token). IsItems x items r rest) same g)
-items_word k p w ts (redirected a) e = absurd (cc e)
-
-record Redirected (a : Bool) (ts : List Token) (others : List Item) (r : Option Redirection) (rest : List Token) : Type 0 where
-  k : ℕ
-  p : Bool
-  w : Word
-  is : ts ≡ word k p w ∷ rest
-  ends : AtSeparator rest
-  none : others ≡ []
-  one : r ≡ Some (record { appends = a; word = w })
-
-items_redirect : {us rest : List Token} {others : List Item} {r : Option Redirection} (k : ℕ) (a : Bool) (ts : List Token) → IsItems us others r rest → us ≡ redirect k a ∷ ts → Redirected a ts others r rest
-items_redirect k a ts (none_left h) e = absurd (subst AtSeparator e h)
-items_redirect k a ts (one_item g) e = absurd (cc e)
-items_redirect k a ts (redirected {k = j} {a = b} {p} {w} {ts = rest} h) e =
-    let same : b ≡ a = cc e in
-    let behind : word j p w ∷ rest ≡ ts = cc e in
-    record { k = j; p = p; w = w; is = sym behind; ends = h; none = refl; one = rw same refl }
-
-items_end : {us rest : List Token} {others : List Item} {r : Option Redirection} → IsItems us others r rest → AtSeparator us → (others ≡ []) × (r ≡ None)
-items_end (none_left h) a = (refl, refl)
-items_end (one_item g) a = absurd a
-items_end (redirected h) a = absurd a
-
--- what b takes from ts' is left for b'
-abbrev Gives : Begun → Begun → List Token → List Token → Type 0
-Gives b b' ts ts' = (items : List Item) (r : Option Redirection) (rest : List Token) → TakesOf b ts' items r rest → TakesOf b' ts items r rest
-
-word_gives : (l : ℕ) (n : Item) (its : List Item) (ill : Bool) (aw : Option Bool) (red : Option Redirection) (k : ℕ) (p : Bool) (w : Word) (ts : List Token) → Gives (state l n its ill aw red) (with_word (state l n its ill aw red) (item p w)) ts (word k p w ∷ ts)
-word_gives l n its true (Some a) red k p w ts items r rest x = absurd x
-word_gives l n its true None (Some red) k p w ts items r rest x = absurd x
-word_gives l n its true None None k p w ts items r rest x = absurd x
-word_gives l n its false (Some a) red k p w ts items r rest x =
-    let same : ts ≡ rest = cc (x.3) in
-    let words : w ≡ x.2 = cc (x.3) in
-    (subst AtSeparator (sym same) x.4, same, x.5, x.6 ∙ rw words refl)
-word_gives l n its false None (Some red) k p w ts items r rest x = absurd x.0
-word_gives l n its false None None k p w ts items r rest x =
-    let g = items_word k p w ts x.1 refl in
-    (g.0, g.2, x.2 ∙ (ap (λ (y : List Item). its ++ y) g.1 ∙ sym (append_assoc its (item p w ∷ []) g.0)))
-
-redirect_gives : (l : ℕ) (n : Item) (its : List Item) (ill : Bool) (aw : Option Bool) (red : Option Redirection) (k : ℕ) (a : Bool) (ts : List Token) → Gives (state l n its ill aw red) (with_redirect (state l n its ill aw red) a) ts (redirect k a ∷ ts)
-redirect_gives l n its true (Some b) red k a ts items r rest x = absurd x
-redirect_gives l n its true None (Some red) k a ts items r rest x = absurd x
-redirect_gives l n its true None None k a ts items r rest x = absurd x
-redirect_gives l n its false (Some b) red k a ts items r rest x = absurd (cc (x.3))
-redirect_gives l n its false None (Some red) k a ts items r rest x = absurd x.0
-redirect_gives l n its false None None k a ts items r rest x =
-    let g = items_redirect k a ts x.1 refl in
-    (g.k, g.p, g.w, g.is, g.ends, x.2 ∙ (ap (λ (y : List Item). its ++ y) g.none ∙ append-nil its), g.one)
-
-takes_at : (ill : Bool) (aw : Option Bool) (red : Option Redirection) (its : List Item) (ts : List Token) (items : List Item) (r : Option Redirection) (rest : List Token) → Takes ill aw red its ts items r rest → AtSeparator ts → ((ill || elim aw [ Some a ↦ true | None ↦ false ]) ≡ false) × (items ≡ its) × (r ≡ red)
-takes_at true aw red its ts items r rest x a = absurd x
-takes_at false (Some b) red its ts items r rest x a = absurd (subst AtSeparator x.3 a)
-takes_at false None (Some red) its ts items r rest x a = (refl, x.2, x.3)
-takes_at false None None its ts items r rest x a =
-    let e = items_end x.1 a in
-    (refl, x.2 ∙ (ap (λ (y : List Item). its ++ y) e.0 ∙ append-nil its), e.1)
-
--- a command that was begun behind these tokens, as far as it was read
-record IsBegun (b : Begun) (ts rest : List Token) (name : Item) (line : ℕ) : Type 0 where
-  line_is : b.line ≡ line
-  name_is : b.name ≡ name
-  takes : (items : List Item) (r : Option Redirection) (end : List Token) → TakesOf b rest items r end → IsItems ts items r end
-  gives : (items : List Item) (r : Option Redirection) (end : List Token) → IsItems ts items r end → TakesOf b rest items r end
-
-begins : (line : ℕ) (name : Item) (ts : List Token) → IsBegun (begun line name) ts ts name line
-begins line name ts = record { line_is = refl; name_is = refl; takes = λ items r end x. rw x.2 x.1; gives = λ items r end g. (items, g, refl) }
-
-goes_word : {b : Begun} {ts rest : List Token} {name : Item} {line : ℕ} (k : ℕ) (p : Bool) (w : Word) → IsBegun b ts (word k p w ∷ rest) name line → IsBegun (with_word b (item p w)) ts rest name line
-goes_word {b} {ts} {rest} k p w g =
-    let c = word_continues b.line b.name b.items b.is_ill b.awaits b.redirection k p w rest in
-    let d = word_gives b.line b.name b.items b.is_ill b.awaits b.redirection k p w rest in
-    record {
-      line_is = c.line ∙ g.line_is;
-      name_is = c.name ∙ g.name_is;
-      takes = λ items r end x. g.takes items r end (c.takes items r end x);
-      gives = λ items r end x. d items r end (g.gives items r end x);
-    }
-
-goes_redirect : {b : Begun} {ts rest : List Token} {name : Item} {line : ℕ} (k : ℕ) (a : Bool) → IsBegun b ts (redirect k a ∷ rest) name line → IsBegun (with_redirect b a) ts rest name line
-goes_redirect {b} {ts} {rest} k a g =
-    let c = redirect_continues b.line b.name b.items b.is_ill b.awaits b.redirection k a rest in
-    let d = redirect_gives b.line b.name b.items b.is_ill b.awaits b.redirection k a rest in
-    record {
-      line_is = c.line ∙ g.line_is;
-      name_is = c.name ∙ g.name_is;
-      takes = λ items r end x. g.takes items r end (c.takes items r end x);
-      gives = λ items r end x. d items r end (g.gives items r end x);
-    }
-
--- the command ends well
-record EndsWell (b : Begun) (ts rest : List Token) (name : Item) (c : Command) : Type 0 where
-  items : List Item
-  r : Option Redirection
-  is : IsItems ts items r rest
-  form : command_form name items r ≡ Some c
-
-ends_well : {b : Begun} {ts rest : List Token} {name : Item} {line : ℕ} (c : Command) → IsBegun b ts rest name line → AtSeparator rest → ended_command b ≡ Ok c → EndsWell b ts rest name c
-ends_well {b} {ts} {rest} {name} c g a h =
-    let form = shape_ok b.line (is_unfinished b) (command_form b.name b.items b.redirection) c h in
-    record {
-      items = b.items;
-      r = b.redirection;
-      is = g.takes b.items b.redirection rest (takes_end b.is_ill b.awaits b.redirection b.items rest a form.0);
-      form = subst (λ (x : Item). command_form x b.items b.redirection ≡ Some c) g.name_is form.1;
-    }
-
-record EndsTest (b : Begun) (ts rest : List Token) (name : Item) (c : Condition) : Type 0 where
-  items : List Item
-  is : IsItems ts items None rest
-  form : condition_form name items ≡ Some c
-
-no_redirection_is : (r : Option Redirection) (o : Option Condition) (c : Condition) → no_redirection r o ≡ Some c → (r ≡ None) × (o ≡ Some c)
-no_redirection_is None o c h = (refl, h)
-no_redirection_is (Some r) o c h = none_some h
-
-ends_test : {b : Begun} {ts rest : List Token} {name : Item} {line : ℕ} (c : Condition) → IsBegun b ts rest name line → AtSeparator rest → ended_condition b ≡ Ok c → EndsTest b ts rest name c
-ends_test {b} {ts} {rest} {name} c g a h =
-    let form = shape_ok b.line (is_unfinished b) (no_redirection b.redirection (condition_form b.name b.items)) c h in
-    let n = no_redirection_is b.redirection (condition_form b.name b.items) c form.1 in
-    record {
-      items = b.items;
-      is = subst (λ (x : Option Redirection). IsItems ts b.items x rest) n.0 (g.takes b.items b.redirection rest (takes_end b.is_ill b.awaits b.redirection b.items rest a form.0));
-      form = subst (λ (x : Item). condition_form x b.items ≡ Some c) g.name_is n.1;
-    }
-
--- the command ends ill
-abbrev IsShape : {A : Type 0} → ℕ → Result A ScriptFault → Type 0
-IsShape line (Ok x) = Unit {0}
-IsShape line (Err f) = f ≡ in_line line reasons.Shape
-
-shape_is : {A : Type 0} (line : ℕ) (ill : Bool) (o : Option A) → IsShape line (or_shape line ill o)
-shape_is line true o = refl
-shape_is line false None = refl
-shape_is line false (Some x) = tt
-
-shape_never : {A : Type 0} (line : ℕ) (ill : Bool) (o : Option A) (x : A) (f : ScriptFault) → or_shape line ill o ≡ Err f → ill ≡ false → o ≡ Some x → ⊥
-shape_never line ill o x f h i s = never (sym (rw (i, s) at h))
-
-ends_ill : {b : Begun} {ts rest : List Token} {name : Item} {line : ℕ} (f : ScriptFault) → IsBegun b ts rest name line → AtSeparator rest → ended_command b ≡ Err f → (f ≡ in_line line reasons.Shape) × HasNoForm name ts
-ends_ill {b} {ts} {rest} {name} {line} f g a h =
-    let shape : f ≡ in_line b.line reasons.Shape = rw h at (shape_is b.line (is_unfinished b) (command_form b.name b.items b.redirection)) in (
-      rw g.line_is at shape,
-      λ items r end c is form.
-          let t = takes_at b.is_ill b.awaits b.redirection b.items rest items r end (g.gives items r end is) a in
-          shape_never b.line (is_unfinished b) (command_form b.name b.items b.redirection) c f h t.0 (rw (g.name_is, sym t.1, sym t.2) form),
-    )
-
-test_ill : {b : Begun} {ts rest : List Token} {name : Item} {line : ℕ} (f : ScriptFault) → IsBegun b ts rest name line → AtSeparator rest → ended_condition b ≡ Err f → (f ≡ in_line line reasons.Shape) × HasNoTest name ts
-test_ill {b} {ts} {rest} {name} {line} f g a h =
-    let shape : f ≡ in_line b.line reasons.Shape = rw h at (shape_is b.line (is_unfinished b) (no_redirection b.redirection (condition_form b.name b.items))) in (
-      rw g.line_is at shape,
-      λ items end c is form.
-          let t = takes_at b.is_ill b.awaits b.redirection b.items rest items None end (g.gives items None end is) a in
-          shape_never b.line (is_unfinished b) (no_redirection b.redirection (condition_form b.name b.items)) c f h t.0 (rw (sym t.2, g.name_is, sym t.1) form),
-    )
-
 -- Where reading stands
 
-abbrev second_of : Option Script → Bool
+abbrev pub second_of : Option Script → Bool
 second_of None = false
 second_of (Some s) = true
 
-abbrev ifs : List Open → List OpenIf
+abbrev pub ifs : List Open → List OpenIf
 ifs [] = []
 ifs (o ∷ os) = record { line = o.line; has_else = second_of o.first } ∷ ifs os
 
-same_depth : (os : List Open) → length (ifs os) ≡ length_of os
+pub same_depth : (os : List Open) → length (ifs os) ≡ length_of os
 same_depth [] = refl
 same_depth (o ∷ os) = ap (λ n. suc n) (same_depth os)
 

@@ -13,7 +13,7 @@ use Rattle.redo_script.specs.Syntax.{Symbol, bare, quoted}
 use Rattle.redo_script.specs.Tokens.{Token, redirect, Names, one, two, three, line_after, ends_word, is_escaped}
 use Rattle.redo_script.specs.Reading.{Reader, at_start, with_token, with_begun_word, with_word, word_byte, gap_byte, in_word, in_single, in_double, after_backslash, parameter_named, with_parameter, next_byte, at_end, read_on, tokens_of}
 use Rattle.redo_script.specs.Places.{line_from, CanGoOn, NeedsDigit, QuoteIsOpen, StopsAtByte, StopsAtEnd}
-use Rattle.redo_script.proofs.Bits.{never, not_same, not_in}
+use Rattle.redo_script.proofs.Bits.{never, bind_ok, not_same, not_in}
 use Rattle.redo_script.proofs.OneByte.{at}
 use Rattle.redo_script.proofs.OpenQuotes.{is_inside, out, QuoteOpens, opens_from, remains_from, inside_ends}
 use Rattle.redo_script.proofs.OnlyTokens.{only_tokens}
@@ -340,3 +340,39 @@ stops_tokens text fault h = elim (stop_of text at_start fault h) [
     fault_is = at_the_end text s.last fault s.leads s.stops;
   })
 ]
+
+record LeadsToEnd (r : Reader) (text : List ℕ) (ts : List Token) : Type 0 where
+  last : Reader
+  leads : Leads r text last
+  ends : at_end last ≡ Ok ts
+
+lead_of : (text : List ℕ) (r : Reader) (ts : List Token) → read_on r text ≡ Ok ts → LeadsToEnd r text ts
+unfolding read_on
+lead_of [] r ts h = record { last = r; leads = nowhere; ends = h }
+lead_of (b ∷ bs) r ts h =
+    let one = bind_ok (next_byte r b) (λ q. read_on q bs) ts h in
+    let on = lead_of bs one.0 ts one.2 in
+    record { last = on.last; leads = further one.1 on.leads; ends = on.ends }
+
+line_ends : (m : Mode) (r : Reader) (ts : List Token) → at_end (at m r.line r) ≡ Ok ts → (next : Reader) × (next_byte (at m r.line r) 10 ≡ Ok next)
+unfolding next_byte at_end
+line_ends modes.Gap r ts h = (_, refl)
+line_ends modes.Semicolon r ts h = (_, refl)
+line_ends modes.Redirect r ts h = (_, refl)
+line_ends modes.Comment r ts h = (_, refl)
+line_ends modes.Word r ts h = (_, refl)
+line_ends modes.Dollar r ts h = never h
+line_ends modes.Single r ts h = never h
+line_ends modes.Double r ts h = never h
+line_ends modes.QuotedDollar r ts h = never h
+line_ends modes.Escape r ts h = never h
+
+-- a text that has tokens lacks no digit
+pub lacks_none : (text : List ℕ) (ts : List Token) → tokens_of text ≡ Ok ts → NeedsDigit text → ⊥
+unfolding tokens_of
+lacks_none text ts h needs =
+    let k = lead_of text at_start ts h in
+    let next = line_ends k.last.mode k.last ts k.ends in
+    let n = needs 10 (goes_on text k.last next.0 10 k.leads next.1) in
+    let e : None ≡ Some n.0 = taken n.1 in
+    cc e

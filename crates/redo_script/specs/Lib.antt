@@ -13,3 +13,4 @@ pub mod Places
 pub mod Runs
 pub mod Passes
 pub mod Refusals
+pub mod Refused

@@ -96,44 +96,60 @@ pub data HasCondition : ℕ → ℕ → List Token → List Token → Type 0 whe
 
 -- What is wrong with these tokens where a command may stand, by the open ifs and whether their innermost part is bare.
 pub data IsWrong : List OpenIf → (is_bare : Bool) → List Token → ScriptFault → Type 0 where
+  -- `;` in a command's place
   a_separator : {os : List OpenIf} {b : Bool} {l : ℕ} {ts : List Token} →
       IsWrong os b (semicolon l ∷ ts) (in_line l reasons.Shape)
+  -- a redirection there
   a_redirection : {os : List OpenIf} {b a : Bool} {l : ℕ} {ts : List Token} →
       IsWrong os b (redirect l a ∷ ts) (in_line l reasons.Shape)
+  -- the if of a nest's 17th level
   too_deep : {os : List OpenIf} {b : Bool} {l : ℕ} {w : Word} {ts : List Token} →
       spells w (codes "if") ≡ true → 16 ≤ length os → IsWrong os b (word l true w ∷ ts) (in_line l reasons.TooDeep)
+  -- behind if anything but `test`, `true` or `false`: the line of the if
   no_condition : {os : List OpenIf} {b : Bool} {l : ℕ} {w : Word} {ts : List Token} →
       spells w (codes "if") ≡ true → length os < 16 → (AtCondition ts → ⊥) →
       IsWrong os b (word l true w ∷ ts) (in_line l reasons.IfShape)
+  -- words behind if that make no condition: the line of the if
   no_test : {os : List OpenIf} {b p : Bool} {l k : ℕ} {v w : Word} {ts : List Token} →
       spells v (codes "if") ≡ true → length os < 16 → is_one_of conditions (record { is_plain = p; word = w }) ≡ true →
       HasNoTest (record { is_plain = p; word = w }) ts →
       IsWrong os b (word l true v ∷ word k p w ∷ ts) (in_line l reasons.Shape)
+  -- behind a condition and its separators anything but `then`: its own line
   no_then : {os : List OpenIf} {b : Bool} {l : ℕ} {t : Token} {ts mid rest : List Token} →
       HasCondition (length os) l ts mid → Separates mid (t ∷ rest) → IsNoThen t →
       IsWrong os b ts (in_line (line_of t) reasons.IfShape)
+  -- the end there: the line of the if
   ends_before_then : {os : List OpenIf} {b : Bool} {l : ℕ} {ts mid : List Token} →
       HasCondition (length os) l ts mid → (mid ≡ []) ⊎ Separates mid [] → IsWrong os b ts (in_line l reasons.IfShape)
+  -- `then` in a command's place
   then_alone : {os : List OpenIf} {b : Bool} {l : ℕ} {w : Word} {ts : List Token} →
       spells w (codes "then") ≡ true → IsWrong os b (word l true w ∷ ts) (in_line l reasons.IfShape)
+  -- `else` where no first branch with a command is open
   no_else_here : {os : List OpenIf} {b : Bool} {l : ℕ} {w : Word} {ts : List Token} →
       spells w (codes "else") ≡ true → (MayElse os b → ⊥) → IsWrong os b (word l true w ∷ ts) (in_line l reasons.IfShape)
+  -- `fi` where no branch with a command is open
   no_fi_here : {os : List OpenIf} {b : Bool} {l : ℕ} {w : Word} {ts : List Token} →
       spells w (codes "fi") ≡ true → (MayEnd os b → ⊥) → IsWrong os b (word l true w ∷ ts) (in_line l reasons.IfShape)
+  -- behind fi anything but a separator or the end: the line of the fi
   behind_fi : {os : List OpenIf} {b : Bool} {l : ℕ} {w : Word} {ts : List Token} →
       spells w (codes "fi") ≡ true → MayEnd os b → (AtSeparator ts → ⊥) →
       IsWrong os b (word l true w ∷ ts) (in_line l reasons.IfShape)
+  -- the end inside an if: the line of the innermost
   ends_inside : {o : OpenIf} {os : List OpenIf} {b : Bool} → IsWrong (o ∷ os) b [] (in_line o.line reasons.IfShape)
+  -- the same directly behind a command, which lacks its separator
   ends_behind : {o : OpenIf} {os : List OpenIf} {b : Bool} {ts : List Token} {whole : Script} →
       IsCommand (length (o ∷ os)) ts [] finish whole → IsWrong (o ∷ os) b ts (in_line o.line reasons.IfShape)
+  -- a word of the shell's own that the subset leaves out
   left_out : {os : List OpenIf} {b : Bool} {l : ℕ} {w : Word} {ts : List Token} →
       is_one_of words_outside (record { is_plain = true; word = w }) ≡ true →
       IsWrong os b (word l true w ∷ ts) (in_line l reasons.Unsupported)
+  -- any other word that is no command's name
   unknown : {os : List OpenIf} {b p : Bool} {l : ℕ} {w : Word} {ts : List Token} →
       is_one_of (codes "if" ∷ codes "then" ∷ codes "else" ∷ codes "fi" ∷ []) (record { is_plain = p; word = w }) ≡ false →
       is_one_of commands (record { is_plain = p; word = w }) ≡ false →
       is_one_of words_outside (record { is_plain = p; word = w }) ≡ false →
       IsWrong os b (word l p w ∷ ts) (in_line l reasons.UnknownCommand)
+  -- a command of which the operands or the redirection have no form: the line of its name
   no_form : {os : List OpenIf} {b p : Bool} {l : ℕ} {w : Word} {ts : List Token} →
       is_one_of commands (record { is_plain = p; word = w }) ≡ true → HasNoForm (record { is_plain = p; word = w }) ts →
       IsWrong os b (word l p w ∷ ts) (in_line l reasons.Shape)

@@ -10,6 +10,7 @@ ghost use Rattle.redo_script.specs.Syntax.{Script};
 ghost use Rattle.redo_script.specs.Grammar.{IsProgram};
 ghost use Rattle.redo_script.specs.Parsing.{statements_of};
 ghost use Rattle.redo_script.specs.Refusals.{FaultStands};
+ghost use Rattle.redo_script.specs.Refused.{IsRefused};
 ghost use Rattle.redo_script.specs.Texts.{IsScript, script_in};
 
 /// Bytes that have tokens by the grammar are read as these.
@@ -61,4 +62,14 @@ pub fn no_text_wants_memory()
 /// A fault of the commands stands at a place of the grammar, and is what the table has for it.
 pub fn commands_stop_at_their_fault()
     ensures { (ts : List Token) (fault : ScriptFault) → statements_of ts ≡ Err fault → FaultStands ts fault }
+{}
+
+/// Tokens that have a fault by the table are refused with it, and so they have at most one.
+pub fn faults_of_the_table_are_answered()
+    ensures { (ts : List Token) (fault : ScriptFault) → FaultStands ts fault → statements_of ts ≡ Err fault }
+{}
+
+/// A text that has a fault is refused with it, and so it has at most one.
+pub fn faults_of_texts_are_answered()
+    ensures { (text : List ℕ) (fault : ScriptFault) → IsRefused text fault → script_in text ≡ Err fault }
 {}

@@ -1,11 +1,13 @@
 //! From a whole text to its tree.
 
-ghost use Rattle.std.specs.Prelude.{◌≡◌, [], IfOk, Ok, not};
-ghost use Rattle.redo_script.specs.Faults.{Gives};
+ghost use Rattle.std.specs.Prelude.{◌≡◌, ◌≢◌, [], IfOk, IfErr, Ok, not};
+ghost use Rattle.redo_script.specs.Faults.{Gives, no_memory};
+ghost use Rattle.redo_script.specs.declared.fault.Reason.TheVariants as reasons;
 ghost use Rattle.redo_script.specs.Passes.{script_by_tokens};
 ghost use Rattle.redo_script.specs.Syntax.{Script as ScriptTree};
 ghost use Rattle.redo_script.specs.View.{script_of};
 ghost use Rattle.redo_script.specs.Texts.{IsScript, has_no_nul, same_bytes, first_line, nul_from, interpreter_is_fit, script_in};
+ghost use Rattle.redo_script.specs.Refused.{IsRefused};
 
 use crate::ast::Script;
 use crate::fault::{Reason, ScriptFault};
@@ -117,6 +119,12 @@ pub fn parse(alloc: Global, text: &[u8]) -> Result<Script, ScriptFault>
 
     // What is in the grammar is read, with its tree, unless memory runs out.
     ensures only { (s : ScriptTree) → IsScript text.now s → Gives (λ t. script_of t.stmts.items) result (Ok s) }
+
+    // What is refused has this fault: it stands where the text leaves the grammar first.
+    ensures refused { IfErr result (λ fault. fault.why ≢ reasons.Memory → IsRefused text.now fault) }
+
+    // Want of memory has no line.
+    ensures memory { IfErr result (λ fault. fault.why ≡ reasons.Memory → fault ≡ no_memory) }
 
     // What isn't in the grammar has this one fault, unless memory runs out.
     ensures exact { Gives (λ t. script_of t.stmts.items) result (script_in text.now) }

@@ -32,6 +32,7 @@ const BY_TOKENS: &[Row] = &[
     (b"echo $\n", 1, Reason::Unsupported),
     (b"echo $", 1, Reason::Unsupported),
     (b"echo \"$", 1, Reason::Unsupported),
+    (b"echo \"a\n$", 2, Reason::Unsupported),
     (b"echo \"`\"\n", 1, Reason::Unsupported),
     (b"echo \"a\nb\\\nc\"\n", 2, Reason::Unsupported),
     (b"echo a\\b\n", 1, Reason::Unsupported),
@@ -43,6 +44,8 @@ const BY_TOKENS: &[Row] = &[
     // A quote that isn't closed has the line of the quote, not that of its word.
     (b"echo \"a\n", 1, Reason::OpenQuote),
     (b"echo \"\\", 1, Reason::OpenQuote),
+    // A `$` that stands for itself lacks no digit.
+    (b"echo '$", 1, Reason::OpenQuote),
     (b"echo 'a\nb'\"c\n\n", 2, Reason::OpenQuote),
 ];
 
@@ -144,11 +147,13 @@ const BY_IFS: &[Row] = &[
     // The text ends inside an `if`: the line of the innermost one.
     (b"true\nif", 2, Reason::IfShape),
     (b"if true", 1, Reason::IfShape),
+    (b"if test a", 1, Reason::Shape),
     (b"if true;\n", 1, Reason::IfShape),
     (b"if true; then\n", 1, Reason::IfShape),
     (b"if true; then true", 1, Reason::IfShape),
     (b"if true; then true; else\n", 1, Reason::IfShape),
     (b"if true; then\nif true; then true\n\n", 2, Reason::IfShape),
+    (b"if true; then\nif true; then true; fi", 1, Reason::IfShape),
     (
         b"if true; then\nif true; then true; fi\n\n",
         1,

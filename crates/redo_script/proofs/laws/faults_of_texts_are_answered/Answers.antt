@@ -1,0 +1,5 @@
+use Rattle.redo_script.proofs.OneFault.{answered}
+use Rattle.redo_script.proofs.laws.faults_of_texts_are_answered.Goals as goal
+
+pub returns : goal.returns
+returns c = answered
