@@ -4,7 +4,6 @@ ghost use Rattle.std.specs.Prelude.{◌≡◌, IfOk};
 ghost use Rattle.std.specs.Path.{path_buf_bytes};
 
 use crate::Content;
-use std::alloc::Global;
 use std::io::Write;
 use std::marker::Model;
 use std::path::PathBuf;
