@@ -11,7 +11,6 @@ use Rattle.redo_step.specs.Meaning.{Setting}
 use Rattle.redo_step.specs.Reach.{Keeps}
 use Rattle.redo_step.specs.JobView.{JobView, job_setting, progress_of, record_so_far, IsFit}
 use Rattle.redo_step.specs.Job.{AsksFor, EndsAs, with_rest}
-use Rattle.redo_step.proofs.Runs.{Keeps-refl}
 use Rattle.redo_core.specs.Paths.{IsAmong}
 use Rattle.redo_core.specs.Rules.{Ask, Rules, AreLawful, asked_under, operands}
 use Rattle.redo_core.specs.Outcomes.{outcome_at}
@@ -34,7 +33,8 @@ use Rattle.redo_core.proofs.Depth.{cases_Option}
 use Rattle.redo_core.proofs.Handover.{piece-fact}
 use Rattle.redo_core.proofs.Jobs.{job_progress}
 use Rattle.redo_core.proofs.Lawful.{rules_lawful}
-use Rattle.redo_core.proofs.Prefixes.{IsBeginning, asks-begins, beginning-get, beginning-length}
+use Rattle.redo_step.specs.Behind.{IsBeginning}
+use Rattle.redo_core.proofs.Prefixes.{asks-begins, beginning-get, beginning-length, keeps-itself}
 use Rattle.redo_core.proofs.TurnLemmas.{only-among}
 use Rattle.redo_core.proofs.TableSteps.{entry-operand}
 
@@ -66,10 +66,10 @@ pub ended-lacks : (r : Rules) → AreLawful r → (p : List ℕ) (ask : Ask) →
 ended-lacks r lawful p ask = (
   λ ended. elim (cases_Option (r.progress p ask).outcome) [
     | inl none ↦ absurd (ended none)
-    | inr some ↦ none_passes (λ q. is_none (ask q)) (asked_under r p ask) (λ q m t. lawful.answered p q ask some.0 some.1 m (none_is (ask q) t))
+    | inr some ↦ none_passes (λ q. is_none (ask q)) (asked_under r p ask) (λ q m t. (lawful.each p).answered q ask some.0 some.1 m (none_is (ask q) t))
   ],
   λ nothing stopped.
-      let found = lawful.lacking p ask stopped in
+      let found = (lawful.each p).lacking ask stopped in
       one_passes (λ q. is_none (ask q)) (asked_under r p ask) found.0 found.1 (rw found.2 refl) nothing,
 )
 
@@ -79,12 +79,12 @@ module _ (tree : Tree) (limits : ℕ × ℕ) (job : JobView) (facts : Facts) (wo
 
   -- it can go on
   pub work-fits : IsFit job (told_in facts)
-  work-fits = work.goes_on (told_in facts) (Keeps-refl (job_setting job) job.state.entries (told_in facts))
+  work-fits = work.goes_on (told_in facts) (keeps-itself (job_setting job) job.state.entries (told_in facts))
 
   -- how far the target comes with what the work holds is how far it comes at its turn
   at-turn : (rules_of tree limits).progress job.target (told_in facts) ≡ progress_at_turn (rules_of tree limits) job.target (outcome_at (rules_of tree limits) work.is_work.depth) job.turn
   at-turn =
-      (rules_lawful tree limits).local job.target (told_in facts) (only (operands r (job_deps job)) (outcome_at r work.is_work.depth)) (λ q m. work.exact q) ∙
+      ((rules_lawful tree limits).each job.target).local (told_in facts) (only (operands r (job_deps job)) (outcome_at r work.is_work.depth)) (λ q m. work.exact q) ∙
       ap (λ (ds : List Dep). r.progress job.target (only (operands r ds) (outcome_at r work.is_work.depth))) work.is_work.is
 
   pub work-progress : (now : Progress) → progress_of job (told_in facts) ≡ now → now ≡ (rules_of tree limits).progress job.target (told_in facts)

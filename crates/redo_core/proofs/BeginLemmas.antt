@@ -30,7 +30,7 @@ pub unruled-fact : (r : Rules) (lawful : AreLawful r) (p : List ℕ) (o : Outcom
 unruled-fact r lawful p o deps none is = record {
   depth = 0;
   is =
-      let same = lawful.local p nothing_known (outcome_at r 0) (λ q m.
+      let same = (lawful.each p).local nothing_known (outcome_at r 0) (λ q m.
       (let P : List (List ℕ) → Type 0 = λ xs. IsAmong xs q in absurd (subst P (lawful.unruled p nothing_known none).0 m))) in
       sym same ∙ is;
 }

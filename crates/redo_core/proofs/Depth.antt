@@ -50,9 +50,9 @@ module _ (r : Rules) (lawful : AreLawful r) where
   -- what has ended is where it is with more answers
   pub ended_stays : (p : List ℕ) (a b : Ask) (o : Outcome) → Extends r a b →
       (r.progress p a).outcome ≡ Some o → r.progress p a ≡ r.progress p b
-  ended_stays p a b o more ended = lawful.local p a b (λ q m.
+  ended_stays p a b o more ended = (lawful.each p).local a b (λ q m.
       elim (cases_Option (a q)) [
-        | inl none ↦ absurd (lawful.answered p q a o ended m none)
+        | inl none ↦ absurd ((lawful.each p).answered q a o ended m none)
         | inr some ↦ some.1 ∙ sym (more q some.0 (operand-target (r.progress p a).deps q m) some.1)
       ])
 
@@ -75,7 +75,7 @@ module _ (r : Rules) (lawful : AreLawful r) where
   ]
 
   pub asked_at-grows : (n m : ℕ) (p q : List ℕ) → n ≤ m → IsAmong (asked_at r n p) q → IsAmong (asked_at r m p) q
-  asked_at-grows n m p q h = lawful.grows p q (outcome_at r n) (outcome_at r m) (deeper n m h)
+  asked_at-grows n m p q h = (lawful.each p).grows q (outcome_at r n) (outcome_at r m) (deeper n m h)
 
   pub answered_count-more : (a b : Ask) → Extends r a b → (ps : List (List ℕ)) →
       ((p : List ℕ) → IsAmong ps p → r.is_source p ≡ false) → answered_count a ps ≤ answered_count b ps
@@ -210,7 +210,7 @@ module _ (r : Rules) (lawful : AreLawful r) where
             let now : outcome_at r (suc n) p ≡ outcome_at r full_depth.0 p =
             outcome_at-step n p s ∙ ap (λ (x : Progress). x.outcome) (sym here.1) ∙ sym (outcome_at-step full_depth.0 p s) ∙ stood p m in (
               now,
-              lawful.local p (outcome_at r full_depth.0) (outcome_at r (suc n)) (λ q asks.
+              (lawful.each p).local (outcome_at r full_depth.0) (outcome_at r (suc n)) (λ q asks.
                   let member = closed_at_limit p q m (asked_at-grows full_depth.0 limit p q (omega (arith, full_depth.1)) asks) in
                   sym (step_of n q member (stays_from n below q member))),
             )

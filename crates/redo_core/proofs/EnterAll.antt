@@ -12,7 +12,6 @@ use Rattle.redo_core.specs.Slots.{table_entries, IsTableOf, AreEnteredInto}
 use Rattle.redo_core.specs.declared.table.Table.{Table}
 use Rattle.redo_core.specs.Works.{IsOperand}
 use Rattle.redo_core.proofs.PathLists.{is_among-from}
-use Rattle.redo_core.proofs.Records.{none_among}
 use Rattle.redo_core.proofs.TableSteps.{operand-entry, operand-path}
 
 pub entered-append : (r : Rules) (es : List Entry) (ps qs : List (List ℕ)) → entered r es (ps ++ qs) ≡ entered r (entered r es ps) qs
@@ -44,6 +43,10 @@ take-more (x ∷ ds) (suc i) d h = let e : suc i + 1 ≡ suc (i + 1) = omega ari
 
 pub one-operand : (r : Rules) (d : Dep) → IsOperand r d d.path → operands r (d ∷ []) ≡ d.path ∷ []
 one-operand r d is = rw (is.0, is.1) refl
+
+none_among : (ps : List (List ℕ)) → ((q : List ℕ) → IsAmong ps q → ⊥) → ps ≡ []
+none_among [] h = refl
+none_among (p ∷ ps) h = absurd (h p (inl refl))
 
 pub no-operand : (r : Rules) (d : Dep) → (IsOperand r d d.path → ⊥) → operands r (d ∷ []) ≡ []
 no-operand r d un = none_among (operands r (d ∷ [])) (λ q m.

@@ -68,7 +68,7 @@ module _ (r : Rules) (lawful : AreLawful r) (p : List ℕ) (turn : ℕ) where
       IsPiece r p turn (r.progress p (only (operands r deps) a))
   work-piece deps a work holds =
       let same : r.progress p (only (operands r deps) a) ≡ r.progress p (only (operands r deps) (outcome_at r work.depth)) =
-      lawful.local p (only (operands r deps) a) (only (operands r deps) (outcome_at r work.depth)) (λ q m.
+      (lawful.each p).local (only (operands r deps) a) (only (operands r deps) (outcome_at r work.depth)) (λ q m.
       elim (cases_Bool (is_among (operands r deps) q)) [
         | inl t ↦ rw t (agree q (is_among-true (operands r deps) q t))
         | inr f ↦ rw f refl

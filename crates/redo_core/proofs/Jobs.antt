@@ -6,14 +6,14 @@ use Rattle.redo_tree.specs.Tree.{Tree, file_at}
 use Rattle.redo_which.specs.Rule.{Outcome as Found, Rule}
 use Rattle.redo_step.specs.declared.deps.DepKind.TheVariants.{Change}
 use Rattle.redo_step.specs.JobView.{JobView, found_deps, record_so_far, progress_of}
+use Rattle.redo_step.proofs.Public.{entered_operand, operand_entered, search_enters, whole_cases, whole_second}
 use Rattle.redo_step.specs.Meaning.{is_entered}
 use Rattle.redo_core.specs.Paths.{IsAmong}
 use Rattle.redo_core.specs.Rules.{Ask, operands}
 use Rattle.redo_core.specs.Build.{rules_of, IsFit}
 use Rattle.redo_core.specs.Works.{job_deps, IsJobOf}
 use Rattle.redo_core.proofs.Depth.{operand-target}
-use Rattle.redo_core.proofs.Records.{all_cases, all_second, operand-entered, entered-operand}
-use Rattle.redo_core.proofs.Lawful.{search_sources, fit_found, rules_lawful}
+use Rattle.redo_core.proofs.Lawful.{fit_found, rules_lawful}
 
 module _ (tree : Tree) (limits : ℕ × ℕ) (job : JobView) (is_job : IsJobOf tree limits job) where
   -- the record of the search waits for the .do file alone, which is a source
@@ -21,15 +21,16 @@ module _ (tree : Tree) (limits : ℕ × ℕ) (job : JobView) (is_job : IsJobOf t
   found_sources q h =
       let P : Found → Type 0 = IsFit tree in
       let fit : IsFit tree (Rule job.do_file job.missing job.arguments) = subst P is_job.found (fit_found tree job.target) in
-      search_sources tree job.missing job.do_file fit q h
+      let S : List ℕ → Type 0 = λ p. is_some (file_at tree p) ≡ true in
+      subst S (search_enters job.missing job.do_file q h) fit
 
   -- what the record so far waits for, the script declared
   recorded_own : (q : List ℕ) → IsAmong (operands (rules_of tree limits) (record_so_far job)) q → IsAmong (operands (rules_of tree limits) job.state.entries) q
   recorded_own q m =
       let target : is_some (file_at tree q) ≡ false = operand-target (rules_of tree limits) (rules_lawful tree limits) (record_so_far job) q m in
-      elim (all_cases (found_deps job) job.state.entries Change q (operand-entered (rules_of tree limits) (record_so_far job) q m)) [
+      elim (whole_cases (found_deps job) job.state.entries Change q (operand_entered (rules_of tree limits).is_source (record_so_far job) q m)) [
         | inl first ↦ absurd (both_ways _ target (found_sources q first))
-        | inr own ↦ entered-operand (rules_of tree limits) job.state.entries q target own
+        | inr own ↦ entered_operand (rules_of tree limits).is_source job.state.entries q target own
       ]
 
   pub asked_by_job : (q : List ℕ) → IsAmong (operands (rules_of tree limits) (job_deps job)) q → IsAmong (operands (rules_of tree limits) job.state.entries) q
@@ -42,7 +43,7 @@ module _ (tree : Tree) (limits : ℕ × ℕ) (job : JobView) (is_job : IsJobOf t
   own_recorded : (q : List ℕ) → IsAmong (operands (rules_of tree limits) job.state.entries) q → IsAmong (operands (rules_of tree limits) (record_so_far job)) q
   own_recorded q m =
       let target = operand-target (rules_of tree limits) (rules_lawful tree limits) job.state.entries q m in
-      entered-operand (rules_of tree limits) (record_so_far job) q target (all_second (found_deps job) job.state.entries Change q (operand-entered (rules_of tree limits) job.state.entries q m))
+      entered_operand (rules_of tree limits).is_source (record_so_far job) q target (whole_second (found_deps job) job.state.entries Change q (operand_entered (rules_of tree limits).is_source job.state.entries q m))
 
   pub asked_of_job : 0 < job.turn → (q : List ℕ) → IsAmong (operands (rules_of tree limits) job.state.entries) q → IsAmong (operands (rules_of tree limits) (job_deps job)) q
   asked_of_job some q m = (elim (job.turn) as (λ (n : ℕ). 0 < n → IsAmong (operands (rules_of tree limits) (elim n [ zero ↦ [] | suc k ↦ record_so_far job ])) q) [

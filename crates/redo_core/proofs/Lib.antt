@@ -11,7 +11,6 @@ pub mod TurnBound
 pub mod Counts
 pub mod BoardCounts
 pub mod Places
-pub mod Records
 pub mod Lawful
 pub mod Jobs
 pub mod Examples

@@ -104,7 +104,7 @@ module _ (r : Rules) (lawful : AreLawful r) (request : List (List ℕ)) where
         only-Extends r (operands r (deps_at_turn r p (outcomes_of s.entries) k)) (outcomes_of s.entries) (outcomes_of s.entries) (λ x o t h. h) in
         let P : List Dep → Type 0 = λ x. IsAmong (operands r x) q in
         let asked : IsAmong (asked_under r p before) q = subst P is m in
-        let same : r.progress p (outcomes_of s.entries) ≡ r.progress p before = lawful.waits p q before (outcomes_of s.entries) more asked none in (
+        let same : r.progress p (outcomes_of s.entries) ≡ r.progress p before = (lawful.each p).waits q before (outcomes_of s.entries) more asked none in (
           ap (λ (x : Progress). x.deps) same ∙ sym is,
           ap (λ (x : Progress). x.outcome) same ∙ came.stopped k (omega arith),
         )
@@ -137,11 +137,11 @@ module _ (r : Rules) (lawful : AreLawful r) (request : List (List ℕ)) where
             | inr out ↦ absurd (let now = rw out at h in cc)
           ] in
           let inside : (q : List ℕ) → IsAmong (asked_under r p (on_entries n)) q → IsAmong (paths_of s.entries) q = λ q m.
-          let wide = lawful.grows p q (on_entries n) (outcomes_of s.entries) more m in
+          let wide = (lawful.each p).grows q (on_entries n) (outcomes_of s.entries) more m in
           let P : List Dep → Type 0 = λ x. IsAmong (operands r x) q in
           sound.standing.closed p q e at (subst P (waiting-stays p e at open').0 wide) in (
             more,
-            lawful.local p (on_entries n) (outcome_at r n) (λ q m. only-among (paths_of s.entries) (outcome_at r n) q (inside q m)),
+            (lawful.each p).local (on_entries n) (outcome_at r n) (λ q m. only-among (paths_of s.entries) (outcome_at r n) q (inside q m)),
             inside,
           )
 
@@ -212,7 +212,7 @@ module _ (r : Rules) (lawful : AreLawful r) (request : List (List ℕ)) where
         records-same p e at = elim (cases_Option e.outcome) [
           | inl open' ↦
               let same = same-on_entries limit (none-beyond limit) p e at open' in
-              let alike = lawful.local p (on_entries limit) (outcomes_of s.entries) (λ q m.
+              let alike = (lawful.each p).local (on_entries limit) (outcomes_of s.entries) (λ q m.
               let here = same.2 q m in
               only-same q here ∙ sym (outcomes-same q here)) in
               sym (waiting-stays p e at open').0 ∙ ap (λ (x : Progress). x.deps) (sym alike ∙ same.1)

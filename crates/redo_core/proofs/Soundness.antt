@@ -280,7 +280,7 @@ module _ (r : Rules) (lawful : AreLawful r) (request : List (List ℕ)) where
     new_needed q m =
         IsNeeded-asked r lawful request e.path q (decided_count s.entries)
         (sound.standing.needed e.path (entry_of-among s.entries e.path e out_entry))
-        (lawful.grows e.path q (only (operands r e.deps) (outcomes_of s.entries)) (outcome_at r (decided_count s.entries))
+        ((lawful.each e.path).grows q (only (operands r e.deps) (outcomes_of s.entries)) (outcome_at r (decided_count s.entries))
         (only-Extends r (operands r e.deps) (outcomes_of s.entries) (outcome_at r (decided_count s.entries))
         (outcomes_of-deep r lawful request s.entries sound.standing)) m)
 

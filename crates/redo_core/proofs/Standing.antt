@@ -99,7 +99,7 @@ module _ (r : Rules) (lawful : AreLawful r) (request : List (List ℕ)) where
             sym (ap (λ (x : Entry). x.outcome) is ∙ rw unruled refl) ∙ done in
             let law = lawful.unruled p nothing_known unruled in
             let same : r.progress p nothing_known ≡ r.progress p (outcome_at r 0) =
-            lawful.local p nothing_known (outcome_at r 0) (λ q m. absurd (
+            (lawful.each p).local nothing_known (outcome_at r 0) (λ q m. absurd (
             let P : List (List ℕ) → Type 0 = λ xs. IsAmong xs q in subst P law.0 m)) in
             let parts : r.progress p nothing_known ≡ record { outcome = Some o; deps = e.deps } =
             rebuilt (r.progress p nothing_known) o e.deps out (sym deps) in

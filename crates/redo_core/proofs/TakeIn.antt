@@ -9,9 +9,10 @@ use Rattle.redo_step.specs.JobView.{JobView, found_deps, record_so_far}
 use Rattle.redo_step.specs.Meaning.{is_entered, with_entry}
 use Rattle.redo_step.specs.Record.{Progress, with_all}
 use Rattle.redo_core.specs.Paths.{IsAmong, AreDistinct, is_among}
+use Rattle.redo_step.proofs.Public.{entered_operand, one_entered, operand_entered, sources_alone}
 use Rattle.redo_core.specs.Rules.{Ask, Rules, AreLawful, Extends, operands}
 use Rattle.redo_core.specs.Outcomes.{outcome_at}
-use Rattle.redo_core.specs.Build.{rules_of, world_of}
+use Rattle.redo_core.specs.Build.{rules_of}
 use Rattle.redo_core.specs.Schedule.{Entry, State, outcomes_of, paths_of, entry_of, entered, put, only, advanced, moved_on, released, IsOutAt}
 use Rattle.redo_core.specs.Schedule.Event.{Hand_in}
 use Rattle.redo_core.specs.Standing.{decided_count}
@@ -36,8 +37,7 @@ use Rattle.redo_core.specs.declared.work.End.TheVariants.{Ended, Stopped}
 use Rattle.redo_core.proofs.PathLists.{is_among-true, with_new-second, with_new-distinct}
 use Rattle.redo_core.proofs.Depth.{cases_Option, operand-target, deeper}
 use Rattle.redo_core.proofs.Entries.{outcomes_of-at, outcomes_of-entry, paths_of-entered, entry_of-entered_old}
-use Rattle.redo_core.proofs.Records.{operand-entered, entered-operand}
-use Rattle.redo_core.proofs.Lawful.{rules_lawful, sources-asked}
+use Rattle.redo_core.proofs.Lawful.{rules_lawful}
 use Rattle.redo_core.proofs.Jobs.{found_sources}
 use Rattle.redo_core.proofs.TurnLemmas.{only-some, deps_at_turn-more, Extends-trans'}
 use Rattle.redo_core.proofs.TurnBound.{turn-below, asked-more}
@@ -89,14 +89,14 @@ all-entered r es ds (x ∷ xs) =
   where
     seen : is_entered ds x.kind x.path ≡ true → (q : List ℕ) → IsAmong (operands r (x ∷ [])) q → IsAmong (paths_of (entered r es (operands r ds))) q
     seen t q m =
-        let change : is_entered (x ∷ []) Change q ≡ true = operand-entered r (x ∷ []) q m in
-        let kind = Rattle.redo_step.proofs.Known.is_entered-one x Change q change in
+        let change : is_entered (x ∷ []) Change q ≡ true = operand_entered r.is_source (x ∷ []) q m in
+        let kind = one_entered x Change q change in
         let K : Rattle.redo_step.specs.declared.deps.DepKind.DepKind → Type 0 = λ k. is_entered ds k x.path ≡ true in
         let P : List ℕ → Type 0 = λ p. is_entered ds Change p ≡ true in
         let there = subst P kind.1 (subst K kind.0 t) in
         let source = (operand-entry r (x ∷ []) q m).3.1 in
         let A : List (List ℕ) → Type 0 = λ ps. IsAmong ps q in
-        subst A (sym (paths_of-entered r es (operands r ds))) (with_new-second (paths_of es) (operands r ds) q (entered-operand r ds q source there))
+        subst A (sym (paths_of-entered r es (operands r ds))) (with_new-second (paths_of es) (operands r ds) q (entered_operand r.is_source ds q source there))
 
     one : entered r es (operands r (with_entry ds x.kind x.path)) ≡ entered r (entered r es (operands r ds)) (operands r (x ∷ []))
     one = elim (cases_Bool (is_entered ds x.kind x.path)) [
@@ -207,7 +207,7 @@ module _ (tree : Tree) (limits : ℕ × ℕ) (t : Table) (at : ℕ) (end : End) 
         let asked = subst D fact-now m in
         elim (cases_Bool (is_among (operands r e.deps) q)) [
           | inl yes' ↦ sound.standing.closed target q e entry-there (is_among-true (operands r e.deps) q yes')
-          | inr no' ↦ absurd (lawful.answered target q ask (arc_value {X = FactView} fact).outcome outcome asked (rw no' refl))
+          | inr no' ↦ absurd ((lawful.each target).answered q ask (arc_value {X = FactView} fact).outcome outcome asked (rw no' refl))
         ]
 
     decided-moved : table_entries (rules_of tree limits) limits.0 u ≡ moved
@@ -297,7 +297,7 @@ module _ (tree : Tree) (limits : ℕ × ℕ) (t : Table) (at : ℕ) (end : End) 
     enters-same =
         let old = take begun.value.facts.gained begun.value.job.state.entries in
         let new = drop begun.value.facts.gained begun.value.job.state.entries in
-        let none = sources-asked (world_of tree limits) (found_deps begun.value.job) (found_sources tree limits begun.value.job is_stopped.is_job) in
+        let none = sources_alone (rules_of tree limits).is_source (found_deps begun.value.job) (found_sources tree limits begun.value.job is_stopped.is_job) in
         let whole = all-entered r es (found_deps begun.value.job) begun.value.job.state.entries ∙ ap (λ qs. entered r (entered r es qs) (operands r begun.value.job.state.entries)) none in
         let parts = ap (operands r) (sym (take-append-drop begun.value.facts.gained begun.value.job.state.entries)) ∙ operands-append r old new in
         let seen = entered-seen r es (operands r old) (λ q m.

@@ -24,7 +24,7 @@ module _ (r : Rules) (lawful : AreLawful r) where
       IsAmong (operands r (deps_at_turn r p a turn)) q → IsAmong (operands r (deps_at_turn r p a (suc turn))) q
   asked-more p a zero came q m = absurd m
   asked-more p a (suc k) came q m =
-      lawful.grows p q (only (operands r (deps_at_turn r p a k)) a) (only (operands r (deps_at_turn r p a (suc k))) a)
+      (lawful.each p).grows q (only (operands r (deps_at_turn r p a k)) a) (only (operands r (deps_at_turn r p a (suc k))) a)
       (λ x o s h.
       elim (cases_Bool (is_among (operands r (deps_at_turn r p a k)) x)) [
         | inl t ↦
@@ -38,7 +38,7 @@ module _ (r : Rules) (lawful : AreLawful r) where
   has_asked p a (suc k) came =
       let before = CameTo-before r lawful p a k came in
       let old = has_asked p a k before in
-      let lack = lawful.lacking p (only (operands r (deps_at_turn r p a k)) a) (came.stopped k (omega arith)) in
+      let lack = (lawful.each p).lacking (only (operands r (deps_at_turn r p a k)) a) (came.stopped k (omega arith)) in
       let new : IsAmong (operands r (deps_at_turn r p a k)) lack.0 → ⊥ = λ m.
       came.answered k lack.0 (omega arith) m (sym (only-among (operands r (deps_at_turn r p a k)) a lack.0 m) ∙ lack.2) in
       record {

@@ -32,7 +32,7 @@ module _ (r : Rules) (lawful : AreLawful r) where
   pub progress-more : (p : List ℕ) (ds : List Dep) (a b : Ask) → Extends r a b →
       ((q : List ℕ) → IsAmong (operands r ds) q → a q ≡ None → ⊥) →
       r.progress p (only (operands r ds) a) ≡ r.progress p (only (operands r ds) b)
-  progress-more p ds a b more all = lawful.local p (only (operands r ds) a) (only (operands r ds) b) (λ q m.
+  progress-more p ds a b more all = (lawful.each p).local (only (operands r ds) a) (only (operands r ds) b) (λ q m.
       elim (cases_Bool (is_among (operands r ds) q)) [
         | inl t ↦ rw t (
             let among = is_among-true (operands r ds) q t in

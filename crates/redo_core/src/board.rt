@@ -59,8 +59,9 @@ impl<T: Drop> From<AllocFailed<T>> for Stop {
 }
 
 /// The entries of a build, and what may happen to them next. In a contract it is its tree, request and limits, the state of
-/// its entries, and why it has stopped. Whatever value of this type there is, its state is one that some run of takes and
-/// hand-ins led to, so what is proved of runs holds for it wherever it comes from.
+/// its entries, and why it has stopped. Of whatever value of this type that hasn't stopped, the state is one that some run of
+/// takes and hand-ins led to, so what is proved of runs holds for it wherever it comes from. Of one that has stopped only this
+/// is known: where it has stopped at the limit, the build needs too many targets.
 #[derive(Drop)]
 pub struct Board {
     alloc: Global,

@@ -152,11 +152,19 @@ creates_none deps (p ∷ ps) q h = elim (entered_cases deps Create Change p q (c
   | inr new ↦ let other : Create ≡ Change = new.0 in absurd cc
 ]
 
-search_sources : (setting : Setting) (missing : List Path) (do_file : Path) → is_some (setting.source do_file) ≡ true → (q : Path) → is_entered (search_deps missing do_file) Change q ≡ true → is_some (setting.source q) ≡ true
-search_sources setting missing do_file fit q h = elim (entered_cases (with_entries [] Create missing) Change Change do_file q h) [
-  | inl old ↦ let bad : false ≡ true = creates_none [] missing q old in absurd cc
-  | inr new ↦ let same : do_file ≡ q = new.1 in rw (← same) fit
+-- candidates that are missing are no change entries
+pub missing_creates : (missing : List Path) (q : Path) → is_entered (with_entries [] Create missing) Change q ≡ true → ⊥
+missing_creates missing q h = let bad : false ≡ true = creates_none [] missing q h in cc
+
+-- the .do file is the only change entry of a search
+pub search_entry : (missing : List Path) (do_file q : Path) → is_entered (search_deps missing do_file) Change q ≡ true → do_file ≡ q
+search_entry missing do_file q h = elim (entered_cases (with_entries [] Create missing) Change Change do_file q h) [
+  | inl old ↦ absurd (missing_creates missing q old)
+  | inr new ↦ new.1
 ]
+
+search_sources : (setting : Setting) (missing : List Path) (do_file : Path) → is_some (setting.source do_file) ≡ true → (q : Path) → is_entered (search_deps missing do_file) Change q ≡ true → is_some (setting.source q) ≡ true
+search_sources setting missing do_file fit q h = let same = search_entry missing do_file q h in rw (← same) fit
 
 pub sources-asked : (source : Path → Bool) (deps : List Dep) → ((q : Path) → is_entered deps Change q ≡ true → source q ≡ true) → operands source deps ≡ []
 sources-asked source deps h = none_among (operands source deps) (λ q m.

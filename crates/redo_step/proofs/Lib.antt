@@ -23,3 +23,5 @@ pub mod Formats
 pub mod Writes
 pub mod Asked
 pub mod Lawful
+pub mod Behind
+pub mod Public

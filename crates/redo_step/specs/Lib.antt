@@ -23,3 +23,4 @@ pub mod Stored
 pub mod Printing
 pub mod Writing
 pub mod Asked
+pub mod Behind
