@@ -7,7 +7,7 @@ mod causes;
 mod options;
 mod status;
 
-use clap::ArgMatches;
+use clap::{ArgMatches, Error};
 use options::{Call, Place, Refusal, Task};
 use redo_path::Path;
 use redo_run::{Cause, Exit, NoGate, Options, run_bundle, run_dir, whichdo_bundle, whichdo_dir};
@@ -51,12 +51,19 @@ fn read_call(rt: &HostRuntime, alloc: Global) -> Result<Call, u8> {
     let command = options::command(alloc).map_err(|_| status::MEMORY)?;
     let matches = match command.try_get_matches_from(words.as_slice()) {
         Ok(matches) => matches,
-        Err(error) => {
-            let _shown = error.print(rt);
-            return Err(status::of_parse(&error));
-        }
+        Err(error) => return Err(show_parse(rt, &error)),
     };
     options::call_of(alloc, &matches).map_err(|refusal| refuse_call(rt, alloc, refusal, &matches))
+}
+
+/// Shows what the parse ended in: help or the version on standard output, a refusal on standard error. Answers the exit status.
+fn show_parse(rt: &HostRuntime, error: &Error) -> u8 {
+    if error.print(rt).is_err() && !error.use_stderr() {
+        let fault = Fault::Output;
+        let _shown = eprintln!(rt; "redo: {fault}");
+        return status::of_fault(fault);
+    }
+    status::of_parse(error)
 }
 
 /// The words of the command line, the program's name before them.
