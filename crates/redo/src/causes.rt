@@ -55,7 +55,7 @@ fn of_place(alloc: Global, cause: &Cause) -> Words {
 }
 
 /// A path, and what is wrong with it.
-fn of_path<E: Display>(alloc: Global, path: &[u8], why: E) -> Words {
+fn of_path<E: Display + Drop>(alloc: Global, path: &[u8], why: E) -> Words {
     let path = BStr::new(path);
     Ok(Some(format!(in alloc; "{path:?}: {why}")?))
 }

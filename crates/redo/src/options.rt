@@ -193,7 +193,8 @@ pub(crate) fn bad_target<'m>(
     if let Some(word) = matches.get_str("whichdo") {
         return fault_of(alloc, word);
     }
-    matches.get_strs("targets")?.find_map(|word| fault_of(alloc, word))
+    let words = matches.get_strs("targets")?;
+    words.iter().find_map(|word| fault_of(alloc, word))
 }
 
 /// The word, and why it names no target, if it names none.
