@@ -198,7 +198,10 @@ mod tests {
     fn names_the_target_that_is_refused(rt: HostRuntime) -> Result<(), Fail> {
         let alloc = rt.alloc();
         let said = of_target(alloc, Some(("../x", PathFault::Above)))?.ok_or("no words")?;
-        assert_eq!(rt; said.as_str(), "\"../x\": the path leads above the top directory");
+        assert_eq!(rt;
+            said.as_str(),
+            "\"../x\": the path leads above the top directory"
+        );
         assert!(rt; of_target(alloc, None)?.is_none());
         Ok(())
     }

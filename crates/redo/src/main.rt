@@ -81,7 +81,10 @@ fn refuse(rt: &HostRuntime, refusal: Refusal) -> u8 {
 fn refuse_call(rt: &HostRuntime, alloc: Global, refusal: Refusal, matches: &ArgMatches<'_>) -> u8 {
     let status = refuse(rt, refusal);
     if refusal == Refusal::BadTarget && matches.get_flag("verbose") {
-        show_cause(rt, causes::of_target(alloc, options::bad_target(alloc, matches)));
+        show_cause(
+            rt,
+            causes::of_target(alloc, options::bad_target(alloc, matches)),
+        );
     }
     status
 }
