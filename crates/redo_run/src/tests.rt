@@ -2,7 +2,7 @@
 
 ghost use Rattle.std.specs.Prelude.{◌≡◌, ◌≤◌, false, IfOk};
 
-use crate::{Exit, Gate, NoGate, Options, RunIoFault, run_bundle};
+use crate::{Cause, Exit, Gate, NoGate, Options, RunIoFault, run_bundle};
 use redo_path::{Path, resolve};
 use redo_step::Limits;
 use redo_tree::Plain;

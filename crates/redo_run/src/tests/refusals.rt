@@ -1,7 +1,7 @@
 //! Bundles that are refused, and lists of candidates.
 
 use super::{options, run};
-use crate::{RunIoFault, whichdo_bundle};
+use crate::{Cause, RunIoFault, whichdo_bundle};
 use redo_path::{Path, resolve};
 use redo_tree::{BundleFault, Plain, TreeFault};
 use std::test::Fail;
