@@ -50,10 +50,10 @@ pub(crate) enum Fault {
 impl From<RunIoFault> for Fault {
     fn from(fault: RunIoFault) -> Fault {
         match fault {
+            RunIoFault::Memory | RunIoFault::Bundle(BundleFault::Memory) => Fault::Memory,
             RunIoFault::Bundle(fault) => Fault::Bundle(fault),
             RunIoFault::TooMany => Fault::TooMany,
             RunIoFault::Device => Fault::Output,
-            RunIoFault::Memory => Fault::Memory,
         }
     }
 }
@@ -125,6 +125,7 @@ mod tests {
             ),
             (bundle(BundleFault::Truncated), 3, "bundle: truncated"),
             (bundle(BundleFault::Read), 3, "bundle: read"),
+            (bundle(BundleFault::Memory), 6, "out of memory"),
             (Fault::from(RunIoFault::TooMany), 4, "too many targets"),
             (Fault::from(RunIoFault::Device), 5, "output failed"),
             (Fault::from(RunIoFault::Memory), 6, "out of memory"),
