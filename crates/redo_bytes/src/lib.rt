@@ -8,7 +8,7 @@
 ghost use Rattle.std.specs.Prelude.{◌≡◌, ◌<◌, [], IfNone, IfOk, IfSome, length, nat_eq};
 ghost use Rattle.std.specs.Cmp.{partial_equiv_from_equiv};
 ghost use Rattle.std.specs.Cmp.Lexicographic.{nat_list_eq_equiv, pointwise};
-ghost use Rattle.redo_bytes.specs.Kept.{IsFit, bytes_of};
+ghost use Rattle.redo_bytes.specs.inside.Kept.{IsFit, bytes_of};
 
 use std::alloc::{AllocError, Global};
 use std::fmt;
@@ -40,7 +40,7 @@ pub struct Bytes {
 
 impl Model for Bytes {
     ghost use Rattle.std.specs.Prelude.{List, ℕ};
-    ghost use Rattle.redo_bytes.specs.Kept.{IsKept, bytes_in};
+    ghost use Rattle.redo_bytes.specs.inside.Kept.{IsKept, bytes_in};
 
     ghost Value = { List ℕ };
 

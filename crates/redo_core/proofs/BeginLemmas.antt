@@ -1,28 +1,28 @@
 -- What is begun is a work, or a fact.
-use Rattle.std.proofs.Common.{◌≡◌, ℕ, List, [], Option, Some, None, false, refl, sym, ap, subst, ◌∙◌, arith}
+use Rattle.std.proofs.Common.{◌≡◌, ℕ, List, [], Option, Some, None, false, refl, sym, ap, subst, ◌∙◌, arith, Bor}
 use Rattle.std.specs.Prelude.{unwrap_or, option_copied, IfOk, Result, Ok, Err}
-use Rattle.redo_core.specs.Scripts.{IsBegunJob}
-use Rattle.std.proofs.Common.{Bor}
+use Rattle.redo_core.specs.inside.Scripts.{IsBegunJob}
 use Rattle.redo_tree.specs.Tree.{Tree, file_at}
 use Rattle.redo_script.specs.Texts.{script_in}
-use Rattle.redo_step.specs.declared.deps.Dep.{Dep}
-use Rattle.redo_step.specs.declared.outcome.Outcome.{Outcome}
+use Rattle.redo_record.specs.declared.deps.Dep.{Dep}
+use Rattle.redo_record.specs.declared.outcome.Outcome.{Outcome}
 use Rattle.redo_step.specs.declared.parsed.Parsed.{Parsed}
 use Rattle.redo_step.specs.Parsed.{parsed_of}
-use Rattle.redo_step.specs.Meaning.{Ask as Answers}
+use Rattle.redo_record.specs.Answers.{Ask as Answers}
 use Rattle.redo_step.specs.Job.{begun}
 use Rattle.redo_step.specs.JobView.{JobView, IsFit}
 use Rattle.redo_which.specs.declared.Rule.{Rule as FoundRule}
 use Rattle.redo_which.specs.Rule.{Rule, found_of}
 use Rattle.redo_which.specs.Views.{arguments_view}
-use Rattle.redo_core.specs.Paths.{IsAmong}
-use Rattle.redo_core.specs.Rules.{Rules, AreLawful}
-use Rattle.redo_core.specs.Outcomes.{outcome_at}
-use Rattle.redo_core.specs.Schedule.{nothing_known}
-use Rattle.redo_core.specs.Turns.{IsFact}
+use Rattle.redo_record.specs.Paths.{IsAmong}
+use Rattle.redo_build.specs.Rules.{Rules, AreLawful}
+use Rattle.redo_build.specs.Outcomes.{outcome_at}
+use Rattle.redo_build.specs.Schedule.{nothing_known}
+use Rattle.redo_build.specs.inside.Turns.{IsFact}
 use Rattle.redo_core.specs.Views.{told_by}
-use Rattle.redo_core.specs.Works.{known_in, IsWorkWith}
+use Rattle.redo_core.specs.inside.Works.{known_in, IsWorkWith}
 use Rattle.redo_core.specs.declared.facts.Facts.{Facts}
+use Rattle.redo_step.specs.Limits.{LimitsView}
 
 -- without a rule no answer makes a difference
 pub unruled-fact : (r : Rules) (lawful : AreLawful r) (p : List ℕ) (o : Outcome) (deps : List Dep) → r.has_rule p ≡ false →
@@ -36,7 +36,7 @@ unruled-fact r lawful p o deps none is = record {
 }
 
 -- a job that was just begun is a work with no facts
-pub begun-work : (tree : Tree) (limits : ℕ × ℕ) (target : List ℕ) (rule : FoundRule) (parsed : Parsed) (facts : Facts) →
+pub begun-work : (tree : Tree) (limits : LimitsView) (target : List ℕ) (rule : FoundRule) (parsed : Parsed) (facts : Facts) →
     found_of tree target ≡ Rule rule.do_file rule.missing (arguments_view rule.args) →
     parsed_of parsed ≡ script_in (unwrap_or (file_at tree rule.do_file) []) →
     ((ask : Answers) → IsFit (begun tree target rule parsed limits) ask) → known_in facts ≡ [] → facts.gained ≡ 0 →
@@ -57,7 +57,7 @@ begun-work tree limits target rule parsed facts found script fits none gained = 
 }
 
 -- a job that was begun on a shared tree is one of the tree
-pub begun-is : {E : Type 0} (tree given : Tree) (limits : ℕ × ℕ) (target : List ℕ) (rule : FoundRule) (parsed : Parsed) (result : Result JobView E) → given ≡ tree →
+pub begun-is : {E : Type 0} (tree given : Tree) (limits : LimitsView) (target : List ℕ) (rule : FoundRule) (parsed : Parsed) (result : Result JobView E) → given ≡ tree →
     found_of tree target ≡ Rule rule.do_file rule.missing (arguments_view rule.args) →
     parsed_of parsed ≡ script_in (unwrap_or (file_at tree rule.do_file) []) →
     IfOk result (λ job. job ≡ begun given target rule parsed limits) → IfOk result (λ job. (ask : Answers) → IsFit job ask) →

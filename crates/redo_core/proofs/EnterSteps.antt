@@ -2,25 +2,26 @@
 use Rattle.std.proofs.Common.{slice_get, ◌≡◌, ℕ, zero, suc, ◌+◌, ◌<◌, ◌≤◌, true, false, cond, ◌⊎◌, inl, inr, List, [], ◌∷◌, ◌++◌, length, length-append, append-nil, filter, Some, None, refl, sym, ap, subst, ◌∙◌, arith}
 use Rattle.std.proofs.lemmas.Bool.{cases_Bool, both_ways}
 use Rattle.redo_tree.specs.Tree.{Tree}
-use Rattle.redo_core.specs.Paths.{IsAmong, is_among}
-use Rattle.redo_core.specs.Rules.{Ask, Rules, Extends, operands}
-use Rattle.redo_core.specs.Outcomes.{outcome_at}
+use Rattle.redo_record.specs.Paths.{IsAmong, is_among}
+use Rattle.redo_build.specs.Rules.{Ask, Rules, Extends, operands}
+use Rattle.redo_build.specs.Outcomes.{outcome_at}
 use Rattle.redo_core.specs.Build.{rules_of}
-use Rattle.redo_core.specs.Schedule.{Entry, outcomes_of, paths_of, entered, new_entry, nothing_known}
-use Rattle.redo_core.specs.Slots.{table_entries, entries_from, slot_entries, slot_entry, stage_deps, stage_outcome, path_at, is_stage_out, is_stage_ready, is_stage_waiting, Fits, AllFit, AllWatched, AllWatchersBelow, IsWatched, IsPlace, IsQueue, IsTable, IsTableOf, IsNumbered, AllNumbered, IsBegun, IsPushed, IsEnteredInto, IsFull}
+use Rattle.redo_build.specs.Schedule.{Entry, outcomes_of, paths_of, entered, new_entry, nothing_known}
+use Rattle.redo_core.specs.inside.Slots.{table_entries, entries_from, slot_entries, slot_entry, stage_deps, stage_outcome, path_at, is_stage_out, is_stage_ready, is_stage_waiting, Fits, AllFit, AllWatched, AllWatchersBelow, IsWatched, IsPlace, IsQueue, IsTable, IsTableOf, IsNumbered, AllNumbered, IsBegun, IsPushed, IsEnteredInto, IsFull}
 use Rattle.redo_core.specs.declared.table.Slot.{Slot}
 use Rattle.redo_core.specs.declared.table.Table.{Table}
 use Rattle.redo_core.specs.declared.table.Stage.{Stage}
 use Rattle.redo_core.specs.declared.table.Stage.TheVariants.{Waiting, Ready, Out, Decided}
-use Rattle.redo_core.proofs.Numbers.{numbered-kept, numbered-still}
-use Rattle.redo_core.proofs.PathLists.{is_among-true, is_among-from}
-use Rattle.redo_core.proofs.Entries.{outcomes_of-entry, outcomes_of-at, entry_of-entered_old}
+use Rattle.redo_core.proofs.NumberLemmas.{numbered-kept, numbered-still}
+use Rattle.redo_build.proofs.PathLemmas.{is_among-true, is_among-from}
+use Rattle.redo_build.proofs.SeenLemmas.{outcomes_of-entry, outcomes_of-at, entry_of-entered_old}
 use Rattle.redo_core.proofs.SlotLemmas.{paths_of-slots, slice_get-below_some, slice_get-from}
 use Rattle.redo_core.proofs.TableLemmas.{Fits-more, place-append, place-left, place-right}
 use Rattle.redo_core.proofs.TableSteps.{once-push}
-use Rattle.redo_core.proofs.Lawful.{rules_lawful}
-use Rattle.redo_step.specs.declared.deps.Dep.{Dep}
-use Rattle.redo_step.specs.declared.outcome.Outcome.{Outcome}
+use Rattle.redo_core.proofs.LawfulTreeLemmas.{rules_lawful}
+use Rattle.redo_record.specs.declared.deps.Dep.{Dep}
+use Rattle.redo_record.specs.declared.outcome.Outcome.{Outcome}
+use Rattle.redo_step.specs.Limits.{LimitsView}
 
 get-push_old : {A : Type 0} (xs : List A) (x y : A) (k : ℕ) → slice_get xs k ≡ Some y → slice_get (xs ++ x ∷ []) k ≡ Some y
 get-push_old [] x y k h = cc
@@ -51,7 +52,7 @@ entry-unruled : (r : Rules) (p : List ℕ) (o : Outcome) (ds : List Dep) → r.h
     new_entry r p ≡ record { path = p; turn = 0; deps = ds; outcome = Some o; is_out = false }
 entry-unruled r p o ds h is = rw (h, is) refl
 
-begun-entry : (tree : Tree) (limits : ℕ × ℕ) (a : Ask) (p : List ℕ) (stage : Stage) → IsBegun tree limits p stage →
+begun-entry : (tree : Tree) (limits : LimitsView) (a : Ask) (p : List ℕ) (stage : Stage) → IsBegun tree limits p stage →
     record { path = p; turn = 0; deps = stage_deps (rules_of tree limits) a p 0 stage; outcome = stage_outcome stage; is_out = is_stage_out stage } ≡ new_entry (rules_of tree limits) p
 begun-entry tree limits a p (Waiting parked) h = absurd h
 begun-entry tree limits a p (Ready work) h =
@@ -60,13 +61,13 @@ begun-entry tree limits a p (Ready work) h =
 begun-entry tree limits a p Out h = absurd h
 begun-entry tree limits a p (Decided fact) h = sym (entry-unruled (rules_of tree limits) p _ _ h.3 h.4)
 
-begun-fits : (tree : Tree) (limits : ℕ × ℕ) (r : Rules) (a : Ask) (p : List ℕ) (stage : Stage) → IsBegun tree limits p stage → Fits r a tree limits p 0 stage
+begun-fits : (tree : Tree) (limits : LimitsView) (r : Rules) (a : Ask) (p : List ℕ) (stage : Stage) → IsBegun tree limits p stage → Fits r a tree limits p 0 stage
 begun-fits tree limits r a p (Waiting parked) h = absurd h
 begun-fits tree limits r a p (Ready work) h = (h.0, λ q m none. let P : List Dep → Type 0 = λ ds. IsAmong (operands r ds) q in absurd (subst P h.1 m))
 begun-fits tree limits r a p Out h = absurd h
 begun-fits tree limits r a p (Decided fact) h = (h.0, h.1, h.2)
 
-begun-inside : (tree : Tree) (limits : ℕ × ℕ) (p : List ℕ) (stage : Stage) → IsBegun tree limits p stage → (is_stage_out stage ≡ false) × (is_stage_waiting stage ≡ false)
+begun-inside : (tree : Tree) (limits : LimitsView) (p : List ℕ) (stage : Stage) → IsBegun tree limits p stage → (is_stage_out stage ≡ false) × (is_stage_waiting stage ≡ false)
 begun-inside tree limits p (Waiting parked) h = absurd h
 begun-inside tree limits p (Ready work) h = (refl, refl)
 begun-inside tree limits p Out h = absurd h
@@ -146,43 +147,43 @@ slots-length r a [] (slot ∷ slots) h = absurd (omega arith)
 slots-length r a (p ∷ ps) [] h = refl
 slots-length r a (p ∷ ps) (slot ∷ slots) h = ap suc (slots-length r a ps slots (omega arith))
 
-module _ (tree : Tree) (limits : ℕ × ℕ) (t u : Table) (freed freed' : List ℕ) (p : List ℕ) (table : IsTableOf tree limits t freed)
-    (room : length t.slots.items < limits.0) (out : IsAmong t.targets.keys p → ⊥) (w : IsPushed tree limits t u freed freed' p) where
+module _ (tree : Tree) (limits : LimitsView) (t u : Table) (freed freed' : List ℕ) (p : List ℕ) (table : IsTableOf tree limits t freed)
+    (room : length t.slots.items < limits.targets) (out : IsAmong t.targets.keys p → ⊥) (w : IsPushed tree limits t u freed freed' p) where
   abbrev r : Rules
   r = rules_of tree limits
 
   abbrev a : Ask
-  a = outcome_at (rules_of tree limits) limits.0
+  a = outcome_at (rules_of tree limits) limits.targets
 
   abbrev es : List Entry
-  es = table_entries (rules_of tree limits) limits.0 t
+  es = table_entries (rules_of tree limits) limits.targets t
 
   begun : IsBegun tree limits p w.new.stage
   begun = w.begun
 
-  new-entry : slot_entry (rules_of tree limits) (outcome_at (rules_of tree limits) limits.0) p w.new ≡ new_entry (rules_of tree limits) p
+  new-entry : slot_entry (rules_of tree limits) (outcome_at (rules_of tree limits) limits.targets) p w.new ≡ new_entry (rules_of tree limits) p
   new-entry =
       let P : ℕ → Type 0 = λ n. record { path = p; turn = n; deps = stage_deps r a p n w.new.stage; outcome = stage_outcome w.new.stage; is_out = is_stage_out w.new.stage } ≡ new_entry r p in
       subst P (sym w.turn) (begun-entry tree limits a p w.new.stage w.begun)
 
-  pushed : entries_from (rules_of tree limits) limits.0 (t.targets.keys ++ p ∷ []) (t.slots.items ++ w.new ∷ []) ≡ entered (rules_of tree limits) (table_entries (rules_of tree limits) limits.0 t) (p ∷ [])
+  pushed : entries_from (rules_of tree limits) limits.targets (t.targets.keys ++ p ∷ []) (t.slots.items ++ w.new ∷ []) ≡ entered (rules_of tree limits) (table_entries (rules_of tree limits) limits.targets t) (p ∷ [])
   pushed =
       let raw = slot_entries-push r a t.targets.keys t.slots.items p w.new table.one_each in
       let no : is_among (paths_of es) p ≡ false = (let P : List (List ℕ) → Type 0 = λ xs. is_among xs p ≡ false in
       subst P (sym (paths_of-slots r a t.targets.keys t.slots.items table.one_each)) (not-among t.targets.keys p out)) in
       raw ∙ ap (λ e. es ++ e ∷ []) new-entry ∙ sym (rw no refl)
 
-  more : Extends (rules_of tree limits) (outcomes_of (table_entries (rules_of tree limits) limits.0 t))
-      (outcomes_of (entries_from (rules_of tree limits) limits.0 (t.targets.keys ++ p ∷ []) (t.slots.items ++ w.new ∷ [])))
+  more : Extends (rules_of tree limits) (outcomes_of (table_entries (rules_of tree limits) limits.targets t))
+      (outcomes_of (entries_from (rules_of tree limits) limits.targets (t.targets.keys ++ p ∷ []) (t.slots.items ++ w.new ∷ [])))
   more =
       let P : List Entry → Type 0 = λ xs. Extends r (outcomes_of es) (outcomes_of xs) in
       subst P (sym pushed) (λ q o s h.
       let at = outcomes_of-entry es q o h in
       outcomes_of-at (entered r es (p ∷ [])) q at.0 (entry_of-entered_old r es (p ∷ []) q at.0 at.1) ∙ at.2)
 
-  fits-push : AllFit (rules_of tree limits) limits.0 tree limits (t.targets.keys ++ p ∷ []) (t.slots.items ++ w.new ∷ [])
+  fits-push : AllFit (rules_of tree limits) limits.targets tree limits (t.targets.keys ++ p ∷ []) (t.slots.items ++ w.new ∷ [])
   fits-push k x g =
-      let b = outcomes_of (entries_from (rules_of tree limits) limits.0 (t.targets.keys ++ p ∷ []) (t.slots.items ++ w.new ∷ [])) in
+      let b = outcomes_of (entries_from (rules_of tree limits) limits.targets (t.targets.keys ++ p ∷ []) (t.slots.items ++ w.new ∷ [])) in
       elim (get-push_cases t.slots.items w.new x k g) [
         | inl here ↦
             let path : path_at (t.targets.keys ++ p ∷ []) k ≡ p = ap (path_at (t.targets.keys ++ p ∷ [])) (here.0 ∙ table.one_each) ∙ path_at-end t.targets.keys p in
@@ -230,8 +231,8 @@ module _ (tree : Tree) (limits : ℕ × ℕ) (t u : Table) (freed freed' : List 
         watchers_below = below-push;
       }
 
-  watched-push : (pending : List ℕ) → AllWatched (rules_of tree limits) limits.0 t.targets.keys t.slots.items pending →
-      AllWatched (rules_of tree limits) limits.0 (t.targets.keys ++ p ∷ []) (t.slots.items ++ w.new ∷ []) pending
+  watched-push : (pending : List ℕ) → AllWatched (rules_of tree limits) limits.targets t.targets.keys t.slots.items pending →
+      AllWatched (rules_of tree limits) limits.targets (t.targets.keys ++ p ∷ []) (t.slots.items ++ w.new ∷ []) pending
   watched-push pending all k x g m = elim (get-push_cases t.slots.items w.new x k g) [
     | inl here ↦ absurd (both_ways _ (begun-inside tree limits p w.new.stage w.begun).1 (ap (λ (y : Slot). is_stage_waiting y.stage) here.1 ∙ m))
     | inr old ↦
@@ -270,14 +271,14 @@ module _ (tree : Tree) (limits : ℕ × ℕ) (t u : Table) (freed freed' : List 
       rw w.keys (subst P (sym (end ∙ table.one_each)) (get-push_end t.targets.keys p))
 
 -- a path that is there already
-pub entered-old : (tree : Tree) (limits : ℕ × ℕ) (t : Table) (freed : List ℕ) (p : List ℕ) → IsTableOf tree limits t freed → IsAmong t.targets.keys p →
+pub entered-old : (tree : Tree) (limits : LimitsView) (t : Table) (freed : List ℕ) (p : List ℕ) → IsTableOf tree limits t freed → IsAmong t.targets.keys p →
     IsEnteredInto tree limits t t freed p
 entered-old tree limits t freed p table m = record {
   table = table;
   entries =
       let P : List (List ℕ) → Type 0 = λ xs. is_among xs p ≡ true in
-      let yes' : is_among (paths_of (table_entries (rules_of tree limits) limits.0 t)) p ≡ true =
-      subst P (sym (paths_of-slots (rules_of tree limits) (outcome_at (rules_of tree limits) limits.0) t.targets.keys t.slots.items table.one_each)) (is_among-from t.targets.keys p m) in
+      let yes' : is_among (paths_of (table_entries (rules_of tree limits) limits.targets t)) p ≡ true =
+      subst P (sym (paths_of-slots (rules_of tree limits) (outcome_at (rules_of tree limits) limits.targets) t.targets.keys t.slots.items table.one_each)) (is_among-from t.targets.keys p m) in
       sym (rw yes' refl);
   rest = (refl, refl);
   keys_kept = λ k q h. h;
@@ -285,11 +286,11 @@ entered-old tree limits t freed p table m = record {
   watched = λ pending all. all;
 }
 
-pub full : (tree : Tree) (limits : ℕ × ℕ) (t : Table) (freed : List ℕ) (p : List ℕ) → IsTableOf tree limits t freed → (IsAmong t.targets.keys p → ⊥) →
-    limits.0 ≤ length t.slots.items → IsFull (rules_of tree limits) limits.0 (table_entries (rules_of tree limits) limits.0 t) p
+pub full : (tree : Tree) (limits : LimitsView) (t : Table) (freed : List ℕ) (p : List ℕ) → IsTableOf tree limits t freed → (IsAmong t.targets.keys p → ⊥) →
+    limits.targets ≤ length t.slots.items → IsFull (rules_of tree limits) limits.targets (table_entries (rules_of tree limits) limits.targets t) p
 full tree limits t freed p table out h =
-    let a = outcome_at (rules_of tree limits) limits.0 in
-    let es = table_entries (rules_of tree limits) limits.0 t in
+    let a = outcome_at (rules_of tree limits) limits.targets in
+    let es = table_entries (rules_of tree limits) limits.targets t in
     let P : List (List ℕ) → Type 0 = λ xs. is_among xs p ≡ false in
     let no : is_among (paths_of es) p ≡ false = subst P (sym (paths_of-slots (rules_of tree limits) a t.targets.keys t.slots.items table.one_each)) (not-among t.targets.keys p out) in
     rw no (omega (
@@ -300,25 +301,25 @@ full tree limits t freed p table out h =
     ))
 
 -- what was entered is within the limit
-pub entered-room : (tree : Tree) (limits : ℕ × ℕ) (t u : Table) (freed : List ℕ) (p : List ℕ) → IsEnteredInto tree limits t u freed p →
-    IsFull (rules_of tree limits) limits.0 (table_entries (rules_of tree limits) limits.0 t) p → ⊥
+pub entered-room : (tree : Tree) (limits : LimitsView) (t u : Table) (freed : List ℕ) (p : List ℕ) → IsEnteredInto tree limits t u freed p →
+    IsFull (rules_of tree limits) limits.targets (table_entries (rules_of tree limits) limits.targets t) p → ⊥
 entered-room tree limits t u freed p entered many =
     let r = rules_of tree limits in
     omega (
       arith,
       many,
       ap length entered.entries,
-      slots-length r (outcome_at r limits.0) u.targets.keys u.slots.items entered.table.one_each,
+      slots-length r (outcome_at r limits.targets) u.targets.keys u.slots.items entered.table.one_each,
       entered.table.within_limit,
     )
 
 -- where a slot is free, one more path is within the limit
-pub room-left : (tree : Tree) (limits : ℕ × ℕ) (t : Table) (freed : List ℕ) (p : List ℕ) → IsTableOf tree limits t freed → length t.slots.items < limits.0 →
-    IsFull (rules_of tree limits) limits.0 (table_entries (rules_of tree limits) limits.0 t) p → ⊥
+pub room-left : (tree : Tree) (limits : LimitsView) (t : Table) (freed : List ℕ) (p : List ℕ) → IsTableOf tree limits t freed → length t.slots.items < limits.targets →
+    IsFull (rules_of tree limits) limits.targets (table_entries (rules_of tree limits) limits.targets t) p → ⊥
 room-left tree limits t freed p table room many =
     let r = rules_of tree limits in
-    let es = table_entries (rules_of tree limits) limits.0 t in
-    let len = slots-length r (outcome_at r limits.0) t.targets.keys t.slots.items table.one_each in
+    let es = table_entries (rules_of tree limits) limits.targets t in
+    let len = slots-length r (outcome_at r limits.targets) t.targets.keys t.slots.items table.one_each in
     elim (cases_Bool (is_among (paths_of es) p)) [
       | inl old ↦ let few = rw old at many in omega (arith, few, len, room)
       | inr new ↦ let few = rw new at many in omega (arith, few, len, room, length-append es (new_entry r p ∷ []))

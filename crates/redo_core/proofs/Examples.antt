@@ -5,16 +5,16 @@ use Rattle.redo_script.specs.Reading.{next_byte, at_end, read_on, tokens_of}
 use Rattle.redo_script.specs.Parsing.{parse_on, statements_of}
 use Rattle.redo_script.specs.Texts.{script_in}
 use Rattle.redo_script.specs.declared.fault.Reason.TheVariants as reasons
-use Rattle.redo_step.specs.declared.deps.DepKind.TheVariants.{Change, Create}
-use Rattle.redo_step.specs.declared.outcome.Outcome.TheVariants.{Built, Failed, Cyclic}
-use Rattle.redo_step.specs.declared.outcome.Why.TheVariants as why
+use Rattle.redo_record.specs.declared.deps.DepKind.TheVariants.{Change, Create}
+use Rattle.redo_record.specs.declared.outcome.Outcome.TheVariants.{Built, Failed, Cyclic}
+use Rattle.redo_record.specs.declared.outcome.Why.TheVariants as why
 use Rattle.redo_step.specs.Path.{resolved}
-use Rattle.redo_step.specs.Meaning.{meaning, run}
+use Rattle.redo_step.specs.Statements.{meaning, run}
 use Rattle.redo_step.specs.Setting.{setting_by}
 use Rattle.redo_tree.specs.Tree.{Tree, Directory, File}
-use Rattle.redo_core.specs.Rules.{Rules, asked_under}
-use Rattle.redo_core.specs.Outcomes.{outcome_at, final_outcome, needed_at}
-use Rattle.redo_core.specs.Schedule.{nothing_known}
+use Rattle.redo_build.specs.Rules.{Rules, asked_under}
+use Rattle.redo_build.specs.Outcomes.{outcome_at, final_outcome, needed_at}
+use Rattle.redo_build.specs.Schedule.{nothing_known}
 use Rattle.redo_core.specs.Build.{rules_of}
 
 abbrev line : List ℕ → List ℕ
@@ -33,7 +33,7 @@ tree = ([], Directory)
     ∷ []
 
 abbrev rules : Rules
-rules = rules_of tree (10, 1000)
+rules = rules_of tree (record { targets = 10; file_bytes = 1000 })
 
 first_asks : rules.progress (codes "a") nothing_known ≡ record {
   outcome = None;

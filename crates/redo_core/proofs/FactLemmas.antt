@@ -1,14 +1,13 @@
 -- What facts tell.
-use Rattle.std.proofs.Common.{◌≡◌, ℕ, List, [], ◌∷◌, ◌++◌, Bool, Option, Some, None, inl, inr, map, cond, refl, sym, ap, ◌∙◌, bytes_eq, zero, suc, ◌+◌, ◌<◌, ◌≤◌, length, drop, slice_index_or, arith}
+use Rattle.std.proofs.Common.{◌≡◌, ℕ, List, [], ◌∷◌, ◌++◌, Bool, Option, Some, None, inl, inr, map, cond, refl, sym, ap, ◌∙◌, bytes_eq, zero, suc, ◌+◌, ◌<◌, ◌≤◌, length, drop, slice_index_or, arith, Global}
 use Rattle.std.specs.Arc.{arc_value}
 use Rattle.std.specs.Map.{lookup}
 use Rattle.std.specs.Prelude.{option_map}
 use Rattle.std.specs.declared.sync.Arc.{Arc}
-use Rattle.std.proofs.Common.{Global}
 use Rattle.std.proofs.lemmas.Bool.{cases_Bool, both_ways}
 use Rattle.std.proofs.lemmas.Slice.Eq.{bytes_eq-Decides}
-use Rattle.redo_step.specs.declared.outcome.Outcome.{Outcome}
-use Rattle.redo_core.specs.Works.{few_known}
+use Rattle.redo_record.specs.declared.outcome.Outcome.{Outcome}
+use Rattle.redo_core.specs.inside.Works.{few_known}
 use Rattle.redo_core.specs.Views.{FactView}
 
 -- looking up an outcome is looking up its fact

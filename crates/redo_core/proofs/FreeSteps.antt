@@ -1,39 +1,39 @@
 -- A parked job with all its answers takes over their facts and is made a work.
-use Rattle.std.proofs.Common.{slice_get, slice_set, ◌≡◌, ℕ, zero, suc, true, false, inl, inr, List, [], ◌∷◌, Option, Some, None, refl, sym, ap, subst, ◌∙◌, arith, bytes_eq}
+use Rattle.std.proofs.Common.{slice_get, slice_set, ◌≡◌, ℕ, zero, suc, true, false, inl, inr, List, [], ◌∷◌, Option, Some, None, refl, sym, ap, subst, ◌∙◌, arith, bytes_eq, Global}
 use Rattle.std.proofs.lemmas.Bool.{cases_Bool, cases_lt, both_ways}
 use Rattle.std.proofs.lemmas.Slice.Eq.{bytes_eq-Decides}
 use Rattle.redo_tree.specs.Tree.{Tree}
-use Rattle.redo_step.specs.declared.outcome.Outcome.{Outcome}
+use Rattle.redo_record.specs.declared.outcome.Outcome.{Outcome}
 use Rattle.redo_step.specs.JobView.{JobView}
-use Rattle.redo_core.specs.Paths.{IsAmong, is_among}
-use Rattle.redo_core.specs.Rules.{Ask, Rules, operands}
-use Rattle.redo_core.specs.Outcomes.{outcome_at}
+use Rattle.redo_record.specs.Paths.{IsAmong, is_among}
+use Rattle.redo_build.specs.Rules.{Ask, Rules, operands}
+use Rattle.redo_build.specs.Outcomes.{outcome_at}
 use Rattle.redo_core.specs.Build.{rules_of}
-use Rattle.redo_core.specs.Schedule.{Entry, outcome_of, outcomes_of, entry_of, only}
-use Rattle.redo_core.specs.Works.{job_deps, told_in, IsWorkWith}
-use Rattle.redo_core.specs.Slots.{path_at, table_entries, slot_entries, slot_entry, stage_outcome, is_stage_decided, Fits, IsDecidedSlot, IsDecidedNumber, IsFactAt, waited_by, IsFed, IsFedAs, Gains}
+use Rattle.redo_build.specs.Schedule.{Entry, outcome_of, outcomes_of, entry_of, only}
+use Rattle.redo_core.specs.inside.Works.{job_deps, told_in, IsWorkWith}
+use Rattle.redo_core.specs.inside.Slots.{path_at, table_entries, slot_entries, slot_entry, stage_outcome, is_stage_decided, Fits, IsDecidedSlot, IsDecidedNumber, IsFactAt, waited_by, IsFed, IsFedAs, Gains}
 use Rattle.redo_core.specs.declared.facts.Facts.{Facts}
 use Rattle.redo_core.specs.declared.table.Parked.{Parked}
 use Rattle.redo_core.specs.declared.table.Slot.{Slot}
 use Rattle.redo_core.specs.declared.table.Stage.{Stage}
 use Rattle.redo_core.specs.declared.table.Table.{Table}
 use Rattle.redo_core.specs.declared.table.Stage.TheVariants.{Waiting, Ready, Out, Decided}
-use Rattle.redo_core.proofs.PathLists.{is_among-true}
-use Rattle.redo_core.proofs.Depth.{cases_Option, operand-target}
-use Rattle.redo_core.proofs.Lawful.{rules_lawful}
-use Rattle.redo_core.proofs.Jobs.{asked_of_job, asked_by_job}
-use Rattle.redo_core.proofs.TurnLemmas.{only-among}
+use Rattle.redo_build.proofs.PathLemmas.{is_among-true}
+use Rattle.redo_build.proofs.DepthLemmas.{cases_Option, operand-target}
+use Rattle.redo_core.proofs.LawfulTreeLemmas.{rules_lawful}
+use Rattle.redo_core.proofs.JobLemmas.{asked_of_job, asked_by_job}
+use Rattle.redo_build.proofs.TurnLemmas.{only-among}
 use Rattle.redo_core.proofs.SlotLemmas.{entry_of-slots, slice_get-below_some}
 use Rattle.redo_core.proofs.TableLemmas.{get-set_cases, get-set_other}
 use Rattle.redo_core.proofs.TableSteps.{operand-entry, waited-declared, waited-place}
 use Rattle.redo_core.proofs.GainSteps.{decided-fact}
 use Rattle.redo_core.proofs.FreedLemmas.{distinct-place}
-use Rattle.redo_core.proofs.Numbers.{numbers-number, numbers-path}
-use Rattle.redo_core.proofs.Queues.{slice_get-among}
+use Rattle.redo_core.proofs.NumberLemmas.{numbers-number, numbers-path}
+use Rattle.redo_build.proofs.QueueLemmas.{slice_get-among}
 use Rattle.redo_core.specs.Views.{FactView}
 use Rattle.std.specs.Arc.{arc_value}
 use Rattle.std.specs.declared.sync.Arc.{Arc}
-use Rattle.std.proofs.Common.{Global}
+use Rattle.redo_step.specs.Limits.{LimitsView}
 
 -- the slot of an entry
 pub slot-of-path : (r : Rules) (a : Ask) (ps : List (List ℕ)) (slots : List Slot) (q : List ℕ) (e : Entry) → entry_of (slot_entries r a ps slots) q ≡ Some e →
@@ -74,7 +74,7 @@ known-decided r n t q o h =
       decided = decided-stage found.1.stage o (sym (ap (λ (x : Entry). x.outcome) found.4) ∙ e.2);
     }
 
-module _ (tree : Tree) (limits : ℕ × ℕ) (t : Table) (at : ℕ) (slot : Slot) (parked : Parked) where
+module _ (tree : Tree) (limits : LimitsView) (t : Table) (at : ℕ) (slot : Slot) (parked : Parked) where
   -- what was fed is this job
   pub fed-here : IsFed tree limits t at → slice_get t.slots.items at ≡ Some slot → slot.stage ≡ Waiting parked → IsFedAs tree limits t at slot parked
   fed-here fed there is =
@@ -92,7 +92,7 @@ module _ (tree : Tree) (limits : ℕ × ℕ) (t : Table) (at : ℕ) (slot : Slot
     r = rules_of tree limits
 
     abbrev a : Ask
-    a = outcomes_of (table_entries (rules_of tree limits) limits.0 t)
+    a = outcomes_of (table_entries (rules_of tree limits) limits.targets t)
 
     -- a decided number is another than that of the job
     number-still : (n : ℕ) → IsDecidedNumber t n → IsDecidedNumber u n
@@ -116,16 +116,16 @@ module _ (tree : Tree) (limits : ℕ × ℕ) (t : Table) (at : ℕ) (slot : Slot
     gain-decided k n get = number-still n (elim (cases_lt k parked.held) [
       | inl before ↦
           let path = numbers-number t.targets.keys parked.operands.items (waited_by r parked.begun.value) k n fed.numbered get in
-          elim (cases_Option (outcomes_of (table_entries (rules_of tree limits) limits.0 t) path.0)) [
+          elim (cases_Option (outcomes_of (table_entries (rules_of tree limits) limits.targets t) path.0)) [
             | inl none ↦ absurd (fed.waits.answered k path.0 before path.1 none)
-            | inr some ↦ known-number n path.0 path.2 (known-decided r limits.0 t path.0 some.0 some.1)
+            | inr some ↦ known-number n path.0 path.2 (known-decided r limits.targets t path.0 some.0 some.1)
           ]
       | inr after' ↦ fed.rest k n after' (slice_get-below_some parked.operands.items k n get) get
     ])
 
     -- a fact there is that of the number's path, with an outcome that is known
     fact-known : (n : ℕ) (q : List ℕ) (fact : Arc FactView Global) → slice_get t.targets.keys n ≡ Some q → IsFactAt u n fact →
-        ((arc_value fact).target ≡ q) × (outcomes_of (table_entries (rules_of tree limits) limits.0 t) q ≡ Some (arc_value fact).outcome)
+        ((arc_value fact).target ≡ q) × (outcomes_of (table_entries (rules_of tree limits) limits.targets t) q ≡ Some (arc_value fact).outcome)
     fact-known n q fact path there =
         let get : slice_get (slice_set t.slots.items at gone) n ≡ Some there.0 = sym (ap (λ xs. slice_get xs n) slots) ∙ there.1 in
         elim (get-set_cases t.slots.items at n gone there.0 get) [
@@ -138,7 +138,7 @@ module _ (tree : Tree) (limits : ℕ × ℕ) (t : Table) (at : ℕ) (slot : Slot
               let fits : Fits r a tree limits (path_at t.targets.keys n) there.0.turn (Decided fact) = subst F there.2 (fed.fits n there.0 old.1) in
               let is : path_at t.targets.keys n ≡ q = rw path refl in (
                 fits.2 ∙ is,
-                ap outcome_of (entry_of-slots r (outcome_at r limits.0) t.targets.keys t.slots.items n q there.0 fed.distinct path old.1) ∙ ap stage_outcome there.2,
+                ap outcome_of (entry_of-slots r (outcome_at r limits.targets) t.targets.keys t.slots.items n q there.0 fed.distinct path old.1) ∙ ap stage_outcome there.2,
               )
         ]
 
@@ -147,7 +147,7 @@ module _ (tree : Tree) (limits : ℕ × ℕ) (t : Table) (at : ℕ) (slot : Slot
       job = parked.begun.value.job
 
       -- what it holds is known, and asked for
-      told : (q : List ℕ) (o : Outcome) → told_in facts q ≡ Some o → IsAmong (operands (rules_of tree limits) (job_deps parked.begun.value.job)) q × (outcomes_of (table_entries (rules_of tree limits) limits.0 t) q ≡ Some o)
+      told : (q : List ℕ) (o : Outcome) → told_in facts q ≡ Some o → IsAmong (operands (rules_of tree limits) (job_deps parked.begun.value.job)) q × (outcomes_of (table_entries (rules_of tree limits) limits.targets t) q ≡ Some o)
       told q o h = elim (g.below.origin q o h) [
         | inl old ↦ fed.waits.told q o old
         | inr new ↦

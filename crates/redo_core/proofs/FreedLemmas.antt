@@ -3,22 +3,23 @@ use Rattle.std.proofs.Common.{map, slice_get, ◌≡◌, ℕ, zero, suc, ◌+◌
 use Rattle.std.specs.List.{list_any}
 use Rattle.std.proofs.lemmas.Bool.{cases_Bool, both_ways, and_from, not_from_false}
 use Rattle.redo_tree.specs.Tree.{Tree}
-use Rattle.redo_core.specs.Paths.{IsAmong, AreDistinct, is_among}
-use Rattle.redo_core.specs.Rules.{Ask, Rules, operands}
-use Rattle.redo_core.specs.Outcomes.{outcome_at}
+use Rattle.redo_record.specs.Paths.{IsAmong, AreDistinct, is_among}
+use Rattle.redo_build.specs.Rules.{Ask, Rules, operands}
+use Rattle.redo_build.specs.Outcomes.{outcome_at}
 use Rattle.redo_core.specs.Build.{rules_of}
-use Rattle.redo_core.specs.Schedule.{Entry, State, outcome_of, outcomes_of, paths_of, is_free, lacks_none}
-use Rattle.redo_core.specs.Slots.{state_from, slot_entries, slot_entry, stage_deps, stage_outcome, path_at, is_stage_out, is_stage_ready, is_stage_waiting, AllWatched, AllAnswered, IsPlace, IsTableOf}
+use Rattle.redo_build.specs.Schedule.{Entry, State, outcome_of, outcomes_of, paths_of, is_free, lacks_none}
+use Rattle.redo_core.specs.inside.Slots.{state_from, slot_entries, slot_entry, stage_deps, stage_outcome, path_at, is_stage_out, is_stage_ready, is_stage_waiting, AllWatched, AllAnswered, IsPlace, IsTableOf}
 use Rattle.redo_core.specs.declared.table.Slot.{Slot}
 use Rattle.redo_core.specs.declared.table.Table.{Table}
 use Rattle.redo_core.specs.declared.table.Stage.{Stage}
 use Rattle.redo_core.specs.declared.table.Stage.TheVariants.{Waiting, Ready, Out, Decided}
-use Rattle.redo_core.proofs.PathLists.{is_among-true, is_among-from, IsAmong-same}
-use Rattle.redo_core.proofs.Queues.{slice_get-among}
-use Rattle.redo_core.proofs.Soundness.{is_free-parts, lacks_none-true}
+use Rattle.redo_build.proofs.PathLemmas.{is_among-true, is_among-from, IsAmong-same}
+use Rattle.redo_build.proofs.QueueLemmas.{slice_get-among}
+use Rattle.redo_build.proofs.SoundLemmas.{is_free-parts, lacks_none-true}
 use Rattle.redo_core.proofs.SlotLemmas.{entry_of-slots, slice_get-from, slice_get-below_some, ready-job}
-use Rattle.redo_core.proofs.Places.{AscendFrom, filter-places}
-use Rattle.redo_step.specs.declared.deps.Dep.{Dep}
+use Rattle.redo_core.proofs.PlaceLemmas.{AscendFrom, filter-places}
+use Rattle.redo_record.specs.declared.deps.Dep.{Dep}
+use Rattle.redo_step.specs.Limits.{LimitsView}
 
 pub distinct-place : (ps : List (List ℕ)) (i j : ℕ) (p : List ℕ) → AreDistinct ps → slice_get ps i ≡ Some p → slice_get ps j ≡ Some p → i ≡ j
 distinct-place [] i j p d h g = cc
@@ -45,11 +46,11 @@ map-among : (f : ℕ → List ℕ) (xs : List ℕ) (k : ℕ) → IsPlace xs k �
 map-among f [] k m = absurd m
 map-among f (x ∷ xs) k m = elim m [ inl here ↦ inl (ap f here) | inr later ↦ inr (map-among f xs k later) ]
 
-none-lacks : (f : List ℕ → Option Rattle.redo_step.specs.declared.outcome.Outcome.Outcome) (qs : List (List ℕ)) → ((q : List ℕ) → IsAmong qs q → f q ≡ None → ⊥) → list_any (λ q. is_none (f q)) qs ≡ false
+none-lacks : (f : List ℕ → Option Rattle.redo_record.specs.declared.outcome.Outcome.Outcome) (qs : List (List ℕ)) → ((q : List ℕ) → IsAmong qs q → f q ≡ None → ⊥) → list_any (λ q. is_none (f q)) qs ≡ false
 none-lacks f [] h = refl
 none-lacks f (q ∷ qs) h =
     let rest = none-lacks f qs (λ x m. h x (inr m)) in
-    elim (Rattle.redo_core.proofs.Depth.cases_Option (f q)) [
+    elim (Rattle.redo_build.proofs.DepthLemmas.cases_Option (f q)) [
       | inl none ↦ absurd (h q (inl refl) none)
       | inr some ↦ rw (some.1, rest) refl
     ]
@@ -60,17 +61,17 @@ length-slots r a [] (slot ∷ slots) h = absurd (omega arith)
 length-slots r a (p ∷ ps) [] h = refl
 length-slots r a (p ∷ ps) (slot ∷ slots) h = ap suc (length-slots r a ps slots (omega arith))
 
-module _ (tree : Tree) (limits : ℕ × ℕ) (t : Table) (freed sorted : List ℕ) (table : IsTableOf tree limits t freed) (distinct : AreDistinct t.targets.keys)
-    (watched : AllWatched (rules_of tree limits) limits.0 t.targets.keys t.slots.items [])
+module _ (tree : Tree) (limits : LimitsView) (t : Table) (freed sorted : List ℕ) (table : IsTableOf tree limits t freed) (distinct : AreDistinct t.targets.keys)
+    (watched : AllWatched (rules_of tree limits) limits.targets t.targets.keys t.slots.items [])
     (ascends : AscendFrom 0 sorted) (in' : (k : ℕ) → IsPlace sorted k → IsPlace freed k) (out : (k : ℕ) → IsPlace freed k → IsPlace sorted k) where
   abbrev r : Rules
   r = rules_of tree limits
 
   abbrev a : Ask
-  a = outcome_at (rules_of tree limits) limits.0
+  a = outcome_at (rules_of tree limits) limits.targets
 
   abbrev s : State
-  s = state_from (rules_of tree limits) limits.0 t.targets.keys t.slots.items t.ready.items
+  s = state_from (rules_of tree limits) limits.targets t.targets.keys t.slots.items t.ready.items
 
   key-at : (k : ℕ) → k < length t.slots.items → slice_get t.targets.keys k ≡ Some (path_at t.targets.keys k)
   key-at k h =

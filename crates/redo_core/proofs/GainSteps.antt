@@ -7,17 +7,17 @@ use Rattle.std.proofs.lemmas.List.{append_assoc}
 use Rattle.std.proofs.lemmas.Bool.{cases_Bool, cases_lt}
 use Rattle.std.proofs.lemmas.Slice.Eq.{bytes_eq-Decides}
 use Rattle.redo_core.specs.Views.{FactView}
-use Rattle.redo_step.specs.declared.outcome.Outcome.{Outcome}
-use Rattle.redo_core.specs.Works.{told_in, few_known, entries_known, more_known, AddsFact}
+use Rattle.redo_record.specs.declared.outcome.Outcome.{Outcome}
+use Rattle.redo_core.specs.inside.Works.{told_in, few_known, entries_known, more_known, AddsFact}
 use Rattle.std.specs.declared.vec.Vec.{Vec}
-use Rattle.redo_core.specs.Slots.{is_stage_decided, is_stage_out, IsFactAt, GainsOne, GainsBelow}
+use Rattle.redo_core.specs.inside.Slots.{is_stage_decided, is_stage_out, IsFactAt, GainsOne, GainsBelow}
 use Rattle.redo_core.specs.declared.facts.Facts.{Facts}
 use Rattle.redo_core.specs.declared.table.Table.{Table}
 use Rattle.redo_core.specs.declared.table.Slot.{Slot}
 use Rattle.redo_core.specs.declared.table.Stage.{Stage}
 use Rattle.redo_core.specs.declared.table.Stage.TheVariants.{Waiting, Ready, Out, Decided}
 use Rattle.redo_core.proofs.FactLemmas.{insert-told, first_of, lookup-append, map-push, either-way}
-use Rattle.redo_core.proofs.Depth.{cases_Option}
+use Rattle.redo_build.proofs.DepthLemmas.{cases_Option}
 
 pub decided-fact : (stage : Stage) → is_stage_decided stage ≡ true → (fact : Arc FactView Global) × (stage ≡ Decided fact)
 decided-fact (Waiting p) h = cc

@@ -2,23 +2,24 @@
 use Rattle.std.proofs.Common.{slice_get, slice_set, ◌≡◌, ℕ, ◌<◌, ◌≤◌, inl, inr, ◌⊎◌, List, ◌∷◌, ◌++◌, length, length-set, true, false, Some, None, refl, sym, ap, subst, ◌∙◌, arith}
 use Rattle.std.proofs.lemmas.Bool.{cases_lt}
 use Rattle.redo_tree.specs.Tree.{Tree}
-use Rattle.redo_step.specs.declared.deps.Dep.{Dep}
-use Rattle.redo_core.specs.Rules.{Rules}
-use Rattle.redo_core.specs.Outcomes.{outcome_at}
+use Rattle.redo_record.specs.declared.deps.Dep.{Dep}
+use Rattle.redo_build.specs.Rules.{Rules}
+use Rattle.redo_build.specs.Outcomes.{outcome_at}
 use Rattle.redo_core.specs.Build.{rules_of}
-use Rattle.redo_core.specs.Schedule.{Entry, outcomes_of}
-use Rattle.redo_core.specs.Standing.{AreStanding}
-use Rattle.redo_core.specs.Slots.{table_entries, slot_entry, stage_deps, stage_outcome, is_stage_ready, is_stage_waiting, is_stage_decided, path_at, Fits, AllWatched, IsPlace, AreNumbers, IsNumbered, waited_by, IsTable, IsTableOf, IsStandingTable, IsWaitingWith, IsLackingAt, IsHeldAt, IsWatchAdded, IsLookedAt}
+use Rattle.redo_build.specs.Schedule.{Entry, outcomes_of}
+use Rattle.redo_build.specs.inside.Standing.{AreStanding}
+use Rattle.redo_core.specs.inside.Slots.{table_entries, slot_entry, stage_deps, stage_outcome, is_stage_ready, is_stage_waiting, is_stage_decided, path_at, Fits, AllWatched, IsPlace, AreNumbers, IsNumbered, waited_by, IsTable, IsTableOf, IsStandingTable, IsWaitingWith, IsLackingAt, IsHeldAt, IsWatchAdded, IsLookedAt}
 use Rattle.redo_core.specs.declared.table.Parked.{Parked}
 use Rattle.redo_core.specs.declared.table.Slot.{Slot}
 use Rattle.redo_core.specs.declared.table.Stage.{Stage}
 use Rattle.redo_core.specs.declared.table.Stage.TheVariants.{Waiting}
 use Rattle.redo_core.specs.declared.table.Table.{Table}
-use Rattle.redo_core.proofs.Numbers.{numbers-path}
+use Rattle.redo_core.proofs.NumberLemmas.{numbers-path}
 use Rattle.redo_core.proofs.TableLemmas.{cases_place, get-set_same, get-set_other, watched-set, IsWatched-set}
 use Rattle.redo_core.proofs.TableSteps.{number-decided, parked_numbered, decided-known, entries-same, table-same, queue-same, watch-table, watch-looked}
+use Rattle.redo_step.specs.Limits.{LimitsView}
 
-module _ (tree : Tree) (limits : ℕ × ℕ) (t : Table) (freed : List ℕ) (table : IsTableOf tree limits t freed) (standing : IsStandingTable tree limits t)
+module _ (tree : Tree) (limits : LimitsView) (t : Table) (freed : List ℕ) (table : IsTableOf tree limits t freed) (standing : IsStandingTable tree limits t)
     (at : ℕ) (slot : Slot) (parked : Parked) (there : slice_get t.slots.items at ≡ Some slot) (is : slot.stage ≡ Waiting parked)
     (v : Table) (i place : ℕ) (h : IsHeldAt t v at i) (l : IsLackingAt t parked.operands.items parked.held i place) where
   abbrev r : Rules
@@ -47,22 +48,22 @@ module _ (tree : Tree) (limits : ℕ × ℕ) (t : Table) (freed : List ℕ) (tab
   old-open : stage_outcome slot.stage ≡ None
   old-open = rw is refl
 
-  deps-same : (p : List ℕ) → stage_deps (rules_of tree limits) (outcome_at (rules_of tree limits) limits.0) p h.new.turn h.new.stage ≡ stage_deps (rules_of tree limits) (outcome_at (rules_of tree limits) limits.0) p slot.turn slot.stage
+  deps-same : (p : List ℕ) → stage_deps (rules_of tree limits) (outcome_at (rules_of tree limits) limits.targets) p h.new.turn h.new.stage ≡ stage_deps (rules_of tree limits) (outcome_at (rules_of tree limits) limits.targets) p slot.turn slot.stage
   unfolding held
   deps-same p =
-      let D : Stage → Type 0 = λ st. stage_deps r (outcome_at r limits.0) p h.new.turn st ≡ Rattle.redo_core.specs.Works.job_deps parked.begun.value.job in
-      let E : Stage → Type 0 = λ st. stage_deps r (outcome_at r limits.0) p slot.turn st ≡ Rattle.redo_core.specs.Works.job_deps parked.begun.value.job in
+      let D : Stage → Type 0 = λ st. stage_deps r (outcome_at r limits.targets) p h.new.turn st ≡ Rattle.redo_core.specs.inside.Works.job_deps parked.begun.value.job in
+      let E : Stage → Type 0 = λ st. stage_deps r (outcome_at r limits.targets) p slot.turn st ≡ Rattle.redo_core.specs.inside.Works.job_deps parked.begun.value.job in
       let one = subst D (sym held-is) refl in
       let two = subst E (sym is) refl in
       one ∙ sym two
 
-  same-entry : slot_entry (rules_of tree limits) (outcome_at (rules_of tree limits) limits.0) (path_at t.targets.keys at) h.new ≡
-      slot_entry (rules_of tree limits) (outcome_at (rules_of tree limits) limits.0) (path_at t.targets.keys at) slot
+  same-entry : slot_entry (rules_of tree limits) (outcome_at (rules_of tree limits) limits.targets) (path_at t.targets.keys at) h.new ≡
+      slot_entry (rules_of tree limits) (outcome_at (rules_of tree limits) limits.targets) (path_at t.targets.keys at) slot
   same-entry =
       let E : ℕ → List Dep → Entry = λ n ds. record { path = path_at t.targets.keys at; turn = n; deps = ds; outcome = None; is_out = false } in
-      let D : ℕ → Stage → List Dep = λ n st. stage_deps r (outcome_at r limits.0) (path_at t.targets.keys at) n st in
-      let one : slot_entry r (outcome_at r limits.0) (path_at t.targets.keys at) h.new ≡ E h.new.turn (D h.new.turn h.new.stage) = rw held-is refl in
-      let two : slot_entry r (outcome_at r limits.0) (path_at t.targets.keys at) slot ≡ E slot.turn (D slot.turn slot.stage) = rw is refl in
+      let D : ℕ → Stage → List Dep = λ n st. stage_deps r (outcome_at r limits.targets) (path_at t.targets.keys at) n st in
+      let one : slot_entry r (outcome_at r limits.targets) (path_at t.targets.keys at) h.new ≡ E h.new.turn (D h.new.turn h.new.stage) = rw held-is refl in
+      let two : slot_entry r (outcome_at r limits.targets) (path_at t.targets.keys at) slot ≡ E slot.turn (D slot.turn slot.stage) = rw is refl in
       one ∙ ap (λ n. E n (D h.new.turn h.new.stage)) turn-same ∙ ap (E slot.turn) (deps-same (path_at t.targets.keys at)) ∙ sym two
 
   numbers : AreNumbers t.targets.keys parked.operands.items (waited_by (rules_of tree limits) parked.begun.value)
@@ -72,10 +73,10 @@ module _ (tree : Tree) (limits : ℕ × ℕ) (t : Table) (freed : List ℕ) (tab
   unfolding held
   held-numbered = let P : Stage → Type 0 = IsNumbered r t.targets.keys in subst P (sym held-is) numbers
 
-  held-fits : Fits (rules_of tree limits) (outcomes_of (table_entries (rules_of tree limits) limits.0 t)) tree limits (path_at t.targets.keys at) h.new.turn h.new.stage
+  held-fits : Fits (rules_of tree limits) (outcomes_of (table_entries (rules_of tree limits) limits.targets t)) tree limits (path_at t.targets.keys at) h.new.turn h.new.stage
   unfolding held
   held-fits =
-      let a = outcomes_of (table_entries r limits.0 t) in
+      let a = outcomes_of (table_entries r limits.targets t) in
       let P : Stage → Type 0 = Fits r a tree limits (path_at t.targets.keys at) slot.turn in
       let w : IsWaitingWith r a tree limits (path_at t.targets.keys at) slot.turn parked = subst P is (table.fits at slot there) in
       let Q : Stage → Type 0 = Fits r a tree limits (path_at t.targets.keys at) h.new.turn in
@@ -107,21 +108,21 @@ module _ (tree : Tree) (limits : ℕ × ℕ) (t : Table) (freed : List ℕ) (tab
       let S : List Slot → Type 0 = λ xs. IsTable r tree limits t.targets.keys xs t.ready.items t.out freed in
       rw (h.rest.0, h.rest.1, h.rest.2) (subst S (sym h.slots) raw)
 
-  pub held-entries : table_entries (rules_of tree limits) limits.0 v ≡ table_entries (rules_of tree limits) limits.0 t
+  pub held-entries : table_entries (rules_of tree limits) limits.targets v ≡ table_entries (rules_of tree limits) limits.targets t
   held-entries = rw (h.rest.0, h.slots) (entries-same tree limits t freed table standing at slot h.new there old-open new-open same-entry)
 
   pub held-standing : IsStandingTable tree limits v
   held-standing = let S : List Entry → Type 0 = AreStanding r standing.0 in (standing.0, subst S (sym held-entries) standing.1)
 
-  held-watched : (pending : List ℕ) → AllWatched (rules_of tree limits) limits.0 t.targets.keys t.slots.items pending → AllWatched (rules_of tree limits) limits.0 v.targets.keys v.slots.items pending
+  held-watched : (pending : List ℕ) → AllWatched (rules_of tree limits) limits.targets t.targets.keys t.slots.items pending → AllWatched (rules_of tree limits) limits.targets v.targets.keys v.slots.items pending
   held-watched pending all =
       let list = ap (λ (y : Rattle.std.specs.declared.vec.Vec.Vec ℕ Rattle.std.proofs.Common.Global). y.items) (h.watchers ∙ ap (λ (y : Slot). y.watchers) same-slot) in
       let more : (j : ℕ) → IsPlace slot.watchers.items j → IsPlace h.new.watchers.items j = λ j m. (let L : List ℕ → Type 0 = λ xs. IsPlace xs j in subst L (sym list) m) in
-      rw (h.rest.0, h.slots) (watched-set t.slots.items at slot h.new there r limits.0 t.targets.keys pending new-open more
+      rw (h.rest.0, h.slots) (watched-set t.slots.items at slot h.new there r limits.targets t.targets.keys pending new-open more
       (λ _. elim (all at slot there (rw is refl)) [
         | inl m ↦ inl m
         | inr w ↦
-            let W : List Dep → Type 0 = λ ds. Rattle.redo_core.specs.Slots.IsWatched r t.targets.keys (slice_set t.slots.items at h.new) at ds in
+            let W : List Dep → Type 0 = λ ds. Rattle.redo_core.specs.inside.Slots.IsWatched r t.targets.keys (slice_set t.slots.items at h.new) at ds in
             inr (subst W (sym (deps-same (path_at t.targets.keys at))) (IsWatched-set t.slots.items at slot h.new there r t.targets.keys at _ new-open more w))
       ])
       (λ k x other g m. all k x g m))

@@ -1,18 +1,17 @@
 -- Putting back what a target that was out came to.
-use Rattle.std.proofs.Common.{slice_get, slice_set, ◌≡◌, ℕ, ◌+◌, ◌<◌, ◌≤◌, Bool, true, false, ◌⊎◌, inl, inr, List, [], ◌∷◌, length, length-set, filter, Option, Some, None, refl, sym, ap, subst, ◌∙◌, arith}
+use Rattle.std.proofs.Common.{slice_get, slice_set, ◌≡◌, ℕ, ◌+◌, ◌<◌, ◌≤◌, Bool, true, false, ◌⊎◌, inl, inr, List, [], ◌∷◌, length, length-set, filter, Option, Some, None, refl, sym, ap, subst, ◌∙◌, arith, Global}
 use Rattle.std.proofs.lemmas.Bool.{cases_Bool, both_ways}
 use Rattle.redo_tree.specs.Tree.{Tree}
-use Rattle.redo_core.specs.Paths.{AreDistinct}
-use Rattle.redo_core.specs.Rules.{Ask, Rules, Extends}
-use Rattle.redo_core.specs.Outcomes.{outcome_at}
+use Rattle.redo_record.specs.Paths.{AreDistinct}
+use Rattle.redo_build.specs.Rules.{Ask, Rules, Extends}
+use Rattle.redo_build.specs.Outcomes.{outcome_at}
 use Rattle.redo_core.specs.Build.{rules_of}
-use Rattle.redo_core.specs.Schedule.{outcomes_of, put}
+use Rattle.redo_build.specs.Schedule.{outcomes_of, put}
 use Rattle.redo_core.specs.Views.{FactView}
-use Rattle.redo_core.specs.Slots.{table_entries, entries_from, slot_entry, stage_deps, stage_outcome, path_at, is_stage_out, is_stage_ready, is_stage_waiting, Fits, AllWatched, IsPlace, IsTable, IsTableOf, IsPutBack, IsDecidedAt, IsParkedAt, IsDecidedStage, IsParkedStage, IsWaitingWith, IsNumbered, AreNumbers, waited_by}
+use Rattle.redo_core.specs.inside.Slots.{table_entries, entries_from, slot_entry, stage_deps, stage_outcome, path_at, is_stage_out, is_stage_ready, is_stage_waiting, Fits, AllWatched, IsPlace, IsTable, IsTableOf, IsPutBack, IsDecidedAt, IsParkedAt, IsDecidedStage, IsParkedStage, IsWaitingWith, IsNumbered, AreNumbers, waited_by}
 use Rattle.std.specs.Prelude.{Box}
 use Rattle.std.specs.declared.vec.Vec.{Vec}
-use Rattle.redo_core.proofs.Numbers.{numbered-set, numbered-still}
-use Rattle.std.proofs.Common.{Global}
+use Rattle.redo_core.proofs.NumberLemmas.{numbered-set, numbered-still}
 use Rattle.redo_core.specs.declared.work.Begun.{Begun}
 use Rattle.redo_core.specs.declared.table.Parked.{Parked}
 use Rattle.redo_core.specs.declared.table.Slot.{Slot}
@@ -22,7 +21,8 @@ use Rattle.redo_core.specs.declared.table.Stage.TheVariants.{Waiting, Ready, Out
 use Rattle.redo_core.proofs.SlotLemmas.{slot_entries-set, slice_get-from, slice_get-below_some}
 use Rattle.redo_core.proofs.TableLemmas.{Fits-more, get-set_cases, get-set_other, fits-set, outcomes-more, watchers-set, IsWatched-set, cases_place}
 use Rattle.redo_core.proofs.TableSteps.{queue-same}
-use Rattle.redo_core.proofs.Lawful.{rules_lawful}
+use Rattle.redo_core.proofs.LawfulTreeLemmas.{rules_lawful}
+use Rattle.redo_step.specs.Limits.{LimitsView}
 
 count-back : (xs : List Slot) (at : ℕ) (old new : Slot) → slice_get xs at ≡ Some old → is_stage_out old.stage ≡ true → is_stage_out new.stage ≡ false →
     length (filter (λ slot. is_stage_out slot.stage) (slice_set xs at new)) + 1 ≡ length (filter (λ slot. is_stage_out slot.stage) xs)
@@ -35,7 +35,7 @@ count-back (x ∷ xs) (Rattle.std.proofs.Common.suc at) old new h was now =
     let rest = count-back xs at old new h was now in
     elim (cases_Bool (is_stage_out x.stage)) [ inl t ↦ rw t (omega (arith, rest)) | inr f ↦ rw f rest ]
 
-module _ (tree : Tree) (limits : ℕ × ℕ) (t u : Table) (freed : List ℕ) (table : IsTableOf tree limits t freed) (distinct : AreDistinct t.targets.keys)
+module _ (tree : Tree) (limits : LimitsView) (t u : Table) (freed : List ℕ) (table : IsTableOf tree limits t freed) (distinct : AreDistinct t.targets.keys)
     (at : ℕ) (old new : Slot) (w : IsPutBack t u at old new) where
   abbrev r : Rules
   r = rules_of tree limits
@@ -50,12 +50,12 @@ module _ (tree : Tree) (limits : ℕ × ℕ) (t u : Table) (freed : List ℕ) (t
   old_open = rw w.was refl
 
   -- the entries are those before with one replaced
-  pub put-entries : table_entries (rules_of tree limits) limits.0 u ≡
-      put (table_entries (rules_of tree limits) limits.0 t) (slot_entry (rules_of tree limits) (outcome_at (rules_of tree limits) limits.0) (path_at t.targets.keys at) new)
-  put-entries = rw (w.rest.0, w.slots) (slot_entries-set r (outcome_at r limits.0) t.targets.keys t.slots.items at (path_at t.targets.keys at) old new distinct put_path w.there)
+  pub put-entries : table_entries (rules_of tree limits) limits.targets u ≡
+      put (table_entries (rules_of tree limits) limits.targets t) (slot_entry (rules_of tree limits) (outcome_at (rules_of tree limits) limits.targets) (path_at t.targets.keys at) new)
+  put-entries = rw (w.rest.0, w.slots) (slot_entries-set r (outcome_at r limits.targets) t.targets.keys t.slots.items at (path_at t.targets.keys at) old new distinct put_path w.there)
 
   pub put-table : is_stage_out new.stage ≡ false → is_stage_ready new.stage ≡ false → ((k : ℕ) → IsPlace new.watchers.items k → k < length t.slots.items) →
-      ((a : Ask) → Extends (rules_of tree limits) (outcomes_of (table_entries (rules_of tree limits) limits.0 t)) a →
+      ((a : Ask) → Extends (rules_of tree limits) (outcomes_of (table_entries (rules_of tree limits) limits.targets t)) a →
       Fits (rules_of tree limits) a tree limits (path_at t.targets.keys at) new.turn new.stage) → IsNumbered (rules_of tree limits) t.targets.keys new.stage → IsTableOf tree limits u freed
   put-table in' still below fit numbers =
       let len = length-set t.slots.items at new in
@@ -65,10 +65,10 @@ module _ (tree : Tree) (limits : ℕ × ℕ) (t u : Table) (freed : List ℕ) (t
         within_limit = omega (arith, len, table.within_limit);
         few = table.few;
         out_counted = omega (arith, table.out_counted, w.out, count);
-        fits = fits-set r (rules_lawful tree limits) limits.0 t.targets.keys t.slots.items at (path_at t.targets.keys at) old new distinct put_path w.there tree limits
-            (outcomes-more r (rules_lawful tree limits) limits.0 t.targets.keys t.slots.items at (path_at t.targets.keys at) old new distinct put_path w.there old_open)
-            table.fits (fit (outcomes_of (entries_from r limits.0 t.targets.keys (slice_set t.slots.items at new)))
-            (outcomes-more r (rules_lawful tree limits) limits.0 t.targets.keys t.slots.items at (path_at t.targets.keys at) old new distinct put_path w.there old_open));
+        fits = fits-set r (rules_lawful tree limits) limits.targets t.targets.keys t.slots.items at (path_at t.targets.keys at) old new distinct put_path w.there tree limits
+            (outcomes-more r (rules_lawful tree limits) limits.targets t.targets.keys t.slots.items at (path_at t.targets.keys at) old new distinct put_path w.there old_open)
+            table.fits (fit (outcomes_of (entries_from r limits.targets t.targets.keys (slice_set t.slots.items at new)))
+            (outcomes-more r (rules_lawful tree limits) limits.targets t.targets.keys t.slots.items at (path_at t.targets.keys at) old new distinct put_path w.there old_open));
         numbered = numbered-set r t.targets.keys t.slots.items at new numbers table.numbered;
         queue = queue-same t.slots.items t.ready.items freed at old new w.there table.queue (still ∙ sym (rw w.was refl));
         watchers_below = watchers-set t.slots.items at old new w.there below table.watchers_below;
@@ -76,7 +76,7 @@ module _ (tree : Tree) (limits : ℕ × ℕ) (t u : Table) (freed : List ℕ) (t
       let S : List Slot → Type 0 = λ xs. IsTable r tree limits t.targets.keys xs t.ready.items u.out freed in
       rw (w.rest.0, w.rest.1) (subst S (sym w.slots) raw)
 
-decided-stage : (fact : FactView) (tree : Tree) (limits : ℕ × ℕ) (p : List ℕ) (turn : ℕ) (stage : Stage) → IsDecidedStage fact stage →
+decided-stage : (fact : FactView) (tree : Tree) (limits : LimitsView) (p : List ℕ) (turn : ℕ) (stage : Stage) → IsDecidedStage fact stage →
     (fact.tree ≡ tree) → (fact.limits ≡ limits) → (fact.target ≡ p) →
     (is_stage_out stage ≡ false) × (is_stage_ready stage ≡ false) × (is_stage_waiting stage ≡ false) × ((a : Ask) → Fits (rules_of tree limits) a tree limits p turn stage)
 decided-stage fact tree limits p turn (Waiting parked) h a b c = absurd h
@@ -89,7 +89,7 @@ decided-stage fact tree limits p turn (Decided held) h a b c = (
   λ _. (ap (λ (f : FactView). f.tree) h ∙ a, ap (λ (f : FactView). f.limits) h ∙ b, ap (λ (f : FactView). f.target) h ∙ c),
 )
 
-parked-stage : (begun : Box Begun Global) (numbers : Vec ℕ Global) (tree : Tree) (limits : ℕ × ℕ) (b : Ask) (p : List ℕ) (turn : ℕ) (stage : Stage) → IsParkedStage begun numbers stage →
+parked-stage : (begun : Box Begun Global) (numbers : Vec ℕ Global) (tree : Tree) (limits : LimitsView) (b : Ask) (p : List ℕ) (turn : ℕ) (stage : Stage) → IsParkedStage begun numbers stage →
     IsWaitingWith (rules_of tree limits) b tree limits p turn (record { begun = begun; operands = numbers; held = 0 }) →
     (is_stage_out stage ≡ false) × (is_stage_ready stage ≡ false) × (stage_outcome stage ≡ None) ×
     ((a : Ask) → Extends (rules_of tree limits) b a → Fits (rules_of tree limits) a tree limits p turn stage)
@@ -113,7 +113,7 @@ parked-numbers begun numbers r ps (Ready work) h are = absurd h
 parked-numbers begun numbers r ps Out h are = absurd h
 parked-numbers begun numbers r ps (Decided held) h are = absurd h
 
-module _ (tree : Tree) (limits : ℕ × ℕ) (t u : Table) (freed : List ℕ) (table : IsTableOf tree limits t freed) (distinct : AreDistinct t.targets.keys) (at : ℕ) where
+module _ (tree : Tree) (limits : LimitsView) (t u : Table) (freed : List ℕ) (table : IsTableOf tree limits t freed) (distinct : AreDistinct t.targets.keys) (at : ℕ) where
   -- a target that is decided
   module _ (fact : FactView) (pending : List ℕ) (d : IsDecidedAt t u at fact pending)
       (one : fact.tree ≡ tree) (two : fact.limits ≡ limits) (three : fact.target ≡ path_at t.targets.keys at) where
@@ -123,8 +123,8 @@ module _ (tree : Tree) (limits : ℕ × ℕ) (t u : Table) (freed : List ℕ) (t
         put-table tree limits t u freed table distinct at d.old d.new d.put_back h.0 h.1
         (λ k m. absurd (let P : List ℕ → Type 0 = λ xs. IsPlace xs k in subst P d.watchers m)) (λ a more. h.3 a) (numbered-still (rules_of tree limits) t.targets.keys d.new.stage h.2)
 
-    decided-raw : AllWatched (rules_of tree limits) limits.0 t.targets.keys t.slots.items [] →
-        AllWatched (rules_of tree limits) limits.0 t.targets.keys (slice_set t.slots.items at d.new) pending
+    decided-raw : AllWatched (rules_of tree limits) limits.targets t.targets.keys t.slots.items [] →
+        AllWatched (rules_of tree limits) limits.targets t.targets.keys (slice_set t.slots.items at d.new) pending
     decided-raw all k x g m =
         let h = decided-stage fact tree limits (path_at t.targets.keys at) d.new.turn d.new.stage d.stage one two three in
         elim (get-set_cases t.slots.items at k d.new x g) [
@@ -151,37 +151,37 @@ module _ (tree : Tree) (limits : ℕ × ℕ) (t u : Table) (freed : List ℕ) (t
           ]
         ]
 
-    pub decided-watched : AllWatched (rules_of tree limits) limits.0 t.targets.keys t.slots.items [] →
-        AllWatched (rules_of tree limits) limits.0 u.targets.keys u.slots.items pending
+    pub decided-watched : AllWatched (rules_of tree limits) limits.targets t.targets.keys t.slots.items [] →
+        AllWatched (rules_of tree limits) limits.targets u.targets.keys u.slots.items pending
     decided-watched all = rw (d.put_back.rest.0, d.put_back.slots) (decided-raw all)
 
   -- a job that is parked again
   module _ (begun : Box Begun Global) (numbers : Vec ℕ Global) (d : IsParkedAt t u at begun numbers)
-      (waits : IsWaitingWith (rules_of tree limits) (outcomes_of (table_entries (rules_of tree limits) limits.0 t)) tree limits (path_at t.targets.keys at) d.new.turn (record { begun = begun; operands = numbers; held = 0 }))
+      (waits : IsWaitingWith (rules_of tree limits) (outcomes_of (table_entries (rules_of tree limits) limits.targets t)) tree limits (path_at t.targets.keys at) d.new.turn (record { begun = begun; operands = numbers; held = 0 }))
       (are : AreNumbers t.targets.keys numbers.items (waited_by (rules_of tree limits) begun.value)) where
     same_list : d.new.watchers.items ≡ d.old.watchers.items
     same_list = ap (λ (y : Rattle.std.specs.declared.vec.Vec.Vec ℕ Rattle.std.proofs.Common.Global). y.items) d.watchers
 
     pub parked-table : IsTableOf tree limits u freed
     parked-table =
-        let h = parked-stage begun numbers tree limits (outcomes_of (table_entries (rules_of tree limits) limits.0 t)) (path_at t.targets.keys at) d.new.turn d.new.stage d.stage waits in
+        let h = parked-stage begun numbers tree limits (outcomes_of (table_entries (rules_of tree limits) limits.targets t)) (path_at t.targets.keys at) d.new.turn d.new.stage d.stage waits in
         put-table tree limits t u freed table distinct at d.old d.new d.put_back h.0 h.1
         (λ k m. table.watchers_below at k d.old d.put_back.there (rw same_list at m)) h.3
         (parked-numbers begun numbers (rules_of tree limits) t.targets.keys d.new.stage d.stage are)
 
-    parked-raw : AllWatched (rules_of tree limits) limits.0 t.targets.keys t.slots.items [] →
-        AllWatched (rules_of tree limits) limits.0 t.targets.keys (slice_set t.slots.items at d.new) (at ∷ [])
+    parked-raw : AllWatched (rules_of tree limits) limits.targets t.targets.keys t.slots.items [] →
+        AllWatched (rules_of tree limits) limits.targets t.targets.keys (slice_set t.slots.items at d.new) (at ∷ [])
     parked-raw all k x g m =
-        let h = parked-stage begun numbers tree limits (outcomes_of (table_entries (rules_of tree limits) limits.0 t)) (path_at t.targets.keys at) d.new.turn d.new.stage d.stage waits in
+        let h = parked-stage begun numbers tree limits (outcomes_of (table_entries (rules_of tree limits) limits.targets t)) (path_at t.targets.keys at) d.new.turn d.new.stage d.stage waits in
         elim (get-set_cases t.slots.items at k d.new x g) [
           | inl here ↦ inl (inl (sym here.0))
           | inr before ↦ elim (all k x before.1 m) [
             | inl none ↦ absurd none
             | inr v ↦ inr (IsWatched-set t.slots.items at d.old d.new d.put_back.there (rules_of tree limits) t.targets.keys k
-                (stage_deps (rules_of tree limits) (outcome_at (rules_of tree limits) limits.0) (path_at t.targets.keys k) x.turn x.stage) h.2 (λ j p. rw same_list p) v)
+                (stage_deps (rules_of tree limits) (outcome_at (rules_of tree limits) limits.targets) (path_at t.targets.keys k) x.turn x.stage) h.2 (λ j p. rw same_list p) v)
           ]
         ]
 
-    pub parked-watched : AllWatched (rules_of tree limits) limits.0 t.targets.keys t.slots.items [] →
-        AllWatched (rules_of tree limits) limits.0 u.targets.keys u.slots.items (at ∷ [])
+    pub parked-watched : AllWatched (rules_of tree limits) limits.targets t.targets.keys t.slots.items [] →
+        AllWatched (rules_of tree limits) limits.targets u.targets.keys u.slots.items (at ∷ [])
     parked-watched all = rw (d.put_back.rest.0, d.put_back.slots) (parked-raw all)

@@ -2,31 +2,29 @@
 use Rattle.std.proofs.Common.{map, remove, slice_get, slice_set, slice_index_or, option_and_then, ◌≡◌, ℕ, zero, suc, ◌<◌, ◌≤◌, Bool, true, false, inl, inr, List, [], ◌∷◌, length, filter, Option, Some, None, is_some, IsNone, rules, refl, sym, ap, subst, ◌∙◌, arith, bytes_eq}
 use Rattle.std.proofs.lemmas.Bool.{cases_Bool}
 use Rattle.redo_tree.specs.Tree.{Tree}
-use Rattle.redo_core.specs.Rules.{Ask, Rules, AreLawful}
-use Rattle.redo_core.specs.Outcomes.{outcome_at}
-use Rattle.redo_core.proofs.Entries.{entry_of-path, decided_count-length}
-use Rattle.redo_core.specs.Standing.{decided_count}
-use Rattle.redo_core.proofs.Depth.{deeper}
-use Rattle.redo_core.proofs.TurnLemmas.{deps_at_turn-more, Extends-trans'}
-use Rattle.redo_core.proofs.Standing.{outcomes_of-deep}
-use Rattle.redo_core.specs.Standing.{AreStanding}
-use Rattle.redo_core.specs.Schedule.{Entry, paths_of, entry_of, outcomes_of}
-use Rattle.redo_core.specs.Slots.{slot_entries, stage_outcome, is_stage_out, is_stage_ready, Fits, AllAnswered, entries_from}
+use Rattle.redo_build.specs.Rules.{Ask, Rules, AreLawful}
+use Rattle.redo_build.specs.Outcomes.{outcome_at}
+use Rattle.redo_build.proofs.SeenLemmas.{entry_of-path, decided_count-length}
+use Rattle.redo_build.specs.inside.Standing.{decided_count, AreStanding}
+use Rattle.redo_build.proofs.DepthLemmas.{deeper}
+use Rattle.redo_build.proofs.TurnLemmas.{deps_at_turn-more, Extends-trans'}
+use Rattle.redo_build.proofs.StandingLemmas.{outcomes_of-deep}
+use Rattle.redo_build.specs.Schedule.{Entry, paths_of, entry_of, outcomes_of, State, put, sent_out, taken, happens}
+use Rattle.redo_core.specs.inside.Slots.{slot_entries, stage_outcome, is_stage_out, is_stage_ready, Fits, AllAnswered, entries_from, slot_entry, stage_deps, path_at, state_from, IsParked}
 use Rattle.redo_core.specs.declared.table.Slot.{Slot}
 use Rattle.redo_core.specs.declared.table.Stage.{Stage}
 use Rattle.redo_core.specs.declared.table.Stage.TheVariants.{Waiting, Ready, Out, Decided}
 use Rattle.redo_core.specs.declared.work.Work.{Work}
-use Rattle.redo_core.specs.Paths.{AreDistinct}
-use Rattle.redo_core.specs.Schedule.{State, put, sent_out, taken, happens}
-use Rattle.redo_core.specs.Schedule.Event.{Take}
-use Rattle.redo_core.specs.Slots.{slot_entry, stage_deps, path_at, state_from, IsParked}
-use Rattle.redo_core.specs.Turns.{deps_at_turn}
-use Rattle.redo_core.proofs.PathLists.{IsAmong-same}
-use Rattle.redo_core.proofs.Queues.{slice_get-among}
-use Rattle.redo_core.proofs.Soundness.{IsSound}
-use Rattle.redo_step.specs.declared.deps.Dep.{Dep}
-use Rattle.redo_step.specs.declared.outcome.Outcome.{Outcome}
+use Rattle.redo_record.specs.Paths.{AreDistinct}
+use Rattle.redo_build.specs.Schedule.Event.{Take}
+use Rattle.redo_build.specs.inside.Turns.{deps_at_turn}
+use Rattle.redo_build.proofs.PathLemmas.{IsAmong-same}
+use Rattle.redo_build.proofs.QueueLemmas.{slice_get-among}
+use Rattle.redo_build.proofs.SoundLemmas.{IsSound}
+use Rattle.redo_record.specs.declared.deps.Dep.{Dep}
+use Rattle.redo_record.specs.declared.outcome.Outcome.{Outcome}
 use Rattle.std.proofs.lemmas.Slice.Eq.{bytes_eq-Decides}
+use Rattle.redo_step.specs.Limits.{LimitsView}
 
 -- as many entries are out as slots
 pub out_count-slots : (r : Rules) (a : Ask) (ps : List (List ℕ)) (slots : List Slot) → length slots ≡ length ps →
@@ -105,7 +103,7 @@ length-filter_le f (x ∷ xs) = elim (cases_Bool (f x)) [
 ]
 
 -- a ready slot has its job
-pub ready-job : (r : Rules) (a : Ask) (tree : Tree) (limits : ℕ × ℕ) (p : List ℕ) (turn : ℕ) (stage : Stage) → Fits r a tree limits p turn stage →
+pub ready-job : (r : Rules) (a : Ask) (tree : Tree) (limits : LimitsView) (p : List ℕ) (turn : ℕ) (stage : Stage) → Fits r a tree limits p turn stage →
     is_stage_ready stage ≡ true → (work : Work) × (stage ≡ Ready work) × IsParked tree limits p turn work × AllAnswered r a work.deps
 ready-job r a tree limits p turn (Ready work) h t = (work, refl, h.0, h.1)
 ready-job r a tree limits p turn (Waiting work) h t = cc

@@ -2,21 +2,22 @@
 use Rattle.std.proofs.Common.{drop, remove, slice_get, slice_set, ◌≡◌, ℕ, zero, suc, ◌<◌, true, ◌⊎◌, inl, inr, List, [], ◌∷◌, ◌++◌, length, length-set, Some, None, refl, sym, ap, subst, ◌∙◌, arith, bytes_eq}
 use Rattle.std.proofs.lemmas.Bool.{cases_Bool, both_ways}
 use Rattle.redo_tree.specs.Tree.{Tree}
-use Rattle.redo_core.specs.Paths.{IsAmong, AreDistinct}
-use Rattle.redo_core.specs.Rules.{Ask, Rules, AreLawful, Extends, operands}
-use Rattle.redo_core.proofs.Entries.{entry_of-put_other}
-use Rattle.redo_step.specs.declared.deps.Dep.{Dep}
-use Rattle.redo_core.specs.Outcomes.{outcome_at}
-use Rattle.redo_core.specs.Schedule.{outcome_of, outcomes_of}
-use Rattle.redo_core.specs.Slots.{entries_from, slot_entry, stage_deps, stage_outcome, path_at, is_stage_waiting, Fits, AllFit, waited_by, AllWatched, AllWatchersBelow, IsWatched, IsPlace}
-use Rattle.redo_core.specs.Works.{job_deps}
+use Rattle.redo_record.specs.Paths.{IsAmong, AreDistinct}
+use Rattle.redo_build.specs.Rules.{Ask, Rules, AreLawful, Extends, operands}
+use Rattle.redo_build.proofs.SeenLemmas.{entry_of-put_other}
+use Rattle.redo_record.specs.declared.deps.Dep.{Dep}
+use Rattle.redo_build.specs.Outcomes.{outcome_at}
+use Rattle.redo_build.specs.Schedule.{outcome_of, outcomes_of}
+use Rattle.redo_core.specs.inside.Slots.{entries_from, slot_entry, stage_deps, stage_outcome, path_at, is_stage_waiting, Fits, AllFit, waited_by, AllWatched, AllWatchersBelow, IsWatched, IsPlace}
+use Rattle.redo_core.specs.inside.Works.{job_deps}
 use Rattle.redo_core.specs.declared.table.Slot.{Slot}
 use Rattle.redo_core.specs.declared.table.Stage.{Stage}
 use Rattle.redo_core.specs.declared.table.Stage.TheVariants.{Waiting, Ready, Out, Decided}
-use Rattle.redo_core.proofs.Depth.{cases_Option, operand-target}
-use Rattle.redo_core.proofs.Queues.{slice_get-among}
+use Rattle.redo_build.proofs.DepthLemmas.{cases_Option, operand-target}
+use Rattle.redo_build.proofs.QueueLemmas.{slice_get-among}
 use Rattle.redo_core.proofs.SlotLemmas.{entry_of-slots, slot_entries-set}
 use Rattle.std.proofs.lemmas.Slice.Eq.{bytes_eq-Decides}
+use Rattle.redo_step.specs.Limits.{LimitsView}
 
 pub slice_get-place : (xs : List ℕ) (i k : ℕ) → slice_get xs i ≡ Some k → IsPlace xs k
 slice_get-place [] i k h = cc
@@ -88,7 +89,7 @@ cases_place zero (suc at) = inr (λ e. absurd (omega arith))
 cases_place (suc i) zero = inr (λ e. absurd (omega arith))
 cases_place (suc i) (suc at) = elim (cases_place i at) [ inl e ↦ inl (ap suc e) | inr n ↦ inr (λ e. n (let f : i ≡ at = omega arith in f)) ]
 
-pub Fits-more : (r : Rules) (lawful : AreLawful r) (a b : Ask) (tree : Tree) (limits : ℕ × ℕ) (p : List ℕ) (turn : ℕ) (stage : Stage) → Extends r a b →
+pub Fits-more : (r : Rules) (lawful : AreLawful r) (a b : Ask) (tree : Tree) (limits : LimitsView) (p : List ℕ) (turn : ℕ) (stage : Stage) → Extends r a b →
     Fits r a tree limits p turn stage → Fits r b tree limits p turn stage
 Fits-more r lawful a b tree limits p turn (Waiting parked) more h = record {
   is_job = h.is_job;
@@ -148,7 +149,7 @@ module _ (r : Rules) (lawful : AreLawful r) (n : ℕ) (ps : List (List ℕ)) (sl
     | inr f ↦ outcomes-other q (λ is. both_ways _ f ((bytes_eq-Decides p q).1 is)) ∙ h
   ]
 
-  pub fits-set : (tree : Tree) (limits : ℕ × ℕ) → Extends r (outcomes_of (entries_from r n ps slots)) (outcomes_of (entries_from r n ps (slice_set slots at new))) →
+  pub fits-set : (tree : Tree) (limits : LimitsView) → Extends r (outcomes_of (entries_from r n ps slots)) (outcomes_of (entries_from r n ps (slice_set slots at new))) →
       AllFit r n tree limits ps slots →
       Fits r (outcomes_of (entries_from r n ps (slice_set slots at new))) tree limits (path_at ps at) new.turn new.stage →
       AllFit r n tree limits ps (slice_set slots at new)

@@ -2,33 +2,33 @@
 use Rattle.std.proofs.Common.{map, remove, slice_get, slice_set, ◌≡◌, ℕ, zero, suc, ◌+◌, ◌<◌, ◌≤◌, Bool, true, false, ◌⊎◌, inl, inr, List, [], ◌∷◌, ◌++◌, length, length-set, filter, filter_map, drop, Option, Some, None, not, refl, sym, ap, subst, ◌∙◌, arith, bytes_eq}
 use Rattle.std.proofs.lemmas.Bool.{cases_Bool, both_ways, not-true, not_from_false}
 use Rattle.redo_tree.specs.Tree.{Tree}
-use Rattle.redo_core.specs.Paths.{IsAmong, AreDistinct}
-use Rattle.redo_core.specs.Rules.{Ask, Rules, AreLawful, Extends, operands, changed}
-use Rattle.redo_core.specs.Outcomes.{outcome_at}
+use Rattle.redo_record.specs.Paths.{IsAmong, AreDistinct}
+use Rattle.redo_build.specs.Rules.{Ask, Rules, AreLawful, Extends, operands, changed}
+use Rattle.redo_build.specs.Outcomes.{outcome_at}
 use Rattle.redo_core.specs.Build.{rules_of}
-use Rattle.redo_core.specs.Schedule.{Entry, outcome_of, outcomes_of, entry_of}
-use Rattle.redo_core.specs.Slots.{table_entries, entries_from, slot_entries, slot_entry, stage_deps, stage_outcome, path_at, is_stage_out, is_stage_ready, is_stage_waiting, is_stage_decided, Fits, AllWatched, AllAnswered, AreDecidedFrom, AreNumbers, IsNumbered, waited_by, IsDecidedNumber, IsOperand, IsWatched, IsPlace, ArePlacesOnce, IsQueue, IsTable, IsTableOf, IsParked, IsLookedAt, IsLackingAt, IsWatchAdded, IsFreedAt, IsFed, IsStandingTable, IsDecidedSlot}
-use Rattle.redo_core.specs.Works.{job_deps, told_in}
+use Rattle.redo_build.specs.Schedule.{Entry, outcome_of, outcomes_of, entry_of}
+use Rattle.redo_core.specs.inside.Slots.{table_entries, entries_from, slot_entries, slot_entry, stage_deps, stage_outcome, path_at, is_stage_out, is_stage_ready, is_stage_waiting, is_stage_decided, Fits, AllWatched, AllAnswered, AreDecidedFrom, AreNumbers, IsNumbered, waited_by, IsDecidedNumber, IsOperand, IsWatched, IsPlace, ArePlacesOnce, IsQueue, IsTable, IsTableOf, IsParked, IsLookedAt, IsLackingAt, IsWatchAdded, IsFreedAt, IsFed, IsStandingTable, IsDecidedSlot}
+use Rattle.redo_core.specs.inside.Works.{job_deps, told_in}
 use Rattle.redo_core.specs.declared.table.Slot.{Slot}
 use Rattle.redo_core.specs.declared.table.Table.{Table}
 use Rattle.redo_core.specs.declared.table.Parked.{Parked}
 use Rattle.redo_core.specs.declared.table.Stage.{Stage}
 use Rattle.redo_core.specs.declared.table.Stage.TheVariants.{Waiting, Ready, Out, Decided}
-use Rattle.redo_core.proofs.PathLists.{filter-passes, filter-from}
-use Rattle.redo_core.proofs.Queues.{filter-keeps, slice_get-among}
-use Rattle.redo_core.proofs.Numbers.{numbers-number, numbers-path, numbered-set, among-place, drop-place, place-drop}
-use Rattle.redo_core.proofs.Depth.{cases_Option}
-use Rattle.redo_core.proofs.Lawful.{rules_lawful}
-use Rattle.redo_core.proofs.TableLemmas.{fits-set}
-use Rattle.redo_core.proofs.Handover.{taken-work, taken-deep}
-use Rattle.redo_core.proofs.TurnBound.{turn-below}
-use Rattle.redo_core.proofs.Jobs.{asked_of_job, asked_by_job}
-use Rattle.redo_core.specs.Turns.{IsWork}
-use Rattle.redo_step.specs.declared.deps.DepKind.{DepKind}
-use Rattle.redo_step.specs.declared.deps.DepKind.TheVariants.{Change, Create}
+use Rattle.redo_build.proofs.PathLemmas.{filter-passes, filter-from}
+use Rattle.redo_build.proofs.QueueLemmas.{filter-keeps, slice_get-among}
+use Rattle.redo_core.proofs.NumberLemmas.{numbers-number, numbers-path, numbered-set, among-place, drop-place, place-drop}
+use Rattle.redo_build.proofs.DepthLemmas.{cases_Option}
+use Rattle.redo_core.proofs.LawfulTreeLemmas.{rules_lawful}
+use Rattle.redo_core.proofs.TableLemmas.{fits-set, place-slice_get, place-append, place-left, place-right, get-set_cases, get-set_same, IsWatched-set, watchers-set}
+use Rattle.redo_build.proofs.HandoverLemmas.{taken-work, taken-deep}
+use Rattle.redo_build.proofs.TurnBoundLemmas.{turn-below}
+use Rattle.redo_core.proofs.JobLemmas.{asked_of_job, asked_by_job}
+use Rattle.redo_build.specs.inside.Turns.{IsWork}
+use Rattle.redo_record.specs.declared.deps.DepKind.{DepKind}
+use Rattle.redo_record.specs.declared.deps.DepKind.TheVariants.{Change, Create}
 use Rattle.redo_core.proofs.SlotLemmas.{entry_of-slots, paths_of-slots, slice_get-from, slice_get-below_some}
-use Rattle.redo_core.proofs.TableLemmas.{place-slice_get, place-append, place-left, place-right, get-set_cases, get-set_same, IsWatched-set, watchers-set}
-use Rattle.redo_step.specs.declared.deps.Dep.{Dep}
+use Rattle.redo_record.specs.declared.deps.Dep.{Dep}
+use Rattle.redo_step.specs.Limits.{LimitsView}
 
 changed-path : (kind : DepKind) (p q : List ℕ) → changed kind p ≡ Some q → p ≡ q
 changed-path Change p q h = cc
@@ -193,12 +193,12 @@ pub number-decided : (t : Table) (q : List ℕ) (n : ℕ) → slice_get t.target
 number-decided t q n path d = record { at = n; slot = d.0; path = path; there = d.1; decided = d.2 }
 
 -- the table before a step
-module _ (tree : Tree) (limits : ℕ × ℕ) (t : Table) (freed : List ℕ) (table : IsTableOf tree limits t freed) (standing : IsStandingTable tree limits t) where
+module _ (tree : Tree) (limits : LimitsView) (t : Table) (freed : List ℕ) (table : IsTableOf tree limits t freed) (standing : IsStandingTable tree limits t) where
   abbrev r : Rules
   r = rules_of tree limits
 
   abbrev es : List Entry
-  es = table_entries (rules_of tree limits) limits.0 t
+  es = table_entries (rules_of tree limits) limits.targets t
 
   lawful : AreLawful (rules_of tree limits)
   lawful = rules_lawful tree limits
@@ -206,7 +206,7 @@ module _ (tree : Tree) (limits : ℕ × ℕ) (t : Table) (freed : List ℕ) (tab
   pub distinct_keys : AreDistinct t.targets.keys
   distinct_keys =
       let P : List (List ℕ) → Type 0 = AreDistinct in
-      subst P (paths_of-slots r (outcome_at r limits.0) t.targets.keys t.slots.items table.one_each) standing.1.distinct
+      subst P (paths_of-slots r (outcome_at r limits.targets) t.targets.keys t.slots.items table.one_each) standing.1.distinct
 
   pub path_there : (at : ℕ) (slot : Slot) → slice_get t.slots.items at ≡ Some slot → slice_get t.targets.keys at ≡ Some (path_at t.targets.keys at)
   path_there at slot there =
@@ -215,12 +215,12 @@ module _ (tree : Tree) (limits : ℕ × ℕ) (t : Table) (freed : List ℕ) (tab
       found.1 ∙ ap Some (sym is)
 
   pub entry_there : (at : ℕ) (slot : Slot) → slice_get t.slots.items at ≡ Some slot →
-      entry_of (table_entries (rules_of tree limits) limits.0 t) (path_at t.targets.keys at) ≡ Some (slot_entry (rules_of tree limits) (outcome_at (rules_of tree limits) limits.0) (path_at t.targets.keys at) slot)
-  entry_there at slot there = entry_of-slots r (outcome_at r limits.0) t.targets.keys t.slots.items at (path_at t.targets.keys at) slot distinct_keys (path_there at slot there) there
+      entry_of (table_entries (rules_of tree limits) limits.targets t) (path_at t.targets.keys at) ≡ Some (slot_entry (rules_of tree limits) (outcome_at (rules_of tree limits) limits.targets) (path_at t.targets.keys at) slot)
+  entry_there at slot there = entry_of-slots r (outcome_at r limits.targets) t.targets.keys t.slots.items at (path_at t.targets.keys at) slot distinct_keys (path_there at slot there) there
 
-  pub decided-known : (q : List ℕ) → IsDecidedSlot t q → outcomes_of (table_entries (rules_of tree limits) limits.0 t) q ≡ None → ⊥
+  pub decided-known : (q : List ℕ) → IsDecidedSlot t q → outcomes_of (table_entries (rules_of tree limits) limits.targets t) q ≡ None → ⊥
   decided-known q d none =
-      let here = ap outcome_of (entry_of-slots r (outcome_at r limits.0) t.targets.keys t.slots.items d.at q d.slot distinct_keys d.path d.there) in
+      let here = ap outcome_of (entry_of-slots r (outcome_at r limits.targets) t.targets.keys t.slots.items d.at q d.slot distinct_keys d.path d.there) in
       decided-outcome d.slot.stage d.decided (sym here ∙ none)
 
   -- a parked job
@@ -228,7 +228,7 @@ module _ (tree : Tree) (limits : ℕ × ℕ) (t : Table) (freed : List ℕ) (tab
     parked_fits : Fits r (outcomes_of es) tree limits (path_at t.targets.keys at) slot.turn (Waiting parked)
     parked_fits = let P : Stage → Type 0 = Fits r (outcomes_of es) tree limits (path_at t.targets.keys at) slot.turn in subst P is (table.fits at slot there)
 
-    pub parked_deps : stage_deps (rules_of tree limits) (outcome_at (rules_of tree limits) limits.0) (path_at t.targets.keys at) slot.turn slot.stage ≡ job_deps parked.begun.value.job
+    pub parked_deps : stage_deps (rules_of tree limits) (outcome_at (rules_of tree limits) limits.targets) (path_at t.targets.keys at) slot.turn slot.stage ≡ job_deps parked.begun.value.job
     parked_deps = rw is refl
 
     -- what the job declared is what its record waits for
@@ -253,7 +253,7 @@ module _ (tree : Tree) (limits : ℕ × ℕ) (t : Table) (freed : List ℕ) (tab
 
     -- nothing from the first operand that was not looked at on is undecided
     module _ (rest : AreDecidedFrom t parked.operands.items parked.held (length parked.operands.items)) where
-      pub parked_answered : AllAnswered (rules_of tree limits) (outcomes_of (table_entries (rules_of tree limits) limits.0 t)) (job_deps parked.begun.value.job)
+      pub parked_answered : AllAnswered (rules_of tree limits) (outcomes_of (table_entries (rules_of tree limits) limits.targets t)) (job_deps parked.begun.value.job)
       parked_answered q m none =
           let entries = parked.begun.value.job.state.entries in
           let found = operand-entry r entries q (own_from q m) in
@@ -274,13 +274,13 @@ module _ (tree : Tree) (limits : ℕ × ℕ) (t : Table) (freed : List ℕ) (tab
           ]
 
       parked_entry : Entry
-      parked_entry = slot_entry (rules_of tree limits) (outcome_at (rules_of tree limits) limits.0) (path_at t.targets.keys at) slot
+      parked_entry = slot_entry (rules_of tree limits) (outcome_at (rules_of tree limits) limits.targets) (path_at t.targets.keys at) slot
 
       parked_open : stage_outcome slot.stage ≡ None
       parked_open = rw is refl
 
-      entry_answered : (q : List ℕ) → IsAmong (operands (rules_of tree limits) (slot_entry (rules_of tree limits) (outcome_at (rules_of tree limits) limits.0) (path_at t.targets.keys at) slot).deps) q →
-          outcomes_of (table_entries (rules_of tree limits) limits.0 t) q ≡ None → ⊥
+      entry_answered : (q : List ℕ) → IsAmong (operands (rules_of tree limits) (slot_entry (rules_of tree limits) (outcome_at (rules_of tree limits) limits.targets) (path_at t.targets.keys at) slot).deps) q →
+          outcomes_of (table_entries (rules_of tree limits) limits.targets t) q ≡ None → ⊥
       entry_answered =
           let P : List Dep → Type 0 = λ ds. (q : List ℕ) → IsAmong (operands r ds) q → outcomes_of es q ≡ None → ⊥ in
           subst P (sym parked_deps) parked_answered
@@ -288,7 +288,7 @@ module _ (tree : Tree) (limits : ℕ × ℕ) (t : Table) (freed : List ℕ) (tab
       -- a parked job with all its answers can be made a work
       pub parked_fed : IsFed tree limits t at
       parked_fed =
-          let e = slot_entry r (outcome_at r limits.0) (path_at t.targets.keys at) slot in
+          let e = slot_entry r (outcome_at r limits.targets) (path_at t.targets.keys at) slot in
           let work : IsWork r (path_at t.targets.keys at) slot.turn e.deps =
           taken-work r lawful standing.0 es standing.1 (path_at t.targets.keys at) e (entry_there at slot there) parked_open entry_answered in
           let W : Type 0 = (work' : IsWork r parked.begun.value.job.target parked.begun.value.job.turn (job_deps parked.begun.value.job)) × Extends r (outcomes_of es) (outcome_at r work'.depth) in
@@ -298,7 +298,7 @@ module _ (tree : Tree) (limits : ℕ × ℕ) (t : Table) (freed : List ℕ) (tab
           let deep : W = subst C (sym parked_fits.at_turn) (subst B (sym parked_fits.of_target) (subst A parked_deps
           (taken-deep r lawful standing.0 es standing.1 (path_at t.targets.keys at) e (entry_there at slot there) parked_open entry_answered))) in
           let below = turn-below r lawful standing.0 es standing.1 (path_at t.targets.keys at) e (entry_there at slot there) parked_open entry_answered in
-          let paths = ap length (paths_of-slots r (outcome_at r limits.0) t.targets.keys t.slots.items table.one_each) in (
+          let paths = ap length (paths_of-slots r (outcome_at r limits.targets) t.targets.keys t.slots.items table.one_each) in (
             slot,
             parked,
             record {
@@ -339,14 +339,14 @@ module _ (tree : Tree) (limits : ℕ × ℕ) (t : Table) (freed : List ℕ) (tab
 
   -- a slot is replaced by one that stands for the same entry
   module _ (at : ℕ) (old new : Slot) (there : slice_get t.slots.items at ≡ Some old) (open' : stage_outcome old.stage ≡ None) (still : stage_outcome new.stage ≡ None)
-      (same : slot_entry (rules_of tree limits) (outcome_at (rules_of tree limits) limits.0) (path_at t.targets.keys at) new ≡
-      slot_entry (rules_of tree limits) (outcome_at (rules_of tree limits) limits.0) (path_at t.targets.keys at) old) where
-    pub entries-same : entries_from (rules_of tree limits) limits.0 t.targets.keys (slice_set t.slots.items at new) ≡ table_entries (rules_of tree limits) limits.0 t
-    entries-same = slot_entries-same r (outcome_at r limits.0) t.targets.keys t.slots.items at (path_at t.targets.keys at) old new (path_there at old there) there same
+      (same : slot_entry (rules_of tree limits) (outcome_at (rules_of tree limits) limits.targets) (path_at t.targets.keys at) new ≡
+      slot_entry (rules_of tree limits) (outcome_at (rules_of tree limits) limits.targets) (path_at t.targets.keys at) old) where
+    pub entries-same : entries_from (rules_of tree limits) limits.targets t.targets.keys (slice_set t.slots.items at new) ≡ table_entries (rules_of tree limits) limits.targets t
+    entries-same = slot_entries-same r (outcome_at r limits.targets) t.targets.keys t.slots.items at (path_at t.targets.keys at) old new (path_there at old there) there same
 
     pub table-same : (freed' : List ℕ) → IsQueue (slice_set t.slots.items at new) t.ready.items freed' →
         ((k : ℕ) → IsPlace new.watchers.items k → k < length t.slots.items) →
-        Fits (rules_of tree limits) (outcomes_of (table_entries (rules_of tree limits) limits.0 t)) tree limits (path_at t.targets.keys at) new.turn new.stage →
+        Fits (rules_of tree limits) (outcomes_of (table_entries (rules_of tree limits) limits.targets t)) tree limits (path_at t.targets.keys at) new.turn new.stage →
         IsNumbered (rules_of tree limits) t.targets.keys new.stage →
         IsTable (rules_of tree limits) tree limits t.targets.keys (slice_set t.slots.items at new) t.ready.items t.out freed'
     table-same freed' queue below fit numbers =
@@ -358,7 +358,7 @@ module _ (tree : Tree) (limits : ℕ × ℕ) (t : Table) (freed : List ℕ) (tab
           within_limit = omega (arith, len, table.within_limit);
           few = table.few;
           out_counted = table.out_counted ∙ sym (count-same t.slots.items at old new there (ap (λ (e : Entry). e.is_out) same));
-          fits = fits-set r lawful limits.0 t.targets.keys t.slots.items at (path_at t.targets.keys at) old new distinct_keys (path_there at old there) there tree limits
+          fits = fits-set r lawful limits.targets t.targets.keys t.slots.items at (path_at t.targets.keys at) old new distinct_keys (path_there at old there) there tree limits
               (subst P (sym entries-same) (λ q o s h. h)) table.fits (subst F (sym entries-same) fit);
           numbered = numbered-set r t.targets.keys t.slots.items at new numbers table.numbered;
           queue = queue;
@@ -377,8 +377,8 @@ module _ (tree : Tree) (limits : ℕ × ℕ) (t : Table) (freed : List ℕ) (tab
       new_open : stage_outcome w.new.stage ≡ None
       new_open = ap stage_outcome w.stage ∙ other_open
 
-      same_entry : slot_entry (rules_of tree limits) (outcome_at (rules_of tree limits) limits.0) (path_at t.targets.keys place) w.new ≡
-          slot_entry (rules_of tree limits) (outcome_at (rules_of tree limits) limits.0) (path_at t.targets.keys place) w.other
+      same_entry : slot_entry (rules_of tree limits) (outcome_at (rules_of tree limits) limits.targets) (path_at t.targets.keys place) w.new ≡
+          slot_entry (rules_of tree limits) (outcome_at (rules_of tree limits) limits.targets) (path_at t.targets.keys place) w.other
       same_entry = rw (w.turn, w.stage) refl
 
       watch_below : (k : ℕ) → IsPlace w.new.watchers.items k → k < length t.slots.items
@@ -390,7 +390,7 @@ module _ (tree : Tree) (limits : ℕ × ℕ) (t : Table) (freed : List ℕ) (tab
         ]
       ]
 
-      watch_fits : Fits (rules_of tree limits) (outcomes_of (table_entries (rules_of tree limits) limits.0 t)) tree limits (path_at t.targets.keys place) w.new.turn w.new.stage
+      watch_fits : Fits (rules_of tree limits) (outcomes_of (table_entries (rules_of tree limits) limits.targets t)) tree limits (path_at t.targets.keys place) w.new.turn w.new.stage
       watch_fits = rw (w.turn, w.stage) (table.fits place w.other w.there)
 
       watch_numbered : IsNumbered (rules_of tree limits) t.targets.keys w.new.stage
@@ -427,11 +427,11 @@ module _ (tree : Tree) (limits : ℕ × ℕ) (t : Table) (freed : List ℕ) (tab
             asked = subst P (sym path) (waited_asked at slot parked there is number.0 (slice_get-among (waited_by r parked.begun.value) i number.0 number.1));
           }
 
-      watch-watched : (pending : List ℕ) → AllWatched (rules_of tree limits) limits.0 t.targets.keys t.slots.items (at ∷ pending) →
-          AllWatched (rules_of tree limits) limits.0 t.targets.keys (slice_set t.slots.items place w.new) pending
+      watch-watched : (pending : List ℕ) → AllWatched (rules_of tree limits) limits.targets t.targets.keys t.slots.items (at ∷ pending) →
+          AllWatched (rules_of tree limits) limits.targets t.targets.keys (slice_set t.slots.items place w.new) pending
       watch-watched pending all k x g m =
           let old = old-slot k x g in
-          let D : Stage → ℕ → List Dep = λ st n. stage_deps r (outcome_at r limits.0) (path_at t.targets.keys k) n st in
+          let D : Stage → ℕ → List Dep = λ st n. stage_deps r (outcome_at r limits.targets) (path_at t.targets.keys k) n st in
           let A : Stage → Type 0 = λ st. D x.stage x.turn ≡ D st x.turn in
           let B : ℕ → Type 0 = λ n. D x.stage x.turn ≡ D old.0.stage n in
           let same : D x.stage x.turn ≡ D old.0.stage old.0.turn = subst B old.3 (subst A old.2 refl) in
@@ -474,12 +474,12 @@ module _ (tree : Tree) (limits : ℕ × ℕ) (t : Table) (freed : List ℕ) (tab
       deps_parked : f.work.deps ≡ job_deps parked.begun.value.job
       deps_parked = f.same.4 ∙ ap (λ (x : Parked). job_deps x.begun.value.job) was_parked.1
 
-      freed_entry : slot_entry (rules_of tree limits) (outcome_at (rules_of tree limits) limits.0) (path_at t.targets.keys at) f.new ≡
-          slot_entry (rules_of tree limits) (outcome_at (rules_of tree limits) limits.0) (path_at t.targets.keys at) slot
+      freed_entry : slot_entry (rules_of tree limits) (outcome_at (rules_of tree limits) limits.targets) (path_at t.targets.keys at) f.new ≡
+          slot_entry (rules_of tree limits) (outcome_at (rules_of tree limits) limits.targets) (path_at t.targets.keys at) slot
       freed_entry =
           let E : ℕ → List Dep → Entry = λ n ds. record { path = path_at t.targets.keys at; turn = n; deps = ds; outcome = None; is_out = false } in
-          let one : slot_entry r (outcome_at r limits.0) (path_at t.targets.keys at) f.new ≡ E f.new.turn f.work.deps = rw f.is refl in
-          let two : slot_entry r (outcome_at r limits.0) (path_at t.targets.keys at) slot ≡ E slot.turn (job_deps parked.begun.value.job) = rw is refl in
+          let one : slot_entry r (outcome_at r limits.targets) (path_at t.targets.keys at) f.new ≡ E f.new.turn f.work.deps = rw f.is refl in
+          let two : slot_entry r (outcome_at r limits.targets) (path_at t.targets.keys at) slot ≡ E slot.turn (job_deps parked.begun.value.job) = rw is refl in
           let turn : f.new.turn ≡ slot.turn = f.turn ∙ ap (λ (y : Slot). y.turn) was_parked.0 in
           let mid : E f.new.turn f.work.deps ≡ E slot.turn (job_deps parked.begun.value.job) = rw (turn, deps_parked) refl in
           one ∙ mid ∙ sym two
@@ -493,7 +493,7 @@ module _ (tree : Tree) (limits : ℕ × ℕ) (t : Table) (freed : List ℕ) (tab
       same_watchers : f.new.watchers.items ≡ slot.watchers.items
       same_watchers = ap (λ (y : Rattle.std.specs.declared.vec.Vec.Vec ℕ Rattle.std.proofs.Common.Global). y.items) f.watchers ∙ ap (λ (y : Slot). y.watchers.items) was_parked.0
 
-      freed_fits : Fits (rules_of tree limits) (outcomes_of (table_entries (rules_of tree limits) limits.0 t)) tree limits (path_at t.targets.keys at) f.new.turn f.new.stage
+      freed_fits : Fits (rules_of tree limits) (outcomes_of (table_entries (rules_of tree limits) limits.targets t)) tree limits (path_at t.targets.keys at) f.new.turn f.new.stage
       freed_fits =
           let fits : Fits r (outcomes_of es) tree limits (path_at t.targets.keys at) slot.turn (Waiting parked) =
           (let P : Stage → Type 0 = Fits r (outcomes_of es) tree limits (path_at t.targets.keys at) slot.turn in subst P is (table.fits at slot there)) in
@@ -513,15 +513,15 @@ module _ (tree : Tree) (limits : ℕ × ℕ) (t : Table) (freed : List ℕ) (tab
           let S : List Slot → Type 0 = λ xs. IsTable r tree limits t.targets.keys xs t.ready.items t.out (freed ++ at ∷ []) in
           moved u f.rest.0 f.rest.1 f.rest.2 (freed ++ at ∷ []) (subst S (sym f.slots) new)
 
-      freed-watched : (pending : List ℕ) → AllWatched (rules_of tree limits) limits.0 t.targets.keys t.slots.items (at ∷ pending) →
-          AllWatched (rules_of tree limits) limits.0 t.targets.keys (slice_set t.slots.items at f.new) pending
+      freed-watched : (pending : List ℕ) → AllWatched (rules_of tree limits) limits.targets t.targets.keys t.slots.items (at ∷ pending) →
+          AllWatched (rules_of tree limits) limits.targets t.targets.keys (slice_set t.slots.items at f.new) pending
       freed-watched pending all k x g m = elim (get-set_cases t.slots.items at k f.new x g) [
         | inl here ↦ absurd (
             let no : is_stage_waiting f.new.stage ≡ false = rw f.is refl in
             both_ways _ no (ap (λ (y : Slot). is_stage_waiting y.stage) here.1 ∙ m))
         | inr before ↦ elim (all k x before.1 m) [
           | inl p ↦ elim p [ inl here ↦ absurd (before.0 (sym here)) | inr later ↦ inl later ]
-          | inr w ↦ inr (IsWatched-set t.slots.items at slot f.new there r t.targets.keys k (stage_deps r (outcome_at r limits.0) (path_at t.targets.keys k) x.turn x.stage)
+          | inr w ↦ inr (IsWatched-set t.slots.items at slot f.new there r t.targets.keys k (stage_deps r (outcome_at r limits.targets) (path_at t.targets.keys k) x.turn x.stage)
               freed_open (λ j p. rw same_watchers p) w)
         ]
       ]

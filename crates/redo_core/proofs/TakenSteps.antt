@@ -1,15 +1,16 @@
 -- What a board has taken, one event further.
 use Rattle.std.proofs.Common.{◌≡◌, ℕ, ◌<◌, cond, is_some, length, List, [], ◌∷◌, ◌++◌, Option, Some, None, slice_get, option_and_then, append_assoc, append-nil, refl, sym, ap, subst, ◌∙◌, arith}
-use Rattle.redo_core.specs.Rules.{Rules}
-use Rattle.redo_core.specs.Schedule.{Entry, State, Event, IsOpen, entry_of, happens, opening, run}
-use Rattle.redo_core.specs.Schedule.Event.{Take, Hand_in}
-use Rattle.redo_core.specs.Takes.{takes, place_of, AreOnce, HasTaken}
+use Rattle.redo_build.specs.Rules.{Rules}
+use Rattle.redo_build.specs.Schedule.{Entry, State, Event, IsOpen, entry_of, happens, opening, run}
+use Rattle.redo_build.specs.Schedule.Event.{Take, Hand_in}
+use Rattle.redo_build.specs.Takes.{takes, place_of, AreOnce}
+use Rattle.redo_core.specs.Taken.{HasTaken}
 use Rattle.redo_core.specs.Views.{BoardView, WorkView, IsWorkTaken, after, ready_count, rules_on}
-use Rattle.redo_core.proofs.Entries.{entry_of-path}
-use Rattle.redo_core.proofs.Lawful.{rules_lawful}
-use Rattle.redo_core.proofs.Once.{takes-once}
-use Rattle.redo_core.proofs.Queues.{slice_get-among}
-use Rattle.redo_core.proofs.Soundness.{IsSound, opening-sound, run-sound}
+use Rattle.redo_build.proofs.SeenLemmas.{entry_of-path}
+use Rattle.redo_core.proofs.LawfulTreeLemmas.{rules_lawful}
+use Rattle.redo_build.proofs.OnceLemmas.{takes-once}
+use Rattle.redo_build.proofs.QueueLemmas.{slice_get-among}
+use Rattle.redo_build.proofs.SoundLemmas.{IsSound, opening-sound, run-sound}
 use Rattle.redo_core.proofs.TakeLemmas.{run-append, AllOpen-append}
 
 -- what one more event takes stands behind the others

@@ -2,16 +2,17 @@
 -- of how far each target comes under an ask.
 use Rattle.std.specs.Prelude.{◌≡◌, ℕ, true, List, [], is_some, unwrap_or}
 use Rattle.redo_script.specs.Texts.{script_in}
-use Rattle.redo_step.specs.declared.deps.DepKind.TheVariants.{Create}
-use Rattle.redo_step.specs.declared.outcome.Outcome.TheVariants.{Failed}
-use Rattle.redo_step.specs.declared.outcome.Outcome.TheVariants.{Source as Is_source}
-use Rattle.redo_step.specs.declared.outcome.Why.TheVariants as why
+use Rattle.redo_record.specs.declared.deps.DepKind.TheVariants.{Create}
+use Rattle.redo_record.specs.declared.outcome.Outcome.TheVariants.{Failed, Source as Is_source}
+use Rattle.redo_record.specs.declared.outcome.Why.TheVariants as why
 use Rattle.redo_tree.specs.Tree.{Tree, file_at}
 use Rattle.redo_which.specs.Rule.{Outcome as Found, Source, Directory, NoDirectory, NoRule, Rule, found_of}
-use Rattle.redo_step.specs.Meaning.{with_entries}
-use Rattle.redo_step.specs.Record.{Progress, search_deps, at_once, by_script}
+use Rattle.redo_record.specs.Entries.{with_entries, search_deps}
+use Rattle.redo_record.specs.Progress.{Progress, at_once}
+use Rattle.redo_step.specs.Results.{by_script}
 use Rattle.redo_step.specs.Setting.{is_rule, setting_by}
-use Rattle.redo_core.specs.Rules.{Ask, Rules}
+use Rattle.redo_build.specs.Rules.{Ask, Rules}
+use Rattle.redo_step.specs.Limits.{LimitsView}
 
 -- a tree, what the search finds in it for each path, and the limit of a file's bytes
 pub record World : Type 0 where
@@ -48,9 +49,9 @@ rules_in w = record {
 }
 
 -- the search in a tree, and the limit of a file's bytes, which is the second of the limits
-abbrev pub world_of : Tree → ℕ × ℕ → World
-world_of tree limits = record { tree = tree; found = found_of tree; limit = limits.1 }
+abbrev pub world_of : Tree → LimitsView → World
+world_of tree limits = record { tree = tree; found = found_of tree; limit = limits.file_bytes }
 
 -- the rules of a source tree
-abbrev pub rules_of : Tree → ℕ × ℕ → Rules
+abbrev pub rules_of : Tree → LimitsView → Rules
 rules_of tree limits = rules_in (world_of tree limits)

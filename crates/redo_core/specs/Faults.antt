@@ -1,7 +1,7 @@
 -- What a refused piece leaves.
 use Rattle.std.specs.Prelude.{◌≡◌, Some, MatchOption}
-use Rattle.redo_core.specs.Outcomes.{IsTooMany}
-use Rattle.redo_core.specs.Schedule.{IsOutAt}
+use Rattle.redo_build.specs.Outcomes.{IsTooMany}
+use Rattle.redo_build.specs.Schedule.{IsOutAt}
 use Rattle.redo_core.specs.Views.{BoardView, PieceView, rules_on}
 use Rattle.redo_core.specs.declared.board.Stop.{Stop}
 use Rattle.redo_core.specs.declared.board.Stop.TheVariants.{TooMany as Stopped_at_limit, Memory as Stopped_for_memory}
@@ -29,7 +29,7 @@ IsSameBuild old new = (new.tree ≡ old.tree) × (new.request ≡ old.request) �
 abbrev pub RefusedRunning : BoardView → BoardView → PieceView → HandFault → Type 0
 RefusedRunning old new piece (Stranger back) = (back ≡ piece) × (new ≡ old) × (IsOutAt old.state piece.target piece.turn → ⊥)
 RefusedRunning old new piece TooMany =
-    IsSameBuild old new × (new.stopped ≡ Some Stopped_at_limit) × IsTooMany (rules_on old) old.request old.limits.0 × IsOutAt old.state piece.target piece.turn
+    IsSameBuild old new × (new.stopped ≡ Some Stopped_at_limit) × IsTooMany (rules_on old) old.request old.limits.targets × IsOutAt old.state piece.target piece.turn
 RefusedRunning old new piece Memory = IsSameBuild old new × (new.stopped ≡ Some Stopped_for_memory) × IsOutAt old.state piece.target piece.turn
 
 -- a board that had stopped answers why, for good

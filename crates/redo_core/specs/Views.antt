@@ -1,19 +1,20 @@
 -- What contracts see of facts, works, pieces and boards.
 use Rattle.std.specs.Prelude.{◌≡◌, ℕ, List, length, Option, Some, None, IsNone, slice_get, is_some, if◌then◌else◌, bytes_eq}
 use Rattle.std.specs.Map.{lookup}
-use Rattle.redo_step.specs.Record.{Progress}
-use Rattle.redo_core.specs.Rules.{Ask, Rules, operands}
+use Rattle.redo_record.specs.Progress.{Progress}
+use Rattle.redo_build.specs.Rules.{Ask, Rules, operands}
 use Rattle.redo_tree.specs.Tree.{Tree}
 use Rattle.redo_core.specs.Build.{rules_of}
-use Rattle.redo_core.specs.Schedule.{Entry, State, Event, AllOpen, entry_of, outcomes_of, only, opening, run, happens, out_count}
-use Rattle.redo_step.specs.declared.deps.Dep.{Dep}
-use Rattle.redo_step.specs.declared.outcome.Outcome.{Outcome}
+use Rattle.redo_build.specs.Schedule.{Entry, State, Event, AllOpen, entry_of, outcomes_of, only, opening, run, happens, out_count}
+use Rattle.redo_record.specs.declared.deps.Dep.{Dep}
+use Rattle.redo_record.specs.declared.outcome.Outcome.{Outcome}
 use Rattle.redo_core.specs.declared.board.Stop.{Stop}
+use Rattle.redo_step.specs.Limits.{LimitsView}
 
 -- a decided target of a build
 pub record FactView : Type 0 where
   pub tree : Tree
-  pub limits : ℕ × ℕ
+  pub limits : LimitsView
   pub target : List ℕ
   pub outcome : Outcome
   pub deps : List Dep
@@ -21,7 +22,7 @@ pub record FactView : Type 0 where
 -- a job with what it knows
 pub record WorkView : Type 0 where
   pub tree : Tree
-  pub limits : ℕ × ℕ
+  pub limits : LimitsView
   pub target : List ℕ
   pub turn : ℕ
   pub deps : List Dep
@@ -35,7 +36,7 @@ told_by known p = lookup (bytes_eq p) known
 -- how far a job came
 pub record PieceView : Type 0 where
   pub tree : Tree
-  pub limits : ℕ × ℕ
+  pub limits : LimitsView
   pub target : List ℕ
   pub turn : ℕ
   pub progress : Progress
@@ -43,7 +44,7 @@ pub record PieceView : Type 0 where
 pub record BoardView : Type 0 where
   pub tree : Tree
   pub request : List (List ℕ)
-  pub limits : ℕ × ℕ
+  pub limits : LimitsView
   pub state : State
   pub stopped : Option Stop
 
@@ -64,7 +65,7 @@ pub record IsReached (r : Rules) (request : List (List ℕ)) (s : State) : Type 
   pub all_open : AllOpen r (opening r request) events
   pub ends : s ≡ run r events (opening r request)
 
-abbrev pub opened : Tree → List (List ℕ) → ℕ × ℕ → BoardView
+abbrev pub opened : Tree → List (List ℕ) → LimitsView → BoardView
 opened tree request limits = record {
   tree = tree;
   request = request;
@@ -85,7 +86,7 @@ abbrev pub Belongs : BoardView → PieceView → Type 0
 Belongs b piece = (piece.tree ≡ b.tree) × (piece.limits ≡ b.limits)
 
 -- the board is that of this tree, request and limits
-abbrev pub IsFor : BoardView → Tree → List (List ℕ) → ℕ × ℕ → Type 0
+abbrev pub IsFor : BoardView → Tree → List (List ℕ) → LimitsView → Type 0
 IsFor b tree request limits = (b.tree ≡ tree) × (b.request ≡ request) × (b.limits ≡ limits)
 
 -- the work is of the target at that place, at its turn, and holds the decided outcomes of all that it asked for, and no others

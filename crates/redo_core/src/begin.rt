@@ -3,13 +3,14 @@ ghost use Rattle.std.specs.Prelude.{◌≡◌, IfOk};
 ghost use Rattle.std.specs.Arc.{arc_value};
 ghost use Rattle.redo_which.specs.Rule.{Rule as IsRule, found_of};
 ghost use Rattle.redo_which.specs.Views.{arguments_view};
-ghost use Rattle.redo_core.specs.Slots.{IsBegun};
+ghost use Rattle.redo_core.specs.inside.Slots.{IsBegun};
 
 use crate::fact::Fact;
 use crate::table::Stage;
 use crate::work::Work;
 use redo_path::Path;
-use redo_step::{Limits, Outcome, Record, Why};
+use redo_step::Limits;
+use redo_record::{Outcome, Record, Why};
 use redo_tree::Tree;
 use redo_which::{Found, Rule, lookup};
 use std::alloc::{AllocError, Global};

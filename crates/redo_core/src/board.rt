@@ -5,18 +5,18 @@
 ghost use Rattle.std.specs.Prelude.{◌≡◌, ◌↔◌, ◌<◌, ◌≤◌, ◌+◌, ◌*◌, IsTrue, IsNone, IfOk, IfErr, OnOk, OnErr, length, slice_get, Some, None};
 ghost use Rattle.std.specs.Arc.{arc_value};
 ghost use Rattle.redo_core.specs.Views.{ready_count, jobs_out, opened, after, rules_on, IsQuietBoard, Belongs, IsFor, IsWorkTaken};
-ghost use Rattle.redo_core.specs.Outcomes.{IsTooMany};
+ghost use Rattle.redo_build.specs.Outcomes.{IsTooMany};
 ghost use Rattle.redo_core.specs.Build.{rules_of};
-ghost use Rattle.redo_core.specs.Schedule.{Event, IsOutAt, IsOpen};
-ghost use Rattle.redo_core.specs.Schedule.Event.{Take, Hand_in};
+ghost use Rattle.redo_build.specs.Schedule.{Event, IsOutAt, IsOpen};
+ghost use Rattle.redo_build.specs.Schedule.Event.{Take, Hand_in};
 ghost use Rattle.redo_core.specs.Faults.{Refused};
-ghost use Rattle.redo_core.specs.Reports.{IsReport};
-ghost use Rattle.redo_core.specs.TakesLeft.{takes_left};
-ghost use Rattle.redo_core.specs.Theorems.{IsPartOfBuild, ShowsBuild};
+ghost use Rattle.redo_report.specs.Reports.{IsReport};
+ghost use Rattle.redo_build.specs.TakesLeft.{takes_left};
+ghost use Rattle.redo_build.specs.Theorems.{IsPartOfBuild, ShowsBuild};
 
 use crate::finish::report_of;
 use crate::moves::{copied, first_table, take_in};
-use crate::report::Report;
+use redo_report::Report;
 use crate::same::{are_same_paths, is_same_tree};
 use crate::table::{Stage, Table, out_at};
 use crate::work::{Piece, Work};
@@ -78,7 +78,7 @@ impl Model for Board {
 
     ghost Value = { BoardView };
 
-    ghost use Rattle.redo_core.specs.Slots.{state_of, IsBoard};
+    ghost use Rattle.redo_core.specs.inside.Slots.{state_of, IsBoard};
 
     ghost view = { λ b. record {
       tree = arc_value b.tree;
@@ -158,11 +158,11 @@ impl Board {
         limits: Limits,
     ) -> Result<Board, OpenFault>
         ensures ok { IfOk result (λ b. b ≡ opened (arc_value tree) request.now limits) }
-        ensures within { IfOk result (λ b. length b.state.entries ≤ limits.0) }
-        ensures part { IfOk result (λ b. IsPartOfBuild (rules_on b) b.request b.limits.0 b.state) }
+        ensures within { IfOk result (λ b. length b.state.entries ≤ limits.targets) }
+        ensures part { IfOk result (λ b. IsPartOfBuild (rules_on b) b.request b.limits.targets b.state) }
         ensures none_out { IfOk result (λ b. jobs_out b ≡ 0) }
-        ensures left { IfOk result (λ b. takes_left b.limits.0 b.state ≤ b.limits.0 * b.limits.0) }
-        ensures too_many { result ≡ Err OpenFault.TooMany → IsTooMany (rules_of (arc_value tree) limits) request.now limits.0 }
+        ensures left { IfOk result (λ b. takes_left b.limits.targets b.state ≤ b.limits.targets * b.limits.targets) }
+        ensures too_many { result ≡ Err OpenFault.TooMany → IsTooMany (rules_of (arc_value tree) limits) request.now limits.targets }
     {
         let request = copied(alloc, request)?;
         let table = first_table(alloc, &request, &tree, limits)?;
@@ -190,7 +190,7 @@ impl Board {
     /// Why the board has stopped, if it has. A board that has stopped has no report.
     pub fn stopped(&self) -> Option<Stop>
         ensures value { result ≡ self.now.stopped }
-        ensures too_many { result ≡ Some Stop.TooMany → IsTooMany (rules_on self.now) self.now.request self.now.limits.0 }
+        ensures too_many { result ≡ Some Stop.TooMany → IsTooMany (rules_on self.now) self.now.request self.now.limits.targets }
     {
         self.stopped
     }
@@ -209,11 +209,11 @@ impl Board {
         requires { which < ready_count self.old }
         ensures ok { OnOk result (self.new ≡ after self.old (Take which)) }
         ensures work { IfOk result (IsWorkTaken self.old which) }
-        ensures turn { IfOk result (λ w. w.turn < self.old.limits.0) }
+        ensures turn { IfOk result (λ w. w.turn < self.old.limits.targets) }
         ensures is_out { IfOk result (λ w. IsOutAt self.new.state w.target w.turn) }
         ensures one_more { OnOk result (jobs_out self.new ≡ jobs_out self.old + 1) }
-        ensures left { OnOk result (takes_left self.new.limits.0 self.new.state < takes_left self.old.limits.0 self.old.state) }
-        ensures part { OnOk result (IsPartOfBuild (rules_on self.new) self.new.request self.new.limits.0 self.new.state) }
+        ensures left { OnOk result (takes_left self.new.limits.targets self.new.state < takes_left self.old.limits.targets self.old.state) }
+        ensures part { OnOk result (IsPartOfBuild (rules_on self.new) self.new.request self.new.limits.targets self.new.state) }
         ensures err { OnErr result (self.new ≡ self.old) }
     {
         let Some(at) = self.table.ready.remove(which) else {
@@ -233,10 +233,10 @@ impl Board {
         requires { Belongs self.old piece }
         ensures open { OnOk result (IsOpen self.old.state (Hand_in piece.target piece.turn)) }
         ensures ok { OnOk result (self.new ≡ after self.old (Hand_in piece.target piece.turn)) }
-        ensures within { OnOk result (length self.new.state.entries ≤ self.new.limits.0) }
+        ensures within { OnOk result (length self.new.state.entries ≤ self.new.limits.targets) }
         ensures one_fewer { OnOk result (jobs_out self.new + 1 ≡ jobs_out self.old) }
-        ensures left { OnOk result (takes_left self.new.limits.0 self.new.state ≤ takes_left self.old.limits.0 self.old.state) }
-        ensures part { OnOk result (IsPartOfBuild (rules_on self.new) self.new.request self.new.limits.0 self.new.state) }
+        ensures left { OnOk result (takes_left self.new.limits.targets self.new.state ≤ takes_left self.old.limits.targets self.old.state) }
+        ensures part { OnOk result (IsPartOfBuild (rules_on self.new) self.new.request self.new.limits.targets self.new.state) }
         ensures err { IfErr result (Refused self.old self.new piece) }
     {
         if let Some(stop) = self.stopped {
@@ -276,7 +276,7 @@ impl Board {
     /// `finish`.
     pub fn quiet(&self) -> bool
         ensures quiet { IsTrue result ↔ IsQuietBoard self.now }
-        ensures shows { IsTrue result → ShowsBuild (rules_on self.now) self.now.request self.now.limits.0 self.now.state }
+        ensures shows { IsTrue result → ShowsBuild (rules_on self.now) self.now.request self.now.limits.targets self.now.state }
     {
         self.stopped.is_none() && self.ready() == 0 && self.out() == 0
     }
@@ -286,7 +286,7 @@ impl Board {
     /// is lost.
     pub fn finish(self) -> Result<Report, AllocError>
         requires { IsQuietBoard self }
-        ensures { IfOk result (IsReport (rules_on self) self.request self.limits.0) }
+        ensures { IfOk result (IsReport (rules_on self) self.request self.limits.targets) }
     {
         report_of(self.alloc, &self.tree, &self.request, &self.table)
     }

@@ -2,10 +2,11 @@
 ghost use Rattle.std.specs.Prelude.{◌≡◌};
 ghost use Rattle.std.specs.Arc.{arc_value};
 ghost use Rattle.redo_core.specs.Build.{rules_of};
-ghost use Rattle.redo_core.specs.Turns.{IsFact};
+ghost use Rattle.redo_build.specs.inside.Turns.{IsFact};
 
 use redo_path::Path;
-use redo_step::{Limits, Outcome, Record};
+use redo_step::Limits;
+use redo_record::{Outcome, Record};
 use redo_tree::Tree;
 use std::marker::Model;
 use std::sync::Arc;
@@ -28,7 +29,7 @@ impl Model for Fact {
     ghost Value = { FactView };
 
     ghost use Rattle.std.specs.Prelude.{◌≡◌};
-    ghost use Rattle.redo_core.specs.Turns.{IsFact};
+    ghost use Rattle.redo_build.specs.inside.Turns.{IsFact};
     ghost use Rattle.redo_core.specs.Build.{rules_of};
 
     ghost view = { λ f. record { tree = arc_value f.tree; limits = f.limits; target = f.target; outcome = f.outcome; deps = arc_value f.deps } };

@@ -2,12 +2,13 @@
 ghost use Rattle.std.specs.Prelude.{◌≡◌, [], OnOk, bytes_eq, option_copied};
 ghost use Rattle.std.specs.Arc.{arc_value};
 ghost use Rattle.std.specs.Map.{lookup};
-ghost use Rattle.redo_core.specs.Works.{told_in, known_in, few_known, AddsFact};
+ghost use Rattle.redo_core.specs.inside.Works.{told_in, known_in, few_known, AddsFact};
 
 use crate::fact::Fact;
 use indexmap::IndexMap;
 use redo_path::Path;
-use redo_step::{Answers, Outcome};
+use redo_step::Answers;
+use redo_record::Outcome;
 use std::alloc::{AllocError, Global};
 use std::sync::Arc;
 
@@ -87,7 +88,7 @@ fn told_of<'a>(facts: &'a [Arc<Fact>], path: &Path) -> Option<&'a Outcome>
 }
 
 impl Answers for Facts {
-    ghost use Rattle.redo_core.specs.Works.{told_in};
+    ghost use Rattle.redo_core.specs.inside.Works.{told_in};
 
     ghost ask = { told_in };
 

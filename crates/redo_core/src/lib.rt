@@ -22,8 +22,6 @@ mod finish;
 pub mod laws;
 mod moves;
 mod reading;
-pub mod report;
-pub mod report_text;
 mod same;
 mod table;
 #[cfg(test)]

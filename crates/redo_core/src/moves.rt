@@ -2,9 +2,9 @@
 ghost use Rattle.std.specs.Prelude.{◌≡◌, ◌<◌, ◌≤◌, ℕ, [], drop, not, is_some, length, IfOk, OnOk, Err};
 ghost use Rattle.std.specs.Arc.{arc_value};
 ghost use Rattle.redo_core.specs.Build.{rules_of};
-ghost use Rattle.redo_core.specs.Rules.{operands};
-ghost use Rattle.redo_core.specs.Slots.{IsPlace, AreNumbers, IsTableOf, IsStandingTable, AreEnteredInto, AreTooMany, AreLookedAt, AreReleased, MayTakeIn, IsPutBackThere, IsTakenIn, IsFirstTable, targets_in, table_entries, state_after};
-ghost use Rattle.redo_core.specs.Schedule.{opening};
+ghost use Rattle.redo_build.specs.Rules.{operands};
+ghost use Rattle.redo_core.specs.inside.Slots.{IsPlace, AreNumbers, IsTableOf, IsStandingTable, AreEnteredInto, AreTooMany, AreLookedAt, AreReleased, MayTakeIn, IsPutBackThere, IsTakenIn, IsFirstTable, targets_in, table_entries, state_after};
+ghost use Rattle.redo_build.specs.Schedule.{opening};
 ghost use Rattle.redo_tree.specs.Tree.{file_at};
 
 use crate::board::Stop;
@@ -13,7 +13,8 @@ use crate::table::{Table, decide, enter, is_operand, park, settle};
 use crate::work::{Begun, End};
 use indexmap::IndexSet;
 use redo_path::Path;
-use redo_step::{Dep, Limits};
+use redo_step::Limits;
+use redo_record::Dep;
 use redo_tree::Tree;
 use std::alloc::{AllocError, Global};
 use std::collections::VecDeque;
@@ -31,7 +32,7 @@ pub(crate) fn enter_all(
     requires table { IsTableOf (arc_value tree.now) limits table.old freed.old.items }
     ensures ok { OnOk result (AreEnteredInto (arc_value tree.now) limits table.old table.new freed.new.items (operands (rules_of (arc_value tree.now) limits) deps.now)) }
     ensures numbers { IfOk result (λ ns. AreNumbers table.new.targets.keys ns.items (operands (rules_of (arc_value tree.now) limits) deps.now)) }
-    ensures too_many { result ≡ Err Stop.TooMany → AreTooMany (rules_of (arc_value tree.now) limits) limits.0 (table_entries (rules_of (arc_value tree.now) limits) limits.0 table.old) (operands (rules_of (arc_value tree.now) limits) deps.now) }
+    ensures too_many { result ≡ Err Stop.TooMany → AreTooMany (rules_of (arc_value tree.now) limits) limits.targets (table_entries (rules_of (arc_value tree.now) limits) limits.targets table.old) (operands (rules_of (arc_value tree.now) limits) deps.now) }
 {
     let mut numbers = Vec::with_capacity(alloc, deps.len())?;
     for dep in deps {
@@ -114,7 +115,7 @@ fn suspend(
     requires may { MayTakeIn (arc_value tree.now) limits table.old at (End.Stopped begun) }
     requires none_freed { freed.old.items ≡ [] }
     ensures ok { OnOk result (IsPutBackThere (arc_value tree.now) limits table.old table.new at freed.new.items []) }
-    ensures too_many { result ≡ Err Stop.TooMany → limits.0 < length (state_after (arc_value tree.now) limits table.old at).entries }
+    ensures too_many { result ≡ Err Stop.TooMany → limits.targets < length (state_after (arc_value tree.now) limits table.old at).entries }
 {
     let operands = enter_all(table, alloc, asked(&begun), tree, limits, freed)?;
     park(table, at, begun, operands);
@@ -133,7 +134,7 @@ pub(crate) fn take_in(
 ) -> Result<(), Stop>
     requires { MayTakeIn (arc_value tree.now) limits table.old at end }
     ensures ok { OnOk result (IsTakenIn (arc_value tree.now) limits table.old table.new at) }
-    ensures too_many { result ≡ Err Stop.TooMany → limits.0 < length (state_after (arc_value tree.now) limits table.old at).entries }
+    ensures too_many { result ≡ Err Stop.TooMany → limits.targets < length (state_after (arc_value tree.now) limits table.old at).entries }
 {
     let mut freed = Vec::new(alloc);
     match end {
@@ -173,7 +174,7 @@ fn enter_requested(
 ) -> Result<(), Stop>
     requires table { IsTableOf (arc_value tree.now) limits table.old freed.old.items }
     ensures ok { OnOk result (AreEnteredInto (arc_value tree.now) limits table.old table.new freed.new.items (targets_in (arc_value tree.now) request.now)) }
-    ensures too_many { result ≡ Err Stop.TooMany → AreTooMany (rules_of (arc_value tree.now) limits) limits.0 (table_entries (rules_of (arc_value tree.now) limits) limits.0 table.old) (targets_in (arc_value tree.now) request.now) }
+    ensures too_many { result ≡ Err Stop.TooMany → AreTooMany (rules_of (arc_value tree.now) limits) limits.targets (table_entries (rules_of (arc_value tree.now) limits) limits.targets table.old) (targets_in (arc_value tree.now) request.now) }
 {
     for path in request {
         if is_target(tree, path) {
@@ -191,7 +192,7 @@ pub(crate) fn first_table(
     limits: Limits,
 ) -> Result<Table, Stop>
     ensures ok { IfOk result (λ t. IsFirstTable (arc_value tree.now) limits request.now t) }
-    ensures too_many { result ≡ Err Stop.TooMany → limits.0 < length (opening (rules_of (arc_value tree.now) limits) request.now).entries }
+    ensures too_many { result ≡ Err Stop.TooMany → limits.targets < length (opening (rules_of (arc_value tree.now) limits) request.now).entries }
 {
     let most = limits.targets();
     prove!(most <= 65_536);

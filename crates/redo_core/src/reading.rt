@@ -3,7 +3,7 @@ ghost use Rattle.std.specs.Prelude.{◌≡◌, [], IfOk};
 ghost use Rattle.std.specs.Arc.{arc_value};
 ghost use Rattle.redo_which.specs.Rule.{Rule as IsRule, found_of};
 ghost use Rattle.redo_which.specs.Views.{arguments_view};
-ghost use Rattle.redo_core.specs.Scripts.{IsBegunJob};
+ghost use Rattle.redo_core.specs.inside.Scripts.{IsBegunJob};
 
 use redo_path::Path;
 use redo_step::{Job, Limits, Parsed};

@@ -1,9 +1,9 @@
 //! The numbered table of the targets that were seen.
 ghost use Rattle.std.specs.Prelude.{◌≡◌, ℕ, List, ◌↔◌, ◌<◌, ◌≤◌, ◌+◌, ◌++◌, ◌∷◌, [], IsTrue, OnOk, IfOk, IfSome, IfNone, MatchOption, length, slice_get, Some, None};
 ghost use Rattle.std.specs.Arc.{arc_value};
-ghost use Rattle.redo_core.specs.Paths.{IsAmong, AreDistinct};
+ghost use Rattle.redo_record.specs.Paths.{IsAmong, AreDistinct};
 ghost use Rattle.redo_core.specs.Build.{rules_of};
-ghost use Rattle.redo_core.specs.Slots.{IsOperand, IsPlace, IsDecidedNumber, GainsOne, IsLackingAt, AreDecidedFrom, is_stage_decided, is_stage_ready, is_stage_out, IsOutSlotAt, IsWaitingThere, IsHeldAt, IsTableOf, IsStandingTable, IsWatchAdded, IsFreedAt, IsFed, IsLookedAt, IsBegun, IsPushed, IsEnteredInto, IsFull, table_entries, IsDecidedAt, IsParkedAt, IsOutThere, Gains};
+ghost use Rattle.redo_core.specs.inside.Slots.{IsOperand, IsPlace, IsDecidedNumber, GainsOne, IsLackingAt, AreDecidedFrom, is_stage_decided, is_stage_ready, is_stage_out, IsOutSlotAt, IsWaitingThere, IsHeldAt, IsTableOf, IsStandingTable, IsWatchAdded, IsFreedAt, IsFed, IsLookedAt, IsBegun, IsPushed, IsEnteredInto, IsFull, table_entries, IsDecidedAt, IsParkedAt, IsOutThere, Gains};
 
 use crate::begin::begin;
 use crate::board::Stop;
@@ -12,7 +12,8 @@ use crate::facts::Facts;
 use crate::work::{Begun, Work};
 use indexmap::IndexSet;
 use redo_path::Path;
-use redo_step::{Dep, DepKind, Job, Limits};
+use redo_step::{Job, Limits};
+use redo_record::{Dep, DepKind};
 use redo_tree::Tree;
 use std::alloc::{AllocError, Global};
 use std::collections::VecDeque;
@@ -249,7 +250,7 @@ pub(crate) fn enter(
     requires table { IsTableOf (arc_value tree.now) limits table.old freed.old.items }
     ensures ok { OnOk result (IsEnteredInto (arc_value tree.now) limits table.old table.new freed.new.items path.now) }
     ensures number { IfOk result (λ at. slice_get table.new.targets.keys at ≡ Some path.now) }
-    ensures too_many { result ≡ Err Stop.TooMany ↔ IsFull (rules_of (arc_value tree.now) limits) limits.0 (table_entries (rules_of (arc_value tree.now) limits) limits.0 table.old) path.now }
+    ensures too_many { result ≡ Err Stop.TooMany ↔ IsFull (rules_of (arc_value tree.now) limits) limits.targets (table_entries (rules_of (arc_value tree.now) limits) limits.targets table.old) path.now }
 {
     if let Some(at) = find(&table.targets, path) {
         return Ok(at as u32);
@@ -274,7 +275,7 @@ pub(crate) fn enter_new(
     freed: &mut Vec<u32>,
 ) -> Result<(), AllocError>
     requires new { IsAmong table.old.targets.keys path.now → ⊥ }
-    requires room { length table.old.slots.items < limits.0 }
+    requires room { length table.old.slots.items < limits.targets }
     requires table { IsTableOf (arc_value tree.now) limits table.old freed.old.items }
     ensures { OnOk result (IsPushed (arc_value tree.now) limits table.old table.new freed.old.items freed.new.items path.now) }
 {

@@ -1,13 +1,13 @@
 //! Jobs on their way to a worker and back.
 ghost use Rattle.std.specs.Prelude.{◌≡◌, ◌↔◌, [], Some, None, is_some, IfOk, IsTrue};
 ghost use Rattle.std.specs.Arc.{arc_value};
-ghost use Rattle.redo_core.specs.Lacking.{lacking_under};
+ghost use Rattle.redo_build.specs.Lacking.{lacking_under};
 ghost use Rattle.redo_core.specs.Build.{rules_of};
 ghost use Rattle.redo_core.specs.Views.{told_by};
-ghost use Rattle.redo_core.specs.Works.{IsWorkWith, HoldsOutcomes, job_deps, known_in, told_in};
+ghost use Rattle.redo_core.specs.inside.Works.{IsWorkWith, HoldsOutcomes, job_deps, known_in, told_in};
 ghost use Rattle.redo_which.specs.Rule.{Rule as IsRule, found_of};
 ghost use Rattle.redo_which.specs.Views.{arguments_view};
-ghost use Rattle.redo_core.specs.Ends.{IsEndAt};
+ghost use Rattle.redo_core.specs.inside.Ends.{IsEndAt};
 
 use crate::fact::Fact;
 use crate::facts::Facts;
@@ -61,7 +61,7 @@ impl Model for Work {
 
     ghost Value = { WorkView };
 
-    ghost use Rattle.redo_core.specs.Scripts.{IsScriptOf, script_target, script_turn, script_deps, script_known};
+    ghost use Rattle.redo_core.specs.inside.Scripts.{IsScriptOf, script_target, script_turn, script_deps, script_known};
 
     ghost view = { λ w. record {
       tree = arc_value w.tree;
@@ -99,7 +99,7 @@ impl Model for Piece {
 
     ghost Value = { PieceView };
 
-    ghost use Rattle.redo_core.specs.Ends.{end_progress, IsEndAt};
+    ghost use Rattle.redo_core.specs.inside.Ends.{end_progress, IsEndAt};
 
     ghost view = { λ p. record { tree = arc_value p.tree; limits = p.limits; target = p.target; turn = p.turn; progress = end_progress p.end } };
 

@@ -1,7 +1,7 @@
-pub mod Apart
-pub mod Canonical
-pub mod Cuts
-mod Examples
-pub mod FileNames
-pub mod Parts
-pub mod Steps
+pub mod ApartLemmas
+pub mod CanonicalLemmas
+pub mod CutLemmas
+pub mod FileNameLemmas
+pub mod PartLemmas
+pub mod StepLemmas
+pub mod Examples

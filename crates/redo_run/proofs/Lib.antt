@@ -1,6 +1,6 @@
-pub mod Driving
-pub mod Exiting
-pub mod Refusals
-pub mod StaysOut
-pub mod Told
-mod Crossing
+pub mod DrivingLemmas
+pub mod ExitLemmas
+pub mod RefusalLemmas
+pub mod StaysOutLemmas
+pub mod ToldLemmas
+pub mod CrossingLemmas

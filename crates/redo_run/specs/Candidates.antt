@@ -1,6 +1,6 @@
 -- The list of a target's candidates, one a line.
 use Rattle.std.specs.Prelude.{ℕ, List, ◌++◌, Option, Some, None, flat_map, option_map}
-use Rattle.redo_core.specs.ReportText.{path_line}
+use Rattle.redo_report.specs.ReportText.{path_line}
 use Rattle.redo_tree.specs.Tree.{Tree}
 use Rattle.redo_which.specs.Candidates.{Place}
 use Rattle.redo_which.specs.Rule.{chosen_of, missing_of}

@@ -2,9 +2,9 @@
 use Rattle.std.specs.Prelude.{◌≡◌, ◌↔◌, Bool, false, IsTrue, IsSome, ℕ, List, Option, Result, Ok, Err}
 use Rattle.std.specs.Io.KnownBytes.{Appends}
 use Rattle.redo_core.specs.Build.{rules_of}
-use Rattle.redo_core.specs.Outcomes.{IsTooMany}
-use Rattle.redo_core.specs.ReportText.{report_text}
-use Rattle.redo_core.specs.declared.report.Report.{Report}
+use Rattle.redo_build.specs.Outcomes.{IsTooMany}
+use Rattle.redo_report.specs.ReportText.{report_text}
+use Rattle.redo_report.specs.declared.report.Report.{Report}
 use Rattle.redo_tree.specs.Tree.{Tree}
 use Rattle.redo_which.specs.Rule.{chosen_of}
 use Rattle.redo_tree.specs.Directory.{IsLoaded, places_in}
@@ -25,11 +25,11 @@ pub record ReportsTree (options : Options) (dir : List ℕ) (old new : Option (L
   pub is : IsReportFor options tree report
   pub stored : run.stored ≡ places_in dir report.files.items
   pub written : Appends old new (report_text report false)
-  pub good : IsExit (rules_of tree options.limits) options.limits.0 (request_in options) run.exit
+  pub good : IsExit (rules_of tree options.limits) options.limits.targets (request_in options) run.exit
 
 -- a tree needs too many targets
 abbrev pub NeedsTooMany : Options → Type 0
-NeedsTooMany options = (tree : Tree) × IsTooMany (rules_of tree options.limits) (request_in options) options.limits.0
+NeedsTooMany options = (tree : Tree) × IsTooMany (rules_of tree options.limits) (request_in options) options.limits.targets
 
 -- a tree was loaded, and the writer took the list of the target's candidates in it, and nothing else
 pub record ListsTree (target : List ℕ) (old new : Option (List ℕ)) (found : Bool) (passed : ℕ) : Type 0 where

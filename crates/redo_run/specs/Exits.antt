@@ -3,14 +3,14 @@ use Rattle.std.specs.Prelude.{◌≡◌, ◌↔◌, Bool, true, false, not, ◌&
 use Rattle.std.specs.Cmp.Lexicographic.{slice_cmp}
 use Rattle.std.specs.List.{list_any}
 use Rattle.std.specs.Ordering.{nat_cmp, is_eq}
-use Rattle.redo_core.specs.Outcomes.{final_outcome}
-use Rattle.redo_core.specs.Paths.{IsAmong}
-use Rattle.redo_core.specs.Rules.{Rules}
-use Rattle.redo_core.specs.declared.report.Row.{Row}
+use Rattle.redo_build.specs.Outcomes.{final_outcome}
+use Rattle.redo_record.specs.Paths.{IsAmong}
+use Rattle.redo_build.specs.Rules.{Rules}
+use Rattle.redo_report.specs.declared.report.Row.{Row}
 use Rattle.redo_run.specs.declared.exit.Exit.{Exit}
 use Rattle.redo_run.specs.declared.exit.Exit.TheVariants.{Good}
-use Rattle.redo_step.specs.declared.outcome.Outcome.{Outcome}
-use Rattle.redo_step.specs.declared.outcome.Outcome.TheVariants.{Source, Built, Failed, Cyclic}
+use Rattle.redo_record.specs.declared.outcome.Outcome.{Outcome}
+use Rattle.redo_record.specs.declared.outcome.Outcome.TheVariants.{Source, Built, Failed, Cyclic}
 
 -- a source, or built
 abbrev pub is_made : Outcome → Bool

@@ -1,10 +1,9 @@
 pub mod Candidates
 pub mod DirFaults
 pub mod Directories
-pub mod Driving
 pub mod Exits
 pub mod Faults
 pub mod Picks
 pub mod RunFaults
 pub mod Runs
-pub mod Workers
+pub mod inside

@@ -1,13 +1,14 @@
 -- An order of a build, said by places: which ready target is taken next, and which of the jobs that are out is handed in.
 use Rattle.std.specs.Prelude.{◌≡◌, ℕ, ◌+◌, List, [], ◌∷◌, ◌++◌, Option, Some, None, slice_get, remove, map, option_map}
 use Rattle.redo_core.specs.Build.{rules_of}
-use Rattle.redo_core.specs.Rules.{Rules}
-use Rattle.redo_core.specs.Schedule.{State, entry_of, happens, handed_in, opening}
-use Rattle.redo_core.specs.Schedule.Event.{Take}
+use Rattle.redo_build.specs.Rules.{Rules}
+use Rattle.redo_build.specs.Schedule.{State, entry_of, happens, handed_in, opening}
+use Rattle.redo_build.specs.Schedule.Event.{Take}
 use Rattle.redo_core.specs.Views.{BoardView, WorkView}
 use Rattle.redo_tree.specs.Tree.{Tree}
 use Rattle.redo_run.specs.declared.picks.Pick.{Pick}
 use Rattle.redo_run.specs.declared.picks.Pick.TheVariants.{Take as TakeAt, HandIn as HandInAt}
+use Rattle.redo_step.specs.Limits.{LimitsView}
 
 -- a state, with the targets that are out in the order of taking
 pub record Driven : Type 0 where
@@ -37,11 +38,11 @@ driven r d (pick ∷ picks) =
     ]
 
 -- the opening, where nothing is out
-abbrev pub at_opening : Tree → List (List ℕ) → ℕ × ℕ → Driven
+abbrev pub at_opening : Tree → List (List ℕ) → LimitsView → Driven
 at_opening tree request limits = record { state = opening (rules_of tree limits) request; out = [] }
 
 -- the board is that of the picks, which were done up to the first that isn't open
-abbrev pub IsDriven : Tree → List (List ℕ) → ℕ × ℕ → List Pick → BoardView → ℕ → Type 0
+abbrev pub IsDriven : Tree → List (List ℕ) → LimitsView → List Pick → BoardView → ℕ → Type 0
 IsDriven tree request limits picks board done =
     let end = driven (rules_of tree limits) (at_opening tree request limits) picks in
     (board ≡ record { tree = tree; request = request; limits = limits; state = end.0.state; stopped = None }) × (done ≡ end.1)

@@ -2,10 +2,10 @@
 use Rattle.std.specs.Prelude.{◌≡◌, ◌↔◌, ◌++◌, ◌∷◌, [], ℕ, Bool, true, IsTrue, IsSome, List, Option, Result, Ok, Err, codes}
 use Rattle.std.specs.Io.KnownBytes.{Appends}
 use Rattle.redo_core.specs.Build.{rules_of}
-use Rattle.redo_core.specs.Outcomes.{IsTooMany}
-use Rattle.redo_core.specs.Reports.{IsReport}
-use Rattle.redo_core.specs.ReportText.{report_text}
-use Rattle.redo_core.specs.declared.report.Report.{Report}
+use Rattle.redo_build.specs.Outcomes.{IsTooMany}
+use Rattle.redo_report.specs.Reports.{IsReport}
+use Rattle.redo_report.specs.ReportText.{report_text}
+use Rattle.redo_report.specs.declared.report.Report.{Report}
 use Rattle.redo_tree.specs.Bundle.{IsBundle, Reads}
 use Rattle.redo_tree.specs.Tree.{Tree}
 use Rattle.redo_which.specs.Rule.{chosen_of}
@@ -26,7 +26,7 @@ request_in options = request_of options.targets.items
 
 -- the report of the build of a tree, as the options want it
 abbrev pub IsReportFor : Options → Tree → Report → Type 0
-IsReportFor options tree report = IsReport (rules_of tree options.limits) (request_in options) options.limits.0 report
+IsReportFor options tree report = IsReport (rules_of tree options.limits) (request_in options) options.limits.targets report
 
 -- the text is a bundle of a tree, and the writer took the report of its build, and nothing else
 pub record Reports (options : Options) (text : List ℕ) (old new : Option (List ℕ)) (exit : Exit) : Type 0 where
@@ -35,11 +35,11 @@ pub record Reports (options : Options) (text : List ℕ) (old new : Option (List
   pub report : Report
   pub is : IsReportFor options tree report
   pub written : Appends old new (report_text report true)
-  pub good : IsExit (rules_of tree options.limits) options.limits.0 (request_in options) exit
+  pub good : IsExit (rules_of tree options.limits) options.limits.targets (request_in options) exit
 
 -- the text is a bundle of a tree that needs too many targets
 abbrev pub NeedsTooMany : Options → List ℕ → Type 0
-NeedsTooMany options text = (tree : Tree) × IsBundle text tree × IsTooMany (rules_of tree options.limits) (request_in options) options.limits.0
+NeedsTooMany options text = (tree : Tree) × IsBundle text tree × IsTooMany (rules_of tree options.limits) (request_in options) options.limits.targets
 
 -- the text is a bundle of a tree, and the writer took a beginning of the report of its build
 pub record BreaksOff (options : Options) (text : List ℕ) (old new : Option (List ℕ)) : Type 0 where

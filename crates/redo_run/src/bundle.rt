@@ -9,7 +9,7 @@ use crate::exit::exit_after;
 use crate::request::requested;
 use crate::workers::build_many;
 use crate::{Cause, Exit, Gate, Options, RunIoFault};
-use redo_core::report_text::write_report;
+use redo_report::write_report;
 use redo_path::Path;
 use redo_tree::{ByteIn, ByteOut, read_bundle_by_line, write_all};
 use redo_which::lookup::search;

@@ -1,7 +1,7 @@
 //! The list of a target's candidates, one a line.
 
 ghost use Rattle.std.specs.Prelude.{◌≡◌, ◌++◌, IfOk, OnOk};
-ghost use Rattle.redo_core.specs.ReportText.{path_line};
+ghost use Rattle.redo_report.specs.ReportText.{path_line};
 ghost use Rattle.redo_run.specs.Candidates.{search_text};
 
 use redo_path::Path;

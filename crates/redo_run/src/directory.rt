@@ -9,7 +9,7 @@ use crate::exit::exit_after;
 use crate::request::requested;
 use crate::workers::build_many;
 use crate::{Cause, Exit, Gate, Options, RunDirFault};
-use redo_core::report_text::write_report;
+use redo_report::write_report;
 use redo_path::Path;
 use redo_tree::{
     ByteOut, Content, LoadFault, StoreFault, Stored, Tree, load_dir, store_files, write_all,

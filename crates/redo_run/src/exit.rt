@@ -2,14 +2,14 @@
 
 ghost use Rattle.std.specs.Prelude.{◌≡◌, [], IfOk, ℕ};
 ghost use Rattle.std.specs.List.{list_any};
-ghost use Rattle.redo_core.specs.Reports.{IsReport};
-ghost use Rattle.redo_core.specs.Rules.{Rules};
-ghost use Rattle.redo_core.specs.Reported.{placed};
+ghost use Rattle.redo_report.specs.Reports.{IsReport};
+ghost use Rattle.redo_build.specs.Rules.{Rules};
+ghost use Rattle.redo_core.specs.inside.Reported.{placed};
 ghost use Rattle.redo_run.specs.Exits.{IsExit, fails, is_made};
 
-use redo_core::report::{Report, Row};
+use redo_report::{Report, Row};
 use redo_path::Path;
-use redo_step::Outcome;
+use redo_record::Outcome;
 use std::alloc::{AllocError, Global};
 use std::collections::BTreeSet;
 

@@ -3,14 +3,14 @@
 ghost use Rattle.std.specs.Prelude.{◌≡◌, ◌<◌, Err, IfOk, IsNone, OnOk};
 ghost use Rattle.redo_core.specs.Build.{rules_of};
 ghost use Rattle.redo_core.specs.Faults.{IsSameBuild};
-ghost use Rattle.redo_core.specs.Outcomes.{IsTooMany};
-ghost use Rattle.redo_core.specs.Reports.{IsReport};
-ghost use Rattle.redo_core.specs.TakesLeft.{takes_left};
+ghost use Rattle.redo_build.specs.Outcomes.{IsTooMany};
+ghost use Rattle.redo_report.specs.Reports.{IsReport};
+ghost use Rattle.redo_build.specs.TakesLeft.{takes_left};
 ghost use Rattle.redo_core.specs.Views.{jobs_out, ready_count, rules_on};
 
 use crate::RunFault;
 use redo_core::board::{Board, HandFault};
-use redo_core::report::Report;
+use redo_report::Report;
 use redo_path::Path;
 use redo_step::Limits;
 use redo_tree::Tree;
@@ -26,8 +26,8 @@ fn advance_newest(board: &mut Board) -> Result<(), RunFault>
     ensures build { OnOk result (IsSameBuild board.old board.new) }
     ensures none_out { OnOk result (jobs_out board.new ≡ 0) }
     ensures running { OnOk result (IsNone board.new.stopped) }
-    ensures left { OnOk result (takes_left board.new.limits.0 board.new.state < takes_left board.old.limits.0 board.old.state) }
-    ensures too_many { result ≡ Err RunFault.TooMany → IsTooMany (rules_on board.old) board.old.request board.old.limits.0 }
+    ensures left { OnOk result (takes_left board.new.limits.targets board.new.state < takes_left board.old.limits.targets board.old.state) }
+    ensures too_many { result ≡ Err RunFault.TooMany → IsTooMany (rules_on board.old) board.old.request board.old.limits.targets }
 {
     let work = board.take(board.ready() - 1)?;
     let piece = work.advance()?;
@@ -46,8 +46,8 @@ pub fn build_one(
     request: &[Path],
     limits: Limits,
 ) -> Result<Report, RunFault>
-    ensures report { IfOk result (IsReport (rules_of tree limits) request.now limits.0) }
-    ensures too_many { result ≡ Err RunFault.TooMany → IsTooMany (rules_of tree limits) request.now limits.0 }
+    ensures report { IfOk result (IsReport (rules_of tree limits) request.now limits.targets) }
+    ensures too_many { result ≡ Err RunFault.TooMany → IsTooMany (rules_of tree limits) request.now limits.targets }
 {
     let mut board = Board::open(alloc, Arc::new(alloc, tree)?, request, limits)?;
     while board.ready() > 0 {

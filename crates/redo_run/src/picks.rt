@@ -6,10 +6,10 @@
 ghost use Rattle.std.specs.Prelude.{◌≡◌, Err, IfOk, IsNone, MatchBool, None, OnOk, Some, length};
 ghost use Rattle.redo_core.specs.Build.{rules_of};
 ghost use Rattle.redo_core.specs.Faults.{IsSameBuild};
-ghost use Rattle.redo_core.specs.Outcomes.{IsTooMany};
+ghost use Rattle.redo_build.specs.Outcomes.{IsTooMany};
 ghost use Rattle.redo_core.specs.Views.{rules_on};
 ghost use Rattle.redo_run.specs.Picks.{IsDriven, driven_on, picked};
-ghost use Rattle.redo_run.specs.Driving.{AreOut, IsPicked};
+ghost use Rattle.redo_run.specs.inside.Driving.{AreOut, IsPicked};
 
 use crate::RunFault;
 use redo_core::board::{Board, HandFault};
@@ -54,7 +54,7 @@ fn hand_in_at(board: &mut Board, out: &mut Vec<Work>, which: usize) -> Result<bo
     ensures build { OnOk result (IsSameBuild board.old board.new) }
     ensures running { OnOk result (IsNone board.new.stopped) }
     ensures out { OnOk result (AreOut board.new out.new.items) }
-    ensures too_many { result ≡ Err RunFault.TooMany → IsTooMany (rules_on board.old) board.old.request board.old.limits.0 }
+    ensures too_many { result ≡ Err RunFault.TooMany → IsTooMany (rules_on board.old) board.old.request board.old.limits.targets }
 {
     if which >= out.len() {
         return Ok(false);
@@ -76,7 +76,7 @@ fn perform(board: &mut Board, out: &mut Vec<Work>, pick: Pick) -> Result<bool, R
     ensures build { OnOk result (IsSameBuild board.old board.new) }
     ensures running { OnOk result (IsNone board.new.stopped) }
     ensures out { OnOk result (AreOut board.new out.new.items) }
-    ensures too_many { result ≡ Err RunFault.TooMany → IsTooMany (rules_on board.old) board.old.request board.old.limits.0 }
+    ensures too_many { result ≡ Err RunFault.TooMany → IsTooMany (rules_on board.old) board.old.request board.old.limits.targets }
 {
     match pick {
         Pick::Take(which) => take_at(board, out, which),
@@ -95,7 +95,7 @@ pub fn drive(
     picks: &[Pick],
 ) -> Result<(Board, usize), RunFault>
     ensures ok { IfOk result (λ driven. IsDriven tree request.now limits picks.now driven.0 driven.1) }
-    ensures too_many { result ≡ Err RunFault.TooMany → IsTooMany (rules_of tree limits) request.now limits.0 }
+    ensures too_many { result ≡ Err RunFault.TooMany → IsTooMany (rules_of tree limits) request.now limits.targets }
 {
     let mut board = Board::open(alloc, Arc::new(alloc, tree)?, request, limits)?;
     let mut out = Vec::new(alloc);

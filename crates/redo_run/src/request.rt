@@ -28,7 +28,7 @@ fn copied(alloc: Global, paths: &[Path]) -> Result<Vec<Path>, AllocError>
 }
 
 /// The targets that are named, or `all` where there are none.
-#[tactic(auto, using(crate::proofs::Told::named_targets))]
+#[tactic(auto, using(crate::proofs::ToldLemmas::named_targets))]
 pub(crate) fn requested(alloc: Global, targets: &[Path]) -> Result<Vec<Path>, AllocError>
     ensures { IfOk result (λ request. request.items ≡ request_of targets.now) }
 {

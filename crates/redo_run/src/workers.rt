@@ -7,16 +7,16 @@
 ghost use Rattle.std.specs.Prelude.{◌≡◌, ◌↔◌, ◌<◌, ◌≤◌, true, false, Ok, Err, None, IfOk, IfSome, IsTrue, OnErr};
 ghost use Rattle.redo_core.specs.Build.{rules_of};
 ghost use Rattle.redo_core.specs.Faults.{IsSameBuild};
-ghost use Rattle.redo_core.specs.Outcomes.{IsTooMany};
-ghost use Rattle.redo_core.specs.Reports.{IsReport};
-ghost use Rattle.redo_core.specs.Schedule.{IsOutAt};
+ghost use Rattle.redo_build.specs.Outcomes.{IsTooMany};
+ghost use Rattle.redo_report.specs.Reports.{IsReport};
+ghost use Rattle.redo_build.specs.Schedule.{IsOutAt};
 ghost use Rattle.redo_core.specs.Views.{Belongs, jobs_out, ready_count};
-ghost use Rattle.redo_run.specs.Workers.{IsAnswerTo, IsBoardOf, IsPieceOf, IsWorkOf};
+ghost use Rattle.redo_run.specs.inside.Workers.{IsAnswerTo, IsBoardOf, IsPieceOf, IsWorkOf};
 
 use crate::gate::Gate;
 use crate::run_fault::RunFault;
 use redo_core::board::{Board, HandFault};
-use redo_core::report::Report;
+use redo_report::Report;
 use redo_core::work::{Piece, Work};
 use redo_path::Path;
 use redo_step::Limits;
@@ -30,13 +30,14 @@ use std::thread::{Scope, Threads};
 /// The build that workers are at: its tree, its request and its limits. It has no value when the program runs.
 pub trait Build {
     ghost use Rattle.std.specs.Prelude.{ℕ, List};
+    ghost use Rattle.redo_step.specs.Limits.{LimitsView};
     ghost use Rattle.redo_tree.specs.Tree.{Tree as Entries};
 
     ghost tree: { Entries };
 
     ghost request: { List (List ℕ) };
 
-    ghost limits: { ℕ × ℕ };
+    ghost limits: { LimitsView };
 }
 
 impl Build for Brand {
@@ -47,7 +48,7 @@ impl Build for Brand {
 
     ghost request = { [] };
 
-    ghost limits = { (1, 1) };
+    ghost limits = { record { targets = 1; file_bytes = 1 } };
 }
 
 /// The board of a build, and whether a growth or a thread was refused beside it.
@@ -273,8 +274,8 @@ pub fn build_many<R: Threads + Wait + Sync, G: Gate>(
 ) -> Result<Report, RunFault>
     requires some { 1 ≤ workers }
     requires few { workers ≤ 64 }
-    ensures report { IfOk result (IsReport (rules_of tree limits) request.now limits.0) }
-    ensures too_many { result ≡ Err RunFault.TooMany → IsTooMany (rules_of tree limits) request.now limits.0 }
+    ensures report { IfOk result (IsReport (rules_of tree limits) request.now limits.targets) }
+    ensures too_many { result ≡ Err RunFault.TooMany → IsTooMany (rules_of tree limits) request.now limits.targets }
 {
     let tree = Arc::new(alloc, tree)?;
     let board = Board::open(alloc, tree, request, limits)?;

@@ -1,29 +1,29 @@
-pub mod Words
-pub mod Rows
-mod Bits
-mod OneByte
-mod OnlyTokens
-mod FoundTokens
-mod Names
-mod OneToken
-mod OnlyScripts
-mod FoundScripts
-mod WholeScripts
-mod Spelled
-mod Statements
-mod Numbers
-mod Interpreters
-mod Blames
-mod ReadTokens
-mod ReadTexts
-mod StopsTokens
-mod OpenQuotes
-mod Runs
-mod Nuls
-mod QuotedRuns
-mod Handed
-mod BegunCommands
-mod Refused
-mod RefusedTexts
-mod Refusing
-mod OneFault
+pub mod WordLemmas
+pub mod RowExamples
+pub mod BegunCommandLemmas
+pub mod BitLemmas
+pub mod BlameLemmas
+pub mod FoundScriptLemmas
+pub mod FoundTokenLemmas
+pub mod HandedLemmas
+pub mod InterpreterLemmas
+pub mod NameLemmas
+pub mod NulLemmas
+pub mod NumberLemmas
+pub mod OneByteLemmas
+pub mod OneFaultLemmas
+pub mod OneTokenLemmas
+pub mod OnlyScriptLemmas
+pub mod OnlyTokenLemmas
+pub mod OpenQuoteLemmas
+pub mod QuotedRunLemmas
+pub mod ReadTextLemmas
+pub mod ReadTokenLemmas
+pub mod RefusedLemmas
+pub mod RefusedTextLemmas
+pub mod RefusingLemmas
+pub mod RunLemmas
+pub mod SpelledLemmas
+pub mod StatementLemmas
+pub mod StopTokenLemmas
+pub mod WholeScriptLemmas

@@ -7,10 +7,7 @@ pub mod Reading
 pub mod Grammar
 pub mod Parsing
 pub mod Texts
-pub mod Lexer
-pub mod Parser
 pub mod Places
-pub mod Runs
-pub mod Passes
 pub mod Refusals
 pub mod Refused
+pub mod inside

@@ -4,7 +4,7 @@ ghost use Rattle.std.specs.Prelude.{◌≡◌, Ok};
 ghost use Rattle.redo_script.specs.Faults.{Gives, Leaves};
 ghost use Rattle.redo_script.specs.Parsing.{begun, with_word, with_redirect, is_unfinished, ended_command, ended_condition};
 ghost use Rattle.redo_script.specs.View.{command_of, condition_of};
-ghost use Rattle.redo_script.specs.Parser.{item_of, begun_of};
+ghost use Rattle.redo_script.specs.inside.Parser.{item_of, begun_of};
 
 use crate::ast::{Command, Condition, Redirection};
 use crate::fault::{Reason, ScriptFault};

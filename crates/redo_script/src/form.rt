@@ -3,7 +3,7 @@
 ghost use Rattle.std.specs.Prelude.{◌≡◌, map, option_map, IfOk};
 ghost use Rattle.redo_script.specs.Grammar.{alone, lone, test_form, print_form, cat_form, exit_form, bare_form, command_form, condition_form, item_words};
 ghost use Rattle.redo_script.specs.View.{command_of, condition_of, redirection_of, test_of, words_of};
-ghost use Rattle.redo_script.specs.Parser.{item_of};
+ghost use Rattle.redo_script.specs.inside.Parser.{item_of};
 
 use crate::ast::{Command, Condition, Redirection, Test, Word, Writer};
 use crate::item::Item;
@@ -46,7 +46,7 @@ pub fn test_operands(alloc: Global, items: &mut Vec<Item>) -> Result<Option<Test
 }
 
 /// The words of operands.
-#[tactic(auto, using(crate::proofs::Statements::words_push))]
+#[tactic(auto, using(crate::proofs::StatementLemmas::words_push))]
 #[inline(always)]
 pub fn words_of_items(alloc: Global, items: &mut Vec<Item>) -> Result<Vec<Word>, AllocError>
     ensures { IfOk result (λ words. words_of words.items ≡ item_words (map item_of items.old.items)) }
@@ -69,7 +69,7 @@ fn lone(items: &mut Vec<Item>, condition: Condition) -> Option<Condition>
 }
 
 /// The condition of an `if`, where its words are of a form.
-#[tactic(auto, using(crate::proofs::Names::condition_test, crate::proofs::Names::condition_true, crate::proofs::Names::condition_false, crate::proofs::Names::no_condition))]
+#[tactic(auto, using(crate::proofs::NameLemmas::condition_test, crate::proofs::NameLemmas::condition_true, crate::proofs::NameLemmas::condition_false, crate::proofs::NameLemmas::no_condition))]
 pub fn condition_of_items(
     alloc: Global,
     name: &Item,

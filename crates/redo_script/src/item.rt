@@ -6,7 +6,7 @@ ghost use Rattle.redo_script.specs.Syntax.{Word as Symbols};
 ghost use Rattle.redo_script.specs.Grammar.{spells, is_named};
 ghost use Rattle.redo_script.specs.Parsing.{is_one_of, commands, words_outside};
 ghost use Rattle.redo_script.specs.View.{symbols_of_part, symbols_of, word_of};
-ghost use Rattle.redo_script.specs.Parser.{item_of};
+ghost use Rattle.redo_script.specs.inside.Parser.{item_of};
 
 use crate::ast::{Part, Word};
 use redo_bytes::Bytes;

@@ -7,8 +7,8 @@ ghost use Rattle.redo_script.specs.View.{symbols_of_part};
 ghost use Rattle.redo_script.specs.Reading.{read_on, next_byte, at_end, at_start, in_word, gap_byte, word_byte, in_single, in_double, after_backslash, after_dollar, after_quoted_dollar, after_redirect, with_word, with_token, with_symbol, with_quote, with_begun_word, with_symbols, parameter_named};
 ghost use Rattle.redo_script.specs.declared.fault.Reason.TheVariants as reasons;
 ghost use Rattle.redo_script.specs.declared.lexer.Mode.TheVariants as modes;
-ghost use Rattle.redo_script.specs.Runs.{ReadsOn};
-ghost use Rattle.redo_script.specs.Lexer.{token_of, reader_of, with_no_tokens};
+ghost use Rattle.redo_script.specs.inside.Runs.{ReadsOn};
+ghost use Rattle.redo_script.specs.inside.Lexer.{token_of, reader_of, with_no_tokens};
 
 use crate::ast::{Parameter, Part};
 use crate::bytes::is_plain_byte;

@@ -4,12 +4,12 @@ ghost use Rattle.std.specs.Prelude.{◌≡◌, Ok, OnOk, IfErr, [], ◌∷◌, �
 ghost use Rattle.redo_script.specs.declared.fault.ScriptFault.{ScriptFault};
 ghost use Rattle.redo_script.specs.Syntax.{Script as ScriptTree};
 ghost use Rattle.redo_script.specs.Tokens.{Token as Symbol};
-ghost use Rattle.redo_script.specs.Passes.{IsOn, ParsesOn};
+ghost use Rattle.redo_script.specs.inside.Passes.{IsOn, ParsesOn};
 ghost use Rattle.redo_script.specs.Faults.{Gives, Leaves, fault_at, no_memory};
 ghost use Rattle.redo_script.specs.Parsing.{with_command, with_condition, if_opened, at_else, at_fi, then_word, condition_word, first_word, a_word, a_redirect, a_separator, next_token, unless_open, end_by_phase, at_first, parse_on, statements_of};
 ghost use Rattle.redo_script.specs.View.{condition_of, script_of};
-ghost use Rattle.redo_script.specs.Lexer.{token_of};
-ghost use Rattle.redo_script.specs.Parser.{item_of, begun_of, open_of, parser_of};
+ghost use Rattle.redo_script.specs.inside.Lexer.{token_of};
+ghost use Rattle.redo_script.specs.inside.Parser.{item_of, begun_of, open_of, parser_of};
 
 use crate::ast::{Condition, Script, Stmt};
 use crate::begun::Begun;
@@ -63,7 +63,7 @@ impl<'a> Parser<'a> {
     }
 
     /// `else`, where this `if` is the innermost open one.
-    #[tactic(auto, using(crate::proofs::Statements::stack_push, crate::proofs::Statements::script_empty))]
+    #[tactic(auto, using(crate::proofs::StatementLemmas::stack_push, crate::proofs::StatementLemmas::script_empty))]
     fn begin_second(&mut self, line: u64, innermost: Open) -> Result<(), ScriptFault>
         ensures { Leaves parser_of self.new result
             (at_else (parser_of self.old) line (open_of innermost ∷ (parser_of self.old).opens)) }
@@ -94,7 +94,7 @@ impl<'a> Parser<'a> {
     }
 
     /// Ends the `if` that was the innermost open one.
-    #[tactic(auto, using(crate::proofs::Statements::script_empty, crate::proofs::Statements::if_push))]
+    #[tactic(auto, using(crate::proofs::StatementLemmas::script_empty, crate::proofs::StatementLemmas::if_push))]
     fn close(&mut self, line: u64, innermost: Open) -> Result<(), ScriptFault>
         ensures { Leaves parser_of self.new result
             (at_fi (parser_of self.old) line (open_of innermost ∷ (parser_of self.old).opens)) }
@@ -132,7 +132,7 @@ impl<'a> Parser<'a> {
     }
 
     /// `if` in a command's place.
-    #[tactic(auto, using(crate::proofs::Statements::stack_length))]
+    #[tactic(auto, using(crate::proofs::StatementLemmas::stack_length))]
     fn if_word(&mut self, line: u64) -> Result<(), ScriptFault>
         ensures { Leaves parser_of self.new result (if_opened (parser_of self.old) line) }
     {
@@ -144,7 +144,7 @@ impl<'a> Parser<'a> {
     }
 
     /// A word where `then` must stand.
-    #[tactic(auto, using(crate::proofs::Statements::stack_push))]
+    #[tactic(auto, using(crate::proofs::StatementLemmas::stack_push))]
     fn then_word(&mut self, line: u64, at: u64, item: Item<'a>) -> Result<(), ScriptFault>
         ensures { Leaves parser_of self.new result
             (then_word (parser_of self.old) line (condition_of self.old.condition) at (item_of item.entry)) }
@@ -238,7 +238,7 @@ impl<'a> Parser<'a> {
     }
 
     /// Ends a command that stands by itself.
-    #[tactic(auto, using(crate::proofs::Statements::simple_push))]
+    #[tactic(auto, using(crate::proofs::StatementLemmas::simple_push))]
     fn end_command(&mut self) -> Result<(), ScriptFault>
         ensures { Leaves parser_of self.new result (with_command (parser_of self.old) (begun_of self.old.begun)) }
     {

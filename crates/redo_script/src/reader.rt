@@ -3,7 +3,7 @@
 ghost use Rattle.std.specs.Prelude.{◌≡◌, ◌≢◌, [], IfOk, IfErr, Ok, not};
 ghost use Rattle.redo_script.specs.Faults.{Gives, no_memory};
 ghost use Rattle.redo_script.specs.declared.fault.Reason.TheVariants as reasons;
-ghost use Rattle.redo_script.specs.Passes.{script_by_tokens};
+ghost use Rattle.redo_script.specs.inside.Passes.{script_by_tokens};
 ghost use Rattle.redo_script.specs.Syntax.{Script as ScriptTree};
 ghost use Rattle.redo_script.specs.View.{script_of};
 ghost use Rattle.redo_script.specs.Texts.{IsScript, has_no_nul, same_bytes, first_line, nul_from, interpreter_is_fit, script_in};
@@ -16,7 +16,7 @@ use crate::parser::Statements;
 use std::alloc::Global;
 
 /// Whether a byte 0 is among these. It looks at every byte, which takes less time than to stop at the first 0 does.
-#[tactic(auto, using(crate::proofs::Nuls::nul_here))]
+#[tactic(auto, using(crate::proofs::NulLemmas::nul_here))]
 fn has_nul(text: &[u8]) -> bool
     ensures { has_no_nul text.now ≡ not result }
 {
@@ -28,7 +28,7 @@ fn has_nul(text: &[u8]) -> bool
 }
 
 /// Looks for a byte 0.
-#[tactic(auto, using(crate::proofs::Nuls::no_nul))]
+#[tactic(auto, using(crate::proofs::NulLemmas::no_nul))]
 fn refuse_nul(text: &[u8]) -> Result<(), ScriptFault>
     ensures { Gives (λ done. []) result (nul_from 1 text.now) }
 {

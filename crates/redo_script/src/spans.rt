@@ -4,13 +4,13 @@ ghost use Rattle.std.specs.Prelude.{◌≡◌, ◌≤◌, IfSome, length, take, 
 ghost use Rattle.redo_script.specs.Reading.{Reader, read_on};
 ghost use Rattle.redo_script.specs.declared.lexer.Mode.TheVariants as modes;
 ghost use Rattle.redo_script.specs.Bytes.{is_blank};
-ghost use Rattle.redo_script.specs.Runs.{is_special, is_quote, all_quotable, all_plain, all_digits, ends_plainly};
-ghost use Rattle.redo_script.specs.Lexer.{with_quoted};
+ghost use Rattle.redo_script.specs.inside.Runs.{is_special, is_quote, all_quotable, all_plain, all_digits, ends_plainly};
+ghost use Rattle.redo_script.specs.inside.Lexer.{with_quoted};
 
 use crate::bytes::is_plain_byte;
 
 /// How many plain bytes come first.
-#[tactic(auto, using(crate::proofs::Runs::plain_here))]
+#[tactic(auto, using(crate::proofs::RunLemmas::plain_here))]
 pub fn plain_len(text: &[u8]) -> usize
     ensures within { result ≤ length text.now }
     ensures plain { all_plain (take result text.now) ≡ true }
@@ -32,7 +32,7 @@ fn is_special_byte(byte: u8) -> bool
 }
 
 /// How many bytes come first that stand for themselves in quotes, on one line.
-#[tactic(auto, using(crate::proofs::QuotedRuns::quotable_here))]
+#[tactic(auto, using(crate::proofs::QuotedRunLemmas::quotable_here))]
 pub fn quotable_len(text: &[u8]) -> usize
     ensures within { result ≤ length text.now }
     ensures quotable { all_quotable (take result text.now) ≡ true }
@@ -75,7 +75,7 @@ pub fn quoted_alone(text: &[u8]) -> Option<(&[u8], &[u8])>
 }
 
 /// Whether the bytes are digits alone.
-#[tactic(auto, using(crate::proofs::Runs::digits_here))]
+#[tactic(auto, using(crate::proofs::RunLemmas::digits_here))]
 pub fn is_number(bytes: &[u8]) -> bool
     ensures { result ≡ all_digits bytes.now }
 {

@@ -1,66 +1,23 @@
--- What the proofs of crates above may cite of scripts and records, beside the contracts. No other module of proofs is for them.
-use Rattle.std.specs.Prelude.{◌≡◌, Bool, true, false, ◌⊎◌, List, [], ◌∷◌, Result}
+-- What the proofs of crates above may cite of scripts, beside the contracts. No other module of proofs is for them.
+use Rattle.std.specs.Prelude.{◌≡◌, true, List, Result}
 use Rattle.redo_script.specs.Syntax.{Script}
 use Rattle.redo_script.specs.declared.fault.ScriptFault.{ScriptFault}
-use Rattle.redo_step.specs.declared.deps.Dep.{Dep}
-use Rattle.redo_step.specs.declared.deps.DepKind.{DepKind}
-use Rattle.redo_step.specs.declared.deps.DepKind.TheVariants.{Change, Create}
-use Rattle.redo_step.specs.declared.outcome.Outcome.{Outcome}
-use Rattle.redo_step.specs.Asked.{is_source, IsAmong, operands, IsLawful}
-use Rattle.redo_step.specs.Behind.{IsBeginning}
-use Rattle.redo_step.specs.Meaning.{Setting, Ask, State, end_state, is_entered, with_entries, run}
-use Rattle.redo_step.specs.Path.{Path}
-use Rattle.redo_step.specs.Record.{at_once, by_script, search_deps, with_all}
-use Rattle.redo_step.proofs.Asked as asked
-use Rattle.redo_step.proofs.Behind as behind
-use Rattle.redo_step.proofs.Known as known
-use Rattle.redo_step.proofs.Lawful as lawful
-
--- Progress
+use Rattle.redo_step.specs.Setting.{is_source, Setting}
+use Rattle.redo_record.specs.Progress.{IsLawful}
+use Rattle.redo_record.specs.Entries.{IsBeginning, search_deps}
+use Rattle.redo_step.specs.Runs.{State, end_state}
+use Rattle.redo_step.specs.Statements.{run}
+use Rattle.redo_record.specs.Answers.{Ask}
+use Rattle.redo_record.specs.Paths.{Path}
+use Rattle.redo_step.specs.Results.{by_script}
+use Rattle.redo_step.proofs.BehindRunLemmas as behind
+use Rattle.redo_step.proofs.LawfulScriptLemmas as lawful
 
 -- a target's progress by its script follows the answers to what it asks for, where its .do file is a source
 pub progress_is_lawful : (setting : Setting) (missing : List Path) (do_file : Path) (parsed : Result Script ScriptFault) → is_source setting do_file ≡ true →
     IsLawful (is_source setting) (by_script setting (search_deps missing do_file) parsed)
 progress_is_lawful = lawful.script-lawful
 
--- so does what ends at once and asks for nothing
-pub ended_is_lawful : (source : Path → Bool) (o : Outcome) (deps : List Dep) → operands source deps ≡ [] → IsLawful source (λ a. at_once o deps)
-ended_is_lawful = lawful.at_once-lawful
-
 -- a run declares behind what was declared before
 pub run_declares_behind : (setting : Setting) (ask : Ask) (script : Script) (s : State) → IsBeginning s.entries (end_state (run setting ask script s)).entries
 run_declares_behind = behind.run-begins
-
--- Records
-
--- what a record waits for is entered by redo-ifchange
-pub operand_entered : (source : Path → Bool) (deps : List Dep) (q : Path) → IsAmong (operands source deps) q → is_entered deps Change q ≡ true
-operand_entered = asked.operand-entered
-
--- it waits for all that is entered so and is no source
-pub entered_operand : (source : Path → Bool) (deps : List Dep) (q : Path) → source q ≡ false → is_entered deps Change q ≡ true → IsAmong (operands source deps) q
-entered_operand = asked.entered-operand
-
--- where all that is entered so are sources, it waits for nothing
-pub sources_alone : (source : Path → Bool) (deps : List Dep) → ((q : Path) → is_entered deps Change q ≡ true → source q ≡ true) → operands source deps ≡ []
-sources_alone = lawful.sources-asked
-
--- an entry of a whole record is one of its first or its further entries
-pub whole_cases : (ds es : List Dep) (k : DepKind) (p : Path) → is_entered (with_all ds es) k p ≡ true → (is_entered ds k p ≡ true) ⊎ (is_entered es k p ≡ true)
-whole_cases = asked.all_cases
-
--- each of its further entries is one of the whole record
-pub whole_second : (ds es : List Dep) (k : DepKind) (p : Path) → is_entered es k p ≡ true → is_entered (with_all ds es) k p ≡ true
-whole_second = asked.all_second
-
--- of one entry alone
-pub one_entered : (d : Dep) (k : DepKind) (p : Path) → is_entered (d ∷ []) k p ≡ true → (d.kind ≡ k) × (d.path ≡ p)
-one_entered = known.is_entered-one
-
--- candidates that are missing are no change entries
-pub missing_enters : (missing : List Path) (q : Path) → is_entered (with_entries [] Create missing) Change q ≡ true → ⊥
-missing_enters = lawful.missing_creates
-
--- the record of a search has its .do file for its only change entry
-pub search_enters : (missing : List Path) (do_file q : Path) → is_entered (search_deps missing do_file) Change q ≡ true → do_file ≡ q
-search_enters = lawful.search_entry

@@ -1,12 +1,16 @@
 -- What a run under one ask tells of the runs under others.
 use Rattle.std.specs.Prelude.{◌≡◌, true, false, List}
-use Rattle.redo_step.specs.declared.deps.DepKind.TheVariants as kinds
-use Rattle.redo_step.specs.Path.{Path}
-use Rattle.redo_step.specs.Meaning.{Setting, Ask, Entry, State, End, exited, faulted, stopped, Run, goes, ends, end_state, is_entered, lacks}
-use Rattle.redo_step.specs.Reach.{Extends}
+use Rattle.redo_record.specs.declared.deps.DepKind.TheVariants as kinds
+use Rattle.redo_record.specs.Paths.{Path}
+use Rattle.redo_step.specs.Setting.{Setting}
+use Rattle.redo_step.specs.Runs.{State, End, exited, faulted, stopped, Run, goes, ends, end_state}
+use Rattle.redo_step.specs.Declaring.{lacks}
+use Rattle.redo_record.specs.Answers.{Ask}
+use Rattle.redo_record.specs.Entries.{is_entered, Extends}
+use Rattle.redo_record.specs.declared.deps.Dep.{Dep}
 
 -- each operand of redo-ifchange among the entries is a source or has an answer
-pub record AreKnown (setting : Setting) (ask : Ask) (entries : List Entry) : Type 0 where
+pub record AreKnown (setting : Setting) (ask : Ask) (entries : List Dep) : Type 0 where
   pub known : (p : Path) → is_entered entries kinds.Change p ≡ true → lacks setting ask p ≡ false
 
 -- A script stopped in this state under the first ask. Under another one it comes at least as far, and no further while

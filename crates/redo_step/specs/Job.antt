@@ -9,13 +9,16 @@ use Rattle.redo_step.specs.declared.place.Place.{Place, Before}
 use Rattle.redo_step.specs.declared.job.Done.{Done}
 use Rattle.redo_step.specs.declared.job.Step.{Step}
 use Rattle.redo_step.specs.declared.job.Step.TheVariants as steps
-use Rattle.redo_step.specs.Path.{Path}
-use Rattle.redo_step.specs.Meaning.{Ask, State, start, stopped, ends, meaning}
+use Rattle.redo_record.specs.Paths.{Path}
+use Rattle.redo_record.specs.Answers.{Ask}
+use Rattle.redo_step.specs.Runs.{State, start, stopped, ends}
+use Rattle.redo_step.specs.Statements.{meaning}
 use Rattle.redo_step.specs.Reach.{Keeps}
 use Rattle.redo_step.specs.JobView.{JobView, job_setting, whole_of, progress_of, IsFit, record_so_far}
+use Rattle.redo_step.specs.Limits.{LimitsView}
 
 -- a job that was just begun
-abbrev pub begun : Tree → Path → Rule → Parsed → ℕ × ℕ → JobView
+abbrev pub begun : Tree → Path → Rule → Parsed → LimitsView → JobView
 begun tree target rule parsed limits = record {
   tree = tree;
   target = target;

@@ -4,16 +4,20 @@ use Rattle.redo_script.specs.declared.fault.ScriptFault.{ScriptFault}
 use Rattle.redo_script.specs.Syntax.{Script}
 use Rattle.redo_tree.specs.Tree.{Tree}
 use Rattle.redo_which.specs.Rule.{Arguments}
-use Rattle.redo_step.specs.declared.deps.Dep.{Dep}
+use Rattle.redo_record.specs.declared.deps.Dep.{Dep}
 use Rattle.redo_step.specs.declared.parsed.Parsed.{Parsed}
 use Rattle.redo_step.specs.declared.place.Place.{Place}
-use Rattle.redo_step.specs.Path.{Path}
-use Rattle.redo_step.specs.Meaning.{Setting, Ask, State}
+use Rattle.redo_record.specs.Paths.{Path}
+use Rattle.redo_step.specs.Setting.{Setting, setting_of}
+use Rattle.redo_step.specs.Runs.{State}
+use Rattle.redo_record.specs.Answers.{Ask}
 use Rattle.redo_step.specs.Parsed.{parsed_of}
 use Rattle.redo_step.specs.Place.{left_at}
 use Rattle.redo_step.specs.Reach.{Fits}
-use Rattle.redo_step.specs.Record.{Progress, search_deps, by_script, with_all}
-use Rattle.redo_step.specs.Setting.{setting_of}
+use Rattle.redo_record.specs.Progress.{Progress}
+use Rattle.redo_record.specs.Entries.{search_deps, with_all}
+use Rattle.redo_step.specs.Results.{by_script}
+use Rattle.redo_step.specs.Limits.{LimitsView}
 
 -- a script for a target, where it stopped, what it has done, and how often it has stopped
 pub record JobView : Type 0 where
@@ -22,7 +26,7 @@ pub record JobView : Type 0 where
   pub do_file : Path
   pub missing : List Path
   pub arguments : Arguments
-  pub limits : ℕ × ℕ
+  pub limits : LimitsView
   pub parsed : Parsed
   pub place : Place
   pub state : State
@@ -30,7 +34,7 @@ pub record JobView : Type 0 where
 
 -- what its script is run in
 abbrev pub job_setting : JobView → Setting
-job_setting job = setting_of job.tree job.limits.1 job.target job.arguments
+job_setting job = setting_of job.tree job.limits.file_bytes job.target job.arguments
 
 -- the whole script, or the fault of its text
 abbrev pub whole_of : JobView → Result Script ScriptFault

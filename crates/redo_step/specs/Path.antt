@@ -1,10 +1,7 @@
 -- Paths, as scripts name them: a path is its text.
 use Rattle.std.specs.Prelude.{ℕ, List, Option, Some, None, Ok, Err}
 use Rattle.redo_path.specs.Resolve as paths
-
--- a path's text
-abbrev pub Path : Type 0
-Path = List ℕ
+use Rattle.redo_record.specs.Paths.{Path}
 
 -- The path that a word names from a directory, or none where it is refused.
 unfoldable pub resolved : Path → List ℕ → Option Path

@@ -1,20 +1,20 @@
 -- How far a script has come.
 use Rattle.std.specs.Prelude.{◌≡◌, true, Some, None, List}
 use Rattle.redo_script.specs.Syntax.{Script}
-use Rattle.redo_step.specs.declared.deps.DepKind.{DepKind}
-use Rattle.redo_step.specs.declared.deps.DepKind.TheVariants as kinds
-use Rattle.redo_step.specs.declared.outcome.Outcome.{Outcome}
-use Rattle.redo_step.specs.Path.{Path}
-use Rattle.redo_step.specs.Meaning.{Setting, Ask, Entry, State, run, is_entered, start}
+use Rattle.redo_record.specs.declared.deps.DepKind.TheVariants as kinds
+use Rattle.redo_record.specs.declared.outcome.Outcome.{Outcome}
+use Rattle.redo_record.specs.Paths.{Path}
+use Rattle.redo_step.specs.Setting.{Setting}
+use Rattle.redo_step.specs.Runs.{State, start}
+use Rattle.redo_step.specs.Statements.{run}
+use Rattle.redo_record.specs.Answers.{Ask}
+use Rattle.redo_record.specs.Entries.{is_entered, Extends}
+use Rattle.redo_record.specs.declared.deps.Dep.{Dep}
 
 -- Every answer stays that was given to an operand of redo-ifchange among the entries. A source has its bytes, whatever
 -- an ask says of it.
-pub record Keeps (setting : Setting) (entries : List Entry) (ask later : Ask) : Type 0 where
+pub record Keeps (setting : Setting) (entries : List Dep) (ask later : Ask) : Type 0 where
   pub same : (p : Path) (a : Outcome) → setting.source p ≡ None → is_entered entries kinds.Change p ≡ true → ask p ≡ Some a → later p ≡ Some a
-
--- what is entered stays entered
-pub record Extends (old new : List Entry) : Type 0 where
-  pub still : (kind : DepKind) (p : Path) → is_entered old kind p ≡ true → is_entered new kind p ≡ true
 
 -- The run of these statements from this state comes to those statements and that state: under this ask,
 -- and under each that keeps its answers to what is then declared.

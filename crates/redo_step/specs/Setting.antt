@@ -1,12 +1,23 @@
 -- What a target's script is run in.
-use Rattle.std.specs.Prelude.{ℕ, Bool, true, false, List, Option, None, Some}
+use Rattle.std.specs.Prelude.{ℕ, Bool, true, false, List, Option, None, Some, is_some}
 use Rattle.redo_script.specs.declared.ast.Parameter.{Parameter}
 use Rattle.redo_script.specs.declared.ast.Parameter.TheVariants.{One, Two, Three}
 use Rattle.redo_tree.specs.Tree as tree_words
 use Rattle.redo_tree.specs.Tree.{Tree, Node, node_at, file_at}
 use Rattle.redo_which.specs.Rule.{Outcome as Found, Source, Directory, NoDirectory, NoRule, Rule, Arguments, found_of}
-use Rattle.redo_step.specs.Path.{Path, resolved}
-use Rattle.redo_step.specs.Meaning.{Setting}
+use Rattle.redo_record.specs.Paths.{Path}
+use Rattle.redo_step.specs.Path.{resolved}
+
+-- What a script is run in: the tree, the rule's arguments, and the limit of bytes.
+pub record Setting : Type 0 where
+  pub source : Path → Option (List ℕ)
+  pub is_directory : Path → Bool
+  pub has_rule : Path → Bool
+  pub target : Path
+  pub directory : Path
+  pub stands_for : Parameter → List ℕ
+  pub third : Option Path
+  pub limit : ℕ
 
 -- whether a directory stands there
 abbrev pub is_directory : Option Node → Bool
@@ -45,3 +56,7 @@ setting_by tree found limit target a = record {
 -- the setting of a target's script in a tree
 abbrev pub setting_of : Tree → ℕ → Path → Arguments → Setting
 setting_of tree limit target a = setting_by tree (found_of tree) limit target a
+
+-- whether it is a file of the tree
+abbrev pub is_source : Setting → Path → Bool
+is_source setting p = is_some (setting.source p)

@@ -1,9 +1,9 @@
 //! What is known of the targets that a script asks for.
 
 ghost use Rattle.std.specs.Prelude.{◌≡◌, List, ℕ, Option, option_copied};
-ghost use Rattle.redo_step.specs.declared.outcome.Outcome.{Outcome as OutcomeTree};
+ghost use Rattle.redo_record.specs.declared.outcome.Outcome.{Outcome as OutcomeTree};
 
-use crate::outcome::Outcome;
+use redo_record::Outcome;
 use redo_path::Path;
 
 /// Knows what became of some paths. Of a source it is never asked.

@@ -2,13 +2,16 @@
 
 ghost use Rattle.redo_script.specs.Syntax.{change};
 ghost use Rattle.redo_script.specs.View.{words_of, test_of, command_of, condition_of};
-ghost use Rattle.redo_step.specs.Meaning.{operands_of, free_operands, changed, created, tested_in, command_run, condition_result};
-ghost use Rattle.redo_step.specs.Machine.{Gives, Runs, Passes, state_of};
-ghost use Rattle.redo_step.specs.Scene.{scene_setting};
+ghost use Rattle.redo_step.specs.Words.{operands_of};
+ghost use Rattle.redo_step.specs.Declaring.{free_operands, changed, created};
+ghost use Rattle.redo_step.specs.Reading.{tested_in};
+ghost use Rattle.redo_step.specs.Statements.{command_run, condition_result};
+ghost use Rattle.redo_step.specs.inside.Machine.{Gives, Runs, Passes, state_of};
+ghost use Rattle.redo_step.specs.inside.Scene.{scene_setting};
 
 use crate::answers::Answers;
 use crate::declaring::declare;
-use crate::deps::{DepKind, Deps};
+use redo_record::{DepKind, Deps};
 use crate::machine::Effects;
 use crate::scene::Scene;
 use crate::stop::Stop;

@@ -1,13 +1,14 @@
 //! What redo-ifchange and redo-ifcreate declare, and what they wait for.
 
 ghost use Rattle.std.specs.Prelude.{◌≡◌, OnOk};
-ghost use Rattle.redo_step.specs.Meaning.{with_entries, free_of, obstacle};
-ghost use Rattle.redo_step.specs.Machine.{Gives};
-ghost use Rattle.redo_step.specs.Scene.{scene_setting};
-ghost use Rattle.redo_step.specs.Waiting.{targets_in};
+ghost use Rattle.redo_record.specs.Entries.{with_entries};
+ghost use Rattle.redo_step.specs.Declaring.{free_of, obstacle};
+ghost use Rattle.redo_step.specs.inside.Machine.{Gives};
+ghost use Rattle.redo_step.specs.inside.Scene.{scene_setting};
+ghost use Rattle.redo_step.specs.inside.Waiting.{targets_in};
 
-use crate::deps::{Dep, DepKind, Deps};
-use crate::outcome::Why;
+use redo_record::{Dep, DepKind, Deps};
+use redo_record::Why;
 use crate::scene::Scene;
 use crate::stop::Stop;
 use redo_path::Path;

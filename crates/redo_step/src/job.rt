@@ -2,24 +2,27 @@
 
 ghost use Rattle.std.specs.Prelude.{◌≡◌, ◌+◌, ◌<◌, ◌^◌, IfOk, option_map, Some};
 ghost use Rattle.std.specs.Arc.{arc_value};
-ghost use Rattle.redo_step.specs.Meaning.{Ask as AskOf, result_of, ends};
-ghost use Rattle.redo_step.specs.Record.{outcome_of, search_deps};
-ghost use Rattle.redo_step.specs.Machine.{state_of, end_of};
+ghost use Rattle.redo_record.specs.Answers.{Ask as AskOf};
+ghost use Rattle.redo_step.specs.Statements.{result_of};
+ghost use Rattle.redo_step.specs.Runs.{ends};
+ghost use Rattle.redo_step.specs.Results.{outcome_of};
+ghost use Rattle.redo_record.specs.Entries.{search_deps};
+ghost use Rattle.redo_step.specs.inside.Machine.{state_of, end_of};
 ghost use Rattle.redo_step.specs.Job.{begun, Advances};
-ghost use Rattle.redo_step.specs.Endings.{IsRefused, IsEnded, after_end, by_both};
+ghost use Rattle.redo_step.specs.inside.Endings.{IsRefused, IsEnded, after_end, by_both};
 ghost use Rattle.redo_step.specs.JobView.{IsFit, record_so_far};
-ghost use Rattle.redo_step.specs.Scene.{scene_setting};
+ghost use Rattle.redo_step.specs.inside.Scene.{scene_setting};
 ghost use Rattle.redo_step.specs.Setting.{setting_of};
 ghost use Rattle.redo_which.specs.Views.{arguments_view};
 
 use crate::answers::Answers;
-use crate::deps::Deps;
+use redo_record::Deps;
 use crate::limits::Limits;
 use crate::machine::{Effects, Progress, resume};
-use crate::outcome::{Outcome, Why};
+use redo_record::{Outcome, Why};
 use crate::parsed::Parsed;
 use crate::place::Place;
-use crate::record::Record;
+use redo_record::Record;
 use crate::scene::Scene;
 use crate::stop::Ending;
 use crate::wait::Waiting;
@@ -45,7 +48,7 @@ struct Task {
 impl Task {
     /// What the script's commands see.
     fn scene(&self) -> Scene<'_>
-        ensures { scene_setting result ≡ setting_of (arc_value self.now.tree) self.now.limits.1 self.now.target (arguments_view self.now.rule.args) }
+        ensures { scene_setting result ≡ setting_of (arc_value self.now.tree) self.now.limits.file_bytes self.now.target (arguments_view self.now.rule.args) }
     {
         Scene {
             alloc: self.alloc,
@@ -78,7 +81,7 @@ pub struct Job {
 impl Model for Job {
     ghost use Rattle.std.specs.Arc.{arc_value};
     ghost use Rattle.redo_which.specs.Views.{arguments_view};
-    ghost use Rattle.redo_step.specs.Machine.{state_of};
+    ghost use Rattle.redo_step.specs.inside.Machine.{state_of};
     ghost use Rattle.redo_step.specs.JobView.{JobView};
     ghost use Rattle.redo_script.specs.contracts.ast.Stmt as stmts;
     ghost use Rattle.redo_step.specs.contracts.place.Place as places;
@@ -92,9 +95,9 @@ impl Model for Job {
 
     ghost use Rattle.redo_step.specs.Parsed.{parsed_of};
     ghost use Rattle.redo_step.specs.Setting.{setting_of};
-    ghost use Rattle.redo_step.specs.Kept.{IsKeptIn};
+    ghost use Rattle.redo_step.specs.inside.Kept.{IsKeptIn};
 
-    ghost invariant = { λ j. let c = j.course.value in IsKeptIn (setting_of (arc_value c.task.tree) c.task.limits.1 c.task.target (arguments_view c.task.rule.args)) (parsed_of (arc_value c.task.parsed)) c.place (state_of c.effects) c.kept };
+    ghost invariant = { λ j. let c = j.course.value in IsKeptIn (setting_of (arc_value c.task.tree) c.task.limits.file_bytes c.task.target (arguments_view c.task.rule.args)) (parsed_of (arc_value c.task.parsed)) c.place (state_of c.effects) c.kept };
 }
 
 /// What became of a target whose script ended, with its record.

@@ -3,10 +3,9 @@
 //! under the answers that it got, with the same record.
 //!
 //! It stands on redo_path for the paths that words name, on redo_tree for sources, on redo_which for a target's rule
-//! and arguments, and on redo_script for the reader.
+//! and arguments, on redo_script for the reader, and on redo_record for what a script declares and how it ends.
 //!
 //! - What a script is given: `limits`, `parsed` and `refusal`, `answers`.
-//! - What becomes of a target: `outcome`, `deps`, `record`.
 //! - A job and how it goes on: `job`, `machine`, `place`, `stop`.
 //! - Commands, one idea each: `scene` (what they see), `text`, `value` and `words`, `reading`, `printf`, `sink` and `writing`,
 //!   `declaring`, `commands`.
@@ -16,17 +15,14 @@
 mod answers;
 mod commands;
 mod declaring;
-mod deps;
 mod job;
 mod laws;
 mod limits;
 mod machine;
-mod outcome;
 mod parsed;
 mod place;
 mod printf;
 mod reading;
-mod record;
 mod refusal;
 mod scene;
 mod sink;
@@ -38,13 +34,10 @@ mod words;
 mod writing;
 
 pub use answers::Answers;
-pub use deps::{Dep, DepKind, Deps};
 pub use job::{Done, Job, Step};
 pub use laws::{more_answers, progress_is_lawful};
 pub use limits::Limits;
-pub use outcome::{Outcome, Why};
 pub use parsed::Parsed;
-pub use record::{Parts, Record};
 pub use refusal::Refusal;
 
 #[cfg(test)]

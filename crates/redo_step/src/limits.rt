@@ -8,7 +8,7 @@ const MOST_TARGETS: u32 = 65_536;
 
 const MOST_BYTES: u32 = 1_073_741_824;
 
-/// How many targets a build may need, and how many bytes a file may have. In a contract it is this pair.
+/// How many targets a build may need, and how many bytes a file may have. In a contract it is a record of the two.
 #[derive(Clone, Copy, Debug, PartialEq, Eq)]
 pub struct Limits {
     targets: u32,
@@ -16,16 +16,15 @@ pub struct Limits {
 }
 
 impl Model for Limits {
-    ghost use Rattle.std.specs.Prelude.{ℕ, ◌≤◌};
-    ghost use Rattle.redo_step.specs.Limits.{AreLimits};
+    ghost use Rattle.redo_step.specs.Limits.{AreLimits, LimitsView};
 
-    ghost Value = { ℕ × ℕ };
+    ghost Value = { LimitsView };
 
-    ghost view = { λ l. (l.targets, l.file_bytes) };
+    ghost view = { λ l. record { targets = l.targets; file_bytes = l.file_bytes } };
 
     ghost invariant = { λ l. AreLimits l.targets l.file_bytes };
 
-    ghost inverse = { λ v. record { targets = v.0; file_bytes = v.1 } };
+    ghost inverse = { λ v. record { targets = v.targets; file_bytes = v.file_bytes } };
 }
 
 impl Limits {
@@ -33,7 +32,7 @@ impl Limits {
 
     /// Limits from 1 up to 65,536 targets and a gibibyte; none for other numbers.
     pub fn new(targets: u32, file_bytes: u32) -> Option<Limits>
-        ensures { SomeIff result (AreLimits targets file_bytes) (targets, file_bytes) }
+        ensures { SomeIff result (AreLimits targets file_bytes) (record { targets = targets; file_bytes = file_bytes }) }
     {
         if targets < 1 || targets > MOST_TARGETS || file_bytes < 1 || file_bytes > MOST_BYTES {
             return None;
@@ -46,7 +45,7 @@ impl Limits {
 
     /// How many targets a build may need.
     pub fn targets(&self) -> u32
-        ensures value { result ≡ self.now.0 }
+        ensures value { result ≡ self.now.targets }
         ensures least { 1 ≤ result }
         ensures most { result ≤ 65536 }
     {
@@ -55,7 +54,7 @@ impl Limits {
 
     /// How many bytes standard output or `$3` of a script may have.
     pub fn file_bytes(&self) -> u32
-        ensures value { result ≡ self.now.1 }
+        ensures value { result ≡ self.now.file_bytes }
         ensures least { 1 ≤ result }
         ensures most { result ≤ 2 ^ 30 }
     {

@@ -4,12 +4,12 @@ ghost use Rattle.std.specs.Prelude.{◌≡◌, ◌+◌, ◌<◌, IfOk, IfSome, I
 ghost use Rattle.redo_script.specs.View.{script_of};
 ghost use Rattle.redo_script.specs.Syntax.{finish};
 ghost use Rattle.redo_step.specs.Place.{skip, left_at, stands_at};
-ghost use Rattle.redo_step.specs.Kept.{IsKept};
-ghost use Rattle.redo_step.specs.Machine.{state_of, Comes, IsStopBefore, IsWithin, IsPassed, HasBranch, HasNoBranch};
-ghost use Rattle.redo_step.specs.Scene.{scene_setting};
+ghost use Rattle.redo_step.specs.inside.Kept.{IsKept};
+ghost use Rattle.redo_step.specs.inside.Machine.{state_of, Comes, IsStopBefore, IsWithin, IsPassed, HasBranch, HasNoBranch};
+ghost use Rattle.redo_step.specs.inside.Scene.{scene_setting};
 
 use crate::answers::Answers;
-use crate::deps::Deps;
+use redo_record::Deps;
 use crate::place::{Branch, Place};
 use crate::scene::Scene;
 use crate::stop::{Ending, Stop};

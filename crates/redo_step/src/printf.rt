@@ -1,12 +1,13 @@
 //! What `printf` prints, by printf(1) of POSIX: `%s`, `%%`, and three escapes.
 
 ghost use Rattle.std.specs.Prelude.{◌≡◌, ◌≤◌, ◌∷◌, IfOk, OnOk, IfSome, IfNone, None, Some, option_map, length};
-ghost use Rattle.redo_step.specs.Meaning.{or_else, faulted, sequence_of, with_piece, pieces_of, takes_operands, once, formatted, print_of};
-ghost use Rattle.redo_step.specs.Printing.{HasPlaces, Prints, PrintsOnce};
-ghost use Rattle.redo_step.specs.Sink.{Fills};
-ghost use Rattle.redo_step.specs.declared.outcome.Why.TheVariants.{Format};
+ghost use Rattle.redo_step.specs.Runs.{or_else, faulted};
+ghost use Rattle.redo_step.specs.Formats.{sequence_of, with_piece, pieces_of, takes_operands, once, formatted, print_of};
+ghost use Rattle.redo_step.specs.inside.Printing.{HasPlaces, Prints, PrintsOnce};
+ghost use Rattle.redo_step.specs.inside.Sink.{Fills};
+ghost use Rattle.redo_record.specs.declared.outcome.Why.TheVariants.{Format};
 
-use crate::outcome::Why;
+use redo_record::Why;
 use crate::sink::Sink;
 use crate::stop::Stop;
 use crate::text::Text;

@@ -1,13 +1,13 @@
 //! What `cat` and `test -f` see of a path.
 
 ghost use Rattle.std.specs.Prelude.{◌≡◌, option_copied};
-ghost use Rattle.redo_step.specs.Meaning.{file_of, answered_file};
-ghost use Rattle.redo_step.specs.Machine.{Gives};
-ghost use Rattle.redo_step.specs.Scene.{scene_setting};
+ghost use Rattle.redo_step.specs.Reading.{file_of, answered_file};
+ghost use Rattle.redo_step.specs.inside.Machine.{Gives};
+ghost use Rattle.redo_step.specs.inside.Scene.{scene_setting};
 
 use crate::answers::Answers;
-use crate::deps::{Dep, DepKind, Deps};
-use crate::outcome::Why;
+use redo_record::{Dep, DepKind, Deps};
+use redo_record::Why;
 use crate::scene::Scene;
 use crate::stop::Stop;
 use redo_path::Path;

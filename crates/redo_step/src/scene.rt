@@ -3,11 +3,12 @@
 ghost use Rattle.std.specs.Prelude.{◌≡◌, IfOk, option_copied};
 ghost use Rattle.std.specs.Str.{bytes_eq};
 ghost use Rattle.redo_script.specs.View.{word_of};
-ghost use Rattle.redo_step.specs.Meaning.{text_of, path_of, is_third};
-ghost use Rattle.redo_step.specs.Machine.{Gives};
-ghost use Rattle.redo_step.specs.Scene.{scene_setting};
+ghost use Rattle.redo_step.specs.Words.{text_of, path_of};
+ghost use Rattle.redo_step.specs.Outputs.{is_third};
+ghost use Rattle.redo_step.specs.inside.Machine.{Gives};
+ghost use Rattle.redo_step.specs.inside.Scene.{scene_setting};
 
-use crate::outcome::Why;
+use redo_record::Why;
 use crate::stop::Stop;
 use crate::text::Text;
 use crate::value::word_value;

@@ -1,7 +1,7 @@
 //! Bytes that grow up to a limit.
 
 ghost use Rattle.std.specs.Prelude.{◌≡◌, [], OnOk};
-ghost use Rattle.redo_step.specs.Sink.{Holds, Adds};
+ghost use Rattle.redo_step.specs.inside.Sink.{Holds, Adds};
 
 use std::alloc::AllocError;
 

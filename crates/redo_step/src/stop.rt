@@ -2,7 +2,7 @@
 
 ghost use Rattle.std.specs.Prelude.{◌≡◌};
 
-use crate::outcome::Why;
+use redo_record::Why;
 use crate::wait::Waiting;
 use redo_path::Path;
 use std::alloc::{AllocError, AllocFailed};

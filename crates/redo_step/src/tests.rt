@@ -7,11 +7,12 @@ mod turns;
 ghost use Rattle.std.specs.Prelude.{◌≡◌, ℕ, List, None, Some, IfOk, OnOk, nat_eq};
 ghost use Rattle.std.specs.Cmp.Lexicographic.{pointwise};
 ghost use Rattle.indexmap.specs.IndexMap.{get};
-ghost use Rattle.redo_step.specs.declared.outcome.Outcome.{Outcome as OutcomeTree};
+ghost use Rattle.redo_record.specs.declared.outcome.Outcome.{Outcome as OutcomeTree};
 ghost use Rattle.redo_step.specs.JobView.{IsFit};
-ghost use Rattle.redo_step.specs.Meaning.{Ask as AskOf};
+ghost use Rattle.redo_record.specs.Answers.{Ask as AskOf};
 
-use crate::{Answers, Done, Job, Limits, Outcome, Parsed, Step};
+use crate::{Answers, Done, Job, Limits, Parsed, Step};
+use redo_record::Outcome;
 use indexmap::IndexMap;
 use redo_path::{Path, resolve};
 use redo_tree::Tree;

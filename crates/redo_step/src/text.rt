@@ -20,7 +20,7 @@ pub(crate) struct Text<'a> {
 
 impl<'a> Model for Text<'a> {
     ghost use Rattle.std.specs.Prelude.{List, ℕ};
-    ghost use Rattle.redo_step.specs.Text.{bytes_in};
+    ghost use Rattle.redo_step.specs.inside.Text.{bytes_in};
 
     ghost Value = { List ℕ };
 

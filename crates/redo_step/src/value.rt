@@ -5,7 +5,7 @@ ghost use Rattle.redo_script.specs.View.{word_of, symbols_of};
 ghost use Rattle.redo_which.specs.Views.{arguments_view};
 ghost use Rattle.redo_step.specs.Setting.{value_in};
 ghost use Rattle.redo_step.specs.Value.{value_of, is_fit, are_plain};
-ghost use Rattle.redo_step.specs.Parts.{added};
+ghost use Rattle.redo_step.specs.inside.Parts.{added};
 
 use crate::text::Text;
 use redo_script::{Parameter, Part, Word, is_plain_byte};
@@ -30,7 +30,7 @@ fn is_fit_value(bytes: &[u8]) -> bool
     !bytes.is_empty() && are_plain_bytes(bytes)
 }
 
-#[tactic(auto, using(crate::proofs::Values::plain_at, crate::proofs::Values::plain_end))]
+#[tactic(auto, using(crate::proofs::ValueLemmas::plain_at, crate::proofs::ValueLemmas::plain_end))]
 fn are_plain_bytes(bytes: &[u8]) -> bool
     ensures { result ≡ are_plain bytes.now }
 {
@@ -96,7 +96,7 @@ fn parts_value<'a>(
 }
 
 /// The value of a word, or none where a bare parameter's bytes aren't fit.
-#[tactic(auto, using(crate::proofs::Values::value_of_literal))]
+#[tactic(auto, using(crate::proofs::ValueLemmas::value_of_literal))]
 pub(crate) fn word_value<'a>(
     alloc: Global,
     args: &'a Args,

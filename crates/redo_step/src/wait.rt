@@ -1,12 +1,12 @@
 //! What a redo-ifchange waits for.
 
 ghost use Rattle.std.specs.Prelude.{◌≡◌, IfOk, IsTrue, false, is_none, []};
-ghost use Rattle.redo_step.specs.Meaning.{State};
-ghost use Rattle.redo_step.specs.Machine.{GoesOn};
-ghost use Rattle.redo_step.specs.Waiting.{unanswered, any_failure, waited_on};
+ghost use Rattle.redo_step.specs.Runs.{State};
+ghost use Rattle.redo_step.specs.inside.Machine.{GoesOn};
+ghost use Rattle.redo_step.specs.inside.Waiting.{unanswered, any_failure, waited_on};
 
 use crate::answers::Answers;
-use crate::outcome::Why;
+use redo_record::Why;
 use crate::stop::Stop;
 use indexmap::IndexSet;
 use redo_path::Path;

@@ -2,9 +2,9 @@
 
 ghost use Rattle.std.specs.Prelude.{◌≡◌};
 ghost use Rattle.redo_script.specs.View.{words_of};
-ghost use Rattle.redo_step.specs.Meaning.{texts_of, paths_of, operands_of};
-ghost use Rattle.redo_step.specs.Machine.{Gives};
-ghost use Rattle.redo_step.specs.Scene.{scene_setting};
+ghost use Rattle.redo_step.specs.Words.{texts_of, paths_of, operands_of};
+ghost use Rattle.redo_step.specs.inside.Machine.{Gives};
+ghost use Rattle.redo_step.specs.inside.Scene.{scene_setting};
 
 use crate::scene::Scene;
 use crate::stop::Stop;

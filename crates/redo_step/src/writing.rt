@@ -2,16 +2,18 @@
 
 ghost use Rattle.std.specs.Prelude.{◌≡◌, ◌++◌, ◌∷◌, [], OnOk, None, Some, option_map};
 ghost use Rattle.redo_script.specs.View.{writer_of, redirection_of};
-ghost use Rattle.redo_step.specs.Meaning.{joined, contents_of, writer_texts, bytes_of, goal_of, written, with_state};
-ghost use Rattle.redo_step.specs.Machine.{Gives, Runs, state_of};
-ghost use Rattle.redo_step.specs.Scene.{scene_setting};
-ghost use Rattle.redo_step.specs.Sink.{Adds, Fills};
-ghost use Rattle.redo_step.specs.Writing.{writing_of, content_of, appended, Appends, put_bytes};
+ghost use Rattle.redo_step.specs.Outputs.{joined, writer_texts, bytes_of, goal_of, written};
+ghost use Rattle.redo_step.specs.Reading.{contents_of};
+ghost use Rattle.redo_step.specs.Statements.{with_state};
+ghost use Rattle.redo_step.specs.inside.Machine.{Gives, Runs, state_of};
+ghost use Rattle.redo_step.specs.inside.Scene.{scene_setting};
+ghost use Rattle.redo_step.specs.inside.Sink.{Adds, Fills};
+ghost use Rattle.redo_step.specs.inside.Writing.{writing_of, content_of, appended, Appends, put_bytes};
 
 use crate::answers::Answers;
-use crate::deps::Deps;
+use redo_record::Deps;
 use crate::machine::Effects;
-use crate::outcome::Why;
+use redo_record::Why;
 use crate::printf::printf;
 use crate::scene::Scene;
 use crate::sink::Sink;

@@ -17,7 +17,7 @@ fn is_one_name(word: &[u8]) -> bool
 
 /// The path of a name that was found in a directory. None stands for a name that no tree takes in:
 /// it has a control byte or leads elsewhere, or it or the path is too long.
-#[tactic(auto, using(crate::proofs::EntryNames::no_name_stands, crate::proofs::EntryNames::named_stands, crate::proofs::EntryNames::named_at, crate::proofs::EntryNames::refused_stands))]
+#[tactic(auto, using(crate::proofs::EntryNameLemmas::no_name_stands, crate::proofs::EntryNameLemmas::named_stands, crate::proofs::EntryNameLemmas::named_at, crate::proofs::EntryNameLemmas::refused_stands))]
 pub(crate) fn place_of(alloc: Global, dir: &Path, name: &[u8]) -> Result<Option<Path>, AllocError>
     ensures { IfOk result (λ place. SomeIff place (names.MayStand dir.now name.now) (child_of dir.now name.now)) }
 {

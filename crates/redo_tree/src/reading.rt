@@ -6,7 +6,7 @@ ghost use Rattle.std.specs.List.{position_or_len};
 ghost use Rattle.std.specs.Option.{option_or};
 ghost use Rattle.redo_tree.specs.Tree.{Directory, added};
 ghost use Rattle.redo_tree.specs.Bundle.{HasSmallFiles, Reads, ReadsEach, is_newline, is_space, size_of, header_of, path_fault, tree_fault, body_fault, entry_fault, fault_at};
-ghost use Rattle.redo_tree.specs.Steps.{is_read, Finds, Refuses, IsLine, IsPlace, AddsFile, AddsEntry, AddsNext, told, words_of, line_fault, size_fault, newline_fault, file_fault};
+ghost use Rattle.redo_tree.specs.inside.Steps.{is_read, Finds, Refuses, IsLine, IsPlace, AddsFile, AddsEntry, AddsNext, told, words_of, line_fault, size_fault, newline_fault, file_fault};
 
 use crate::buffer::Held;
 use crate::{BundleFault, ByteIn, Tree, TreeFault};
@@ -28,7 +28,7 @@ fn newline_at(bytes: &[u8]) -> Option<usize>
 }
 
 /// Where the first newline stands, or the length.
-#[tactic(auto, using(crate::proofs::Lines::position_some, crate::proofs::Lines::position_none))]
+#[tactic(auto, using(crate::proofs::LineLemmas::position_some, crate::proofs::LineLemmas::position_none))]
 fn line_end(bytes: &[u8]) -> usize
     ensures { result ≡ position_or_len is_newline bytes.now }
 {
@@ -156,7 +156,7 @@ fn blank_at(bytes: &[u8]) -> Option<usize>
 }
 
 /// The size and the path that follow the first word of a file's header.
-#[tactic(auto, using(crate::proofs::Lines::words_none, crate::proofs::Lines::words_at))]
+#[tactic(auto, using(crate::proofs::LineLemmas::words_none, crate::proofs::LineLemmas::words_at))]
 fn read_words(words: &[u8]) -> Option<(usize, &[u8])>
     ensures { option_map (λ f. (f.0, f.1.now)) result ≡ words_of words.now }
 {
@@ -166,7 +166,7 @@ fn read_words(words: &[u8]) -> Option<(usize, &[u8])>
 }
 
 /// What a header line says: the size of a file, none of a directory, and the path.
-#[tactic(auto, using(crate::proofs::Lines::header_none, crate::proofs::Lines::header_file))]
+#[tactic(auto, using(crate::proofs::LineLemmas::header_none, crate::proofs::LineLemmas::header_file))]
 fn read_header(line: &[u8]) -> Option<(Option<usize>, &[u8])>
     ensures { option_map (λ h. (h.0, h.1.now)) result ≡ header_of line.now }
 {

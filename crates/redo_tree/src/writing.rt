@@ -3,7 +3,7 @@
 ghost use Rattle.std.specs.Prelude.{◌≡◌, ◌↔◌, ◌++◌, ◌∷◌, [], flat_map, is_err, true, false, IfOk, OnOk, IsErrOf};
 ghost use Rattle.redo_tree.specs.Tree.{node_of};
 ghost use Rattle.redo_tree.specs.Bundle.{Writes, HasSmallFiles, IsBundle, bundle_of, spelling};
-ghost use Rattle.redo_tree.specs.Steps.{is_device, header_bytes};
+ghost use Rattle.redo_tree.specs.inside.Steps.{is_device, header_bytes};
 
 use crate::entries::Entry;
 use crate::{Broken, ByteOut, Tree, WriteFault};

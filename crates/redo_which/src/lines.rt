@@ -2,7 +2,7 @@
 
 ghost use Rattle.std.specs.Prelude.{◌≡◌, ◌++◌, ◌∷◌, [], IfOk, OnOk, false, flat_map, is_err};
 ghost use Rattle.redo_tree.specs.Bundle.{Writes};
-ghost use Rattle.redo_which.specs.Lines.{lines_of};
+ghost use Rattle.redo_which.specs.inside.Lines.{lines_of};
 
 use crate::missing::{Missing, Rest};
 use redo_tree::{Broken, ByteOut, write_all};
@@ -24,7 +24,7 @@ pub struct Lines<'a> {
 impl<'a> Model for Lines<'a> {
     ghost use Rattle.std.specs.Prelude.{◌≡◌, List, ℕ};
     ghost use Rattle.redo_which.specs.Candidates.{Place};
-    ghost use Rattle.redo_which.specs.Lines.{lines_of};
+    ghost use Rattle.redo_which.specs.inside.Lines.{lines_of};
 
     ghost Value = { List ℕ × List Place };
 

@@ -6,7 +6,7 @@ ghost use Rattle.redo_path.specs.Names.{IsNameStart, IsPart, IsPath, child_of, n
 ghost use Rattle.redo_path.specs.Resolve.{resolved};
 ghost use Rattle.redo_tree.specs.Bundle.{Writes};
 ghost use Rattle.redo_which.specs.Candidates.{place_at};
-ghost use Rattle.redo_which.specs.Spots.{lead_of};
+ghost use Rattle.redo_which.specs.inside.Spots.{lead_of};
 ghost use Rattle.redo_which.specs.Views.{place_of};
 
 use crate::Candidate;
@@ -35,7 +35,7 @@ pub(crate) struct Spot<'a> {
 
 impl<'a> Model for Spot<'a> {
     ghost use Rattle.redo_which.specs.Candidates.{Place};
-    ghost use Rattle.redo_which.specs.Spots.{IsSpot, spot_place};
+    ghost use Rattle.redo_which.specs.inside.Spots.{IsSpot, spot_place};
 
     ghost Value = { Place };
 

@@ -8,9 +8,9 @@ ghost use Rattle.std.specs.Str.{bytes_eq};
 ghost use Rattle.redo_path.specs.Names.{IsPart, IsPath};
 ghost use Rattle.redo_which.specs.Candidates.{candidates_of, is_dot, suffixes};
 ghost use Rattle.redo_which.specs.Missing.{IsTarget};
-ghost use Rattle.redo_which.specs.Passed.{Passes, places_left};
-ghost use Rattle.redo_which.specs.Stems.{IsFirstDot, IsNext, shorter, stems_above, stems_by, stems_left};
-ghost use Rattle.redo_which.specs.Distinct.{distinct_places, without_whole};
+ghost use Rattle.redo_which.specs.inside.Passed.{Passes, places_left};
+ghost use Rattle.redo_which.specs.inside.Stems.{IsFirstDot, IsNext, shorter, stems_above, stems_by, stems_left};
+ghost use Rattle.redo_which.specs.inside.Distinct.{distinct_places, without_whole};
 
 use crate::spot::{Spot, fits, upper};
 use redo_path::Path;
@@ -215,7 +215,7 @@ enum Next<'a> {
 impl<'a> Model for Stems<'a> {
     ghost use Rattle.std.specs.Prelude.{List};
     ghost use Rattle.redo_which.specs.Candidates.{Place};
-    ghost use Rattle.redo_which.specs.Stems.{IsNext, stems_left};
+    ghost use Rattle.redo_which.specs.inside.Stems.{IsNext, stems_left};
 
     ghost Value = { List (List Place) };
 

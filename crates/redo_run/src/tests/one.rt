@@ -2,7 +2,7 @@
 
 use super::workers::{DIAMOND, DIAMOND_REPORT, Files, paths_of, tree_of};
 use crate::{Pick, RunFault, build_one, drive};
-use redo_core::report_text::report_text;
+use redo_report::report_text;
 use redo_step::Limits;
 use std::alloc::Global;
 use std::test::Fail;

@@ -3,7 +3,7 @@
 use super::workers::{DIAMOND, DIAMOND_REPORT, paths_of, tree_of};
 use crate::{Pick, drive};
 use redo_core::board::Board;
-use redo_core::report_text::report_text;
+use redo_report::report_text;
 use redo_step::Limits;
 use std::alloc::Global;
 use std::test::Fail;

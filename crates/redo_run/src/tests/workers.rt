@@ -4,7 +4,7 @@ ghost use Rattle.std.specs.Prelude.{◌≤◌};
 
 use super::{GOOD, options, run_through};
 use crate::{Gate, NoGate, RunFault, build_many};
-use redo_core::report_text::report_text;
+use redo_report::report_text;
 use redo_path::{Path, resolve};
 use redo_step::Limits;
 use redo_tree::Tree;

@@ -1,7 +1,7 @@
 //! What each command does, row by row.
 
 use super::{File, Known, Row, check_rows, check_target, learned, limits_of};
-use crate::{Outcome, Why};
+use redo_record::{Outcome, Why};
 use redo_tree::Content;
 use std::test::Fail;
 

@@ -1,7 +1,8 @@
 //! The records of targets.
 
 use super::{File, Known, check_outcome, check_target, learned, limits_of, path, run};
-use crate::{Dep, DepKind, Deps, Limits, Outcome, Record, Why};
+use crate::Limits;
+use redo_record::{Dep, DepKind, Deps, Outcome, Record, Why};
 use redo_path::{Path, resolve};
 use std::alloc::Global;
 use std::process::Abort;

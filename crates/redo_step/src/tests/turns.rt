@@ -3,12 +3,13 @@
 ghost use Rattle.std.specs.Prelude.{◌≡◌, ◌+◌, ◌<◌, ◌≤◌, ℕ, List, Some, IfOk, OnOk, nat_eq};
 ghost use Rattle.std.specs.Cmp.Lexicographic.{pointwise};
 ghost use Rattle.indexmap.specs.IndexMap.{get};
-ghost use Rattle.redo_step.specs.declared.outcome.Outcome.{Outcome as OutcomeTree};
+ghost use Rattle.redo_record.specs.declared.outcome.Outcome.{Outcome as OutcomeTree};
 ghost use Rattle.redo_step.specs.JobView.{IsFit};
-ghost use Rattle.redo_step.specs.Meaning.{Ask as AskOf};
+ghost use Rattle.redo_record.specs.Answers.{Ask as AskOf};
 
 use super::{File, Known, begin, check_outcome, ended, limits_of, path};
-use crate::{Job, Outcome, Step, Why};
+use crate::{Job, Step};
+use redo_record::{Outcome, Why};
 use redo_path::Path;
 use std::alloc::Global;
 use std::process::Abort;

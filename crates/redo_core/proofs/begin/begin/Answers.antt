@@ -1,7 +1,7 @@
 use Rattle.std.proofs.Common.{rules}
 use Rattle.std.specs.Arc.{arc_value}
 use Rattle.redo_core.specs.Build.{rules_of}
-use Rattle.redo_core.proofs.Lawful.{rules_lawful}
+use Rattle.redo_core.proofs.LawfulTreeLemmas.{rules_lawful}
 use Rattle.redo_core.proofs.BeginLemmas.{unruled-fact}
 use Rattle.redo_core.proofs.begin.begin.Goals as goal
 

@@ -1,9 +1,9 @@
 use Rattle.std.proofs.Common.{◌≡◌, ◌+◌, cond, drop, bytes_eq, Option, Some, sym, ap, ◌∙◌, arith}
 use Rattle.std.specs.Arc.{arc_value}
 use Rattle.std.specs.Map.{lookup}
-use Rattle.redo_step.specs.declared.outcome.Outcome.{Outcome}
+use Rattle.redo_record.specs.declared.outcome.Outcome.{Outcome}
 use Rattle.redo_core.specs.Views.{FactView}
-use Rattle.redo_core.specs.Works.{few_known}
+use Rattle.redo_core.specs.inside.Works.{few_known}
 use Rattle.redo_core.proofs.FactLemmas.{left-answers, none-left}
 use Rattle.redo_core.proofs.facts.told_of.Goals as goal
 use Rattle.redo_core.proofs.facts.told_of.Goals.{After-eq}

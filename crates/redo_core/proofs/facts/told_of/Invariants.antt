@@ -1,6 +1,6 @@
 use Rattle.std.proofs.Common.{◌≡◌, drop, bytes_eq}
 use Rattle.std.specs.Map.{lookup}
-use Rattle.redo_core.specs.Works.{few_known}
+use Rattle.redo_core.specs.inside.Works.{few_known}
 use Rattle.redo_core.proofs.facts.told_of.Given as goal
 
 -- the answer is that of the facts that are left

@@ -1,5 +1,5 @@
 use Rattle.std.proofs.Common.{◌≡◌, ◌++◌, All, drop}
-use Rattle.redo_core.specs.Reported.{listed_paths, sources_among, IsNumberOf}
+use Rattle.redo_core.specs.inside.Reported.{listed_paths, sources_among, IsNumberOf}
 use Rattle.redo_core.proofs.finish.add_sources.Given as goal
 
 -- the paths so far, with those that are left, are all

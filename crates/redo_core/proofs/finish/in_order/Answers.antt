@@ -7,8 +7,8 @@ use Rattle.std.specs.BTreeSet.{insert_key}
 use Rattle.std.specs.Cmp.Lexicographic.{slice_cmp, texts_ties}
 use Rattle.std.specs.List.{dedup}
 use Rattle.std.specs.Ordering.{nat_cmp}
-use Rattle.redo_core.specs.Reported.{listed_paths, placed, sources_among, IsNumberOf}
-use Rattle.redo_core.proofs.Rows.{listed-once}
+use Rattle.redo_core.specs.inside.Reported.{listed_paths, placed, sources_among, IsNumberOf}
+use Rattle.redo_core.proofs.RowLemmas.{listed-once}
 use Rattle.redo_core.proofs.finish.in_order.Goals as goal
 use Rattle.redo_core.proofs.finish.in_order.Goals.{After-dedup_by}
 

@@ -1,7 +1,7 @@
 use Rattle.std.proofs.Common.{◌++◌, ◌∷◌, [], ◌<◌, length, take, sym, ap, ◌∙◌, arith}
 use Rattle.std.proofs.lemmas.List.{map-append, take_more}
 use Rattle.std.proofs.lemmas.List.Elements.{All-push}
-use Rattle.redo_core.specs.Reported.{listed_paths, IsNumberOf}
+use Rattle.redo_core.specs.inside.Reported.{listed_paths, IsNumberOf}
 use Rattle.redo_core.proofs.SlotLemmas.{slice_get-item}
 use Rattle.redo_core.proofs.finish.numbered.Goals as goal
 

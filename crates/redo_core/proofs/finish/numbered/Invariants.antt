@@ -1,5 +1,5 @@
 use Rattle.std.proofs.Common.{◌≡◌, All, take}
-use Rattle.redo_core.specs.Reported.{listed_paths, IsNumberOf}
+use Rattle.redo_core.specs.inside.Reported.{listed_paths, IsNumberOf}
 use Rattle.redo_core.proofs.finish.numbered.Given as goal
 
 -- the targets so far are listed with their numbers

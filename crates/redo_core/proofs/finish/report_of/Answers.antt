@@ -3,9 +3,9 @@ use Rattle.std.proofs.lemmas.List.{append_assoc, drop_more, map-append}
 use Rattle.std.specs.List.{AllByRecursion}
 use Rattle.redo_which.specs.Rule.{found_of}
 use Rattle.redo_step.specs.Setting.{is_rule}
-use Rattle.redo_core.specs.Reported.{file_of, listed_paths, row_begun, row_files, IsNumberOf, IsRowOf}
-use Rattle.redo_core.specs.declared.report.Row.{Row}
-use Rattle.redo_core.proofs.Rows.{rows-added, files-added, begun-added}
+use Rattle.redo_core.specs.inside.Reported.{file_of, listed_paths, row_begun, row_files, IsNumberOf, IsRowOf}
+use Rattle.redo_report.specs.declared.report.Row.{Row}
+use Rattle.redo_core.proofs.RowLemmas.{rows-added, files-added, begun-added}
 use Rattle.redo_core.proofs.finish.report_of.Goals as goal
 
 pub row_of-requires-clause-number : goal.row_of-requires-clause-number

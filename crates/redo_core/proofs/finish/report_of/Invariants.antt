@@ -1,6 +1,6 @@
 use Rattle.std.proofs.Common.{◌≡◌, ◌++◌, drop, map}
 use Rattle.std.specs.List.{AllByRecursion}
-use Rattle.redo_core.specs.Reported.{listed_paths, reported_paths, row_files, row_begun, IsRowOf}
+use Rattle.redo_core.specs.inside.Reported.{listed_paths, reported_paths, row_files, row_begun, IsRowOf}
 use Rattle.redo_core.proofs.finish.report_of.Given as goal
 
 -- the report so far is made of its rows, and with the paths that are left it is the whole

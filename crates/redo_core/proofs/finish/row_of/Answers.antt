@@ -1,6 +1,6 @@
 use Rattle.std.proofs.Common.{◌≡◌, inl, ◌∙◌, sym, Some, slice_get, arith, ap}
 use Rattle.redo_core.proofs.SlotLemmas.{slice_get-item, slice_get-below_some}
-use Rattle.redo_core.proofs.Reported.{begun-told}
+use Rattle.redo_core.proofs.ReportedLemmas.{begun-told}
 use Rattle.redo_core.proofs.finish.row_of.Goals as goal
 use Rattle.redo_core.proofs.finish.row_of.Goals.{After-index}
 

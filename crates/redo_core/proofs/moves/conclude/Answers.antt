@@ -1,12 +1,12 @@
 use Rattle.std.proofs.Common.{List, ℕ, [], refl, sym, subst}
 use Rattle.std.specs.Arc.{arc_value}
 use Rattle.redo_core.specs.Build.{rules_of}
-use Rattle.redo_core.specs.Schedule.{Entry}
-use Rattle.redo_core.specs.Standing.{AreStanding}
-use Rattle.redo_core.specs.Slots.{IsPutBackThere, IsTableOf, AreLookedAt}
+use Rattle.redo_build.specs.Schedule.{Entry}
+use Rattle.redo_build.specs.inside.Standing.{AreStanding}
+use Rattle.redo_core.specs.inside.Slots.{IsPutBackThere, IsTableOf, AreLookedAt}
 use Rattle.redo_core.specs.declared.work.End.TheVariants.{Ended}
-use Rattle.redo_core.proofs.TakeIn.{out-there, decided-put, after-sound}
-use Rattle.redo_core.proofs.Release.{looked-put}
+use Rattle.redo_core.proofs.TakeInLemmas.{out-there, decided-put, after-sound}
+use Rattle.redo_core.proofs.ReleaseLemmas.{looked-put}
 use Rattle.indexmap.proofs.SearchLemmas.{on_ok_of}
 use Rattle.redo_core.proofs.moves.conclude.Goals as goal
 use Rattle.redo_core.proofs.moves.conclude.Goals.{After-decide-watchers}

@@ -2,11 +2,11 @@ use Rattle.std.proofs.Common.{◌≡◌, ℕ, List, [], ◌∷◌, ◌++◌, Err
 use Rattle.std.specs.Arc.{arc_value}
 use Rattle.redo_tree.specs.Tree.{Tree}
 use Rattle.redo_core.specs.Build.{rules_of}
-use Rattle.redo_core.specs.Rules.{operands}
-use Rattle.redo_core.specs.Slots.{IsOperand, AreEnteredInto, AreNumbers, table_entries}
+use Rattle.redo_build.specs.Rules.{operands}
+use Rattle.redo_core.specs.inside.Slots.{IsOperand, AreEnteredInto, AreNumbers, table_entries}
 use Rattle.redo_core.proofs.SlotLemmas.{slice_get-item}
-use Rattle.redo_core.proofs.EnterAll.{enter-more, one-operand, no-operand, operands-more, too-many}
-use Rattle.redo_core.proofs.Numbers.{numbers-kept, numbers-push}
+use Rattle.redo_core.proofs.EnterAllLemmas.{enter-more, one-operand, no-operand, operands-more, too-many}
+use Rattle.redo_core.proofs.NumberLemmas.{numbers-kept, numbers-push}
 use Rattle.redo_core.proofs.moves.enter_all.Goals as goal
 use Rattle.redo_core.proofs.moves.enter_all.Goals.{then-is_operand+in_ok-at+in_ok-push, else-is_operand}
 
@@ -18,8 +18,8 @@ returns-in_err-at-clause-too_many c = λ is.
     let get = slice_get-item c.args.deps.now i c.dep-item.result c.loop-dep-test.true c.dep-item.is in
     let T : Tree → Type 0 = λ x. IsOperand (rules_of x c.args.limits) c.dep-item.result c.dep-item.result.path in
     let err = c.in_err-at.was ∙ ap Err (sym made.1) in
-    too-many (rules_of tree c.args.limits) (table_entries (rules_of tree c.args.limits) c.args.limits.0 c.args.table.now) (table_entries (rules_of tree c.args.limits) c.args.limits.0 c.loop-dep.table)
-    c.args.limits.0 c.args.deps.now i c.dep-item.result get (subst T c.deref.ensures (c.if-is_operand.ensures.0 refl)) c.loop-dep.invariant.0.entries (c.enter.ensures.too_many.0 err)
+    too-many (rules_of tree c.args.limits) (table_entries (rules_of tree c.args.limits) c.args.limits.targets c.args.table.now) (table_entries (rules_of tree c.args.limits) c.args.limits.targets c.loop-dep.table)
+    c.args.limits.targets c.args.deps.now i c.dep-item.result get (subst T c.deref.ensures (c.if-is_operand.ensures.0 refl)) c.loop-dep.invariant.0.entries (c.enter.ensures.too_many.0 err)
 
 pub loop-dep-preserved : goal.loop-dep-preserved
 loop-dep-preserved c =

@@ -1,8 +1,8 @@
 use Rattle.std.proofs.Common.{take}
 use Rattle.std.specs.Arc.{arc_value}
 use Rattle.redo_core.specs.Build.{rules_of}
-use Rattle.redo_core.specs.Rules.{operands}
-use Rattle.redo_core.specs.Slots.{AreEnteredInto, AreNumbers}
+use Rattle.redo_build.specs.Rules.{operands}
+use Rattle.redo_core.specs.inside.Slots.{AreEnteredInto, AreNumbers}
 use Rattle.redo_core.proofs.moves.enter_all.Given as goal
 
 abbrev pub invariant-loop-dep : goal.invariant-loop-dep

@@ -2,10 +2,10 @@ use Rattle.std.proofs.Common.{◌≡◌, ℕ, List, [], ◌∷◌, ◌++◌, Err
 use Rattle.std.specs.Arc.{arc_value}
 use Rattle.redo_tree.specs.Tree.{Tree, file_at}
 use Rattle.redo_core.specs.Build.{rules_of}
-use Rattle.redo_core.specs.Slots.{AreEnteredInto, table_entries, targets_in}
+use Rattle.redo_core.specs.inside.Slots.{AreEnteredInto, table_entries, targets_in}
 use Rattle.redo_core.proofs.SlotLemmas.{slice_get-item}
-use Rattle.redo_core.proofs.EnterAll.{enter-more}
-use Rattle.redo_core.proofs.Opening.{targets-more, one-target, no-target, too-many-requested}
+use Rattle.redo_core.proofs.EnterAllLemmas.{enter-more}
+use Rattle.redo_core.proofs.OpeningLemmas.{targets-more, one-target, no-target, too-many-requested}
 use Rattle.redo_core.proofs.moves.enter_requested.Goals as goal
 use Rattle.redo_core.proofs.moves.enter_requested.Goals.{then-is_target+in_ok-enter, else-is_target}
 
@@ -17,8 +17,8 @@ returns-in_err-enter-clause-too_many c = λ is.
     let get = slice_get-item c.args.request.now i c.path-item.result c.loop-path-test.true c.path-item.is in
     let err = c.in_err-enter.was ∙ ap Err (sym made.1) in
     let target : not (is_some (file_at tree c.path-item.result)) ≡ true = ap (λ t. not (is_some (file_at t c.path-item.result))) (sym c.deref.ensures) ∙ sym c.if-is_target.ensures in
-    too-many-requested (rules_of tree c.args.limits) tree (table_entries (rules_of tree c.args.limits) c.args.limits.0 c.args.table.now) (table_entries (rules_of tree c.args.limits) c.args.limits.0 c.loop-path.table)
-    c.args.limits.0 c.args.request.now i c.path-item.result get target c.loop-path.invariant.entries (c.enter.ensures.too_many.0 err)
+    too-many-requested (rules_of tree c.args.limits) tree (table_entries (rules_of tree c.args.limits) c.args.limits.targets c.args.table.now) (table_entries (rules_of tree c.args.limits) c.args.limits.targets c.loop-path.table)
+    c.args.limits.targets c.args.request.now i c.path-item.result get target c.loop-path.invariant.entries (c.enter.ensures.too_many.0 err)
 
 pub loop-path-preserved : goal.loop-path-preserved
 loop-path-preserved c =

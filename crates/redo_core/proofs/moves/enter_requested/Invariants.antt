@@ -1,6 +1,6 @@
 use Rattle.std.proofs.Common.{take}
 use Rattle.std.specs.Arc.{arc_value}
-use Rattle.redo_core.specs.Slots.{AreEnteredInto, targets_in}
+use Rattle.redo_core.specs.inside.Slots.{AreEnteredInto, targets_in}
 use Rattle.redo_core.proofs.moves.enter_requested.Given as goal
 
 abbrev pub invariant-loop-path : goal.invariant-loop-path

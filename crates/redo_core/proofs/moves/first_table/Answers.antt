@@ -2,10 +2,10 @@ use Rattle.std.proofs.Common.{◌≡◌, ◌<◌, List, [], Err, length, refl, s
 use Rattle.std.specs.Arc.{arc_value}
 use Rattle.redo_tree.specs.Tree.{Tree}
 use Rattle.redo_core.specs.Build.{rules_of}
-use Rattle.redo_core.specs.Outcomes.{outcome_at}
-use Rattle.redo_core.specs.Schedule.{Entry, entered}
-use Rattle.redo_core.specs.Slots.{slot_entries, targets_in}
-use Rattle.redo_core.proofs.Opening.{opening-entries, first-is}
+use Rattle.redo_build.specs.Outcomes.{outcome_at}
+use Rattle.redo_build.specs.Schedule.{Entry, entered}
+use Rattle.redo_core.specs.inside.Slots.{slot_entries, targets_in}
+use Rattle.redo_core.proofs.OpeningLemmas.{opening-entries, first-is}
 use Rattle.redo_core.proofs.moves.first_table.Goals as goal
 
 pub returns-in_err-enter_requested-clause-too_many : goal.returns-in_err-enter_requested-clause-too_many
@@ -14,10 +14,10 @@ returns-in_err-enter_requested-clause-too_many c = λ is.
     let tree : Tree = arc_value c.args.tree.now in
     let r = rules_of tree c.args.limits in
     let err = c.in_err-enter_requested.was ∙ ap Err (sym made.1) in
-    let none : slot_entries r (outcome_at r c.args.limits.0) c.new.result.keys c.new-2.result.items ≡ [] = rw c.new.ensures.empty refl in
-    let N : List Entry → Type 0 = λ xs. c.args.limits.0 < length (entered r xs (targets_in tree c.args.request.now)) in
+    let none : slot_entries r (outcome_at r c.args.limits.targets) c.new.result.keys c.new-2.result.items ≡ [] = rw c.new.ensures.empty refl in
+    let N : List Entry → Type 0 = λ xs. c.args.limits.targets < length (entered r xs (targets_in tree c.args.request.now)) in
     let many : N [] = subst N none (c.enter_requested.ensures.too_many err) in
-    let S : List Entry → Type 0 = λ xs. c.args.limits.0 < length xs in
+    let S : List Entry → Type 0 = λ xs. c.args.limits.targets < length xs in
     subst S (sym (opening-entries tree c.args.limits c.args.request.now)) many
 
 pub returns-clause-ok : goal.returns-clause-ok

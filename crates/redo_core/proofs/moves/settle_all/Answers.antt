@@ -1,6 +1,6 @@
 use Rattle.std.proofs.Common.{arith}
 use Rattle.std.specs.Arc.{arc_value}
-use Rattle.redo_core.proofs.SettleAll.{place-index, looked-more}
+use Rattle.redo_core.proofs.SettleAllLemmas.{place-index, looked-more}
 use Rattle.redo_core.proofs.moves.settle_all.Goals as goal
 
 pub settle-requires-clause-within : goal.settle-requires-clause-within

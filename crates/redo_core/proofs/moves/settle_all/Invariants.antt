@@ -1,6 +1,6 @@
 use Rattle.std.proofs.Common.{drop}
 use Rattle.std.specs.Arc.{arc_value}
-use Rattle.redo_core.specs.Slots.{IsTableOf, AreLookedAtBelow}
+use Rattle.redo_core.specs.inside.Slots.{IsTableOf, AreLookedAtBelow}
 use Rattle.redo_core.proofs.moves.settle_all.Given as goal
 
 abbrev pub invariant-loop-at : goal.invariant-loop-at

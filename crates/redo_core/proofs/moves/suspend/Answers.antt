@@ -1,16 +1,16 @@
 use Rattle.std.proofs.Common.{rules, ◌≡◌, ◌<◌, ℕ, List, [], ◌∷◌, Err, length, drop, inl, refl, sym, ap, subst, ◌∙◌}
 use Rattle.std.specs.Arc.{arc_value}
 use Rattle.redo_tree.specs.Tree.{Tree}
-use Rattle.redo_step.specs.declared.deps.Dep.{Dep}
+use Rattle.redo_record.specs.declared.deps.Dep.{Dep}
 use Rattle.redo_core.specs.Build.{rules_of}
 use Rattle.redo_core.specs.declared.work.Begun.{Begun}
 use Rattle.redo_core.specs.declared.work.End.TheVariants.{Stopped}
-use Rattle.redo_core.specs.Rules.{operands}
-use Rattle.redo_core.specs.Schedule.{Entry, entered}
-use Rattle.redo_core.specs.Standing.{AreStanding}
-use Rattle.redo_core.specs.Slots.{AreEnteredInto, AreNumbers, IsPutBackThere, table_entries}
-use Rattle.redo_core.proofs.TakeIn.{small, is_stopped, after-sound, after-length, out-still, parked-put}
-use Rattle.redo_core.proofs.Release.{looked-put, looked-one}
+use Rattle.redo_build.specs.Rules.{operands}
+use Rattle.redo_build.specs.Schedule.{Entry, entered}
+use Rattle.redo_build.specs.inside.Standing.{AreStanding}
+use Rattle.redo_core.specs.inside.Slots.{AreEnteredInto, AreNumbers, IsPutBackThere, table_entries}
+use Rattle.redo_core.proofs.TakeInLemmas.{small, is_stopped, after-sound, after-length, out-still, parked-put}
+use Rattle.redo_core.proofs.ReleaseLemmas.{looked-put, looked-one}
 use Rattle.redo_core.proofs.moves.suspend.Goals as goal
 use Rattle.redo_core.proofs.moves.suspend.Goals.{In_ok-operands, After-park}
 
@@ -26,10 +26,10 @@ returns-in_err-operands-clause-too_many c = λ is.
     let tree : Tree = arc_value c.args.tree.now in
     let whole : c.asked.result.now ≡ drop c.args.begun.value.facts.gained c.args.begun.value.job.state.entries =
     c.asked.ensures ∙ ap (λ (b : Begun). drop b.facts.gained b.job.state.entries) c.deref.ensures in
-    let P : List Dep → Type 0 = λ ds. c.args.limits.0 < length (entered (rules_of tree c.args.limits) (table_entries (rules_of tree c.args.limits) c.args.limits.0 c.args.table.now) (operands (rules_of tree c.args.limits) ds)) in
+    let P : List Dep → Type 0 = λ ds. c.args.limits.targets < length (entered (rules_of tree c.args.limits) (table_entries (rules_of tree c.args.limits) c.args.limits.targets c.args.table.now) (operands (rules_of tree c.args.limits) ds)) in
     let many : P c.asked.result.now = c.enter_all.ensures.too_many err in
     let same = after-length tree c.args.limits c.args.table.now c.args.at (Stopped c.args.begun) c.requires.may c.args.begun refl in
-    let S : ℕ → Type 0 = λ n. c.args.limits.0 < n in
+    let S : ℕ → Type 0 = λ n. c.args.limits.targets < n in
     subst S same (subst P whole many)
 
 enters : (c : In_ok-operands) → AreEnteredInto (arc_value c.args.tree.now) c.args.limits c.args.table.now c.enter_all.new.table c.enter_all.new.freed.items

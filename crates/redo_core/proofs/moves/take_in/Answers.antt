@@ -1,7 +1,7 @@
 use Rattle.std.proofs.Common.{[]}
 use Rattle.std.specs.Arc.{arc_value}
-use Rattle.redo_core.specs.Slots.{IsPutBackThere}
-use Rattle.redo_core.proofs.Release.{taken-in}
+use Rattle.redo_core.specs.inside.Slots.{IsPutBackThere}
+use Rattle.redo_core.proofs.ReleaseLemmas.{taken-in}
 use Rattle.redo_core.proofs.moves.take_in.Goals as goal
 use Rattle.redo_core.proofs.moves.take_in.Goals.{in-Ended+in_ok-conclude-in-Ended, in-Stopped+in_ok-suspend-in-Stopped}
 

@@ -1,8 +1,8 @@
 use Rattle.std.proofs.Common.{ℕ, List, ◌≡◌, ◌<◌, refl, sym, ap, subst, ◌∙◌, slice_get, slice_set, length, Some, length-set, arith, rules}
 use Rattle.std.specs.Arc.{arc_value}
 use Rattle.std.specs.Vec.{with_item}
-use Rattle.redo_core.specs.Slots.{IsFedAs, Gains}
-use Rattle.redo_core.specs.Works.{job_deps}
+use Rattle.redo_core.specs.inside.Slots.{IsFedAs, Gains}
+use Rattle.redo_core.specs.inside.Works.{job_deps}
 use Rattle.redo_core.specs.declared.work.Begun.{Begun}
 use Rattle.redo_core.specs.Views.{WorkView}
 use Rattle.redo_core.specs.declared.table.Slot.{Slot}

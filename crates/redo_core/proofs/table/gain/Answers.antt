@@ -1,9 +1,9 @@
 use Rattle.std.proofs.Common.{◌≡◌, ◌⊎◌, None, Some, length, arith, ap, subst, ◌∙◌}
-use Rattle.redo_core.specs.Rules.{Ask}
-use Rattle.redo_core.specs.Slots.{IsToldBy}
+use Rattle.redo_build.specs.Rules.{Ask}
+use Rattle.redo_core.specs.inside.Slots.{IsToldBy}
 use Rattle.redo_core.specs.Views.{told_by}
-use Rattle.redo_core.specs.Works.{told_in}
-use Rattle.redo_core.proofs.SettleAll.{get-index}
+use Rattle.redo_core.specs.inside.Works.{told_in}
+use Rattle.redo_core.proofs.SettleAllLemmas.{get-index}
 use Rattle.redo_core.proofs.GainSteps.{gains-step}
 use Rattle.redo_core.proofs.table.gain.Goals as goal
 

@@ -1,4 +1,4 @@
-use Rattle.redo_core.specs.Slots.{GainsBelow}
+use Rattle.redo_core.specs.inside.Slots.{GainsBelow}
 use Rattle.redo_core.proofs.table.gain.Given as goal
 
 abbrev pub invariant-loop-at : goal.invariant-loop-at

@@ -1,7 +1,7 @@
 use Rattle.std.proofs.Common.{subst}
 use Rattle.std.proofs.lemmas.Result.{on_ok_weaker}
 use Rattle.redo_core.specs.Views.{FactView}
-use Rattle.redo_core.specs.Works.{AddsFact}
+use Rattle.redo_core.specs.inside.Works.{AddsFact}
 use Rattle.redo_core.proofs.SlotLemmas.{slice_get-item, slice_get-below_some}
 use Rattle.redo_core.proofs.table.gain_one.Goals as goal
 

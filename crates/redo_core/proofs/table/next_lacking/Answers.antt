@@ -1,8 +1,8 @@
 use Rattle.std.proofs.Common.{rules, ◌≡◌, ℕ, ◌<◌, inl, inr, length, slice_get, slice_index_or, Some, arith, sym, subst, ◌∙◌}
 use Rattle.std.proofs.lemmas.Bool.{cases_lt}
-use Rattle.redo_core.specs.Slots.{IsDecidedNumber}
+use Rattle.redo_core.specs.inside.Slots.{IsDecidedNumber}
 use Rattle.redo_core.proofs.SlotLemmas.{slice_get-item}
-use Rattle.redo_core.proofs.SettleAll.{get-index, place-index}
+use Rattle.redo_core.proofs.SettleAllLemmas.{get-index, place-index}
 use Rattle.redo_core.proofs.table.next_lacking.Goals as goal
 
 pub index-requires : goal.index-requires

@@ -1,4 +1,4 @@
-use Rattle.redo_core.specs.Slots.{AreDecidedFrom}
+use Rattle.redo_core.specs.inside.Slots.{AreDecidedFrom}
 use Rattle.redo_core.proofs.table.next_lacking.Given as goal
 
 abbrev pub invariant-loop-i : goal.invariant-loop-i

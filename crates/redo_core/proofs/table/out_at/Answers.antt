@@ -1,10 +1,10 @@
 use Rattle.std.proofs.Common.{◌≡◌, ◌<◌, ℕ, rules, length, slice_get, Some, true, sym, ap, subst, ◌∙◌, arith}
 use Rattle.redo_core.specs.declared.table.Slot.{Slot}
-use Rattle.redo_core.proofs.Queues.{slice_get-among}
+use Rattle.redo_build.proofs.QueueLemmas.{slice_get-among}
 use Rattle.redo_core.proofs.SlotLemmas.{slice_get-item, slice_get-below_some}
 use Rattle.redo_core.proofs.FreedLemmas.{distinct-place}
 use Rattle.std.proofs.lemmas.Bool.{both_ways}
-use Rattle.redo_core.specs.Slots.{is_stage_out}
+use Rattle.redo_core.specs.inside.Slots.{is_stage_out}
 use Rattle.redo_core.proofs.GainSteps.{out-stage}
 use Rattle.redo_core.proofs.table.out_at.Goals as goal
 use Rattle.redo_core.proofs.table.out_at.Goals.{else-is_out-via-then-is_out+else-slot-turn, else-is_out-via-else-is_out}

@@ -1,7 +1,7 @@
 use Rattle.std.proofs.Common.{◌<◌, ℕ, List, ◌≡◌, List, length, length-set, slice_get, Some, sym, ap, subst, ◌∙◌, arith}
 use Rattle.std.specs.Arc.{arc_value}
 use Rattle.std.proofs.lemmas.Result.{on_ok_weaker}
-use Rattle.redo_core.specs.Slots.{IsPlace, AreDecidedFrom, IsLackingAt}
+use Rattle.redo_core.specs.inside.Slots.{IsPlace, AreDecidedFrom, IsLackingAt}
 use Rattle.redo_core.proofs.SlotLemmas.{slice_get-item, slice_get-below_some}
 use Rattle.redo_core.proofs.TableSteps.{parked_seen, parked_fed, freed-table, freed-looked}
 use Rattle.redo_core.proofs.HoldSteps.{held-watch-table, held-watch-looked}

@@ -2,10 +2,10 @@ use Rattle.std.proofs.Common.{◌≡◌, sym, ap, subst, ◌∙◌}
 use Rattle.std.specs.Arc.{arc_value}
 use Rattle.redo_core.specs.Views.{FactView}
 use Rattle.redo_core.specs.Build.{rules_of}
-use Rattle.redo_core.specs.Works.{told_in}
-use Rattle.redo_core.specs.Ends.{IsEndAt, end_progress}
+use Rattle.redo_core.specs.inside.Works.{told_in}
+use Rattle.redo_core.specs.inside.Ends.{IsEndAt, end_progress}
 use Rattle.redo_core.specs.declared.work.End.{End}
-use Rattle.redo_core.proofs.Advance.{work-fits, fact-parts, stopped-end, ended-end, ended-progress, asks-progress, end-lacks}
+use Rattle.redo_core.proofs.AdvanceLemmas.{work-fits, fact-parts, stopped-end, ended-end, ended-progress, asks-progress, end-lacks}
 use Rattle.redo_core.proofs.work.advance_job.Goals as goal
 use Rattle.redo_core.proofs.work.advance_job.Goals.{in-Ended+in_ok-own-in-Ended+in_ok-path-in-Ended+in_ok-deps-in-Ended+in_ok-new-in-Ended, in-Asks+in_ok-new-in-Asks}
 

@@ -1,4 +1,4 @@
-use Rattle.redo_path.proofs.Canonical.{parent_first}
+use Rattle.redo_path.proofs.CanonicalLemmas.{parent_first}
 use Rattle.redo_path.proofs.laws.a_directory_stands_first.Goals as goal
 
 pub returns : goal.returns

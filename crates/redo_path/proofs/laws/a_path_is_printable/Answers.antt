@@ -1,4 +1,4 @@
-use Rattle.redo_path.proofs.Canonical.{printable_path}
+use Rattle.redo_path.proofs.CanonicalLemmas.{printable_path}
 use Rattle.redo_path.proofs.laws.a_path_is_printable.Goals as goal
 
 pub returns : goal.returns

@@ -1,4 +1,4 @@
-use Rattle.redo_path.proofs.Canonical.{resolved-path}
+use Rattle.redo_path.proofs.CanonicalLemmas.{resolved-path}
 use Rattle.redo_path.proofs.laws.a_path_names_itself.Goals as goal
 
 pub returns : goal.returns

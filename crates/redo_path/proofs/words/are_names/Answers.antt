@@ -2,7 +2,7 @@ use Rattle.std.proofs.Common.{rules, ◌∙◌, ap, sym, subst}
 use Rattle.std.proofs.lemmas.Fn.{always_returns_same}
 use Rattle.std.specs.List.{AllByRecursion}
 use Rattle.redo_path.specs.Names.{IsName, IsPart}
-use Rattle.redo_path.proofs.Cuts.{parts_left, parts_left-next, parts_left-start, IsPart-parts, printable-word}
+use Rattle.redo_path.proofs.CutLemmas.{parts_left, parts_left-next, parts_left-start, IsPart-parts, printable-word}
 use Rattle.redo_path.proofs.words.are_names.Goals as goal
 
 pub loop-part-init : goal.loop-part-init

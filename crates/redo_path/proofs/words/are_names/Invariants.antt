@@ -1,6 +1,6 @@
 use Rattle.std.specs.List.{AllByRecursion}
 use Rattle.redo_path.specs.Names.{IsName, IsPart, parts}
-use Rattle.redo_path.proofs.Cuts.{parts_left}
+use Rattle.redo_path.proofs.CutLemmas.{parts_left}
 use Rattle.redo_path.proofs.words.are_names.Given as goal
 
 -- what was seen of the word are names

@@ -1,7 +1,7 @@
 use Rattle.std.proofs.Common.{◌≡◌, sym, subst, false, arith}
 use Rattle.std.proofs.lemmas.Grind.{common_steps}
 use Rattle.std.specs.Str.{bytes_eq}
-use Rattle.redo_path.proofs.Steps.{IsPlain, Leads-enter, names-enter}
+use Rattle.redo_path.proofs.StepLemmas.{IsPlain, Leads-enter, names-enter}
 use Rattle.redo_path.proofs.words.follow.Goals as goal
 
 plain : (c : goal.After-enter) → IsPlain c.args.part.now

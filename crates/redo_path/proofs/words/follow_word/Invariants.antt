@@ -2,7 +2,7 @@ use Rattle.std.proofs.Common.{◌≡◌}
 use Rattle.std.specs.List.{AllByRecursion}
 use Rattle.redo_path.specs.Names.{IsName, IsPart, names, parts}
 use Rattle.redo_path.specs.Resolve.{walk}
-use Rattle.redo_path.proofs.Cuts.{parts_left}
+use Rattle.redo_path.proofs.CutLemmas.{parts_left}
 use Rattle.redo_path.proofs.words.follow_word.Given as goal
 
 -- what is left of the word leads on from here to where the word leads

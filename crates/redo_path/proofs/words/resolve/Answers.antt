@@ -1,8 +1,8 @@
 use Rattle.std.proofs.Common.{◌≡◌, arith, length}
 use Rattle.std.proofs.lemmas.Grind.{common_steps}
-use Rattle.redo_path.proofs.Canonical.{resolved-names}
-use Rattle.redo_path.proofs.Cuts.{no_word_fault}
-use Rattle.redo_path.proofs.FileNames.{Answers-file}
+use Rattle.redo_path.proofs.CanonicalLemmas.{resolved-names}
+use Rattle.redo_path.proofs.CutLemmas.{no_word_fault}
+use Rattle.redo_path.proofs.FileNameLemmas.{Answers-file}
 use Rattle.redo_path.proofs.words.resolve.Goals as goal
 
 pub returns-then-are_names : goal.returns-then-are_names

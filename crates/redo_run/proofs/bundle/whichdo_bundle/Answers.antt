@@ -1,7 +1,7 @@
 use Rattle.std.proofs.Common.{◌∙◌, Bool}
 use Rattle.std.proofs.lemmas.Result.{err_from_is_err_and}
 use Rattle.redo_which.specs.Views.{place_of}
-use Rattle.redo_run.proofs.Told.{explains_list, listed, lists}
+use Rattle.redo_run.proofs.ToldLemmas.{explains_list, listed, lists}
 use Rattle.redo_run.proofs.bundle.whichdo_bundle.Goals as goal
 
 pub returns-in_err-write_all-clause-fault : goal.returns-in_err-write_all-clause-fault

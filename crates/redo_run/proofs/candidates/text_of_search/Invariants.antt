@@ -1,6 +1,6 @@
 use Rattle.std.proofs.Common.{◌≡◌, ◌++◌, drop}
 use Rattle.std.specs.Prelude.{flat_map}
-use Rattle.redo_core.specs.ReportText.{path_line}
+use Rattle.redo_report.specs.ReportText.{path_line}
 use Rattle.redo_run.proofs.candidates.text_of_search.Given as goal
 
 -- the lines so far, with those that are left, are all

@@ -1,20 +1,20 @@
 use Rattle.std.proofs.Common.{ℕ, List, refl, sym, ap, subst, ◌∙◌}
 use Rattle.redo_core.specs.Build.{rules_of}
-use Rattle.redo_core.specs.Reports.{IsReport}
+use Rattle.redo_report.specs.Reports.{IsReport}
 use Rattle.redo_tree.specs.Directory.{places_in}
 use Rattle.redo_run.specs.Exits.{IsExit}
 use Rattle.redo_run.specs.Runs.{request_of}
-use Rattle.redo_run.proofs.Told.{reports_tree}
+use Rattle.redo_run.proofs.ToldLemmas.{reports_tree}
 use Rattle.redo_run.proofs.directory.run_dir.Goals as goal
 
 pub returns-clause-report : goal.returns-clause-report
 returns-clause-report g c =
     let limits = c.args.options.now.limits in
     let rules = rules_of c.in_ok-tree.tree limits in
-    let E : List (List ℕ) → Type 0 = λ ps. IsReport rules ps limits.0 c.in_ok-report.report in
+    let E : List (List ℕ) → Type 0 = λ ps. IsReport rules ps limits.targets c.in_ok-report.report in
     let is : E c.in_ok-request.request.items = subst E c.deref-2.ensures.value c.in_ok-report.ensures.report in
-    let X : List (List ℕ) → Type 0 = λ ps. IsExit rules limits.0 ps c.in_ok-exit.exit in
-    let exit = subst X c.deref-3.ensures.value (c.in_ok-exit.ensures rules limits.0 (subst E (sym c.deref-3.ensures.value) is)) in
+    let X : List (List ℕ) → Type 0 = λ ps. IsExit rules limits.targets ps c.in_ok-exit.exit in
+    let exit = subst X c.deref-3.ensures.value (c.in_ok-exit.ensures rules limits.targets (subst E (sym c.deref-3.ensures.value) is)) in
     reports_tree c.args.options.now c.in_ok-tree.tree c.in_ok-request.request.items
     (c.in_ok-request.ensures ∙ ap request_of c.deref.ensures.value) _ _ _ c.in_ok-report.report _
     record { exit = c.in_ok-exit.exit; passed = c.in_ok-tree.passed; stored = c.in_ok-stored.stored }

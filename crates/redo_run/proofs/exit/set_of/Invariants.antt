@@ -1,5 +1,5 @@
 use Rattle.std.proofs.Common.{◌≡◌, [], drop}
-use Rattle.redo_core.specs.Reported.{placed}
+use Rattle.redo_core.specs.inside.Reported.{placed}
 use Rattle.redo_run.proofs.exit.set_of.Given as goal
 
 -- the paths so far, with those that are left, are all

@@ -1,4 +1,4 @@
-use Rattle.redo_run.proofs.Refusals.{too_many_after_take}
+use Rattle.redo_run.proofs.RefusalLemmas.{too_many_after_take}
 use Rattle.redo_run.proofs.one.advance_newest.Goals as goal
 
 pub returns-in-Err-TooMany-clause-too_many : goal.returns-in-Err-TooMany-clause-too_many

@@ -1,6 +1,6 @@
 use Rattle.std.proofs.Common.{◌≡◌, ℕ}
 use Rattle.std.specs.Prelude.{IsNone}
-use Rattle.redo_core.specs.TakesLeft.{takes_left}
+use Rattle.redo_build.specs.TakesLeft.{takes_left}
 use Rattle.redo_core.specs.Views.{jobs_out}
 use Rattle.redo_run.proofs.one.build_one.Given as goal
 
@@ -11,4 +11,4 @@ invariant-loop-board l =
 
 -- each turn leaves fewer jobs to take
 abbrev pub decreases-loop-board : goal.decreases-loop-board
-decreases-loop-board l = takes_left l.board.limits.0 l.board.state
+decreases-loop-board l = takes_left l.board.limits.targets l.board.state

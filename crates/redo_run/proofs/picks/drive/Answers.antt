@@ -2,7 +2,7 @@ use Rattle.std.proofs.Common.{rules, ◌≡◌, ◌<◌, ◌≤◌, false, lengt
 use Rattle.std.specs.Prelude.{IsNone, slice_index_or}
 use Rattle.std.specs.Arc.{arc_value}
 use Rattle.redo_core.specs.Views.{BoardView, opened}
-use Rattle.redo_run.proofs.Driving.{begins, ends, stops}
+use Rattle.redo_run.proofs.DrivingLemmas.{begins, ends, stops}
 use Rattle.redo_run.proofs.picks.drive.Goals as goal
 
 pub loop-done-init : goal.loop-done-init

@@ -1,7 +1,7 @@
 use Rattle.std.proofs.Common.{◌≡◌, ◌+◌, drop}
 use Rattle.std.specs.Prelude.{IsNone}
 use Rattle.redo_core.specs.Build.{rules_of}
-use Rattle.redo_run.specs.Driving.{AreOut}
+use Rattle.redo_run.specs.inside.Driving.{AreOut}
 use Rattle.redo_run.specs.Picks.{Driven, at_opening, driven, driven_on}
 use Rattle.redo_run.proofs.picks.drive.Given as goal
 

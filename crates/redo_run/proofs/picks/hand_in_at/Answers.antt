@@ -1,6 +1,6 @@
 use Rattle.std.proofs.Common.{rules, ◌<◌, length}
-use Rattle.redo_run.proofs.Refusals.{no_stranger, too_many_running}
-use Rattle.redo_run.proofs.StaysOut.{handed-out, handed-picked, piece-belongs, piece-out}
+use Rattle.redo_run.proofs.RefusalLemmas.{no_stranger, too_many_running}
+use Rattle.redo_run.proofs.StaysOutLemmas.{handed-out, handed-picked, piece-belongs, piece-out}
 use Rattle.redo_run.proofs.picks.hand_in_at.Goals as goal
 
 pub hand_in-requires : goal.hand_in-requires

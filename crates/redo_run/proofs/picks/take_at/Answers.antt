@@ -1,4 +1,4 @@
-use Rattle.redo_run.proofs.StaysOut.{out-taken}
+use Rattle.redo_run.proofs.StaysOutLemmas.{out-taken}
 use Rattle.redo_run.proofs.picks.take_at.Goals as goal
 
 pub returns-clause-out : goal.returns-clause-out

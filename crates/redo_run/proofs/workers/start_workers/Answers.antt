@@ -1,6 +1,6 @@
 use denote.Param.{param}
 use denote.Param.Send.{param_send}
-use Rattle.redo_run.proofs.Crossing.{office_sync}
+use Rattle.redo_run.proofs.CrossingLemmas.{office_sync}
 use Rattle.redo_run.proofs.workers.start_workers.Lts.{arg-0-1}
 use Rattle.redo_run.proofs.workers.start_workers.Goals as goal
 

@@ -1,4 +1,4 @@
-use Rattle.redo_script.proofs.OneFault.{answered}
+use Rattle.redo_script.proofs.OneFaultLemmas.{answered}
 use Rattle.redo_script.proofs.laws.faults_of_texts_are_answered.Goals as goal
 
 pub returns : goal.returns

@@ -1,4 +1,4 @@
-use Rattle.redo_script.proofs.Refusing.{refusing}
+use Rattle.redo_script.proofs.RefusingLemmas.{refusing}
 use Rattle.redo_script.proofs.laws.faults_of_the_table_are_answered.Goals as goal
 
 pub returns : goal.returns

@@ -1,4 +1,4 @@
-use Rattle.redo_script.proofs.Blames.{of_texts}
+use Rattle.redo_script.proofs.BlameLemmas.{of_texts}
 use Rattle.redo_script.proofs.laws.no_text_wants_memory.Goals as goal
 
 pub returns : goal.returns

@@ -2,7 +2,7 @@ use Rattle.std.proofs.Common.{◌≡◌, ◌++◌, Some, None, sym}
 use Rattle.std.specs.Prelude.{codes}
 use Rattle.std.proofs.lemmas.Bool.Decides.{Decides-eqb}
 use Rattle.std.proofs.lemmas.Slice.Eq.{strip_prefix_is}
-use Rattle.redo_script.proofs.Interpreters.{other_interpreter}
+use Rattle.redo_script.proofs.InterpreterLemmas.{other_interpreter}
 use Rattle.redo_script.proofs.reader.has_fit_interpreter.Goals as goal
 
 pub returns-in-Some-strip_prefix : goal.returns-in-Some-strip_prefix

@@ -1,5 +1,5 @@
-use Rattle.redo_script.proofs.ReadTexts.{given_found, given_only, given_memory}
-use Rattle.redo_script.proofs.RefusedTexts.{given_refused}
+use Rattle.redo_script.proofs.ReadTextLemmas.{given_found, given_only, given_memory}
+use Rattle.redo_script.proofs.RefusedTextLemmas.{given_refused}
 use Rattle.redo_script.proofs.reader.parse.Goals as goal
 
 pub returns : goal.returns

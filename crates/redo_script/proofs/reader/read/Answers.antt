@@ -1,6 +1,6 @@
 use Rattle.std.proofs.Common.{sym, ◌∙◌, inr}
 use Rattle.std.proofs.lemmas.Result.{err_from_is_err_and}
-use Rattle.redo_script.proofs.ReadTexts.{nul_fails, interpreter_fails, tokens_follow}
+use Rattle.redo_script.proofs.ReadTextLemmas.{nul_fails, interpreter_fails, tokens_follow}
 use Rattle.redo_script.proofs.reader.read.Goals as goal
 
 pub returns-in_err-refuse_nul : goal.returns-in_err-refuse_nul

@@ -1,11 +1,11 @@
 use Rattle.std.proofs.Common.{◌≡◌, [], rules, arith, sym}
 use Rattle.std.proofs.lemmas.Result.{err_from_is_err_and}
 use Rattle.std.proofs.lemmas.List.{nil_from_length}
-use Rattle.redo_script.specs.Lexer.{reader_of}
+use Rattle.redo_script.specs.inside.Lexer.{reader_of}
 use Rattle.redo_script.specs.Reading.{read_on, tokens_of}
-use Rattle.redo_script.specs.Passes.{Follows, script_by_tokens}
-use Rattle.redo_script.proofs.Runs.{head_on}
-use Rattle.redo_script.proofs.Handed.{first, step_fails, tokens_taken, end_fails, last_taken}
+use Rattle.redo_script.specs.inside.Passes.{Follows, script_by_tokens}
+use Rattle.redo_script.proofs.RunLemmas.{head_on}
+use Rattle.redo_script.proofs.HandedLemmas.{first, step_fails, tokens_taken, end_fails, last_taken}
 use Rattle.redo_script.proofs.reader.read_statements.Goals as goal
 
 pub loop-left-init : goal.loop-left-init

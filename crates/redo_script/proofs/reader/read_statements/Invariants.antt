@@ -1,7 +1,7 @@
 use Rattle.std.proofs.Common.{◌≤◌, ◌+◌, length}
 use Rattle.redo_script.specs.Reading.{read_on}
-use Rattle.redo_script.specs.Lexer.{reader_of}
-use Rattle.redo_script.specs.Passes.{Follows, script_by_tokens}
+use Rattle.redo_script.specs.inside.Lexer.{reader_of}
+use Rattle.redo_script.specs.inside.Passes.{Follows, script_by_tokens}
 use Rattle.redo_script.proofs.reader.read_statements.Given as goal
 
 abbrev pub invariant-loop-left : goal.invariant-loop-left

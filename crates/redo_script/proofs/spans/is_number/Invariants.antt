@@ -1,5 +1,5 @@
 use Rattle.std.proofs.Common.{◌≡◌, drop}
-use Rattle.redo_script.specs.Runs.{all_digits}
+use Rattle.redo_script.specs.inside.Runs.{all_digits}
 use Rattle.redo_script.proofs.spans.is_number.Given as goal
 
 abbrev pub invariant-loop-byte : goal.invariant-loop-byte

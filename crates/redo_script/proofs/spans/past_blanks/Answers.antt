@@ -1,6 +1,6 @@
 use Rattle.std.proofs.Common.{sym, ◌∙◌, arith}
 use Rattle.std.proofs.lemmas.Grind.{common_steps}
-use Rattle.redo_script.proofs.Runs.{blanks_on}
+use Rattle.redo_script.proofs.RunLemmas.{blanks_on}
 use Rattle.redo_script.proofs.spans.past_blanks.Goals as goal
 
 pub loop-left-preserved : goal.loop-left-preserved

@@ -1,6 +1,6 @@
 use Rattle.std.proofs.Common.{arith}
 use Rattle.std.proofs.lemmas.Grind.{common_steps}
-use Rattle.redo_script.proofs.Runs.{comment_on_to}
+use Rattle.redo_script.proofs.RunLemmas.{comment_on_to}
 use Rattle.redo_script.proofs.spans.past_comment.Goals as goal
 
 pub loop-left-preserved : goal.loop-left-preserved

@@ -1,5 +1,5 @@
 use Rattle.std.proofs.Common.{◌≡◌, true, take}
-use Rattle.redo_script.specs.Runs.{all_quotable}
+use Rattle.redo_script.specs.inside.Runs.{all_quotable}
 use Rattle.redo_script.proofs.spans.quotable_len.Given as goal
 
 abbrev pub invariant-loop-i : goal.invariant-loop-i

@@ -1,5 +1,5 @@
 use Rattle.std.proofs.Common.{sym, ◌∙◌, rules}
-use Rattle.redo_script.proofs.QuotedRuns.{quoted_here}
+use Rattle.redo_script.proofs.QuotedRunLemmas.{quoted_here}
 use Rattle.redo_script.proofs.spans.quoted_alone.Goals as goal
 
 pub returns-clause-reads : goal.returns-clause-reads

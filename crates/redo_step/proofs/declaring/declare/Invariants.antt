@@ -1,5 +1,5 @@
 use Rattle.std.proofs.Common.{◌≡◌, drop}
-use Rattle.redo_step.specs.Meaning.{with_entries}
+use Rattle.redo_record.specs.Entries.{with_entries}
 use Rattle.redo_step.proofs.declaring.declare.Given as goal
 
 abbrev pub invariant-loop-path : goal.invariant-loop-path

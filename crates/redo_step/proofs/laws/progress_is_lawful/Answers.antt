@@ -1,4 +1,4 @@
-use Rattle.redo_step.proofs.Lawful.{script-lawful}
+use Rattle.redo_step.proofs.LawfulScriptLemmas.{script-lawful}
 use Rattle.redo_step.proofs.laws.progress_is_lawful.Goals as goal
 
 pub returns : goal.returns

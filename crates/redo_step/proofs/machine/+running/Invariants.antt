@@ -1,11 +1,11 @@
 use Rattle.std.proofs.Common.{◌+◌, ◌*◌}
 use Rattle.redo_script.specs.Syntax.{finish}
 use Rattle.redo_script.specs.View.{script_of, before}
-use Rattle.redo_step.proofs.Weight.{weight}
+use Rattle.redo_step.proofs.WeightLemmas.{weight}
 use Rattle.redo_step.specs.Place.{skip}
 use Rattle.redo_step.specs.Reach.{Reaches}
-use Rattle.redo_step.specs.Machine.{state_of}
-use Rattle.redo_step.specs.Scene.{scene_setting}
+use Rattle.redo_step.specs.inside.Machine.{state_of}
+use Rattle.redo_step.specs.inside.Scene.{scene_setting}
 use Rattle.redo_step.proofs.machine.+running.Given as goal
 
 abbrev pub invariant-run_from-loop-index : goal.invariant-run_from-loop-index

@@ -1,6 +1,6 @@
 use Rattle.std.proofs.Common.{ap, ◌∙◌}
-use Rattle.redo_step.specs.Meaning.{pieces_of}
-use Rattle.redo_step.proofs.Formats.{piece_goes}
+use Rattle.redo_step.specs.Formats.{pieces_of}
+use Rattle.redo_step.proofs.FormatLemmas.{piece_goes}
 use Rattle.redo_step.proofs.printf.pieces.Goals as goal
 
 pub loop-first-preserved : goal.loop-first-preserved

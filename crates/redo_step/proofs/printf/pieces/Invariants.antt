@@ -1,6 +1,6 @@
 use Rattle.std.proofs.Common.{◌≡◌, length}
-use Rattle.redo_step.specs.Meaning.{pieces_of}
-use Rattle.redo_step.proofs.Formats.{with_pieces}
+use Rattle.redo_step.specs.Formats.{pieces_of}
+use Rattle.redo_step.proofs.FormatLemmas.{with_pieces}
 use Rattle.redo_step.proofs.printf.pieces.Given as goal
 
 abbrev pub invariant-loop-first : goal.invariant-loop-first

@@ -1,5 +1,5 @@
 use Rattle.std.proofs.Common.{sym}
-use Rattle.redo_step.proofs.Rounds.{rounds_begin, next_round, round_takes, last_round, rounds_over}
+use Rattle.redo_step.proofs.RoundLemmas.{rounds_begin, next_round, round_takes, last_round, rounds_over}
 use Rattle.redo_step.proofs.printf.print.Goals as goal
 
 pub loop-left-init : goal.loop-left-init

@@ -1,6 +1,6 @@
 use Rattle.std.proofs.Common.{length}
-use Rattle.redo_step.specs.Meaning.{formatted}
-use Rattle.redo_step.proofs.Rounds.{Rounds}
+use Rattle.redo_step.specs.Formats.{formatted}
+use Rattle.redo_step.proofs.RoundLemmas.{Rounds}
 use Rattle.redo_step.proofs.printf.print.Given as goal
 
 abbrev pub invariant-loop-left : goal.invariant-loop-left

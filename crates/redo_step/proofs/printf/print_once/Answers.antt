@@ -1,6 +1,6 @@
 use Rattle.std.proofs.Common.{◌≡◌, ◌+◌, [], ◌∷◌, drop, arith}
 use Rattle.redo_step.specs.declared.printf.Piece.TheVariants.{Literal, Operand}
-use Rattle.redo_step.proofs.Rounds.{drop_at, drop_split, drop_end, round_literal, round_operand, round_none}
+use Rattle.redo_step.proofs.RoundLemmas.{drop_at, drop_split, drop_end, round_literal, round_operand, round_none}
 use Rattle.redo_step.proofs.printf.print_once.Goals as goal
 use Rattle.redo_step.proofs.printf.print_once.Goals.{in-Literal+in_ok-add-in-Literal, in-Operand+then-printed-texts+in_ok-add-in-Operand, in-Operand+else-printed-texts}
 

@@ -1,6 +1,6 @@
 use Rattle.std.proofs.Common.{◌≤◌, length, drop}
-use Rattle.redo_step.specs.Meaning.{once}
-use Rattle.redo_step.proofs.Rounds.{Round}
+use Rattle.redo_step.specs.Formats.{once}
+use Rattle.redo_step.proofs.RoundLemmas.{Round}
 use Rattle.redo_step.proofs.printf.print_once.Given as goal
 
 abbrev pub invariant-loop-piece : goal.invariant-loop-piece

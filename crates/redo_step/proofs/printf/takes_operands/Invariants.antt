@@ -1,5 +1,5 @@
 use Rattle.std.proofs.Common.{◌≡◌, drop}
-use Rattle.redo_step.specs.Meaning.{takes_operands}
+use Rattle.redo_step.specs.Formats.{takes_operands}
 use Rattle.redo_step.proofs.printf.takes_operands.Given as goal
 
 abbrev pub invariant-loop-piece : goal.invariant-loop-piece

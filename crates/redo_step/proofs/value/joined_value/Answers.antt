@@ -1,7 +1,7 @@
 use Rattle.std.proofs.Common.{rules}
 use Rattle.redo_which.specs.Views.{arguments_view}
 use Rattle.redo_step.specs.Setting.{value_in}
-use Rattle.redo_step.proofs.Values.{adds}
+use Rattle.redo_step.proofs.ValueLemmas.{adds}
 use Rattle.redo_step.proofs.value.joined_value.Goals as goal
 
 pub loop-part-preserved : goal.loop-part-preserved

@@ -2,7 +2,7 @@ use Rattle.std.proofs.Common.{◌≡◌, length, sym, subst, arith}
 use Rattle.std.specs.Prelude.{IfOk}
 use Rattle.redo_which.specs.Views.{arguments_view}
 use Rattle.redo_step.specs.Setting.{value_in}
-use Rattle.redo_step.proofs.Values.{value_of_one}
+use Rattle.redo_step.proofs.ValueLemmas.{value_of_one}
 use Rattle.redo_step.proofs.value.parts_value.Goals as goal
 
 pub returns-in-len1 : goal.returns-in-len1

@@ -1,5 +1,5 @@
 use Rattle.std.proofs.Common.{◌≡◌, [], drop}
-use Rattle.redo_step.specs.Waiting.{any_failure, unanswered}
+use Rattle.redo_step.specs.inside.Waiting.{any_failure, unanswered}
 use Rattle.redo_step.proofs.wait.are_made.Given as goal
 
 -- those so far were made

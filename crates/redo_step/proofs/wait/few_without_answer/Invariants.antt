@@ -1,5 +1,5 @@
 use Rattle.std.proofs.Common.{◌≡◌, [], drop}
-use Rattle.redo_step.specs.Waiting.{unanswered}
+use Rattle.redo_step.specs.inside.Waiting.{unanswered}
 use Rattle.redo_step.proofs.wait.few_without_answer.Given as goal
 
 abbrev pub invariant-loop-path : goal.invariant-loop-path

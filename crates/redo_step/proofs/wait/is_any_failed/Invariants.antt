@@ -1,5 +1,5 @@
 use Rattle.std.proofs.Common.{◌≡◌, drop}
-use Rattle.redo_step.specs.Waiting.{any_failure}
+use Rattle.redo_step.specs.inside.Waiting.{any_failure}
 use Rattle.redo_step.proofs.wait.is_any_failed.Given as goal
 
 abbrev pub invariant-loop-path : goal.invariant-loop-path

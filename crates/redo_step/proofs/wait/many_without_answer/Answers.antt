@@ -1,5 +1,5 @@
 use Rattle.std.proofs.Common.{rules, refl}
-use Rattle.redo_step.proofs.Waiting.{set_goes, some_goes}
+use Rattle.redo_step.proofs.WaitingLemmas.{set_goes, some_goes}
 use Rattle.redo_step.proofs.wait.many_without_answer.Goals as goal
 use Rattle.redo_step.proofs.wait.many_without_answer.Goals.{then-is_none+in_ok-clone+in_ok-insert, else-is_none}
 

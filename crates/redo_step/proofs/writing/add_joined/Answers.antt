@@ -1,6 +1,6 @@
 use Rattle.std.proofs.Common.{◌≡◌, ◌+◌, [], ◌∷◌, drop, sym}
-use Rattle.redo_step.proofs.Adding.{adds-trans, adds-same}
-use Rattle.redo_step.proofs.Rounds.{drop_split, drop_end, joined-spaced, spaced, spaced_goes, spaced_done}
+use Rattle.redo_step.proofs.AddingLemmas.{adds-trans, adds-same}
+use Rattle.redo_step.proofs.RoundLemmas.{drop_split, drop_end, joined-spaced, spaced, spaced_goes, spaced_done}
 use Rattle.redo_step.proofs.writing.add_joined.Goals as goal
 
 pub loop-text-preserved : goal.loop-text-preserved

@@ -1,5 +1,5 @@
 use Rattle.std.proofs.Common.{drop}
-use Rattle.redo_step.proofs.Rounds.{Spaced, spaced}
+use Rattle.redo_step.proofs.RoundLemmas.{Spaced, spaced}
 use Rattle.redo_step.proofs.writing.add_joined.Given as goal
 
 abbrev pub invariant-loop-text : goal.invariant-loop-text

@@ -1,7 +1,7 @@
 use Rattle.std.proofs.Common.{[], ◌∷◌}
-use Rattle.redo_step.specs.Meaning.{joined}
-use Rattle.redo_step.proofs.Adding.{adds-trans}
-use Rattle.redo_step.proofs.Comes.{if_ok_map}
+use Rattle.redo_step.specs.Outputs.{joined}
+use Rattle.redo_step.proofs.AddingLemmas.{adds-trans}
+use Rattle.redo_step.proofs.ComesLemmas.{if_ok_map}
 use Rattle.redo_step.proofs.writing.echo.Goals as goal
 
 pub returns : goal.returns

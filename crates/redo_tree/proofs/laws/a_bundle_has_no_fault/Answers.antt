@@ -1,4 +1,4 @@
-use Rattle.redo_tree.proofs.Once.{never_both}
+use Rattle.redo_tree.proofs.OnceLemmas.{never_both}
 use Rattle.redo_tree.proofs.laws.a_bundle_has_no_fault.Goals as goal
 
 pub returns : goal.returns

@@ -1,4 +1,4 @@
-use Rattle.redo_tree.proofs.Once.{one_tree}
+use Rattle.redo_tree.proofs.OnceLemmas.{one_tree}
 use Rattle.redo_tree.proofs.laws.a_bundle_has_one_tree.Goals as goal
 
 pub returns : goal.returns

@@ -1,4 +1,4 @@
-use Rattle.redo_tree.proofs.Once.{one_fault}
+use Rattle.redo_tree.proofs.OnceLemmas.{one_fault}
 use Rattle.redo_tree.proofs.laws.a_text_has_one_fault.Goals as goal
 
 pub returns : goal.returns

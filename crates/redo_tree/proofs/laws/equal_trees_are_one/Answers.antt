@@ -1,4 +1,4 @@
-use Rattle.redo_tree.proofs.Alike.{alike, same_entries}
+use Rattle.redo_tree.proofs.AlikeLemmas.{alike, same_entries}
 use Rattle.redo_tree.proofs.laws.equal_trees_are_one.Goals as goal
 
 pub returns : goal.returns

@@ -1,6 +1,6 @@
-use Rattle.redo_tree.proofs.Loaded.{loaded_first}
+use Rattle.redo_tree.proofs.LoadedLemmas.{loaded_first}
 use Rattle.redo_tree.specs.Directory.{progress}
-use Rattle.redo_tree.proofs.Texts.{end_text, front_texts}
+use Rattle.redo_tree.proofs.TextLemmas.{end_text, front_texts}
 use Rattle.redo_tree.proofs.loading.load_dir.Goals as goal
 
 pub read_names-requires-clause-text : goal.read_names-requires-clause-text

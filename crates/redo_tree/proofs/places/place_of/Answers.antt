@@ -1,6 +1,6 @@
 use Rattle.std.proofs.Common.{rules, ◌≡◌, true}
 use Rattle.redo_tree.specs.Directory.{is_one_name}
-use Rattle.redo_tree.proofs.EntryNames.{named_at, named_stands}
+use Rattle.redo_tree.proofs.EntryNameLemmas.{named_at, named_stands}
 use Rattle.redo_tree.proofs.places.place_of.Goals as goal
 
 pub returns-in-Ok : goal.returns-in-Ok

@@ -2,9 +2,9 @@ use Rattle.std.proofs.Common.{rules, arith, Ok, sym, subst, IfSome}
 use Rattle.std.proofs.lemmas.Grind.{common_steps}
 use Rattle.std.proofs.lemmas.Result.{err_from_is_err_and}
 use Rattle.redo_tree.specs.Bundle.{Reads}
-use Rattle.redo_tree.proofs.Once.{reads_each}
-use Rattle.redo_tree.proofs.Turns.{Reached, Reached-first, Reached-next, longer, nothing_held, reads_all, reads_fault}
-use Rattle.redo_tree.proofs.Small.{reached_small}
+use Rattle.redo_tree.proofs.OnceLemmas.{reads_each}
+use Rattle.redo_tree.proofs.TurnLemmas.{Reached, Reached-first, Reached-next, longer, nothing_held, reads_all, reads_fault}
+use Rattle.redo_tree.proofs.SmallLemmas.{reached_small}
 use Rattle.redo_tree.proofs.reading.read_bundle_by_line.Goals as goal
 
 pub loop-tree-init : goal.loop-tree-init

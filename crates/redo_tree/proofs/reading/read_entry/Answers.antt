@@ -2,7 +2,7 @@ use Rattle.std.proofs.Common.{arith, ◌≡◌, Some, None}
 use Rattle.std.proofs.lemmas.Grind.{common_steps}
 use Rattle.std.proofs.KnownBytes.{Consumes-nil}
 use Rattle.redo_tree.specs.Bundle.{header_of}
-use Rattle.redo_tree.proofs.Bodies.{adds_directory, adds_file, directory_refuses}
+use Rattle.redo_tree.proofs.BodyLemmas.{adds_directory, adds_file, directory_refuses}
 use Rattle.redo_tree.proofs.reading.read_entry.Goals as goal
 
 pub returns-in-Some-None-default-clause-adds : goal.returns-in-Some-None-default-clause-adds

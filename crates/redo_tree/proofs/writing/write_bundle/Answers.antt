@@ -6,9 +6,9 @@ use Rattle.std.specs.Io.KnownBytes.{Appends}
 use Rattle.std.proofs.KnownBytes.{Appends-nil, Appends-trans}
 use Rattle.redo_tree.specs.Tree.{node_of}
 use Rattle.redo_tree.specs.Bundle.{body_of, spelling}
-use Rattle.redo_tree.proofs.Nodes.{behind_first, seen}
-use Rattle.redo_tree.proofs.Pieces.{Writes-then, Writes-cut, bundle-cut, bundle-end}
-use Rattle.redo_tree.proofs.Written.{read_back}
+use Rattle.redo_tree.proofs.NodeLemmas.{behind_first, seen}
+use Rattle.redo_tree.proofs.PieceLemmas.{Writes-then, Writes-cut, bundle-cut, bundle-end}
+use Rattle.redo_tree.proofs.WrittenLemmas.{read_back}
 use Rattle.redo_tree.proofs.writing.write_bundle.Goals as goal
 
 pub loop-path-init : goal.loop-path-init

@@ -3,7 +3,7 @@ use Rattle.std.proofs.lemmas.Result.{err_from_is_err_and}
 use Rattle.std.specs.Prelude.{Err}
 use Rattle.std.proofs.KnownBytes.{Appends-trans}
 use Rattle.redo_tree.specs.Tree.{node_of}
-use Rattle.redo_tree.proofs.Pieces.{Writes-then, Writes-cut, spelling-cut, spelling-file}
+use Rattle.redo_tree.proofs.PieceLemmas.{Writes-then, Writes-cut, spelling-cut, spelling-file}
 use Rattle.redo_tree.proofs.writing.write_entry.Goals as goal
 
 pub returns-in_err-write_all-clause-writes : goal.returns-in_err-write_all-clause-writes

@@ -3,7 +3,7 @@ use Rattle.std.proofs.lemmas.Grind.{common_steps}
 use Rattle.std.proofs.lemmas.Result.{err_from_is_err_and}
 use Rattle.std.specs.Prelude.{Err}
 use Rattle.std.proofs.KnownBytes.{Appends-trans}
-use Rattle.redo_tree.proofs.Pieces.{Writes-then, Writes-cut, piece-more}
+use Rattle.redo_tree.proofs.PieceLemmas.{Writes-then, Writes-cut, piece-more}
 use Rattle.redo_tree.proofs.writing.write_parts.Goals as goal
 
 pub loop-part-preserved : goal.loop-part-preserved

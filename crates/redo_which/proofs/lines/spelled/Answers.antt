@@ -1,6 +1,6 @@
 use Rattle.std.proofs.Common.{rules, ◌≡◌, ◌++◌, ◌∷◌, ◌∙◌, [], ap, sym, append_assoc, take}
 use Rattle.std.specs.Iterator.Adapters.{take_count, take_source}
-use Rattle.redo_which.specs.Lines.{lines_of}
+use Rattle.redo_which.specs.inside.Lines.{lines_of}
 use Rattle.redo_which.proofs.lines.spelled.Goals as goal
 
 pub loop-spot-preserved : goal.loop-spot-preserved

@@ -4,7 +4,7 @@ use Rattle.redo_path.specs.Names.{parent_of}
 use Rattle.redo_tree.specs.Tree.{Directory, node_at}
 use Rattle.redo_which.specs.Rule.{Rule, chosen_of, missing_of}
 use Rattle.redo_which.specs.Views.{place_of}
-use Rattle.redo_which.proofs.Rules.{counted_missing, rule_found}
+use Rattle.redo_which.proofs.RuleLemmas.{counted_missing, rule_found}
 use Rattle.redo_which.proofs.lookup.find.Goals as goal
 
 -- The rule was found, and each of its parts is as it is meant.

@@ -1,8 +1,7 @@
-use Rattle.std.proofs.Common.{arith, ◌≡◌, ◌∙◌, ◌+◌, false, sym}
-use Rattle.std.proofs.Common.{rules}
-use Rattle.redo_which.specs.Passed.{Passes}
+use Rattle.std.proofs.Common.{arith, ◌≡◌, ◌∙◌, ◌+◌, false, sym, rules}
+use Rattle.redo_which.specs.inside.Passed.{Passes}
 use Rattle.redo_which.specs.Rule.{is_file}
-use Rattle.redo_which.proofs.Passed.{passes-chosen, passes-few, passes-first, passes-missing, passes-more}
+use Rattle.redo_which.proofs.PassedLemmas.{passes-chosen, passes-few, passes-first, passes-missing, passes-more}
 use Rattle.redo_which.proofs.lookup.first_file.Goals as goal
 
 pub loop-spot-preserved : goal.loop-spot-preserved

@@ -1,7 +1,7 @@
 use Rattle.std.proofs.Common.{◌<◌, subst, arith, length, take, ap, ◌∙◌, sym, [], ◌∷◌, ◌++◌}
 use Rattle.std.proofs.lemmas.Grind.{common_steps}
 use Rattle.redo_path.specs.Names.{IsName, IsPath, names}
-use Rattle.redo_path.proofs.Parts.{AllByRecursion-up, parent_of-start, names-parent, name_of-start}
+use Rattle.redo_path.proofs.PartLemmas.{AllByRecursion-up, parent_of-start, names-parent, name_of-start}
 use Rattle.redo_which.proofs.spot.upper.Goals as goal
 
 pub returns-clause-text : goal.returns-clause-text

@@ -1,6 +1,6 @@
 use Rattle.std.proofs.Common.{◌∙◌, Some, sym}
 use Rattle.redo_path.specs.Names.{name_of}
-use Rattle.redo_which.proofs.Stems.{above-first, above-next}
+use Rattle.redo_which.proofs.StemLemmas.{above-first, above-next}
 use Rattle.redo_which.proofs.spots.above.Goals as goal
 
 pub returns-in-Some-clause-left : goal.returns-in-Some-clause-left

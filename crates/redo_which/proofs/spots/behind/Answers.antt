@@ -1,7 +1,7 @@
 use Rattle.std.proofs.Common.{◌++◌, ◌∙◌, ap, arith, sym}
 use Rattle.std.proofs.lemmas.Grind.{common_steps}
-use Rattle.redo_which.specs.Stems.{stems_above, stems_by}
-use Rattle.redo_which.proofs.Stems.{shorter-none}
+use Rattle.redo_which.specs.inside.Stems.{stems_above, stems_by}
+use Rattle.redo_which.proofs.StemLemmas.{shorter-none}
 use Rattle.redo_which.proofs.spots.behind.Goals as goal
 
 pub returns-then-is_empty-clause-left : goal.returns-then-is_empty-clause-left

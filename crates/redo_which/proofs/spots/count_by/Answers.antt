@@ -1,5 +1,5 @@
 use Rattle.std.proofs.Common.{◌∙◌, arith, sym}
-use Rattle.redo_which.proofs.Passed.{count-all, few-dots}
+use Rattle.redo_which.proofs.PassedLemmas.{count-all, few-dots}
 use Rattle.redo_which.proofs.spots.count_by.Goals as goal
 
 pub overflow_add-result : goal.overflow_add-result

@@ -1,8 +1,8 @@
 use Rattle.std.proofs.Common.{arith, ◌≡◌, ◌∙◌, ap, length, sym}
 use Rattle.std.proofs.lemmas.Grind.{common_steps}
-use Rattle.redo_which.specs.Stems.{shorter, stems_by}
-use Rattle.redo_which.proofs.Passed.{count-fits, count-none, shorter-some}
-use Rattle.redo_which.proofs.Stems.{flat, shorter-none}
+use Rattle.redo_which.specs.inside.Stems.{shorter, stems_by}
+use Rattle.redo_which.proofs.PassedLemmas.{count-fits, count-none, shorter-some}
+use Rattle.redo_which.proofs.StemLemmas.{flat, shorter-none}
 use Rattle.redo_which.proofs.spots.count_each.Goals as goal
 use Rattle.redo_which.proofs.spots.count_each.Goals.{then-fits, else-fits}
 

@@ -1,8 +1,8 @@
 use Rattle.std.proofs.Common.{◌≡◌, ◌≤◌, ◌+◌, length}
 use Rattle.redo_path.specs.Names.{IsPart}
 use Rattle.redo_which.specs.Candidates.{suffixes}
-use Rattle.redo_which.specs.Stems.{stems_by}
-use Rattle.redo_which.proofs.Stems.{flat}
+use Rattle.redo_which.specs.inside.Stems.{stems_by}
+use Rattle.redo_which.proofs.StemLemmas.{flat}
 use Rattle.redo_which.proofs.spots.count_each.Given as goal
 
 -- those so far, with those by the suffixes of what is left, are all

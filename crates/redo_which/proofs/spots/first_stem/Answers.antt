@@ -1,6 +1,6 @@
 use Rattle.std.proofs.Common.{◌∙◌, ap, cond, sym, []}
-use Rattle.redo_which.specs.Distinct.{distinct_places}
-use Rattle.redo_which.proofs.Stems.{flat-whole}
+use Rattle.redo_which.specs.inside.Distinct.{distinct_places}
+use Rattle.redo_which.proofs.StemLemmas.{flat-whole}
 use Rattle.redo_which.proofs.spots.first_stem.Goals as goal
 
 pub returns-else-ends_with-clause-left : goal.returns-else-ends_with-clause-left

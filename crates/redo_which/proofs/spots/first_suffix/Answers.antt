@@ -1,9 +1,8 @@
-use Rattle.std.proofs.Common.{◌≡◌, ◌-◌, ◌∷◌, drop, length, sym, subst, take}
-use Rattle.std.proofs.Common.{arith}
+use Rattle.std.proofs.Common.{◌≡◌, ◌-◌, ◌∷◌, drop, length, sym, subst, take, arith}
 use Rattle.std.proofs.lemmas.Grind.{common_steps}
 use Rattle.redo_which.specs.Candidates.{suffixes}
-use Rattle.redo_which.specs.Stems.{shorter}
-use Rattle.redo_which.proofs.Stems.{first-suffix}
+use Rattle.redo_which.specs.inside.Stems.{shorter}
+use Rattle.redo_which.proofs.StemLemmas.{first-suffix}
 use Rattle.redo_which.proofs.spots.first_suffix.Goals as goal
 
 pub returns-clause-first : goal.returns-clause-first

@@ -1,8 +1,8 @@
 use Rattle.std.proofs.Common.{◌≡◌, ◌∙◌, ◌++◌, ap, subst, sym}
 use Rattle.redo_path.specs.Names.{IsPart}
 use Rattle.redo_which.specs.Candidates.{suffixes}
-use Rattle.redo_which.specs.Stems.{IsNext, stems_by, stems_left}
-use Rattle.redo_which.proofs.Passed.{fewer-by, passes-by}
+use Rattle.redo_which.specs.inside.Stems.{IsNext, stems_by, stems_left}
+use Rattle.redo_which.proofs.PassedLemmas.{fewer-by, passes-by}
 use Rattle.redo_which.proofs.spots.past_bare.Goals as goal
 
 pub returns-clause-passes : goal.returns-clause-passes

@@ -1,7 +1,7 @@
-use Rattle.redo_core.specs.Reported.{IsReportOf}
-use Rattle.redo_core.specs.Reports.{IsReport}
+use Rattle.redo_core.specs.inside.Reported.{IsReportOf}
+use Rattle.redo_report.specs.Reports.{IsReport}
 use Rattle.redo_core.specs.Views.{rules_on}
-use Rattle.redo_core.proofs.Reported.{if_ok-more, quiet-inside, report-view, settled-inside, told-inside}
+use Rattle.redo_core.proofs.ReportedLemmas.{if_ok-more, quiet-inside, report-view, settled-inside, told-inside}
 use Rattle.redo_core.proofs.board.Board.finish.Goals as goal
 
 pub report_of-requires-clause-settled : goal.report_of-requires-clause-settled
@@ -15,7 +15,7 @@ report_of-requires-clause-one_each c =
     (c.self.invariant.kept quiet.0).table.one_each
 
 pub returns : goal.returns
-returns c = if_ok-more c.report_of.result (IsReportOf c.deref.result.now c.deref-2.result.now c.self.inside.table) (IsReport (rules_on c.args.self) c.args.self.request c.args.self.limits.0)
+returns c = if_ok-more c.report_of.result (IsReportOf c.deref.result.now c.deref-2.result.now c.self.inside.table) (IsReport (rules_on c.args.self) c.args.self.request c.args.self.limits.targets)
     (λ report made. report-view c.self.inside c.self.invariant.kept c.args.self c.self.view_is c.requires c.deref.result.now c.deref-2.result.now c.deref.ensures c.deref-2.ensures.value report made)
     c.report_of.ensures
 

@@ -1,10 +1,10 @@
 use Rattle.std.proofs.Common.{rules, ◌≡◌, ◌≤◌, ℕ, List, Option, Some, None, Ok, Err, IsNone, MatchOption, length, refl, sym, ap, subst, ◌∙◌, arith}
 use Rattle.std.specs.Arc.{arc_value}
 use Rattle.redo_tree.specs.Tree.{Tree}
-use Rattle.redo_core.specs.Schedule.{IsOutAt}
-use Rattle.redo_core.specs.Ends.{IsEndAt}
+use Rattle.redo_build.specs.Schedule.{IsOutAt}
+use Rattle.redo_core.specs.inside.Ends.{IsEndAt}
 use Rattle.redo_core.specs.Faults.{fault_of, Refused, RefusedRunning}
-use Rattle.redo_core.specs.Slots.{IsKept, IsOutSlotAt, state_of}
+use Rattle.redo_core.specs.inside.Slots.{IsKept, IsOutSlotAt, state_of}
 use Rattle.redo_core.specs.Views.{BoardView, PieceView}
 use Rattle.redo_core.specs.declared.board.Stop.{Stop}
 use Rattle.redo_core.specs.declared.board.Stop.TheVariants.{TooMany}
@@ -12,10 +12,11 @@ use Rattle.redo_core.specs.declared.board.HandFault.{HandFault}
 use Rattle.redo_core.specs.declared.board.HandFault.TheVariants.{Stranger}
 use Rattle.redo_core.proofs.SlotLemmas.{IsNone-from}
 use Rattle.redo_core.proofs.TakeLemmas.{view_of, distinct-inside, part-inside, length-entries}
-use Rattle.redo_core.proofs.BoardCounts.{one_fewer, left_no_more}
-use Rattle.redo_core.proofs.HandIn.{taken-state, open-out, may-take, taken-kept, too-many-after, stranger, none-stopped, refused-after}
+use Rattle.redo_core.proofs.BoardCountLemmas.{one_fewer, left_no_more}
+use Rattle.redo_core.proofs.HandInLemmas.{taken-state, open-out, may-take, taken-kept, too-many-after, stranger, none-stopped, refused-after}
 use Rattle.redo_core.proofs.board.Board.hand_in.Goals as goal
 use Rattle.redo_core.proofs.board.Board.hand_in.Goals.{In_default, In-Some-out_at}
+use Rattle.redo_step.specs.Limits.{LimitsView}
 
 on : (c : In_default) → c.self.inside.stopped ≡ None
 on c = none-stopped c.self.inside.stopped c.in_default.not-Some
@@ -55,7 +56,7 @@ take_in-requires c =
     let tree : c.args.piece.tree ≡ arc_value b.tree = c.requires.0 ∙ ap (λ (v : BoardView). v.tree) (sym c.self.view_is) in
     let limits : c.args.piece.limits ≡ b.limits = c.requires.1 ∙ ap (λ (v : BoardView). v.limits) (sym c.self.view_is) in
     let A : Tree → Type 0 = λ t. IsEndAt t c.args.piece.limits c.args.piece.target c.args.piece.turn c.into_end.result in
-    let B : ℕ × ℕ → Type 0 = λ l. IsEndAt (arc_value b.tree) l c.args.piece.target c.args.piece.turn c.into_end.result in
+    let B : LimitsView → Type 0 = λ l. IsEndAt (arc_value b.tree) l c.args.piece.target c.args.piece.turn c.into_end.result in
     may-take b (kept d) c.args.piece.target c.args.piece.turn c.in-Some-out_at.at (slot e) c.into_end.result (subst B limits (subst A tree c.into_end.ensures))
 
 pub invariant_of-self : goal.invariant_of-self

@@ -1,12 +1,12 @@
 use Rattle.std.proofs.Common.{rules, ◌≡◌, ◌<◌, cond, map, is_some, length, slice_get, Some, sym, ap, subst, ◌∙◌, refl}
-use Rattle.redo_core.specs.Slots.{IsKept, path_at, state_of}
+use Rattle.redo_core.specs.inside.Slots.{IsKept, path_at, state_of}
 use Rattle.redo_core.proofs.SlotLemmas.{slice_get-item}
 use Rattle.redo_core.proofs.TakeLemmas.{fits_one_more, found_job, taken_state, work_taken, running, first_item, kept-taken, below_items, turn_small, part-inside}
 use Rattle.redo_core.proofs.TableLemmas.{slice_get-place}
 use Rattle.redo_core.specs.Views.{BoardView, WorkView, IsWorkTaken, jobs_out}
-use Rattle.redo_core.specs.Schedule.{IsOutAt}
-use Rattle.redo_core.specs.TakesLeft.{takes_left}
-use Rattle.redo_core.proofs.BoardCounts.{work_out, one_more, left_less}
+use Rattle.redo_build.specs.Schedule.{IsOutAt}
+use Rattle.redo_build.specs.TakesLeft.{takes_left}
+use Rattle.redo_core.proofs.BoardCountLemmas.{work_out, one_more, left_less}
 use Rattle.std.specs.Arc.{arc_value}
 use Rattle.redo_core.proofs.board.Board.take.Goals as goal
 use Rattle.redo_core.proofs.board.Board.take.Goals.{After-replace-stage}
@@ -66,8 +66,8 @@ pub returns-clause-turn : goal.returns-clause-turn
 returns-clause-turn c =
     let d = (goal.at-returns-clause-turn c).After-replace-stage in
     let b = d.self.inside in
-    let P : BoardView → Type 0 = λ v. c.in-Ready.work.turn < v.limits.0 in
-    let W : WorkView → Type 0 = λ w. w.turn < c.args.self.now.limits.0 in
+    let P : BoardView → Type 0 = λ v. c.in-Ready.work.turn < v.limits.targets in
+    let W : WorkView → Type 0 = λ w. w.turn < c.args.self.now.limits.targets in
     subst W (sym c.numbered.ensures.same) (subst P c.self.view_is (turn_small b (kept d) d.args.which d.in-Some.at d.index_mut-slot.result.now (first d) (there d)
     c.in-Ready.work (sym c.replace-stage.ensures.value ∙ c.in-Ready.is)))
 
@@ -103,5 +103,5 @@ returns-clause-one_more c =
 pub returns-clause-left : goal.returns-clause-left
 returns-clause-left c =
     let d = (goal.at-returns-clause-left c).After-replace-stage in
-    let P : BoardView → Type 0 = λ v. takes_left v.limits.0 v.state < takes_left c.args.self.now.limits.0 c.args.self.now.state in
+    let P : BoardView → Type 0 = λ v. takes_left v.limits.targets v.state < takes_left c.args.self.now.limits.targets c.args.self.now.state in
     subst P (sym (returns-clause-ok c)) (left_less d.self.inside (kept d) (running d.self.inside.stopped _ d.args.which (count d)) d.args.which (below d) _ d.self.view_is)

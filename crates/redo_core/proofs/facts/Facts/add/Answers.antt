@@ -1,7 +1,7 @@
 use Rattle.std.proofs.Common.{◌≡◌, refl, ap, ◌∙◌}
 use Rattle.std.specs.Arc.{arc_value}
 use Rattle.redo_core.specs.Views.{FactView}
-use Rattle.redo_core.specs.Works.{more_known}
+use Rattle.redo_core.specs.inside.Works.{more_known}
 use Rattle.redo_core.proofs.GainSteps.{adds-few, adds-more, more-told}
 use Rattle.redo_core.proofs.facts.Facts.add.Goals as goal
 

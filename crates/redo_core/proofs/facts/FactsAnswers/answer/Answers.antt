@@ -2,9 +2,9 @@ use Rattle.std.proofs.Common.{◌≡◌, bytes_eq, Option, Some, refl, sym, ap, 
 use Rattle.std.specs.Prelude.{option_map}
 use Rattle.std.specs.Arc.{arc_value}
 use Rattle.std.specs.Map.{lookup}
-use Rattle.redo_step.specs.declared.outcome.Outcome.{Outcome}
+use Rattle.redo_record.specs.declared.outcome.Outcome.{Outcome}
 use Rattle.redo_core.specs.Views.{FactView}
-use Rattle.redo_core.specs.Works.{told_in, few_known, entries_known, more_known}
+use Rattle.redo_core.specs.inside.Works.{told_in, few_known, entries_known, more_known}
 use Rattle.redo_core.proofs.FactLemmas.{first_of, lookup-append, lookup-known}
 use Rattle.redo_core.proofs.facts.FactsAnswers.answer.Goals as goal
 use Rattle.redo_core.proofs.facts.FactsAnswers.answer.Goals.{After-get}

@@ -1,8 +1,8 @@
 use Rattle.std.proofs.Common.{subst}
 use Rattle.std.specs.Arc.{arc_value}
 use Rattle.redo_core.specs.Views.{WorkView}
-use Rattle.redo_core.specs.Works.{HoldsOutcomes}
-use Rattle.redo_core.proofs.Holding.{script-holds}
+use Rattle.redo_core.specs.inside.Works.{HoldsOutcomes}
+use Rattle.redo_core.proofs.HoldingLemmas.{script-holds}
 use Rattle.redo_core.proofs.work.Work.numbered.Goals as goal
 
 pub returns-clause-holds : goal.returns-clause-holds

@@ -1,5 +1,5 @@
 use Rattle.std.proofs.Common.{sym, ◌∙◌}
-use Rattle.redo_script.proofs.Spelled.{spelled_bytes}
+use Rattle.redo_script.proofs.SpelledLemmas.{spelled_bytes}
 use Rattle.redo_script.proofs.item.Item.spells.Goals as goal
 
 pub returns-in-Lent : goal.returns-in-Lent

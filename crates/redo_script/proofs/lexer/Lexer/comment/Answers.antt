@@ -1,8 +1,8 @@
 use Rattle.std.proofs.Common.{refl}
 use Rattle.redo_script.specs.declared.lexer.Mode.TheVariants as modes
-use Rattle.redo_script.specs.Lexer.{reader_of}
-use Rattle.redo_script.proofs.OneByte.{at}
-use Rattle.redo_script.proofs.Runs.{comment_begun}
+use Rattle.redo_script.specs.inside.Lexer.{reader_of}
+use Rattle.redo_script.proofs.OneByteLemmas.{at}
+use Rattle.redo_script.proofs.RunLemmas.{comment_begun}
 use Rattle.redo_script.proofs.lexer.Lexer.comment.Goals as goal
 
 pub returns-clause-reads : goal.returns-clause-reads

@@ -1,7 +1,7 @@
 use Rattle.std.proofs.Common.{◌≡◌, ◌++◌, rules, refl, arith, inr}
 use Rattle.std.proofs.lemmas.Grind.{common_steps}
-use Rattle.redo_script.specs.Lexer.{reader_of}
-use Rattle.redo_script.proofs.QuotedRuns.{piece_taken, quoted_taken}
+use Rattle.redo_script.specs.inside.Lexer.{reader_of}
+use Rattle.redo_script.proofs.QuotedRunLemmas.{piece_taken, quoted_taken}
 use Rattle.redo_script.proofs.lexer.Lexer.double_run.Goals as goal
 
 pub returns-then-matches-clause-reads : goal.returns-then-matches-clause-reads

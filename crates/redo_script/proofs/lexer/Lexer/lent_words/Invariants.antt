@@ -1,7 +1,7 @@
 use Rattle.std.proofs.Common.{◌≡◌, ◌≤◌, length}
 use Rattle.redo_script.specs.declared.lexer.Mode.TheVariants as modes
 use Rattle.redo_script.specs.Reading.{read_on}
-use Rattle.redo_script.specs.Lexer.{reader_of}
+use Rattle.redo_script.specs.inside.Lexer.{reader_of}
 use Rattle.redo_script.proofs.lexer.Lexer.lent_words.Given as goal
 
 abbrev pub invariant-loop-left : goal.invariant-loop-left

@@ -1,8 +1,8 @@
 use Rattle.std.proofs.Common.{◌≡◌, ◌++◌, ◌&&◌, rules, refl, arith}
 use Rattle.std.proofs.lemmas.Grind.{common_steps}
-use Rattle.redo_script.specs.Lexer.{reader_of}
-use Rattle.redo_script.specs.Runs.{all_digits}
-use Rattle.redo_script.proofs.Runs.{bytes_taken}
+use Rattle.redo_script.specs.inside.Lexer.{reader_of}
+use Rattle.redo_script.specs.inside.Runs.{all_digits}
+use Rattle.redo_script.proofs.RunLemmas.{bytes_taken}
 use Rattle.redo_script.proofs.lexer.Lexer.plain_bytes.Goals.{then-self, else-self}
 use Rattle.redo_script.proofs.lexer.Lexer.plain_bytes.Goals as goal
 

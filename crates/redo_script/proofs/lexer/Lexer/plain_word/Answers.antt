@@ -1,6 +1,6 @@
 use Rattle.std.proofs.Common.{sym, ◌∙◌}
-use Rattle.redo_script.specs.Lexer.{reader_of}
-use Rattle.redo_script.proofs.Runs.{word_taken}
+use Rattle.redo_script.specs.inside.Lexer.{reader_of}
+use Rattle.redo_script.proofs.RunLemmas.{word_taken}
 use Rattle.redo_script.proofs.lexer.Lexer.plain_word.Goals as goal
 
 pub returns-clause-reads : goal.returns-clause-reads

@@ -1,7 +1,7 @@
 use Rattle.std.proofs.Common.{◌≡◌, ◌++◌, rules, refl, arith}
 use Rattle.std.proofs.lemmas.Grind.{common_steps}
-use Rattle.redo_script.specs.Lexer.{reader_of}
-use Rattle.redo_script.proofs.QuotedRuns.{quoted_taken}
+use Rattle.redo_script.specs.inside.Lexer.{reader_of}
+use Rattle.redo_script.proofs.QuotedRunLemmas.{quoted_taken}
 use Rattle.redo_script.proofs.lexer.Lexer.quoted_bytes.Goals as goal
 
 pub returns-clause-reads : goal.returns-clause-reads

@@ -1,6 +1,6 @@
 use Rattle.std.proofs.Common.{sym, ◌∙◌}
-use Rattle.redo_script.specs.Lexer.{reader_of}
-use Rattle.redo_script.proofs.QuotedRuns.{parameter_taken}
+use Rattle.redo_script.specs.inside.Lexer.{reader_of}
+use Rattle.redo_script.proofs.QuotedRunLemmas.{parameter_taken}
 use Rattle.redo_script.proofs.lexer.Lexer.quoted_parameter.Goals as goal
 
 pub returns-clause-reads : goal.returns-clause-reads

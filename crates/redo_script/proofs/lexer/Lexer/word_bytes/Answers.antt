@@ -1,6 +1,6 @@
 use Rattle.std.proofs.Common.{sym, ◌∙◌}
-use Rattle.redo_script.specs.Lexer.{reader_of}
-use Rattle.redo_script.proofs.Runs.{word_over}
+use Rattle.redo_script.specs.inside.Lexer.{reader_of}
+use Rattle.redo_script.proofs.RunLemmas.{word_over}
 use Rattle.redo_script.proofs.lexer.Lexer.word_bytes.Goals as goal
 
 pub returns-clause-reads : goal.returns-clause-reads

@@ -1,6 +1,6 @@
 use Rattle.std.proofs.Common.{◌≡◌, ◌++◌, drop, map}
 use Rattle.redo_script.specs.Syntax.{byte, Word}
-use Rattle.redo_script.specs.Parser.{status_on}
+use Rattle.redo_script.specs.inside.Parser.{status_on}
 use Rattle.redo_script.proofs.number.Number.past_bytes.Given as goal
 
 abbrev pub invariant-loop-byte : goal.invariant-loop-byte

@@ -1,6 +1,6 @@
 use Rattle.std.proofs.Common.{◌≡◌, ◌+◌, ◌*◌, ◌-◌, ◌<◌, true, sym, ◌∙◌, arith}
 use Rattle.redo_script.specs.Bytes.{is_digit}
-use Rattle.redo_script.proofs.Numbers.{too_large}
+use Rattle.redo_script.proofs.NumberLemmas.{too_large}
 use Rattle.redo_script.proofs.number.Number.past_digit.Goals as goal
 
 pub returns-in_err-checked_mul : goal.returns-in_err-checked_mul

@@ -1,6 +1,6 @@
 use Rattle.std.proofs.Common.{◌≡◌, drop}
 use Rattle.redo_script.specs.View.{symbols_of}
-use Rattle.redo_script.specs.Parser.{status_on}
+use Rattle.redo_script.specs.inside.Parser.{status_on}
 use Rattle.redo_script.proofs.number.Number.past_parts.Given as goal
 
 abbrev pub invariant-loop-part : goal.invariant-loop-part

@@ -1,4 +1,4 @@
-use Rattle.redo_script.proofs.Words.{number_alone}
+use Rattle.redo_script.proofs.WordLemmas.{number_alone}
 use Rattle.redo_script.proofs.number.Number.past_word.Goals as goal
 
 pub returns-in-Literal : goal.returns-in-Literal

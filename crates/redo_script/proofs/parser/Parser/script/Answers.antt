@@ -1,5 +1,5 @@
 use Rattle.std.proofs.Common.{[], refl, inr}
-use Rattle.redo_script.proofs.Statements.{stack_push}
+use Rattle.redo_script.proofs.StatementLemmas.{stack_push}
 use Rattle.redo_script.proofs.parser.Parser.script.Goals as goal
 
 pub returns-in-Some : goal.returns-in-Some

@@ -2,9 +2,9 @@ use Rattle.std.proofs.Common.{◌++◌, arith, length, ap, map}
 use Rattle.std.proofs.lemmas.List.{nil_from_length}
 use Rattle.std.proofs.lemmas.Result.{err_from_is_err_and}
 use Rattle.std.specs.Vec.Iter.{into_iter_items}
-use Rattle.redo_script.specs.Lexer.{token_of}
-use Rattle.redo_script.specs.Parser.{parser_of}
-use Rattle.redo_script.proofs.ReadTokens.{token_read, token_fails}
+use Rattle.redo_script.specs.inside.Lexer.{token_of}
+use Rattle.redo_script.specs.inside.Parser.{parser_of}
+use Rattle.redo_script.proofs.ReadTokenLemmas.{token_read, token_fails}
 use Rattle.redo_script.proofs.parser.Parser.tokens.Goals as goal
 
 pub loop-token-preserved : goal.loop-token-preserved

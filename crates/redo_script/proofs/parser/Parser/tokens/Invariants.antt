@@ -3,8 +3,8 @@ use Rattle.std.specs.Vec.Iter.{into_iter_items, into_iter_len}
 use Rattle.redo_script.specs.declared.fault.ScriptFault.{ScriptFault}
 use Rattle.redo_script.specs.Syntax.{Script}
 use Rattle.redo_script.specs.Tokens.{Token}
-use Rattle.redo_script.specs.Lexer.{token_of}
-use Rattle.redo_script.specs.Parser.{parser_of}
+use Rattle.redo_script.specs.inside.Lexer.{token_of}
+use Rattle.redo_script.specs.inside.Parser.{parser_of}
 use Rattle.redo_script.specs.Parsing.{parse_on}
 use Rattle.redo_script.proofs.parser.Parser.tokens.Given as goal
 

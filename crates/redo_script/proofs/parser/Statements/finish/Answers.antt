@@ -1,4 +1,4 @@
-use Rattle.redo_script.proofs.ReadTokens.{is_done}
+use Rattle.redo_script.proofs.ReadTokenLemmas.{is_done}
 use Rattle.redo_script.proofs.parser.Statements.finish.Goals as goal
 
 pub returns-in-None : goal.returns-in-None

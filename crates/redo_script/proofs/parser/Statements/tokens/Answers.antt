@@ -1,7 +1,7 @@
 use Rattle.std.proofs.Common.{◌∙◌, ◌++◌, [], map, refl, sym}
-use Rattle.redo_script.specs.Lexer.{token_of}
-use Rattle.redo_script.specs.Parser.{parser_of}
-use Rattle.redo_script.proofs.ReadTokens.{is_read, is_none, is_kept, is_wanting}
+use Rattle.redo_script.specs.inside.Lexer.{token_of}
+use Rattle.redo_script.specs.inside.Parser.{parser_of}
+use Rattle.redo_script.proofs.ReadTokenLemmas.{is_read, is_none, is_kept, is_wanting}
 use Rattle.redo_script.proofs.parser.Statements.tokens.Goals as goal
 
 pub returns-in-Ok : goal.returns-in-Ok

@@ -2,11 +2,11 @@ use Rattle.std.proofs.Common.{◌∙◌, refl, sym, ap}
 use Rattle.redo_step.specs.contracts.job.Job.{the_view}
 use Rattle.std.specs.Arc.{arc_value}
 use Rattle.redo_step.specs.declared.job.Course.{Course}
-use Rattle.redo_step.proofs.Advance.{ended_well, ended, asks}
+use Rattle.redo_step.proofs.AdvanceLemmas.{ended_well, ended, asks}
 use Rattle.redo_script.specs.View.{script_of}
 use Rattle.redo_step.specs.Parsed.{parsed_of}
-use Rattle.redo_step.proofs.Comes.{if_ok_map}
-use Rattle.redo_step.proofs.Kept.{same_kept}
+use Rattle.redo_step.proofs.ComesLemmas.{if_ok_map}
+use Rattle.redo_step.proofs.KeptLemmas.{same_kept}
 use Rattle.redo_step.proofs.job.Job.advance.Goals as goal
 
 pub returns-in-Finished : goal.returns-in-Finished

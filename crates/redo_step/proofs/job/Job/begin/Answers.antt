@@ -1,4 +1,4 @@
-use Rattle.redo_step.proofs.Advance.{begun_fits}
+use Rattle.redo_step.proofs.AdvanceLemmas.{begun_fits}
 use Rattle.redo_step.proofs.job.Job.begin.Goals as goal
 
 pub returns-clause-fits : goal.returns-clause-fits

@@ -1,7 +1,7 @@
 use Rattle.std.proofs.Common.{◌≡◌, ◌+◌, ◌∷◌, drop}
 use Rattle.std.proofs.lemmas.Result.{err_from_is_err_and}
-use Rattle.redo_step.specs.Scene.{scene_setting}
-use Rattle.redo_step.proofs.Rounds.{drop_split, catted_begins, catted_goes, catted_stops}
+use Rattle.redo_step.specs.inside.Scene.{scene_setting}
+use Rattle.redo_step.proofs.RoundLemmas.{drop_split, catted_begins, catted_goes, catted_stops}
 use Rattle.redo_step.proofs.scene.Scene.cat.Goals as goal
 
 pub loop-text-init : goal.loop-text-init

@@ -1,7 +1,7 @@
 use Rattle.std.proofs.Common.{drop}
-use Rattle.redo_step.specs.Meaning.{contents_of}
-use Rattle.redo_step.specs.Scene.{scene_setting}
-use Rattle.redo_step.proofs.Rounds.{Catted}
+use Rattle.redo_step.specs.Reading.{contents_of}
+use Rattle.redo_step.specs.inside.Scene.{scene_setting}
+use Rattle.redo_step.proofs.RoundLemmas.{Catted}
 use Rattle.redo_step.proofs.scene.Scene.cat.Given as goal
 
 abbrev pub invariant-loop-text : goal.invariant-loop-text

@@ -1,8 +1,8 @@
 use Rattle.std.proofs.Common.{rules, refl}
 use Rattle.redo_script.specs.View.{words_of}
-use Rattle.redo_step.specs.Machine.{state_of}
-use Rattle.redo_step.specs.Scene.{scene_setting}
-use Rattle.redo_step.proofs.Waiting.{changed_passes}
+use Rattle.redo_step.specs.inside.Machine.{state_of}
+use Rattle.redo_step.specs.inside.Scene.{scene_setting}
+use Rattle.redo_step.proofs.WaitingLemmas.{changed_passes}
 use Rattle.redo_step.proofs.scene.Scene.change.Goals as goal
 
 pub returns : goal.returns

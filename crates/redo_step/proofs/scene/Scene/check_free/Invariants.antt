@@ -1,6 +1,6 @@
 use Rattle.std.proofs.Common.{◌≡◌, drop}
-use Rattle.redo_step.specs.Meaning.{obstacle}
-use Rattle.redo_step.specs.Scene.{scene_setting}
+use Rattle.redo_step.specs.Declaring.{obstacle}
+use Rattle.redo_step.specs.inside.Scene.{scene_setting}
 use Rattle.redo_step.proofs.scene.Scene.check_free.Given as goal
 
 abbrev pub invariant-loop-path : goal.invariant-loop-path

@@ -1,6 +1,6 @@
 use Rattle.std.proofs.lemmas.Result.{err_from_is_err_and}
-use Rattle.redo_step.specs.Machine.{state_of}
-use Rattle.redo_step.proofs.Writes.{stops_status, status_true, status_false}
+use Rattle.redo_step.specs.inside.Machine.{state_of}
+use Rattle.redo_step.proofs.WriteLemmas.{stops_status, status_true, status_false}
 use Rattle.redo_step.proofs.scene.Scene.command.Goals as goal
 
 pub returns-in_err-tested-in-Test : goal.returns-in_err-tested-in-Test

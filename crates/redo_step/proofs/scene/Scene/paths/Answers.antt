@@ -1,6 +1,6 @@
 use Rattle.std.proofs.Common.{◌∙◌, sym}
-use Rattle.redo_step.specs.Scene.{scene_setting}
-use Rattle.redo_step.proofs.Loops.{none_before, paths_each}
+use Rattle.redo_step.specs.inside.Scene.{scene_setting}
+use Rattle.redo_step.proofs.LoopLemmas.{none_before, paths_each}
 use Rattle.redo_step.proofs.scene.Scene.paths.Goals as goal
 
 pub loop-text-init : goal.loop-text-init

@@ -1,7 +1,7 @@
 use Rattle.std.proofs.Common.{◌≡◌, drop}
-use Rattle.redo_step.specs.Meaning.{paths_of}
-use Rattle.redo_step.specs.Scene.{scene_setting}
-use Rattle.redo_step.proofs.Loops.{after_front, each_of, text_path}
+use Rattle.redo_step.specs.Words.{paths_of}
+use Rattle.redo_step.specs.inside.Scene.{scene_setting}
+use Rattle.redo_step.proofs.LoopLemmas.{after_front, each_of, text_path}
 use Rattle.redo_step.proofs.scene.Scene.paths.Given as goal
 
 abbrev pub invariant-loop-text : goal.invariant-loop-text

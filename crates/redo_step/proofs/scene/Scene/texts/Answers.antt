@@ -1,6 +1,6 @@
 use Rattle.std.proofs.Common.{◌∙◌, sym}
-use Rattle.redo_step.specs.Scene.{scene_setting}
-use Rattle.redo_step.proofs.Loops.{none_before, texts_each}
+use Rattle.redo_step.specs.inside.Scene.{scene_setting}
+use Rattle.redo_step.proofs.LoopLemmas.{none_before, texts_each}
 use Rattle.redo_step.proofs.scene.Scene.texts.Goals as goal
 
 pub loop-word-init : goal.loop-word-init

@@ -1,8 +1,8 @@
 use Rattle.std.proofs.Common.{◌≡◌, drop}
 use Rattle.redo_script.specs.View.{words_of}
-use Rattle.redo_step.specs.Meaning.{texts_of}
-use Rattle.redo_step.specs.Scene.{scene_setting}
-use Rattle.redo_step.proofs.Loops.{after_front, each_of, word_text}
+use Rattle.redo_step.specs.Words.{texts_of}
+use Rattle.redo_step.specs.inside.Scene.{scene_setting}
+use Rattle.redo_step.proofs.LoopLemmas.{after_front, each_of, word_text}
 use Rattle.redo_step.proofs.scene.Scene.texts.Given as goal
 
 abbrev pub invariant-loop-word : goal.invariant-loop-word

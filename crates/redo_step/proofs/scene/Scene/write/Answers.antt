@@ -1,10 +1,10 @@
 use Rattle.std.proofs.Common.{None, Some}
 use Rattle.std.specs.Prelude.{option_map}
 use Rattle.redo_script.specs.View.{writer_of, redirection_of}
-use Rattle.redo_step.specs.Machine.{state_of}
-use Rattle.redo_step.specs.Scene.{scene_setting}
-use Rattle.redo_step.specs.Writing.{writing_of}
-use Rattle.redo_step.proofs.Writes.{writes}
+use Rattle.redo_step.specs.inside.Machine.{state_of}
+use Rattle.redo_step.specs.inside.Scene.{scene_setting}
+use Rattle.redo_step.specs.inside.Writing.{writing_of}
+use Rattle.redo_step.proofs.WriteLemmas.{writes}
 use Rattle.redo_step.proofs.scene.Scene.write.Goals as goal
 
 pub returns-in-None : goal.returns-in-None

@@ -1,4 +1,4 @@
-use Rattle.redo_step.proofs.Advance.{fits_more}
+use Rattle.redo_step.proofs.AdvanceLemmas.{fits_more}
 use Rattle.redo_step.proofs.tests.turns.stopped.Goals as goal
 
 pub returns-in-Asks-clause-fits : goal.returns-in-Asks-clause-fits

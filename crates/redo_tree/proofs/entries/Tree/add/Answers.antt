@@ -4,9 +4,9 @@ use Rattle.std.specs.Prelude.{Ok}
 use Rattle.indexmap.proofs.CallerLemmas.{insert_entry-new}
 use Rattle.redo_path.specs.Names.{IsPath}
 use Rattle.redo_tree.specs.Tree.{refusal, node_of, tree_of, with_node}
-use Rattle.redo_tree.proofs.Grows.{added-free}
-use Rattle.redo_tree.proofs.Kept.{IsKept-noted, IsKept-with, absent}
-use Rattle.redo_tree.proofs.Nodes.{tree_of-last}
+use Rattle.redo_tree.proofs.GrowLemmas.{added-free}
+use Rattle.redo_tree.proofs.KeptLemmas.{IsKept-noted, IsKept-with, absent}
+use Rattle.redo_tree.proofs.NodeLemmas.{tree_of-last}
 use Rattle.redo_tree.proofs.entries.Tree.add.Goals as goal
 
 pub invariant_of-self : goal.invariant_of-self

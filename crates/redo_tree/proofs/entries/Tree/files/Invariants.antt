@@ -1,6 +1,6 @@
 use Rattle.std.proofs.Common.{◌≡◌, ◌++◌, map}
 use Rattle.redo_tree.specs.Tree.{files_of}
-use Rattle.redo_tree.proofs.Nodes.{seen}
+use Rattle.redo_tree.proofs.NodeLemmas.{seen}
 use Rattle.redo_tree.proofs.entries.Tree.files.Given as goal
 
 -- the paths so far, and those of the files that are left, are those of all files

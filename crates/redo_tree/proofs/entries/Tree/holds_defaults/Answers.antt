@@ -1,6 +1,6 @@
 use Rattle.std.proofs.Common.{◌∙◌, sym, subst}
 use Rattle.redo_tree.specs.Tree.{HasNoDefaults}
-use Rattle.redo_tree.proofs.Noted.{none-noted}
+use Rattle.redo_tree.proofs.NotedLemmas.{none-noted}
 use Rattle.redo_tree.proofs.entries.Tree.holds_defaults.Goals as goal
 
 pub returns : goal.returns

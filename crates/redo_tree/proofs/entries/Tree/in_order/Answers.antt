@@ -1,6 +1,6 @@
 use Rattle.std.proofs.Common.{rules, ◌≡◌, ◌∙◌, ◌∷◌, ap, sym}
 use Rattle.redo_tree.specs.Tree.{with_entries}
-use Rattle.redo_tree.proofs.Nodes.{seen, insert_entry-seen}
+use Rattle.redo_tree.proofs.NodeLemmas.{seen, insert_entry-seen}
 use Rattle.redo_tree.proofs.entries.Tree.in_order.Goals as goal
 
 pub loop-path-preserved : goal.loop-path-preserved

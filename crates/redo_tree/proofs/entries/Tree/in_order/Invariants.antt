@@ -1,6 +1,6 @@
 use Rattle.std.proofs.Common.{◌≡◌}
 use Rattle.redo_tree.specs.Tree.{with_entries}
-use Rattle.redo_tree.proofs.Nodes.{seen}
+use Rattle.redo_tree.proofs.NodeLemmas.{seen}
 use Rattle.redo_tree.proofs.entries.Tree.in_order.Given as goal
 
 -- what was put so far, with each of the entries that are left, is the tree

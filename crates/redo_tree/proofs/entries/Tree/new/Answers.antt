@@ -3,7 +3,7 @@ use Rattle.std.specs.Cmp.Lexicographic.{pointwise}
 use Rattle.indexmap.specs.IndexMap.{insert_entry}
 use Rattle.redo_tree.specs.declared.entries.Entry.TheVariants.{Directory}
 use Rattle.redo_tree.specs.Tree.{IsKept}
-use Rattle.redo_tree.proofs.Kept.{IsKept-top}
+use Rattle.redo_tree.proofs.KeptLemmas.{IsKept-top}
 use Rattle.redo_tree.proofs.entries.Tree.new.Goals as goal
 
 pub invariant_of-result : goal.invariant_of-result

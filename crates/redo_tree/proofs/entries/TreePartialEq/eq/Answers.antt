@@ -1,6 +1,6 @@
 use Rattle.std.proofs.Common.{◌∙◌}
 use Rattle.redo_tree.specs.Tree.{tree_eq}
-use Rattle.redo_tree.proofs.Kept.{kept_alike}
+use Rattle.redo_tree.proofs.KeptLemmas.{kept_alike}
 use Rattle.redo_tree.proofs.entries.TreePartialEq.eq.Goals as goal
 
 pub returns : goal.returns

@@ -1,5 +1,5 @@
-use Rattle.redo_tree.proofs.Loaded.{loaded_listed}
-use Rattle.redo_tree.proofs.Texts.{text_listed}
+use Rattle.redo_tree.proofs.LoadedLemmas.{loaded_listed}
+use Rattle.redo_tree.proofs.TextLemmas.{text_listed}
 use Rattle.redo_tree.proofs.loading.Loading.read_names.Goals as goal
 
 pub loop-listed-preserved : goal.loop-listed-preserved

@@ -1,6 +1,6 @@
 use Rattle.std.proofs.Common.{rules, ◌∙◌, map}
-use Rattle.redo_tree.proofs.StoredFiles.{places_before, places_more}
-use Rattle.redo_tree.proofs.Texts.{at_map, refused_at, texts_next}
+use Rattle.redo_tree.proofs.StoredFileLemmas.{places_before, places_more}
+use Rattle.redo_tree.proofs.TextLemmas.{at_map, refused_at, texts_next}
 use Rattle.redo_tree.proofs.storing.Stored.write_each.Goals as goal
 
 pub returns-in-Err-clause-text : goal.returns-in-Err-clause-text

@@ -1,9 +1,9 @@
 use Rattle.std.proofs.Common.{rules, ◌≡◌, ◌++◌, ◌∷◌, ◌∙◌, [], ap, sym, subst}
 use Rattle.std.proofs.lemmas.Result.{err_from_is_err_and}
-use Rattle.redo_tree.proofs.Pieces.{Writes-then, Writes-cut}
+use Rattle.redo_tree.proofs.PieceLemmas.{Writes-then, Writes-cut}
 use Rattle.redo_tree.specs.Bundle.{Writes}
-use Rattle.redo_which.specs.Lines.{lines_of}
-use Rattle.redo_which.proofs.Texts.{lines-split}
+use Rattle.redo_which.specs.inside.Lines.{lines_of}
+use Rattle.redo_which.proofs.TextLemmas.{lines-split}
 use Rattle.redo_which.proofs.lines.Lines.write.Goals as goal
 use Rattle.redo_which.proofs.lines.Lines.write.Goals.{else-not-is_same-via-then-not-is_same+else-is_err, else-not-is_same-via-else-not-is_same}
 

@@ -2,7 +2,7 @@ use Rattle.std.proofs.Common.{rules, ◌≡◌, ◌∷◌, ◌∙◌, ◌||◌, 
 use Rattle.std.specs.Iterator.Adapters.{take_count, take_source}
 use Rattle.std.specs.List.{list_any}
 use Rattle.std.specs.Prelude.{bytes_eq}
-use Rattle.redo_which.proofs.Firsts.{none-do}
+use Rattle.redo_which.proofs.FirstLemmas.{none-do}
 use Rattle.redo_which.proofs.missing.Missing.contains.Goals as goal
 
 pub returns-then-not-ends_with : goal.returns-then-not-ends_with

@@ -1,4 +1,4 @@
-use Rattle.redo_which.proofs.Firsts.{first-distinct}
+use Rattle.redo_which.proofs.FirstLemmas.{first-distinct}
 use Rattle.redo_which.proofs.missing.Missing.each_once.Goals as goal
 
 pub returns : goal.returns

@@ -1,8 +1,8 @@
 use Rattle.std.proofs.Common.{◌≡◌, ◌∙◌, ◌∷◌, ◌++◌, [], List, ℕ, ap, codes, subst, sym}
 use Rattle.redo_path.specs.Names.{IsPath, child_of}
 use Rattle.redo_which.specs.Candidates.{Place}
-use Rattle.redo_which.specs.Spots.{spelled}
-use Rattle.redo_which.proofs.Pieces.{child_path, no_place, one_place, spelled-child}
+use Rattle.redo_which.specs.inside.Spots.{spelled}
+use Rattle.redo_which.proofs.PieceLemmas.{child_path, no_place, one_place, spelled-child}
 use Rattle.redo_which.proofs.spot.Spot.new.Goals as goal
 
 pub returns-then-not-fits : goal.returns-then-not-fits

@@ -2,9 +2,9 @@ use Rattle.std.proofs.Common.{◌≤◌, ◌^◌, ◌∙◌, ap, arith, length, 
 use Rattle.std.specs.Prelude.{flat_map, IfSome}
 use Rattle.redo_path.specs.Names.{parent_of}
 use Rattle.redo_which.specs.Candidates.{LiesIn, Place}
-use Rattle.redo_which.specs.Stems.{stems_left}
-use Rattle.redo_which.proofs.Distinct.{few-candidates}
-use Rattle.redo_which.proofs.Stems.{candidates-none, candidates-some}
+use Rattle.redo_which.specs.inside.Stems.{stems_left}
+use Rattle.redo_which.proofs.DistinctLemmas.{few-candidates}
+use Rattle.redo_which.proofs.StemLemmas.{candidates-none, candidates-some}
 use Rattle.redo_which.proofs.spots.Spots.of.Goals as goal
 use Rattle.redo_which.proofs.spots.Spots.of.Goals.{in-Some, in-None}
 

@@ -1,4 +1,4 @@
-use Rattle.redo_which.proofs.Passed.{passes-more}
+use Rattle.redo_which.proofs.PassedLemmas.{passes-more}
 use Rattle.redo_which.proofs.spots.Stems.pass_bare.Goals as goal
 
 pub loop-more-preserved : goal.loop-more-preserved

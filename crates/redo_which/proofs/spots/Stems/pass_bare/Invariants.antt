@@ -1,7 +1,7 @@
 use Rattle.std.proofs.Common.{length}
-use Rattle.redo_which.specs.Passed.{Passes, places_left}
-use Rattle.redo_which.specs.Stems.{IsNext, stems_left}
-use Rattle.redo_which.proofs.Stems.{flat}
+use Rattle.redo_which.specs.inside.Passed.{Passes, places_left}
+use Rattle.redo_which.specs.inside.Stems.{IsNext, stems_left}
+use Rattle.redo_which.proofs.StemLemmas.{flat}
 use Rattle.redo_which.proofs.spots.Stems.pass_bare.Given as goal
 
 -- those so far were passed over

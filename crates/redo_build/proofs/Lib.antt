@@ -1,0 +1,12 @@
+pub mod CountLemmas
+pub mod DepthLemmas
+pub mod HandoverLemmas
+pub mod OnceLemmas
+pub mod PathLemmas
+pub mod QueueLemmas
+pub mod QuietLemmas
+pub mod SeenLemmas
+pub mod SoundLemmas
+pub mod StandingLemmas
+pub mod TurnBoundLemmas
+pub mod TurnLemmas

@@ -1,0 +1,231 @@
+-- What a quiet board shows.
+use Rattle.std.proofs.Common.{◌≡◌, ℕ, zero, suc, ◌<◌, ◌≤◌, max, false, inl, inr, List, [], ◌∷◌, length, filter, Some, None, refl, sym, ap, subst, ◌∙◌, arith, bytes_eq}
+use Rattle.std.proofs.lemmas.Bool.{cases_Bool, cases_lt}
+use Rattle.redo_record.specs.Paths.{is_among, IsAmong}
+use Rattle.redo_record.specs.Progress.{Progress}
+use Rattle.redo_build.specs.Rules.{Ask, Rules, AreLawful, Extends, operands, asked_under}
+use Rattle.redo_build.specs.Outcomes.{outcome_at, asked_at, needed_at, record_of, IsTooMany}
+use Rattle.redo_build.specs.Schedule.{Entry, State, paths_of, entry_of, outcomes_of, only, IsQuiet}
+use Rattle.redo_build.specs.Theorems.{IsPartOfBuild, ShowsBuild}
+use Rattle.redo_build.specs.inside.Turns.{deps_at_turn, CameTo}
+use Rattle.redo_build.proofs.PathLemmas.{within-length, is_among-true}
+use Rattle.redo_build.proofs.DepthLemmas.{cases_Option, deeper, ended_stays, outcome_at-step, outcome_at-zero, asked_at-grows, reached-within, reached-more, reached-distinct, settled}
+use Rattle.redo_build.proofs.SeenLemmas.{entry_of-path, entry_of-among, among-entry_of, outcomes_of-at, decided_count-length}
+use Rattle.redo_build.specs.inside.Standing.{decided_count}
+use Rattle.redo_build.proofs.TurnLemmas.{only-Extends, only-among}
+use Rattle.redo_build.proofs.SoundLemmas.{IsSound}
+use Rattle.redo_record.specs.declared.deps.Dep.{Dep}
+use Rattle.redo_record.specs.declared.outcome.Outcome.{Outcome}
+
+none-out : (es : List Entry) (p : List ℕ) (e : Entry) → entry_of es p ≡ Some e → length (filter (λ x. x.is_out) es) ≡ 0 → e.is_out ≡ false
+none-out [] p e at none = cc
+none-out (x ∷ es) p e at none = elim (cases_Bool x.is_out) [
+  | inl out ↦ absurd (let some = rw out at none in omega arith)
+  | inr inside ↦ elim (cases_Bool (bytes_eq x.path p)) [
+    | inl t ↦ let same : x ≡ e = let now = rw t at at in cc in sym (ap (λ (y : Entry). y.is_out) same) ∙ inside
+    | inr f ↦ none-out es p e (rw f at at) (rw inside at none)
+  ]
+]
+
+module _ (r : Rules) (lawful : AreLawful r) (request : List (List ℕ)) where
+  -- entries lie within every set that has the requested targets and what its members ask for
+  module _ (s : State) (sound : IsSound r request s) (limit : ℕ) where
+    settled-needed : length (needed_at r request limit) ≤ limit → (n : ℕ) (p : List ℕ) → IsAmong (needed_at r request n) p → IsAmong (needed_at r request limit) p
+    settled-needed few n = reached-within r lawful request n n (IsAmong (needed_at r request limit))
+        (λ p m. reached-more r lawful request limit 0 limit p (omega arith) m)
+        (λ p q m asks. (settled r lawful request limit few).closed n p q m asks)
+
+    pub entries-within : length (needed_at r request limit) ≤ limit → (p : List ℕ) → IsAmong (paths_of s.entries) p → IsAmong (needed_at r request limit) p
+    entries-within few p m = let need = sound.standing.needed p m in settled-needed few need.0 p need.1
+
+    -- there are too many entries only where too many targets are needed
+    pub too_many : limit < length (paths_of s.entries) → IsTooMany r request limit
+    too_many more = elim (cases_lt limit (length (needed_at r request limit))) [
+      | inl many ↦ many
+      | inr few ↦ absurd (omega (
+        arith,
+        within-length (paths_of s.entries) (needed_at r request limit) sound.standing.distinct (entries-within few),
+        few,
+      ))
+    ]
+
+    paths-length : (es : List Entry) → length (paths_of es) ≡ length es
+    paths-length [] = refl
+    paths-length (e ∷ es) = ap suc (paths-length es)
+
+    decided-progress : (p : List ℕ) (e : Entry) (o : Outcome) → entry_of s.entries p ≡ Some e → e.outcome ≡ Some o →
+        (n : ℕ) × (n < decided_count s.entries) × (r.progress p (outcome_at r n) ≡ record { outcome = Some o; deps = e.deps })
+    decided-progress p e o at done =
+        let how = sound.standing.decided p e o at done in
+        let P : List ℕ → Type 0 = λ x. r.progress x (outcome_at r how.0) ≡ record { outcome = Some o; deps = e.deps } in
+        (how.0, how.1, subst P (entry_of-path s.entries p e at) how.2)
+
+    entry-target : (p : List ℕ) (e : Entry) → entry_of s.entries p ≡ Some e → r.is_source p ≡ false
+    entry-target p e at = sound.standing.targets p (entry_of-among s.entries p e at)
+
+    -- at each depth from there on the decided target is where it is
+    decided-at : (p : List ℕ) (e : Entry) (o : Outcome) → entry_of s.entries p ≡ Some e → e.outcome ≡ Some o →
+        (m : ℕ) → decided_count s.entries ≤ m → (outcome_at r m p ≡ Some o) × (r.progress p (outcome_at r m) ≡ record { outcome = Some o; deps = e.deps })
+    decided-at p e o at done m deep =
+        let how = decided-progress p e o at done in
+        let ended : (r.progress p (outcome_at r how.0)).outcome ≡ Some o = ap (λ (x : Progress). x.outcome) how.2 in
+        let once = outcome_at-step r lawful how.0 p (entry-target p e at) ∙ ended in (
+          deeper r lawful (suc how.0) m (omega (arith, how.1)) p o (entry-target p e at) once,
+          sym (ended_stays r lawful p (outcome_at r how.0) (outcome_at r m) o (deeper r lawful how.0 m (omega (arith, how.1))) ended) ∙ how.2,
+        )
+
+    pub decided-somewhere : (p : List ℕ) (e : Entry) (o : Outcome) → entry_of s.entries p ≡ Some e → e.outcome ≡ Some o →
+        (n : ℕ) × (outcome_at r n p ≡ Some o)
+    decided-somewhere p e o at done = (decided_count s.entries, (decided-at p e o at done (decided_count s.entries) (omega arith)).0)
+
+    pub decided-recorded : length s.entries ≤ limit → (p : List ℕ) (e : Entry) (o : Outcome) → entry_of s.entries p ≡ Some e → e.outcome ≡ Some o →
+        (outcome_at r limit p ≡ Some o) × (e.deps ≡ record_of r limit p)
+    decided-recorded few p e o at done =
+        let here = decided-at p e o at done limit (omega (arith, decided_count-length s.entries, paths-length s.entries)) in
+        (here.0, sym (ap (λ (x : Progress). x.deps) here.1))
+
+    pub is_part : IsPartOfBuild r request limit s
+    is_part = record {
+      decided = decided-somewhere;
+      recorded = decided-recorded;
+      needed = sound.standing.needed;
+      too_many = λ many. too_many (omega (arith, paths-length s.entries, many));
+    }
+
+    -- a script that lacks an answer stays where it is under all that is decided
+    lacking-stays : (p : List ℕ) (ds : List Dep) (turn : ℕ) → CameTo r p (outcomes_of s.entries) turn →
+        ds ≡ deps_at_turn r p (outcomes_of s.entries) turn →
+        (q : List ℕ) → IsAmong (operands r ds) q → outcomes_of s.entries q ≡ None →
+        ((r.progress p (outcomes_of s.entries)).deps ≡ ds) × ((r.progress p (outcomes_of s.entries)).outcome ≡ None)
+    lacking-stays p ds zero came is q m none = absurd (let P : List Dep → Type 0 = λ x. IsAmong (operands r x) q in subst P is m)
+    lacking-stays p ds (suc k) came is q m none =
+        let before : Ask = only (operands r (deps_at_turn r p (outcomes_of s.entries) k)) (outcomes_of s.entries) in
+        let more : Extends r before (outcomes_of s.entries) =
+        only-Extends r (operands r (deps_at_turn r p (outcomes_of s.entries) k)) (outcomes_of s.entries) (outcomes_of s.entries) (λ x o t h. h) in
+        let P : List Dep → Type 0 = λ x. IsAmong (operands r x) q in
+        let asked : IsAmong (asked_under r p before) q = subst P is m in
+        let same : r.progress p (outcomes_of s.entries) ≡ r.progress p before = (lawful.each p).waits q before (outcomes_of s.entries) more asked none in (
+          ap (λ (x : Progress). x.deps) same ∙ sym is,
+          ap (λ (x : Progress). x.outcome) same ∙ came.stopped k (omega arith),
+        )
+
+    module _ (quiet : IsQuiet s) where
+      waiting-stays : (p : List ℕ) (e : Entry) → entry_of s.entries p ≡ Some e → e.outcome ≡ None →
+          ((r.progress p (outcomes_of s.entries)).deps ≡ e.deps) × ((r.progress p (outcomes_of s.entries)).outcome ≡ None)
+      waiting-stays p e at open' =
+          let Gone : List (List ℕ) → Type 0 = λ xs. IsAmong xs p → ⊥ in
+          let lacks = sound.others_wait p e at open' (subst Gone (sym quiet.0) (λ m. m)) (none-out s.entries p e at quiet.1) in
+          let way = sound.standing.under_way p e at open' in
+          let Way : List ℕ → Type 0 = λ x. CameTo r x (outcomes_of s.entries) e.turn × (e.deps ≡ deps_at_turn r x (outcomes_of s.entries) e.turn) in
+          let here : Way p = subst Way (entry_of-path s.entries p e at) (way.came, way.is) in
+          lacking-stays p e.deps e.turn here.0 here.1 lacks.0 lacks.1 lacks.2
+
+      -- the outcomes at a depth, on the entries alone
+      on_entries : ℕ → Ask
+      on_entries n = only (paths_of s.entries) (outcome_at r n)
+
+      -- where outcomes at a depth are among those decided, each entry comes as far as among the entries alone
+      same-on_entries : (n : ℕ) → ((p : List ℕ) (o : Outcome) → IsAmong (paths_of s.entries) p → outcome_at r n p ≡ Some o → outcomes_of s.entries p ≡ Some o) →
+          (p : List ℕ) (e : Entry) → entry_of s.entries p ≡ Some e → e.outcome ≡ None →
+          Extends r (on_entries n) (outcomes_of s.entries) × (r.progress p (on_entries n) ≡ r.progress p (outcome_at r n)) ×
+          ((q : List ℕ) → IsAmong (asked_under r p (on_entries n)) q → IsAmong (paths_of s.entries) q)
+      unfolding on_entries
+      same-on_entries n less p e at open' =
+          let more : Extends r (on_entries n) (outcomes_of s.entries) = λ q o t h.
+          elim (cases_Bool (is_among (paths_of s.entries) q)) [
+            | inl in' ↦ less q o (is_among-true (paths_of s.entries) q in') (rw in' at h)
+            | inr out ↦ absurd (let now = rw out at h in cc)
+          ] in
+          let inside : (q : List ℕ) → IsAmong (asked_under r p (on_entries n)) q → IsAmong (paths_of s.entries) q = λ q m.
+          let wide = (lawful.each p).grows q (on_entries n) (outcomes_of s.entries) more m in
+          let P : List Dep → Type 0 = λ x. IsAmong (operands r x) q in
+          sound.standing.closed p q e at (subst P (waiting-stays p e at open').0 wide) in (
+            more,
+            (lawful.each p).local (on_entries n) (outcome_at r n) (λ q m. only-among (paths_of s.entries) (outcome_at r n) q (inside q m)),
+            inside,
+          )
+
+      -- no outcome is known at any depth that isn't decided
+      pub none-beyond : (n : ℕ) (p : List ℕ) (o : Outcome) → IsAmong (paths_of s.entries) p → outcome_at r n p ≡ Some o → outcomes_of s.entries p ≡ Some o
+      none-beyond zero p o m h = absurd (let none = outcome_at-zero r lawful p (sound.standing.targets p m) in cc)
+      none-beyond (suc n) p o m h =
+          let at = among-entry_of s.entries p m in
+          elim (cases_Option at.0.outcome) [
+            | inl open' ↦ absurd (
+                let same = same-on_entries n (none-beyond n) p at.0 at.1 open' in
+                let ended : (r.progress p (on_entries n)).outcome ≡ Some o =
+                ap (λ (x : Progress). x.outcome) same.1 ∙ sym (outcome_at-step r lawful n p (sound.standing.targets p m)) ∙ h in
+                let stays = ended_stays r lawful p (on_entries n) (outcomes_of s.entries) o same.0 ended in
+                let none = (waiting-stays p at.0 at.1 open').1 in
+                let some = ap (λ (x : Progress). x.outcome) (sym stays) ∙ ended in cc)
+            | inr done ↦
+                let deep = max (suc n) (decided_count s.entries) in
+                let target = sound.standing.targets p m in
+                let there = (decided-at p at.0 done.0 at.1 done.1 deep (omega arith)).0 in
+                let also = deeper r lawful (suc n) deep (omega arith) p o target h in
+                let same : Some done.0 ≡ Some o = sym there ∙ also in
+                outcomes_of-at s.entries p at.0 at.1 ∙ done.1 ∙ same
+          ]
+
+      -- the entries ask for nothing but entries, at any depth
+      pub asks-inside : (n : ℕ) (p q : List ℕ) → IsAmong (paths_of s.entries) p → IsAmong (asked_at r n p) q → IsAmong (paths_of s.entries) q
+      asks-inside n p q m asks =
+          let at = among-entry_of s.entries p m in
+          let P : Progress → Type 0 = λ x. IsAmong (operands r x.deps) q in
+          elim (cases_Option at.0.outcome) [
+            | inl open' ↦
+                let same = same-on_entries n (λ x o. none-beyond n x o) p at.0 at.1 open' in
+                same.2 q (subst P (sym same.1) asks)
+            | inr done ↦
+                let deep = max n (decided_count s.entries) in
+                let there = (decided-at p at.0 done.0 at.1 done.1 deep (omega arith)).1 in
+                sound.standing.closed p q at.0 at.1 (subst P there (asked_at-grows r lawful n deep p q (omega arith) asks))
+          ]
+
+      pub needed-inside : (n : ℕ) (p : List ℕ) → IsAmong (needed_at r request n) p → IsAmong (paths_of s.entries) p
+      needed-inside n = reached-within r lawful request n n (IsAmong (paths_of s.entries)) sound.requested (λ p q m asks. asks-inside n p q m asks)
+
+      module _ (few : length s.entries ≤ limit) where
+        needed-few : length (needed_at r request limit) ≤ limit
+        needed-few = omega (
+          arith,
+          few,
+          paths-length s.entries,
+          within-length (needed_at r request limit) (paths_of s.entries) (reached-distinct r lawful request limit limit) (needed-inside limit),
+        )
+
+        outcomes-same : (p : List ℕ) → IsAmong (paths_of s.entries) p → outcomes_of s.entries p ≡ outcome_at r limit p
+        outcomes-same p m =
+            let at = among-entry_of s.entries p m in
+            elim (cases_Option (outcomes_of s.entries p)) [
+              | inl open' ↦ elim (cases_Option (outcome_at r limit p)) [
+                | inl none ↦ open' ∙ sym none
+                | inr some ↦ none-beyond limit p some.0 m some.1 ∙ sym some.1
+              ]
+              | inr done ↦
+                  let out : at.0.outcome ≡ Some done.0 = sym (outcomes_of-at s.entries p at.0 at.1) ∙ done.1 in
+                  done.1 ∙ sym (decided-recorded few p at.0 done.0 at.1 out).0
+            ]
+
+        records-same : (p : List ℕ) (e : Entry) → entry_of s.entries p ≡ Some e → e.deps ≡ record_of r limit p
+        unfolding on_entries
+        records-same p e at = elim (cases_Option e.outcome) [
+          | inl open' ↦
+              let same = same-on_entries limit (none-beyond limit) p e at open' in
+              let alike = (lawful.each p).local (on_entries limit) (outcomes_of s.entries) (λ q m.
+              let here = same.2 q m in
+              only-same q here ∙ sym (outcomes-same q here)) in
+              sym (waiting-stays p e at open').0 ∙ ap (λ (x : Progress). x.deps) (sym alike ∙ same.1)
+          | inr done ↦ (decided-recorded few p e done.0 at done.1).1
+        ]
+          where
+            only-same : (q : List ℕ) → IsAmong (paths_of s.entries) q → on_entries limit q ≡ outcome_at r limit q
+            only-same q m = only-among (paths_of s.entries) (outcome_at r limit) q m
+
+        pub shows : ShowsBuild r request limit s
+        shows = record {
+          members = λ p. (entries-within needed-few p, needed-inside limit p);
+          within = needed-few;
+          outcomes = outcomes-same;
+          records = records-same;
+        }

@@ -1,0 +1,442 @@
+-- What holds of every state that a run of open events reaches.
+use Rattle.std.proofs.Common.{◌≡◌, ℕ, Bool, true, false, ◌⊎◌, inl, inr, List, [], ◌∷◌, filter, Option, Some, None, is_none, slice_get, remove, option_and_then, refl, sym, ap, subst, ◌∙◌, bytes_eq}
+use Rattle.std.specs.List.{list_any}
+use Rattle.std.proofs.lemmas.Bool.{cases_Bool, both_ways, and_parts, or_parts, or_cases, not-true, not-false, not_from_false, and_from}
+use Rattle.std.proofs.lemmas.Slice.Eq.{bytes_eq-Decides}
+use Rattle.redo_record.specs.Paths.{is_among, IsAmong, AreDistinct}
+use Rattle.redo_record.specs.Progress.{Progress}
+use Rattle.redo_build.specs.Rules.{Rules, AreLawful, Extends, operands}
+use Rattle.redo_build.specs.Outcomes.{outcome_at, requested_targets}
+use Rattle.redo_build.specs.Schedule.{Entry, State, Event, paths_of, entry_of, outcome_of, outcomes_of, only, entered, put, lacks_none, is_free, released, opening, sent_out, new_entry, taken, advanced, moved_on, handed_in, happens, IsOpen, run, AllOpen}
+use Rattle.redo_build.specs.Schedule.Event.{Take, Hand_in}
+use Rattle.redo_build.proofs.PathLemmas.{IsAmong-same, IsAmong-append, IsAmong-left, IsAmong-right, is_among-true, is_among-from}
+use Rattle.redo_build.proofs.DepthLemmas.{cases_Option, operand-target, requested-target}
+use Rattle.redo_build.proofs.SeenLemmas.{entry_of-path, entry_of-among, among-entry_of, paths_of-put, entry_of-entered_old, entry_of-entered_cases, entry_of-put_other, entry_of-put_same}
+use Rattle.redo_build.proofs.QueueLemmas.{slice_get-among, slice_get-below, remove-cases, remove-from, remove-distinct, remove-gone, AreDistinct-append, paths_of-filter_from, paths_of-filter_to, paths_of-filter_distinct}
+use Rattle.redo_build.proofs.TurnLemmas.{only-Extends, progress-more}
+use Rattle.redo_build.proofs.StandingLemmas.{IsNeeded-asked, outcomes_of-deep, entered-outcomes, paths-entered, entered-standing, put-outcomes, put-standing, sent-cases, sent-outcomes, sent-standing}
+use Rattle.redo_build.specs.inside.Standing.{AreStanding, IsNeeded, decided_count}
+use Rattle.redo_record.specs.declared.outcome.Outcome.{Outcome}
+
+-- the path has an entry that isn't decided and that has every answer that it asked for
+abbrev pub IsFed : Rules → List Entry → List ℕ → Type 0
+IsFed r es p = (e : Entry) × (entry_of es p ≡ Some e) × (e.outcome ≡ None) ×
+    ((q : List ℕ) → IsAmong (operands r e.deps) q → outcomes_of es q ≡ None → ⊥)
+
+-- what is ready and what is out can go on, each once
+pub record AreQueued (r : Rules) (s : State) : Type 0 where
+  pub ready_fed : (p : List ℕ) → IsAmong s.ready p → IsFed r s.entries p
+  pub out_fed : (p : List ℕ) (e : Entry) → entry_of s.entries p ≡ Some e → e.is_out ≡ true → IsFed r s.entries p
+  pub ready_distinct : AreDistinct s.ready
+  pub apart : (p : List ℕ) (e : Entry) → IsAmong s.ready p → entry_of s.entries p ≡ Some e → e.is_out ≡ false
+
+-- what isn't decided, ready or out waits for an undecided path that it asked for
+abbrev pub AllOthersWait : Rules → State → Type 0
+AllOthersWait r s = (p : List ℕ) (e : Entry) → entry_of s.entries p ≡ Some e → e.outcome ≡ None →
+    (IsAmong s.ready p → ⊥) → e.is_out ≡ false →
+    (q : List ℕ) × IsAmong (operands r e.deps) q × (outcomes_of s.entries q ≡ None)
+
+pub record IsSound (r : Rules) (request : List (List ℕ)) (s : State) : Type 0 where
+  pub standing : AreStanding r request s.entries
+  pub requested : (p : List ℕ) → IsAmong (requested_targets r request) p → IsAmong (paths_of s.entries) p
+  pub queued : AreQueued r s
+  pub others_wait : AllOthersWait r s
+
+list_any-true : (f : List ℕ → Bool) (ps : List (List ℕ)) → list_any f ps ≡ true → (q : List ℕ) × IsAmong ps q × (f q ≡ true)
+list_any-true f [] h = cc
+list_any-true f (x ∷ ps) h = elim (or_cases (f x) (list_any f ps) h) [
+  | inl here ↦ (x, inl refl, here)
+  | inr later ↦ let found = list_any-true f ps later in (found.0, inr found.1, found.2)
+]
+
+list_any-false : (f : List ℕ → Bool) (ps : List (List ℕ)) → list_any f ps ≡ false → (q : List ℕ) → IsAmong ps q → f q ≡ false
+list_any-false f [] h q m = absurd m
+list_any-false f (x ∷ ps) h q m =
+    let parts = or_parts (f x) (list_any f ps) h in
+    elim m [ inl here ↦ ap f (sym here) ∙ parts.0 | inr later ↦ list_any-false f ps parts.1 q later ]
+
+is_none-true : (o : Option Outcome) → is_none o ≡ true → o ≡ None
+is_none-true None h = refl
+is_none-true (Some v) h = cc
+
+is_none-from : (o : Option Outcome) → o ≡ None → is_none o ≡ true
+is_none-from o h = rw h refl
+
+module _ (r : Rules) where
+  pub lacks_none-true : (es : List Entry) (e : Entry) → lacks_none r es e ≡ true →
+      (q : List ℕ) → IsAmong (operands r e.deps) q → outcomes_of es q ≡ None → ⊥
+  lacks_none-true es e h q m none =
+      both_ways _ (list_any-false (λ x. is_none (outcomes_of es x)) (operands r e.deps) (not-true _ h) q m)
+      (is_none-from (outcomes_of es q) none)
+
+  pub lacks_none-false : (es : List Entry) (e : Entry) → lacks_none r es e ≡ false →
+      (q : List ℕ) × IsAmong (operands r e.deps) q × (outcomes_of es q ≡ None)
+  lacks_none-false es e h =
+      let found = list_any-true (λ x. is_none (outcomes_of es x)) (operands r e.deps) (not-false _ h) in
+      (found.0, found.1, is_none-true (outcomes_of es found.0) found.2)
+
+  -- what a free entry is
+  pub is_free-parts : (s : State) (e : Entry) → is_free r s e ≡ true →
+      (e.outcome ≡ None) × (lacks_none r s.entries e ≡ true) × (e.is_out ≡ false) × (is_among s.ready e.path ≡ false)
+  is_free-parts s e h =
+      let third = and_parts _ _ h in
+      let second = and_parts _ _ third.0 in
+      let first = and_parts _ _ second.0 in
+      (is_none-true e.outcome first.0, first.1, not-true _ second.1, not-true _ third.1)
+
+module _ (r : Rules) (lawful : AreLawful r) (request : List (List ℕ)) where
+  pub released-sound : (s : State) → AreStanding r request s.entries →
+      ((p : List ℕ) → IsAmong (requested_targets r request) p → IsAmong (paths_of s.entries) p) →
+      AreQueued r s → IsSound r request (released r s)
+  released-sound s standing requested queued = record {
+    standing = standing;
+    requested = requested;
+    queued = record {
+      ready_fed = λ p m. elim (IsAmong-append s.ready (paths_of (filter (is_free r s) s.entries)) p m) [
+        | inl old ↦ queued.ready_fed p old
+        | inr new ↦
+            let found = paths_of-filter_from (is_free r s) s.entries p standing.distinct new in
+            let parts = is_free-parts r s found.0 found.2 in
+            (found.0, found.1, parts.0, lacks_none-true r s.entries found.0 parts.1)
+      ];
+      out_fed = queued.out_fed;
+      ready_distinct = AreDistinct-append s.ready (paths_of (filter (is_free r s) s.entries)) queued.ready_distinct
+          (paths_of-filter_distinct (is_free r s) s.entries standing.distinct)
+          (λ p old new.
+          let found = paths_of-filter_from (is_free r s) s.entries p standing.distinct new in
+          both_ways _ (not_ready-at p found.0 found.1 found.2) (is_among-from s.ready p old));
+      apart = λ p e m at. elim (IsAmong-append s.ready (paths_of (filter (is_free r s) s.entries)) p m) [
+        | inl old ↦ queued.apart p e old at
+        | inr new ↦
+            let found = paths_of-filter_from (is_free r s) s.entries p standing.distinct new in
+            let same : found.0 ≡ e = let both : Some found.0 ≡ Some e = sym found.1 ∙ at in cc in
+            sym (ap (λ (x : Entry). x.is_out) same) ∙ (is_free-parts r s found.0 found.2).2
+      ];
+    };
+    others_wait = λ p e at open' not_ready not_out.
+        let path = entry_of-path s.entries p e at in
+        elim (cases_Bool (lacks_none r s.entries e)) [
+          | inl all ↦ absurd (
+              let a : is_none e.outcome ≡ true = is_none-from e.outcome open' in
+              let b : is_among s.ready e.path ≡ false = not_among s.ready e.path (λ m.
+              not_ready (IsAmong-left s.ready (paths_of (filter (is_free r s) s.entries)) p (IsAmong-same s.ready e.path p path m))) in
+              let free : is_free r s e ≡ true =
+              and_from _ _ (and_from _ _ (and_from _ _ a all) (not_from_false _ not_out)) (not_from_false _ b) in
+              not_ready (IsAmong-right s.ready (paths_of (filter (is_free r s) s.entries)) p
+              (paths_of-filter_to (is_free r s) s.entries p e at free)))
+          | inr some ↦ lacks_none-false r s.entries e some
+        ];
+  }
+    where
+      not_ready-at : (p : List ℕ) (e : Entry) → entry_of s.entries p ≡ Some e → is_free r s e ≡ true → is_among s.ready p ≡ false
+      not_ready-at p e at free =
+          let P : List ℕ → Type 0 = λ x. is_among s.ready x ≡ false in
+          subst P (entry_of-path s.entries p e at) (is_free-parts r s e free).3
+
+      not_among : (ps : List (List ℕ)) (p : List ℕ) → (IsAmong ps p → ⊥) → is_among ps p ≡ false
+      not_among ps p h = elim (cases_Bool (is_among ps p)) [
+        | inl t ↦ absurd (h (is_among-true ps p t))
+        | inr f ↦ f
+      ]
+
+  nothing-standing : AreStanding r request []
+  nothing-standing = record {
+    distinct = tt;
+    targets = λ p m. absurd m;
+    needed = λ p m. absurd m;
+    closed = λ p q e at m. cc;
+    decided = λ p e o at done. absurd (nowhere e at);
+    under_way = λ p e at open'. absurd (nowhere e at);
+  }
+    where
+      nowhere : (e : Entry) → None ≡ Some e → ⊥
+      nowhere e h = cc
+
+  new-inside : (p : List ℕ) → (new_entry r p).is_out ≡ false
+  new-inside p = elim (cases_Bool (r.has_rule p)) [ inl t ↦ rw t refl | inr f ↦ rw f refl ]
+
+  -- nothing is out that was only entered
+  fresh : (ps : List (List ℕ)) (p : List ℕ) (e : Entry) → entry_of (entered r [] ps) p ≡ Some e → e.is_out ≡ false
+  fresh ps p e at = elim (entry_of-entered_cases r [] ps p e at) [
+    | inl old ↦ absurd (nowhere e old)
+    | inr new ↦ ap (λ (x : Entry). x.is_out) new.1 ∙ new-inside p
+  ]
+    where
+      nowhere : (x : Entry) → None ≡ Some x → ⊥
+      nowhere x h = cc
+
+  pub opening-sound : IsSound r request (opening r request)
+  opening-sound =
+      let targets : (q : List ℕ) → IsAmong (requested_targets r request) q → r.is_source q ≡ false = requested-target r lawful request in
+      let needed : (q : List ℕ) → IsAmong (requested_targets r request) q → IsNeeded r request q = λ q m. (0, m) in
+      released-sound (record { entries = entered r [] (requested_targets r request); ready = [] })
+      (entered-standing r lawful request [] nothing-standing (requested_targets r request) targets needed)
+      (λ p m. paths-entered r lawful request [] nothing-standing (requested_targets r request) targets needed p (inr m))
+      (record {
+        ready_fed = λ p m. absurd m;
+        out_fed = λ p e at out. absurd (both_ways _ (fresh (requested_targets r request) p e at) out);
+        ready_distinct = tt;
+        apart = λ p e m at. absurd m;
+      })
+
+  module _ (s : State) (sound : IsSound r request s) (which : ℕ) (p : List ℕ) (e : Entry) (at : slice_get s.ready which ≡ Some p)
+      (entry : entry_of s.entries p ≡ Some e) where
+    take_path : e.path ≡ p
+    take_path = entry_of-path s.entries p e entry
+
+    take_entry : entry_of s.entries e.path ≡ Some e
+    take_entry = let P : List ℕ → Type 0 = λ x. entry_of s.entries x ≡ Some e in subst P (sym take_path) entry
+
+    take_open : e.outcome ≡ None
+    take_open =
+        let fed = sound.queued.ready_fed p (slice_get-among s.ready which p at) in
+        let same : fed.0 ≡ e = let both : Some fed.0 ≡ Some e = sym fed.1 ∙ entry in cc in
+        sym (ap (λ (x : Entry). x.outcome) same) ∙ fed.2
+
+    take_cases : (q : List ℕ) (x : Entry) → entry_of (put s.entries (sent_out e)) q ≡ Some x →
+        ((e.path ≡ q) × (x ≡ sent_out e)) ⊎ (entry_of s.entries q ≡ Some x)
+    take_cases = sent-cases r lawful request s.entries sound.standing e take_entry take_open
+
+    take_lacks : (q : List ℕ) → outcomes_of (put s.entries (sent_out e)) q ≡ outcomes_of s.entries q
+    take_lacks = sent-outcomes r lawful request s.entries sound.standing e take_entry take_open
+
+    take_fed : (q : List ℕ) → IsFed r s.entries q → IsFed r (put s.entries (sent_out e)) q
+    take_fed q fed = elim (cases_Bool (bytes_eq e.path q)) [
+      | inl t ↦
+          let same = (bytes_eq-Decides e.path q).0 t in
+          let P : List ℕ → Type 0 = λ y. entry_of (put s.entries (sent_out e)) y ≡ Some (sent_out e) in
+          let Q : List ℕ → Type 0 = λ y. entry_of s.entries y ≡ Some e in
+          let is : fed.0 ≡ e = let both : Some fed.0 ≡ Some e = sym fed.1 ∙ subst Q same take_entry in cc in (
+            sent_out e,
+            subst P same (entry_of-put_same s.entries (sent_out e) (entry_of-among s.entries e.path e take_entry)),
+            take_open,
+            λ x m none. fed.3 x (let R : Entry → Type 0 = λ y. IsAmong (operands r y.deps) x in subst R (sym is) m) (sym (take_lacks x) ∙ none),
+          )
+      | inr f ↦ (
+        fed.0,
+        entry_of-put_other s.entries (sent_out e) q (λ same. both_ways _ f ((bytes_eq-Decides e.path q).1 same)) ∙ fed.1,
+        fed.2,
+        λ x m none. fed.3 x m (sym (take_lacks x) ∙ none),
+      )
+    ]
+
+    pub taken-sound : IsSound r request (taken s (Some e) which)
+    taken-sound = record {
+      standing = sent-standing r lawful request s.entries sound.standing e take_entry take_open;
+      requested = λ q m.
+          let P : List (List ℕ) → Type 0 = λ xs. IsAmong xs q in
+          subst P (sym (paths_of-put s.entries (sent_out e))) (sound.requested q m);
+      queued = record {
+        ready_fed = λ q m. take_fed q (sound.queued.ready_fed q (remove-from s.ready which q m));
+        out_fed = λ q x h out. elim (take_cases q x h) [
+          | inl new ↦ take_fed q (sound.queued.ready_fed q (IsAmong-same s.ready p q (sym take_path ∙ new.0) (slice_get-among s.ready which p at)))
+          | inr old ↦ take_fed q (sound.queued.out_fed q x old out)
+        ];
+        ready_distinct = remove-distinct s.ready which sound.queued.ready_distinct;
+        apart = λ q x m h. elim (take_cases q x h) [
+          | inl new ↦ absurd (remove-gone s.ready which p sound.queued.ready_distinct at
+              (IsAmong-same (remove s.ready which) q p (sym new.0 ∙ take_path) m))
+          | inr old ↦ sound.queued.apart q x (remove-from s.ready which q m) old
+        ];
+      };
+      others_wait = λ q x h open' not_ready not_out. elim (take_cases q x h) [
+        | inl new ↦ absurd (both_ways _ not_out (ap (λ (y : Entry). y.is_out) new.1))
+        | inr old ↦
+            let waits = sound.others_wait q x old open'
+            (λ m. elim (remove-cases s.ready which p q at m) [
+              | inl same ↦ gone q x same h not_out
+              | inr rest ↦ not_ready rest
+            ]) not_out in
+            (waits.0, waits.1, take_lacks waits.0 ∙ waits.2)
+      ];
+    }
+      where
+        gone : (q : List ℕ) (x : Entry) → p ≡ q → entry_of (put s.entries (sent_out e)) q ≡ Some x → x.is_out ≡ false → ⊥
+        gone q x same h not_out =
+            let P : List ℕ → Type 0 = λ y. entry_of (put s.entries (sent_out e)) y ≡ Some (sent_out e) in
+            let there = subst P (take_path ∙ same) (entry_of-put_same s.entries (sent_out e) (entry_of-among s.entries e.path e take_entry)) in
+            let is : x ≡ sent_out e = let both : Some x ≡ Some (sent_out e) = sym h ∙ there in cc in
+            both_ways _ not_out (ap (λ (y : Entry). y.is_out) is)
+
+  module _ (s : State) (sound : IsSound r request s) (p : List ℕ) (e : Entry) (at : entry_of s.entries p ≡ Some e) (out : e.is_out ≡ true) where
+    out_path : e.path ≡ p
+    out_path = entry_of-path s.entries p e at
+
+    out_entry : entry_of s.entries e.path ≡ Some e
+    out_entry = let P : List ℕ → Type 0 = λ x. entry_of s.entries x ≡ Some e in subst P (sym out_path) at
+
+    out_is_fed : (e.outcome ≡ None) × ((q : List ℕ) → IsAmong (operands r e.deps) q → outcomes_of s.entries q ≡ None → ⊥)
+    out_is_fed =
+        let fed = sound.queued.out_fed p e at out in
+        let same : fed.0 ≡ e = let both : Some fed.0 ≡ Some e = sym fed.1 ∙ at in cc in
+        let P : Entry → Type 0 = λ x. (x.outcome ≡ None) × ((q : List ℕ) → IsAmong (operands r x.deps) q → outcomes_of s.entries q ≡ None → ⊥) in
+        subst P same (fed.2, fed.3)
+
+    new_targets : (q : List ℕ) → IsAmong (operands r (advanced r s.entries e).deps) q → r.is_source q ≡ false
+    new_targets q m = operand-target r lawful (advanced r s.entries e).deps q m
+
+    new_needed : (q : List ℕ) → IsAmong (operands r (advanced r s.entries e).deps) q → IsNeeded r request q
+    new_needed q m =
+        IsNeeded-asked r lawful request e.path q (decided_count s.entries)
+        (sound.standing.needed e.path (entry_of-among s.entries e.path e out_entry))
+        ((lawful.each e.path).grows q (only (operands r e.deps) (outcomes_of s.entries)) (outcome_at r (decided_count s.entries))
+        (only-Extends r (operands r e.deps) (outcomes_of s.entries) (outcome_at r (decided_count s.entries))
+        (outcomes_of-deep r lawful request s.entries sound.standing)) m)
+
+    wider : List Entry
+    wider = entered r s.entries (operands r (advanced r s.entries e).deps)
+
+    wider_standing : AreStanding r request wider
+    unfolding wider
+    wider_standing = entered-standing r lawful request s.entries sound.standing (operands r (advanced r s.entries e).deps) new_targets new_needed
+
+    wider_more : Extends r (outcomes_of s.entries) (outcomes_of wider)
+    unfolding wider
+    wider_more = entered-outcomes r lawful request s.entries sound.standing (operands r (advanced r s.entries e).deps) new_targets new_needed
+
+    wider_paths : (q : List ℕ) → IsAmong (paths_of s.entries) q ⊎ IsAmong (operands r (advanced r s.entries e).deps) q → IsAmong (paths_of wider) q
+    unfolding wider
+    wider_paths = paths-entered r lawful request s.entries sound.standing (operands r (advanced r s.entries e).deps) new_targets new_needed
+
+    wider_entry : (q : List ℕ) (x : Entry) → entry_of s.entries q ≡ Some x → entry_of wider q ≡ Some x
+    unfolding wider
+    wider_entry q x h = entry_of-entered_old r s.entries (operands r (advanced r s.entries e).deps) q x h
+
+    wider_fed : (q : List ℕ) → IsAmong (operands r e.deps) q → outcomes_of wider q ≡ None → ⊥
+    wider_fed q m none = elim (cases_Option (outcomes_of s.entries q)) [
+      | inl no_answer ↦ out_is_fed.1 q m no_answer
+      | inr some ↦ let also = wider_more q some.0 (operand-target r lawful e.deps q m) some.1 in cc
+    ]
+
+    -- among more entries it comes as far
+    same_advance : advanced r wider e ≡ advanced r s.entries e
+    same_advance = sym (progress-more r lawful e.path e.deps (outcomes_of s.entries) (outcomes_of wider) wider_more out_is_fed.1)
+
+    moved : List Entry
+    moved = put wider (moved_on e (advanced r s.entries e))
+
+    moved_is : moved ≡ put wider (moved_on e (advanced r wider e))
+    unfolding moved
+    moved_is = ap (λ x. put wider (moved_on e x)) (sym same_advance)
+
+    entered_all : (q : List ℕ) → IsAmong (operands r (advanced r wider e).deps) q → IsAmong (paths_of wider) q
+    entered_all q m =
+        let P : Progress → Type 0 = λ x. IsAmong (operands r x.deps) q in
+        wider_paths q (inr (subst P same_advance m))
+
+    moved_standing : AreStanding r request moved
+    moved_standing =
+        let P : List Entry → Type 0 = AreStanding r request in
+        subst P (sym moved_is) (put-standing r lawful request wider wider_standing e (wider_entry e.path e out_entry) out_is_fed.0 wider_fed entered_all)
+
+    moved_more : Extends r (outcomes_of wider) (outcomes_of moved)
+    moved_more =
+        let P : List Entry → Type 0 = λ es. Extends r (outcomes_of wider) (outcomes_of es) in
+        subst P (sym moved_is) (put-outcomes r lawful request wider wider_standing e (wider_entry e.path e out_entry) out_is_fed.0 wider_fed entered_all)
+
+    moved_fed : (q : List ℕ) → (e.path ≡ q → ⊥) → IsFed r s.entries q → IsFed r moved q
+    unfolding moved
+    moved_fed q other fed = (
+      fed.0,
+      entry_of-put_other wider (moved_on e (advanced r s.entries e)) q other ∙ wider_entry q fed.0 fed.1,
+      fed.2,
+      λ x m none. elim (cases_Option (outcomes_of s.entries x)) [
+        | inl no_answer ↦ fed.3 x m no_answer
+        | inr some ↦
+            let target = operand-target r lawful fed.0.deps x m in
+            let also = moved_more x some.0 target (wider_more x some.0 target some.1) in
+            absurd (let P : Option Outcome → Type 0 = λ y. y ≡ Some some.0 in no_some some.0 (subst P none also))
+      ],
+    )
+      where
+        no_some : (v : Outcome) → None ≡ Some v → ⊥
+        no_some v h = cc
+
+    moved_cases : (q : List ℕ) (x : Entry) → entry_of moved q ≡ Some x → x.is_out ≡ true → (e.path ≡ q → ⊥) × (entry_of s.entries q ≡ Some x)
+    unfolding moved wider
+    moved_cases q x h is_out = elim (cases_Bool (bytes_eq e.path q)) [
+      | inl t ↦
+          let same = (bytes_eq-Decides e.path q).0 t in
+          let P : List ℕ → Type 0 = λ y. entry_of moved y ≡ Some (moved_on e (advanced r s.entries e)) in
+          let there = subst P same (entry_of-put_same wider (moved_on e (advanced r s.entries e)) (entry_of-among wider e.path e (wider_entry e.path e out_entry))) in
+          let is : x ≡ moved_on e (advanced r s.entries e) = let both : Some x ≡ Some (moved_on e (advanced r s.entries e)) = sym h ∙ there in cc in
+          absurd (both_ways _ (ap (λ (y : Entry). y.is_out) is) is_out)
+      | inr f ↦
+          let other : e.path ≡ q → ⊥ = λ same. both_ways _ f ((bytes_eq-Decides e.path q).1 same) in
+          let old = sym (entry_of-put_other wider (moved_on e (advanced r s.entries e)) q other) ∙ h in
+          elim (entry_of-entered_cases r s.entries (operands r (advanced r s.entries e).deps) q x old) [
+            | inl older ↦ (other, older)
+            | inr new ↦ absurd (both_ways _ (ap (λ (y : Entry). y.is_out) new.1 ∙ new-inside q) is_out)
+          ]
+    ]
+
+    pub handed_in-sound : IsSound r request (handed_in r s (Some e))
+    unfolding moved wider
+    handed_in-sound = released-sound
+        (record { entries = moved; ready = s.ready })
+        moved_standing
+        (λ q m.
+        let P : List (List ℕ) → Type 0 = λ xs. IsAmong xs q in
+        subst P (sym (paths_of-put wider (moved_on e (advanced r s.entries e)))) (wider_paths q (inl (sound.requested q m))))
+        (record {
+          ready_fed = λ q m. moved_fed q (λ same. not_ready q m same) (sound.queued.ready_fed q m);
+          out_fed = λ q x h is_out. let old = moved_cases q x h is_out in moved_fed q old.0 (sound.queued.out_fed q x old.1 is_out);
+          ready_distinct = sound.queued.ready_distinct;
+          apart = λ q x m h. elim (cases_Bool x.is_out) [
+            | inl is_out ↦ let old = moved_cases q x h is_out in sound.queued.apart q x m old.1
+            | inr inside ↦ inside
+          ];
+        })
+      where
+        not_ready : (q : List ℕ) → IsAmong s.ready q → e.path ≡ q → ⊥
+        not_ready q m same =
+            let P : List ℕ → Type 0 = λ y. entry_of s.entries y ≡ Some e in
+            both_ways _ (sound.queued.apart q e m (subst P same out_entry)) out
+
+    -- what goes on after the piece is the target itself, a path seen for the first time, or one that asked for the target
+    pub freed-cases : (q : List ℕ) (x : Entry) → entry_of (put (entered r s.entries (operands r (advanced r s.entries e).deps)) (moved_on e (advanced r s.entries e))) q ≡ Some x →
+        is_free r (record { entries = put (entered r s.entries (operands r (advanced r s.entries e).deps)) (moved_on e (advanced r s.entries e)); ready = s.ready }) x ≡ true →
+        (e.path ≡ q) ⊎ ((entry_of s.entries q ≡ None) ⊎ ((entry_of s.entries q ≡ Some x) × IsAmong (operands r x.deps) e.path))
+    unfolding moved wider
+    freed-cases q x h free = elim (cases_Bool (bytes_eq e.path q)) [
+      | inl t ↦ inl ((bytes_eq-Decides e.path q).0 t)
+      | inr f ↦
+          let other : e.path ≡ q → ⊥ = λ same. both_ways _ f ((bytes_eq-Decides e.path q).1 same) in
+          let there = sym (entry_of-put_other wider (moved_on e (advanced r s.entries e)) q other) ∙ h in
+          elim (entry_of-entered_cases r s.entries (operands r (advanced r s.entries e).deps) q x there) [
+            | inl old ↦
+                let parts = is_free-parts r (record { entries = moved; ready = s.ready }) x free in
+                let path = entry_of-path s.entries q x old in
+                let waits = sound.others_wait q x old parts.0
+                (λ m. both_ways _ parts.3 (is_among-from s.ready x.path (IsAmong-same s.ready q x.path (sym path) m))) parts.2 in
+                inr (inr (
+                  old,
+                  elim (cases_Bool (bytes_eq e.path waits.0)) [
+                    | inl t ↦ IsAmong-same (operands r x.deps) waits.0 e.path (sym ((bytes_eq-Decides e.path waits.0).0 t)) waits.1
+                    | inr g ↦ absurd (
+                        let away : e.path ≡ waits.0 → ⊥ = λ same. both_ways _ g ((bytes_eq-Decides e.path waits.0).1 same) in
+                        let known = among-entry_of s.entries waits.0 (sound.standing.closed q waits.0 x old waits.1) in
+                        let now = entry_of-put_other wider (moved_on e (advanced r s.entries e)) waits.0 away ∙ wider_entry waits.0 known.0 known.1 in
+                        let none : outcomes_of moved waits.0 ≡ None = ap outcome_of now ∙ sym (ap outcome_of known.1) ∙ waits.2 in
+                        lacks_none-true r moved x parts.1 waits.0 waits.1 none)
+                  ],
+                ))
+            | inr new ↦ inr (inl new.0)
+          ]
+    ]
+
+  pub happens-sound : (s : State) (event : Event) → IsSound r request s → IsOpen s event → IsSound r request (happens r s event)
+  happens-sound s (Take which) sound open' =
+      let at = slice_get-below s.ready which open' in
+      let fed = sound.queued.ready_fed at.0 (slice_get-among s.ready which at.0 at.1) in
+      let P : Option (List ℕ) → Type 0 = λ x. IsSound r request (taken s (option_and_then (entry_of s.entries) x) which) in
+      let Q : Option Entry → Type 0 = λ x. IsSound r request (taken s x which) in
+      subst P (sym at.1) (subst Q (sym fed.1) (taken-sound s sound which at.0 fed.0 at.1 fed.1))
+  happens-sound s (Hand_in target turn) sound open' =
+      let P : Option Entry → Type 0 = λ x. IsSound r request (handed_in r s x) in
+      subst P (sym open'.at) (handed_in-sound s sound target open'.entry open'.at open'.is_out)
+
+  pub run-sound : (s : State) (events : List Event) → IsSound r request s → AllOpen r s events → IsSound r request (run r events s)
+  run-sound s [] sound open' = sound
+  run-sound s (event ∷ events) sound open' =
+      run-sound (happens r s event) events (happens-sound s event sound open'.0) open'.1

@@ -1,0 +1,38 @@
+-- What the layers below tell of a build: which paths are sources, and how far a target comes under given answers.
+use Rattle.std.specs.Prelude.{◌≡◌, ℕ, Bool, false, List, [], None}
+use Rattle.redo_record.specs.Progress as asked
+use Rattle.redo_record.specs.Progress.{Gains, IsLawful, Progress}
+pub use Rattle.redo_record.specs.Progress.{changed}
+use Rattle.redo_record.specs.Answers.{Ask as Answers}
+use Rattle.redo_record.specs.declared.deps.Dep.{Dep}
+
+-- the outcome of each path that has one
+abbrev pub Ask : Type 0
+Ask = Answers
+
+-- a tree and its limits, as the layers below see them
+pub record Rules : Type 0 where
+  pub is_source : List ℕ → Bool
+  pub has_rule : List ℕ → Bool
+  -- a target that is no source, under an ask
+  pub progress : List ℕ → Ask → Progress
+
+-- the paths that a record waits for
+abbrev pub operands : Rules → List Dep → List (List ℕ)
+operands r deps = asked.operands r.is_source deps
+
+-- what a target asks for under an ask
+abbrev pub asked_under : Rules → List ℕ → Ask → List (List ℕ)
+asked_under r p ask = operands r (r.progress p ask).deps
+
+-- every answer of the first ask to a path that is no source is one of the second
+abbrev pub Extends : Rules → Ask → Ask → Type 0
+Extends r a b = Gains r.is_source a b
+
+-- what a script may do with answers
+pub record AreLawful (r : Rules) : Type 0 where
+  -- each target's progress follows the answers to what it asks for
+  pub each : (p : List ℕ) → IsLawful r.is_source (r.progress p)
+  -- without a rule a target asks for nothing and ends at once
+  pub unruled : (p : List ℕ) (a : Ask) → r.has_rule p ≡ false →
+      (asked_under r p a ≡ []) × ((r.progress p a).outcome ≡ None → ⊥)

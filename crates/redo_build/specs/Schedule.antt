@@ -1,0 +1,143 @@
+-- The states of a build and what may happen next, over every order in which scripts are taken and handed in.
+use Rattle.std.specs.Prelude.{◌≡◌, ℕ, ◌+◌, ◌<◌, Bool, true, false, not, ◌&&◌, List, [], ◌∷◌, ◌++◌, Option, Some, None, is_some, is_none, if◌then◌else◌, length, filter, remove, slice_get, option_and_then, bytes_eq}
+use Rattle.std.specs.List.{list_any}
+use Rattle.redo_record.specs.Paths.{is_among}
+use Rattle.redo_record.specs.Progress.{Progress}
+use Rattle.redo_build.specs.Rules.{Ask, Rules, operands}
+use Rattle.redo_build.specs.Outcomes.{requested_targets}
+use Rattle.redo_record.specs.declared.deps.Dep.{Dep}
+use Rattle.redo_record.specs.declared.outcome.Outcome.{Outcome}
+
+-- a target that was seen: how often its script stopped, its record so far, its outcome once it is decided, and
+-- whether its job is out
+pub record Entry : Type 0 where
+  pub path : List ℕ
+  pub turn : ℕ
+  pub deps : List Dep
+  pub outcome : Option Outcome
+  pub is_out : Bool
+
+-- the entries in order of first sight, and those of them that may be taken. An entry that isn't decided, ready or out
+-- is waiting
+pub record State : Type 0 where
+  pub entries : List Entry
+  pub ready : List (List ℕ)
+
+abbrev pub paths_of : List Entry → List (List ℕ)
+paths_of [] = []
+paths_of (e ∷ es) = e.path ∷ paths_of es
+
+abbrev pub entry_of : List Entry → List ℕ → Option Entry
+entry_of [] p = None
+entry_of (e ∷ es) p = if bytes_eq e.path p then Some e else entry_of es p
+
+abbrev pub outcome_of : Option Entry → Option Outcome
+outcome_of None = None
+outcome_of (Some e) = e.outcome
+
+-- the outcomes that are decided
+abbrev pub outcomes_of : List Entry → Ask
+outcomes_of es p = outcome_of (entry_of es p)
+
+-- the answers to these paths alone
+abbrev pub only : List (List ℕ) → Ask → Ask
+only ps a q = if is_among ps q then a q else None
+
+abbrev pub nothing_known : Ask
+nothing_known q = None
+
+-- a path that is seen for the first time: without a rule it is decided at once
+abbrev pub new_entry : Rules → List ℕ → Entry
+new_entry r p =
+    if r.has_rule p
+    then record { path = p; turn = 0; deps = []; outcome = None; is_out = false }
+    else record { path = p; turn = 0; deps = (r.progress p nothing_known).deps; outcome = (r.progress p nothing_known).outcome; is_out = false }
+
+-- the entries, and behind them those of the paths that are new
+abbrev pub entered : Rules → List Entry → List (List ℕ) → List Entry
+entered r es [] = es
+entered r es (p ∷ ps) = entered r (if is_among (paths_of es) p then es else es ++ new_entry r p ∷ []) ps
+
+-- the entries with that of a path replaced
+abbrev pub put : List Entry → Entry → List Entry
+put [] e = []
+put (x ∷ xs) e = if bytes_eq x.path e.path then e ∷ xs else x ∷ put xs e
+
+-- every path that the entry asked for is decided
+abbrev pub lacks_none : Rules → List Entry → Entry → Bool
+lacks_none r es e = not (list_any (λ q. is_none (outcomes_of es q)) (operands r e.deps))
+
+-- the entry can go on, and isn't noted as ready or out
+abbrev pub is_free : Rules → State → Entry → Bool
+is_free r s e = is_none e.outcome && lacks_none r s.entries e && not e.is_out && not (is_among s.ready e.path)
+
+-- what can go on now is ready behind the others, in order of first sight
+abbrev pub released : Rules → State → State
+released r s = record s { ready = s.ready ++ paths_of (filter (is_free r s) s.entries) }
+
+-- the opening
+abbrev pub opening : Rules → List (List ℕ) → State
+opening r request = released r (record { entries = entered r [] (requested_targets r request); ready = [] })
+
+pub data Event : Type 0 where
+  Take : (which : ℕ) → Event
+  Hand_in : (target : List ℕ) (turn : ℕ) → Event
+
+-- the entry, with its job out
+abbrev pub sent_out : Entry → Entry
+sent_out e = record e { is_out = true }
+
+abbrev pub taken : State → Option Entry → ℕ → State
+taken s None which = s
+taken s (Some e) which = record { entries = put s.entries (sent_out e); ready = remove s.ready which }
+
+-- how far an entry comes with the answers that it asked for
+abbrev pub advanced : Rules → List Entry → Entry → Progress
+advanced r es e = r.progress e.path (only (operands r e.deps) (outcomes_of es))
+
+-- the entry after its script was advanced so far
+abbrev pub moved_on : Entry → Progress → Entry
+moved_on e now =
+    record { path = e.path; turn = if is_some now.outcome then e.turn else e.turn + 1; deps = now.deps; outcome = now.outcome; is_out = false }
+
+abbrev pub handed_in : Rules → State → Option Entry → State
+handed_in r s None = s
+handed_in r s (Some e) =
+    let now = advanced r s.entries e in
+    released r (record {
+      entries = put (entered r s.entries (operands r now.deps)) (moved_on e now);
+      ready = s.ready;
+    })
+
+abbrev pub happens : Rules → State → Event → State
+happens r s (Take which) = taken s (option_and_then (entry_of s.entries) (slice_get s.ready which)) which
+happens r s (Hand_in target turn) = handed_in r s (entry_of s.entries target)
+
+-- the target is out at that turn
+pub record IsOutAt (s : State) (target : List ℕ) (turn : ℕ) : Type 0 where
+  pub entry : Entry
+  pub at : entry_of s.entries target ≡ Some entry
+  pub is_out : entry.is_out ≡ true
+  pub at_turn : entry.turn ≡ turn
+
+abbrev pub IsOpen : State → Event → Type 0
+IsOpen s (Take which) = which < length s.ready
+IsOpen s (Hand_in target turn) = IsOutAt s target turn
+
+-- the state after these events
+abbrev pub run : Rules → List Event → State → State
+run r [] s = s
+run r (e ∷ es) s = run r es (happens r s e)
+
+-- each of these events is open when it happens
+abbrev pub AllOpen : Rules → State → List Event → Type 0
+AllOpen r s [] = Unit {0}
+AllOpen r s (e ∷ es) = IsOpen s e × AllOpen r (happens r s e) es
+
+-- how many jobs are out
+abbrev pub out_count : State → ℕ
+out_count s = length (filter (λ e. e.is_out) s.entries)
+
+-- nothing is ready and nothing is out
+abbrev pub IsQuiet : State → Type 0
+IsQuiet s = (s.ready ≡ []) × (out_count s ≡ 0)

@@ -1,0 +1,27 @@
+-- What every run of open events shows of the build, and what a quiet state shows.
+use Rattle.std.specs.Prelude.{◌≡◌, ℕ, ◌<◌, ◌≤◌, ◌↔◌, List, Some, length}
+use Rattle.redo_record.specs.Paths.{IsAmong}
+use Rattle.redo_build.specs.Rules.{Rules}
+use Rattle.redo_build.specs.Outcomes.{outcome_at, needed_at, record_of, IsTooMany}
+use Rattle.redo_build.specs.Schedule.{Entry, State, paths_of, entry_of, outcomes_of}
+use Rattle.redo_record.specs.declared.outcome.Outcome.{Outcome}
+
+-- a state on the way
+pub record IsPartOfBuild (r : Rules) (request : List (List ℕ)) (limit : ℕ) (s : State) : Type 0 where
+  -- what is decided is so at some depth of the build
+  pub decided : (p : List ℕ) (e : Entry) (o : Outcome) → entry_of s.entries p ≡ Some e → e.outcome ≡ Some o →
+      (n : ℕ) × (outcome_at r n p ≡ Some o)
+  -- within the limit it is so at the limit, with its record
+  pub recorded : length s.entries ≤ limit → (p : List ℕ) (e : Entry) (o : Outcome) → entry_of s.entries p ≡ Some e → e.outcome ≡ Some o →
+      (outcome_at r limit p ≡ Some o) × (e.deps ≡ record_of r limit p)
+  -- nothing is entered that isn't needed
+  pub needed : (p : List ℕ) → IsAmong (paths_of s.entries) p → (n : ℕ) × IsAmong (needed_at r request n) p
+  -- the limit is passed only where the build needs too many
+  pub too_many : limit < length s.entries → IsTooMany r request limit
+
+-- a state at the end
+pub record ShowsBuild (r : Rules) (request : List (List ℕ)) (limit : ℕ) (s : State) : Type 0 where
+  pub members : (p : List ℕ) → IsAmong (paths_of s.entries) p ↔ IsAmong (needed_at r request limit) p
+  pub within : length (needed_at r request limit) ≤ limit
+  pub outcomes : (p : List ℕ) → IsAmong (paths_of s.entries) p → outcomes_of s.entries p ≡ outcome_at r limit p
+  pub records : (p : List ℕ) (e : Entry) → entry_of s.entries p ≡ Some e → e.deps ≡ record_of r limit p

@@ -1,0 +1,35 @@
+-- What holds of the entries of every state of the schedule.
+use Rattle.std.specs.Prelude.{◌≡◌, ℕ, ◌+◌, ◌<◌, false, List, [], ◌∷◌, Some, None, is_some, if◌then◌else◌}
+use Rattle.redo_record.specs.Paths.{IsAmong, AreDistinct}
+use Rattle.redo_build.specs.Rules.{Rules, operands}
+use Rattle.redo_build.specs.Outcomes.{outcome_at, needed_at}
+use Rattle.redo_build.specs.Schedule.{Entry, paths_of, entry_of, outcomes_of}
+use Rattle.redo_build.specs.inside.Turns.{deps_at_turn, CameTo}
+use Rattle.redo_record.specs.declared.outcome.Outcome.{Outcome}
+
+-- how many entries are decided
+abbrev pub decided_count : List Entry → ℕ
+decided_count [] = 0
+decided_count (e ∷ es) = (if is_some e.outcome then 1 else 0) + decided_count es
+
+-- needed at some depth
+abbrev pub IsNeeded : Rules → List (List ℕ) → List ℕ → Type 0
+IsNeeded r request p = (n : ℕ) × IsAmong (needed_at r request n) p
+
+-- how a decided entry stands: a depth below the number of those decided gives its outcome and record
+abbrev pub IsDecidedAs : Rules → List Entry → Entry → Outcome → Type 0
+IsDecidedAs r es e o =
+    (n : ℕ) × (n < decided_count es) × (r.progress e.path (outcome_at r n) ≡ record { outcome = Some o; deps = e.deps })
+
+-- how an entry stands that isn't decided: its script came to its turn with what is decided
+pub record IsUnderWay (r : Rules) (es : List Entry) (e : Entry) : Type 0 where
+  pub came : CameTo r e.path (outcomes_of es) e.turn
+  pub is : e.deps ≡ deps_at_turn r e.path (outcomes_of es) e.turn
+
+pub record AreStanding (r : Rules) (request : List (List ℕ)) (es : List Entry) : Type 0 where
+  pub distinct : AreDistinct (paths_of es)
+  pub targets : (p : List ℕ) → IsAmong (paths_of es) p → r.is_source p ≡ false
+  pub needed : (p : List ℕ) → IsAmong (paths_of es) p → IsNeeded r request p
+  pub closed : (p q : List ℕ) (e : Entry) → entry_of es p ≡ Some e → IsAmong (operands r e.deps) q → IsAmong (paths_of es) q
+  pub decided : (p : List ℕ) (e : Entry) (o : Outcome) → entry_of es p ≡ Some e → e.outcome ≡ Some o → IsDecidedAs r es e o
+  pub under_way : (p : List ℕ) (e : Entry) → entry_of es p ≡ Some e → e.outcome ≡ None → IsUnderWay r es e

@@ -1,0 +1,51 @@
+-- What a board's events do to the number of jobs that are out, and to that of those that may still be taken.
+use Rattle.std.proofs.Common.{◌≡◌, ℕ, ◌+◌, ◌<◌, ◌≤◌, false, List, length, is_some, sym, subst}
+use Rattle.std.specs.Arc.{arc_value}
+use Rattle.redo_build.specs.Schedule.{State, happens, IsOutAt}
+use Rattle.redo_build.specs.Schedule.Event.{Take, Hand_in}
+use Rattle.redo_core.specs.inside.Slots.{rules_inside, state_of, IsKept}
+use Rattle.redo_build.specs.TakesLeft.{takes_left}
+use Rattle.redo_core.specs.Views.{after, jobs_out, BoardView, WorkView, IsWorkTaken}
+use Rattle.redo_core.specs.declared.board.Board.TheInside.{Inside}
+use Rattle.redo_build.proofs.CountLemmas.{take-out, take-at, take-left, hand_in-out, hand_in-left}
+use Rattle.redo_core.proofs.LawfulTreeLemmas.{rules_lawful}
+use Rattle.redo_build.proofs.QueueLemmas.{slice_get-among}
+use Rattle.redo_core.proofs.TakeLemmas.{sound-inside, length-entries, view_of}
+
+module _ (b : Inside) (kept : IsKept b) (on : is_some b.stopped ≡ false) where
+  module _ (which : ℕ) (below : which < length (state_of b).ready) (view : BoardView) (is : view_of b ≡ view) where
+    pub one_more : jobs_out (after view (Take which)) ≡ jobs_out view + 1
+    one_more =
+        let P : BoardView → Type 0 = λ v. jobs_out (after v (Take which)) ≡ jobs_out v + 1 in
+        subst P is (rw on (take-out (rules_inside b) (rules_lawful (arc_value b.tree) b.limits) b.request.items (state_of b) (sound-inside b kept) which below))
+
+    pub left_less : takes_left view.limits.targets (after view (Take which)).state < takes_left view.limits.targets view.state
+    left_less =
+        let P : BoardView → Type 0 = λ v. takes_left v.limits.targets (after v (Take which)).state < takes_left v.limits.targets v.state in
+        subst P is (take-left (rules_inside b) (rules_lawful (arc_value b.tree) b.limits) b.request.items (state_of b) (sound-inside b kept) which b.limits.targets below (length-entries b kept))
+
+    pub work_out : (w : WorkView) → IsWorkTaken view which w → IsOutAt (after view (Take which)).state w.target w.turn
+    work_out w taken =
+        let P : BoardView → Type 0 = λ v. IsWorkTaken v which w → IsOutAt (after v (Take which)).state w.target w.turn in
+        (subst P is here) taken
+      where
+        here : IsWorkTaken (view_of b) which w → IsOutAt (happens (rules_inside b) (state_of b) (Take which)) w.target w.turn
+        here is_taken =
+            let sound = sound-inside b kept in
+            let fed = sound.queued.ready_fed w.target (slice_get-among (state_of b).ready which w.target is_taken.target) in
+            let out = take-at (rules_inside b) (rules_lawful (arc_value b.tree) b.limits) b.request.items (state_of b) sound which w.target fed.0 below is_taken.target fed.1 in
+            let Q : ℕ → Type 0 = λ n. IsOutAt (happens (rules_inside b) (state_of b) (Take which)) w.target n in
+            subst Q (sym (is_taken.turn fed.0 fed.1).0) out
+
+  module _ (target : List ℕ) (turn : ℕ) (out : IsOutAt (state_of b) target turn) (view : BoardView) (is : view_of b ≡ view)
+      (new : State) (next : new ≡ happens (rules_inside b) (state_of b) (Hand_in target turn)) where
+    pub one_fewer : jobs_out (record (view_of b) { state = new }) + 1 ≡ jobs_out view
+    one_fewer =
+        let P : BoardView → Type 0 = λ v. jobs_out (record (view_of b) { state = new }) + 1 ≡ jobs_out v in
+        subst P is (rw (on, next) (hand_in-out (rules_inside b) (rules_lawful (arc_value b.tree) b.limits) b.request.items (state_of b) (sound-inside b kept) target turn out))
+
+    pub left_no_more : length new.entries ≤ b.limits.targets → takes_left b.limits.targets new ≤ takes_left view.limits.targets view.state
+    left_no_more few =
+        let P : BoardView → Type 0 = λ v. takes_left b.limits.targets new ≤ takes_left v.limits.targets v.state in
+        let Q : State → Type 0 = λ s. length s.entries ≤ b.limits.targets → takes_left b.limits.targets s ≤ takes_left b.limits.targets (state_of b) in
+        subst P is ((subst Q (sym next) (hand_in-left (rules_inside b) (rules_lawful (arc_value b.tree) b.limits) b.request.items (state_of b) (sound-inside b kept) target turn b.limits.targets out)) few)

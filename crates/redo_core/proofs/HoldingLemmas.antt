@@ -1,0 +1,47 @@
+-- A work holds the outcomes of all that it asked for, and no others.
+use Rattle.std.proofs.Common.{◌≡◌, ℕ, ◌+◌, inl, inr, List, refl, sym, ◌∙◌, arith}
+use Rattle.std.proofs.lemmas.Bool.{cases_Bool}
+use Rattle.redo_tree.specs.Tree.{Tree}
+use Rattle.redo_record.specs.declared.deps.Dep.{Dep}
+use Rattle.redo_record.specs.Paths.{is_among}
+use Rattle.redo_build.specs.Rules.{Rules, AreLawful, operands}
+use Rattle.redo_build.specs.Outcomes.{outcome_at}
+use Rattle.redo_build.specs.Schedule.{Entry, outcomes_of, only}
+use Rattle.redo_core.specs.inside.Slots.{AllAnswered}
+use Rattle.redo_build.specs.inside.Standing.{AreStanding, decided_count}
+use Rattle.redo_core.specs.inside.Scripts.{IsScriptOf, script_target, script_turn, script_deps, script_known}
+use Rattle.redo_core.specs.inside.Works.{HoldsOutcomes}
+use Rattle.redo_core.specs.declared.work.Script.{Script}
+use Rattle.redo_core.specs.declared.work.Script.TheVariants.{Unread, Begun}
+use Rattle.redo_build.proofs.DepthLemmas.{cases_Option, deeper, operand-target}
+use Rattle.redo_build.proofs.PathLemmas.{is_among-true}
+use Rattle.redo_build.proofs.StandingLemmas.{outcomes_of-deep}
+use Rattle.redo_step.specs.Limits.{LimitsView}
+
+pub script-holds : (tree : Tree) (limits : LimitsView) (s : Script) → IsScriptOf tree limits s →
+    HoldsOutcomes (record { tree = tree; limits = limits; target = script_target s; turn = script_turn s; deps = script_deps s; known = script_known s })
+script-holds tree limits (Unread unread) is = record { depth = 0; fed = λ q m none. m; exact = λ q. refl }
+script-holds tree limits (Begun begun) work = record { depth = work.is_work.depth; fed = work.is_work.fed; exact = work.exact }
+
+-- where the build at a depth and the entries both have all the answers, these are the same
+pub same-answers : (r : Rules) (lawful : AreLawful r) (request : List (List ℕ)) (es : List Entry) → AreStanding r request es → (depth : ℕ) (deps : List Dep) →
+    AllAnswered r (outcome_at r depth) deps → AllAnswered r (outcomes_of es) deps → (q : List ℕ) →
+    only (operands r deps) (outcome_at r depth) q ≡ only (operands r deps) (outcomes_of es) q
+same-answers r lawful request es standing depth deps fed all q = elim (cases_Bool (is_among (operands r deps) q)) [
+  | inl t ↦ rw t (
+      let m = is_among-true (operands r deps) q t in
+      let target = operand-target r lawful deps q m in
+      elim (cases_Option (outcomes_of es q)) [
+        | inl none ↦ absurd (all q m none)
+        | inr some ↦ elim (cases_Option (outcome_at r depth q)) [
+          | inl none ↦ absurd (fed q m none)
+          | inr other ↦
+              let n = decided_count es in
+              let known = outcomes_of-deep r lawful request es standing q some.0 target some.1 in
+              let here = deeper r lawful n (n + depth) (omega arith) q some.0 target known in
+              let there = deeper r lawful depth (n + depth) (omega arith) q other.0 target other.1 in
+              other.1 ∙ sym there ∙ here ∙ sym some.1
+        ]
+      ])
+  | inr f ↦ rw f refl
+]

@@ -1,0 +1,129 @@
+-- The numbers freed go into the queue, and the table shows what the schedule releases.
+use Rattle.std.proofs.Common.{map, slice_get, take, drop, ◌-◌, ◌≤◌, ◌≡◌, ℕ, zero, suc, ◌+◌, ◌<◌, List, [], ◌∷◌, ◌++◌, append-nil, length, filter, Option, Some, None, inl, inr, ◌⊎◌, refl, sym, ap, subst, ◌∙◌, arith}
+use Rattle.std.proofs.lemmas.List.{map-append}
+use Rattle.redo_tree.specs.Tree.{Tree}
+use Rattle.redo_record.specs.Paths.{AreDistinct}
+use Rattle.redo_build.specs.Rules.{Rules}
+use Rattle.redo_build.specs.Outcomes.{outcome_at}
+use Rattle.redo_core.specs.Build.{rules_of}
+use Rattle.redo_build.specs.Schedule.{Entry, State, released}
+use Rattle.redo_build.specs.inside.Standing.{AreStanding}
+use Rattle.redo_record.specs.declared.deps.Dep.{Dep}
+use Rattle.redo_core.specs.declared.work.End.{End}
+use Rattle.redo_core.proofs.TakeInLemmas.{after-sound, after-state, after-entries, moved}
+use Rattle.redo_core.proofs.SlotLemmas.{slice_get-from, paths_of-slots}
+use Rattle.redo_core.specs.inside.Slots.{MayTakeIn, IsPutBackThere, IsTakenIn, IsLookedAt, AreLookedAt, table_entries, table_state, path_at, IsPlace, IsQueue, IsTable, IsTableOf, AllWatched, AreReleased}
+use Rattle.redo_core.specs.declared.table.Slot.{Slot}
+use Rattle.redo_core.specs.declared.table.Table.{Table}
+use Rattle.redo_core.proofs.TableLemmas.{place-append, place-left, place-right}
+use Rattle.redo_core.proofs.FreedLemmas.{freed-paths}
+use Rattle.redo_core.proofs.SortingLemmas.{sorted-ascend, shuffled-to, shuffled-from, shuffled-once}
+use Rattle.redo_step.specs.Limits.{LimitsView}
+
+queue-released : (slots : List Slot) (ready freed sorted : List ℕ) → ((k : ℕ) → IsPlace freed k → IsPlace sorted k) → ((k : ℕ) → IsPlace sorted k → IsPlace freed k) →
+    IsQueue slots ready freed → IsQueue slots (ready ++ sorted) []
+queue-released slots ready freed sorted to from queue = record {
+  ready_below = λ k m. elim (place-append ready sorted k m) [ inl old ↦ queue.ready_below k old | inr new ↦ queue.freed_below k (from k new) ];
+  freed_below = λ k m. absurd m;
+  ready_is = λ k x m g. elim m [
+    | inl l ↦ elim (place-append ready sorted k l) [ inl old ↦ queue.ready_is k x (inl old) g | inr new ↦ queue.ready_is k x (inr (from k new)) g ]
+    | inr none ↦ absurd none
+  ];
+  ready_in = λ k x g t. elim (queue.ready_in k x g t) [
+    | inl old ↦ inl (place-left ready sorted k old)
+    | inr new ↦ inl (place-right ready sorted k (to k new))
+  ];
+  apart = λ k m n. n;
+  once = tt;
+}
+
+module _ (tree : Tree) (limits : LimitsView) (request : List (List ℕ)) (t u : Table) (freed : List ℕ) (table : IsTableOf tree limits t freed)
+    (standing : AreStanding (rules_of tree limits) request (table_entries (rules_of tree limits) limits.targets t))
+    (watched : AllWatched (rules_of tree limits) limits.targets t.targets.keys t.slots.items []) (w : AreReleased t u freed) where
+  abbrev r : Rules
+  r = rules_of tree limits
+
+  distinct : AreDistinct t.targets.keys
+  distinct =
+      let P : List (List ℕ) → Type 0 = AreDistinct in
+      subst P (paths_of-slots r (outcome_at r limits.targets) t.targets.keys t.slots.items table.one_each) standing.distinct
+
+  pub released-table : IsTableOf tree limits u []
+  released-table =
+      let raw : IsTable r tree limits t.targets.keys t.slots.items (t.ready.items ++ w.sorted) t.out [] = record {
+        one_each = table.one_each;
+        within_limit = table.within_limit;
+        few = table.few;
+        out_counted = table.out_counted;
+        fits = table.fits;
+        numbered = table.numbered;
+        queue = queue-released t.slots.items t.ready.items freed w.sorted (shuffled-to freed w.sorted w.shuffled) (shuffled-from freed w.sorted w.shuffled) table.queue;
+        watchers_below = table.watchers_below;
+      } in
+      rw (w.rest.0, w.rest.1, w.rest.2, w.queue) raw
+
+  pub released-watched : AllWatched (rules_of tree limits) limits.targets u.targets.keys u.slots.items []
+  released-watched = rw (w.rest.0, w.rest.1) watched
+
+  pub released-state : table_state (rules_of tree limits) limits.targets u ≡ released (rules_of tree limits) (table_state (rules_of tree limits) limits.targets t)
+  released-state =
+      let paths = freed-paths tree limits t freed w.sorted table distinct watched (sorted-ascend w.sorted w.ordered (shuffled-once freed w.sorted w.shuffled table.queue.once))
+      (shuffled-from freed w.sorted w.shuffled) (shuffled-to freed w.sorted w.shuffled) in
+      let S : List (List ℕ) → State = λ qs. record { entries = table_entries r limits.targets t; ready = qs } in
+      let first : table_state r limits.targets u ≡ S (map (path_at t.targets.keys) (t.ready.items ++ w.sorted)) = rw (w.rest.0, w.rest.1, w.queue) refl in
+      first ∙ ap S (map-append (path_at t.targets.keys) t.ready.items w.sorted ∙ ap (λ qs. map (path_at t.targets.keys) t.ready.items ++ qs) (sym paths))
+
+take-whole : (xs : List Dep) (n : ℕ) → length xs ≤ n → take n xs ≡ xs
+take-whole [] zero h = refl
+take-whole [] (suc n) h = refl
+take-whole (x ∷ xs) zero h = absurd (omega arith)
+take-whole (x ∷ xs) (suc n) h = ap (λ ys. x ∷ ys) (take-whole xs n (omega arith))
+
+-- the rest of a slice, from a number on
+pub slice-rest : (xs : List Dep) (n : ℕ) → take (length xs - n) (drop n xs) ≡ drop n xs
+slice-rest xs n = take-whole (drop n xs) (length xs - n) (omega (arith, Rattle.std.proofs.Common.length-drop n xs))
+
+map-same : (f g : ℕ → List ℕ) (xs : List ℕ) → ((k : ℕ) → IsPlace xs k → f k ≡ g k) → map f xs ≡ map g xs
+map-same f g [] h = refl
+map-same f g (x ∷ xs) h =
+    let rest = map-same f g xs (λ k m. h k (inr m)) in
+    ap (λ y. y ∷ map f xs) (h x (inl refl)) ∙ ap (λ ys. g x ∷ ys) rest
+
+-- the numbers left are looked at
+pub looked-put : (tree : Tree) (limits : LimitsView) (t u v : Table) (at : ℕ) (freed freed' pending : List ℕ) →
+    IsPutBackThere tree limits t u at freed pending → IsTableOf tree limits v freed' → AreLookedAt tree limits u v pending → IsPutBackThere tree limits t v at freed' []
+looked-put tree limits t u v at freed freed' pending put table looked =
+    let P : List ℕ → Type 0 = λ xs. AllWatched (rules_of tree limits) limits.targets u.targets.keys u.slots.items xs in
+    record {
+      table = table;
+      entries = looked.entries ∙ put.entries;
+      ready = looked.rest.1 ∙ put.ready;
+      keys_kept = λ k p h. rw looked.rest.0 (put.keys_kept k p h);
+      within = λ k m. absurd m;
+      watched = looked.watched [] (subst P (sym (append-nil pending)) put.watched);
+    }
+
+-- one number is looked at
+pub looked-one : (tree : Tree) (limits : LimitsView) (t u : Table) (at : ℕ) → IsLookedAt tree limits t u at → AreLookedAt tree limits t u (at ∷ [])
+looked-one tree limits t u at one = record { entries = one.entries; rest = one.rest; slots = one.slots; watched = one.watched }
+
+-- all the steps together
+pub taken-in : (tree : Tree) (limits : LimitsView) (t u v : Table) (at : ℕ) (end : End) (freed : List ℕ) (may : MayTakeIn tree limits t at end) →
+    IsPutBackThere tree limits t u at freed [] → AreReleased u v freed → IsTakenIn tree limits t v at
+taken-in tree limits t u v at end freed may put released' =
+    let r = rules_of tree limits in
+    let S : List Entry → Type 0 = AreStanding r may.request in
+    let standing = subst S (sym put.entries) (after-sound tree limits t at end may).standing in
+    let T : List Entry → List (List ℕ) → State = λ xs ps. record { entries = xs; ready = ps } in
+    let names : map (path_at u.targets.keys) u.ready.items ≡ map (path_at t.targets.keys) t.ready.items =
+    (let one : map (path_at u.targets.keys) u.ready.items ≡ map (path_at u.targets.keys) t.ready.items = rw put.ready refl in
+    one ∙ map-same (path_at u.targets.keys) (path_at t.targets.keys) t.ready.items (λ k m.
+    let found = slice_get-from t.targets.keys k (omega (arith, may.table.one_each, may.table.queue.ready_below k m)) in
+    rw (put.keys_kept k found.0 found.1, found.1) refl)) in
+    let before : table_state r limits.targets u ≡ T (moved tree limits t at end may) (map (path_at t.targets.keys) t.ready.items) =
+    ap (λ xs. T xs (map (path_at u.targets.keys) u.ready.items)) (put.entries ∙ after-entries tree limits t at end may) ∙ ap (T (moved tree limits t at end may)) names in
+    record {
+      table = released-table tree limits may.request u v freed put.table standing put.watched released';
+      watched = released-watched tree limits may.request u v freed put.table standing put.watched released';
+      state = released-state tree limits may.request u v freed put.table standing put.watched released' ∙ ap (released r) before ∙ sym (after-state tree limits t at end may);
+    }

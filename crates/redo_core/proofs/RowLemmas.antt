@@ -1,0 +1,245 @@
+-- What the rows of a report say together, and their paths in order.
+use Rattle.std.proofs.Common.{◌≡◌, ℕ, zero, suc, ◌<◌, Bool, true, false, ◌⊎◌, inl, inr, List, [], ◌∷◌, ◌++◌, length, map, filter, if◌then◌else◌, Some, None, refl, sym, ap, subst, ◌∙◌, arith}
+use Rattle.std.proofs.lemmas.Bool.{cases_Bool}
+use Rattle.std.proofs.lemmas.Grind.{flat_map-append}
+use Rattle.std.proofs.lemmas.List.{append-nil, map-append}
+use Rattle.std.proofs.lemmas.List.Elements.{All-nil, All-cons, filter-append}
+use Rattle.std.proofs.lemmas.List.Kept.{IsStrictlySortedBy-dedup}
+use Rattle.std.proofs.lemmas.List.Sorted.{Contains-permutation, IsPermutation-sym}
+use Rattle.std.proofs.lemmas.Map.Text.{is_eq-slice_cmp}
+use Rattle.std.proofs.lemmas.Slice.Eq.{bytes_eq-Decides}
+use Rattle.std.specs.Cmp.Lexicographic.{on_texts, slice_cmp}
+use Rattle.std.specs.List.{AllByRecursion, dedup, dedup_from}
+use Rattle.std.specs.List.Sorted.{IsPermutation, IsSorted, IsStrictlySortedBy}
+use Rattle.std.specs.Ordering.{nat_cmp, eq_by_cmp}
+use Rattle.std.specs.Prelude.{All, Contains, slice_index_or}
+use Rattle.std.specs.declared.cmp.Ordering.{Ordering}
+use Rattle.std.specs.declared.cmp.Ordering.TheVariants.{Less}
+use Rattle.redo_tree.specs.Tree.{Tree}
+use Rattle.redo_which.specs.Rule.{found_of}
+use Rattle.redo_step.specs.Setting.{is_rule}
+use Rattle.redo_record.specs.declared.outcome.Outcome.{Outcome}
+use Rattle.redo_record.specs.declared.outcome.Outcome.TheVariants.{Source, Built, Failed, Cyclic}
+use Rattle.redo_record.specs.Paths.{IsAmong}
+use Rattle.redo_core.specs.inside.Reported.{file_of, placed, row_files, row_begun}
+use Rattle.redo_report.specs.declared.report.Row.{Row}
+use Rattle.redo_core.proofs.OrderLemmas.{IsBefore, AreSorted, placed-from, placed-second, placed-sorted, sorted-unique}
+
+module _ {X : Type 0} where
+  -- the item is one of these
+  abbrev pub IsItem : List X → X → Type 0
+  IsItem [] x = ⊥
+  IsItem (y ∷ ys) x = (y ≡ x) ⊎ IsItem ys x
+
+  pub item-contained : (xs : List X) (x : X) → IsItem xs x → Contains xs x
+  item-contained [] x m = absurd m
+  item-contained (y ∷ ys) x m = elim m [
+    | inl here ↦ (zero, omega arith, here)
+    | inr later ↦ let rest = item-contained ys x later in (suc rest.0, omega (arith, rest.1), rest.2)
+  ]
+
+  at-item : (xs : List X) (x : X) (k : ℕ) → k < length xs → slice_index_or xs k x ≡ x → IsItem xs x
+  at-item [] x k below e = absurd (omega arith)
+  at-item (y ∷ ys) x zero below e = inl e
+  at-item (y ∷ ys) x (suc k) below e = inr (at-item ys x k (omega (arith, below)) e)
+
+  pub contained-item : (xs : List X) (x : X) → Contains xs x → IsItem xs x
+  contained-item xs x c = at-item xs x c.0 c.1 c.2
+
+  pub all_rows : (P : X → Type 0) (xs : List X) → AllByRecursion P xs → All P xs
+  all_rows P [] h = All-nil P
+  all_rows P (x ∷ xs) h = All-cons P x xs h.0 (all_rows P xs h.1)
+
+  pub of_item : (P : X → Type 0) (xs : List X) (x : X) → AllByRecursion P xs → IsItem xs x → P x
+  of_item P [] x h m = absurd m
+  of_item P (y ∷ ys) x h m = elim m [ inl here ↦ subst P here h.0 | inr later ↦ of_item P ys x h.1 later ]
+
+  pub all_from : (P Q : X → Type 0) (xs : List X) → AllByRecursion P xs → ((x : X) → IsItem xs x → P x → Q x) → AllByRecursion Q xs
+  all_from P Q [] h f = tt
+  all_from P Q (x ∷ xs) h f = (f x (inl refl) h.0, all_from P Q xs h.1 (λ y m. f y (inr m)))
+
+pub path_row : (rows : List Row) (p : List ℕ) → IsAmong (map (λ row. row.path) rows) p → (row : Row) × IsItem rows row × (row.path ≡ p)
+path_row [] p m = absurd m
+path_row (row ∷ rows) p m = elim m [
+  | inl here ↦ (row, inl refl, here)
+  | inr later ↦ let found = path_row rows p later in (found.0, inr found.1, found.2)
+]
+
+pub row_path : (rows : List Row) (row : Row) → IsItem rows row → IsAmong (map (λ row. row.path) rows) row.path
+row_path [] row m = absurd m
+row_path (x ∷ rows) row m = elim m [ inl here ↦ inl (ap (λ (y : Row). y.path) here) | inr later ↦ inr (row_path rows row later) ]
+
+pub filter-among : (f : List ℕ → Bool) (ps : List (List ℕ)) (p : List ℕ) → IsAmong ps p → f p ≡ true → IsAmong (filter f ps) p
+filter-among f [] p m t = absurd m
+filter-among f (x ∷ ps) p m t = elim (cases_Bool (f x)) [
+  | inl passes ↦ rw passes (elim m [ inl here ↦ inl here | inr later ↦ inr (filter-among f ps p later t) ])
+  | inr out ↦ rw out (elim m [
+    | inl here ↦ let bad : false ≡ true = sym out ∙ ap f here ∙ t in cc
+    | inr later ↦ filter-among f ps p later t
+  ])
+]
+
+-- One row more
+
+pub rows-added : (P : Row → Type 0) (rows : List Row) (row : Row) → AllByRecursion P rows → P row → AllByRecursion P (rows ++ row ∷ [])
+rows-added P [] row h is = (is, tt)
+rows-added P (x ∷ rows) row h is = (h.0, rows-added P rows row h.1 is)
+
+pub files-added : (rows : List Row) (row : Row) → row_files (rows ++ row ∷ []) ≡ row_files rows ++ file_of row.path row.outcome
+files-added rows row =
+    flat_map-append (λ x. file_of x.path x.outcome) rows (row ∷ [])
+    ∙ ap (λ fs. row_files rows ++ fs) (append-nil (file_of row.path row.outcome))
+
+pub begun-added : (tree : Tree) (rows : List Row) (row : Row) (begun : Bool) → begun ≡ is_rule (found_of tree row.path) → row_begun tree (rows ++ row ∷ []) ≡ row_begun tree rows ++ (if begun then row.path ∷ [] else [])
+begun-added tree rows row begun is =
+    ap (filter (λ p. is_rule (found_of tree p))) (map-append (λ (x : Row). x.path) rows (row ∷ []))
+    ∙ filter-append (λ p. is_rule (found_of tree p)) (map (λ x. x.path) rows) (row.path ∷ [])
+    ∙ ap (λ ps. row_begun tree rows ++ ps) ((elim begun as (λ b. b ≡ is_rule (found_of tree row.path) → filter (λ p. is_rule (found_of tree p)) (row.path ∷ []) ≡ (if b then row.path ∷ [] else [])) [
+      | true ↦ λ t. rw (sym t) refl
+      | false ↦ λ f. rw (sym f) refl
+    ]) is)
+
+-- Paths in order, each once
+
+module _ {X : Type 0} (key : X → List ℕ) where
+  key-among : (xs : List X) (x : X) → IsItem xs x → IsAmong (map key xs) (key x)
+  key-among [] x m = absurd m
+  key-among (y ∷ xs) x m = elim m [ inl here ↦ inl (ap key here) | inr later ↦ inr (key-among xs x later) ]
+
+  among-key : (xs : List X) (p : List ℕ) → IsAmong (map key xs) p → (x : X) × IsItem xs x × (key x ≡ p)
+  among-key [] p m = absurd m
+  among-key (y ∷ xs) p m = elim m [
+    | inl here ↦ (y, inl refl, here)
+    | inr later ↦ let found = among-key xs p later in (found.0, inr found.1, found.2)
+  ]
+
+  -- a list in another order has the same keys
+  permuted-among : (xs ys : List X) (p : List ℕ) → IsPermutation xs ys → IsAmong (map key xs) p → IsAmong (map key ys) p
+  permuted-among xs ys p same m =
+      let found = among-key xs p m in
+      let there = contained-item ys found.0 (Contains-permutation xs ys found.0 same (item-contained xs found.0 found.1)) in
+      let P : List ℕ → Type 0 = IsAmong (map key ys) in
+      subst P found.2 (key-among ys found.0 there)
+
+  module _ (same : X → X → Bool) (alike : (x y : X) → same x y ≡ true → key x ≡ key y) where
+    -- a list without doubles has the same keys
+    kept-from : (k : X) (xs : List X) (p : List ℕ) → IsAmong (map key (k ∷ xs)) p → IsAmong (map key (dedup_from same k xs)) p
+    kept-from k [] p m = m
+    kept-from k (x ∷ xs) p m = elim (cases_Bool (same x k)) [
+      | inl t ↦ rw t (kept-from k xs p (elim m [
+        | inl here ↦ inl here
+        | inr rest ↦ elim rest [ inl next ↦ inl (sym (alike x k t) ∙ next) | inr later ↦ inr later ]
+      ]))
+      | inr f ↦ rw f (elim m [ inl here ↦ inl here | inr rest ↦ inr (kept-from x xs p rest) ])
+    ]
+
+    from-kept : (k : X) (xs : List X) (p : List ℕ) → IsAmong (map key (dedup_from same k xs)) p → IsAmong (map key (k ∷ xs)) p
+    from-kept k [] p m = m
+    from-kept k (x ∷ xs) p m = elim (cases_Bool (same x k)) [
+      | inl t ↦ elim (from-kept k xs p (rw t at m)) [ inl here ↦ inl here | inr later ↦ inr (inr later) ]
+      | inr f ↦ elim (rw f at m) [ inl here ↦ inl here | inr rest ↦ inr (from-kept x xs p rest) ]
+    ]
+
+    kept-keys : (xs : List X) (p : List ℕ) → IsAmong (map key xs) p → IsAmong (map key (dedup same xs)) p
+    kept-keys [] p m = m
+    kept-keys (x ∷ xs) p m = kept-from x xs p m
+
+    keys-kept : (xs : List X) (p : List ℕ) → IsAmong (map key (dedup same xs)) p → IsAmong (map key xs) p
+    keys-kept [] p m = m
+    keys-kept (x ∷ xs) p m = from-kept x xs p m
+
+  -- the order by the keys
+  abbrev by_key : X → X → Ordering
+  by_key x y = slice_cmp nat_cmp (key x) (key y)
+
+  key-before : (x : X) (ys : List X) → AllByRecursion (λ y. by_key x y ≡ Less) ys → IsBefore (key x) (map key ys)
+  key-before x [] h q m = absurd m
+  key-before x (y ∷ ys) h q m = elim m [
+    | inl here ↦ let P : List ℕ → Type 0 = λ p. slice_cmp nat_cmp (key x) p ≡ Less in subst P here h.0
+    | inr later ↦ key-before x ys h.1 q later
+  ]
+
+  keys-sorted : (xs : List X) → IsStrictlySortedBy by_key xs → AreSorted (map key xs)
+  unfolding IsStrictlySortedBy
+  keys-sorted [] s = tt
+  keys-sorted (x ∷ xs) s = (key-before x xs s.0, keys-sorted xs s.1)
+
+  same_key : (x y : X) → eq_by_cmp by_key x y ≡ true → key x ≡ key y
+  same_key x y e = (bytes_eq-Decides (key x) (key y)).0 (sym (is_eq-slice_cmp (key x) (key y)) ∙ e)
+
+  -- what a sort by the keys leaves has them in path order, where doubles are passed over
+  pub listed-once : (same : X → X → Bool) → ((x y : X) → same x y ≡ eq_by_cmp by_key x y) → (xs ys : List X) → IsPermutation xs ys → IsSorted by_key ys →
+      map key (dedup same ys) ≡ placed [] (map key xs)
+  listed-once same ties xs ys permuted sorted =
+      let alike : (x y : X) → same x y ≡ true → key x ≡ key y = λ x y t. same_key x y (sym (ties x y) ∙ t) in
+      sorted-unique (map key (dedup same ys)) (placed [] (map key xs))
+      (keys-sorted (dedup same ys) (IsStrictlySortedBy-dedup (on_texts key) ties ys sorted))
+      (placed-sorted [] (map key xs) tt)
+      (λ p m. placed-second [] (map key xs) p (permuted-among ys xs p (IsPermutation-sym xs ys permuted) (keys-kept same alike ys p m)))
+      (λ p m. elim (placed-from [] (map key xs) p m) [
+        | inl none ↦ absurd none
+        | inr there ↦ kept-keys same alike ys p (permuted-among xs ys p permuted there)
+      ])
+
+-- Files
+
+file_paths : (p : List ℕ) (o : Outcome) (fs : List (List ℕ × List ℕ)) (q : List ℕ) → IsAmong (map (λ f. f.0) (file_of p o ++ fs)) q → (p ≡ q) ⊎ IsAmong (map (λ f. f.0) fs) q
+file_paths p Source fs q m = inr m
+file_paths p (Built None) fs q m = inr m
+file_paths p (Built (Some bytes)) fs q m = m
+file_paths p (Failed why) fs q m = inr m
+file_paths p Cyclic fs q m = inr m
+
+file_sorted : (p : List ℕ) (o : Outcome) (fs : List (List ℕ × List ℕ)) → IsBefore p (map (λ f. f.0) fs) → AreSorted (map (λ f. f.0) fs) → AreSorted (map (λ f. f.0) (file_of p o ++ fs))
+file_sorted p Source fs b s = s
+file_sorted p (Built None) fs b s = s
+file_sorted p (Built (Some bytes)) fs b s = (b, s)
+file_sorted p (Failed why) fs b s = s
+file_sorted p Cyclic fs b s = s
+
+files_paths : (rows : List Row) (q : List ℕ) → IsAmong (map (λ f. f.0) (row_files rows)) q → IsAmong (map (λ row. row.path) rows) q
+files_paths [] q m = absurd m
+files_paths (row ∷ rows) q m = elim (file_paths row.path row.outcome (row_files rows) q m) [
+  | inl here ↦ inl here
+  | inr later ↦ inr (files_paths rows q later)
+]
+
+pub files_sorted : (rows : List Row) → AreSorted (map (λ row. row.path) rows) → AreSorted (map (λ f. f.0) (row_files rows))
+files_sorted [] s = tt
+files_sorted (row ∷ rows) s = file_sorted row.path row.outcome (row_files rows) (λ q m. s.0 q (files_paths rows q m)) (files_sorted rows s.1)
+
+file_cases : (p : List ℕ) (o : Outcome) (fs : List (List ℕ × List ℕ)) (f : List ℕ × List ℕ) → IsItem (file_of p o ++ fs) f → ((o ≡ Built (Some f.1)) × (p ≡ f.0)) ⊎ IsItem fs f
+file_cases p Source fs f m = inr m
+file_cases p (Built None) fs f m = inr m
+file_cases p (Built (Some bytes)) fs f m = elim m [
+  | inl here ↦ inl (ap (λ (x : List ℕ × List ℕ). Built (Some x.1)) here, ap (λ (x : List ℕ × List ℕ). x.0) here)
+  | inr later ↦ inr later
+]
+file_cases p (Failed why) fs f m = inr m
+file_cases p Cyclic fs f m = inr m
+
+file_later : (p : List ℕ) (o : Outcome) (fs : List (List ℕ × List ℕ)) (f : List ℕ × List ℕ) → IsItem fs f → IsItem (file_of p o ++ fs) f
+file_later p Source fs f m = m
+file_later p (Built None) fs f m = m
+file_later p (Built (Some bytes)) fs f m = inr m
+file_later p (Failed why) fs f m = m
+file_later p Cyclic fs f m = m
+
+-- each file is that of a row
+pub file_row : (rows : List Row) (f : List ℕ × List ℕ) → IsItem (row_files rows) f → (row : Row) × IsItem rows row × (row.outcome ≡ Built (Some f.1)) × (row.path ≡ f.0)
+file_row [] f m = absurd m
+file_row (row ∷ rows) f m = elim (file_cases row.path row.outcome (row_files rows) f m) [
+  | inl here ↦ (row, inl refl, here.0, here.1)
+  | inr later ↦ let found = file_row rows f later in (found.0, inr found.1, found.2, found.3)
+]
+
+-- each row that was built with a file has it there
+pub row_file : (rows : List Row) (row : Row) (bytes : List ℕ) → IsItem rows row → row.outcome ≡ Built (Some bytes) → IsItem (row_files rows) (row.path, bytes)
+row_file [] row bytes m e = absurd m
+row_file (x ∷ rows) row bytes m e = elim m [
+  | inl here ↦
+      let P : Outcome → Type 0 = λ o. IsItem (file_of x.path o ++ row_files rows) (row.path, bytes) in
+      let is : x.outcome ≡ Built (Some bytes) = ap (λ (y : Row). y.outcome) here ∙ e in
+      subst P (sym is) (inl (ap (λ (y : Row). (y.path, bytes)) here))
+  | inr later ↦ file_later x.path x.outcome (row_files rows) (row.path, bytes) (row_file rows row bytes later e)
+]

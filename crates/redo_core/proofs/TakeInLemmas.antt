@@ -1,0 +1,426 @@
+-- What a handed in piece does to the table is what the schedule says.
+use Rattle.std.proofs.Common.{map, slice_get, slice_set, ◌≡◌, ℕ, zero, suc, ◌+◌, ◌<◌, ◌≤◌, max, Bool, true, false, cond, ◌&&◌, ◌⊎◌, inl, inr, List, [], ◌∷◌, ◌++◌, length, take, drop, take-append-drop, filter, Option, Some, None, is_some, refl, sym, ap, subst, ◌∙◌, arith, Global}
+use Rattle.std.proofs.lemmas.Bool.{cases_Bool}
+use Rattle.redo_tree.specs.Tree.{Tree}
+use Rattle.redo_record.specs.declared.deps.Dep.{Dep}
+use Rattle.redo_record.specs.declared.deps.DepKind.TheVariants.{Change}
+use Rattle.redo_record.specs.declared.outcome.Outcome.{Outcome}
+use Rattle.redo_step.specs.JobView.{JobView, found_deps, record_so_far}
+use Rattle.redo_record.specs.Entries.{is_entered, with_entry, with_all}
+use Rattle.redo_record.specs.Progress.{Progress}
+use Rattle.redo_record.specs.Paths.{IsAmong, AreDistinct, is_among}
+use Rattle.redo_record.proofs.Public.{entered_operand, one_entered, operand_entered, sources_alone}
+use Rattle.redo_build.specs.Rules.{Ask, Rules, AreLawful, Extends, operands}
+use Rattle.redo_build.specs.Outcomes.{outcome_at}
+use Rattle.redo_core.specs.Build.{rules_of}
+use Rattle.redo_build.specs.Schedule.{Entry, State, outcomes_of, paths_of, entry_of, entered, put, only, advanced, moved_on, released, IsOutAt}
+use Rattle.redo_build.specs.Schedule.Event.{Hand_in}
+use Rattle.redo_build.specs.inside.Standing.{decided_count}
+use Rattle.redo_build.specs.inside.Turns.{CameTo, deps_at_turn}
+use Rattle.std.specs.Arc.{arc_value}
+use Rattle.std.specs.declared.sync.Arc.{Arc}
+use Rattle.redo_core.specs.Views.{FactView}
+use Rattle.redo_core.specs.inside.Works.{job_deps, told_in, IsStopped}
+use Rattle.redo_core.specs.inside.Ends.{end_progress}
+use Rattle.redo_core.specs.inside.Slots.{table_entries, table_state, slot_entry, stage_deps, stage_outcome, is_stage_out, path_at, IsPlace, AreNumbers, waited_by, IsWaitingWith, AreEnteredInto, IsDecidedStage, IsDecidedAt, IsParkedStage, IsParkedAt, IsOutThere, MayTakeIn, IsPutBackThere, state_after}
+use Rattle.std.specs.Prelude.{Box}
+use Rattle.std.specs.declared.vec.Vec.{Vec}
+use Rattle.redo_core.specs.declared.table.Parked.{Parked}
+use Rattle.redo_core.specs.declared.work.Begun.{Begun}
+use Rattle.redo_core.specs.declared.table.Slot.{Slot}
+use Rattle.redo_core.specs.declared.table.Stage.{Stage}
+use Rattle.redo_core.specs.declared.table.Stage.TheVariants.{Waiting, Ready, Out, Decided}
+use Rattle.redo_core.specs.declared.table.Table.{Table}
+use Rattle.redo_core.specs.declared.work.End.{End}
+use Rattle.redo_core.specs.declared.work.End.TheVariants.{Ended, Stopped}
+use Rattle.redo_build.proofs.PathLemmas.{is_among-true, with_new-second, with_new-distinct}
+use Rattle.redo_build.proofs.DepthLemmas.{cases_Option, operand-target, deeper}
+use Rattle.redo_build.proofs.SeenLemmas.{outcomes_of-at, outcomes_of-entry, paths_of-entered, entry_of-entered_old}
+use Rattle.redo_core.proofs.LawfulTreeLemmas.{rules_lawful}
+use Rattle.redo_core.proofs.JobLemmas.{found_sources}
+use Rattle.redo_step.specs.Limits.{LimitsView}
+use Rattle.redo_build.proofs.TurnLemmas.{only-some, deps_at_turn-more, Extends-trans'}
+use Rattle.redo_build.proofs.TurnBoundLemmas.{turn-below, asked-more}
+use Rattle.redo_build.proofs.StandingLemmas.{outcomes_of-deep}
+use Rattle.redo_build.proofs.SoundLemmas.{IsSound, opening-sound, run-sound, happens-sound}
+use Rattle.redo_build.proofs.HandoverLemmas.{piece-advanced}
+use Rattle.redo_core.proofs.SlotLemmas.{entry_of-slots, paths_of-slots, slice_get-from, slice_get-below_some}
+use Rattle.redo_core.proofs.TableSteps.{operand-entry}
+use Rattle.redo_core.proofs.PutSteps.{put-entries, decided-table, decided-watched, parked-table, parked-watched}
+use Rattle.redo_core.proofs.EnterAllLemmas.{entered-append, entered-seen, operands-append}
+
+count-some : (xs : List Slot) (at : ℕ) (slot : Slot) → slice_get xs at ≡ Some slot → is_stage_out slot.stage ≡ true → 0 < length (filter (λ y. is_stage_out y.stage) xs)
+count-some [] at slot h out = cc
+count-some (x ∷ xs) zero slot h out =
+    let same : x ≡ slot = cc in
+    let is : is_stage_out x.stage ≡ true = ap (λ (y : Slot). is_stage_out y.stage) same ∙ out in
+    rw is (omega arith)
+count-some (x ∷ xs) (suc at) slot h out =
+    let rest = count-some xs at slot h out in
+    elim (cases_Bool (is_stage_out x.stage)) [ inl t ↦ rw t (omega arith) | inr f ↦ rw f rest ]
+
+decided-shows : (r : Rules) (a : Ask) (fact : FactView) (p : List ℕ) (turn : ℕ) (stage : Stage) → IsDecidedStage fact stage →
+    ◌≡◌ {A = Entry} (record { path = p; turn = turn; deps = stage_deps r a p turn stage; outcome = stage_outcome stage; is_out = is_stage_out stage })
+    (record { path = p; turn = turn; deps = fact.deps; outcome = Some fact.outcome; is_out = false })
+decided-shows r a fact p turn (Waiting parked) h = absurd h
+decided-shows r a fact p turn (Ready work) h = absurd h
+decided-shows r a fact p turn Out h = absurd h
+decided-shows r a fact p turn (Decided held) h =
+    let E : FactView → Entry = λ f. record { path = p; turn = turn; deps = f.deps; outcome = Some f.outcome; is_out = false } in ap E h
+
+parked-shows : (r : Rules) (a : Ask) (begun : Box Begun Global) (numbers : Vec ℕ Global) (p : List ℕ) (turn : ℕ) (stage : Stage) → IsParkedStage begun numbers stage →
+    ◌≡◌ {A = Entry} (record { path = p; turn = turn; deps = stage_deps r a p turn stage; outcome = stage_outcome stage; is_out = is_stage_out stage })
+    (record { path = p; turn = turn; deps = job_deps begun.value.job; outcome = None; is_out = false })
+parked-shows r a begun numbers p turn (Waiting parked) h =
+    let E : Parked → Entry = λ x. record { path = p; turn = turn; deps = job_deps x.begun.value.job; outcome = None; is_out = false } in ap E h
+parked-shows r a begun numbers p turn (Ready work) h = absurd h
+parked-shows r a begun numbers p turn Out h = absurd h
+parked-shows r a begun numbers p turn (Decided held) h = absurd h
+
+job_deps-stopped : (job : JobView) (n : ℕ) → job.turn ≡ suc n → job_deps job ≡ record_so_far job
+job_deps-stopped job n e = rw e refl
+
+-- entering what a record asks for is entering what each of its parts asks for
+all-entered : (r : Rules) (es : List Entry) (ds xs : List Dep) → entered r es (operands r (with_all ds xs)) ≡ entered r (entered r es (operands r ds)) (operands r xs)
+all-entered r es ds [] = refl
+all-entered r es ds (x ∷ xs) =
+    all-entered r es (with_entry ds x.kind x.path) xs ∙ ap (λ us. entered r us (operands r xs)) one ∙
+    sym (ap (entered r (entered r es (operands r ds))) (operands-append r (x ∷ []) xs) ∙ entered-append r (entered r es (operands r ds)) (operands r (x ∷ [])) (operands r xs))
+  where
+    seen : is_entered ds x.kind x.path ≡ true → (q : List ℕ) → IsAmong (operands r (x ∷ [])) q → IsAmong (paths_of (entered r es (operands r ds))) q
+    seen t q m =
+        let change : is_entered (x ∷ []) Change q ≡ true = operand_entered r.is_source (x ∷ []) q m in
+        let kind = one_entered x Change q change in
+        let K : Rattle.redo_record.specs.declared.deps.DepKind.DepKind → Type 0 = λ k. is_entered ds k x.path ≡ true in
+        let P : List ℕ → Type 0 = λ p. is_entered ds Change p ≡ true in
+        let there = subst P kind.1 (subst K kind.0 t) in
+        let source = (operand-entry r (x ∷ []) q m).3.1 in
+        let A : List (List ℕ) → Type 0 = λ ps. IsAmong ps q in
+        subst A (sym (paths_of-entered r es (operands r ds))) (with_new-second (paths_of es) (operands r ds) q (entered_operand r.is_source ds q source there))
+
+    one : entered r es (operands r (with_entry ds x.kind x.path)) ≡ entered r (entered r es (operands r ds)) (operands r (x ∷ []))
+    one = elim (cases_Bool (is_entered ds x.kind x.path)) [
+      | inl t ↦ rw t (sym (entered-seen r (entered r es (operands r ds)) (operands r (x ∷ [])) (seen t)))
+      | inr f ↦ rw f (ap (entered r es) (operands-append r ds (x ∷ [])) ∙ entered-append r es (operands r ds) (operands r (x ∷ [])))
+    ]
+
+module _ (tree : Tree) (limits : LimitsView) (t : Table) (at : ℕ) (end : End) (may : MayTakeIn tree limits t at end) where
+  abbrev r : Rules
+  r = rules_of tree limits
+
+  abbrev es : List Entry
+  es = table_entries (rules_of tree limits) limits.targets t
+
+  abbrev s : State
+  s = table_state (rules_of tree limits) limits.targets t
+
+  abbrev target : List ℕ
+  target = path_at t.targets.keys at
+
+  abbrev e : Entry
+  e = slot_entry (rules_of tree limits) (outcome_at (rules_of tree limits) limits.targets) (path_at t.targets.keys at) may.slot
+
+  lawful : AreLawful (rules_of tree limits)
+  lawful = rules_lawful tree limits
+
+  sound : IsSound (rules_of tree limits) may.request (table_state (rules_of tree limits) limits.targets t)
+  sound =
+      let P : State → Type 0 = IsSound r may.request in
+      subst P (sym may.reached.ends) (run-sound r lawful may.request _ may.reached.events (opening-sound r lawful may.request) may.reached.all_open)
+
+  pub keys_distinct : AreDistinct t.targets.keys
+  keys_distinct =
+      let P : List (List ℕ) → Type 0 = AreDistinct in
+      subst P (paths_of-slots r (outcome_at r limits.targets) t.targets.keys t.slots.items may.table.one_each) sound.standing.distinct
+
+  pub key-there : slice_get t.targets.keys at ≡ Some (path_at t.targets.keys at)
+  key-there =
+      let found = slice_get-from t.targets.keys at (omega (arith, may.table.one_each, slice_get-below_some t.slots.items at may.slot may.there)) in
+      let is : path_at t.targets.keys at ≡ found.0 = rw found.1 refl in
+      found.1 ∙ ap Some (sym is)
+
+  entry-there : entry_of (table_entries (rules_of tree limits) limits.targets t) (path_at t.targets.keys at) ≡ Some (slot_entry (rules_of tree limits) (outcome_at (rules_of tree limits) limits.targets) (path_at t.targets.keys at) may.slot)
+  entry-there = entry_of-slots r (outcome_at r limits.targets) t.targets.keys t.slots.items at target may.slot keys_distinct key-there may.there
+
+  e-out : is_stage_out may.slot.stage ≡ true
+  e-out = ap is_stage_out may.is_out
+
+  e-open : stage_outcome may.slot.stage ≡ None
+  e-open = ap stage_outcome may.is_out
+
+  e-fed : (q : List ℕ) → IsAmong (operands (rules_of tree limits) (stage_deps (rules_of tree limits) (outcome_at (rules_of tree limits) limits.targets) (path_at t.targets.keys at) may.slot.turn may.slot.stage)) q →
+      outcomes_of (table_entries (rules_of tree limits) limits.targets t) q ≡ None → ⊥
+  e-fed q m none =
+      let fed = sound.queued.out_fed target e entry-there e-out in
+      let both : Some fed.0 ≡ Some e = sym fed.1 ∙ entry-there in
+      let same : fed.0 ≡ e = cc in
+      let P : Entry → Type 0 = λ x. IsAmong (operands r x.deps) q in
+      fed.3 q (subst P (sym same) m) none
+
+  now-is : end_progress end ≡ advanced (rules_of tree limits) (table_entries (rules_of tree limits) limits.targets t) (slot_entry (rules_of tree limits) (outcome_at (rules_of tree limits) limits.targets) (path_at t.targets.keys at) may.slot)
+  now-is = piece-advanced r lawful may.request es sound.standing target e entry-there e-open e-fed (end_progress end) may.is_end.is_piece
+
+  open-event : IsOutAt (table_state (rules_of tree limits) limits.targets t) (path_at t.targets.keys at) may.slot.turn
+  open-event = record { entry = e; at = entry-there; is_out = e-out; at_turn = refl }
+
+  pub after-sound : IsSound (rules_of tree limits) may.request (state_after tree limits t at)
+  after-sound = happens-sound r lawful may.request s (Hand_in target may.slot.turn) sound open-event
+
+  pub moved : List Entry
+  moved = put (entered (rules_of tree limits) (table_entries (rules_of tree limits) limits.targets t) (operands (rules_of tree limits) (end_progress end).deps))
+      (moved_on (slot_entry (rules_of tree limits) (outcome_at (rules_of tree limits) limits.targets) (path_at t.targets.keys at) may.slot) (end_progress end))
+
+  pub after-state : state_after tree limits t at ≡ released (rules_of tree limits) (record { entries = moved; ready = map (path_at t.targets.keys) t.ready.items })
+  unfolding moved
+  after-state =
+      let N : Progress → State = λ now. released r (record { entries = put (entered r es (operands r now.deps)) (moved_on e now); ready = map (path_at t.targets.keys) t.ready.items }) in
+      let first : state_after tree limits t at ≡ N (advanced r es e) = rw entry-there refl in
+      first ∙ ap N (sym now-is)
+
+  pub after-entries : (state_after tree limits t at).entries ≡ moved
+  after-entries = ap (λ (x : State). x.entries) after-state
+
+  pub out-there : IsOutThere t at
+  out-there =
+      let below = turn-below r lawful may.request es sound.standing target e entry-there e-open e-fed in
+      let paths = ap length (paths_of-slots r (outcome_at r limits.targets) t.targets.keys t.slots.items may.table.one_each) in (
+        omega (arith, may.table.out_counted, count-some t.slots.items at may.slot may.there e-out),
+        (may.slot, may.there, may.is_out, omega (arith, below, paths, may.table.one_each, may.table.within_limit, may.table.few)),
+      )
+
+  pub small : at < 65536
+  small = omega (arith, slice_get-below_some t.slots.items at may.slot may.there, may.table.within_limit, may.table.few)
+
+  -- a script that ended asked for what is decided alone
+  module _ (fact : Arc FactView Global) (ended : end ≡ Ended fact) (u : Table) (pending : List ℕ) (d : IsDecidedAt t u at (arc_value {X = FactView} fact) pending) where
+    old-slot : d.old ≡ may.slot
+    old-slot = let both : Some d.old ≡ Some may.slot = sym d.put_back.there ∙ may.there in cc
+
+    fact-now : record { outcome = Some (arc_value {X = FactView} fact).outcome; deps = (arc_value {X = FactView} fact).deps } ≡ advanced (rules_of tree limits) (table_entries (rules_of tree limits) limits.targets t) (slot_entry (rules_of tree limits) (outcome_at (rules_of tree limits) limits.targets) (path_at t.targets.keys at) may.slot)
+    fact-now = let P : End → Type 0 = λ x. end_progress x ≡ advanced r es e in subst P ended now-is
+
+    asked-seen : (q : List ℕ) → IsAmong (operands (rules_of tree limits) (arc_value {X = FactView} fact).deps) q → IsAmong (paths_of (table_entries (rules_of tree limits) limits.targets t)) q
+    asked-seen q m =
+        let ask : Ask = only (operands r e.deps) (outcomes_of es) in
+        let outcome : (r.progress target ask).outcome ≡ Some (arc_value {X = FactView} fact).outcome = ap (λ (x : Progress). x.outcome) (sym fact-now) in
+        let D : Progress → Type 0 = λ x. IsAmong (operands r x.deps) q in
+        let asked = subst D fact-now m in
+        elim (cases_Bool (is_among (operands r e.deps) q)) [
+          | inl yes' ↦ sound.standing.closed target q e entry-there (is_among-true (operands r e.deps) q yes')
+          | inr no' ↦ absurd ((lawful.each target).answered q ask (arc_value {X = FactView} fact).outcome outcome asked (rw no' refl))
+        ]
+
+    decided-moved : table_entries (rules_of tree limits) limits.targets u ≡ moved
+    unfolding moved
+    decided-moved =
+        let put-in = put-entries tree limits t u [] may.table keys_distinct at d.old d.new d.put_back in
+        let turn : d.new.turn ≡ may.slot.turn = d.turn ∙ ap (λ (y : Slot). y.turn) old-slot in
+        let shows = decided-shows r (outcome_at r limits.targets) (arc_value {X = FactView} fact) target d.new.turn d.new.stage d.stage in
+        let M : ℕ → Entry = λ n. record { path = target; turn = n; deps = (arc_value {X = FactView} fact).deps; outcome = Some (arc_value {X = FactView} fact).outcome; is_out = false } in
+        let E : End → List Entry = λ x. put (entered r es (operands r (end_progress x).deps)) (moved_on e (end_progress x)) in
+        let seen = entered-seen r es (operands r (arc_value {X = FactView} fact).deps) asked-seen in
+        put-in ∙ ap (put es) (shows ∙ ap M turn) ∙ sym (ap (λ xs. put xs (M may.slot.turn)) seen) ∙ ap E (sym ended)
+
+    pub decided-put : IsPutBackThere tree limits t u at [] pending
+    decided-put =
+        let P : End → Type 0 = λ x. Rattle.redo_core.specs.inside.Ends.IsEndOf tree limits may.is_end.is_piece.depth target may.slot.turn x in
+        let of_fact = subst P ended may.is_end.is_end in
+        let len = ap length d.put_back.slots ∙ Rattle.std.proofs.Common.length-set t.slots.items at d.new in
+        let K : List (List ℕ) → Type 0 = λ xs. (k : ℕ) (p : List ℕ) → slice_get t.targets.keys k ≡ Some p → slice_get xs k ≡ Some p in
+        record {
+          table = decided-table tree limits t u [] may.table keys_distinct at (arc_value {X = FactView} fact) pending d of_fact.0 of_fact.1 of_fact.2;
+          entries = decided-moved ∙ sym after-entries;
+          ready = d.put_back.rest.1;
+          keys_kept = λ k p h. rw d.put_back.rest.0 h;
+          within = λ k m.
+              let L : List ℕ → Type 0 = λ xs. IsPlace xs k in
+              omega (arith, len, may.table.watchers_below at k d.old d.put_back.there (subst L d.pending_is m));
+          watched = decided-watched tree limits t u [] may.table keys_distinct at (arc_value {X = FactView} fact) pending d of_fact.0 of_fact.1 of_fact.2 may.watched;
+        }
+
+  -- a script that stopped
+  module _ (begun : Box Begun Global) (stopped : end ≡ Stopped begun) where
+    pub is_stopped : IsStopped tree limits may.is_end.is_piece.depth (path_at t.targets.keys at) may.slot.turn begun.value.job begun.value.facts
+    is_stopped =
+        let P : End → Type 0 = λ x. Rattle.redo_core.specs.inside.Ends.IsEndOf tree limits may.is_end.is_piece.depth target may.slot.turn x in
+        subst P stopped may.is_end.is_end
+
+    way : CameTo (rules_of tree limits) (path_at t.targets.keys at) (outcomes_of (table_entries (rules_of tree limits) limits.targets t)) may.slot.turn ×
+        (stage_deps (rules_of tree limits) (outcome_at (rules_of tree limits) limits.targets) (path_at t.targets.keys at) may.slot.turn may.slot.stage ≡
+        deps_at_turn (rules_of tree limits) (path_at t.targets.keys at) (outcomes_of (table_entries (rules_of tree limits) limits.targets t)) may.slot.turn)
+    way =
+        let w = sound.standing.under_way target e entry-there e-open in (w.came, w.is)
+
+    deep : Extends (rules_of tree limits) (outcomes_of (table_entries (rules_of tree limits) limits.targets t)) (outcome_at (rules_of tree limits) (decided_count (table_entries (rules_of tree limits) limits.targets t)))
+    deep = outcomes_of-deep r lawful may.request es sound.standing
+
+    -- the record at its turn is the same under the outcomes that the job held
+    same-deps : stage_deps (rules_of tree limits) (outcome_at (rules_of tree limits) limits.targets) (path_at t.targets.keys at) may.slot.turn may.slot.stage ≡
+        deps_at_turn (rules_of tree limits) (path_at t.targets.keys at) (outcome_at (rules_of tree limits) may.is_end.is_piece.depth) may.slot.turn
+    same-deps =
+        let n = may.is_end.is_piece.depth in
+        let m = max n (decided_count es) in
+        let one = deps_at_turn-more r lawful target (outcomes_of es) (outcome_at r m)
+        (Extends-trans' r (outcomes_of es) (outcome_at r (decided_count es)) (outcome_at r m) deep (deeper r lawful (decided_count es) m (omega arith))) may.slot.turn way.0 in
+        let two = deps_at_turn-more r lawful target (outcome_at r n) (outcome_at r m) (deeper r lawful n m (omega arith)) may.slot.turn may.is_end.is_piece.came in
+        way.1 ∙ one ∙ sym two
+
+    -- what it held is known, and it had asked for it
+    held-known : (q : List ℕ) (o : Outcome) → told_in begun.value.facts q ≡ Some o →
+        IsAmong (operands (rules_of tree limits) (stage_deps (rules_of tree limits) (outcome_at (rules_of tree limits) limits.targets) (path_at t.targets.keys at) may.slot.turn may.slot.stage)) q ×
+        (outcomes_of (table_entries (rules_of tree limits) limits.targets t) q ≡ Some o)
+    held-known q o h =
+        let n = may.is_end.is_piece.depth in
+        let m = max n (decided_count es) in
+        let held : only (operands r (deps_at_turn r target (outcome_at r n) may.slot.turn)) (outcome_at r n) q ≡ Some o = sym (is_stopped.exact q) ∙ h in
+        let value = only-some (operands r (deps_at_turn r target (outcome_at r n) may.slot.turn)) (outcome_at r n) q o held in
+        elim (cases_Bool (is_among (operands r (deps_at_turn r target (outcome_at r n) may.slot.turn)) q)) [
+          | inl yes' ↦
+              let there = is_among-true (operands r (deps_at_turn r target (outcome_at r n) may.slot.turn)) q yes' in
+              let D : List Dep → Type 0 = λ ds. IsAmong (operands r ds) q in
+              let asked = subst D (sym same-deps) there in
+              let source = operand-target r lawful e.deps q asked in
+              elim (cases_Option (outcomes_of es q)) [
+                | inl none ↦ absurd (e-fed q asked none)
+                | inr some ↦
+                    let one = deeper r lawful (decided_count es) m (omega arith) q some.0 source (deep q some.0 source some.1) in
+                    let two = deeper r lawful n m (omega arith) q o source value in
+                    let both : Some some.0 ≡ Some o = sym one ∙ two in
+                    (asked, some.1 ∙ both)
+              ]
+          | inr no' ↦ absurd (let bad = rw no' at held in cc)
+        ]
+
+    -- entering what it declared since is entering all that its record asks for
+    pub enters-same : entered (rules_of tree limits) (table_entries (rules_of tree limits) limits.targets t) (operands (rules_of tree limits) (drop begun.value.facts.gained begun.value.job.state.entries)) ≡
+        entered (rules_of tree limits) (table_entries (rules_of tree limits) limits.targets t) (operands (rules_of tree limits) (end_progress end).deps)
+    enters-same =
+        let old = take begun.value.facts.gained begun.value.job.state.entries in
+        let new = drop begun.value.facts.gained begun.value.job.state.entries in
+        let none = sources_alone (rules_of tree limits).is_source (found_deps begun.value.job) (found_sources tree limits begun.value.job is_stopped.is_job) in
+        let whole = all-entered r es (found_deps begun.value.job) begun.value.job.state.entries ∙ ap (λ qs. entered r (entered r es qs) (operands r begun.value.job.state.entries)) none in
+        let parts = ap (operands r) (sym (take-append-drop begun.value.facts.gained begun.value.job.state.entries)) ∙ operands-append r old new in
+        let seen = entered-seen r es (operands r old) (λ q m.
+        let found = operand-entry r old q m in
+        let at-old = take-get begun.value.job.state.entries begun.value.facts.gained found.0 found.1 found.2 in
+        elim (cases_Option (told_in begun.value.facts q)) [
+          | inl lost ↦ absurd (is_stopped.gained found.0 found.1 q at-old.0 at-old.1 found.3 lost)
+          | inr some ↦ sound.standing.closed target q e entry-there (held-known q some.0 some.1).0
+        ]) in
+        let E : End → List Entry = λ x. entered r es (operands r (end_progress x).deps) in
+        sym (ap E stopped ∙ whole ∙ ap (entered r es) parts ∙ entered-append r es (operands r old) (operands r new) ∙ ap (λ xs. entered r xs (operands r new)) seen)
+      where
+        take-get : (xs : List Dep) (n k : ℕ) (x : Dep) → slice_get (take n xs) k ≡ Some x → (k < n) × (slice_get xs k ≡ Some x)
+        take-get [] zero k x h = cc
+        take-get [] (suc n) k x h = cc
+        take-get (y ∷ xs) zero k x h = cc
+        take-get (y ∷ xs) (suc n) zero x h = (omega arith, h)
+        take-get (y ∷ xs) (suc n) (suc k) x h = let rest = take-get xs n k x h in (omega (arith, rest.0), rest.1)
+
+    pub after-length : length (entered (rules_of tree limits) (table_entries (rules_of tree limits) limits.targets t) (operands (rules_of tree limits) (drop begun.value.facts.gained begun.value.job.state.entries))) ≡ length (state_after tree limits t at).entries
+    unfolding moved
+    after-length =
+        let wide = entered r es (operands r (end_progress end).deps) in
+        ap length enters-same ∙ sym (ap length after-entries ∙ length-put wide (moved_on e (end_progress end)))
+      where
+        length-put : (xs : List Entry) (x : Entry) → length (put xs x) ≡ length xs
+        length-put [] x = refl
+        length-put (y ∷ xs) x = elim (cases_Bool (Rattle.std.proofs.Common.bytes_eq y.path x.path)) [ inl t' ↦ rw t' refl | inr f ↦ rw f (ap suc (length-put xs x)) ]
+
+    module _ (v : Table) (freed : List ℕ) (a : AreEnteredInto tree limits t v freed (operands (rules_of tree limits) (drop begun.value.facts.gained begun.value.job.state.entries))) where
+      there-still : slice_get v.slots.items at ≡ Some may.slot
+      there-still = a.slots_kept at may.slot may.there
+
+      pub out-still : IsOutThere v at
+      out-still = (omega (arith, out-there.0, a.rest.1), (may.slot, there-still, may.is_out, out-fits))
+        where
+          out-fits : may.slot.turn < 65536
+          out-fits =
+              let was = out-there.1 in
+              let both : Some was.0 ≡ Some may.slot = sym was.1 ∙ may.there in
+              let same : was.0 ≡ may.slot = cc in
+              let P : Slot → Type 0 = λ y. y.turn < 65536 in
+              subst P same was.3
+
+      path-still : path_at v.targets.keys at ≡ path_at t.targets.keys at
+      path-still = rw (a.keys_kept at target key-there) refl
+
+      wider-entries : table_entries (rules_of tree limits) limits.targets v ≡ entered (rules_of tree limits) (table_entries (rules_of tree limits) limits.targets t) (operands (rules_of tree limits) (end_progress end).deps)
+      wider-entries = a.entries ∙ enters-same
+
+      wider-distinct : AreDistinct v.targets.keys
+      wider-distinct =
+          let P : List (List ℕ) → Type 0 = AreDistinct in
+          let paths = ap paths_of a.entries ∙ paths_of-entered r es (operands r (drop begun.value.facts.gained begun.value.job.state.entries)) in
+          let keys = paths_of-slots r (outcome_at r limits.targets) v.targets.keys v.slots.items a.table.one_each in
+          subst P keys (subst P (sym paths) (with_new-distinct (paths_of es) (operands r (drop begun.value.facts.gained begun.value.job.state.entries)) sound.standing.distinct))
+
+      wider-known : (q : List ℕ) (o : Outcome) → outcomes_of (table_entries (rules_of tree limits) limits.targets t) q ≡ Some o → outcomes_of (table_entries (rules_of tree limits) limits.targets v) q ≡ Some o
+      wider-known q o h =
+          let P : List Entry → Type 0 = λ xs. outcomes_of xs q ≡ Some o in
+          let old = outcomes_of-entry es q o h in
+          subst P (sym a.entries) (outcomes_of-at (entered r es (operands r (drop begun.value.facts.gained begun.value.job.state.entries))) q old.0
+          (entry_of-entered_old r es (operands r (drop begun.value.facts.gained begun.value.job.state.entries)) q old.0 old.1) ∙ old.2)
+
+      one-more : begun.value.job.turn ≡ suc may.slot.turn
+      one-more = omega (arith, is_stopped.at_turn)
+
+      job-record : job_deps begun.value.job ≡ (end_progress end).deps
+      job-record =
+          let P : End → Type 0 = λ x. job_deps begun.value.job ≡ (end_progress x).deps in
+          subst P (sym stopped) (job_deps-stopped begun.value.job may.slot.turn one-more)
+
+      asked-still : (q : List ℕ) (o : Outcome) → told_in begun.value.facts q ≡ Some o → IsAmong (operands (rules_of tree limits) (job_deps begun.value.job)) q
+      asked-still q o h =
+          let n = may.is_end.is_piece.depth in
+          let D : List Dep → Type 0 = λ ds. IsAmong (operands r ds) q in
+          let before = subst D same-deps (held-known q o h).0 in
+          let more = asked-more r lawful target (outcome_at r n) may.slot.turn may.is_end.is_piece.came q before in
+          subst D (sym (job-record ∙ ap (λ (x : Progress). x.deps) may.is_end.is_piece.is)) more
+
+      module _ (u : Table) (numbers : Vec ℕ Global) (are : AreNumbers v.targets.keys numbers.items (waited_by (rules_of tree limits) begun.value)) (d : IsParkedAt v u at begun numbers) where
+        old-there : d.old ≡ may.slot
+        old-there = let both : Some d.old ≡ Some may.slot = sym d.put_back.there ∙ there-still in cc
+
+        new-turn : d.new.turn ≡ may.slot.turn + 1
+        new-turn = d.turn ∙ ap (λ (y : Slot). y.turn + 1) old-there
+
+        waits : IsWaitingWith (rules_of tree limits) (outcomes_of (table_entries (rules_of tree limits) limits.targets v)) tree limits (path_at v.targets.keys at) d.new.turn
+            (record { begun = begun; operands = numbers; held = 0 })
+        waits = record {
+          is_job = is_stopped.is_job;
+          of_target = is_stopped.of_target ∙ sym path-still;
+          at_turn = is_stopped.at_turn ∙ sym new-turn;
+          stopped = omega (arith, new-turn);
+          answered = λ k q below get none. absurd (omega (arith, below));
+          told = λ q o h. (asked-still q o h, wider-known q o (held-known q o h).1);
+          goes_on = is_stopped.goes_on;
+          gained_within = is_stopped.within;
+          gained = is_stopped.gained;
+        }
+
+        parked-moved : table_entries (rules_of tree limits) limits.targets u ≡ moved
+        unfolding moved
+        parked-moved =
+            let put-in = put-entries tree limits v u freed a.table wider-distinct at d.old d.new d.put_back in
+            let shows = parked-shows r (outcome_at r limits.targets) begun numbers (path_at v.targets.keys at) d.new.turn d.new.stage d.stage in
+            let M : List ℕ → ℕ → List Dep → Entry = λ p n ds. record { path = p; turn = n; deps = ds; outcome = None; is_out = false } in
+            let entry' = shows ∙ ap (λ p. M p d.new.turn (job_deps begun.value.job)) path-still ∙ ap (λ n. M target n (job_deps begun.value.job)) new-turn ∙ ap (M target (may.slot.turn + 1)) job-record in
+            let N : End → Type 0 = λ x. M target (may.slot.turn + 1) (end_progress x).deps ≡ moved_on e (end_progress x) in
+            let last : M target (may.slot.turn + 1) (end_progress end).deps ≡ moved_on e (end_progress end) = subst N (sym stopped) refl in
+            put-in ∙ ap (put (table_entries r limits.targets v)) (entry' ∙ last) ∙ ap (λ xs. put xs (moved_on e (end_progress end))) wider-entries
+
+        pub parked-put : IsPutBackThere tree limits t u at freed (at ∷ [])
+        parked-put =
+            let len = ap length d.put_back.slots ∙ Rattle.std.proofs.Common.length-set v.slots.items at d.new in
+            record {
+              table = parked-table tree limits v u freed a.table wider-distinct at begun numbers d waits are;
+              entries = parked-moved ∙ sym after-entries;
+              ready = d.put_back.rest.1 ∙ a.rest.0;
+              keys_kept = λ k p h. rw d.put_back.rest.0 (a.keys_kept k p h);
+              within = λ k m. elim m [
+                | inl here ↦ omega (arith, here, len, slice_get-below_some v.slots.items at may.slot there-still)
+                | inr none ↦ absurd none
+              ];
+              watched = parked-watched tree limits v u freed a.table wider-distinct at begun numbers d waits are (a.watched [] may.watched);
+            }

@@ -1,0 +1,5 @@
+pub mod Ends
+pub mod Reported
+pub mod Scripts
+pub mod Slots
+pub mod Works

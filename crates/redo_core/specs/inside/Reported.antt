@@ -1,0 +1,119 @@
+-- How a table whose targets wait or are decided makes a report.
+use Rattle.std.specs.Prelude.{◌≡◌, ◌⊎◌, Bool, true, false, ℕ, List, [], ◌∷◌, ◌++◌, Option, Some, None, MatchOption, filter, flat_map, fold, is_some, map, slice_get, if◌then◌else◌}
+use Rattle.std.specs.Arc.{arc_value}
+use Rattle.std.specs.Borrow.{Bor}
+use Rattle.std.specs.BTreeSet.{insert_key}
+use Rattle.std.specs.Cmp.Lexicographic.{slice_cmp}
+use Rattle.std.specs.List.{AllByRecursion}
+use Rattle.std.specs.Ordering.{nat_cmp}
+use Rattle.redo_tree.specs.Tree.{Tree, file_at}
+use Rattle.redo_which.specs.Rule.{found_of}
+use Rattle.redo_step.specs.Setting.{is_rule}
+use Rattle.redo_step.specs.JobView.{record_so_far}
+use Rattle.redo_record.specs.declared.deps.Dep.{Dep}
+use Rattle.redo_record.specs.declared.outcome.Outcome.{Outcome}
+use Rattle.redo_record.specs.declared.outcome.Outcome.TheVariants.{Source, Built, Failed, Cyclic}
+use Rattle.redo_record.specs.Paths.{IsAmong}
+use Rattle.redo_report.specs.declared.report.Report.{Report}
+use Rattle.redo_report.specs.declared.report.Row.{Row}
+use Rattle.redo_core.specs.declared.table.Slot.{Slot}
+use Rattle.redo_core.specs.declared.table.Stage.{Stage}
+use Rattle.redo_core.specs.declared.table.Stage.TheVariants.{Waiting, Ready, Out, Decided}
+use Rattle.redo_core.specs.declared.table.Table.{Table}
+
+-- more paths at their places in path order, each once
+abbrev pub placed : List (List ℕ) → List (List ℕ) → List (List ℕ)
+placed ps qs = fold (insert_key (slice_cmp nat_cmp)) ps qs
+
+abbrev pub sources_among : Tree → List (List ℕ) → List (List ℕ)
+sources_among tree ps = filter (λ p. is_some (file_at tree p)) ps
+
+-- the targets of a table and the requested sources in path order, each once
+abbrev pub reported_paths : Tree → List (List ℕ) → Table → List (List ℕ)
+reported_paths tree request t = placed (placed [] t.targets.keys) (sources_among tree request)
+
+-- paths that are lent, each with its number if it is a target, as they are made into rows
+abbrev pub listed_paths : List (Bor (List ℕ) × Option ℕ) → List (List ℕ)
+listed_paths es = map (λ e. e.0.now) es
+
+-- the number of a path among the targets, or none where it is no target
+abbrev pub IsNumberOf : List (List ℕ) → List ℕ → Option ℕ → Type 0
+IsNumberOf targets p at = MatchOption at (IsAmong targets p → ⊥) (λ k. slice_get targets k ≡ Some p)
+
+-- what a target comes to where nothing more can happen: what waits is cyclic
+abbrev pub IsShown : Stage → Outcome → List Dep → Type 0
+IsShown (Waiting parked) outcome deps = (outcome ≡ Cyclic) × (deps ≡ record_so_far parked.begun.value.job)
+IsShown (Ready work) outcome deps = ⊥
+IsShown Out outcome deps = ⊥
+IsShown (Decided fact) outcome deps = (outcome ≡ (arc_value fact).outcome) × (deps ≡ (arc_value fact).deps)
+
+abbrev pub is_settled : Stage → Bool
+is_settled (Waiting parked) = true
+is_settled (Ready work) = false
+is_settled Out = false
+is_settled (Decided fact) = true
+
+-- each target waits or is decided
+abbrev pub AllSettled : Table → Type 0
+AllSettled t = (k : ℕ) (slot : Slot) → slice_get t.slots.items k ≡ Some slot → is_settled slot.stage ≡ true
+
+-- a target that waits has a rule, and a fact tells of the target in the tree
+abbrev pub IsTold : Tree → List ℕ → Stage → Type 0
+IsTold tree p (Waiting parked) = is_rule (found_of tree p) ≡ true
+IsTold tree p (Ready work) = Unit {0}
+IsTold tree p Out = Unit {0}
+IsTold tree p (Decided fact) = ((arc_value fact).tree ≡ tree) × ((arc_value fact).target ≡ p)
+
+abbrev pub AllTold : Tree → Table → Type 0
+AllTold tree t = (k : ℕ) (slot : Slot) (p : List ℕ) → slice_get t.slots.items k ≡ Some slot → slice_get t.targets.keys k ≡ Some p → IsTold tree p slot.stage
+
+-- whether the script of a target was begun: it was, where the target waits, and a fact tells whether there is a rule
+abbrev pub IsBegunAs : Stage → Bool → Type 0
+IsBegunAs (Waiting parked) begun = begun ≡ true
+IsBegunAs (Ready work) begun = ⊥
+IsBegunAs Out begun = ⊥
+IsBegunAs (Decided fact) begun = begun ≡ is_rule (found_of (arc_value fact).tree (arc_value fact).target)
+
+-- the row is that of a target of the table
+pub record IsTargetRow (t : Table) (row : Row) : Type 0 where
+  pub at : ℕ
+  pub slot : Slot
+  pub path : slice_get t.targets.keys at ≡ Some row.path
+  pub there : slice_get t.slots.items at ≡ Some slot
+  pub shown : IsShown slot.stage row.outcome (arc_value row.deps)
+
+-- the row is that of a path that the table lacks
+pub record IsSourceRow (t : Table) (row : Row) : Type 0 where
+  pub absent : IsAmong t.targets.keys row.path → ⊥
+  pub outcome : row.outcome ≡ Source
+  pub deps : arc_value row.deps ≡ []
+
+abbrev pub IsRowOf : Table → Row → Type 0
+IsRowOf t row = IsTargetRow t row ⊎ IsSourceRow t row
+
+-- the file that a row's target was built with
+abbrev pub file_of : List ℕ → Outcome → List (List ℕ × List ℕ)
+file_of path Source = []
+file_of path (Built None) = []
+file_of path (Built (Some bytes)) = (path, bytes) ∷ []
+file_of path (Failed why) = []
+file_of path Cyclic = []
+
+abbrev pub row_files : List Row → List (List ℕ × List ℕ)
+row_files rows = flat_map (λ row. file_of row.path row.outcome) rows
+
+abbrev pub row_begun : Tree → List Row → List (List ℕ)
+row_begun tree rows = filter (λ p. is_rule (found_of tree p)) (map (λ row. row.path) rows)
+
+-- a row was added, with its file if it was built with one, and its path if its script was begun
+pub record AddsRow (row : Row) (is_begun : Bool) (old new : Report) : Type 0 where
+  pub rows : new.rows.items ≡ old.rows.items ++ row ∷ []
+  pub files : new.files.items ≡ old.files.items ++ file_of row.path row.outcome
+  pub begun : new.begun.items ≡ old.begun.items ++ (if is_begun then row.path ∷ [] else [])
+
+-- the report is made of the rows of the table's targets and of the requested sources
+pub record IsReportOf (tree : Tree) (request : List (List ℕ)) (t : Table) (report : Report) : Type 0 where
+  pub paths : map (λ row. row.path) report.rows.items ≡ reported_paths tree request t
+  pub rows : AllByRecursion (IsRowOf t) report.rows.items
+  pub files : report.files.items ≡ row_files report.rows.items
+  pub begun : report.begun.items ≡ row_begun tree report.rows.items

@@ -1,0 +1,507 @@
+-- How a board keeps its entries.
+use Rattle.std.specs.Prelude.{◌≡◌, ◌⊎◌, ℕ, ◌+◌, ◌<◌, ◌≤◌, Bool, true, false, not, List, [], ◌∷◌, ◌++◌, Option, Some, None, is_some, IsNone, if◌then◌else◌, map, length, drop, filter, slice_get, slice_set, unwrap_or, IsSorted, IsPermutation, Box}
+use Rattle.std.specs.Ordering.{nat_cmp}
+use Rattle.std.specs.Arc.{arc_value}
+use Rattle.std.specs.declared.sync.Arc.{Arc}
+use Rattle.std.specs.declared.alloc.Global.{Global}
+use Rattle.std.specs.declared.vec.Vec.{Vec}
+use Rattle.redo_tree.specs.Tree.{Tree, file_at}
+pub use Rattle.redo_core.specs.inside.Works.{IsOperand}
+use Rattle.redo_build.specs.Rules.{Ask, Rules, Extends, operands}
+use Rattle.redo_core.specs.inside.Works.{job_deps, told_in, AddsFact, IsJobOf, GoesOn, AreKnownBelow}
+use Rattle.redo_core.specs.declared.facts.Facts.{Facts}
+use Rattle.redo_step.specs.JobView.{JobView}
+use Rattle.redo_record.specs.Paths.{IsAmong, AreDistinct}
+use Rattle.redo_core.specs.declared.board.Stop.TheVariants.{TooMany}
+use Rattle.redo_build.specs.Outcomes.{outcome_at, IsTooMany}
+use Rattle.redo_build.specs.Schedule.{Entry, State, outcomes_of, entry_of, nothing_known, entered, handed_in, opening}
+use Rattle.redo_core.specs.inside.Ends.{IsEndAt}
+use Rattle.redo_core.specs.declared.work.End.{End}
+use Rattle.redo_core.specs.declared.table.Table.{Table}
+use Rattle.redo_core.specs.declared.table.Parked.{Parked}
+use Rattle.redo_core.specs.declared.work.Work.{Work}
+use Rattle.redo_core.specs.declared.work.Begun.{Begun}
+use Rattle.redo_build.specs.inside.Standing.{AreStanding}
+use Rattle.redo_build.specs.inside.Turns.{deps_at_turn, IsWork}
+use Rattle.redo_core.specs.Build.{rules_of}
+use Rattle.redo_core.specs.Views.{IsReached, WorkView, FactView}
+use Rattle.redo_core.specs.declared.table.Slot.{Slot}
+use Rattle.redo_core.specs.declared.table.Stage.{Stage}
+use Rattle.redo_core.specs.declared.table.Stage.TheVariants.{Waiting, Ready, Out, Decided}
+use Rattle.redo_core.specs.declared.board.Board.TheInside.{Inside}
+use Rattle.redo_record.specs.declared.deps.Dep.{Dep}
+use Rattle.redo_record.specs.declared.outcome.Outcome.{Outcome}
+use Rattle.redo_step.specs.Limits.{LimitsView}
+
+abbrev pub stage_outcome : Stage → Option Outcome
+stage_outcome (Waiting work) = None
+stage_outcome (Ready work) = None
+stage_outcome Out = None
+stage_outcome (Decided fact) = Some (arc_value fact).outcome
+
+abbrev pub is_stage_out : Stage → Bool
+is_stage_out (Waiting work) = false
+is_stage_out (Ready work) = false
+is_stage_out Out = true
+is_stage_out (Decided fact) = false
+
+-- the record of a target so far: a job that is out keeps its own, which is that of its turn
+abbrev pub stage_deps : Rules → Ask → List ℕ → ℕ → Stage → List Dep
+stage_deps r a p turn (Waiting parked) = job_deps parked.begun.value.job
+stage_deps r a p turn (Ready work) = work.deps
+stage_deps r a p turn Out = deps_at_turn r p a turn
+stage_deps r a p turn (Decided fact) = (arc_value fact).deps
+
+-- the entry that the slot of a path stands for, under the outcomes known
+abbrev pub slot_entry : Rules → Ask → List ℕ → Slot → Entry
+slot_entry r a p slot = record {
+  path = p;
+  turn = slot.turn;
+  deps = stage_deps r a p slot.turn slot.stage;
+  outcome = stage_outcome slot.stage;
+  is_out = is_stage_out slot.stage;
+}
+
+abbrev pub slot_entries : Rules → Ask → List (List ℕ) → List Slot → List Entry
+slot_entries r a [] slots = []
+slot_entries r a (p ∷ ps) [] = []
+slot_entries r a (p ∷ ps) (slot ∷ slots) = slot_entry r a p slot ∷ slot_entries r a ps slots
+
+abbrev pub path_at : List (List ℕ) → ℕ → List ℕ
+path_at ps i = unwrap_or (slice_get ps i) []
+
+-- the entries that these paths and slots stand for. The depth is one at which the build has every outcome that is known
+abbrev pub entries_from : Rules → ℕ → List (List ℕ) → List Slot → List Entry
+entries_from r depth ps slots = slot_entries r (outcome_at r depth) ps slots
+
+abbrev pub table_entries : Rules → ℕ → Table → List Entry
+table_entries r depth t = entries_from r depth t.targets.keys t.slots.items
+
+-- the state that a table stands for
+abbrev pub state_from : Rules → ℕ → List (List ℕ) → List Slot → List ℕ → State
+state_from r depth ps slots ready = record {
+  entries = entries_from r depth ps slots;
+  ready = map (path_at ps) ready;
+}
+
+abbrev pub rules_inside : Inside → Rules
+rules_inside b = rules_of (arc_value b.tree) b.limits
+
+-- the state that a board keeps
+abbrev pub state_of : Inside → State
+state_of b = state_from (rules_inside b) b.limits.targets b.table.targets.keys b.table.slots.items b.table.ready.items
+
+-- a slot whose job is parked has that job at its place
+abbrev pub IsParked : Tree → LimitsView → List ℕ → ℕ → WorkView → Type 0
+IsParked tree limits p turn work = (work.tree ≡ tree) × (work.limits ≡ limits) × (work.target ≡ p) × (work.turn ≡ turn)
+
+-- the first so many paths have answers
+abbrev pub AnsweredBelow : Ask → List (List ℕ) → ℕ → Type 0
+AnsweredBelow a qs i = (k : ℕ) (q : List ℕ) → k < i → slice_get qs k ≡ Some q → a q ≡ None → ⊥
+
+-- what a script asked for and has no facts of yet
+abbrev pub waited_by : Rules → Begun → List (List ℕ)
+waited_by r begun = operands r (drop begun.facts.gained begun.job.state.entries)
+
+-- the numbers are those of the paths, one for one
+abbrev pub AreNumbers : List (List ℕ) → List ℕ → List (List ℕ) → Type 0
+AreNumbers ps [] [] = Unit {0}
+AreNumbers ps [] (q ∷ qs) = ⊥
+AreNumbers ps (n ∷ ns) [] = ⊥
+AreNumbers ps (n ∷ ns) (q ∷ qs) = (slice_get ps n ≡ Some q) × AreNumbers ps ns qs
+
+-- all that the record waits for has answers
+abbrev pub AllAnswered : Rules → Ask → List Dep → Type 0
+AllAnswered r a deps = (q : List ℕ) → IsAmong (operands r deps) q → a q ≡ None → ⊥
+
+-- a job that waits, with the outcomes that it holds: they are among those known, and those of the first entries that
+-- it declared
+pub record IsWaitingWith (r : Rules) (a : Ask) (tree : Tree) (limits : LimitsView) (p : List ℕ) (turn : ℕ) (parked : Parked) : Type 0 where
+  pub is_job : IsJobOf tree limits parked.begun.value.job
+  pub of_target : parked.begun.value.job.target ≡ p
+  pub at_turn : parked.begun.value.job.turn ≡ turn
+  pub stopped : 0 < turn
+  pub answered : AnsweredBelow a (waited_by r parked.begun.value) parked.held
+  pub told : (q : List ℕ) (o : Outcome) → told_in parked.begun.value.facts q ≡ Some o → IsAmong (operands r (job_deps parked.begun.value.job)) q × (a q ≡ Some o)
+  pub goes_on : GoesOn parked.begun.value.job (told_in parked.begun.value.facts)
+  pub gained_within : parked.begun.value.facts.gained ≤ length parked.begun.value.job.state.entries
+  pub gained : AreKnownBelow r parked.begun.value.job (told_in parked.begun.value.facts) parked.begun.value.facts.gained
+
+-- what a slot holds is of its path and turn
+abbrev pub Fits : Rules → Ask → Tree → LimitsView → List ℕ → ℕ → Stage → Type 0
+Fits r a tree limits p turn (Waiting parked) = IsWaitingWith r a tree limits p turn parked
+Fits r a tree limits p turn (Ready work) = IsParked tree limits p turn work × AllAnswered r a work.deps
+Fits r a tree limits p turn Out = Unit {0}
+Fits r a tree limits p turn (Decided fact) = ((arc_value fact).tree ≡ tree) × ((arc_value fact).limits ≡ limits) × ((arc_value fact).target ≡ p)
+
+-- a job that waits has the numbers of what it waits for
+abbrev pub IsNumbered : Rules → List (List ℕ) → Stage → Type 0
+IsNumbered r ps (Waiting parked) = AreNumbers ps parked.operands.items (waited_by r parked.begun.value)
+IsNumbered r ps (Ready work) = Unit {0}
+IsNumbered r ps Out = Unit {0}
+IsNumbered r ps (Decided fact) = Unit {0}
+
+abbrev pub AllNumbered : Rules → List (List ℕ) → List Slot → Type 0
+AllNumbered r ps slots = (k : ℕ) (slot : Slot) → slice_get slots k ≡ Some slot → IsNumbered r ps slot.stage
+
+abbrev pub is_stage_ready : Stage → Bool
+is_stage_ready (Waiting parked) = false
+is_stage_ready (Ready work) = true
+is_stage_ready Out = false
+is_stage_ready (Decided fact) = false
+
+abbrev pub is_stage_waiting : Stage → Bool
+is_stage_waiting (Waiting parked) = true
+is_stage_waiting (Ready work) = false
+is_stage_waiting Out = false
+is_stage_waiting (Decided fact) = false
+
+abbrev pub IsPlace : List ℕ → ℕ → Type 0
+IsPlace [] k = ⊥
+IsPlace (i ∷ is) k = (i ≡ k) ⊎ IsPlace is k
+
+abbrev pub ArePlacesOnce : List ℕ → Type 0
+ArePlacesOnce [] = Unit {0}
+ArePlacesOnce (i ∷ is) = (IsPlace is i → ⊥) × ArePlacesOnce is
+
+-- the number stands in the list of an undecided path that the record waits for
+pub record IsWatched (r : Rules) (ps : List (List ℕ)) (slots : List Slot) (k : ℕ) (deps : List Dep) : Type 0 where
+  pub at : ℕ
+  pub other : Slot
+  pub there : slice_get slots at ≡ Some other
+  pub is_open : stage_outcome other.stage ≡ None
+  pub listed : IsPlace other.watchers.items k
+  pub asked : IsAmong (operands r deps) (path_at ps at)
+
+-- the numbers of those ready: in the queue, or freed and not in it yet
+pub record IsQueue (slots : List Slot) (ready freed : List ℕ) : Type 0 where
+  pub ready_below : (k : ℕ) → IsPlace ready k → k < length slots
+  pub freed_below : (k : ℕ) → IsPlace freed k → k < length slots
+  pub ready_is : (k : ℕ) (slot : Slot) → IsPlace ready k ⊎ IsPlace freed k → slice_get slots k ≡ Some slot → is_stage_ready slot.stage ≡ true
+  pub ready_in : (k : ℕ) (slot : Slot) → slice_get slots k ≡ Some slot → is_stage_ready slot.stage ≡ true → IsPlace ready k ⊎ IsPlace freed k
+  pub apart : (k : ℕ) → IsPlace ready k → IsPlace freed k → ⊥
+  pub once : ArePlacesOnce freed
+
+-- what waits is watched, but for those numbers that are still to be looked at
+abbrev pub AllWatched : Rules → ℕ → List (List ℕ) → List Slot → List ℕ → Type 0
+AllWatched r depth ps slots pending = (k : ℕ) (slot : Slot) → slice_get slots k ≡ Some slot → is_stage_waiting slot.stage ≡ true →
+    IsPlace pending k ⊎ IsWatched r ps slots k (stage_deps r (outcome_at r depth) (path_at ps k) slot.turn slot.stage)
+
+abbrev pub AllFit : Rules → ℕ → Tree → LimitsView → List (List ℕ) → List Slot → Type 0
+AllFit r depth tree limits ps slots = (k : ℕ) (slot : Slot) → slice_get slots k ≡ Some slot →
+    Fits r (outcomes_of (entries_from r depth ps slots)) tree limits (path_at ps k) slot.turn slot.stage
+
+abbrev pub AllWatchersBelow : List Slot → Type 0
+AllWatchersBelow slots = (i k : ℕ) (slot : Slot) → slice_get slots i ≡ Some slot → IsPlace slot.watchers.items k → k < length slots
+
+-- how a table stands, with the numbers freed
+pub record IsTable (r : Rules) (tree : Tree) (limits : LimitsView) (ps : List (List ℕ)) (slots : List Slot) (ready : List ℕ) (out : ℕ) (freed : List ℕ) : Type 0 where
+  pub one_each : length slots ≡ length ps
+  pub within_limit : length slots ≤ limits.targets
+  pub few : limits.targets ≤ 65536
+  pub out_counted : out ≡ length (filter (λ slot. is_stage_out slot.stage) slots)
+  pub fits : AllFit r limits.targets tree limits ps slots
+  pub numbered : AllNumbered r ps slots
+  pub queue : IsQueue slots ready freed
+  pub watchers_below : AllWatchersBelow slots
+
+abbrev pub IsTableOf : Tree → LimitsView → Table → List ℕ → Type 0
+IsTableOf tree limits t freed = IsTable (rules_of tree limits) tree limits t.targets.keys t.slots.items t.ready.items t.out freed
+
+-- what a board keeps: a state that is reached, and a table with nothing left to do
+pub record IsKept (b : Inside) : Type 0 where
+  pub reached : IsReached (rules_inside b) b.request.items (state_of b)
+  pub table : IsTableOf (arc_value b.tree) b.limits b.table []
+  pub watched : AllWatched (rules_inside b) b.limits.targets b.table.targets.keys b.table.slots.items []
+
+-- a board keeps what it shows while it runs, and has stopped at the limit only where the build needs too many
+pub record IsBoard (b : Inside) : Type 0 where
+  pub kept : IsNone b.stopped → IsKept b
+  pub too_many : b.stopped ≡ Some TooMany → IsTooMany (rules_inside b) b.request.items b.limits.targets
+
+abbrev pub is_stage_decided : Stage → Bool
+is_stage_decided (Waiting parked) = false
+is_stage_decided (Ready work) = false
+is_stage_decided Out = false
+is_stage_decided (Decided fact) = true
+
+-- the path has a slot that is decided
+pub record IsDecidedSlot (t : Table) (q : List ℕ) : Type 0 where
+  pub at : ℕ
+  pub slot : Slot
+  pub path : slice_get t.targets.keys at ≡ Some q
+  pub there : slice_get t.slots.items at ≡ Some slot
+  pub decided : is_stage_decided slot.stage ≡ true
+
+-- the target of a number is decided
+abbrev pub IsDecidedNumber : Table → ℕ → Type 0
+IsDecidedNumber t n = (slot : Slot) × (slice_get t.slots.items n ≡ Some slot) × (is_stage_decided slot.stage ≡ true)
+
+-- from one place to another all targets are decided
+abbrev pub AreDecidedFrom : Table → List ℕ → ℕ → ℕ → Type 0
+AreDecidedFrom t ns from to = (k n : ℕ) → from ≤ k → k < to → slice_get ns k ≡ Some n → IsDecidedNumber t n
+
+-- the first place from one on whose target is undecided, and the target's number
+pub record IsLackingAt (t : Table) (ns : List ℕ) (from i at : ℕ) : Type 0 where
+  pub slot : Slot
+  pub after : from ≤ i
+  pub before : AreDecidedFrom t ns from i
+  pub number : slice_get ns i ≡ Some at
+  pub there : slice_get t.slots.items at ≡ Some slot
+  pub is_open : is_stage_decided slot.stage ≡ false
+
+-- the entries of the table stand as those of a build
+abbrev pub IsStandingTable : Tree → LimitsView → Table → Type 0
+IsStandingTable tree limits t = (request : List (List ℕ)) × AreStanding (rules_of tree limits) request (table_entries (rules_of tree limits) limits.targets t)
+
+-- the fact of a number whose target is decided
+abbrev pub IsFactAt : Table → ℕ → Arc FactView Global → Type 0
+IsFactAt t n fact = (slot : Slot) × (slice_get t.slots.items n ≡ Some slot) × (slot.stage ≡ Decided fact)
+
+-- one of these numbers is that of a target with a fact that tells this
+pub record IsToldBy (t : Table) (ns : List ℕ) (q : List ℕ) (o : Outcome) : Type 0 where
+  pub k : ℕ
+  pub n : ℕ
+  pub fact : Arc FactView Global
+  pub number : slice_get ns k ≡ Some n
+  pub there : IsFactAt t n fact
+  pub target : (arc_value fact).target ≡ q
+  pub outcome : (arc_value fact).outcome ≡ o
+
+-- the facts hold that of one number too
+abbrev pub GainsOne : Table → ℕ → Facts → Facts → Type 0
+GainsOne t n old new = (fact : Arc FactView Global) × IsFactAt t n fact × AddsFact (arc_value fact) old new
+
+-- the facts hold those of the numbers before a place, and hold nothing else that is new
+pub record GainsBelow (t : Table) (ns : List ℕ) (old new : Facts) (i : ℕ) : Type 0 where
+  pub kept : (q : List ℕ) → told_in new q ≡ None → told_in old q ≡ None
+  pub origin : (q : List ℕ) (o : Outcome) → told_in new q ≡ Some o → (told_in old q ≡ Some o) ⊎ IsToldBy t ns q o
+  pub known : (k n : ℕ) (fact : Arc FactView Global) → k < i → slice_get ns k ≡ Some n → IsFactAt t n fact → told_in new (arc_value fact).target ≡ None → ⊥
+
+-- the facts hold those of all the numbers, and hold nothing else that is new: so they have those of all the job's entries
+pub record Gains (t : Table) (ns : List ℕ) (job : JobView) (old new : Facts) : Type 0 where
+  pub all : new.gained ≡ length job.state.entries
+  pub below : GainsBelow t ns old new (length ns)
+
+-- the job of a slot is parked
+abbrev pub IsWaitingThere : Table → ℕ → Type 0
+IsWaitingThere t at = (slot : Slot) × (parked : Parked) × (slice_get t.slots.items at ≡ Some slot) × (slot.stage ≡ Waiting parked)
+
+-- the operands of one parked job were looked at so far
+pub record IsHeldAt (t u : Table) (at held : ℕ) : Type 0 where
+  pub old : Slot
+  pub new : Slot
+  pub parked : Parked
+  pub there : slice_get t.slots.items at ≡ Some old
+  pub was : old.stage ≡ Waiting parked
+  pub is : new.stage ≡ Waiting (record parked { held = held })
+  pub turn : new.turn ≡ old.turn
+  pub watchers : new.watchers ≡ old.watchers
+  pub slots : u.slots.items ≡ slice_set t.slots.items at new
+  pub rest : (u.targets ≡ t.targets) × (u.ready ≡ t.ready) × (u.out ≡ t.out)
+
+-- one slot has another watcher
+pub record IsWatchAdded (t u : Table) (at place : ℕ) : Type 0 where
+  pub other : Slot
+  pub new : Slot
+  pub there : slice_get t.slots.items place ≡ Some other
+  pub turn : new.turn ≡ other.turn
+  pub stage : new.stage ≡ other.stage
+  pub listed : new.watchers.items ≡ other.watchers.items ++ at ∷ []
+  pub slots : u.slots.items ≡ slice_set t.slots.items place new
+  pub rest : (u.targets ≡ t.targets) × (u.ready ≡ t.ready) × (u.out ≡ t.out)
+
+-- one job is no longer parked, and ready
+pub record IsFreedAt (tree : Tree) (limits : LimitsView) (t u : Table) (at : ℕ) : Type 0 where
+  pub old : Slot
+  pub new : Slot
+  pub parked : Parked
+  pub work : Work
+  pub there : slice_get t.slots.items at ≡ Some old
+  pub was : old.stage ≡ Waiting parked
+  pub is : new.stage ≡ Ready work
+  pub turn : new.turn ≡ old.turn
+  pub watchers : new.watchers ≡ old.watchers
+  pub same : (work.tree ≡ tree) × (work.limits ≡ limits) × (work.target ≡ parked.begun.value.job.target) × (work.turn ≡ parked.begun.value.job.turn) × (work.deps ≡ job_deps parked.begun.value.job)
+  pub slots : u.slots.items ≡ slice_set t.slots.items at new
+  pub rest : (u.targets ≡ t.targets) × (u.ready ≡ t.ready) × (u.out ≡ t.out)
+
+-- the job parked in this slot has all that a work has, but for the outcomes that are known and that it doesn't hold yet
+pub record IsFedAs (tree : Tree) (limits : LimitsView) (t : Table) (at : ℕ) (slot : Slot) (parked : Parked) : Type 0 where
+  pub there : slice_get t.slots.items at ≡ Some slot
+  pub was : slot.stage ≡ Waiting parked
+  pub distinct : AreDistinct t.targets.keys
+  pub waits : IsWaitingWith (rules_of tree limits) (outcomes_of (table_entries (rules_of tree limits) limits.targets t)) tree limits (path_at t.targets.keys at) slot.turn parked
+  pub fits : AllFit (rules_of tree limits) limits.targets tree limits t.targets.keys t.slots.items
+  pub numbered : AreNumbers t.targets.keys parked.operands.items (waited_by (rules_of tree limits) parked.begun.value)
+  pub rest : AreDecidedFrom t parked.operands.items parked.held (length parked.operands.items)
+  pub is_work : IsWork (rules_of tree limits) parked.begun.value.job.target parked.begun.value.job.turn (job_deps parked.begun.value.job)
+  pub deep : Extends (rules_of tree limits) (outcomes_of (table_entries (rules_of tree limits) limits.targets t)) (outcome_at (rules_of tree limits) is_work.depth)
+  pub few : parked.begun.value.job.turn < 65536
+
+abbrev pub IsFed : Tree → LimitsView → Table → ℕ → Type 0
+IsFed tree limits t at = (slot : Slot) × (parked : Parked) × IsFedAs tree limits t at slot parked
+
+-- a number was looked at: the table shows the same entries
+pub record IsLookedAt (tree : Tree) (limits : LimitsView) (t u : Table) (at : ℕ) : Type 0 where
+  pub entries : table_entries (rules_of tree limits) limits.targets u ≡ table_entries (rules_of tree limits) limits.targets t
+  pub rest : (u.targets ≡ t.targets) × (u.ready ≡ t.ready) × (u.out ≡ t.out)
+  pub slots : length u.slots.items ≡ length t.slots.items
+  pub watched : (pending : List ℕ) → AllWatched (rules_of tree limits) limits.targets t.targets.keys t.slots.items (at ∷ pending) →
+      AllWatched (rules_of tree limits) limits.targets u.targets.keys u.slots.items pending
+
+-- what a path that is seen for the first time is at once
+abbrev pub IsBegun : Tree → LimitsView → List ℕ → Stage → Type 0
+IsBegun tree limits p (Waiting parked) = ⊥
+IsBegun tree limits p (Ready work) = IsParked tree limits p 0 work × (work.deps ≡ []) × ((rules_of tree limits).has_rule p ≡ true)
+IsBegun tree limits p Out = ⊥
+IsBegun tree limits p (Decided fact) = ((arc_value fact).tree ≡ tree) × ((arc_value fact).limits ≡ limits) × ((arc_value fact).target ≡ p) ×
+    ((rules_of tree limits).has_rule p ≡ false) ×
+    ((rules_of tree limits).progress p nothing_known ≡ record { outcome = Some (arc_value fact).outcome; deps = (arc_value fact).deps })
+
+-- a new path has a slot behind the others
+pub record IsPushed (tree : Tree) (limits : LimitsView) (t u : Table) (freed freed' : List ℕ) (p : List ℕ) : Type 0 where
+  pub new : Slot
+  pub begun : IsBegun tree limits p new.stage
+  pub turn : new.turn ≡ 0
+  pub watchers : new.watchers.items ≡ []
+  pub keys : u.targets.keys ≡ t.targets.keys ++ p ∷ []
+  pub slots : u.slots.items ≡ t.slots.items ++ new ∷ []
+  pub freed_is : freed' ≡ freed ++ (if is_stage_ready new.stage then length t.slots.items ∷ [] else [])
+  pub rest : (u.ready ≡ t.ready) × (u.out ≡ t.out)
+
+-- the table shows the entries with these paths entered
+pub record AreEnteredInto (tree : Tree) (limits : LimitsView) (t u : Table) (freed : List ℕ) (ps : List (List ℕ)) : Type 0 where
+  pub table : IsTableOf tree limits u freed
+  pub entries : table_entries (rules_of tree limits) limits.targets u ≡ entered (rules_of tree limits) (table_entries (rules_of tree limits) limits.targets t) ps
+  pub rest : (u.ready ≡ t.ready) × (u.out ≡ t.out)
+  pub keys_kept : (k : ℕ) (p : List ℕ) → slice_get t.targets.keys k ≡ Some p → slice_get u.targets.keys k ≡ Some p
+  pub slots_kept : (k : ℕ) (slot : Slot) → slice_get t.slots.items k ≡ Some slot → slice_get u.slots.items k ≡ Some slot
+  pub watched : (pending : List ℕ) → AllWatched (rules_of tree limits) limits.targets t.targets.keys t.slots.items pending →
+      AllWatched (rules_of tree limits) limits.targets u.targets.keys u.slots.items pending
+
+abbrev pub IsEnteredInto : Tree → LimitsView → Table → Table → List ℕ → List ℕ → Type 0
+IsEnteredInto tree limits t u freed p = AreEnteredInto tree limits t u freed (p ∷ [])
+
+-- entering the paths passes the limit
+abbrev pub AreTooMany : Rules → ℕ → List Entry → List (List ℕ) → Type 0
+AreTooMany r limit es ps = limit < length (entered r es ps)
+
+abbrev pub IsFull : Rules → ℕ → List Entry → List ℕ → Type 0
+IsFull r limit es p = AreTooMany r limit es (p ∷ [])
+
+-- of these numbers all but those left were looked at: the table shows the same entries
+pub record AreLookedAtBelow (tree : Tree) (limits : LimitsView) (t u : Table) (pending left : List ℕ) : Type 0 where
+  pub entries : table_entries (rules_of tree limits) limits.targets u ≡ table_entries (rules_of tree limits) limits.targets t
+  pub rest : (u.targets ≡ t.targets) × (u.ready ≡ t.ready) × (u.out ≡ t.out)
+  pub slots : length u.slots.items ≡ length t.slots.items
+  pub watched : (more : List ℕ) → AllWatched (rules_of tree limits) limits.targets t.targets.keys t.slots.items (pending ++ more) →
+      AllWatched (rules_of tree limits) limits.targets u.targets.keys u.slots.items (left ++ more)
+
+abbrev pub AreLookedAt : Tree → LimitsView → Table → Table → List ℕ → Type 0
+AreLookedAt tree limits t u pending = AreLookedAtBelow tree limits t u pending []
+
+-- the numbers freed are in the queue, in ascending order
+pub record AreReleased (t u : Table) (freed : List ℕ) : Type 0 where
+  pub sorted : List ℕ
+  pub ordered : IsSorted nat_cmp sorted
+  pub shuffled : IsPermutation freed sorted
+  pub queue : u.ready.items ≡ t.ready.items ++ sorted
+  pub rest : (u.targets ≡ t.targets) × (u.slots ≡ t.slots) × (u.out ≡ t.out)
+
+-- the stage holds this fact, or this job with these operands and none of them looked at
+abbrev pub IsDecidedStage : FactView → Stage → Type 0
+IsDecidedStage fact (Waiting parked) = ⊥
+IsDecidedStage fact (Ready work) = ⊥
+IsDecidedStage fact Out = ⊥
+IsDecidedStage fact (Decided held) = arc_value held ≡ fact
+
+abbrev pub IsParkedStage : Box Begun Global → Vec ℕ Global → Stage → Type 0
+IsParkedStage begun operands (Waiting parked) = parked ≡ record { begun = begun; operands = operands; held = 0 }
+IsParkedStage begun operands (Ready work) = ⊥
+IsParkedStage begun operands Out = ⊥
+IsParkedStage begun operands (Decided held) = ⊥
+
+-- one slot whose job was out has another stage
+pub record IsPutBack (t u : Table) (at : ℕ) (old new : Slot) : Type 0 where
+  pub there : slice_get t.slots.items at ≡ Some old
+  pub was : old.stage ≡ Out
+  pub slots : u.slots.items ≡ slice_set t.slots.items at new
+  pub out : u.out + 1 ≡ t.out
+  pub rest : (u.targets ≡ t.targets) × (u.ready ≡ t.ready)
+
+-- a target is decided: its watchers are to be looked at
+pub record IsDecidedAt (t u : Table) (at : ℕ) (fact : FactView) (pending : List ℕ) : Type 0 where
+  pub old : Slot
+  pub new : Slot
+  pub put_back : IsPutBack t u at old new
+  pub stage : IsDecidedStage fact new.stage
+  pub turn : new.turn ≡ old.turn
+  pub watchers : new.watchers.items ≡ []
+  pub pending_is : pending ≡ old.watchers.items
+
+-- a job is parked at its next turn: it is to be looked at
+pub record IsParkedAt (t u : Table) (at : ℕ) (begun : Box Begun Global) (operands : Vec ℕ Global) : Type 0 where
+  pub old : Slot
+  pub new : Slot
+  pub put_back : IsPutBack t u at old new
+  pub stage : IsParkedStage begun operands new.stage
+  pub turn : new.turn ≡ old.turn + 1
+  pub watchers : new.watchers ≡ old.watchers
+
+-- the job of a slot is out
+abbrev pub IsOutThere : Table → ℕ → Type 0
+IsOutThere t at = (0 < t.out) × ((slot : Slot) × (slice_get t.slots.items at ≡ Some slot) × (slot.stage ≡ Out) × (slot.turn < 65536))
+
+-- the state that a table stands for
+abbrev pub table_state : Rules → ℕ → Table → State
+table_state r depth t = state_from r depth t.targets.keys t.slots.items t.ready.items
+
+-- the state after what is out at a number is handed in
+abbrev pub state_after : Tree → LimitsView → Table → ℕ → State
+state_after tree limits t at =
+    handed_in (rules_of tree limits) (table_state (rules_of tree limits) limits.targets t) (entry_of (table_entries (rules_of tree limits) limits.targets t) (path_at t.targets.keys at))
+
+-- the table is that of a state that is reached, with nothing left to do, and the end is that of the job that is out at the number
+pub record MayTakeIn (tree : Tree) (limits : LimitsView) (t : Table) (at : ℕ) (end : End) : Type 0 where
+  pub request : List (List ℕ)
+  pub reached : IsReached (rules_of tree limits) request (table_state (rules_of tree limits) limits.targets t)
+  pub table : IsTableOf tree limits t []
+  pub watched : AllWatched (rules_of tree limits) limits.targets t.targets.keys t.slots.items []
+  pub slot : Slot
+  pub there : slice_get t.slots.items at ≡ Some slot
+  pub is_out : slot.stage ≡ Out
+  pub is_end : IsEndAt tree limits (path_at t.targets.keys at) slot.turn end
+
+-- the table shows the entries after it, with these numbers freed and those to be looked at
+pub record IsPutBackThere (tree : Tree) (limits : LimitsView) (t u : Table) (at : ℕ) (freed pending : List ℕ) : Type 0 where
+  pub table : IsTableOf tree limits u freed
+  pub entries : table_entries (rules_of tree limits) limits.targets u ≡ (state_after tree limits t at).entries
+  pub ready : u.ready ≡ t.ready
+  pub keys_kept : (k : ℕ) (p : List ℕ) → slice_get t.targets.keys k ≡ Some p → slice_get u.targets.keys k ≡ Some p
+  pub within : (k : ℕ) → IsPlace pending k → k < length u.slots.items
+  pub watched : AllWatched (rules_of tree limits) limits.targets u.targets.keys u.slots.items pending
+
+-- the table shows the state after it, with nothing left to do
+pub record IsTakenIn (tree : Tree) (limits : LimitsView) (t u : Table) (at : ℕ) : Type 0 where
+  pub table : IsTableOf tree limits u []
+  pub watched : AllWatched (rules_of tree limits) limits.targets u.targets.keys u.slots.items []
+  pub state : table_state (rules_of tree limits) limits.targets u ≡ state_after tree limits t at
+
+-- the job of a target is out at this number, at its turn
+pub record IsOutSlotAt (t : Table) (target : List ℕ) (turn at : ℕ) : Type 0 where
+  pub slot : Slot
+  pub path : slice_get t.targets.keys at ≡ Some target
+  pub there : slice_get t.slots.items at ≡ Some slot
+  pub is_out : slot.stage ≡ Out
+  pub at_turn : slot.turn ≡ turn
+
+-- the paths that are no sources
+abbrev pub targets_in : Tree → List (List ℕ) → List (List ℕ)
+targets_in tree paths = filter (λ p. not (is_some (file_at tree p))) paths
+
+-- the table shows the opening, with nothing left to do
+pub record IsFirstTable (tree : Tree) (limits : LimitsView) (request : List (List ℕ)) (t : Table) : Type 0 where
+  pub table : IsTableOf tree limits t []
+  pub watched : AllWatched (rules_of tree limits) limits.targets t.targets.keys t.slots.items []
+  pub state : table_state (rules_of tree limits) limits.targets t ≡ opening (rules_of tree limits) request

@@ -1,0 +1,97 @@
+-- Jobs as the board keeps them, with the outcomes that they hold.
+use Rattle.std.specs.Prelude.{◌≡◌, ◌⊎◌, ℕ, zero, suc, false, ◌+◌, ◌<◌, ◌≤◌, List, [], Some, None, map, length, slice_get, unwrap_or, Box, Option, ◌++◌}
+use Rattle.std.specs.Arc.{arc_value}
+use Rattle.std.specs.declared.sync.Arc.{Arc}
+use Rattle.std.specs.declared.alloc.Global.{Global}
+use Rattle.indexmap.specs.IndexMap.{IndexMap}
+use Rattle.redo_script.specs.Texts.{script_in}
+use Rattle.redo_tree.specs.Tree.{Tree, file_at}
+use Rattle.redo_which.specs.Rule.{Rule, found_of}
+use Rattle.redo_record.specs.declared.deps.Dep.{Dep}
+use Rattle.redo_record.specs.declared.outcome.Outcome.{Outcome}
+use Rattle.redo_step.specs.JobView.{JobView, job_setting, whole_of, IsFit, record_so_far}
+use Rattle.redo_step.specs.Reach.{Keeps}
+use Rattle.redo_record.specs.Paths.{IsAmong}
+use Rattle.redo_build.specs.Rules.{Ask, Rules, changed, operands}
+use Rattle.redo_build.specs.Outcomes.{outcome_at}
+use Rattle.redo_build.specs.Schedule.{only}
+use Rattle.redo_build.specs.inside.Turns.{IsWork, deps_at_turn}
+use Rattle.redo_core.specs.Build.{rules_of}
+use Rattle.redo_core.specs.Views.{FactView, WorkView, told_by}
+use Rattle.redo_core.specs.declared.facts.Facts.{Facts}
+use Rattle.redo_step.specs.Limits.{LimitsView}
+
+-- the paths of some facts with their outcomes
+abbrev pub few_known : List (Arc FactView Global) → List (List ℕ × Outcome)
+few_known facts = map (λ f. ((arc_value {X = FactView} f).target, (arc_value {X = FactView} f).outcome)) facts
+
+abbrev pub entries_known : List (List ℕ × Arc FactView Global) → List (List ℕ × Outcome)
+entries_known es = map (λ e. (e.0, (arc_value {X = FactView} e.1).outcome)) es
+
+abbrev pub more_known : {S : Type 0} → Option (Box (IndexMap (List ℕ) (Arc FactView Global) S) Global) → List (List ℕ × Outcome)
+more_known None = []
+more_known (Some more) = entries_known more.value.entries
+
+abbrev pub known_in : Facts → List (List ℕ × Outcome)
+known_in facts = more_known facts.more ++ few_known facts.few.items
+
+abbrev pub told_in : Facts → Ask
+told_in facts = told_by (known_in facts)
+
+-- the record of a job's target so far: nothing is recorded before the script first stopped
+abbrev pub job_deps : JobView → List Dep
+job_deps job = elim (job.turn) [ zero ↦ [] | suc n ↦ record_so_far job ]
+
+-- a fact is known now too, and nothing else is new: what was known keeps its answer
+pub record AddsFact (fact : FactView) (old new : Facts) : Type 0 where
+  pub same : new.gained ≡ old.gained
+  pub kept : (q : List ℕ) → told_in new q ≡ None → told_in old q ≡ None
+  pub origin : (q : List ℕ) (o : Outcome) → told_in new q ≡ Some o → (told_in old q ≡ Some o) ⊎ ((fact.target ≡ q) × (fact.outcome ≡ o))
+  pub known : told_in new fact.target ≡ None → ⊥
+
+-- the path of an entry of a record that is waited for
+abbrev pub IsOperand : Rules → Dep → List ℕ → Type 0
+IsOperand r d q = (changed d.kind d.path ≡ Some q) × (r.is_source q ≡ false)
+
+-- the job is that of its target: with the rule that the search finds, on the script that the .do file holds
+pub record IsJobOf (tree : Tree) (limits : LimitsView) (job : JobView) : Type 0 where
+  pub of_tree : job.tree ≡ tree
+  pub of_limits : job.limits ≡ limits
+  pub found : found_of tree job.target ≡ Rule job.do_file job.missing job.arguments
+  pub script : whole_of job ≡ script_in (unwrap_or (file_at tree job.do_file) [])
+
+-- the job can go on under each ask that keeps these answers to what it declared
+abbrev pub GoesOn : JobView → Ask → Type 0
+GoesOn job known = (later : Ask) → Keeps (job_setting job) job.state.entries known later → IsFit job later
+
+-- of the first so many entries that a job declared, each that is waited for has an answer
+abbrev pub AreKnownBelow : Rules → JobView → Ask → ℕ → Type 0
+AreKnownBelow r job known n = (k : ℕ) (d : Dep) (q : List ℕ) → k < n → slice_get job.state.entries k ≡ Some d → IsOperand r d q → known q ≡ None → ⊥
+
+-- a work: a job at its turn, with the build's outcomes for all that it asked for, and for nothing else
+pub record IsWorkWith (tree : Tree) (limits : LimitsView) (job : JobView) (facts : Facts) : Type 0 where
+  pub is_job : IsJobOf tree limits job
+  pub is_work : IsWork (rules_of tree limits) job.target job.turn (job_deps job)
+  pub exact : (q : List ℕ) → told_in facts q ≡ only (operands (rules_of tree limits) (job_deps job)) (outcome_at (rules_of tree limits) is_work.depth) q
+  pub declared : (q : List ℕ) → IsAmong (operands (rules_of tree limits) job.state.entries) q → IsAmong (operands (rules_of tree limits) (job_deps job)) q
+  pub goes_on : GoesOn job (told_in facts)
+  pub gained : facts.gained ≡ length job.state.entries
+  pub few : job.turn < 65536
+
+-- a job that stopped at a turn: it is at the next, with the outcomes of the build at this depth for all that it had
+-- asked for before
+pub record IsStopped (tree : Tree) (limits : LimitsView) (depth : ℕ) (target : List ℕ) (turn : ℕ) (job : JobView) (facts : Facts) : Type 0 where
+  pub is_job : IsJobOf tree limits job
+  pub of_target : job.target ≡ target
+  pub at_turn : job.turn ≡ turn + 1
+  pub exact : (q : List ℕ) → told_in facts q ≡
+      only (operands (rules_of tree limits) (deps_at_turn (rules_of tree limits) target (outcome_at (rules_of tree limits) depth) turn)) (outcome_at (rules_of tree limits) depth) q
+  pub goes_on : GoesOn job (told_in facts)
+  pub within : facts.gained ≤ length job.state.entries
+  pub gained : AreKnownBelow (rules_of tree limits) job (told_in facts) facts.gained
+
+-- a work holds the outcomes of the build at some depth for all that it asked for, and no others
+pub record HoldsOutcomes (w : WorkView) : Type 0 where
+  pub depth : ℕ
+  pub fed : (q : List ℕ) → IsAmong (operands (rules_of w.tree w.limits) w.deps) q → outcome_at (rules_of w.tree w.limits) depth q ≡ None → ⊥
+  pub exact : (q : List ℕ) → told_by w.known q ≡ only (operands (rules_of w.tree w.limits) w.deps) (outcome_at (rules_of w.tree w.limits) depth) q

@@ -1,0 +1,9 @@
+pub mod BehindLemmas
+pub mod EntryLemmas
+pub mod FoundLemmas
+pub mod LawfulLemmas
+pub mod OperandLemmas
+pub mod Public
+pub mod SearchLemmas
+pub mod SetLemmas
+pub mod StoredLemmas

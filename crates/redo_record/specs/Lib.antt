@@ -1,0 +1,5 @@
+pub mod Answers
+pub mod Entries
+pub mod Paths
+pub mod Progress
+pub mod inside

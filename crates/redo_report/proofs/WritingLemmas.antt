@@ -1,0 +1,33 @@
+-- What is written piece by piece, as far as it went.
+use Rattle.std.proofs.Common.{◌≡◌, ◌<◌, ◌+◌, ◌∙◌, ℕ, zero, suc, drop, slice_index_or, arith, List, [], ◌∷◌, ◌++◌, length, Option, sym, ap, subst, append_assoc}
+use Rattle.std.proofs.lemmas.Result.{err_from_is_err_and}
+use Rattle.std.specs.Prelude.{Result, Err, flat_map}
+use Rattle.std.specs.Result.{IsErrAnd}
+use Rattle.std.specs.Io.KnownBytes.{Appends}
+use Rattle.redo_tree.specs.Bundle.{Writes}
+use Rattle.redo_tree.proofs.PieceLemmas.{Writes-then, Writes-cut}
+
+-- the text of what is left is that of the next, and of those behind it
+dropped : {A : Type 0} (f : A → List ℕ) (xs : List A) (i : ℕ) (x default : A) → i < length xs → x ≡ slice_index_or xs i default →
+    flat_map f (drop i xs) ≡ f x ++ flat_map f (drop (i + 1) xs)
+dropped f [] i x default below is = absurd (omega (arith, below))
+dropped f (y ∷ xs) zero x default below is = ap (λ z. f z ++ flat_map f xs) (sym is)
+dropped f (y ∷ xs) (suc i) x default below is = let e : suc i + 1 ≡ suc (i + 1) = omega arith in rw e (dropped f xs i x default (omega (arith, below)) is)
+
+-- with the next written, those behind it are left
+pub split-next : {A : Type 0} (f : A → List ℕ) (xs : List A) (i : ℕ) (x default : A) (done text : List ℕ) → i < length xs → x ≡ slice_index_or xs i default →
+    text ≡ done ++ flat_map f (drop i xs) → text ≡ (done ++ f x) ++ flat_map f (drop (i + 1) xs)
+split-next f xs i x default done text below is split =
+    split ∙ ap (λ l. done ++ l) (dropped f xs i x default below is) ∙ sym (append_assoc done (f x) (flat_map f (drop (i + 1) xs)))
+
+-- the writer failed in a piece
+pub writes-failed : {E F : Type 0} (Q : F → Type 0) (f : E) (r : Result (Unit {0}) F) → IsErrAnd r Q → (old mid new : Option (List ℕ)) (done piece rest text : List ℕ) →
+    text ≡ (done ++ piece) ++ rest → Appends old mid done → Writes {E = E} mid new (Err f) piece → Writes {E = F} old new r text
+writes-failed Q f r is old mid new done piece rest text split before failed =
+    let p = err_from_is_err_and r is in
+    subst (λ s. Writes old new s text) (sym p.1) (Writes-cut f p.0 old new (done ++ piece) rest text split (Writes-then (Err f) old mid new done piece before failed))
+
+-- what came of the last piece came of the text
+pub writes-last : {E : Type 0} (r : Result (Unit {0}) E) (old mid new : Option (List ℕ)) (done last text : List ℕ) →
+    text ≡ done ++ last → Appends old mid done → Writes mid new r last → Writes old new r text
+writes-last r old mid new done last text split before went = subst (Writes old new r) (sym split) (Writes-then r old mid new done last before went)

@@ -1,0 +1,7 @@
+use Rattle.redo_report.proofs.text.write_dep.Goals as goal
+
+pub returns-in-Change-clause-writes : goal.returns-in-Change-clause-writes
+returns-in-Change-clause-writes g c = rw c.in-Change.is c.write_path_line.ensures.writes
+
+pub returns-in-Create-clause-writes : goal.returns-in-Create-clause-writes
+returns-in-Create-clause-writes g c = rw c.in-Create.is c.write_path_line-in-Create.ensures.writes

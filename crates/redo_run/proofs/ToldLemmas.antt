@@ -1,0 +1,122 @@
+-- What a run over a bundle tells of the text that it read.
+use Rattle.std.proofs.Common.{rules, ◌≡◌, ◌↔◌, ◌∙◌, [], ◌∷◌, length, List, ℕ, Bool, Option, Some, None, IsTrue, is_some, option_map, true, false, sym, subst, refl}
+use Rattle.std.specs.Prelude.{IfSome, IsSome, Err}
+use Rattle.std.specs.Io.KnownBytes.{Appends}
+use Rattle.redo_core.specs.Build.{rules_of}
+use Rattle.redo_build.specs.Outcomes.{IsTooMany}
+use Rattle.redo_report.specs.Reports.{IsReport}
+use Rattle.redo_report.specs.ReportText.{report_text}
+use Rattle.redo_report.specs.declared.report.Report.{Report}
+use Rattle.redo_tree.specs.Bundle.{IsBundle, Writes}
+use Rattle.redo_tree.specs.Directory.{IsLoaded, places_in}
+use Rattle.redo_tree.specs.Tree.{Tree}
+use Rattle.redo_run.specs.declared.directory.DirRun.{DirRun}
+use Rattle.redo_run.specs.declared.options.Options.{Options}
+use Rattle.redo_run.specs.declared.fault.RunIoFault.TheVariants as run
+use Rattle.redo_run.specs.declared.exit.Exit.{Exit}
+use Rattle.redo_run.specs.declared.run_fault.RunFault.{RunFault}
+use Rattle.redo_run.specs.declared.run_fault.RunFault.TheVariants as build
+use Rattle.redo_run.specs.Exits.{IsExit}
+use Rattle.redo_run.specs.Directories.{ReportsTree}
+use Rattle.redo_run.specs.Faults.{of_build}
+use Rattle.redo_run.specs.Runs.{Explains, ExplainsList, Lists, Reports, request_in, request_of}
+use Rattle.redo_run.specs.Candidates.{candidate_text, search_text}
+use Rattle.redo_which.specs.Candidates.{Place}
+use Rattle.redo_which.specs.Rule.{chosen_of, missing_of}
+use Rattle.redo_which.specs.Views.{place_of}
+use Rattle.redo_which.specs.declared.Search.{Search}
+
+-- targets that are named are the request
+pub named_targets : (targets : List (List ℕ)) → (length targets ≡ 0 → ⊥) → request_of targets ≡ targets
+named_targets [] some = absurd (some refl)
+named_targets (target ∷ targets) some = refl
+
+-- the request is that of the options
+module _ (options : Options) (tree : Tree) (request : List (List ℕ)) (named : request ≡ request_in options) where
+  moved : (P : List (List ℕ) → Type 0) → P request → P (request_in options)
+  moved P h = subst P named h
+
+  -- a build that answers no report
+  pub explains_build : (left old new : Option (List ℕ)) (fault : RunFault) → IfSome left (λ text. IsBundle text tree) →
+      (fault ≡ build.TooMany → IsTooMany (rules_of tree options.limits) request options.limits.targets) →
+      IfSome left (λ text. Explains {A = Exit} options text old new (Err (of_build fault)))
+  explains_build None old new fault bundle many = tt
+  explains_build (Some text) old new build.TooMany bundle many = (tree, bundle, moved (λ ps. IsTooMany (rules_of tree options.limits) ps options.limits.targets) (many refl))
+  explains_build (Some text) old new build.Memory bundle many = tt
+
+  -- a writer that fails in the report took a beginning of it
+  pub explains_device : {E : Type 0} (f : E) (left old new : Option (List ℕ)) (report : Report) (written : List ℕ) →
+      IfSome left (λ text. IsBundle text tree) → IsReport (rules_of tree options.limits) request options.limits.targets report →
+      written ≡ report_text report true → Writes {E = E} old new (Err f) written →
+      IfSome left (λ text. Explains {A = Exit} options text old new (Err run.Device))
+  explains_device f None old new report written bundle is made h = tt
+  explains_device f (Some text) old new report written bundle is made h = record {
+    tree = tree;
+    bundle = bundle;
+    report = report;
+    is = moved (λ ps. IsReport (rules_of tree options.limits) ps options.limits.targets report) is;
+    out = h.0;
+    more = h.1;
+    begins = sym made ∙ h.2;
+    written = h.3;
+  }
+
+  -- the whole report was written
+  pub reports : (left old new : Option (List ℕ)) (report : Report) (written : List ℕ) (exit : Exit) →
+      IfSome left (λ text. IsBundle text tree) → IsReport (rules_of tree options.limits) request options.limits.targets report →
+      written ≡ report_text report true → Appends old new written → IsExit (rules_of tree options.limits) options.limits.targets request exit →
+      IfSome left (λ text. Reports options text old new exit)
+  reports None old new report written exit bundle is made h good = tt
+  reports (Some text) old new report written exit bundle is made h good = record {
+    tree = tree;
+    bundle = bundle;
+    report = report;
+    is = moved (λ ps. IsReport (rules_of tree options.limits) ps options.limits.targets report) is;
+    written = subst (Appends old new) made h;
+    good = moved (λ ps. IsExit (rules_of tree options.limits) options.limits.targets ps exit) good;
+  }
+
+  -- the whole report of a directory was written
+  pub reports_tree : (dir : List ℕ) (old new : Option (List ℕ)) (report : Report) (written : List ℕ) (run : DirRun) →
+      IsLoaded tree run.passed → IsReport (rules_of tree options.limits) request options.limits.targets report →
+      run.stored ≡ places_in dir report.files.items →
+      written ≡ report_text report false → Appends old new written → IsExit (rules_of tree options.limits) options.limits.targets request run.exit →
+      ReportsTree options dir old new run
+  reports_tree dir old new report written run loaded is stored made h good = record {
+    tree = tree;
+    loaded = loaded;
+    report = report;
+    is = moved (λ ps. IsReport (rules_of tree options.limits) ps options.limits.targets report) is;
+    stored = stored;
+    written = subst (Appends old new) made h;
+    good = moved (λ ps. IsExit (rules_of tree options.limits) options.limits.targets ps run.exit) good;
+  }
+
+-- what a search looked at is the list of the target's candidates
+pub listed : (tree : Tree) (target : List ℕ) (found : Search) → found.missing.items ≡ missing_of tree target →
+    option_map place_of found.chosen ≡ chosen_of tree target → search_text found ≡ candidate_text tree target
+listed tree target found missing chosen = rw (missing, chosen) refl
+
+found_some : {A B : Type 0} (f : A → B) (o : Option A) (p : Option B) (r : Bool) → option_map f o ≡ p → r ≡ is_some o → IsTrue r ↔ IsSome p
+found_some f None p r e i = rw (← e, i) (search rules)
+found_some f (Some x) p r e i = rw (← e, i) (search rules)
+
+module _ (tree : Tree) (target : List ℕ) where
+  -- a writer that fails in the list took a beginning of it
+  pub explains_list : (A : Type 0) {E : Type 0} (f : E) (left old new : Option (List ℕ)) (written : List ℕ) →
+      IfSome left (λ text. IsBundle text tree) → written ≡ candidate_text tree target → Writes {E = E} old new (Err f) written →
+      IfSome left (λ text. ExplainsList {A = A} target text old new (Err run.Device))
+  explains_list A f None old new written bundle made h = tt
+  explains_list A f (Some text) old new written bundle made h = (tree, bundle, h.0, h.1, sym made ∙ h.2, h.3)
+
+  -- the whole list was written
+  pub lists : {A : Type 0} (f : A → Place) (o : Option A) (left old new : Option (List ℕ)) (written : List ℕ) (found : Bool) →
+      IfSome left (λ text. IsBundle text tree) → written ≡ candidate_text tree target → Appends old new written →
+      option_map f o ≡ chosen_of tree target → found ≡ is_some o → IfSome left (λ text. Lists target text old new found)
+  lists f o None old new written found bundle made h chosen is = tt
+  lists f o (Some text) old new written found bundle made h chosen is = record {
+    tree = tree;
+    bundle = bundle;
+    written = subst (Appends old new) made h;
+    chosen = found_some f o _ found chosen is;
+  }

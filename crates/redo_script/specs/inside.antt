@@ -1,0 +1,4 @@
+pub mod Lexer
+pub mod Parser
+pub mod Passes
+pub mod Runs

@@ -1,0 +1,66 @@
+-- What contracts see of the reader of statements.
+use Rattle.std.specs.Prelude.{◌+◌, ℕ, ◌&&◌, nat_le, if◌then◌else◌, length, List, [], ◌∷◌, map, Option, None, option_map}
+use Rattle.redo_script.specs.Syntax.{byte, Word}
+use Rattle.redo_script.specs.Grammar.{at_most, digits_value, Item}
+use Rattle.redo_script.specs.declared.item.Item.{Item as ItemTree}
+use Rattle.redo_script.specs.declared.item.Item.TheVariants as items
+use Rattle.redo_script.specs.declared.begun.Begun.{Begun as BegunTree}
+use Rattle.redo_script.specs.declared.ast.Condition.{Condition as ConditionTree}
+use Rattle.redo_script.specs.declared.parser.Phase.{Phase as PhaseTree}
+use Rattle.redo_script.specs.declared.parser.Phase.TheVariants as phases
+use Rattle.redo_script.specs.declared.parser.Open.{Open as OpenTree}
+use Rattle.redo_script.specs.declared.parser.Parser.{Parser as ParserTree}
+use Rattle.redo_script.specs.Parsing.{Begun, Phase, at_command, in_command, behind_if, in_condition, before_then, behind_fi, Open, Parser}
+use Rattle.redo_script.specs.View.{symbols_of, redirection_of, condition_of, script_of}
+
+-- a word of a command, by its symbols
+abbrev pub item_of : ItemTree → Item
+item_of (items.Lent is_plain bytes) = record { is_plain = is_plain; word = map byte bytes.now }
+item_of (items.Built is_plain parts) = record { is_plain = is_plain; word = symbols_of parts.items }
+
+-- what was read of a command
+abbrev pub begun_of : BegunTree → Begun
+begun_of b = record {
+  line = b.line;
+  name = item_of b.name;
+  items = map item_of b.items.items;
+  redirection = option_map redirection_of b.redirection;
+  is_ill = b.is_ill;
+  awaits = b.awaits;
+}
+
+-- what is expected next, with the command that is being read and the condition that was read last
+abbrev pub phase_of : PhaseTree → BegunTree → ConditionTree → Phase
+phase_of phases.AtCommand b c = at_command
+phase_of phases.InCommand b c = in_command (begun_of b)
+phase_of (phases.BehindIf line) b c = behind_if line
+phase_of phases.InCondition b c = in_condition (begun_of b)
+phase_of (phases.BeforeThen line) b c = before_then line (condition_of c)
+phase_of (phases.BehindFi line) b c = behind_fi line
+
+-- an open if
+abbrev pub open_of : OpenTree → Open
+open_of o = record {
+  line = o.line;
+  condition = condition_of o.condition;
+  first = option_map (λ v. script_of v.items) o.first;
+  before = script_of o.before.items;
+}
+
+-- the open ifs: the innermost, which the code has last, comes first
+abbrev pub stack_onto : List Open → List OpenTree → List Open
+stack_onto os [] = os
+stack_onto os (x ∷ xs) = stack_onto (open_of x ∷ os) xs
+
+-- where the parser stands
+abbrev pub parser_of : ParserTree → Parser
+parser_of p = record {
+  phase = phase_of p.phase p.begun p.condition;
+  opens = stack_onto [] p.opens.items;
+  so_far = script_of p.so_far.items;
+}
+
+-- the status of a number of this value, of which so many digits were read, that goes on with these symbols
+abbrev pub status_on : ℕ → ℕ → Word → Option ℕ
+status_on digits value w =
+    if nat_le 1 (digits + length w) && nat_le (digits + length w) 3 then at_most 255 (digits_value value w) else None

@@ -1,0 +1,92 @@
+-- A script that goes on with a redo-ifchange that waited.
+use Rattle.std.proofs.Common.{◌≡◌, ℕ, zero, suc, ◌+◌, ◌<◌, length, List, [], ◌∷◌, Option, Result, Ok, refl, sym, ap, ◌∙◌, subst, add-one, arith}
+use Rattle.std.specs.Prelude.{Box}
+use Rattle.std.specs.declared.alloc.Global.{Global}
+use Rattle.redo_script.specs.declared.ast.Stmt.{Stmt}
+use Rattle.redo_script.specs.Syntax.{Script, Command, finish, simple}
+use Rattle.redo_script.specs.View.{script_of}
+use Rattle.redo_script.specs.declared.fault.ScriptFault.{ScriptFault}
+use Rattle.redo_step.specs.declared.place.Branch.{Branch}
+use Rattle.redo_step.specs.declared.place.Place.{Place, Before, Within'}
+use Rattle.redo_step.specs.declared.place.Place.TheVariants as places
+use Rattle.redo_step.specs.declared.machine.Progress.{Progress}
+use Rattle.redo_step.specs.declared.stop.Stop.{Stop}
+use Rattle.redo_step.specs.declared.wait.Waiting.{Waiting}
+use Rattle.redo_step.specs.Setting.{Setting}
+use Rattle.redo_step.specs.Runs.{State, goes}
+use Rattle.redo_record.specs.Answers.{Ask}
+use Rattle.redo_step.specs.Place.{behind_first, skip, branch_of, stands_at, left_at}
+use Rattle.redo_step.specs.inside.Waiting.{waited_on, unanswered}
+use Rattle.redo_step.specs.inside.Machine.{WaitsBy, Comes, IsStopBefore, HasBranch}
+use Rattle.redo_step.specs.inside.Kept.{IsFirst, IsKept}
+use Rattle.redo_step.proofs.StepLemmas.{reaches_simple}
+use Rattle.redo_step.proofs.SliceLemmas.{skip_finish, behind-before}
+use Rattle.redo_step.proofs.ComesLemmas.{comes_after, comes_before, stop_comes, branch_choice}
+use Rattle.redo_step.proofs.WaitingLemmas.{first_is, ends_waiting}
+
+skip_next : (n : ℕ) (script : Script) → skip (suc n) script ≡ behind_first (skip n script)
+unfolding skip
+skip_next zero script = refl
+skip_next (suc n) script = skip_next n (behind_first script)
+
+behind_here : (n : ℕ) (script rest : Script) (line : ℕ) (c : Command) → skip n script ≡ simple line c rest → skip (n + 1) script ≡ rest
+behind_here n script rest line c at = rw add-one (skip_next n script ∙ ap behind_first at)
+
+within_here : (xs : List Stmt) (n : ℕ) (rest : Script) (line : ℕ) (c : Command) → skip n (script_of xs) ≡ simple line c rest → n < length xs
+unfolding skip
+within_here [] n rest line c h = absurd (let bad : finish ≡ simple line c rest = sym (skip_finish n) ∙ h in cc)
+within_here (x ∷ xs) zero rest line c h = omega arith
+within_here (x ∷ xs) (suc n) rest line c h = let r = within_here xs n rest line c (sym (ap (skip n) (behind-before x (script_of xs))) ∙ h) in omega arith
+
+stands_here : (place : Place) (n : ℕ) (script : Script) → place ≡ Before n → stands_at place script ≡ skip n script
+unfolding stands_at
+stands_here place n script is = rw is refl
+
+stands_inside : (place : Place) (n : ℕ) (branch : Branch) (inner : Box Place Global) (script : Script) → place ≡ places.Within n branch inner → stands_at place script ≡ stands_at inner.value (branch_of branch (skip n script))
+unfolding stands_at
+stands_inside place n branch inner script is = rw is refl
+
+-- how many branches a place lies in
+abbrev pub depth : Place → ℕ
+depth (Before n) = 0
+depth (Within' n branch p place) = suc (depth place)
+
+pub depth_inside : (place here : Place) (n : ℕ) (branch : Branch) (inner : Box Place Global) → place ≡ places.Within n branch inner → here ≡ inner.value → depth here < depth place
+depth_inside place here n branch inner is e = rw (is, e) (omega arith)
+
+module _ (setting : Setting) (ask : Ask) (whole : List Stmt) (place : Place) (s : State) where
+  -- what is kept for a branch
+  pub kept_inside : (n : ℕ) (branch : Branch) (inner : Box Place Global) (part : List Stmt) (here : Place) (kept : Option Waiting) → place ≡ places.Within n branch inner → HasBranch whole n branch part → here ≡ inner.value → IsKept setting (stands_at place (script_of whole)) s kept → IsKept setting (stands_at here (script_of part)) s kept
+  kept_inside n branch inner part here kept is has e k =
+      let same : stands_at place (script_of whole) ≡ stands_at here (script_of part) =
+      stands_inside place n branch inner (script_of whole) is ∙ ap (λ y. stands_at inner.value (branch_of branch y)) has.here ∙ ap (stands_at inner.value) (branch_choice setting ask branch has.line has.condition has.first has.second (skip (n + 1) (script_of whole)) ∙ sym has.part_is) ∙ ap (λ q. stands_at q (script_of part)) (sym e) in
+      subst (λ (y : Script). IsKept setting y s kept) same k
+
+  module _ (n : ℕ) (is : place ≡ Before n) (w : Waiting) (first : IsFirst setting (stands_at place (script_of whole)) s w) where
+    at : skip n (script_of whole) ≡ simple first.line first.command first.rest
+    at = sym (stands_here place n (script_of whole) is) ∙ first.here
+
+    pub kept_within : n < length whole
+    kept_within = within_here whole n first.rest first.line first.command at
+
+    -- it goes on
+    pub kept_goes : (t : State) (p : Progress) → waited_on ask w.line w.targets.items (unanswered ask [] w.targets.items) s ≡ goes s → Comes setting ask (script_of whole) (skip (n + 1) (script_of whole)) finish s p t → Comes setting ask (script_of whole) (left_at place (script_of whole)) finish s p t
+    kept_goes t p g c =
+        let runs = first_is setting ask first.line first.command w s first.has ∙ g in
+        let reaches = reaches_simple setting ask first.line first.command first.rest s s runs in
+        let behind = behind_here n (script_of whole) first.rest first.line first.command at in
+        let all = comes_after setting ask (script_of whole) (simple first.line first.command first.rest) first.rest finish s s t p reaches (subst (λ (y : Script). Comes setting ask (script_of whole) y finish s p t) behind c) in
+        comes_before setting ask whole place s n t p is (subst (λ (y : Script). Comes setting ask (script_of whole) y finish s p t) (sym at) all)
+
+    -- it stops again
+    pub kept_stops : (stop : Stop) (p : Progress) → WaitsBy w stop (waited_on ask w.line w.targets.items (unanswered ask [] w.targets.items) s) s → IsStopBefore stop n p → Comes setting ask (script_of whole) (left_at place (script_of whole)) finish s p s
+    kept_stops stop p h before =
+        let ends = ends_waiting setting ask first.line first.command w stop _ s first.has (rw (← first_is setting ask first.line first.command w s first.has) at h) in
+        let stopped = stop_comes setting ask first.line first.command n s s stop p (script_of whole) first.rest finish ends before at in
+        comes_before setting ask whole place s n s p is (subst (λ (y : Script). Comes setting ask (script_of whole) y finish s p s) (sym at) stopped)
+
+ok_same : (x : Result Script ScriptFault) (a b : Script) → x ≡ Ok a → x ≡ Ok b → a ≡ b
+ok_same x a b e f = cc
+
+pub same_kept : (setting : Setting) (place : Place) (s : State) (kept : Option Waiting) (x : Result Script ScriptFault) (a b : Script) → x ≡ Ok a → x ≡ Ok b → IsKept setting (stands_at place a) s kept → IsKept setting (stands_at place b) s kept
+same_kept setting place s kept x a b e f k = subst (λ (y : Script). IsKept setting (stands_at place y) s kept) (ok_same x a b e f) k

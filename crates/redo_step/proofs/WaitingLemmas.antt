@@ -1,0 +1,117 @@
+-- A wait for operands is a wait for those of them that are no sources.
+use Rattle.std.proofs.Common.{◌≡◌, ℕ, suc, ◌+◌, ◌<◌, Bool, true, false, ◌&&◌, ◌||◌, cond, not, inl, inr, List, [], ◌∷◌, ◌++◌, length, drop, get_or, Result, Ok, Err, refl, sym, ap, ◌∙◌, add-one}
+use Rattle.std.specs.Prelude.{is_none}
+use Rattle.std.proofs.Math.Seq.{drop-cons}
+use Rattle.std.specs.List.{list_any}
+use Rattle.std.proofs.lemmas.Bool.{cases_Bool, both_ways}
+use Rattle.std.specs.Str.{bytes_eq}
+use lib.Pointwise.{bytes_decides}
+use Rattle.redo_record.specs.declared.deps.DepKind.TheVariants as kinds
+use Rattle.redo_step.specs.declared.stop.Stop.{Stop}
+use Rattle.redo_record.specs.Paths.{Path}
+use Rattle.redo_script.specs.Syntax.{Word, Command, change}
+use Rattle.redo_step.specs.declared.stop.Stop.TheVariants as stops
+use Rattle.redo_step.specs.declared.wait.Waiting.{Waiting}
+use Rattle.redo_step.specs.inside.Machine.{WaitsBy, GoesOn, EndsAt, Passes}
+use Rattle.redo_step.specs.inside.Kept.{HasOperands}
+use Rattle.redo_record.proofs.EntryLemmas.{with_entries-again}
+use Rattle.redo_step.specs.Setting.{Setting}
+use Rattle.redo_step.specs.Runs.{State, End, Run}
+use Rattle.redo_step.specs.Declaring.{declaring, is_in, lacking, any_failed, waited, changed}
+use Rattle.redo_step.specs.Words.{operands_of}
+use Rattle.redo_step.specs.Statements.{command_run}
+use Rattle.redo_record.specs.Answers.{Ask, is_failure}
+use Rattle.redo_step.specs.inside.Waiting.{targets_in, unanswered, any_failure, waited_on}
+
+module _ (setting : Setting) (ask : Ask) where
+  pub lacking_is : (found ps : List Path) → lacking setting ask found ps ≡ unanswered ask found (targets_in setting ps)
+  lacking_is found [] = refl
+  lacking_is found (p ∷ ps) =
+      elim (is_none (setting.source p)) as (λ (v : Bool). cond ((v && is_none (ask p)) && not (is_in found p)) (lacking setting ask (found ++ p ∷ []) ps) (lacking setting ask found ps) ≡ unanswered ask found (cond v (p ∷ targets_in setting ps) (targets_in setting ps)))
+      [ true ↦ rw (lacking_is (found ++ p ∷ []) ps, lacking_is found ps) refl | false ↦ lacking_is found ps ]
+
+  pub any_failed_is : (ps : List Path) → any_failed setting ask ps ≡ any_failure ask (targets_in setting ps)
+  any_failed_is [] = refl
+  any_failed_is (p ∷ ps) =
+      elim (is_none (setting.source p)) as (λ (v : Bool). ((v && is_failure (ask p)) || any_failed setting ask ps) ≡ any_failure ask (cond v (p ∷ targets_in setting ps) (targets_in setting ps)))
+      [ true ↦ rw (any_failed_is ps) refl | false ↦ any_failed_is ps ]
+
+  waited_by : (line : ℕ) (ps qs : List Path) (s : State) → waited setting ask line ps qs s ≡ waited_on ask line (targets_in setting ps) qs s
+  waited_by line ps [] s = rw (any_failed_is ps) refl
+  waited_by line ps (q ∷ qs) s = refl
+
+  pub waited_is : (line : ℕ) (ps : List Path) (s : State) → waited setting ask line ps (lacking setting ask [] ps) s ≡ waited_on ask line (targets_in setting ps) (unanswered ask [] (targets_in setting ps)) s
+  waited_is line ps s = waited_by line ps (lacking setting ask [] ps) s ∙ ap (λ qs. waited_on ask line (targets_in setting ps) qs s) (lacking_is [] ps)
+
+  -- a redo-ifchange whose operands are declared
+  pub changed_is : (line : ℕ) (meant : Result (List Path) End) (ps targets : List Path) (s t : State) → meant ≡ Ok ps → targets ≡ targets_in setting ps → t ≡ declaring s kinds.Change ps → changed setting ask line meant s ≡ waited_on ask line targets (unanswered ask [] targets) t
+  changed_is line meant ps targets s t m g d = rw (m, g, d) (waited_is line ps (declaring s kinds.Change ps))
+
+  -- what was waited for is kept
+  pub ends_waiting : (line : ℕ) (c : Command) (w : Waiting) (stop : Stop) (r : Run) (t : State) → HasOperands setting line c t w → WaitsBy w stop r t → EndsAt setting line c stop r t
+  ends_waiting line c w (stops.Ended e) r t has h = h
+  ends_waiting line c w (stops.Lacks ps) r t has h = absurd h
+  ends_waiting line c w (stops.Waits ps v) r t has h = (h.0, rw h.1 has)
+  ends_waiting line c w stops.Memory r t has h = tt
+
+  passes_waiting : {X : Type 0} (line : ℕ) (c : Command) (w : Waiting) (result : Result X Stop) (r : Run) (t : State) → HasOperands setting line c t w → GoesOn w result r t → Passes setting line c result r t
+  passes_waiting line c w (Ok x) r t has h = h
+  passes_waiting line c w (Err stop) r t has h = ends_waiting line c w stop r t has h
+
+  again : (s t : State) (ps : List Path) → t ≡ declaring s kinds.Change ps → declaring t kinds.Change ps ≡ t
+  again s t ps d = rw d (ap (λ es. record s { entries = es }) (with_entries-again s.entries kinds.Change ps))
+
+  pub changed_passes : {X : Type 0} (line : ℕ) (words : List Word) (ps : List Path) (w : Waiting) (s t : State) (result : Result X Stop) → operands_of setting line words ≡ Ok ps → w.line ≡ line → w.targets.items ≡ targets_in setting ps → t ≡ declaring s kinds.Change ps → GoesOn w result (waited_on ask w.line w.targets.items (unanswered ask [] w.targets.items) t) t → Passes setting line (change words) result (changed setting ask line (operands_of setting line words) s) t
+  changed_passes line words ps w s t result m l g d h =
+      let has : HasOperands setting line (change words) t w = record { words = words; operands = ps; same_line = l; same_command = refl; names = m; waits_for = g; declared = again s t ps d } in
+      let is = changed_is line (operands_of setting line words) ps w.targets.items s t m g d in
+      passes_waiting line (change words) w result _ t has (rw (is, ← l) h)
+
+  -- a redo-ifchange that waited, when it goes on
+  pub first_is : (line : ℕ) (c : Command) (w : Waiting) (s : State) → HasOperands setting line c s w → command_run setting ask line c s ≡ waited_on ask w.line w.targets.items (unanswered ask [] w.targets.items) s
+  first_is line c w s has = rw (has.same_command, has.same_line) (changed_is line (operands_of setting line has.words) has.operands w.targets.items s s has.names has.waits_for (sym has.declared))
+
+-- Gathering what has no answer
+
+any_in : (p : Path) (qs : List Path) → list_any (bytes_eq p) qs ≡ is_in qs p
+any_in p [] = refl
+any_in p (q ∷ qs) = ap (λ b. bytes_eq p q || b) (any_in p qs)
+
+bytes_turn : (p q : Path) → bytes_eq p q ≡ true → bytes_eq q p ≡ true
+bytes_turn p q h = let e : p ≡ q = (bytes_decides p q).0 h in rw e ((bytes_decides q q).1 refl)
+
+bytes_sym : (p q : Path) → bytes_eq p q ≡ bytes_eq q p
+bytes_sym p q = elim (cases_Bool (bytes_eq p q)) [
+  | inl t ↦ rw (t, bytes_turn p q t) refl
+  | inr n ↦ elim (cases_Bool (bytes_eq q p)) [ inl t ↦ absurd (both_ways _ n (bytes_turn q p t)) | inr m ↦ rw (n, m) refl ]
+]
+
+in_any : (p : Path) (qs : List Path) → list_any (λ q. bytes_eq q p) qs ≡ is_in qs p
+in_any p [] = refl
+in_any p (q ∷ qs) = rw (bytes_sym q p, in_any p qs) refl
+
+module _ (ask : Ask) where
+  new_goes : (found ps : List Path) (p : Path) → is_none (ask p) ≡ true → unanswered ask found (p ∷ ps) ≡ unanswered ask (cond (is_in found p) found (found ++ p ∷ [])) ps
+  new_goes found ps p h = rw h ((elim (is_in found p) as (λ (v : Bool). cond (not v) (unanswered ask (found ++ p ∷ []) ps) (unanswered ask found ps) ≡ unanswered ask (cond v found (found ++ p ∷ [])) ps) [ true ↦ refl | false ↦ refl ]))
+
+  known_goes : (found ps : List Path) (p : Path) → is_none (ask p) ≡ false → unanswered ask found (p ∷ ps) ≡ unanswered ask found ps
+  known_goes found ps p h = rw h refl
+
+  module _ (paths : List Path) (i : ℕ) (p : Path) (lt : i < length paths) (is : p ≡ get_or paths i p) (found : List Path) (total : List Path) (before : unanswered ask found (drop i paths) ≡ total) where
+    split : drop i paths ≡ p ∷ drop (i + 1) paths
+    split = rw add-one (drop-cons paths i p lt ∙ ap (λ q. q ∷ drop (suc i) paths) (sym is))
+
+    pub none_goes : (new : List Path) → is_none (ask p) ≡ true → new ≡ cond (is_in found p) found (found ++ p ∷ []) → unanswered ask new (drop (i + 1) paths) ≡ total
+    none_goes new h n = rw n (sym (ap (unanswered ask found) split ∙ new_goes found (drop (i + 1) paths) p h) ∙ before)
+
+    pub set_goes : (new : List Path) → is_none (ask p) ≡ true → new ≡ cond (list_any (bytes_eq p) found) found (found ++ p ∷ []) → unanswered ask new (drop (i + 1) paths) ≡ total
+    set_goes new h n = none_goes new h (n ∙ ap (λ b. cond b found (found ++ p ∷ [])) (any_in p found))
+
+    pub some_goes : (new : List Path) → is_none (ask p) ≡ false → new ≡ found → unanswered ask new (drop (i + 1) paths) ≡ total
+    some_goes new h n = rw n (sym (ap (unanswered ask found) split ∙ known_goes found (drop (i + 1) paths) p h) ∙ before)
+
+    pub few_goes : (new : List Path) → is_none (ask p) ≡ true → list_any (λ q. bytes_eq q p) found ≡ false → new ≡ found ++ p ∷ [] → unanswered ask new (drop (i + 1) paths) ≡ total
+    few_goes new h k n = none_goes new h (rw (sym (in_any p found) ∙ k) n)
+
+    pub in_skips : (new : List Path) → is_none (ask p) ≡ true → list_any (λ q. bytes_eq q p) found ≡ true → new ≡ found → unanswered ask new (drop (i + 1) paths) ≡ total
+    in_skips new h k n = none_goes new h (rw (sym (in_any p found) ∙ k) n)

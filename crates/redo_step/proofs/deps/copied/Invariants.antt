@@ -1,8 +1,0 @@
-use Rattle.std.proofs.Common.{◌≡◌, [], drop}
-use Rattle.redo_step.specs.Entries.{AreOnce}
-use Rattle.redo_step.specs.Record.{with_all}
-use Rattle.redo_step.proofs.deps.copied.Given as goal
-
--- the entries so far, with those that are left, are all
-abbrev pub invariant-loop-entry : goal.invariant-loop-entry
-invariant-loop-entry l = AreOnce l.set.keys × (with_all l.set.keys (drop l.entry-index l.fn.entries) ≡ with_all [] l.fn.entries)

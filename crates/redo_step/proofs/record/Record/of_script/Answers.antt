@@ -1,5 +1,0 @@
-use Rattle.redo_step.proofs.Search.{by-script}
-use Rattle.redo_step.proofs.record.Record.of_script.Goals as goal
-
-pub returns : goal.returns
-returns c = by-script c.args.rule.missing c.args.rule.do_file c.in_ok-own.own c.args.declared c.each_once.ensures c.in_ok-own.ensures

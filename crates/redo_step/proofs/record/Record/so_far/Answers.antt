@@ -1,6 +1,0 @@
-use Rattle.redo_step.proofs.Search.{by-script}
-use Rattle.redo_step.proofs.record.Record.so_far.Goals as goal
-
-pub returns : goal.returns
-returns c =
-    rw (c.in_ok-missing.ensures.cases, c.in_ok-clone.ensures.cases) (by-script c.args.rule.now.missing c.args.rule.now.do_file c.in_ok-own.own c.args.declared.now c.each_once.ensures c.in_ok-own.ensures)

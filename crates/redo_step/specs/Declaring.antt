@@ -1,0 +1,81 @@
+-- What redo-ifchange and redo-ifcreate declare, and when they stop or fail.
+use Rattle.std.specs.Prelude.{ℕ, Bool, false, ◌&&◌, ◌||◌, not, List, [], ◌∷◌, ◌++◌, Option, Some, None, is_some, is_none, Result, Ok, Err, if◌then◌else◌}
+use Rattle.redo_script.specs.Syntax.{Word}
+use Rattle.redo_record.specs.declared.deps.DepKind.{DepKind}
+use Rattle.redo_record.specs.declared.deps.DepKind.TheVariants as kinds
+use Rattle.redo_record.specs.declared.outcome.Why.{Why}
+use Rattle.redo_record.specs.declared.outcome.Why.TheVariants as why
+use Rattle.std.specs.Str.{bytes_eq}
+use Rattle.redo_record.specs.Paths.{Path}
+use Rattle.redo_record.specs.Answers.{Ask, is_failure}
+use Rattle.redo_record.specs.Entries.{with_entries}
+use Rattle.redo_step.specs.Runs.{End, Run, State, ends, faulted, goes, stopped, ◌>>=◌}
+use Rattle.redo_step.specs.Setting.{Setting}
+use Rattle.redo_step.specs.Words.{paths_of, texts_of}
+
+-- the state with these paths declared
+abbrev pub declaring : State → DepKind → List Path → State
+declaring s kind ps = record s { entries = with_entries s.entries kind ps }
+
+-- no source, and no answer
+abbrev pub lacks : Setting → Ask → Path → Bool
+lacks setting ask p = is_none (setting.source p) && is_none (ask p)
+
+-- whether a path is one of these
+abbrev pub is_in : List Path → Path → Bool
+is_in [] p = false
+is_in (q ∷ qs) p = bytes_eq p q || is_in qs p
+
+-- those that lack an answer, each once, behind those found before
+abbrev pub lacking : Setting → Ask → List Path → List Path → List Path
+lacking setting ask found [] = found
+lacking setting ask found (p ∷ ps) =
+    if lacks setting ask p && not (is_in found p) then lacking setting ask (found ++ p ∷ []) ps else lacking setting ask found ps
+
+-- no source, and answered as failed
+abbrev pub has_failed : Setting → Ask → Path → Bool
+has_failed setting ask p = is_none (setting.source p) && is_failure (ask p)
+
+-- whether one of these failed
+abbrev pub any_failed : Setting → Ask → List Path → Bool
+any_failed setting ask [] = false
+any_failed setting ask (p ∷ ps) = has_failed setting ask p || any_failed setting ask ps
+
+-- a redo-ifchange of paths of which these lack answers: it stops, fails by Depends, or goes on
+abbrev pub waited : Setting → Ask → ℕ → List Path → List Path → State → Run
+waited setting ask line ps [] s = if any_failed setting ask ps then ends (faulted (why.Depends line)) s else goes s
+waited setting ask line ps (q ∷ qs) s = ends (stopped (q ∷ qs)) s
+
+-- redo-ifchange: all its paths are declared, and then waited for
+abbrev pub changed : Setting → Ask → ℕ → Result (List Path) End → State → Run
+changed setting ask line (Err e) s = ends e s
+changed setting ask line (Ok ps) s =
+    waited setting ask line ps (lacking setting ask [] ps) (declaring s kinds.Change ps)
+
+-- why redo-ifcreate refuses these paths: the first that is there or has a rule
+abbrev pub obstacle : Setting → ℕ → List Path → Option Why
+obstacle setting line [] = None
+obstacle setting line (p ∷ ps) =
+    if is_some (setting.source p) || setting.is_directory p then Some (why.Exists line)
+    else if setting.has_rule p then Some (why.Buildable line)
+    else obstacle setting line ps
+
+-- these paths, unless one is there or has a rule
+abbrev pub free_of : List Path → Option Why → Result (List Path) End
+free_of paths None = Ok paths
+free_of paths (Some w) = Err (faulted w)
+
+-- the paths that these texts name, where redo-ifcreate takes them
+abbrev pub free_paths : Setting → ℕ → List (List ℕ) → Result (List Path) End
+free_paths setting line texts = do
+  paths ← paths_of setting line texts
+  free_of paths (obstacle setting line paths)
+
+-- the paths that these words name, where redo-ifcreate takes them
+abbrev pub free_operands : Setting → ℕ → List Word → Result (List Path) End
+free_operands setting line ws = texts_of setting line ws >>= free_paths setting line
+
+-- redo-ifcreate: its paths are declared
+abbrev pub created : Result (List Path) End → State → Run
+created (Err e) s = ends e s
+created (Ok ps) s = goes (declaring s kinds.Create ps)

@@ -1,0 +1,10 @@
+pub mod Endings
+pub mod Kept
+pub mod Machine
+pub mod Parts
+pub mod Printing
+pub mod Scene
+pub mod Sink
+pub mod Text
+pub mod Waiting
+pub mod Writing

@@ -1,0 +1,29 @@
+-- What a redo-ifchange waits for, once it is known which of its operands are sources.
+use Rattle.std.specs.Prelude.{ℕ, Bool, false, ◌&&◌, ◌||◌, not, is_none, List, [], ◌∷◌, ◌++◌, if◌then◌else◌}
+use Rattle.std.specs.List.{filter}
+use Rattle.redo_record.specs.declared.outcome.Why.TheVariants as why
+use Rattle.redo_record.specs.Paths.{Path}
+use Rattle.redo_step.specs.Setting.{Setting}
+use Rattle.redo_step.specs.Runs.{State, faulted, stopped, Run, goes, ends}
+use Rattle.redo_step.specs.Declaring.{is_in}
+use Rattle.redo_record.specs.Answers.{Ask, is_failure}
+
+-- those of these paths that are no sources
+abbrev pub targets_in : Setting → List Path → List Path
+targets_in setting ps = filter (λ p. is_none (setting.source p)) ps
+
+-- those of these targets that have no answer, each once, behind those found before
+abbrev pub unanswered : Ask → List Path → List Path → List Path
+unanswered ask found [] = found
+unanswered ask found (p ∷ ps) =
+    if is_none (ask p) && not (is_in found p) then unanswered ask (found ++ p ∷ []) ps else unanswered ask found ps
+
+-- whether one of these targets failed
+abbrev pub any_failure : Ask → List Path → Bool
+any_failure ask [] = false
+any_failure ask (p ∷ ps) = is_failure (ask p) || any_failure ask ps
+
+-- a wait for these targets, of which those have no answer: it stops, fails by Depends, or goes on
+abbrev pub waited_on : Ask → ℕ → List Path → List Path → State → Run
+waited_on ask line ps [] s = if any_failure ask ps then ends (faulted (why.Depends line)) s else goes s
+waited_on ask line ps (q ∷ qs) s = ends (stopped (q ∷ qs)) s

@@ -1,0 +1,112 @@
+-- The entries that the code keeps: they grow to a tree, and look-ups by hash find what stands in it.
+use Rattle.std.proofs.Common.{◌≡◌, List, [], ◌∷◌, ◌++◌, ℕ, Bool, true, false, cond, refl, sym, ap, subst, ◌∙◌, Option, Some, None, IsSome, nat_eq, T, arith, ◌+◌, length, length-append}
+use Rattle.std.proofs.lemmas.Map.Keys.{sorted_head, sorted_tail}
+use Rattle.std.specs.Prelude.{IfSome, option_map, ◌&&◌}
+use Rattle.std.specs.Cmp.Lexicographic.{slice_cmp, pointwise, nat_list_cmp_total, nat_list_eq_equiv}
+use Rattle.std.specs.FinMap.{slice_cmp-IsAntisymmetric, nat_cmp-IsAntisymmetric}
+use Rattle.std.specs.FinMap.Entries.{below_all, is_sorted, same_entries as same_lists}
+use Rattle.std.specs.HashMap.Eq.{get_from_hash_map_eq, hash_map_eq_from_get}
+use Rattle.std.specs.List.{AllByRecursion}
+use Rattle.std.specs.List.Sorted.{IsStrictlySortedBy}
+use Rattle.std.specs.Map.{keys_of, lookup}
+use Rattle.std.specs.Ordering.{nat_cmp, is_lt}
+use Rattle.std.specs.declared.cmp.Ordering.TheVariants.{Less}
+use Rattle.indexmap.specs.IndexMap.{IndexMap, index_map_eq}
+use Rattle.redo_path.specs.Names.{IsPath, parent_of}
+use Rattle.redo_tree.specs.contracts.entries.EntryPartialEq.TheImpl.{ghosts}
+use Rattle.redo_tree.specs.declared.entries.Entry.{Entry}
+use Rattle.redo_tree.specs.declared.entries.Entry.TheVariants as entries
+use Rattle.redo_tree.specs.Tree.{Directory, Tree, IsKept, IsNoted, IsTree, NotesDefaults, default_dir, node_at, node_of, refusal, top, tree_eq, tree_of, with_node}
+use Rattle.redo_tree.proofs.AlikeLemmas.{alike, found_alike, same_entries, same_found}
+use Rattle.redo_tree.proofs.GrowLemmas.{IsTree-with, Puts-with, free, is_path, length-with}
+use Rattle.redo_tree.proofs.NodeLemmas.{node_of-cond, tree_of-last}
+use Rattle.redo_tree.proofs.NotedLemmas.{noted-with, noted_top}
+
+-- ---- the top directory alone
+
+sorted_top : IsStrictlySortedBy (slice_cmp nat_cmp) (keys_of top)
+unfolding IsStrictlySortedBy
+sorted_top = (tt, tt)
+
+parents_top : (path dir : List ℕ) → IsSome (node_at top path) → parent_of path ≡ Some dir → node_at top dir ≡ Some Directory
+parents_top [] dir some e = cc
+parents_top (byte ∷ bytes) dir some e = cc
+
+found_top : (path : List ℕ) → option_map node_of (lookup (pointwise nat_eq path) (([], entries.Directory) ∷ [])) ≡ node_at top path
+found_top [] = refl
+found_top (byte ∷ bytes) = refl
+
+pub IsKept-top : IsKept (([], entries.Directory) ∷ []) []
+IsKept-top = record {
+  tree = record {
+    sorted = sorted_top;
+    paths = (record { each = tt; short = omega arith }, tt);
+    root = refl;
+    parents = parents_top;
+  };
+  counted = refl;
+  found = found_top;
+  noted = noted_top;
+}
+
+-- ---- one entry more
+
+-- where nothing stands in the tree, nothing is found
+none_found : (o : Option Entry) → option_map node_of o ≡ None → o ≡ None
+none_found None h = refl
+none_found (Some entry) h = cc
+
+pub absent : (es : List (List ℕ × Entry)) (dirs : List (List ℕ)) (path : List ℕ) (entry : Entry) → IsKept es dirs → refusal (tree_of es) path (node_of entry) ≡ None → lookup (pointwise nat_eq path) es ≡ None
+absent es dirs path entry is h = none_found (lookup (pointwise nat_eq path) es) (is.found path ∙ free (tree_of es) path (node_of entry) h)
+
+-- more directories may be noted
+pub IsKept-noted : (es : List (List ℕ × Entry)) (dirs more : List (List ℕ)) → IsKept es dirs → ((d : List ℕ) → IsNoted dirs d → IsNoted more d) → IsKept es more
+IsKept-noted es dirs more is kept = record { tree = is.tree; counted = is.counted; found = is.found; noted = λ path dir node at e. kept dir (is.noted path dir node at e) }
+
+pub IsKept-with : (old new : List (List ℕ × Entry)) (dirs : List (List ℕ)) (path : List ℕ) (entry : Entry) → IsKept old dirs → IfSome (default_dir path (node_of entry)) (IsNoted dirs) → IsPath path → refusal (tree_of old) path (node_of entry) ≡ None → new ≡ old ++ (path, entry) ∷ []
+    → ((q : List ℕ) → lookup (pointwise nat_eq q) new ≡ cond (is_path path q) (Some entry) (lookup (pointwise nat_eq q) old)) → IsKept new dirs
+IsKept-with old new dirs path entry is noted fits h put finds =
+    let grown : tree_of new ≡ with_node (tree_of old) path (node_of entry) = ap tree_of put ∙ tree_of-last old path entry in
+    record {
+      tree = subst IsTree (sym grown) (IsTree-with (tree_of old) path (node_of entry) is.tree fits h);
+      counted = ap length grown ∙ length-with (tree_of old) path (node_of entry) (free (tree_of old) path (node_of entry) h) ∙ ap (λ n. n + 1) is.counted ∙ sym (ap length put ∙ length-append old ((path, entry) ∷ []));
+      found = λ q. ap (option_map node_of) (finds q) ∙ node_of-cond (is_path path q) entry (lookup (pointwise nat_eq q) old)
+          ∙ ap (λ o. cond (is_path path q) (Some (node_of entry)) o) (is.found q)
+          ∙ sym ((Puts-with (tree_of old) path (node_of entry)).at q)
+          ∙ ap (λ t. node_at t q) (sym grown);
+      noted = subst (NotesDefaults dirs) (sym grown) (noted-with dirs dirs (tree_of old) (with_node (tree_of old) path (node_of entry)) path (node_of entry) (Puts-with (tree_of old) path (node_of entry)) is.noted (λ d k. k) noted);
+    }
+
+-- ---- trees in which look-ups find the same are one
+
+both_hold : (a b : Bool) → T a → T b → T (a && b)
+both_hold true b h k = k
+both_hold false b h k = h
+
+below : (path : List ℕ) (es : Tree) → AllByRecursion (λ q. slice_cmp nat_cmp path q ≡ Less) (keys_of es) → T (below_all (slice_cmp nat_cmp) path es)
+below path [] h = tt
+below path (e ∷ es) h = both_hold (is_lt (slice_cmp nat_cmp path e.0)) _ (subst (λ o. T (is_lt o)) (sym h.0) tt) (below path es h.1)
+
+rises : (es : Tree) → IsStrictlySortedBy (slice_cmp nat_cmp) (keys_of es) → T (is_sorted (slice_cmp nat_cmp) es)
+rises [] h = tt
+rises (e ∷ es) h = both_hold (below_all (slice_cmp nat_cmp) e.0 es) _ (below e.0 es (sorted_head (slice_cmp nat_cmp) e.0 (keys_of es) h)) (rises es (sorted_tail (slice_cmp nat_cmp) e.0 (keys_of es) h))
+
+one_tree : (tree other : Tree) → IsTree tree → IsTree other → ((q : List ℕ) → node_at tree q ≡ node_at other q) → tree ≡ other
+one_tree tree other is is_other same =
+    same_lists (slice_cmp nat_cmp) nat_list_cmp_total (slice_cmp-IsAntisymmetric nat_cmp-IsAntisymmetric) tree other (rises tree is.sorted) (rises other is_other.sorted) same
+
+both_ways : (a b : Bool) → (a ≡ true → b ≡ true) → (b ≡ true → a ≡ true) → a ≡ b
+both_ways true b f g = sym (f refl)
+both_ways false true f g = g refl
+both_ways false false f g = refl
+
+-- the map's `==` is that of the trees
+pub kept_alike : {S : Type 0} (m n : IndexMap (List ℕ) Entry S) (dirs others : List (List ℕ)) → IsKept m.entries dirs → IsKept n.entries others → index_map_eq (pointwise nat_eq) ghosts.eq m n ≡ tree_eq (tree_of m.entries) (tree_of n.entries)
+kept_alike m n dirs others is is_other =
+    both_ways _ _ (
+    λ h. alike (tree_of m.entries) (tree_of n.entries) (
+    one_tree (tree_of m.entries) (tree_of n.entries) is.tree is_other.tree (
+    λ q. sym (is.found q) ∙ same_found (lookup (pointwise nat_eq q) m.entries) (lookup (pointwise nat_eq q) n.entries) (get_from_hash_map_eq (pointwise nat_eq) ghosts.eq nat_list_eq_equiv m n h q) ∙ is_other.found q)))
+    (λ h. let e = same_entries (tree_of m.entries) (tree_of n.entries) h in
+    hash_map_eq_from_get (pointwise nat_eq) ghosts.eq m n (
+    λ q. found_alike (lookup (pointwise nat_eq q) m.entries) (lookup (pointwise nat_eq q) n.entries) (is.found q ∙ ap (λ t. node_at t q) e ∙ sym (is_other.found q))))

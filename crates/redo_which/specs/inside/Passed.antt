@@ -1,0 +1,19 @@
+-- Candidates that were passed over.
+use Rattle.std.specs.Prelude.{◌≡◌, ℕ, List, ◌++◌, false, flat_map, length}
+use Rattle.std.specs.List.{AllByRecursion}
+use Rattle.redo_tree.specs.Tree.{Tree}
+use Rattle.redo_which.specs.declared.spots.Next.{Next}
+use Rattle.redo_which.specs.Candidates.{Place}
+use Rattle.redo_which.specs.Rule.{is_file}
+use Rattle.redo_which.specs.inside.Stems.{stems_left}
+
+-- the first so many of some candidates are no files of the tree, and these are left
+pub record Passes (tree : Tree) (count : ℕ) (old new : List Place) : Type 0 where
+  pub passed : List Place
+  pub split : old ≡ passed ++ new
+  pub count_is : count ≡ length passed
+  pub no_files : AllByRecursion (λ p. is_file tree p.do_file ≡ false) passed
+
+-- the candidates that are still to come for a name
+abbrev pub places_left : List ℕ → Next → List Place
+places_left name next = flat_map (λ places. places) (stems_left name next)
