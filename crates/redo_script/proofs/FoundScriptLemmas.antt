@@ -11,7 +11,8 @@ use Rattle.redo_script.specs.Tokens.{Token, word, semicolon, newline, redirect}
 use Rattle.redo_script.specs.Grammar.{Item, spells, command_form, condition_form, AtSeparator, IsItems, none_left, one_item, redirected, SkipsNewlines, here, past, Separates, by_semicolon, by_newline, IsKeyword, keyword, opens_if, IsCommand, a_command, if_then, if_else, IsBlock, after_newlines, last, more, empty, unended, continues, IsProgram}
 use Rattle.redo_script.specs.Parsing.{Begun, Phase, at_command, in_command, behind_if, in_condition, before_then, behind_fi, Open, Parser, is_empty, with_last, is_one_of, commands, words_outside, begun, length_of, closed, or_shape, is_unfinished, with_word, with_redirect, no_redirection, parse_on, statements_of, with_command, with_condition, ended_command, ended_condition, unless_open}
 use Rattle.redo_script.proofs.BitLemmas.{never, injected, bind_ok}
-use Rattle.redo_script.proofs.NameLemmas.{item, spells_is, none_some, conditions}
+use Rattle.redo_script.proofs.NameLemmas.{item, spells_is, none_some}
+use Rattle.redo_script.specs.Refusals.{conditions}
 use Rattle.redo_script.proofs.OneTokenLemmas.{in_place, awaiting_then, behind, opened, else_read, command_begins}
 use Rattle.redo_script.proofs.OnlyScriptLemmas.{with_finish, with_both}
 

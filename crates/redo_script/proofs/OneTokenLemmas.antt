@@ -7,7 +7,8 @@ use Rattle.redo_script.specs.Syntax.{byte, Word, Redirection, Command, Condition
 use Rattle.redo_script.specs.Tokens.{Token, word, semicolon, newline, redirect}
 use Rattle.redo_script.specs.Grammar.{Item, spells, is_named, command_form, condition_form, AtSeparator, IsItems, none_left, one_item, redirected, SkipsNewlines, here, past, Separates, by_semicolon, by_newline, IsKeyword, keyword}
 use Rattle.redo_script.specs.Parsing.{Begun, at_command, in_command, in_condition, before_then, behind_fi, Open, Parser, is_empty, with_last, is_one_of, commands, length_of, closed, parse_on}
-use Rattle.redo_script.proofs.NameLemmas.{item, spells_is, not_named, conditions}
+use Rattle.redo_script.proofs.NameLemmas.{item, spells_is, not_named}
+use Rattle.redo_script.specs.Refusals.{conditions}
 
 abbrev pub parts : ℕ → Item → List Item → Option Redirection → Begun
 parts l n items r = record { line = l; name = n; items = items; redirection = r; is_ill = false; awaits = None }

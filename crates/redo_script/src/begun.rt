@@ -2,14 +2,16 @@
 
 ghost use Rattle.std.specs.Prelude.{◌≡◌, Ok};
 ghost use Rattle.redo_script.specs.Faults.{Gives, Leaves};
-ghost use Rattle.redo_script.specs.Parsing.{begun, with_word, with_redirect, is_unfinished, ended_command, ended_condition};
+ghost use Rattle.redo_script.specs.Parsing.{begun, with_word, with_redirect, is_unfinished};
+ghost use Rattle.redo_script.specs.Parsing.{ended_command, ended_condition};
 ghost use Rattle.redo_script.specs.View.{command_of, condition_of};
-ghost use Rattle.redo_script.specs.inside.Parser.{item_of, begun_of};
+ghost use Rattle.redo_script.specs.inside.Parser.{item_of, word_named, begun_of};
 
 use crate::ast::{Command, Condition, Redirection};
 use crate::fault::{Reason, ScriptFault};
 use crate::form::{command_of_items, condition_of_items};
 use crate::item::Item;
+use crate::name::CommandName;
 use std::alloc::Global;
 use std::mem;
 
@@ -17,7 +19,7 @@ use std::mem;
 #[derive(Debug, Drop)]
 pub struct Begun<'a> {
     line: u64,
-    name: Item<'a>,
+    name: CommandName,
     items: Vec<Item<'a>>,
     redirection: Option<Redirection>,
     /// Something stands where no form has it.
@@ -31,7 +33,7 @@ impl<'a> Begun<'a> {
     pub fn new(alloc: Global) -> Begun<'a> {
         Begun {
             line: 0,
-            name: Item::Lent(false, b""),
+            name: CommandName::True,
             items: Vec::new(alloc),
             redirection: None,
             is_ill: false,
@@ -41,8 +43,8 @@ impl<'a> Begun<'a> {
 
     /// Begins another command.
     #[inline(always)]
-    pub fn begin(&mut self, line: u64, name: Item<'a>)
-        ensures { begun_of self.new ≡ begun line (item_of name.entry) }
+    pub fn begin(&mut self, line: u64, name: CommandName)
+        ensures { begun_of self.new ≡ begun line (word_named name) }
     {
         self.line = line;
         self.name = name;
@@ -101,7 +103,7 @@ impl<'a> Begun<'a> {
             return Err(shape);
         }
         let redirection = mem::replace(&mut self.redirection, None);
-        command_of_items(alloc, &self.name, &mut self.items, redirection)?.ok_or(shape)
+        command_of_items(alloc, self.name, &mut self.items, redirection)?.ok_or(shape)
     }
 
     /// The condition that ends here.
@@ -115,6 +117,6 @@ impl<'a> Begun<'a> {
         if self.is_unfinished() || self.redirection.is_some() {
             return Err(shape);
         }
-        condition_of_items(alloc, &self.name, &mut self.items)?.ok_or(shape)
+        condition_of_items(alloc, self.name, &mut self.items)?.ok_or(shape)
     }
 }

@@ -4,7 +4,7 @@ ghost use Rattle.std.specs.Prelude.{◌≡◌, ◌++◌, true, false, IfOk};
 ghost use Rattle.std.specs.Option.{MatchOption};
 ghost use Rattle.redo_script.specs.Syntax.{Word as Symbols};
 ghost use Rattle.redo_script.specs.Grammar.{spells, is_named};
-ghost use Rattle.redo_script.specs.Parsing.{is_one_of, commands, words_outside};
+ghost use Rattle.redo_script.specs.Parsing.{is_one_of, words_outside};
 ghost use Rattle.redo_script.specs.View.{symbols_of_part, symbols_of, word_of};
 ghost use Rattle.redo_script.specs.inside.Parser.{item_of};
 
@@ -83,21 +83,6 @@ impl Item<'_> {
             Item::Lent(_, bytes) => Ok(Word::Literal(Bytes::from_slice(alloc, bytes)?)),
             Item::Built(_, parts) => Ok(Word::Mixed(parts)),
         }
-    }
-
-    /// Whether a command of the subset has this name.
-    pub fn is_command(&self) -> bool
-        ensures { result ≡ is_one_of commands (item_of self.now) }
-    {
-        self.is_named(b"echo")
-            || self.is_named(b"printf")
-            || self.is_named(b"cat")
-            || self.is_named(b"test")
-            || self.is_named(b"redo-ifchange")
-            || self.is_named(b"redo-ifcreate")
-            || self.is_named(b"true")
-            || self.is_named(b"false")
-            || self.is_named(b"exit")
     }
 
     /// Whether this is a word of the shell that the subset leaves out.

@@ -15,6 +15,7 @@ use crate::ast::{Condition, Script, Stmt};
 use crate::begun::Begun;
 use crate::fault::{Reason, ScriptFault};
 use crate::item::Item;
+use crate::name::CommandName;
 use crate::token::Token;
 use std::alloc::Global;
 use std::mem;
@@ -170,12 +171,14 @@ impl<'a> Parser<'a> {
     fn condition_word(&mut self, line: u64, item: Item<'a>) -> Result<(), ScriptFault>
         ensures { Leaves parser_of self.new result (condition_word (parser_of self.old) line (item_of item.entry)) }
     {
-        if !(item.is_named(b"test") || item.is_named(b"true") || item.is_named(b"false")) {
-            return Parser::fault(line, Reason::IfShape);
+        match CommandName::of(&item) {
+            Some(name) if name.is_condition() => {
+                self.begun.begin(line, name);
+                self.phase = Phase::InCondition;
+                Ok(())
+            }
+            _ => Parser::fault(line, Reason::IfShape),
         }
-        self.begun.begin(line, item);
-        self.phase = Phase::InCondition;
-        Ok(())
     }
 
     /// A word in a command's place.
@@ -195,13 +198,13 @@ impl<'a> Parser<'a> {
         if item.is_named(b"fi") {
             return self.fi_word(line);
         }
-        if !item.is_command() {
+        let Some(name) = CommandName::of(&item) else {
             if item.is_outside() {
                 return Parser::fault(line, Reason::Unsupported);
             }
             return Parser::fault(line, Reason::UnknownCommand);
-        }
-        self.begun.begin(line, item);
+        };
+        self.begun.begin(line, name);
         self.phase = Phase::InCommand;
         Ok(())
     }

@@ -1,16 +1,20 @@
 -- What contracts see of the reader of statements.
-use Rattle.std.specs.Prelude.{◌+◌, ℕ, ◌&&◌, nat_le, if◌then◌else◌, length, List, [], ◌∷◌, map, Option, None, option_map}
+use Rattle.std.specs.Prelude.{◌+◌, ℕ, true, ◌&&◌, nat_le, if◌then◌else◌, length, List, [], ◌∷◌, map}
+use Rattle.std.specs.Prelude.{Option, None, option_map, codes}
 use Rattle.redo_script.specs.Syntax.{byte, Word}
 use Rattle.redo_script.specs.Grammar.{at_most, digits_value, Item}
 use Rattle.redo_script.specs.declared.item.Item.{Item as ItemTree}
 use Rattle.redo_script.specs.declared.item.Item.TheVariants as items
+use Rattle.redo_script.specs.declared.name.CommandName.{CommandName}
+use Rattle.redo_script.specs.declared.name.CommandName.TheVariants as names
 use Rattle.redo_script.specs.declared.begun.Begun.{Begun as BegunTree}
 use Rattle.redo_script.specs.declared.ast.Condition.{Condition as ConditionTree}
 use Rattle.redo_script.specs.declared.parser.Phase.{Phase as PhaseTree}
 use Rattle.redo_script.specs.declared.parser.Phase.TheVariants as phases
 use Rattle.redo_script.specs.declared.parser.Open.{Open as OpenTree}
 use Rattle.redo_script.specs.declared.parser.Parser.{Parser as ParserTree}
-use Rattle.redo_script.specs.Parsing.{Begun, Phase, at_command, in_command, behind_if, in_condition, before_then, behind_fi, Open, Parser}
+use Rattle.redo_script.specs.Parsing.{Begun, Open, Parser}
+use Rattle.redo_script.specs.Parsing.{Phase, at_command, in_command, behind_if, in_condition, before_then, behind_fi}
 use Rattle.redo_script.specs.View.{symbols_of, redirection_of, condition_of, script_of}
 
 -- a word of a command, by its symbols
@@ -18,11 +22,27 @@ abbrev pub item_of : ItemTree → Item
 item_of (items.Lent is_plain bytes) = record { is_plain = is_plain; word = map byte bytes.now }
 item_of (items.Built is_plain parts) = record { is_plain = is_plain; word = symbols_of parts.items }
 
+-- how the name of a command is spelled
+abbrev pub spelling_of : CommandName → List ℕ
+spelling_of names.Echo = codes "echo"
+spelling_of names.Printf = codes "printf"
+spelling_of names.Cat = codes "cat"
+spelling_of names.Test = codes "test"
+spelling_of names.Change = codes "redo-ifchange"
+spelling_of names.Create = codes "redo-ifcreate"
+spelling_of names.True = codes "true"
+spelling_of names.False = codes "false"
+spelling_of names.Exit = codes "exit"
+
+-- the word that names a command, which is written with plain bytes alone
+abbrev pub word_named : CommandName → Item
+word_named name = record { is_plain = true; word = map byte (spelling_of name) }
+
 -- what was read of a command
 abbrev pub begun_of : BegunTree → Begun
 begun_of b = record {
   line = b.line;
-  name = item_of b.name;
+  name = word_named b.name;
   items = map item_of b.items.items;
   redirection = option_map redirection_of b.redirection;
   is_ill = b.is_ill;
