@@ -1,22 +1,23 @@
-//! From bytes to tokens.
+//! From bytes to tokens, byte by byte.
 
-ghost use Rattle.std.specs.Prelude.{◌≡◌, ◌+◌, ◌<◌, ◌≤◌, ◌^◌, map, Ok, OnOk, IfOk, IfErr, [], ◌∷◌, ◌⊎◌, length, true};
+mod runs;
+
+ghost use Rattle.std.specs.Prelude.{◌≡◌, ◌+◌, ◌<◌, ◌≤◌, ◌^◌, map, Ok, OnOk, IfOk, IfErr, []};
 ghost use Rattle.redo_script.specs.Faults.{Gives, Leaves, fault_at, no_memory};
 ghost use Rattle.redo_script.specs.Syntax.{byte as byte_symbol};
 ghost use Rattle.redo_script.specs.View.{symbols_of_part};
-ghost use Rattle.redo_script.specs.Reading.{read_on, next_byte, at_end, at_start, in_word, gap_byte, word_byte, in_single, in_double, after_backslash, after_dollar, after_quoted_dollar, after_redirect, with_word, with_token, with_symbol, with_quote, with_begun_word, with_symbols, parameter_named};
+ghost use Rattle.redo_script.specs.Reading.{next_byte, at_end, at_start, in_word, gap_byte, word_byte};
+ghost use Rattle.redo_script.specs.Reading.{in_single, in_double, after_backslash, after_dollar};
+ghost use Rattle.redo_script.specs.Reading.{after_quoted_dollar, after_redirect, parameter_named};
+ghost use Rattle.redo_script.specs.Reading.{with_word, with_token, with_symbol, with_symbols, with_quote};
+ghost use Rattle.redo_script.specs.Reading.{with_begun_word};
 ghost use Rattle.redo_script.specs.declared.fault.Reason.TheVariants as reasons;
-ghost use Rattle.redo_script.specs.declared.lexer.Mode.TheVariants as modes;
-ghost use Rattle.redo_script.specs.inside.Runs.{ReadsOn};
 ghost use Rattle.redo_script.specs.inside.Lexer.{token_of, reader_of, with_no_tokens};
 
 use crate::ast::{Parameter, Part};
 use crate::bytes::is_plain_byte;
 use crate::fault::{Reason, ScriptFault};
 use crate::item::Item;
-use crate::spans::{
-    is_number, is_word_end, past_blanks, past_comment, plain_len, quotable_len, quoted_alone,
-};
 use crate::token::Token;
 use redo_bytes::Bytes;
 use std::alloc::Global;
@@ -50,9 +51,6 @@ const MANY: usize = 15;
 
 /// How many there is room for at first: those, and what most lines add to them before they are taken.
 const ROOM: usize = 21;
-
-/// How many tokens end a run of words, so that they can be taken.
-const MOST: usize = 60;
 
 /// Reads a text byte by byte. Its tokens are taken from time to time.
 #[derive(Drop)]
@@ -102,22 +100,6 @@ impl<'a> Lexer<'a> {
             let literal = Bytes::from_slice(self.alloc, &self.literal)?;
             self.parts.push(Part::Lit(literal))?;
             self.literal.clear();
-        }
-        Ok(())
-    }
-
-    /// Makes a part of these bytes.
-    #[inline(always)]
-    fn push_literal(&mut self, bytes: &[u8]) -> Result<(), ScriptFault>
-        ensures reads { Leaves reader_of self.new result
-            (Ok (with_symbols (reader_of self.old) self.old.mode (map byte_symbol bytes.now))) }
-        ensures line { self.new.line ≡ self.old.line }
-        ensures mode { OnOk result (self.new.mode ≡ self.old.mode) }
-    {
-        self.end_literal()?;
-        if !bytes.is_empty() {
-            let literal = Bytes::from_slice(self.alloc, bytes)?;
-            self.parts.push(Part::Lit(literal))?;
         }
         Ok(())
     }
@@ -346,222 +328,6 @@ impl<'a> Lexer<'a> {
             Mode::QuotedDollar => self.quoted_parameter_byte(byte),
             Mode::Escape => self.escaped_byte(byte),
         }
-    }
-
-    /// Takes plain bytes of the word that was begun.
-    fn plain_bytes(&mut self, text: &'a [u8]) -> Result<&'a [u8], ScriptFault>
-        requires { self.old.mode ≡ modes.Word }
-        ensures reads { ReadsOn (reader_of self.new) result (read_on (reader_of self.old) text.now) }
-        ensures line { self.new.line ≡ self.old.line }
-        ensures rest { IfOk result (λ rest. length rest.now ≤ length text.now) }
-        ensures mode { OnOk result (self.new.mode ≡ modes.Word) }
-    {
-        let (bytes, rest) = text.split_at(plain_len(text));
-        if bytes.is_empty() {
-            return Ok(text);
-        }
-        self.literal.extend_from_slice(bytes)?;
-        self.is_number = self.is_number && is_number(bytes);
-        Ok(rest)
-    }
-
-    /// Takes bytes in quotes that stand for themselves.
-    fn quoted_bytes(&mut self, text: &'a [u8]) -> Result<&'a [u8], ScriptFault>
-        requires { (self.old.mode ≡ modes.Single) ⊎ (self.old.mode ≡ modes.Double) }
-        ensures reads { ReadsOn (reader_of self.new) result (read_on (reader_of self.old) text.now) }
-        ensures line { self.new.line ≡ self.old.line }
-        ensures rest { IfOk result (λ rest. length rest.now ≤ length text.now) }
-        ensures mode { OnOk result (self.new.mode ≡ self.old.mode) }
-    {
-        let (bytes, rest) = text.split_at(quotable_len(text));
-        self.literal.extend_from_slice(bytes)?;
-        Ok(rest)
-    }
-
-    /// Takes a word, where one of plain bytes alone comes next.
-    fn plain_word(&mut self, text: &'a [u8]) -> Result<&'a [u8], ScriptFault>
-        requires { self.old.mode ≡ modes.Gap }
-        ensures reads { ReadsOn (reader_of self.new) result (read_on (reader_of self.old) text.now) }
-        ensures line { self.new.line ≡ self.old.line }
-        ensures rest { IfOk result (λ rest. length rest.now ≤ length text.now) }
-        ensures mode { OnOk result (self.new.mode ≡ modes.Gap) }
-    {
-        let (bytes, rest) = text.split_at(plain_len(text));
-        if bytes.is_empty() || !is_word_end(rest) {
-            return Ok(text);
-        }
-        self.begin_word();
-        self.is_number = is_number(bytes);
-        self.push_token(Token::Word(self.word_line, Item::Lent(true, bytes)))?;
-        Ok(rest)
-    }
-
-    /// Takes a word, where one of a single pair of quotes comes next with bytes in it that stand for themselves.
-    fn quoted_word(&mut self, text: &'a [u8]) -> Result<&'a [u8], ScriptFault>
-        requires { self.old.mode ≡ modes.Gap }
-        ensures reads { ReadsOn (reader_of self.new) result (read_on (reader_of self.old) text.now) }
-        ensures line { self.new.line ≡ self.old.line }
-        ensures rest { IfOk result (λ rest. length rest.now ≤ length text.now) }
-        ensures mode { OnOk result (self.new.mode ≡ modes.Gap) }
-    {
-        let Some((bytes, rest)) = quoted_alone(text) else {
-            return Ok(text);
-        };
-        self.begin_word();
-        self.open_quote(Mode::Single);
-        self.push_token(Token::Word(self.word_line, Item::Lent(false, bytes)))?;
-        Ok(rest)
-    }
-
-    /// Takes a word, where one that stands in the text as it is comes next.
-    fn lent_word(&mut self, text: &'a [u8]) -> Result<&'a [u8], ScriptFault>
-        requires { self.old.mode ≡ modes.Gap }
-        ensures reads { ReadsOn (reader_of self.new) result (read_on (reader_of self.old) text.now) }
-        ensures line { self.new.line ≡ self.old.line }
-        ensures rest { IfOk result (λ rest. length rest.now ≤ length text.now) }
-        ensures mode { OnOk result (self.new.mode ≡ modes.Gap) }
-    {
-        match text {
-            [b'\'' | b'"', ..] => self.quoted_word(text),
-            _ => self.plain_word(text),
-        }
-    }
-
-    /// Takes words that stand in the text as they are, and the blanks around them, as long as such come next and there
-    /// aren't many tokens.
-    fn lent_words(&mut self, text: &'a [u8]) -> Result<&'a [u8], ScriptFault>
-        requires { self.old.mode ≡ modes.Gap }
-        ensures reads { ReadsOn (reader_of self.new) result (read_on (reader_of self.old) text.now) }
-        ensures line { self.new.line ≡ self.old.line }
-        ensures rest { IfOk result (λ rest. length rest.now ≤ length text.now) }
-        ensures mode { OnOk result (self.new.mode ≡ modes.Gap) }
-    {
-        let mut behind = text.len() + 1;
-        let mut left = past_blanks(text);
-        while left.len() < behind && self.tokens.len() < MOST {
-            behind = left.len();
-            left = past_blanks(self.lent_word(left)?);
-        }
-        Ok(left)
-    }
-
-    /// Takes a comment, where one comes next, up to the end of its line.
-    fn comment(&mut self, text: &'a [u8]) -> &'a [u8]
-        requires { self.old.mode ≡ modes.Gap }
-        ensures reads { read_on (reader_of self.new) result.now ≡ read_on (reader_of self.old) text.now }
-        ensures line { self.new.line ≡ self.old.line }
-        ensures rest { length result.now ≤ length text.now }
-    {
-        let [byte, rest @ ..] = text else {
-            return text;
-        };
-        if *byte != b'#' {
-            return text;
-        }
-        self.mode = Mode::Comment;
-        past_comment(rest)
-    }
-
-    /// Takes words that stand in the text as they are, and a comment behind them.
-    pub fn between_words(&mut self, text: &'a [u8]) -> Result<&'a [u8], ScriptFault>
-        requires { self.old.mode ≡ modes.Gap }
-        ensures reads { ReadsOn (reader_of self.new) result (read_on (reader_of self.old) text.now) }
-        ensures line { self.new.line ≡ self.old.line }
-        ensures rest { IfOk result (λ rest. length rest.now ≤ length text.now) }
-    {
-        let left = self.lent_words(text)?;
-        Ok(self.comment(left))
-    }
-
-    /// Takes plain bytes of the word that was begun, and where it ends there, what comes behind it.
-    fn word_bytes(&mut self, text: &'a [u8]) -> Result<&'a [u8], ScriptFault>
-        requires { self.old.mode ≡ modes.Word }
-        ensures reads { ReadsOn (reader_of self.new) result (read_on (reader_of self.old) text.now) }
-        ensures line { self.new.line ≡ self.old.line }
-        ensures rest { IfOk result (λ rest. length rest.now ≤ length text.now) }
-    {
-        let left = self.plain_bytes(text)?;
-        if !is_word_end(left) {
-            return Ok(left);
-        }
-        self.push_word()?;
-        self.between_words(left)
-    }
-
-    /// Takes a parameter in double quotes, where one comes next.
-    fn quoted_parameter(&mut self, text: &'a [u8]) -> Result<&'a [u8], ScriptFault>
-        requires { self.old.mode ≡ modes.Double }
-        ensures reads { ReadsOn (reader_of self.new) result (read_on (reader_of self.old) text.now) }
-        ensures line { self.new.line ≡ self.old.line }
-        ensures rest { IfOk result (λ rest. length rest.now ≤ length text.now) }
-    {
-        let [dollar, digit, rest @ ..] = text else {
-            return Ok(text);
-        };
-        if *dollar != b'$' {
-            return Ok(text);
-        }
-        let Some(parameter) = parameter_of(*digit) else {
-            return Ok(text);
-        };
-        self.push_parameter(Mode::Double, Part::Quoted(parameter))?;
-        Ok(rest)
-    }
-
-    /// Takes bytes in double quotes that stand for themselves. A parameter behind them ends their part of the word.
-    fn double_run(&mut self, text: &'a [u8]) -> Result<&'a [u8], ScriptFault>
-        requires { self.old.mode ≡ modes.Double }
-        ensures reads { ReadsOn (reader_of self.new) result (read_on (reader_of self.old) text.now) }
-        ensures line { self.new.line ≡ self.old.line }
-        ensures rest { IfOk result (λ rest. length rest.now ≤ length text.now) }
-        ensures mode { OnOk result (self.new.mode ≡ modes.Double) }
-    {
-        let (bytes, rest) = text.split_at(quotable_len(text));
-        if matches!(rest, [b'$', ..]) {
-            self.push_literal(bytes)?;
-            return Ok(rest);
-        }
-        self.literal.extend_from_slice(bytes)?;
-        Ok(rest)
-    }
-
-    /// Takes bytes in double quotes that stand for themselves, and a parameter behind them.
-    fn double_bytes(&mut self, text: &'a [u8]) -> Result<&'a [u8], ScriptFault>
-        requires { self.old.mode ≡ modes.Double }
-        ensures reads { ReadsOn (reader_of self.new) result (read_on (reader_of self.old) text.now) }
-        ensures line { self.new.line ≡ self.old.line }
-        ensures rest { IfOk result (λ rest. length rest.now ≤ length text.now) }
-    {
-        let left = self.double_run(text)?;
-        self.quoted_parameter(left)
-    }
-
-    /// Takes bytes that are alike here.
-    fn run(&mut self, text: &'a [u8]) -> Result<&'a [u8], ScriptFault>
-        ensures reads { ReadsOn (reader_of self.new) result (read_on (reader_of self.old) text.now) }
-        ensures line { self.new.line ≡ self.old.line }
-        ensures rest { IfOk result (λ rest. length rest.now ≤ length text.now) }
-    {
-        match self.mode {
-            Mode::Gap => self.between_words(text),
-            Mode::Comment => Ok(past_comment(text)),
-            Mode::Word => self.word_bytes(text),
-            Mode::Single => self.quoted_bytes(text),
-            Mode::Double => self.double_bytes(text),
-            _ => Ok(text),
-        }
-    }
-
-    /// Reads one byte, and what is alike behind it.
-    #[tactic(auto, unfolding(crate::specs::Reading::read_on))]
-    pub fn step(&mut self, byte: u8, rest: &'a [u8]) -> Result<&'a [u8], ScriptFault>
-        requires { self.old.line + 1 < 2 ^ 64 }
-        ensures reads { ReadsOn (reader_of self.new) result (read_on (reader_of self.old) (byte ∷ rest.now)) }
-        ensures line { self.new.line ≤ self.old.line + 1 }
-        ensures rest { IfOk result (λ left. length left.now ≤ length rest.now) }
-    {
-        self.byte(byte)?;
-        self.run(rest)
     }
 
     pub fn new(alloc: Global) -> Lexer<'a>

@@ -8,7 +8,7 @@
 //! - `ast`: the tree that is read.
 //! - `fault`: what can be wrong.
 //! - `reader`: the passes over a text, and `parse`.
-//! - `bytes`, `spans`, `token`, `lexer`: from bytes to tokens.
+//! - `bytes`, `spans`, `token`, `lexer`: from bytes to tokens; `lexer::runs`: many bytes at once.
 //! - `item`, `name`, `number`, `form`, `begun`, `parser`: from tokens to statements.
 //! - `laws`: what ties the grammar to the functions that say which fault a text has. Each is a
 //!   function with nothing to run, whose contract is the law.
