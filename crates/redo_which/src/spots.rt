@@ -21,16 +21,62 @@ use std::marker::Model;
 /// is the list of their places.
 #[derive(Drop)]
 pub(crate) struct Spots<'a> {
-    stems: Stems<'a>,
+    /// The target's name.
+    name: &'a [u8],
+    next: Next<'a>,
+}
+
+/// What comes next in the search.
+#[derive(Clone, Copy)]
+enum Next<'a> {
+    /// The candidate by the whole name, in a directory.
+    Whole(&'a [u8]),
+    /// The candidate by the first suffix of this end of the name, in a directory.
+    Suffix(&'a [u8], &'a [u8]),
+    /// No candidate.
+    Nothing,
 }
 
 impl<'a> Model for Spots<'a> {
-    ghost use Rattle.std.specs.Prelude.{List, flat_map};
+    ghost use Rattle.std.specs.Prelude.{List};
     ghost use Rattle.redo_which.specs.Candidates.{Place};
+    ghost use Rattle.redo_which.specs.inside.Passed.{places_left};
+    ghost use Rattle.redo_which.specs.inside.Stems.{IsNext};
 
     ghost Value = { List Place };
 
-    ghost view = { λ s. flat_map (λ places. places) s.stems };
+    ghost view = { λ s. places_left s.name.now s.next };
+
+    ghost invariant = { λ s. IsNext s.name.now s.next };
+}
+
+impl<'a> Iterator for Spots<'a> {
+    type Item = Spot<'a>;
+
+    ghost next_gives = { YieldsFirst (λ left. left) };
+
+    ghost remaining = { item_count (λ left. left) };
+
+    fn next(&mut self) -> Option<Spot<'a>> {
+        loop {
+            let spot = match self.next {
+                Next::Whole(dir) => {
+                    self.next = behind_whole(self.name, dir);
+                    Spot::by_name(dir, self.name)
+                }
+                Next::Suffix(dir, end) => {
+                    let suffix = first_suffix(end);
+                    self.next = behind(self.name, dir, suffix);
+                    Spot::by_suffix(dir, suffix)
+                }
+                Next::Nothing => return None,
+            };
+            // One whose path is too long is left out.
+            if spot.is_some() {
+                return spot;
+            }
+        }
+    }
 }
 
 impl<'a> Spots<'a> {
@@ -45,54 +91,32 @@ impl<'a> Spots<'a> {
             Some(dir) => first_stem(name, dir),
             None => Next::Nothing,
         };
-        Spots {
-            stems: Stems { name, next },
-        }
+        Spots { name, next }
     }
 
     /// No candidates.
     pub(crate) fn none() -> Spots<'a>
         ensures { result ≡ [] }
     {
-        let stems = Stems {
+        Spots {
             name: b"",
             next: Next::Nothing,
-        };
-        Spots { stems }
+        }
     }
 
     /// The same candidates once more.
     pub(crate) fn again(&self) -> Spots<'a>
         ensures { result ≡ self.now }
     {
-        let Stems { name, next } = self.stems;
         Spots {
-            stems: Stems { name, next },
+            name: self.name,
+            next: self.next,
         }
     }
 
     /// Whether they are seen at once to be the same as others: by the same suffixes, from the same
     /// directory upwards.
     pub(crate) fn is_same(&self, other: &Spots<'_>) -> bool
-        ensures { IsTrue result → self.now ≡ other.now }
-    {
-        self.stems.is_same(&other.stems)
-    }
-
-    /// Passes over the directories that come next, as long as the tree knows of each that no file in
-    /// it begins with `default` and ends in `.do`. Answers how many candidates lie in them. In the
-    /// middle of a directory it passes over nothing.
-    pub(crate) fn pass_bare(&mut self, tree: &Tree) -> usize
-        requires { length self.old ≤ 2 ^ 20 }
-        ensures { Passes tree.now result self.old self.new }
-    {
-        self.stems.pass_bare(tree)
-    }
-}
-
-impl Stems<'_> {
-    /// Whether they are seen at once to be the same as others.
-    fn is_same(&self, other: &Stems<'_>) -> bool
         ensures { IsTrue result → self.now ≡ other.now }
     {
         let (Next::Suffix(dir, end), Next::Suffix(other_dir, other_end)) = (self.next, other.next)
@@ -104,35 +128,23 @@ impl Stems<'_> {
             && first_suffix(self.name) == first_suffix(other.name)
     }
 
-    /// Passes over directories, as [`Spots::pass_bare`] does.
-    fn pass_bare(&mut self, tree: &Tree) -> usize
-        requires { length (flat_map (λ places. places) self.old) ≤ 2 ^ 20 }
-        ensures { Passes tree.now result (flat_map (λ places. places) self.old) (flat_map (λ places. places) self.new) }
+    /// Passes over the directories that come next, as long as the tree knows of each that no file in
+    /// it begins with `default` and ends in `.do`. Answers how many candidates lie in them. In the
+    /// middle of a directory it passes over nothing.
+    pub(crate) fn pass_bare(&mut self, tree: &Tree) -> usize
+        requires { length self.old ≤ 2 ^ 20 }
+        ensures { Passes tree.now result self.old self.new }
     {
         let mut count = 0;
-        while let Some((more, next)) = past_bare(tree, self.name, &self.next) {
-            count += more;
-            self.next = next;
+        while let Next::Suffix(dir, end) = self.next
+            && end.len() == self.name.len()
+            && !tree.holds_defaults(dir)
+        {
+            count += count_by(dir, end);
+            self.next = above(self.name, dir);
         }
         count
     }
-}
-
-/// Where the candidates by suffix in a directory come next, from the first on, and the tree knows
-/// that none is a file: how many they are, and what comes behind them.
-fn past_bare<'a>(tree: &Tree, name: &'a [u8], next: &Next<'a>) -> Option<(usize, Next<'a>)>
-    requires { IsNext name.now next.now }
-    ensures next { IfSome result (λ past. IsNext name.now past.1) }
-    ensures passes { IfSome result (λ past. Passes tree.now past.0 (places_left name.now next.now) (places_left name.now past.1)) }
-    ensures fewer { IfSome result (λ past. length (stems_left name.now past.1) < length (stems_left name.now next.now)) }
-{
-    let Next::Suffix(dir, end) = *next else {
-        return None;
-    };
-    if end.len() != name.len() || tree.holds_defaults(dir) {
-        return None;
-    }
-    Some((count_by(dir, end), above(name, dir)))
 }
 
 /// How many candidates there are in a directory by the suffixes of this end of a name. Where the end
@@ -173,77 +185,6 @@ fn count_each(dir: &[u8], end: &[u8]) -> usize
             return count;
         }
         left = &suffix[1..];
-    }
-}
-
-impl<'a> Iterator for Spots<'a> {
-    type Item = Spot<'a>;
-
-    ghost next_gives = { YieldsFirst (λ left. left) };
-
-    ghost remaining = { item_count (λ left. left) };
-
-    fn next(&mut self) -> Option<Spot<'a>> {
-        while let Some(spot) = self.stems.next() {
-            if spot.is_some() {
-                return spot;
-            }
-        }
-        None
-    }
-}
-
-/// The stems of the .do files that are looked for: for each its candidate, or none where the path is
-/// too long. In a contract it is the list of their places, each a list of one or none.
-#[derive(Drop)]
-struct Stems<'a> {
-    name: &'a [u8],
-    next: Next<'a>,
-}
-
-/// The stem that comes next.
-#[derive(Clone, Copy)]
-enum Next<'a> {
-    /// The whole name, in a directory.
-    Whole(&'a [u8]),
-    /// `default` and the first suffix of this end of the name, in a directory.
-    Suffix(&'a [u8], &'a [u8]),
-    /// None.
-    Nothing,
-}
-
-impl<'a> Model for Stems<'a> {
-    ghost use Rattle.std.specs.Prelude.{List};
-    ghost use Rattle.redo_which.specs.Candidates.{Place};
-    ghost use Rattle.redo_which.specs.inside.Stems.{IsNext, stems_left};
-
-    ghost Value = { List (List Place) };
-
-    ghost view = { λ s. stems_left s.name.now s.next };
-
-    ghost invariant = { λ s. IsNext s.name.now s.next };
-}
-
-impl<'a> Iterator for Stems<'a> {
-    type Item = Option<Spot<'a>>;
-
-    ghost next_gives = { YieldsFirstBy option_to_list (λ left. left) };
-
-    ghost remaining = { item_count (λ left. left) };
-
-    fn next(&mut self) -> Option<Option<Spot<'a>>> {
-        match self.next {
-            Next::Whole(dir) => {
-                self.next = behind_whole(self.name, dir);
-                Some(Spot::by_name(dir, self.name))
-            }
-            Next::Suffix(dir, end) => {
-                let suffix = first_suffix(end);
-                self.next = behind(self.name, dir, suffix);
-                Some(Spot::by_suffix(dir, suffix))
-            }
-            Next::Nothing => None,
-        }
     }
 }
 

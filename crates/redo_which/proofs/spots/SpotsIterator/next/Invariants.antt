@@ -1,10 +1,14 @@
 use Rattle.std.proofs.Common.{◌≡◌, length}
-use Rattle.std.specs.Prelude.{flat_map}
+use Rattle.redo_which.specs.inside.Passed.{places_left}
+use Rattle.redo_which.specs.inside.Stems.{IsNext, stems_left}
 use Rattle.redo_which.proofs.spots.SpotsIterator.next.Given as goal
 
 -- only places that are too long were passed over
-abbrev pub invariant-loop-spot : goal.invariant-loop-spot
-invariant-loop-spot l = flat_map (λ places. places) l.self-inside.stems ≡ l.fn.self
+abbrev pub invariant-loop-self : goal.invariant-loop-self
+invariant-loop-self l = record {
+  left : places_left l.self-inside.name.now l.self-inside.next ≡ l.fn.self;
+  next : IsNext l.self-inside.name.now l.self-inside.next;
+}
 
-abbrev pub decreases-loop-spot : goal.decreases-loop-spot
-decreases-loop-spot l = length l.self-inside.stems
+abbrev pub decreases-loop-self : goal.decreases-loop-self
+decreases-loop-self l = length (stems_left l.self-inside.name.now l.self-inside.next)
