@@ -84,11 +84,11 @@ few-places target dir h =
     let name = name_of target in
     let whole = place_at dir 0 (name ++ codes ".do") in
     let own = defaults_by (without_whole name (suffixes name)) dir in
-    let upper = flat_map (defaults_in name) (above (upward dir)) in
+    let parent_text = flat_map (defaults_in name) (above (upward dir)) in
     let short = (target_name target dir h).short in
     omega (
       arith,
-      length-append (whole ++ own) upper,
+      length-append (whole ++ own) parent_text,
       length-append whole own,
       few-at dir 0 (name ++ codes ".do"),
       few-defaults (without_whole name (suffixes name)) dir,

@@ -249,17 +249,17 @@ once-distinct dir name named plain =
     let ends = suffixes-no_slash name plain in
     let own = defaults_by (without_whole name (suffixes name)) dir in
     let up = upward-first dir in
-    let upper = flat_map (defaults_in name) up.0 in
+    let parent_text = flat_map (defaults_in name) up.0 in
     let here = length (names dir) in
     let falls : Falls (suc here) (dir ∷ up.0) = subst (Falls (suc here)) up.1 (falls-upward dir named) in
     let deep = λ (p : Place). here < length (names p.do_file) in
-    let higher : upper ≡ flat_map (defaults_in name) (above (upward dir)) = ap (λ ds. flat_map (defaults_in name) (above ds)) (sym up.1) in
+    let higher : parent_text ≡ flat_map (defaults_in name) (above (upward dir)) = ap (λ ds. flat_map (defaults_in name) (above ds)) (sym up.1) in
     let first = place-all (λ path. here < length (names path)) dir 0 (named_file name) (IsFileName-named name plain) (omega (arith, child-depth dir (named_file name) (IsFileName-named name plain))) in
     let next = all-map (λ p. length (names p.do_file) ≡ suc here) deep (λ p h. omega (arith, h)) own (depths dir (without_whole name (suffixes name)) (without_whole-all NoSlash name (suffixes name) ends)) in
     ap (λ ds. fold with_new [] (whole ++ flat_map (defaults_in name) ds)) up.1
-    ∙ fold-append with_new [] whole (defaults_in name dir ++ upper)
-    ∙ ap (λ l. fold with_new l (defaults_in name dir ++ upper)) (one_place dir 0 (named_file name))
-    ∙ fold-append with_new whole (defaults_in name dir) upper
-    ∙ ap (λ l. fold with_new l upper) (own-fold dir name (suffixes name) refl plain ends (suffixes-shrink name))
+    ∙ fold-append with_new [] whole (defaults_in name dir ++ parent_text)
+    ∙ ap (λ l. fold with_new l (defaults_in name dir ++ parent_text)) (one_place dir 0 (named_file name))
+    ∙ fold-append with_new whole (defaults_in name dir) parent_text
+    ∙ ap (λ l. fold with_new l parent_text) (own-fold dir name (suffixes name) refl plain ends (suffixes-shrink name))
     ∙ fold-upward name up.0 here (whole ++ own) plain falls.1 (AllByRecursion-append deep whole own first next)
     ∙ ap (λ us. whole ++ own ++ us) higher

@@ -10,29 +10,29 @@ use Rattle.redo_tree.specs.Tree.{HasNoDefaults, Tree}
 use Rattle.redo_which.specs.Candidates.{Place, is_dot, place_at, suffixes}
 use Rattle.redo_which.specs.inside.Passed.{Passes}
 use Rattle.redo_which.specs.Rule.{chosen_among, is_file, missing_among}
-use Rattle.redo_which.specs.inside.Stems.{shorter, stems_by}
+use Rattle.redo_which.specs.inside.Slots.{shorter, slots_by}
 use Rattle.redo_which.proofs.FileLemmas.{IsFileName-default, suffixes_part}
 use Rattle.redo_which.proofs.OnceLemmas.{place-all}
 use Rattle.redo_which.proofs.PieceLemmas.{no_place, one_place, part_end}
-use Rattle.redo_which.proofs.StemLemmas.{flat, flat-append}
+use Rattle.redo_which.proofs.SlotLemmas.{flat, flat-append}
 
 abbrev IsNoFile : Tree → Place → Type 0
 IsNoFile tree p = is_file tree p.do_file ≡ false
 
 -- ---- a directory without such files
 
-bare-by : (tree : Tree) (dir : List ℕ) → HasNoDefaults tree dir → (ends : List (List ℕ)) → AllByRecursion IsPart ends → AllByRecursion (IsNoFile tree) (flat (stems_by ends dir))
+bare-by : (tree : Tree) (dir : List ℕ) → HasNoDefaults tree dir → (ends : List (List ℕ)) → AllByRecursion IsPart ends → AllByRecursion (IsNoFile tree) (flat (slots_by ends dir))
 bare-by tree dir bare [] h = tt
 bare-by tree dir bare (s ∷ ss) h =
-    AllByRecursion-append (IsNoFile tree) (place_at dir (length s) (codes "default" ++ s ++ codes ".do")) (flat (stems_by ss dir))
+    AllByRecursion-append (IsNoFile tree) (place_at dir (length s) (codes "default" ++ s ++ codes ".do")) (flat (slots_by ss dir))
     (place-all (λ path. is_file tree path ≡ false) dir (length s) (codes "default" ++ s ++ codes ".do") (IsFileName-default s h.0.no_slash) (ap is_some (bare s h.0)))
     (bare-by tree dir bare ss h.1)
 
 -- the candidates by suffix in it are passed over
-pub passes-by : (tree : Tree) (dir end : List ℕ) (count : ℕ) (old rest : List (List Place)) → HasNoDefaults tree dir → IsPart end → count ≡ length (flat (stems_by (suffixes end) dir)) → old ≡ stems_by (suffixes end) dir ++ rest → Passes tree count (flat old) (flat rest)
+pub passes-by : (tree : Tree) (dir end : List ℕ) (count : ℕ) (old rest : List (List Place)) → HasNoDefaults tree dir → IsPart end → count ≡ length (flat (slots_by (suffixes end) dir)) → old ≡ slots_by (suffixes end) dir ++ rest → Passes tree count (flat old) (flat rest)
 passes-by tree dir end count old rest bare part h e = record {
-  passed = flat (stems_by (suffixes end) dir);
-  split = ap flat e ∙ flat-append (stems_by (suffixes end) dir) rest;
+  passed = flat (slots_by (suffixes end) dir);
+  split = ap flat e ∙ flat-append (slots_by (suffixes end) dir) rest;
   count_is = h;
   no_files = bare-by tree dir bare (suffixes end) (suffixes_part end part);
 }
@@ -94,18 +94,18 @@ default_part suffix h = record {
 }
 
 -- one that fits counts
-pub count-fits : (dir left suffix : List ℕ) → IsPart suffix → suffixes left ≡ suffix ∷ shorter suffix → fit dir suffix ≡ true → length (flat (stems_by (suffixes left) dir)) ≡ 1 + length (flat (stems_by (shorter suffix) dir))
+pub count-fits : (dir left suffix : List ℕ) → IsPart suffix → suffixes left ≡ suffix ∷ shorter suffix → fit dir suffix ≡ true → length (flat (slots_by (suffixes left) dir)) ≡ 1 + length (flat (slots_by (shorter suffix) dir))
 count-fits dir left suffix part e h =
-    let first : length (flat (stems_by (suffixes left) dir)) ≡ suc (length (flat (stems_by (shorter suffix) dir))) =
-    ap (λ ends. length (flat (stems_by ends dir))) e
-    ∙ ap (λ places. length (places ++ flat (stems_by (shorter suffix) dir))) (sym (one_place dir (codes "default") suffix (length suffix) (default_part suffix part) h)) in
+    let first : length (flat (slots_by (suffixes left) dir)) ≡ suc (length (flat (slots_by (shorter suffix) dir))) =
+    ap (λ ends. length (flat (slots_by ends dir))) e
+    ∙ ap (λ places. length (places ++ flat (slots_by (shorter suffix) dir))) (sym (one_place dir (codes "default") suffix (length suffix) (default_part suffix part) h)) in
     omega (arith, first)
 
 -- one that doesn't fit is none
-pub count-none : (dir left suffix : List ℕ) → IsPart suffix → suffixes left ≡ suffix ∷ shorter suffix → fit dir suffix ≡ false → length (flat (stems_by (suffixes left) dir)) ≡ length (flat (stems_by (shorter suffix) dir))
+pub count-none : (dir left suffix : List ℕ) → IsPart suffix → suffixes left ≡ suffix ∷ shorter suffix → fit dir suffix ≡ false → length (flat (slots_by (suffixes left) dir)) ≡ length (flat (slots_by (shorter suffix) dir))
 count-none dir left suffix part e h =
-    ap (λ ends. length (flat (stems_by ends dir))) e
-    ∙ ap (λ places. length (places ++ flat (stems_by (shorter suffix) dir))) (sym (no_place dir (codes "default") suffix (length suffix) (default_part suffix part) h))
+    ap (λ ends. length (flat (slots_by ends dir))) e
+    ∙ ap (λ places. length (places ++ flat (slots_by (shorter suffix) dir))) (sym (no_place dir (codes "default") suffix (length suffix) (default_part suffix part) h))
 
 fit-less : (n m k l : ℕ) → k ≤ n → l ≤ m → (nat_le n 255 && nat_le m 1024) ≡ true → (nat_le k 255 && nat_le l 1024) ≡ true
 fit-less n m k l h g e = grind (arith, common_steps)
@@ -121,19 +121,19 @@ fit-rest dir b bs h =
     fit-less _ _ _ _ less (child-less dir (codes "default" ++ bs ++ codes ".do") (codes "default" ++ (b ∷ bs) ++ codes ".do") less) h
 
 -- where an end fits, there is a candidate by each of its suffixes: one for each dot, and one more
-pub count-all : (dir end : List ℕ) → IsPart end → fit dir end ≡ true → length (flat (stems_by (suffixes end) dir)) ≡ length (filter is_dot end) + 1
+pub count-all : (dir end : List ℕ) → IsPart end → fit dir end ≡ true → length (flat (slots_by (suffixes end) dir)) ≡ length (filter is_dot end) + 1
 count-all dir [] part h = count-fits dir [] [] part refl h
 count-all dir (b ∷ bs) part h =
     let rest = count-all dir bs (part_end (b ∷ []) bs part) (fit-rest dir b bs h) in
-    let first : is_dot b ≡ true → length (flat (stems_by (suffixes (b ∷ bs)) dir)) ≡ length (filter is_dot (b ∷ bs)) + 1 = λ dot.
+    let first : is_dot b ≡ true → length (flat (slots_by (suffixes (b ∷ bs)) dir)) ≡ length (filter is_dot (b ∷ bs)) + 1 = λ dot.
     let e = count-fits dir (b ∷ bs) (b ∷ bs) part (ap (λ c. cond c ((b ∷ bs) ∷ suffixes bs) (suffixes bs)) dot) h in
     let f : length (filter is_dot (b ∷ bs)) ≡ suc (length (filter is_dot bs)) = ap (λ c. length (cond c (b ∷ filter is_dot bs) (filter is_dot bs))) dot in
     omega (arith, e, f, rest) in
-    let other : is_dot b ≡ false → length (flat (stems_by (suffixes (b ∷ bs)) dir)) ≡ length (filter is_dot (b ∷ bs)) + 1 = λ dot.
-    let e = ap (λ c. length (flat (stems_by (cond c ((b ∷ bs) ∷ suffixes bs) (suffixes bs)) dir))) dot in
+    let other : is_dot b ≡ false → length (flat (slots_by (suffixes (b ∷ bs)) dir)) ≡ length (filter is_dot (b ∷ bs)) + 1 = λ dot.
+    let e = ap (λ c. length (flat (slots_by (cond c ((b ∷ bs) ∷ suffixes bs) (suffixes bs)) dir))) dot in
     let f : length (filter is_dot (b ∷ bs)) ≡ length (filter is_dot bs) = ap (λ c. length (cond c (b ∷ filter is_dot bs) (filter is_dot bs))) dot in
     omega (arith, e, f, rest) in
-    elim (is_dot b) as (λ c. is_dot b ≡ c → length (flat (stems_by (suffixes (b ∷ bs)) dir)) ≡ length (filter is_dot (b ∷ bs)) + 1) [ true ↦ first | false ↦ other ] refl
+    elim (is_dot b) as (λ c. is_dot b ≡ c → length (flat (slots_by (suffixes (b ∷ bs)) dir)) ≡ length (filter is_dot (b ∷ bs)) + 1) [ true ↦ first | false ↦ other ] refl
 
 -- an end that fits has few dots
 fit-short : (n m : ℕ) → (nat_le n 255 && nat_le m 1024) ≡ true → n ≤ 255
@@ -159,11 +159,11 @@ shorter-some (b ∷ bs) h =
     let same : take (length (b ∷ bs) - 1) (drop 1 (b ∷ bs)) ≡ bs = grind (arith, common_steps) in
     subst (IsRest (b ∷ bs)) (sym same) (record { ends = refl; part = part_end (b ∷ []) bs; size = omega arith })
 
--- behind a directory fewer stems are left
-some-by : (end dir : List ℕ) → 0 < length (stems_by (suffixes end) dir)
+-- behind a directory fewer slots are left
+some-by : (end dir : List ℕ) → 0 < length (slots_by (suffixes end) dir)
 some-by [] dir = omega arith
 some-by (b ∷ bs) dir =
-    elim (is_dot b) as (λ c. 0 < length (stems_by (cond c ((b ∷ bs) ∷ suffixes bs) (suffixes bs)) dir)) [ true ↦ omega arith | false ↦ some-by bs dir ]
+    elim (is_dot b) as (λ c. 0 < length (slots_by (cond c ((b ∷ bs) ∷ suffixes bs) (suffixes bs)) dir)) [ true ↦ omega arith | false ↦ some-by bs dir ]
 
-pub fewer-by : (end dir : List ℕ) (old rest : List (List Place)) → old ≡ stems_by (suffixes end) dir ++ rest → length rest < length old
-fewer-by end dir old rest e = let k = ap length e in let l = length-append (stems_by (suffixes end) dir) rest in let some = some-by end dir in omega (arith, k, l, some)
+pub fewer-by : (end dir : List ℕ) (old rest : List (List Place)) → old ≡ slots_by (suffixes end) dir ++ rest → length rest < length old
+fewer-by end dir old rest e = let k = ap length e in let l = length-append (slots_by (suffixes end) dir) rest in let some = some-by end dir in omega (arith, k, l, some)

@@ -12,7 +12,7 @@ use Rattle.redo_path.specs.Names.{IsFileName, IsPart, IsPath, child_of, is_contr
 use Rattle.redo_path.specs.Resolve.{resolved}
 use Rattle.redo_which.proofs.FileLemmas.{do_file_name}
 use Rattle.redo_which.specs.Candidates.{Place, place_at}
-use Rattle.redo_which.specs.inside.Spots.{lead_of, spelled}
+use Rattle.redo_which.specs.inside.Pieces.{prefix_of, spelled}
 
 -- what fits is the path of a child
 fits_to : (long over : Bool) (n m : ℕ) (path : List ℕ) → nat_lt 255 n ≡ long → nat_lt 1024 m ≡ over → (nat_le n 255 && nat_le m 1024) ≡ true → cond long (Err LongName) (cond over (Err LongPath) (Ok path)) ≡ Ok path
@@ -47,9 +47,9 @@ pub child_path : (dir front suffix : List ℕ) → IsPath dir → IsPart (front 
 child_path dir front suffix d h k = path-resolved dir (front ++ suffix ++ codes ".do") (child_of dir (front ++ suffix ++ codes ".do")) d (resolved-fits dir (front ++ suffix ++ codes ".do") (do_file_name (front ++ suffix) h) k)
 
 -- a path in its pieces
-pub spelled-child : (dir front stem : List ℕ) → spelled dir (lead_of dir front) stem ≡ child_of dir (front ++ stem ++ codes ".do")
-spelled-child [] front stem = refl
-spelled-child (b ∷ bs) front stem = ap (λ l. l ++ codes ".do") (append_assoc (b ∷ bs) (47 ∷ front) stem) ∙ append_assoc (b ∷ bs) ((47 ∷ front) ++ stem) (codes ".do")
+pub spelled-child : (dir front suffix : List ℕ) → spelled dir (prefix_of dir front) suffix ≡ child_of dir (front ++ suffix ++ codes ".do")
+spelled-child [] front suffix = refl
+spelled-child (b ∷ bs) front suffix = ap (λ l. l ++ codes ".do") (append_assoc (b ∷ bs) (47 ∷ front) suffix) ∙ append_assoc (b ∷ bs) ((47 ∷ front) ++ suffix) (codes ".do")
 
 all_end : {X : Type 0} (P : X → Type 0) (xs ys : List X) → AllByRecursion P (xs ++ ys) → AllByRecursion P ys
 all_end P [] ys h = h

@@ -1,5 +1,5 @@
 pub mod Distinct
 pub mod Lines
 pub mod Passed
-pub mod Spots
-pub mod Stems
+pub mod Pieces
+pub mod Slots

@@ -10,15 +10,15 @@
 //! - here: what the search finds, as plain data;
 //! - [`lookup`]: the search; `args`: what a script is called with;
 //! - `missing`: the candidates that it found no file for, kept as their number; `lines`: them as text;
-//! - `spot`: a candidate in pieces of its target's text; `spots`: the candidates one after another.
+//! - `candidate_ref`: a candidate in pieces of its target's text; `candidates`: the candidates one after another.
 #![tactic(auto)]
 
 mod args;
+mod candidate_ref;
+mod candidates;
 mod lines;
 pub mod lookup;
 mod missing;
-mod spot;
-mod spots;
 
 pub use args::Args;
 pub use lines::Lines;

@@ -83,8 +83,8 @@ fn spelled(front: &[u8], rest: &Rest<'_>, mut text: Vec<u8>) -> Result<Vec<u8>, 
     ensures { IfOk result (λ lines. lines.items ≡ lines_of front.now rest.now) }
 {
     text.clear();
-    for spot in rest.spots() {
-        spot.add_line(front, &mut text)?;
+    for candidate in rest.candidates() {
+        candidate.add_line(front, &mut text)?;
     }
     Ok(text)
 }
@@ -95,8 +95,8 @@ fn write_each<W: ByteOut>(front: &[u8], rest: &Rest<'_>, out: &mut W) -> Result<
     ensures writes { Writes (W.held out.old) (W.held out.new) result (lines_of front.now rest.now) }
     ensures failed { W.has_failed out.new ≡ is_err result }
 {
-    for spot in rest.spots() {
-        spot.write_line(front, out)?;
+    for candidate in rest.candidates() {
+        candidate.write_line(front, out)?;
     }
     Ok(())
 }

@@ -5,8 +5,8 @@ ghost use Rattle.std.specs.Iterator.Adapters.{take_count, take_source};
 ghost use Rattle.std.specs.List.{list_any};
 ghost use Rattle.redo_which.specs.Missing.{AreDistinct, AreFirst, first_candidates};
 
-use crate::spot::Spot;
-use crate::spots::Spots;
+use crate::candidate_ref::CandidateRef;
+use crate::candidates::Candidates;
 use redo_path::Path;
 use std::alloc::{AllocError, Global};
 use std::iter::Take;
@@ -71,17 +71,17 @@ impl Missing {
         ensures { IfOk result (λ paths. paths.items ≡ self.now) }
     {
         let mut paths = Vec::with_capacity(alloc, self.count)?;
-        for spot in self.spots() {
-            paths.push(spot.do_file(alloc)?)?;
+        for candidate in self.candidates() {
+            paths.push(candidate.do_file(alloc)?)?;
         }
         Ok(paths)
     }
 
     /// Them, one after another.
-    fn spots(&self) -> Take<Spots<'_>>
+    fn candidates(&self) -> Take<Candidates<'_>>
         ensures { map (λ place. place.do_file) (take (take_count result) (take_source result)) ≡ self.now }
     {
-        Spots::of(&self.target).take(self.count)
+        Candidates::of(&self.target).take(self.count)
     }
 
     /// Whether a path is one of them. It is quick where the path doesn't end in `.do`.
@@ -93,7 +93,7 @@ impl Missing {
             return Ok(false);
         }
         let mut text = Vec::new(alloc);
-        for other in self.spots() {
+        for other in self.candidates() {
             text.clear();
             other.spell(&mut text)?;
             if path.text() == text.as_slice() {
@@ -104,14 +104,14 @@ impl Missing {
     }
 
     /// The first of them, and the rest.
-    pub(crate) fn split_first(&self) -> Option<(Spot<'_>, Rest<'_>)>
+    pub(crate) fn split_first(&self) -> Option<(CandidateRef<'_>, Rest<'_>)>
         ensures some { IfSome result (λ split. self.now ≡ split.0.do_file ∷ map (λ place. place.do_file) split.1) }
         ensures none { IfNone result (self.now ≡ []) }
     {
         let len = self.count.checked_sub(1)?;
-        let mut spots = Spots::of(&self.target);
-        let first = spots.next()?;
-        Some((first, Rest { spots, len }))
+        let mut candidates = Candidates::of(&self.target);
+        let first = candidates.next()?;
+        Some((first, Rest { candidates, len }))
     }
 }
 
@@ -126,7 +126,7 @@ impl Clone for Missing {
 /// So many of the candidates that come next. In a contract it is the list of their places.
 #[derive(Drop)]
 pub(crate) struct Rest<'a> {
-    spots: Spots<'a>,
+    candidates: Candidates<'a>,
     len: usize,
 }
 
@@ -136,7 +136,7 @@ impl<'a> Model for Rest<'a> {
 
     ghost Value = { List Place };
 
-    ghost view = { λ r. take r.len r.spots };
+    ghost view = { λ r. take r.len r.candidates };
 }
 
 impl<'a> Rest<'a> {
@@ -145,16 +145,16 @@ impl<'a> Rest<'a> {
         ensures { result ≡ [] }
     {
         Rest {
-            spots: Spots::none(),
+            candidates: Candidates::none(),
             len: 0,
         }
     }
 
     /// Them, one after another.
-    pub(crate) fn spots(&self) -> Take<Spots<'a>>
+    pub(crate) fn candidates(&self) -> Take<Candidates<'a>>
         ensures { take (take_count result) (take_source result) ≡ self.now }
     {
-        self.spots.again().take(self.len)
+        self.candidates.again().take(self.len)
     }
 
     /// The same candidates once more.
@@ -162,7 +162,7 @@ impl<'a> Rest<'a> {
         ensures { result ≡ self.now }
     {
         Rest {
-            spots: self.spots.again(),
+            candidates: self.candidates.again(),
             len: self.len,
         }
     }
@@ -171,6 +171,6 @@ impl<'a> Rest<'a> {
     pub(crate) fn is_same(&self, other: &Rest<'_>) -> bool
         ensures { IsTrue result → self.now ≡ other.now }
     {
-        self.len == other.len && self.spots.is_same(&other.spots)
+        self.len == other.len && self.candidates.is_same(&other.candidates)
     }
 }

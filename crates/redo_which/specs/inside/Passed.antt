@@ -2,10 +2,10 @@
 use Rattle.std.specs.Prelude.{◌≡◌, ℕ, List, ◌++◌, false, flat_map, length}
 use Rattle.std.specs.List.{AllByRecursion}
 use Rattle.redo_tree.specs.Tree.{Tree}
-use Rattle.redo_which.specs.declared.spots.Next.{Next}
+use Rattle.redo_which.specs.declared.candidates.Next.{Next}
 use Rattle.redo_which.specs.Candidates.{Place}
 use Rattle.redo_which.specs.Rule.{is_file}
-use Rattle.redo_which.specs.inside.Stems.{stems_left}
+use Rattle.redo_which.specs.inside.Slots.{slots_left}
 
 -- the first so many of some candidates are no files of the tree, and these are left
 pub record Passes (tree : Tree) (count : ℕ) (old new : List Place) : Type 0 where
@@ -16,4 +16,4 @@ pub record Passes (tree : Tree) (count : ℕ) (old new : List Place) : Type 0 wh
 
 -- the candidates that are still to come for a name
 abbrev pub places_left : List ℕ → Next → List Place
-places_left name next = flat_map (λ places. places) (stems_left name next)
+places_left name next = flat_map (λ places. places) (slots_left name next)

@@ -4,5 +4,5 @@ use Rattle.redo_which.specs.inside.Lines.{lines_of}
 use Rattle.redo_which.proofs.lines.spelled.Given as goal
 
 -- the lines so far, with those that are left, are all
-abbrev pub invariant-loop-spot : goal.invariant-loop-spot
-invariant-loop-spot l = l.text.items ++ lines_of l.front (take (take_count l.spot-iterator) (take_source l.spot-iterator)) ≡ lines_of l.front l.rest
+abbrev pub invariant-loop-candidate : goal.invariant-loop-candidate
+invariant-loop-candidate l = l.text.items ++ lines_of l.front (take (take_count l.candidate-iterator) (take_source l.candidate-iterator)) ≡ lines_of l.front l.rest

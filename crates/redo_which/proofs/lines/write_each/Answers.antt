@@ -9,13 +9,13 @@ use Rattle.redo_which.specs.inside.Lines.{lines_of}
 use Rattle.redo_which.proofs.TextLemmas.{one-more}
 use Rattle.redo_which.proofs.lines.write_each.Goals as goal
 
-pub loop-spot-preserved : goal.loop-spot-preserved
-loop-spot-preserved g c =
-    let before = c.loop-spot.invariant in
+pub loop-candidate-preserved : goal.loop-candidate-preserved
+loop-candidate-preserved g c =
+    let before = c.loop-candidate.invariant in
     let front = c.args.front.now in
-    let text = front ++ c.in-Some.spot.do_file ++ 10 ∷ [] in
+    let text = front ++ c.in-Some.candidate.do_file ++ 10 ∷ [] in
     let left = lines_of front (take (take_count c.next.new.self) (take_source c.next.new.self)) in
-    let next : lines_of front (take (take_count c.loop-spot.spot-iterator) (take_source c.loop-spot.spot-iterator)) ≡ text ++ left = search rules in
+    let next : lines_of front (take (take_count c.loop-candidate.candidate-iterator) (take_source c.loop-candidate.candidate-iterator)) ≡ text ++ left = search rules in
     record {
       works = grind (arith, common_steps);
       done = before.done ++ text;
@@ -25,11 +25,11 @@ loop-spot-preserved g c =
 
 pub returns-in_err-write_line-clause-writes : goal.returns-in_err-write_line-clause-writes
 returns-in_err-write_line-clause-writes g c =
-    let before = c.loop-spot.invariant in
+    let before = c.loop-candidate.invariant in
     let front = c.args.front.now in
-    let text = front ++ c.in-Some.spot.do_file ++ 10 ∷ [] in
+    let text = front ++ c.in-Some.candidate.do_file ++ 10 ∷ [] in
     let left = lines_of front (take (take_count c.next.new.self) (take_source c.next.new.self)) in
-    let next : lines_of front (take (take_count c.loop-spot.spot-iterator) (take_source c.loop-spot.spot-iterator)) ≡ text ++ left = search rules in
+    let next : lines_of front (take (take_count c.loop-candidate.candidate-iterator) (take_source c.loop-candidate.candidate-iterator)) ≡ text ++ left = search rules in
     let f = c.in_err-write_line.field-0.0 in
     let p = err_from_is_err_and c.from_residual.result c.from_residual.ensures.1 in
     rw p.1 (Writes-cut f p.0 _ _ (before.done ++ text) left _ (one-more _ before.done _ text left before.split next)

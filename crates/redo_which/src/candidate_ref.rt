@@ -1,0 +1,205 @@
+//! A candidate in pieces of its target's text, so that no path is made of one that is no file.
+
+ghost use Rattle.std.specs.Prelude.{◌≡◌, ◌++◌, ◌∷◌, ◌≤◌, [], IfOk, IfSome, OnOk, codes, false, is_err, length, map, nat_le, option_copied, true, ◌&&◌};
+ghost use Rattle.std.specs.Option.{option_to_list};
+ghost use Rattle.redo_path.specs.Names.{IsNameStart, IsPart, IsPath, child_of, name_of, names, parent_of};
+ghost use Rattle.redo_path.specs.Resolve.{resolved};
+ghost use Rattle.redo_tree.specs.Bundle.{Writes};
+ghost use Rattle.redo_which.specs.Candidates.{place_at};
+ghost use Rattle.redo_which.specs.inside.Pieces.{prefix_of};
+ghost use Rattle.redo_which.specs.Views.{place_of};
+
+use crate::Candidate;
+use redo_path::Path;
+use redo_tree::{Broken, ByteOut, write_parts};
+use std::alloc::{AllocError, Global};
+use std::marker::Model;
+
+/// The most bytes that a name has.
+const LONGEST_NAME: usize = 255;
+
+/// The most bytes that a path has.
+const LONGEST_PATH: usize = 1024;
+
+/// A candidate: a .do file in a directory, in pieces. In a contract it is the place of a candidate.
+#[derive(Drop)]
+pub(crate) struct CandidateRef<'a> {
+    dir: &'a [u8],
+    /// What stands behind the directory: a slash, unless that is the root, and then `default`,
+    /// unless it is the candidate by the whole name.
+    prefix: &'a [u8],
+    /// The whole name, or a suffix of it.
+    suffix: &'a [u8],
+    cut: usize,
+}
+
+impl<'a> Model for CandidateRef<'a> {
+    ghost use Rattle.redo_which.specs.Candidates.{Place};
+    ghost use Rattle.redo_which.specs.inside.Pieces.{ArePieces, place_in_pieces};
+
+    ghost Value = { Place };
+
+    ghost view = { λ s. place_in_pieces s.dir.now s.prefix.now s.suffix.now s.cut };
+
+    ghost invariant = { λ s. ArePieces s.dir.now s.prefix.now s.suffix.now };
+}
+
+impl<'a> CandidateRef<'a> {
+    /// The candidate by the whole name in a directory, unless its path is too long.
+    pub(crate) fn by_name(dir: &'a [u8], name: &'a [u8]) -> Option<CandidateRef<'a>>
+        requires path { IsPath dir.now }
+        requires part { IsPart name.now }
+        ensures { option_to_list result ≡ place_at dir.now 0 (name.now ++ codes ".do") }
+    {
+        CandidateRef::new(dir, b"", name_prefix(dir), name, 0)
+    }
+
+    /// The candidate by a suffix in a directory, unless its path is too long.
+    pub(crate) fn by_suffix(dir: &'a [u8], suffix: &'a [u8]) -> Option<CandidateRef<'a>>
+        requires path { IsPath dir.now }
+        requires part { IsPart suffix.now }
+        ensures { option_to_list result ≡ place_at dir.now (length suffix.now) (codes "default" ++ suffix.now ++ codes ".do") }
+    {
+        CandidateRef::new(dir, b"default", default_prefix(dir), suffix, suffix.len())
+    }
+
+    /// The candidate of this suffix behind a front, which the prefix ends in.
+    fn new(
+        dir: &'a [u8],
+        front: &[u8],
+        prefix: &'a [u8],
+        suffix: &'a [u8],
+        cut: usize,
+    ) -> Option<CandidateRef<'a>>
+        requires path { IsPath dir.now }
+        requires part { IsPart (front.now ++ suffix.now) }
+        requires prefix { prefix.now ≡ prefix_of dir.now front.now }
+        ensures { option_to_list result ≡ place_at dir.now cut (front.now ++ suffix.now ++ codes ".do") }
+    {
+        if !fits(dir, front, suffix) {
+            return None;
+        }
+        Some(CandidateRef {
+            dir,
+            prefix,
+            suffix,
+            cut,
+        })
+    }
+
+    /// Adds the text of the .do file's path to a text.
+    pub(crate) fn spell(&self, text: &mut Vec<u8>) -> Result<(), AllocError>
+        ensures path { IsPath self.now.do_file }
+        ensures text { OnOk result (text.new.items ≡ text.old.items ++ self.now.do_file) }
+    {
+        text.extend_from_slice(self.dir)?;
+        text.extend_from_slice(self.prefix)?;
+        text.extend_from_slice(self.suffix)?;
+        text.extend_from_slice(b".do")
+    }
+
+    /// Writes the text of the .do file's path between a front and a newline.
+    pub(crate) fn write_line<W: ByteOut>(&self, front: &[u8], out: &mut W) -> Result<(), Broken>
+        requires { W.has_failed out.old ≡ false }
+        ensures writes { Writes (W.held out.old) (W.held out.new) result (front.now ++ self.now.do_file ++ 10 ∷ []) }
+        ensures failed { W.has_failed out.new ≡ is_err result }
+    {
+        write_parts(out, &[front, self.dir, self.prefix, self.suffix, b".do\n"])
+    }
+
+    /// Adds the text of the .do file's path between a front and a newline to a text.
+    pub(crate) fn add_line(&self, front: &[u8], text: &mut Vec<u8>) -> Result<(), AllocError>
+        ensures { OnOk result (text.new.items ≡ text.old.items ++ (front.now ++ self.now.do_file ++ 10 ∷ [])) }
+    {
+        text.extend_from_slice(front)?;
+        self.spell(text)?;
+        text.push(b'\n')?;
+        Ok(())
+    }
+
+    /// The path of the .do file.
+    pub(crate) fn do_file(&self, alloc: Global) -> Result<Path, AllocError>
+        ensures { IfOk result (λ path. path ≡ self.now.do_file) }
+    {
+        let mut text = Vec::new(alloc);
+        self.spell(&mut text)?;
+        Path::of_text(alloc, &text)
+    }
+
+    /// The candidate, with paths of its own.
+    pub(crate) fn to_candidate(&self, alloc: Global) -> Result<Candidate, AllocError>
+        ensures { IfOk result (λ candidate. place_of candidate ≡ self.now) }
+    {
+        let do_file = self.do_file(alloc)?;
+        self.with_path(alloc, do_file)
+    }
+
+    /// The candidate with this path, which is that of its .do file.
+    pub(crate) fn with_path(&self, alloc: Global, do_file: Path) -> Result<Candidate, AllocError>
+        requires { do_file ≡ self.now.do_file }
+        ensures { IfOk result (λ candidate. place_of candidate ≡ self.now) }
+    {
+        let dir = Path::of_text(alloc, self.dir)?;
+        let cut = self.cut;
+        Ok(Candidate { do_file, dir, cut })
+    }
+}
+
+/// What stands between a directory and a name in it.
+fn name_prefix(dir: &[u8]) -> &[u8]
+    ensures { result.now ≡ prefix_of dir.now [] }
+{
+    match dir {
+        [] => b"",
+        _ => b"/",
+    }
+}
+
+/// What stands between a directory and the suffix of a candidate in it.
+fn default_prefix(dir: &[u8]) -> &[u8]
+    ensures { result.now ≡ prefix_of dir.now (codes "default") }
+{
+    match dir {
+        [] => b"default",
+        _ => b"/default",
+    }
+}
+
+/// Whether the path of a .do file in a directory isn't too long.
+pub(crate) fn fits(dir: &[u8], front: &[u8], suffix: &[u8]) -> bool
+    requires { IsPath dir.now }
+    ensures { result ≡ (nat_le (length (front.now ++ suffix.now ++ codes ".do")) 255
+        && nat_le (length (child_of dir.now (front.now ++ suffix.now ++ codes ".do"))) 1024) }
+{
+    let name = front.len().saturating_add(suffix.len()).saturating_add(3);
+    let above = if dir.is_empty() {
+        0
+    } else {
+        dir.len().saturating_add(1)
+    };
+    name <= LONGEST_NAME && above.saturating_add(name) <= LONGEST_PATH
+}
+
+/// The text of the directory that holds a path; the root lies in none.
+pub(crate) fn parent_text(text: &[u8]) -> Option<&[u8]>
+    requires { IsPath text.now }
+    ensures text { option_copied result ≡ parent_of text.now }
+    ensures path { IfSome result (λ up. IsPath up.now) }
+    ensures names { IfSome result (λ up. names text.now ≡ names up.now ++ name_of text.now ∷ []) }
+{
+    if text.is_empty() {
+        return None;
+    }
+    let end = name_start(text).saturating_sub(1);
+    Some(&text[..end])
+}
+
+/// Where the last name of a text begins.
+fn name_start(text: &[u8]) -> usize
+    ensures { IsNameStart text.now result }
+{
+    match text.iter().rposition(|byte| *byte == b'/') {
+        Some(slash) => slash + 1,
+        None => 0,
+    }
+}
