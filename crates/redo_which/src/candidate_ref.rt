@@ -1,6 +1,7 @@
 //! A candidate in pieces of its target's text, so that no path is made of one that is no file.
 
-ghost use Rattle.std.specs.Prelude.{◌≡◌, ◌++◌, ◌∷◌, ◌≤◌, [], IfOk, IfSome, OnOk, codes, false, is_err, length, map, nat_le, option_copied, true, ◌&&◌};
+ghost use Rattle.std.specs.Prelude.{◌≡◌, ◌++◌, ◌∷◌, ◌≤◌, [], IfOk, IfSome, OnOk, codes, false, is_err, length, map};
+ghost use Rattle.std.specs.Prelude.{nat_le, option_copied, true, ◌&&◌};
 ghost use Rattle.std.specs.Option.{option_to_list};
 ghost use Rattle.redo_path.specs.Names.{IsNameStart, IsPart, IsPath, child_of, name_of, names, parent_of};
 ghost use Rattle.redo_path.specs.Resolve.{resolved};
@@ -21,12 +22,12 @@ const LONGEST_NAME: usize = 255;
 /// The most bytes that a path has.
 const LONGEST_PATH: usize = 1024;
 
-/// A candidate: a .do file in a directory, in pieces. In a contract it is the place of a candidate.
+/// A candidate in pieces, with no path of its own. In a contract it is the place of the candidate.
 #[derive(Drop)]
 pub(crate) struct CandidateRef<'a> {
     dir: &'a [u8],
-    /// What stands behind the directory: a slash, unless that is the root, and then `default`,
-    /// unless it is the candidate by the whole name.
+    /// What stands between the directory and the suffix: a slash, unless the directory is the root, and then
+    /// `default`, unless it is the candidate by the whole name.
     prefix: &'a [u8],
     /// The whole name, or a suffix of it.
     suffix: &'a [u8],
@@ -58,12 +59,13 @@ impl<'a> CandidateRef<'a> {
     pub(crate) fn by_suffix(dir: &'a [u8], suffix: &'a [u8]) -> Option<CandidateRef<'a>>
         requires path { IsPath dir.now }
         requires part { IsPart suffix.now }
-        ensures { option_to_list result ≡ place_at dir.now (length suffix.now) (codes "default" ++ suffix.now ++ codes ".do") }
+        ensures { option_to_list result
+            ≡ place_at dir.now (length suffix.now) (codes "default" ++ suffix.now ++ codes ".do") }
     {
         CandidateRef::new(dir, b"default", default_prefix(dir), suffix, suffix.len())
     }
 
-    /// The candidate of this suffix behind a front, which the prefix ends in.
+    /// The candidate whose name begins with a front, as the end of the prefix, and goes on with the suffix.
     fn new(
         dir: &'a [u8],
         front: &[u8],

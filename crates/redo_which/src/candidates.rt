@@ -1,6 +1,7 @@
 //! The candidates of a target one after another, without a list of them.
 
-ghost use Rattle.std.specs.Prelude.{◌≡◌, ◌<◌, ◌≤◌, ◌^◌, ◌∷◌, ◌++◌, [], IfSome, IsTrue, codes, filter, flat_map, length, nat_eq, if◌then◌else◌};
+ghost use Rattle.std.specs.Prelude.{◌≡◌, ◌<◌, ◌≤◌, ◌^◌, ◌∷◌, ◌++◌, [], IfSome, IsTrue, codes, filter, flat_map, length};
+ghost use Rattle.std.specs.Prelude.{nat_eq, if◌then◌else◌};
 ghost use Rattle.std.specs.List.{ends_with};
 ghost use Rattle.std.specs.Iterator.{YieldsFirst, YieldsFirstBy, item_count};
 ghost use Rattle.std.specs.Option.{option_to_list};
@@ -128,9 +129,8 @@ impl<'a> Candidates<'a> {
             && first_suffix(self.name) == first_suffix(other.name)
     }
 
-    /// Passes over the directories that come next, as long as the tree knows of each that no file in
-    /// it begins with `default` and ends in `.do`. Answers how many candidates lie in them. In the
-    /// middle of a directory it passes over nothing.
+    /// Skips the directories that come next, as long as the tree knows of each that it holds no
+    /// `default*.do`. Answers how many candidates lie in them. In the middle of a directory it skips nothing.
     pub(crate) fn skip_directories(&mut self, tree: &Tree) -> usize
         requires { length self.old ≤ 2 ^ 20 }
         ensures { Passes tree.now result self.old self.new }
@@ -188,11 +188,12 @@ fn count_each(dir: &[u8], end: &[u8]) -> usize
     }
 }
 
-/// What comes first in a target's directory.
+/// What comes first: the whole name in the target's directory, unless it ends in `.do`.
 fn first_next<'a>(name: &'a [u8], dir: &'a [u8]) -> Next<'a>
     requires path { IsPath dir.now }
     requires part { IsPart name.now }
-    ensures left { flat_map (λ places. places) (slots_left name.now result) ≡ if ends_with nat_eq name.now (codes ".do") then [] else distinct_places dir.now name.now }
+    ensures left { flat_map (λ places. places) (slots_left name.now result)
+        ≡ if ends_with nat_eq name.now (codes ".do") then [] else distinct_places dir.now name.now }
     ensures next { IsNext name.now result }
 {
     if name.ends_with(b".do") {
@@ -207,7 +208,8 @@ fn first_next<'a>(name: &'a [u8], dir: &'a [u8]) -> Next<'a>
 fn after_name<'a>(name: &'a [u8], dir: &'a [u8]) -> Next<'a>
     requires path { IsPath dir.now }
     requires part { IsPart name.now }
-    ensures left { slots_left name.now result ≡ slots_by (without_whole name.now (suffixes name.now)) dir.now ++ slots_above name.now dir.now }
+    ensures left { slots_left name.now result
+        ≡ slots_by (without_whole name.now (suffixes name.now)) dir.now ++ slots_above name.now dir.now }
     ensures next { IsNext name.now result }
 {
     let longest = first_suffix(name);

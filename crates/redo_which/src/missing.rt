@@ -1,6 +1,7 @@
 //! The candidates of a target that were looked for in vain.
 
-ghost use Rattle.std.specs.Prelude.{◌≡◌, ◌≤◌, ◌∷◌, List, ℕ, IfNone, IfOk, IfSome, IsTrue, [], bytes_eq, length, map, take};
+ghost use Rattle.std.specs.Prelude.{◌≡◌, ◌≤◌, ◌∷◌, List, ℕ, IfNone, IfOk, IfSome, IsTrue, [], bytes_eq, length, map};
+ghost use Rattle.std.specs.Prelude.{take};
 ghost use Rattle.std.specs.Iterator.Adapters.{take_count, take_source};
 ghost use Rattle.std.specs.List.{list_any};
 ghost use Rattle.redo_which.specs.Missing.{AreDistinct, AreFirst, first_candidates};
@@ -63,6 +64,7 @@ impl Missing {
     pub fn each_once(&self)
         ensures { AreDistinct self.now }
     {
+        // A field is read so that the invariant is at hand in the proof. Nothing runs.
         let _ = &self.target;
     }
 
@@ -88,6 +90,7 @@ impl Missing {
     pub fn contains(&self, alloc: Global, path: &Path) -> Result<bool, AllocError>
         ensures { IfOk result (λ answer. answer ≡ list_any (λ other. bytes_eq path.now other) self.now) }
     {
+        // A field is read so that the invariant is at hand in the proof.
         let _ = &self.target;
         if !path.text().ends_with(b".do") {
             return Ok(false);
@@ -123,7 +126,7 @@ impl Clone for Missing {
     }
 }
 
-/// So many of the candidates that come next. In a contract it is the list of their places.
+/// The candidates of a target behind its first, so many of them. In a contract it is the list of their places.
 #[derive(Drop)]
 pub(crate) struct Rest<'a> {
     candidates: Candidates<'a>,

@@ -1,4 +1,4 @@
--- The places of a search one after another, each a list that is empty where the path is too long.
+-- The search slot by slot: a slot has one place, or none where its path is too long.
 use Rattle.std.specs.Prelude.{◌≡◌, ◌≢◌, ◌<◌, ◌≤◌, ℕ, List, [], ◌∷◌, ◌++◌, codes, flat_map, length, map, slice_index}
 use Rattle.redo_path.specs.Names.{IsPart, IsPath}
 use Rattle.redo_which.specs.declared.candidates.Next.{Next}
@@ -6,17 +6,19 @@ use Rattle.redo_which.specs.declared.candidates.Next.TheVariants.{Whole, Suffix,
 use Rattle.redo_which.specs.Candidates.{Place, place_at, suffixes, upward}
 use Rattle.redo_which.specs.inside.Distinct.{above, without_whole}
 
--- the places by these suffixes in a directory
+-- the slots of these suffixes in a directory
 abbrev pub slots_by : List (List ℕ) → List ℕ → List (List Place)
 slots_by ends dir = map (λ suffix. place_at dir (length suffix) (codes "default" ++ suffix ++ codes ".do")) ends
 
--- the places in the directories that a directory lies in
+-- the slots in the directories that a directory lies in
 abbrev pub slots_above : List ℕ → List ℕ → List (List Place)
 slots_above name dir = flat_map (slots_by (suffixes name)) (above (upward dir))
 
--- the places that are still to come for a name
+-- the slots that are still to come for a name
 abbrev pub slots_left : List ℕ → Next → List (List Place)
-slots_left name (Whole dir) = place_at dir.now 0 (name ++ codes ".do") ∷ slots_by (without_whole name (suffixes name)) dir.now ++ slots_above name dir.now
+slots_left name (Whole dir) =
+    place_at dir.now 0 (name ++ codes ".do")
+    ∷ slots_by (without_whole name (suffixes name)) dir.now ++ slots_above name dir.now
 slots_left name (Suffix dir end) = slots_by (suffixes end.now) dir.now ++ slots_above name dir.now
 slots_left name Nothing = []
 
