@@ -1,7 +1,10 @@
 -- The statements of a list of tokens, as a relation by cases.
-use Rattle.std.specs.Prelude.{◌≡◌, ℕ, suc, ◌+◌, ◌-◌, ◌*◌, ◌<◌, Bool, true, false, ◌&&◌, ◌==◌, nat_le, if◌then◌else◌, List, [], ◌∷◌, length, map, Option, Some, None, is_none, codes}
+use Rattle.std.specs.Prelude.{◌≡◌, ℕ, suc, ◌+◌, ◌-◌, ◌*◌, ◌<◌, Bool, true, false, ◌&&◌, ◌==◌, nat_le, if◌then◌else◌}
+use Rattle.std.specs.Prelude.{List, [], ◌∷◌, length, map, Option, Some, None, is_none, codes}
 use Rattle.redo_script.specs.Bytes.{is_digit}
-use Rattle.redo_script.specs.Syntax.{byte, quoted, bare, Word, Redirection, Test, is_file, equal, differ, echo, printf, cat, Command, write, test, change, create, always_true, always_false, exit, Condition, if_test, if_true, if_false, Script, finish, simple, choice}
+use Rattle.redo_script.specs.Syntax.{byte, quoted, bare, Word, Redirection, Test, is_file, equal, differ, echo, printf}
+use Rattle.redo_script.specs.Syntax.{cat, Command, write, test, change, create, always_true, always_false, exit}
+use Rattle.redo_script.specs.Syntax.{Condition, if_test, if_true, if_false, Script, finish, simple, choice}
 use Rattle.redo_script.specs.Tokens.{Token, word, semicolon, newline, redirect}
 
 -- a word of a command, and whether it is written with plain bytes alone
@@ -137,7 +140,8 @@ AtSeparator (newline l ∷ ts) = Unit {0}
 AtSeparator (word l p w ∷ ts) = ⊥
 AtSeparator (redirect l a ∷ ts) = ⊥
 
--- The tokens begin with words, and perhaps a redirection with its word, up to a separator or the end; then come the last.
+-- The tokens begin with words, and perhaps a redirection with its word, up to a separator or the end; then come the
+-- last.
 pub data IsItems : List Token → List Item → Option Redirection → List Token → Type 0 where
   none_left : {ts : List Token} → AtSeparator ts → IsItems ts [] None ts
   one_item : {l : ℕ} {p : Bool} {w : Word} {ts rest : List Token} {items : List Item} {r : Option Redirection} →

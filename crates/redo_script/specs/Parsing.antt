@@ -1,6 +1,7 @@
 -- The script of a list of tokens, token by token, or the first fault that is met: what may come next, and which fault
 -- anything else is.
-use Rattle.std.specs.Prelude.{ℕ, suc, Bool, true, false, ◌||◌, nat_lt, if◌then◌else◌, List, [], ◌∷◌, ◌++◌, Option, Some, None, Result, Ok, codes}
+use Rattle.std.specs.Prelude.{ℕ, suc, Bool, true, false, ◌||◌, nat_lt, if◌then◌else◌, List, [], ◌∷◌, ◌++◌, Option, Some}
+use Rattle.std.specs.Prelude.{None, Result, Ok, codes}
 use Rattle.redo_script.specs.declared.fault.ScriptFault.{ScriptFault}
 use Rattle.redo_script.specs.declared.fault.Reason.TheVariants as reasons
 use Rattle.redo_script.specs.Faults.{◌>>=◌, fault_at}
@@ -61,8 +62,8 @@ is_one_of (name ∷ names) item = is_named name item || is_one_of names item
 -- the names of the subset
 abbrev pub commands : List (List ℕ)
 commands =
-    codes "echo" ∷ codes "printf" ∷ codes "cat" ∷ codes "test" ∷ codes "redo-ifchange" ∷ codes "redo-ifcreate" ∷ codes "true"
-    ∷ codes "false" ∷ codes "exit" ∷ []
+    codes "echo" ∷ codes "printf" ∷ codes "cat" ∷ codes "test" ∷ codes "redo-ifchange" ∷ codes "redo-ifcreate"
+    ∷ codes "true" ∷ codes "false" ∷ codes "exit" ∷ []
 
 -- the words of the shell that the subset leaves out
 abbrev pub words_outside : List (List ℕ)

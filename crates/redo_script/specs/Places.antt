@@ -27,7 +27,8 @@ pub record StopsAtByte (text : List ℕ) (fault : ScriptFault) : Type 0 where
   pub stops : CanGoOn (before ++ byte ∷ []) → ⊥
   pub fault_is : fault ≡ record { line = line_from 1 before; why = reasons.Unsupported }
 
--- The fault is OpenQuote, in the line of a quote: up to it the text has tokens, and no longer beginning of the text has.
+-- The fault is OpenQuote, in the line of a quote: up to it the text has tokens, and no longer beginning of the text
+-- has.
 pub record QuoteIsOpen (text : List ℕ) (fault : ScriptFault) : Type 0 where
   pub before : List ℕ
   pub quote : ℕ

@@ -1,5 +1,6 @@
 -- The tokens of a text, byte by byte, or the first fault that is met: which byte may come next, and what it does.
-use Rattle.std.specs.Prelude.{ℕ, ◌+◌, Bool, true, false, ◌&&◌, ◌==◌, if◌then◌else◌, List, [], ◌∷◌, ◌++◌, Option, Some, None, Result, Ok}
+use Rattle.std.specs.Prelude.{ℕ, ◌+◌, Bool, true, false, ◌&&◌, ◌==◌, if◌then◌else◌, List, [], ◌∷◌, ◌++◌, Option, Some}
+use Rattle.std.specs.Prelude.{None, Result, Ok}
 use Rattle.redo_script.specs.declared.ast.Parameter.{Parameter}
 use Rattle.redo_script.specs.declared.ast.Parameter.TheVariants.{One, Two, Three}
 use Rattle.redo_script.specs.declared.fault.ScriptFault.{ScriptFault}
@@ -72,7 +73,8 @@ with_quote r m = record r { mode = m; opened = r.line; is_plain = false; is_numb
 -- a byte that a word begins or goes on with
 abbrev pub word_byte : Reader → ℕ → Result Reader ScriptFault
 word_byte r b =
-    if is_plain b then Ok (record r { mode = modes.Word; is_number = r.is_number && is_digit b; word = r.word ++ byte b ∷ [] })
+    if is_plain b
+    then Ok (record r { mode = modes.Word; is_number = r.is_number && is_digit b; word = r.word ++ byte b ∷ [] })
     else if b == bytes.single_quote then Ok (with_quote r modes.Single)
     else if b == bytes.double_quote then Ok (with_quote r modes.Double)
     else if b == bytes.dollar then Ok (with_quote r modes.Dollar)
@@ -106,7 +108,8 @@ after_semicolon r b = if b == bytes.semicolon then unsupported r else gap_byte r
 -- a byte directly behind `>`
 abbrev pub after_redirect : Reader → ℕ → Result Reader ScriptFault
 after_redirect r b =
-    if b == bytes.greater then Ok (with_token r (redirect r.line true)) else gap_byte (with_token r (redirect r.line false)) b
+    if b == bytes.greater then Ok (with_token r (redirect r.line true))
+    else gap_byte (with_token r (redirect r.line false)) b
 
 -- a byte of a comment
 abbrev pub in_comment : Reader → ℕ → Result Reader ScriptFault

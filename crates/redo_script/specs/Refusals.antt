@@ -1,12 +1,14 @@
 -- Which fault tokens have that are no program: where it stands, as a relation by cases over the grammar, and by a table
 -- of what is open there and what comes.
-use Rattle.std.specs.Prelude.{◌≡◌, ◌⊎◌, ℕ, suc, ◌<◌, ◌≤◌, Bool, true, false, List, [], ◌∷◌, length, Option, Some, None, codes}
+use Rattle.std.specs.Prelude.{◌≡◌, ◌⊎◌, ℕ, suc, ◌<◌, ◌≤◌, Bool, true, false, List, [], ◌∷◌, length, Option, Some, None}
+use Rattle.std.specs.Prelude.{codes}
 use Rattle.redo_script.specs.declared.fault.ScriptFault.{ScriptFault}
 use Rattle.redo_script.specs.declared.fault.Reason.{Reason}
 use Rattle.redo_script.specs.declared.fault.Reason.TheVariants as reasons
 use Rattle.redo_script.specs.Syntax.{Word, Redirection, Command, Condition, Script, finish}
 use Rattle.redo_script.specs.Tokens.{Token, word, semicolon, newline, redirect}
-use Rattle.redo_script.specs.Grammar.{Item, spells, command_form, condition_form, AtSeparator, IsItems, SkipsNewlines, Separates, IsKeyword, OpensIf, IsCommand, IsBlock}
+use Rattle.redo_script.specs.Grammar.{Item, spells, command_form, condition_form, AtSeparator, IsItems, SkipsNewlines}
+use Rattle.redo_script.specs.Grammar.{Separates, IsKeyword, OpensIf, IsCommand, IsBlock}
 use Rattle.redo_script.specs.Parsing.{is_one_of, commands, words_outside}
 
 -- an open if: its line, and whether its else was read
@@ -18,7 +20,8 @@ pub record OpenIf : Type 0 where
 -- command; then come the last.
 pub data IsPart : ℕ → (is_bare : Bool) → List Token → List Token → Type 0 where
   bare : {depth : ℕ} {ts rest : List Token} → SkipsNewlines ts rest → IsPart depth true ts rest
-  full : {depth : ℕ} {ts rest : List Token} {script : Script} → IsBlock depth ts script rest → IsPart depth false ts rest
+  full : {depth : ℕ} {ts rest : List Token} {script : Script} →
+      IsBlock depth ts script rest → IsPart depth false ts rest
 
 -- The tokens begin with an if up to its then, or up to its else; then come the last.
 pub data IsOpened : ℕ → OpenIf → List Token → List Token → Type 0 where
@@ -28,8 +31,8 @@ pub data IsOpened : ℕ → OpenIf → List Token → List Token → Type 0 wher
       OpensIf l c ts t1 → IsBlock depth t1 first t2 → IsKeyword (codes "else") t2 rest →
       IsOpened depth (record { line = l; has_else = true }) ts rest
 
--- Before the last of the tokens a command may stand, inside these open ifs, the innermost first, of whose part no command
--- was read where it is bare.
+-- Before the last of the tokens a command may stand, inside these open ifs, the innermost first, of whose part no
+-- command was read where it is bare.
 pub data IsPlace : List OpenIf → (is_bare : Bool) → List Token → List Token → Type 0 where
   outside : {b : Bool} {ts rest : List Token} → IsPart 0 b ts rest → IsPlace [] b ts rest
   inside : {o : OpenIf} {os : List OpenIf} {a b : Bool} {ts t1 t2 rest : List Token} →
@@ -87,7 +90,8 @@ abbrev pub MayEnd : List OpenIf → Bool → Type 0
 MayEnd [] b = ⊥
 MayEnd (o ∷ os) b = b ≡ false
 
--- The tokens begin with `if`, inside so few others that it may stand, in this line, and this condition; then come the last.
+-- The tokens begin with `if`, inside so few others that it may stand, in this line, and this condition; then come the
+-- last.
 pub data HasCondition : ℕ → ℕ → List Token → List Token → Type 0 where
   a_condition : {depth l k : ℕ} {p : Bool} {v w : Word} {ts rest : List Token} {items : List Item} {c : Condition} →
       spells v (codes "if") ≡ true → depth < 16 → IsItems ts items None rest →
@@ -126,7 +130,8 @@ pub data IsWrong : List OpenIf → (is_bare : Bool) → List Token → ScriptFau
       spells w (codes "then") ≡ true → IsWrong os b (word l true w ∷ ts) (in_line l reasons.IfShape)
   -- `else` where no first branch with a command is open
   no_else_here : {os : List OpenIf} {b : Bool} {l : ℕ} {w : Word} {ts : List Token} →
-      spells w (codes "else") ≡ true → (MayElse os b → ⊥) → IsWrong os b (word l true w ∷ ts) (in_line l reasons.IfShape)
+      spells w (codes "else") ≡ true → (MayElse os b → ⊥) →
+      IsWrong os b (word l true w ∷ ts) (in_line l reasons.IfShape)
   -- `fi` where no branch with a command is open
   no_fi_here : {os : List OpenIf} {b : Bool} {l : ℕ} {w : Word} {ts : List Token} →
       spells w (codes "fi") ≡ true → (MayEnd os b → ⊥) → IsWrong os b (word l true w ∷ ts) (in_line l reasons.IfShape)
@@ -145,7 +150,8 @@ pub data IsWrong : List OpenIf → (is_bare : Bool) → List Token → ScriptFau
       IsWrong os b (word l true w ∷ ts) (in_line l reasons.Unsupported)
   -- any other word that is no command's name
   unknown : {os : List OpenIf} {b p : Bool} {l : ℕ} {w : Word} {ts : List Token} →
-      is_one_of (codes "if" ∷ codes "then" ∷ codes "else" ∷ codes "fi" ∷ []) (record { is_plain = p; word = w }) ≡ false →
+      is_one_of (codes "if" ∷ codes "then" ∷ codes "else" ∷ codes "fi" ∷ [])
+      (record { is_plain = p; word = w }) ≡ false →
       is_one_of commands (record { is_plain = p; word = w }) ≡ false →
       is_one_of words_outside (record { is_plain = p; word = w }) ≡ false →
       IsWrong os b (word l p w ∷ ts) (in_line l reasons.UnknownCommand)
@@ -154,8 +160,8 @@ pub data IsWrong : List OpenIf → (is_bare : Bool) → List Token → ScriptFau
       is_one_of commands (record { is_plain = p; word = w }) ≡ true → HasNoForm (record { is_plain = p; word = w }) ts →
       IsWrong os b (word l p w ∷ ts) (in_line l reasons.Shape)
 
--- The fault of these tokens: up to a place for a command they are in the grammar, and what is wrong there is told by the
--- table.
+-- The fault of these tokens: up to a place for a command they are in the grammar, and what is wrong there is told by
+-- the table.
 pub record FaultStands (ts : List Token) (fault : ScriptFault) : Type 0 where
   pub opens : List OpenIf
   pub is_bare : Bool

@@ -104,8 +104,8 @@ mutual
     stands : {l b : ℕ} {bs : List ℕ} {w : Word} {ts : List Token} →
         b ≢ bytes.single_quote → IsSingle (line_after l b) bs w ts → IsSingle l (b ∷ bs) (byte b ∷ w) ts
 
-  -- The bytes go on inside double quotes, and then with the rest of the word. A backslash before a byte that it gives no
-  -- meaning to stands for itself; before a newline it has no place.
+  -- The bytes go on inside double quotes, and then with the rest of the word. A backslash before a byte that it gives
+  -- no meaning to stands for itself; before a newline it has no place.
   pub data IsDouble : ℕ → List ℕ → Word → List Token → Type 0 where
     closes_double : {l b : ℕ} {bs : List ℕ} {w : Word} {p : Bool} {ts : List Token} →
         b ≡ bytes.double_quote → IsWord l bs w p ts → IsDouble l (b ∷ bs) w ts

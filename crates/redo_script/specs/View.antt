@@ -18,7 +18,10 @@ use Rattle.redo_script.specs.declared.ast.Stmt.{Stmt}
 use Rattle.redo_script.specs.declared.ast.Stmt.TheOpen.{Stmt-F}
 use Rattle.redo_script.specs.declared.ast.Stmt.TheOpen as stmts
 use Rattle.redo_script.specs.declared.ast.Stmt.TheFolds.{fold-Stmt}
-use Rattle.redo_script.specs.Syntax.{Symbol, byte, quoted, bare, Word, Redirection, Test, is_file, equal, differ, Writer, echo, printf, cat, Command, write, test, change, create, always_true, always_false, exit, Condition, if_test, if_true, if_false, Script, finish, simple, choice}
+use Rattle.redo_script.specs.Syntax.{Symbol, byte, quoted, bare, Word, Redirection, Test, is_file, equal, differ}
+use Rattle.redo_script.specs.Syntax.{Writer, echo, printf, cat, Command, write, test, change, create, always_true}
+use Rattle.redo_script.specs.Syntax.{always_false, exit, Condition, if_test, if_true, if_false, Script, finish, simple}
+use Rattle.redo_script.specs.Syntax.{choice}
 
 -- the symbols of a piece of a word
 abbrev pub symbols_of_part : Part → List Symbol

@@ -80,7 +80,8 @@ impl<'a> Lexer<'a> {
     }
 
     fn push_byte(&mut self, mode: Mode, byte: u8) -> Result<(), ScriptFault>
-        ensures reads { Leaves reader_of self.new result (Ok (with_symbol (reader_of self.old) mode (byte_symbol byte))) }
+        ensures reads { Leaves reader_of self.new result
+            (Ok (with_symbol (reader_of self.old) mode (byte_symbol byte))) }
         ensures line { self.new.line ≡ self.old.line }
     {
         self.literal.push(byte)?;

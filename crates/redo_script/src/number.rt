@@ -32,7 +32,8 @@ impl Number {
     fn past_digit(self, byte: u8) -> Option<Number>
         ensures { MatchOption result
             ((w : Symbols) → status_on self.digits self.value (byte_symbol byte ∷ w) ≡ None)
-            (λ number. (w : Symbols) → status_on self.digits self.value (byte_symbol byte ∷ w) ≡ status_on number.digits number.value w) }
+            (λ number. (w : Symbols) →
+            status_on self.digits self.value (byte_symbol byte ∷ w) ≡ status_on number.digits number.value w) }
     {
         if self.digits >= 3 || !byte.is_ascii_digit() {
             return None;
@@ -48,7 +49,8 @@ impl Number {
     fn past_bytes(self, bytes: &[u8]) -> Option<Number>
         ensures { MatchOption result
             ((w : Symbols) → status_on self.digits self.value (map byte_symbol bytes.now ++ w) ≡ None)
-            (λ number. (w : Symbols) → status_on self.digits self.value (map byte_symbol bytes.now ++ w) ≡ status_on number.digits number.value w) }
+            (λ number. (w : Symbols) → status_on self.digits self.value (map byte_symbol bytes.now ++ w)
+            ≡ status_on number.digits number.value w) }
     {
         let mut number = self;
         for byte in bytes {
@@ -61,7 +63,8 @@ impl Number {
     fn past_part(self, part: &Part) -> Option<Number>
         ensures { MatchOption result
             ((w : Symbols) → status_on self.digits self.value (symbols_of_part part.now ++ w) ≡ None)
-            (λ number. (w : Symbols) → status_on self.digits self.value (symbols_of_part part.now ++ w) ≡ status_on number.digits number.value w) }
+            (λ number. (w : Symbols) → status_on self.digits self.value (symbols_of_part part.now ++ w)
+            ≡ status_on number.digits number.value w) }
     {
         match part {
             Part::Lit(bytes) => self.past_bytes(bytes.as_slice()),
@@ -73,7 +76,8 @@ impl Number {
     fn past_parts(self, parts: &[Part]) -> Option<Number>
         ensures { MatchOption result
             (status_on self.digits self.value (symbols_of parts.now) ≡ None)
-            (λ number. status_on self.digits self.value (symbols_of parts.now) ≡ status_on number.digits number.value []) }
+            (λ number. status_on self.digits self.value (symbols_of parts.now)
+            ≡ status_on number.digits number.value []) }
     {
         let mut number = self;
         for part in parts {

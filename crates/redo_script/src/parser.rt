@@ -6,7 +6,9 @@ ghost use Rattle.redo_script.specs.Syntax.{Script as ScriptTree};
 ghost use Rattle.redo_script.specs.Tokens.{Token as Symbol};
 ghost use Rattle.redo_script.specs.inside.Passes.{IsOn, ParsesOn};
 ghost use Rattle.redo_script.specs.Faults.{Gives, Leaves, fault_at, no_memory};
-ghost use Rattle.redo_script.specs.Parsing.{with_command, with_condition, if_opened, at_else, at_fi, then_word, condition_word, first_word, a_word, a_redirect, a_separator, next_token, unless_open, end_by_phase, at_first, parse_on, statements_of};
+ghost use Rattle.redo_script.specs.Parsing.{with_command, with_condition, if_opened, at_else, at_fi, then_word};
+ghost use Rattle.redo_script.specs.Parsing.{condition_word, first_word, a_word, a_redirect, a_separator, next_token};
+ghost use Rattle.redo_script.specs.Parsing.{unless_open, end_by_phase, at_first, parse_on, statements_of};
 ghost use Rattle.redo_script.specs.View.{condition_of, script_of};
 ghost use Rattle.redo_script.specs.inside.Lexer.{token_of};
 ghost use Rattle.redo_script.specs.inside.Parser.{item_of, begun_of, open_of, parser_of};
@@ -296,7 +298,8 @@ impl<'a> Parser<'a> {
     /// Reads these tokens, up to the first that has a fault.
     fn tokens(&mut self, tokens: Vec<Token<'a>>) -> Result<(), ScriptFault>
         ensures { (ts : List Symbol) (total : Result ScriptTree ScriptFault) →
-            parse_on (parser_of self.old) (map token_of tokens.entry.items ++ ts) ≡ total → ParsesOn (parser_of self.new) result ts total }
+            parse_on (parser_of self.old) (map token_of tokens.entry.items ++ ts) ≡ total →
+            ParsesOn (parser_of self.new) result ts total }
     {
         for token in tokens {
             self.token(token)?;
@@ -319,7 +322,8 @@ impl<'a> Parser<'a> {
 
     /// The statements, where no `if` is open.
     fn script(mut self) -> Result<Script, ScriptFault>
-        ensures { Gives (λ s. script_of s.stmts.items) result (unless_open (parser_of self.entry).opens (parser_of self.entry).so_far) }
+        ensures { Gives (λ s. script_of s.stmts.items) result
+            (unless_open (parser_of self.entry).opens (parser_of self.entry).so_far) }
     {
         match self.opens.pop() {
             Some(open) => Parser::fault(open.line, Reason::IfShape),
@@ -334,7 +338,8 @@ impl<'a> Parser<'a> {
 
     /// Ends the script.
     fn finish(mut self) -> Result<Script, ScriptFault>
-        ensures { Gives (λ s. script_of s.stmts.items) result (end_by_phase (parser_of self.entry).phase (parser_of self.entry)) }
+        ensures { Gives (λ s. script_of s.stmts.items) result
+            (end_by_phase (parser_of self.entry).phase (parser_of self.entry)) }
     {
         match self.phase {
             Phase::AtCommand | Phase::BehindFi(_) => self.script(),

@@ -6,7 +6,8 @@ ghost use Rattle.redo_script.specs.declared.fault.Reason.TheVariants as reasons;
 ghost use Rattle.redo_script.specs.inside.Passes.{script_by_tokens};
 ghost use Rattle.redo_script.specs.Syntax.{Script as ScriptTree};
 ghost use Rattle.redo_script.specs.View.{script_of};
-ghost use Rattle.redo_script.specs.Texts.{IsScript, has_no_nul, same_bytes, first_line, nul_from, interpreter_is_fit, script_in};
+ghost use Rattle.redo_script.specs.Texts.{IsScript, has_no_nul, same_bytes, first_line, nul_from, interpreter_is_fit};
+ghost use Rattle.redo_script.specs.Texts.{script_in};
 ghost use Rattle.redo_script.specs.Refused.{IsRefused};
 
 use crate::ast::Script;

@@ -4,7 +4,8 @@ ghost use Rattle.std.specs.Prelude.{◌≡◌, ◌≤◌, IfSome, length, take, 
 ghost use Rattle.redo_script.specs.Reading.{Reader, read_on};
 ghost use Rattle.redo_script.specs.declared.lexer.Mode.TheVariants as modes;
 ghost use Rattle.redo_script.specs.Bytes.{is_blank};
-ghost use Rattle.redo_script.specs.inside.Runs.{is_special, is_quote, all_quotable, all_plain, all_digits, ends_plainly};
+ghost use Rattle.redo_script.specs.inside.Runs.{is_special, is_quote, all_quotable, all_plain, all_digits};
+ghost use Rattle.redo_script.specs.inside.Runs.{ends_plainly};
 ghost use Rattle.redo_script.specs.inside.Lexer.{with_quoted};
 
 use crate::bytes::is_plain_byte;

@@ -177,15 +177,18 @@ const TREES: &[(&[u8], &str)] = &[
     // `$12` is `$1` and then `2`, and no number, nor is a number in quotes.
     (
         b"echo $12>$3",
-        "[Simple(1, Write(Echo([Mixed([Bare(One), Lit([50])])]), Some(Redirection { appends: false, word: Mixed([Bare(Three)]) })))]",
+        "[Simple(1, Write(Echo([Mixed([Bare(One), Lit([50])])]), \
+          Some(Redirection { appends: false, word: Mixed([Bare(Three)]) })))]",
     ),
     (
         b"echo \"2\"> $3",
-        "[Simple(1, Write(Echo([Mixed([Lit([50])])]), Some(Redirection { appends: false, word: Mixed([Bare(Three)]) })))]",
+        "[Simple(1, Write(Echo([Mixed([Lit([50])])]), \
+          Some(Redirection { appends: false, word: Mixed([Bare(Three)]) })))]",
     ),
     (
         b"echo ''2>>'a b'",
-        "[Simple(1, Write(Echo([Mixed([Lit([50])])]), Some(Redirection { appends: true, word: Literal([97, 32, 98]) })))]",
+        "[Simple(1, Write(Echo([Mixed([Lit([50])])]), \
+          Some(Redirection { appends: true, word: Literal([97, 32, 98]) })))]",
     ),
     // Pieces of a word; a backslash in double quotes. Bytes that don't stand in the text as they are make a piece.
     (
@@ -203,7 +206,8 @@ const TREES: &[(&[u8], &str)] = &[
     ),
     (
         b"printf a b\ncat b >> c",
-        "[Simple(1, Write(Printf(Literal([97]), [Literal([98])]), None)), Simple(2, Write(Cat([Literal([98])]), Some(Redirection { appends: true, word: Literal([99]) })))]",
+        "[Simple(1, Write(Printf(Literal([97]), [Literal([98])]), None)), \
+          Simple(2, Write(Cat([Literal([98])]), Some(Redirection { appends: true, word: Literal([99]) })))]",
     ),
     (
         b"redo-ifchange a\nredo-ifcreate",
@@ -212,7 +216,8 @@ const TREES: &[(&[u8], &str)] = &[
     // With three operands of `test` the middle one is the operator; quotes may stand in it.
     (
         b"test -f = x\ntest -''f x\ntest a '!=' b",
-        "[Simple(1, Test(Equal(Literal([45, 102]), Literal([120])))), Simple(2, Test(IsFile(Literal([120])))), Simple(3, Test(Differ(Literal([97]), Literal([98]))))]",
+        "[Simple(1, Test(Equal(Literal([45, 102]), Literal([120])))), Simple(2, Test(IsFile(Literal([120])))), \
+          Simple(3, Test(Differ(Literal([97]), Literal([98]))))]",
     ),
     // Where newlines may stand in an `if`.
     (

@@ -50,7 +50,8 @@ impl<'a> Lines<'a> {
     pub fn write<W: ByteOut>(&mut self, missing: &'a Missing, out: &mut W) -> Result<(), Broken>
         requires { W.has_failed out.old ≡ false }
         ensures front { self.new.0 ≡ self.old.0 }
-        ensures writes { Writes (W.held out.old) (W.held out.new) result (flat_map (λ path. self.old.0 ++ path ++ 10 ∷ []) missing.now) }
+        ensures writes { Writes (W.held out.old) (W.held out.new) result
+            (flat_map (λ path. self.old.0 ++ path ++ 10 ∷ []) missing.now) }
         ensures failed { W.has_failed out.new ≡ is_err result }
     {
         let Some((first, rest)) = missing.split_first() else {

@@ -58,7 +58,8 @@ fn candidates_stand_in_the_order_of_the_search(rt: HostRuntime) -> Result<(), Fa
         ("x", "x.do::0 default.do::0 "),
         (
             "a/x.y.c",
-            "a/x.y.c.do:a:0 a/default.y.c.do:a:4 a/default.c.do:a:2 a/default.do:a:0 default.y.c.do::4 default.c.do::2 default.do::0 ",
+            "a/x.y.c.do:a:0 a/default.y.c.do:a:4 a/default.c.do:a:2 a/default.do:a:0 \
+             default.y.c.do::4 default.c.do::2 default.do::0 ",
         ),
         ("x.", "x..do::0 default..do::1 default.do::0 "),
         (
@@ -209,7 +210,8 @@ fn arguments_are_read_from_the_directory_of_the_script(rt: HostRuntime) -> Resul
     for (word, meant) in [
         (
             "a/x.y.c",
-            "rule default.c.do::a/x.y.c:a/x.y:a/x.y.c.redo.tmp: a/x.y.c.do a/default.y.c.do a/default.c.do a/default.do default.y.c.do ",
+            "rule default.c.do::a/x.y.c:a/x.y:a/x.y.c.redo.tmp: \
+             a/x.y.c.do a/default.y.c.do a/default.c.do a/default.do default.y.c.do ",
         ),
         (
             "d/q.x",

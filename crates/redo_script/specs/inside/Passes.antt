@@ -13,13 +13,14 @@ use Rattle.redo_script.specs.inside.Parser.{parser_of}
 abbrev pub IsOn : Statements → List Token → Result Script ScriptFault → Type 0
 IsOn s ts total = elim s.fault [ None ↦ parse_on (parser_of s.parser) ts ≡ total | Some e ↦ total ≡ Err e ]
 
--- After part of the tokens the parser goes on with the others, and gives what all of them give, unless memory ran out or the
--- part has the fault.
+-- After part of the tokens the parser goes on with the others, and gives what all of them give, unless memory ran out
+-- or the part has the fault.
 abbrev pub ParsesOn : {U : Type 0} → Parser → Result U ScriptFault → List Token → Result Script ScriptFault → Type 0
 ParsesOn p (Ok u) ts total = parse_on p ts ≡ total
 ParsesOn p (Err e) ts total = Fails e total
 
--- With what is read of the text to come, reading it gives this whole: a fault of the tokens goes before one of the commands.
+-- With what is read of the text to come, reading it gives this whole: a fault of the tokens goes before one of the
+-- commands.
 abbrev pub Follows : Statements → Result (List Token) ScriptFault → Result Script ScriptFault → Type 0
 Follows s (Ok ts) total = IsOn s ts total
 Follows s (Err e) total = total ≡ Err e

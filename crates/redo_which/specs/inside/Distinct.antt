@@ -20,4 +20,6 @@ above (dir ∷ dirs) = dirs
 -- the candidates of a name in a directory, each once
 abbrev pub distinct_places : List ℕ → List ℕ → List Place
 distinct_places dir name =
-    place_at dir 0 (name ++ codes ".do") ++ defaults_by (without_whole name (suffixes name)) dir ++ flat_map (defaults_in name) (above (upward dir))
+    place_at dir 0 (name ++ codes ".do")
+    ++ defaults_by (without_whole name (suffixes name)) dir
+    ++ flat_map (defaults_in name) (above (upward dir))
