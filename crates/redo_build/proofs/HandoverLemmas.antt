@@ -91,10 +91,11 @@ module _ (r : Rules) (lawful : AreLawful r) (p : List ℕ) (turn : ℕ) where
           ]
 
   -- a piece that ended is a fact
-  pub piece-fact : (deps : List Dep) (o : Outcome) → IsPiece r p turn (record { outcome = Some o; deps = deps }) → IsFact r p o deps
+  pub piece-fact : (deps : List Dep) (o : Outcome) (piece : IsPiece r p turn (record { outcome = Some o; deps = deps })) →
+      IsFact r p o deps (r.recorded p (outcome_at r piece.depth)) (r.begins p (outcome_at r piece.depth))
   piece-fact deps o piece =
       let ended : (progress_at_turn r p (outcome_at r piece.depth) turn).outcome ≡ Some o = ap (λ (x : Progress). x.outcome) (sym piece.is) in
       let stays = ended_stays r lawful p (only (operands r (deps_at_turn r p (outcome_at r piece.depth) turn)) (outcome_at r piece.depth))
       (outcome_at r piece.depth) o
       (only-Extends r (operands r (deps_at_turn r p (outcome_at r piece.depth) turn)) (outcome_at r piece.depth) (outcome_at r piece.depth) (λ x v t h. h)) ended in
-      record { depth = piece.depth; is = sym stays ∙ sym piece.is }
+      record { depth = piece.depth; is = sym stays ∙ sym piece.is; recorded = refl; begun = refl }

@@ -4,8 +4,8 @@ use Rattle.std.proofs.lemmas.Bool.{cases_Bool, cases_lt}
 use Rattle.redo_record.specs.Paths.{is_among, IsAmong}
 use Rattle.redo_record.specs.Progress.{Progress}
 use Rattle.redo_build.specs.Rules.{Ask, Rules, AreLawful, Extends, operands, asked_under}
-use Rattle.redo_build.specs.Outcomes.{outcome_at, asked_at, needed_at, record_of, IsTooMany}
-use Rattle.redo_build.specs.Schedule.{Entry, State, paths_of, entry_of, outcomes_of, only, IsQuiet}
+use Rattle.redo_build.specs.Outcomes.{outcome_at, asked_at, needed_at, declared_of, IsTooMany}
+use Rattle.redo_build.specs.Schedule.{Entry, State, paths_of, entry_of, outcome_of, outcomes_of, only, IsQuiet}
 use Rattle.redo_build.specs.Theorems.{IsPartOfBuild, ShowsBuild}
 use Rattle.redo_build.specs.inside.Turns.{deps_at_turn, CameTo}
 use Rattle.redo_build.proofs.PathLemmas.{within-length, is_among-true}
@@ -78,16 +78,16 @@ module _ (r : Rules) (lawful : AreLawful r) (request : List (List ℕ)) where
         (n : ℕ) × (outcome_at r n p ≡ Some o)
     decided-somewhere p e o at done = (decided_count s.entries, (decided-at p e o at done (decided_count s.entries) (omega arith)).0)
 
-    pub decided-recorded : length s.entries ≤ limit → (p : List ℕ) (e : Entry) (o : Outcome) → entry_of s.entries p ≡ Some e → e.outcome ≡ Some o →
-        (outcome_at r limit p ≡ Some o) × (e.deps ≡ record_of r limit p)
-    decided-recorded few p e o at done =
+    pub decided-declared : length s.entries ≤ limit → (p : List ℕ) (e : Entry) (o : Outcome) → entry_of s.entries p ≡ Some e → e.outcome ≡ Some o →
+        (outcome_at r limit p ≡ Some o) × (e.deps ≡ declared_of r limit p)
+    decided-declared few p e o at done =
         let here = decided-at p e o at done limit (omega (arith, decided_count-length s.entries, paths-length s.entries)) in
         (here.0, sym (ap (λ (x : Progress). x.deps) here.1))
 
     pub is_part : IsPartOfBuild r request limit s
     is_part = record {
       decided = decided-somewhere;
-      recorded = decided-recorded;
+      declared = decided-declared;
       needed = sound.standing.needed;
       too_many = λ many. too_many (omega (arith, paths-length s.entries, many));
     }
@@ -204,28 +204,40 @@ module _ (r : Rules) (lawful : AreLawful r) (request : List (List ℕ)) where
               ]
               | inr done ↦
                   let out : at.0.outcome ≡ Some done.0 = sym (outcomes_of-at s.entries p at.0 at.1) ∙ done.1 in
-                  done.1 ∙ sym (decided-recorded few p at.0 done.0 at.1 out).0
+                  done.1 ∙ sym (decided-declared few p at.0 done.0 at.1 out).0
             ]
 
-        records-same : (p : List ℕ) (e : Entry) → entry_of s.entries p ≡ Some e → e.deps ≡ record_of r limit p
+        declared-same : (p : List ℕ) (e : Entry) → entry_of s.entries p ≡ Some e → e.deps ≡ declared_of r limit p
         unfolding on_entries
-        records-same p e at = elim (cases_Option e.outcome) [
+        declared-same p e at = elim (cases_Option e.outcome) [
           | inl open' ↦
               let same = same-on_entries limit (none-beyond limit) p e at open' in
               let alike = (lawful.each p).local (on_entries limit) (outcomes_of s.entries) (λ q m.
               let here = same.2 q m in
               only-same q here ∙ sym (outcomes-same q here)) in
               sym (waiting-stays p e at open').0 ∙ ap (λ (x : Progress). x.deps) (sym alike ∙ same.1)
-          | inr done ↦ (decided-recorded few p e done.0 at done.1).1
+          | inr done ↦ (decided-declared few p e done.0 at done.1).1
         ]
           where
             only-same : (q : List ℕ) → IsAmong (paths_of s.entries) q → on_entries limit q ≡ outcome_at r limit q
             only-same q m = only-among (paths_of s.entries) (outcome_at r limit) q m
+
+        -- each is told the same as in the build of what it asks for
+        asked-same : (p : List ℕ) → IsAmong (paths_of s.entries) p → (q : List ℕ) → IsAmong (asked_under r p (outcomes_of s.entries)) q →
+            outcomes_of s.entries q ≡ outcome_at r limit q
+        asked-same p m q asks =
+            let more : Extends r (outcomes_of s.entries) (outcome_at r limit) = λ x o t h. elim (cases_Option (entry_of s.entries x)) [
+              | inl none ↦ absurd (let bad : None ≡ Some o = sym (ap outcome_of none) ∙ h in cc)
+              | inr some ↦ sym (outcomes-same x (entry_of-among s.entries x some.0 some.1)) ∙ h
+            ] in
+            outcomes-same q (asks-inside limit p q m ((lawful.each p).grows q (outcomes_of s.entries) (outcome_at r limit) more asks))
 
         pub shows : ShowsBuild r request limit s
         shows = record {
           members = λ p. (entries-within needed-few p, needed-inside limit p);
           within = needed-few;
           outcomes = outcomes-same;
-          records = records-same;
+          declared = declared-same;
+          records = λ p m. lawful.recorded_local p (outcomes_of s.entries) (outcome_at r limit) (asked-same p m);
+          begun = λ p m. lawful.begins_local p (outcomes_of s.entries) (outcome_at r limit) (asked-same p m);
         }

@@ -37,9 +37,13 @@ IsTooMany r request limit = limit < length (needed_at r request limit)
 abbrev pub final_outcome : Rules → ℕ → List ℕ → Outcome
 final_outcome r limit p = unwrap_or (outcome_at r limit p) Cyclic
 
+-- all that a target asked for
+abbrev pub declared_of : Rules → ℕ → List ℕ → List Dep
+declared_of r limit p = (r.progress p (outcome_at r limit)).deps
+
 -- the record of a target
 abbrev pub record_of : Rules → ℕ → List ℕ → List Dep
-record_of r limit p = (r.progress p (outcome_at r limit)).deps
+record_of r limit p = r.recorded p (outcome_at r limit)
 
 -- from the limit on no depth makes a difference to the needed targets
 pub record IsSettled (r : Rules) (request : List (List ℕ)) (limit : ℕ) : Type 0 where

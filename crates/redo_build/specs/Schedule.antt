@@ -8,8 +8,8 @@ use Rattle.redo_build.specs.Outcomes.{requested_targets}
 use Rattle.redo_record.specs.declared.deps.Dep.{Dep}
 use Rattle.redo_record.specs.declared.outcome.Outcome.{Outcome}
 
--- a target that was seen: how often its script stopped, its record so far, its outcome once it is decided, and
--- whether its job is out
+-- a target that was seen: how often its script stopped, all that it asked for so far, its outcome once it is decided,
+-- and whether its job is out
 pub record Entry : Type 0 where
   pub path : List ℕ
   pub turn : ℕ

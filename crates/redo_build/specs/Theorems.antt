@@ -2,7 +2,7 @@
 use Rattle.std.specs.Prelude.{◌≡◌, ℕ, ◌<◌, ◌≤◌, ◌↔◌, List, Some, length}
 use Rattle.redo_record.specs.Paths.{IsAmong}
 use Rattle.redo_build.specs.Rules.{Rules}
-use Rattle.redo_build.specs.Outcomes.{outcome_at, needed_at, record_of, IsTooMany}
+use Rattle.redo_build.specs.Outcomes.{outcome_at, needed_at, declared_of, record_of, IsTooMany}
 use Rattle.redo_build.specs.Schedule.{Entry, State, paths_of, entry_of, outcomes_of}
 use Rattle.redo_record.specs.declared.outcome.Outcome.{Outcome}
 
@@ -11,9 +11,9 @@ pub record IsPartOfBuild (r : Rules) (request : List (List ℕ)) (limit : ℕ) (
   -- what is decided is so at some depth of the build
   pub decided : (p : List ℕ) (e : Entry) (o : Outcome) → entry_of s.entries p ≡ Some e → e.outcome ≡ Some o →
       (n : ℕ) × (outcome_at r n p ≡ Some o)
-  -- within the limit it is so at the limit, with its record
-  pub recorded : length s.entries ≤ limit → (p : List ℕ) (e : Entry) (o : Outcome) → entry_of s.entries p ≡ Some e → e.outcome ≡ Some o →
-      (outcome_at r limit p ≡ Some o) × (e.deps ≡ record_of r limit p)
+  -- within the limit it is so at the limit, with all that it asked for
+  pub declared : length s.entries ≤ limit → (p : List ℕ) (e : Entry) (o : Outcome) → entry_of s.entries p ≡ Some e → e.outcome ≡ Some o →
+      (outcome_at r limit p ≡ Some o) × (e.deps ≡ declared_of r limit p)
   -- nothing is entered that isn't needed
   pub needed : (p : List ℕ) → IsAmong (paths_of s.entries) p → (n : ℕ) × IsAmong (needed_at r request n) p
   -- the limit is passed only where the build needs too many
@@ -24,4 +24,11 @@ pub record ShowsBuild (r : Rules) (request : List (List ℕ)) (limit : ℕ) (s :
   pub members : (p : List ℕ) → IsAmong (paths_of s.entries) p ↔ IsAmong (needed_at r request limit) p
   pub within : length (needed_at r request limit) ≤ limit
   pub outcomes : (p : List ℕ) → IsAmong (paths_of s.entries) p → outcomes_of s.entries p ≡ outcome_at r limit p
-  pub records : (p : List ℕ) (e : Entry) → entry_of s.entries p ≡ Some e → e.deps ≡ record_of r limit p
+  -- each asked for what it asks for in the build
+  pub declared : (p : List ℕ) (e : Entry) → entry_of s.entries p ≡ Some e → e.deps ≡ declared_of r limit p
+  -- under all that is decided each has its record
+  pub records : (p : List ℕ) → IsAmong (paths_of s.entries) p →
+      r.recorded p (outcomes_of s.entries) ≡ record_of r limit p
+  -- and is begun where it is so in the build
+  pub begun : (p : List ℕ) → IsAmong (paths_of s.entries) p →
+      r.begins p (outcomes_of s.entries) ≡ r.begins p (outcome_at r limit)

@@ -16,7 +16,8 @@ decided_count (e ∷ es) = (if is_some e.outcome then 1 else 0) + decided_count 
 abbrev pub IsNeeded : Rules → List (List ℕ) → List ℕ → Type 0
 IsNeeded r request p = (n : ℕ) × IsAmong (needed_at r request n) p
 
--- how a decided entry stands: a depth below the number of those decided gives its outcome and record
+-- how a decided entry stands: a depth below the number of those decided gives its outcome and all that it
+-- asked for
 abbrev pub IsDecidedAs : Rules → List Entry → Entry → Outcome → Type 0
 IsDecidedAs r es e o =
     (n : ℕ) × (n < decided_count es) × (r.progress e.path (outcome_at r n) ≡ record { outcome = Some o; deps = e.deps })
