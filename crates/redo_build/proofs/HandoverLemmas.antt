@@ -1,5 +1,5 @@
 -- What a job that is taken may rely on, and that the piece that comes back is what the schedule says.
-use Rattle.std.proofs.Common.{◌≡◌, ℕ, max, inl, inr, List, Some, None, refl, sym, ap, subst, ◌∙◌, arith}
+use Rattle.std.proofs.Common.{◌≡◌, ℕ, ◌&&◌, max, inl, inr, List, Some, None, refl, sym, ap, subst, ◌∙◌, arith}
 use Rattle.redo_record.specs.Paths.{IsAmong, is_among}
 use Rattle.std.proofs.lemmas.Bool.{cases_Bool}
 use Rattle.redo_build.proofs.PathLemmas.{is_among-true}
@@ -92,7 +92,7 @@ module _ (r : Rules) (lawful : AreLawful r) (p : List ℕ) (turn : ℕ) where
 
   -- a piece that ended is a fact
   pub piece-fact : (deps : List Dep) (o : Outcome) (piece : IsPiece r p turn (record { outcome = Some o; deps = deps })) →
-      IsFact r p o deps (r.recorded p (outcome_at r piece.depth)) (r.begins p (outcome_at r piece.depth))
+      IsFact r p o deps (r.recorded p (outcome_at r piece.depth)) (r.has_rule p && r.begins p (outcome_at r piece.depth))
   piece-fact deps o piece =
       let ended : (progress_at_turn r p (outcome_at r piece.depth) turn).outcome ≡ Some o = ap (λ (x : Progress). x.outcome) (sym piece.is) in
       let stays = ended_stays r lawful p (only (operands r (deps_at_turn r p (outcome_at r piece.depth) turn)) (outcome_at r piece.depth))

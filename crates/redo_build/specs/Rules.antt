@@ -17,9 +17,9 @@ pub record Rules : Type 0 where
   pub has_rule : List ℕ → Bool
   -- a target that is no source, under an ask: `deps` is all that it asked for
   pub progress : List ℕ → Ask → Progress
-  -- whether its script is begun
+  -- whether the script of one with a rule is begun, under an ask
   pub begins : List ℕ → Ask → Bool
-  -- what it records
+  -- its record, under an ask
   pub recorded : List ℕ → Ask → List Dep
 
 -- the paths that these entries wait for
@@ -44,7 +44,7 @@ pub record AreLawful (r : Rules) : Type 0 where
   -- whether it is begun follows the answers to what it asks for
   pub begins_local : (p : List ℕ) (a b : Ask) →
       ((q : List ℕ) → IsAmong (asked_under r p a) q → a q ≡ b q) → r.begins p a ≡ r.begins p b
-  -- what it records follows them too
+  -- its record follows them too
   pub recorded_local : (p : List ℕ) (a b : Ask) →
       ((q : List ℕ) → IsAmong (asked_under r p a) q → a q ≡ b q) → r.recorded p a ≡ r.recorded p b
   -- once it is begun it stays so with more answers

@@ -97,8 +97,16 @@ module _ (tree : Tree) (limits : LimitsView) (job : JobView) (facts : Facts) (wo
       record { depth = work.is_work.depth; came = work.is_work.came; fed = subst Q work.is_work.is work.is_work.fed; is = work-progress now e ∙ at-turn }
 
   -- a script that ended gives a fact
-  pub advanced-fact : (done : Done) → EndsAs (told_in facts) job done → IsFact (rules_of tree limits) job.target done.outcome done.deps
-  advanced-fact done ends = piece-fact r (rules_lawful tree limits) job.target job.turn done.deps done.outcome (advanced-piece (record { outcome = Some done.outcome; deps = done.deps }) ends)
+  pub advanced-fact : (done : Done) → EndsAs (told_in facts) job done → IsFact (rules_of tree limits) job.target done.outcome done.deps done.deps true
+  advanced-fact done ends =
+      let piece = advanced-piece (record { outcome = Some done.outcome; deps = done.deps }) ends in
+      let fact = piece-fact r (rules_lawful tree limits) job.target job.turn done.deps done.outcome piece in
+      record {
+        depth = fact.depth;
+        is = fact.is;
+        recorded = ap (λ (x : Progress). x.deps) (sym fact.is);
+        begun = rw work.is_job.found refl;
+      }
 
   module _ (later : JobView) (paths : List (List ℕ)) (asks : AsksFor (told_in facts) job later paths) where
     still_job : IsJobOf tree limits later
@@ -168,11 +176,11 @@ module _ (tree : Tree) (limits : LimitsView) (job : JobView) (facts : Facts) (wo
 
   -- the same, of a fact that is still to be made
   pub fact-parts : (done : Done) → EndsAs (told_in facts) job done → (own : Tree) (path : List ℕ) (deps : List Dep) → own ≡ tree → path ≡ job.target → deps ≡ done.deps →
-      IsFact (rules_of own limits) path done.outcome deps
+      IsFact (rules_of own limits) path done.outcome deps deps true
   fact-parts done ends own path deps of_tree of_target of_deps =
-      let P : Tree → Type 0 = λ x. IsFact (rules_of x limits) path done.outcome deps in
-      let Q : List ℕ → Type 0 = λ x. IsFact (rules_of tree limits) x done.outcome deps in
-      let R : List Dep → Type 0 = λ x. IsFact (rules_of tree limits) job.target done.outcome x in
+      let P : Tree → Type 0 = λ x. IsFact (rules_of x limits) path done.outcome deps deps true in
+      let Q : List ℕ → Type 0 = λ x. IsFact (rules_of tree limits) x done.outcome deps deps true in
+      let R : List Dep → Type 0 = λ x. IsFact (rules_of tree limits) job.target done.outcome x x true in
       subst P (sym of_tree) (subst Q (sym of_target) (subst R (sym of_deps) (advanced-fact done ends)))
 
   -- what the piece says has an outcome exactly where the work lacks nothing

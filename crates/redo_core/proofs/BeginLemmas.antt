@@ -15,25 +15,25 @@ use Rattle.redo_which.specs.declared.Rule.{Rule as FoundRule}
 use Rattle.redo_which.specs.Rule.{Rule, found_of}
 use Rattle.redo_which.specs.Views.{arguments_view}
 use Rattle.redo_record.specs.Paths.{IsAmong}
-use Rattle.redo_build.specs.Rules.{Rules, AreLawful}
+use Rattle.redo_record.specs.Progress.{Progress}
 use Rattle.redo_build.specs.Outcomes.{outcome_at}
 use Rattle.redo_build.specs.Schedule.{nothing_known}
 use Rattle.redo_build.specs.inside.Turns.{IsFact}
+use Rattle.redo_core.specs.Build.{rules_of}
 use Rattle.redo_core.specs.Views.{told_by}
 use Rattle.redo_core.specs.inside.Works.{known_in, IsWorkWith}
 use Rattle.redo_core.specs.declared.facts.Facts.{Facts}
+use Rattle.redo_core.proofs.LawfulTreeLemmas.{rules_lawful}
 use Rattle.redo_step.specs.Limits.{LimitsView}
 
 -- without a rule no answer makes a difference
-pub unruled-fact : (r : Rules) (lawful : AreLawful r) (p : List ℕ) (o : Outcome) (deps : List Dep) → r.has_rule p ≡ false →
-    r.progress p nothing_known ≡ record { outcome = Some o; deps = deps } → IsFact r p o deps
-unruled-fact r lawful p o deps none is = record {
-  depth = 0;
-  is =
-      let same = (lawful.each p).local nothing_known (outcome_at r 0) (λ q m.
-      (let P : List (List ℕ) → Type 0 = λ xs. IsAmong xs q in absurd (subst P (lawful.unruled p nothing_known none).0 m))) in
-      sym same ∙ is;
-}
+pub unruled-fact : (tree : Tree) (limits : LimitsView) (p : List ℕ) (o : Outcome) (deps : List Dep) → (rules_of tree limits).has_rule p ≡ false →
+    (rules_of tree limits).progress p nothing_known ≡ record { outcome = Some o; deps = deps } → IsFact (rules_of tree limits) p o deps deps false
+unruled-fact tree limits p o deps none is =
+    let lawful = rules_lawful tree limits in
+    let same = (lawful.each p).local nothing_known (outcome_at (rules_of tree limits) 0) (λ q m.
+    (let P : List (List ℕ) → Type 0 = λ xs. IsAmong xs q in absurd (subst P (lawful.unruled p nothing_known none).0 m))) in
+    record { depth = 0; is = sym same ∙ is; recorded = ap (λ (x : Progress). x.deps) (sym is ∙ same); begun = rw none refl }
 
 -- a job that was just begun is a work with no facts
 pub begun-work : (tree : Tree) (limits : LimitsView) (target : List ℕ) (rule : FoundRule) (parsed : Parsed) (facts : Facts) →

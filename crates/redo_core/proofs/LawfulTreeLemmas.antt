@@ -1,12 +1,12 @@
 -- The rules of a source tree are lawful.
-use Rattle.std.proofs.Common.{◌≡◌, ℕ, Bool, true, false, find, inl, inr, List, [], ◌∷◌, Option, Some, None, refl}
+use Rattle.std.proofs.Common.{◌≡◌, ℕ, Bool, true, false, find, inl, inr, List, [], ◌∷◌, Option, Some, None, refl, ap}
 use Rattle.std.specs.Prelude.{unwrap_or, option_and_then}
 use Rattle.std.proofs.lemmas.Bool.{cases_Bool}
 use Rattle.redo_script.specs.Texts.{script_in}
 use Rattle.redo_record.specs.declared.deps.DepKind.TheVariants.{Create}
 use Rattle.redo_record.specs.declared.outcome.Outcome.TheVariants.{Failed, Source as Is_source}
 use Rattle.redo_record.specs.declared.outcome.Why.TheVariants as why
-use Rattle.redo_record.specs.Progress.{IsLawful}
+use Rattle.redo_record.specs.Progress.{IsLawful, Progress}
 use Rattle.redo_record.proofs.Public.{ended_is_lawful, missing_enters, sources_alone}
 use Rattle.redo_step.proofs.Public.{progress_is_lawful}
 use Rattle.redo_record.specs.Entries.{with_entries}
@@ -42,7 +42,14 @@ found-unruled w target (NoRule missing) ask h = (missing-asks w missing, λ e. c
 found-unruled w target (Rule do_file missing a) ask h = absurd cc
 
 pub world-lawful : (w : World) → IsWorld w → AreLawful (rules_in w)
-world-lawful w fits = record { each = λ p. found-lawful w p (w.found p) (fits.fit p); unruled = λ p a h. found-unruled w p (w.found p) a h }
+world-lawful w fits = record {
+  each = λ p. found-lawful w p (w.found p) (fits.fit p);
+  unruled = λ p a h. found-unruled w p (w.found p) a h;
+  begins_local = λ p a b same. refl;
+  recorded_local = λ p a b same. ap (λ (x : Progress). x.deps) ((found-lawful w p (w.found p) (fits.fit p)).local a b same);
+  begins_stays = λ p a b more begun. begun;
+  begins_waits = λ p q a b more asked none. refl;
+}
 
 -- The search finds files
 

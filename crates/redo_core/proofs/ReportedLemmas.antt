@@ -125,7 +125,7 @@ module _ (tree : Tree) (limits : LimitsView) (request : List (List ℕ)) (t : Ta
       (entry_of-slots r (outcome_at r limits.targets) t.targets.keys t.slots.items is.at row.path is.slot distinct is.path is.there) in
       let among : IsAmong (paths_of s.entries) row.path = let Q : List (List ℕ) → Type 0 = λ ps. IsAmong ps row.path in subst Q (sym keys) key in
       let outcome : stage_outcome is.slot.stage ≡ outcome_at r limits.targets row.path = sym (ap outcome_of found) ∙ shows.outcomes row.path among in
-      let deps : stage_deps r (outcome_at r limits.targets) row.path is.slot.turn is.slot.stage ≡ record_of r limits.targets row.path = shows.records row.path (slot_entry r (outcome_at r limits.targets) row.path is.slot) found in
+      let deps : stage_deps r (outcome_at r limits.targets) row.path is.slot.turn is.slot.stage ≡ record_of r limits.targets row.path = shows.declared row.path (slot_entry r (outcome_at r limits.targets) row.path is.slot) found in
       let shown = stage-shown r (outcomes_of es) tree limits row.path (path_at t.targets.keys is.at) is.slot.turn is.slot.stage row.outcome (arc_value row.deps) (fits is.at is.slot is.there) is.shown (outcome_at r limits.targets) in
       let source : is_some (file_at tree row.path) ≡ false = targets row.path key in
       (shown.0 ∙ ap (λ (o : Option Outcome). unwrap_or o Cyclic) outcome, shown.1 ∙ deps ∙ sym (rw source refl))
@@ -211,7 +211,7 @@ module _ (tree : Tree) (limits : LimitsView) (request : List (List ℕ)) (t : Ta
                 let here = subst G made.begun m in
                 let rule = filter-passes (λ q. is_rule (found_of tree q)) (row_paths report) p here in
                 elim (row-cases p (filter-from (λ q. is_rule (found_of tree q)) (row_paths report) p here)) [
-                  | inl key ↦ (key-needed p key, rule)
+                  | inl key ↦ (key-needed p key, rule, refl)
                   | inr source ↦ absurd (source-unruled tree p rule source.1)
                 ],
             λ m.

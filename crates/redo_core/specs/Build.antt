@@ -46,6 +46,9 @@ rules_in w = record {
   is_source = λ p. is_some (file_at w.tree p);
   has_rule = λ p. is_rule (w.found p);
   progress = λ target ask. progress_by w target (w.found target) ask;
+  -- each script is begun, and all that it asked for is its record
+  begins = λ target ask. true;
+  recorded = λ target ask. (progress_by w target (w.found target) ask).deps;
 }
 
 -- the search in a tree, and the limit of a file's bytes, which is the second of the limits

@@ -1,5 +1,5 @@
 -- What contracts see of facts, works, pieces and boards.
-use Rattle.std.specs.Prelude.{◌≡◌, ℕ, List, length, Option, Some, None, IsNone, slice_get, is_some, if◌then◌else◌, bytes_eq}
+use Rattle.std.specs.Prelude.{◌≡◌, ℕ, Bool, List, length, Option, Some, None, IsNone, slice_get, is_some, if◌then◌else◌, bytes_eq}
 use Rattle.std.specs.Map.{lookup}
 use Rattle.redo_record.specs.Progress.{Progress}
 use Rattle.redo_build.specs.Rules.{Ask, Rules, operands}
@@ -11,13 +11,14 @@ use Rattle.redo_record.specs.declared.outcome.Outcome.{Outcome}
 use Rattle.redo_core.specs.declared.board.Stop.{Stop}
 use Rattle.redo_step.specs.Limits.{LimitsView}
 
--- a decided target of a build
+-- a decided target of a build with its outcome, its record and whether its script was begun
 pub record FactView : Type 0 where
   pub tree : Tree
   pub limits : LimitsView
   pub target : List ℕ
   pub outcome : Outcome
   pub deps : List Dep
+  pub begun : Bool
 
 -- a job with what it knows
 pub record WorkView : Type 0 where

@@ -11,7 +11,8 @@ use redo_tree::Tree;
 use std::marker::Model;
 use std::sync::Arc;
 
-/// A decided target with its outcome and record. It is always the truth for its tree and limits.
+/// A decided target with its outcome, its record and whether its script was begun. It is always the truth for its tree and
+/// limits.
 #[derive(Drop)]
 pub struct Fact {
     tree: Arc<Tree>,
@@ -19,7 +20,7 @@ pub struct Fact {
     target: Path,
     outcome: Outcome,
     deps: Arc<Record>,
-    ruled: bool,
+    begun: bool,
 }
 
 impl Model for Fact {
@@ -32,12 +33,9 @@ impl Model for Fact {
     ghost use Rattle.redo_build.specs.inside.Turns.{IsFact};
     ghost use Rattle.redo_core.specs.Build.{rules_of};
 
-    ghost view = { λ f. record { tree = arc_value f.tree; limits = f.limits; target = f.target; outcome = f.outcome; deps = arc_value f.deps } };
+    ghost view = { λ f. record { tree = arc_value f.tree; limits = f.limits; target = f.target; outcome = f.outcome; deps = arc_value f.deps; begun = f.begun } };
 
-    ghost invariant = { λ f. record {
-      is_fact : IsFact (rules_of (arc_value f.tree) f.limits) f.target f.outcome (arc_value f.deps);
-      is_ruled : f.ruled ≡ (rules_of (arc_value f.tree) f.limits).has_rule f.target;
-    } };
+    ghost invariant = { λ f. IsFact (rules_of (arc_value f.tree) f.limits) f.target f.outcome (arc_value f.deps) (arc_value f.deps) f.begun };
 }
 
 impl Fact {
@@ -48,11 +46,10 @@ impl Fact {
         target: Path,
         outcome: Outcome,
         deps: Arc<Record>,
-        ruled: bool,
+        begun: bool,
     ) -> Fact
-        requires fact { IsFact (rules_of (arc_value tree) limits) target outcome (arc_value deps) }
-        requires ruled { ruled ≡ (rules_of (arc_value tree) limits).has_rule target }
-        ensures { result ≡ record { tree = arc_value tree; limits = limits; target = target; outcome = outcome; deps = arc_value deps } }
+        requires fact { IsFact (rules_of (arc_value tree) limits) target outcome (arc_value deps) (arc_value deps) begun }
+        ensures { result ≡ record { tree = arc_value tree; limits = limits; target = target; outcome = outcome; deps = arc_value deps; begun = begun } }
     {
         Fact {
             tree,
@@ -60,7 +57,7 @@ impl Fact {
             target,
             outcome,
             deps,
-            ruled,
+            begun,
         }
     }
 
@@ -85,10 +82,11 @@ impl Fact {
         &self.deps
     }
 
-    /// Whether there is a rule for it, and so a script that was begun.
-    pub fn is_ruled(&self) -> bool
-        ensures { result ≡ (rules_of self.now.tree self.now.limits).has_rule self.now.target }
+    /// Whether its script was begun.
+    pub fn was_begun(&self) -> bool
+        ensures begun { result ≡ self.now.begun }
+        ensures ruled { result ≡ (rules_of self.now.tree self.now.limits).has_rule self.now.target }
     {
-        self.ruled
+        self.begun
     }
 }

@@ -145,7 +145,7 @@ fn was_begun(stage: &Stage) -> bool
     ensures { IsBegunAs stage.now result }
 {
     match stage {
-        Stage::Decided(fact) => fact.is_ruled(),
+        Stage::Decided(fact) => fact.was_begun(),
         Stage::Waiting(_) => true,
         Stage::Ready(_) | Stage::Out => unreachable!(),
     }

@@ -6,7 +6,7 @@ use Rattle.std.specs.declared.cmp.Ordering.TheVariants.{Less}
 use Rattle.std.specs.Arc.{arc_value}
 use Rattle.redo_record.specs.Paths.{IsAmong}
 use Rattle.redo_build.specs.Rules.{Rules}
-use Rattle.redo_build.specs.Outcomes.{needed_at, final_outcome, record_of}
+use Rattle.redo_build.specs.Outcomes.{outcome_at, needed_at, final_outcome, record_of}
 use Rattle.redo_report.specs.declared.report.Report.{Report}
 use Rattle.redo_record.specs.declared.deps.Dep.{Dep}
 use Rattle.redo_record.specs.declared.outcome.Outcome.TheVariants.{Built}
@@ -32,7 +32,8 @@ pub record IsReport (r : Rules) (request : List (List ℕ)) (limit : ℕ) (repor
   pub outcomes : All (λ row. (row.outcome ≡ final_outcome r limit row.path) × (arc_value row.deps ≡ deps_of r limit row.path)) report.rows.items
   pub files : (p bytes : List ℕ) → Contains report.files.items (p, bytes) ↔
       (IsAmong (needed_at r request limit) p × (final_outcome r limit p ≡ Built (Some bytes)))
-  pub begun : (p : List ℕ) → IsAmong report.begun.items p ↔ (IsAmong (needed_at r request limit) p × (r.has_rule p ≡ true))
+  pub begun : (p : List ℕ) → IsAmong report.begun.items p ↔
+      (IsAmong (needed_at r request limit) p × (r.has_rule p ≡ true) × (r.begins p (outcome_at r limit) ≡ true))
   pub rows_ordered : AreAscending (row_paths report)
   pub files_ordered : AreAscending (map (λ file. file.0) report.files.items)
   pub begun_ordered : AreAscending report.begun.items

@@ -1,5 +1,5 @@
 -- How far a target's script has come after it stopped so many times: at each turn it has the answers that it asked for before.
-use Rattle.std.specs.Prelude.{◌≡◌, ℕ, Bool, zero, suc, ◌<◌, List, [], Some, None}
+use Rattle.std.specs.Prelude.{◌≡◌, ℕ, Bool, ◌&&◌, zero, suc, ◌<◌, List, [], Some, None}
 use Rattle.redo_record.specs.Paths.{IsAmong}
 use Rattle.redo_record.specs.Progress.{Progress}
 use Rattle.redo_build.specs.Rules.{Ask, Rules, operands}
@@ -36,10 +36,10 @@ pub record IsPiece (r : Rules) (p : List ℕ) (turn : ℕ) (now : Progress) : Ty
   pub fed : (q : List ℕ) → IsAmong (operands r (deps_at_turn r p (outcome_at r depth) turn)) q → outcome_at r depth q ≡ None → ⊥
   pub is : now ≡ progress_at_turn r p (outcome_at r depth) turn
 
--- a decided target: its outcome, all that it asked for, its record and whether it was begun are those of the build at
--- some depth
+-- a decided target: its outcome, all that it asked for, its record and whether its script was begun are those of the
+-- build at some depth
 pub record IsFact (r : Rules) (p : List ℕ) (outcome : Outcome) (deps shown : List Dep) (is_begun : Bool) : Type 0 where
   pub depth : ℕ
   pub is : r.progress p (outcome_at r depth) ≡ record { outcome = Some outcome; deps = deps }
   pub recorded : shown ≡ r.recorded p (outcome_at r depth)
-  pub begun : is_begun ≡ r.begins p (outcome_at r depth)
+  pub begun : is_begun ≡ (r.has_rule p && r.begins p (outcome_at r depth))

@@ -1,12 +1,9 @@
 use Rattle.std.proofs.Common.{rules}
 use Rattle.std.specs.Arc.{arc_value}
-use Rattle.redo_core.specs.Build.{rules_of}
-use Rattle.redo_core.proofs.LawfulTreeLemmas.{rules_lawful}
 use Rattle.redo_core.proofs.BeginLemmas.{unruled-fact}
 use Rattle.redo_core.proofs.begin.begin.Goals as goal
 
 pub of-fact-requires-clause-fact : goal.of-fact-requires-clause-fact
 of-fact-requires-clause-fact c =
-    let tree = arc_value c.in_ok-own.own in
-    unruled-fact (rules_of tree c.args.limits) (rules_lawful tree c.args.limits) c.in_ok-target.target c.match-branch-2.outcome.0 (arc_value c.in_ok-deps.deps)
+    unruled-fact (arc_value c.in_ok-own.own) c.args.limits c.in_ok-target.target c.match-branch-2.outcome.0 (arc_value c.in_ok-deps.deps)
     (search rules) (search rules)
