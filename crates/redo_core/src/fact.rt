@@ -5,8 +5,8 @@ ghost use Rattle.redo_core.specs.Build.{rules_of};
 ghost use Rattle.redo_build.specs.inside.Turns.{IsFact};
 
 use redo_path::Path;
-use redo_step::Limits;
 use redo_record::{Outcome, Record};
+use redo_step::Limits;
 use redo_tree::Tree;
 use std::marker::Model;
 use std::sync::Arc;
@@ -33,9 +33,18 @@ impl Model for Fact {
     ghost use Rattle.redo_build.specs.inside.Turns.{IsFact};
     ghost use Rattle.redo_core.specs.Build.{rules_of};
 
-    ghost view = { λ f. record { tree = arc_value f.tree; limits = f.limits; target = f.target; outcome = f.outcome; deps = arc_value f.deps; begun = f.begun } };
+    ghost view = { λ f. record {
+      tree = arc_value f.tree;
+      limits = f.limits;
+      target = f.target;
+      outcome = f.outcome;
+      deps = arc_value f.deps;
+      begun = f.begun;
+    } };
 
-    ghost invariant = { λ f. IsFact (rules_of (arc_value f.tree) f.limits) f.target f.outcome (arc_value f.deps) (arc_value f.deps) f.begun };
+    // All that it asked for is its record.
+    ghost invariant = { λ f.
+        IsFact (rules_of (arc_value f.tree) f.limits) f.target f.outcome (arc_value f.deps) (arc_value f.deps) f.begun };
 }
 
 impl Fact {
@@ -48,8 +57,15 @@ impl Fact {
         deps: Arc<Record>,
         begun: bool,
     ) -> Fact
-        requires fact { IsFact (rules_of (arc_value tree) limits) target outcome (arc_value deps) (arc_value deps) begun }
-        ensures { result ≡ record { tree = arc_value tree; limits = limits; target = target; outcome = outcome; deps = arc_value deps; begun = begun } }
+        requires { IsFact (rules_of (arc_value tree) limits) target outcome (arc_value deps) (arc_value deps) begun }
+        ensures { result ≡ record {
+          tree = arc_value tree;
+          limits = limits;
+          target = target;
+          outcome = outcome;
+          deps = arc_value deps;
+          begun = begun;
+        } }
     {
         Fact {
             tree,

@@ -6,11 +6,11 @@ ghost use Rattle.redo_step.specs.Setting.{is_rule};
 ghost use Rattle.redo_record.specs.declared.outcome.Outcome.TheVariants.{Source};
 ghost use Rattle.redo_core.specs.inside.Reported.{placed, sources_among, listed_paths, IsNumberOf, is_settled, IsShown, IsBegunAs, IsRowOf, AllSettled, AllTold, AddsRow, IsReportOf};
 
-use redo_report::{Report, Row};
 use crate::table::{Stage, Table, find};
 use indexmap::IndexSet;
 use redo_path::Path;
 use redo_record::{Outcome, Record};
+use redo_report::{Report, Row};
 use redo_tree::Tree;
 use redo_which::{Found, lookup};
 use std::alloc::{AllocError, Global};

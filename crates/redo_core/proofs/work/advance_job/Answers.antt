@@ -12,8 +12,8 @@ use Rattle.redo_core.proofs.work.advance_job.Goals.{in-Ended+in_ok-own-in-Ended+
 pub advance-requires-clause-fits : goal.advance-requires-clause-fits
 advance-requires-clause-fits c = work-fits (arc_value c.args.tree) c.args.limits c.args.job c.args.facts c.requires
 
-pub of-fact-requires-clause-fact : goal.of-fact-requires-clause-fact
-of-fact-requires-clause-fact c =
+pub of-fact-requires : goal.of-fact-requires
+of-fact-requires c =
     fact-parts (arc_value c.args.tree) c.args.limits c.args.job c.args.facts c.requires
     c.in-Ended.done (rw c.in-Ended.is at c.in_ok-done.ensures)
     (arc_value c.in_ok-own-in-Ended.own) c.in_ok-path-in-Ended.path (arc_value c.in_ok-deps-in-Ended.deps)
