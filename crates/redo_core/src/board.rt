@@ -16,11 +16,11 @@ ghost use Rattle.redo_build.specs.Theorems.{IsPartOfBuild, ShowsBuild};
 
 use crate::finish::report_of;
 use crate::moves::{copied, first_table, take_in};
-use redo_report::Report;
 use crate::same::{are_same_paths, is_same_tree};
 use crate::table::{Stage, Table, out_at};
 use crate::work::{Piece, Work};
 use redo_path::Path;
+use redo_report::Report;
 use redo_step::Limits;
 use redo_tree::Tree;
 use std::alloc::{AllocError, AllocFailed, Global};

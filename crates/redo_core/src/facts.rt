@@ -7,8 +7,8 @@ ghost use Rattle.redo_core.specs.inside.Works.{told_in, known_in, few_known, Add
 use crate::fact::Fact;
 use indexmap::IndexMap;
 use redo_path::Path;
-use redo_step::Answers;
 use redo_record::Outcome;
+use redo_step::Answers;
 use std::alloc::{AllocError, Global};
 use std::sync::Arc;
 

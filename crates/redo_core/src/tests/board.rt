@@ -1,9 +1,9 @@
 //! Boards that are driven by hand over a diamond: `top` asks for `left` and `right`, and both ask for `base`.
 
 use crate::board::{Board, HandFault, OpenFault, Stop};
-use redo_report::report_text;
 use crate::work::{Piece, Work};
 use redo_path::{Path, resolve};
+use redo_report::report_text;
 use redo_step::Limits;
 use redo_tree::Tree;
 use std::alloc::Global;
