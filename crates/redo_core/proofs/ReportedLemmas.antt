@@ -306,7 +306,7 @@ begun-told tree p (Waiting parked) begun told is = is ∙ sym told
 begun-told tree p (Ready work) begun told is = absurd is
 begun-told tree p Out begun told is = absurd is
 begun-told tree p (Decided fact) begun told is =
-    is ∙ ap (λ t. is_rule (found_of t (arc_value fact).target)) told.0 ∙ ap (λ q. is_rule (found_of tree q)) told.1
+    is.1 ∙ ap (λ t. is_rule (found_of t (arc_value fact).target)) told.0 ∙ ap (λ q. is_rule (found_of tree q)) told.1
 
 told-stage : (r : Rules) (a : Ask) (tree : Tree) (limits : LimitsView) (p q : List ℕ) (turn : ℕ) (stage : Stage) → q ≡ p → Fits r a tree limits q turn stage → IsTold tree p stage
 told-stage r a tree limits p q turn (Waiting parked) same fits =

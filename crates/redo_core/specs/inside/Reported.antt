@@ -67,12 +67,14 @@ IsTold tree p (Decided fact) = ((arc_value fact).tree ≡ tree) × ((arc_value f
 abbrev pub AllTold : Tree → Table → Type 0
 AllTold tree t = (k : ℕ) (slot : Slot) (p : List ℕ) → slice_get t.slots.items k ≡ Some slot → slice_get t.targets.keys k ≡ Some p → IsTold tree p slot.stage
 
--- whether the script of a target was begun: it was, where the target waits, and a fact tells whether there is a rule
+-- whether the script of a target was begun: it was, where the target waits; and a fact tells, and says that it was where
+-- there is a rule
 abbrev pub IsBegunAs : Stage → Bool → Type 0
 IsBegunAs (Waiting parked) begun = begun ≡ true
 IsBegunAs (Ready work) begun = ⊥
 IsBegunAs Out begun = ⊥
-IsBegunAs (Decided fact) begun = begun ≡ is_rule (found_of (arc_value fact).tree (arc_value fact).target)
+IsBegunAs (Decided fact) begun =
+    (begun ≡ (arc_value fact).begun) × (begun ≡ is_rule (found_of (arc_value fact).tree (arc_value fact).target))
 
 -- the row is that of a target of the table
 pub record IsTargetRow (t : Table) (row : Row) : Type 0 where

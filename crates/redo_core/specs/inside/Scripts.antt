@@ -20,7 +20,7 @@ abbrev pub script_turn : Script → ℕ
 script_turn (Unread unread) = 0
 script_turn (Begun begun) = begun.value.job.turn
 
--- nothing is recorded before the script first stopped
+-- nothing is asked for before the script first stopped
 abbrev pub script_deps : Script → List Dep
 script_deps (Unread unread) = []
 script_deps (Begun begun) = job_deps begun.value.job

@@ -45,7 +45,7 @@ is_stage_out (Ready work) = false
 is_stage_out Out = true
 is_stage_out (Decided fact) = false
 
--- the record of a target so far: a job that is out keeps its own, which is that of its turn
+-- what a target asked for so far: a job that is out keeps its own, which is that of its turn
 abbrev pub stage_deps : Rules → Ask → List ℕ → ℕ → Stage → List Dep
 stage_deps r a p turn (Waiting parked) = job_deps parked.begun.value.job
 stage_deps r a p turn (Ready work) = work.deps
@@ -110,7 +110,7 @@ AreNumbers ps [] (q ∷ qs) = ⊥
 AreNumbers ps (n ∷ ns) [] = ⊥
 AreNumbers ps (n ∷ ns) (q ∷ qs) = (slice_get ps n ≡ Some q) × AreNumbers ps ns qs
 
--- all that the record waits for has answers
+-- all that these entries wait for has answers
 abbrev pub AllAnswered : Rules → Ask → List Dep → Type 0
 AllAnswered r a deps = (q : List ℕ) → IsAmong (operands r deps) q → a q ≡ None → ⊥
 
@@ -164,7 +164,7 @@ abbrev pub ArePlacesOnce : List ℕ → Type 0
 ArePlacesOnce [] = Unit {0}
 ArePlacesOnce (i ∷ is) = (IsPlace is i → ⊥) × ArePlacesOnce is
 
--- the number stands in the list of an undecided path that the record waits for
+-- the number stands in the list of an undecided path that these entries wait for
 pub record IsWatched (r : Rules) (ps : List (List ℕ)) (slots : List Slot) (k : ℕ) (deps : List Dep) : Type 0 where
   pub at : ℕ
   pub other : Slot

@@ -38,7 +38,7 @@ known_in facts = more_known facts.more ++ few_known facts.few.items
 abbrev pub told_in : Facts → Ask
 told_in facts = told_by (known_in facts)
 
--- the record of a job's target so far: nothing is recorded before the script first stopped
+-- what a job's target asked for so far: nothing, before the script first stopped
 abbrev pub job_deps : JobView → List Dep
 job_deps job = elim (job.turn) [ zero ↦ [] | suc n ↦ record_so_far job ]
 
