@@ -1,0 +1,4 @@
+pub mod Shown
+pub mod Relay
+pub mod Taken
+pub mod inside

@@ -1,0 +1,3 @@
+pub mod Knows
+pub mod Places
+pub mod Rule
