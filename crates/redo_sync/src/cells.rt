@@ -230,7 +230,8 @@ impl<T> Known<T> {
     /// Whether a cell keeps the value, so that all who look there find it. What was published where a cell had a value
     /// already is in none.
     pub fn in_cell(&self) -> bool
-        ensures { IsTrue result ↔ IsSome self.now.cell }
+        ensures cell { IsTrue result ↔ IsSome self.now.cell }
+        ensures written { IfSome self.now.cell (λ c. c ≡ self.now.written) }
     {
         match &self.place {
             Place::InCell { .. } => true,
