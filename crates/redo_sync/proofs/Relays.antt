@@ -6,7 +6,7 @@ use Rattle.std.specs.Prelude.{cond}
 use mathlib.Core.Option.{some, some-injective, some-ne-none}
 use lib.ListN.{get_elem?}
 use Rattle.crossbeam_deque.specs.Tasks.{Pushes, Takes, Finds, Forks, Merges}
-use Rattle.crossbeam_deque.proofs.Lists.{at_set, at_snoc, set_here}
+use Rattle.crossbeam_deque.proofs.Lists.{at_set, at_snoc}
 use Rattle.redo_sync.specs.declared.rule.Hand.{Hand}
 use Rattle.redo_sync.specs.Relay.{Pair, SharesOut, Taker, taken_by}
 use Rattle.redo_sync.specs.inside.Rule.{hand, Idle, EachIdle, pending, Balanced}

@@ -1,5 +1,5 @@
 -- The machine value of a `Knows`, and its rows. Assumes `Logic`.
-use Rattle.std.proofs.Common.{◌≡◌, ℕ, List, [], ◌∷◌, refl}
+use Rattle.std.proofs.Common.{ℕ, [], ◌∷◌, refl}
 use seplogic.Ra.Ura.{Ura}
 use base.Logic.{ent}
 use mir.Val.{Val, vstruct, vcons, vnil}

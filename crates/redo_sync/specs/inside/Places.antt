@@ -1,5 +1,5 @@
 -- What a contract sees of where a published value is kept.
-use Rattle.std.specs.Prelude.{◌≡◌, ℕ, ◌<◌, length, slice_index, Some, None}
+use Rattle.std.specs.Prelude.{◌≡◌, ◌<◌, length, slice_index, Some, None}
 use Rattle.std.specs.Arc.{arc_value}
 use Rattle.redo_sync.specs.declared.cells.Place.{Place}
 use Rattle.redo_sync.specs.declared.cells.Place.TheVariants.{InCell, Beside}

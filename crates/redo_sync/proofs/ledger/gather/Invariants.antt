@@ -1,4 +1,4 @@
-use Rattle.std.proofs.Common.{◌≡◌, ◌+◌, ◌-◌, ◌≤◌, ◌++◌, length, All, []}
+use Rattle.std.proofs.Common.{◌≡◌, ◌+◌, ◌-◌, length, []}
 use Rattle.crossbeam_deque.specs.Handles.{worker_deque, worker_flavor, worker_view}
 use Rattle.redo_sync.specs.inside.Rule.{hand}
 use Rattle.redo_sync.specs.Relay.{taken_by}
