@@ -10,8 +10,8 @@ use std::marker::Model;
 use std::sync::Arc;
 
 /// A row of cells, each of which is written at most once. Where several threads have to agree on one value, each
-/// publishes its own, and the first one stays. In a contract a row is the names of its cells: two cells are told apart
-/// by them.
+/// publishes its own, and the first one stays. In a contract a row is the names of its cells, by which two values are
+/// known to be of one cell.
 #[derive(Drop)]
 pub struct Cells<T> {
     cells: Vec<OnceBox<T>>,
