@@ -39,8 +39,8 @@ impl<T: Numbered> Model for JobSource<T> {
 }
 
 impl<T: Numbered> JobSource<T> {
-    /// Gives a job, which one taker may take. The first 64 jobs take no memory and are never refused; later ones come
-    /// back on want of memory, and where more than 2^39 jobs wait.
+    /// Gives a job, which one taker may take. The first 64 jobs take no memory and are never refused. A later one comes
+    /// back where the queue can't grow: on want of memory, or past billions of jobs that wait.
     pub fn give(&mut self, job: T) -> Result<(), (T, AllocError)>
         ensures same { (self.new.relay ≡ self.old.relay) × (self.new.workers ≡ self.old.workers) }
         ensures given { MatchResult result
