@@ -5,7 +5,7 @@ use crate::status::Fault;
 use bstr::BStr;
 use redo_path::PathFault;
 use redo_run::Cause;
-use redo_tree::BundleFault;
+use redo_bundle::BundleFault;
 use std::alloc::{AllocError, Global};
 use std::fmt::Display;
 

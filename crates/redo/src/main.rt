@@ -11,7 +11,7 @@ use clap::{ArgMatches, Error};
 use options::{Call, Place, Refusal, Task};
 use redo_path::Path;
 use redo_run::{Cause, Exit, NoGate, Options, run_bundle, run_dir, whichdo_bundle, whichdo_dir};
-use redo_tree::Plain;
+use redo_bundle::Plain;
 use status::Fault;
 use std::alloc::Global;
 use std::io::{BufWriter, Write};

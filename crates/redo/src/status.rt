@@ -4,7 +4,7 @@ use crate::options::Refusal;
 use clap::Error;
 use clap::error::ErrorKind;
 use redo_run::{RunDirFault, RunIoFault};
-use redo_tree::BundleFault;
+use redo_bundle::BundleFault;
 use std::fmt;
 
 /// All requested targets are built or sources; a rule was found; help was shown.

@@ -4,8 +4,8 @@ use Rattle.std.proofs.lemmas.Result.{err_from_is_err_and}
 use Rattle.std.specs.Prelude.{Result, Err, flat_map}
 use Rattle.std.specs.Result.{IsErrAnd}
 use Rattle.std.specs.Io.KnownBytes.{Appends}
-use Rattle.redo_tree.specs.Bundle.{Writes}
-use Rattle.redo_tree.proofs.PieceLemmas.{Writes-then, Writes-cut}
+use Rattle.redo_bundle.specs.Bundle.{Writes}
+use Rattle.redo_bundle.proofs.PieceLemmas.{Writes-then, Writes-cut}
 
 -- the text of what is left is that of the next, and of those behind it
 dropped : {A : Type 0} (f : A → List ℕ) (xs : List A) (i : ℕ) (x default : A) → i < length xs → x ≡ slice_index_or xs i default →

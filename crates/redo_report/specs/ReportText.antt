@@ -3,7 +3,7 @@ use Rattle.std.specs.Prelude.{Bool, ℕ, List, [], ◌∷◌, ◌++◌, Some, No
 use Rattle.std.specs.Arc.{arc_value}
 use Rattle.redo_script.specs.declared.fault.Reason.{Reason}
 use Rattle.redo_script.specs.declared.fault.Reason.TheVariants as reasons
-use Rattle.redo_tree.specs.Bundle.{spelling}
+use Rattle.redo_bundle.specs.Bundle.{spelling}
 use Rattle.redo_tree.specs.Tree.{File}
 use Rattle.redo_record.specs.declared.deps.Dep.{Dep}
 use Rattle.redo_record.specs.declared.deps.DepKind.{DepKind}

@@ -3,7 +3,8 @@
 use crate::{Report, Row, report_text, write_report};
 use redo_path::{Path, resolve};
 use redo_record::{Dep, DepKind, Deps, Outcome, Record, Why};
-use redo_tree::{Content, Plain, Tree};
+use redo_bundle::Plain;
+use redo_tree::{Content, Tree};
 use redo_which::{Found, lookup};
 use std::alloc::Global;
 use std::sync::Arc;

@@ -2,7 +2,7 @@
 //! lines of candidates for the next row.
 ghost use Rattle.std.specs.Prelude.{◌≡◌, ◌++◌, ◌∷◌, [], IfOk, codes, false, flat_map, is_err, option_copied};
 ghost use Rattle.redo_record.specs.Entries.{change_of};
-ghost use Rattle.redo_tree.specs.Bundle.{Writes};
+ghost use Rattle.redo_bundle.specs.Bundle.{Writes};
 ghost use Rattle.redo_report.specs.ReportText.{begun_line, dep_line, file_text, outcome_words, path_line, reason_word, report_text, row_text, why_words, word_at};
 
 use crate::report::{Report, Row};
@@ -10,7 +10,8 @@ use itoa::Buffer;
 use redo_path::Path;
 use redo_record::{Dep, DepKind, Outcome, Record, Why};
 use redo_script::{Reason, ScriptFault};
-use redo_tree::{Broken, ByteOut, Content, Plain, write_all, write_parts};
+use redo_bundle::{Broken, ByteOut, Plain, write_all, write_parts};
+use redo_tree::Content;
 use redo_which::Lines;
 use std::alloc::{AllocError, Global};
 

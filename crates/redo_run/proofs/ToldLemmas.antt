@@ -7,8 +7,8 @@ use Rattle.redo_build.specs.Outcomes.{IsTooMany}
 use Rattle.redo_report.specs.Reports.{IsReport}
 use Rattle.redo_report.specs.ReportText.{report_text}
 use Rattle.redo_report.specs.declared.report.Report.{Report}
-use Rattle.redo_tree.specs.Bundle.{IsBundle, Writes}
-use Rattle.redo_tree.specs.Directory.{IsLoaded, places_in}
+use Rattle.redo_bundle.specs.Bundle.{IsBundle, Writes}
+use Rattle.redo_dir.specs.Directory.{IsLoaded, places_in}
 use Rattle.redo_tree.specs.Tree.{Tree}
 use Rattle.redo_run.specs.declared.directory.DirRun.{DirRun}
 use Rattle.redo_run.specs.declared.options.Options.{Options}

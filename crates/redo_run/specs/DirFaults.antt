@@ -1,8 +1,8 @@
 -- Faults of the parts of a run over a directory, as those of the run.
-use Rattle.redo_tree.specs.declared.faults.LoadFault.{LoadFault}
-use Rattle.redo_tree.specs.declared.faults.LoadFault.TheVariants as load
-use Rattle.redo_tree.specs.declared.faults.StoreFault.{StoreFault}
-use Rattle.redo_tree.specs.declared.faults.StoreFault.TheVariants as store
+use Rattle.redo_dir.specs.declared.faults.LoadFault.{LoadFault}
+use Rattle.redo_dir.specs.declared.faults.LoadFault.TheVariants as load
+use Rattle.redo_dir.specs.declared.faults.StoreFault.{StoreFault}
+use Rattle.redo_dir.specs.declared.faults.StoreFault.TheVariants as store
 use Rattle.redo_run.specs.declared.run_fault.RunFault.{RunFault}
 use Rattle.redo_run.specs.declared.run_fault.RunFault.TheVariants as build
 use Rattle.redo_run.specs.declared.dir_fault.RunDirFault.{RunDirFault}

@@ -7,7 +7,7 @@ use Rattle.redo_report.specs.ReportText.{report_text}
 use Rattle.redo_report.specs.declared.report.Report.{Report}
 use Rattle.redo_tree.specs.Tree.{Tree}
 use Rattle.redo_which.specs.Rule.{chosen_of}
-use Rattle.redo_tree.specs.Directory.{IsLoaded, places_in}
+use Rattle.redo_dir.specs.Directory.{IsLoaded, places_in}
 use Rattle.redo_run.specs.declared.directory.DirRun.{DirRun}
 use Rattle.redo_run.specs.declared.options.Options.{Options}
 use Rattle.redo_run.specs.declared.dir_fault.RunDirFault.{RunDirFault}

@@ -1,6 +1,6 @@
 -- Faults of the parts of a run, as those of the run.
-use Rattle.redo_tree.specs.declared.faults.BundleFault.{BundleFault}
-use Rattle.redo_tree.specs.declared.faults.BundleFault.TheVariants as bundle
+use Rattle.redo_bundle.specs.declared.faults.BundleFault.{BundleFault}
+use Rattle.redo_bundle.specs.declared.faults.BundleFault.TheVariants as bundle
 use Rattle.redo_run.specs.declared.run_fault.RunFault.{RunFault}
 use Rattle.redo_run.specs.declared.run_fault.RunFault.TheVariants as build
 use Rattle.redo_run.specs.declared.fault.RunIoFault.{RunIoFault}

@@ -6,7 +6,7 @@ use Rattle.redo_build.specs.Outcomes.{IsTooMany}
 use Rattle.redo_report.specs.Reports.{IsReport}
 use Rattle.redo_report.specs.ReportText.{report_text}
 use Rattle.redo_report.specs.declared.report.Report.{Report}
-use Rattle.redo_tree.specs.Bundle.{IsBundle, Reads}
+use Rattle.redo_bundle.specs.Bundle.{IsBundle, Reads}
 use Rattle.redo_tree.specs.Tree.{Tree}
 use Rattle.redo_which.specs.Rule.{chosen_of}
 use Rattle.redo_run.specs.declared.exit.Exit.{Exit}

@@ -1,7 +1,7 @@
 //! Runs over a bundle: the report of its build, and where the rule of a target is looked for.
 
 ghost use Rattle.std.specs.Prelude.{◌≡◌, ◌↔◌, false, IfOk, IfSome, IsErrOf, true};
-ghost use Rattle.redo_tree.specs.declared.faults.BundleFault.TheVariants as bundle_faults;
+ghost use Rattle.redo_bundle.specs.declared.faults.BundleFault.TheVariants as bundle_faults;
 ghost use Rattle.redo_run.specs.Runs.{Explains, ExplainsList, IsUntouched, Lists, Reports};
 
 use crate::candidates::text_of_search;
@@ -11,7 +11,7 @@ use crate::workers::build_many;
 use crate::{Cause, Exit, Gate, Options, RunIoFault};
 use redo_report::write_report;
 use redo_path::Path;
-use redo_tree::{ByteIn, ByteOut, read_bundle_by_line, write_all};
+use redo_bundle::{ByteIn, ByteOut, read_bundle_by_line, write_all};
 use redo_which::lookup::search;
 use std::alloc::Global;
 use std::sync::Wait;

@@ -1,7 +1,8 @@
 //! What a run was at when it failed, for messages.
 
 use redo_path::Path;
-use redo_tree::{Content, StoreFault};
+use redo_dir::StoreFault;
+use redo_tree::Content;
 use std::alloc::Global;
 use std::io::ErrorKind;
 

@@ -3,7 +3,8 @@
 ghost use Rattle.std.specs.Prelude.{◌≡◌};
 
 use crate::RunFault;
-use redo_tree::{Broken, LoadFault, StoreFault};
+use redo_bundle::Broken;
+use redo_dir::{LoadFault, StoreFault};
 use std::alloc::{AllocError, AllocFailed};
 use thiserror::Error;
 

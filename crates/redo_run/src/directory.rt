@@ -2,7 +2,7 @@
 
 ghost use Rattle.std.specs.Prelude.{◌≡◌, ◌↔◌, false, IfOk, IsErrOf, true};
 ghost use Rattle.redo_run.specs.Directories.{FallsInList, IsUnwritten, ListsTree, ReportsTree, NeedsTooMany};
-ghost use Rattle.redo_tree.specs.Directory.{IsLoaded, places_in};
+ghost use Rattle.redo_dir.specs.Directory.{IsLoaded, places_in};
 
 use crate::candidates::text_of_search;
 use crate::exit::exit_after;
@@ -11,9 +11,9 @@ use crate::workers::build_many;
 use crate::{Cause, Exit, Gate, Options, RunDirFault};
 use redo_report::write_report;
 use redo_path::Path;
-use redo_tree::{
-    ByteOut, Content, LoadFault, StoreFault, Stored, Tree, load_dir, store_files, write_all,
-};
+use redo_bundle::{ByteOut, write_all};
+use redo_dir::{LoadFault, StoreFault, Stored, load_dir, store_files};
+use redo_tree::{Content, Tree};
 use redo_which::lookup::search;
 use std::alloc::Global;
 use std::rt::Files;

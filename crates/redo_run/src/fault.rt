@@ -3,7 +3,7 @@
 ghost use Rattle.std.specs.Prelude.{◌≡◌};
 
 use crate::RunFault;
-use redo_tree::{Broken, BundleFault};
+use redo_bundle::{Broken, BundleFault};
 use std::alloc::{AllocError, AllocFailed};
 use thiserror::Error;
 

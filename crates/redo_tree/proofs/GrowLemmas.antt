@@ -1,7 +1,7 @@
 -- A tree with one more node is a tree.
-use Rattle.std.proofs.Common.{◌≡◌, List, [], ◌∷◌, ℕ, Bool, true, false, cond, refl, sym, ap, subst, ◌∙◌, Option, Some, None, IsSome, nat_eq, ◌+◌, length, arith}
+use Rattle.std.proofs.Common.{◌≡◌, List, [], ◌∷◌, ℕ, Bool, true, false, cond, refl, sym, ap, subst, ◌∙◌, Option, Some, None, IsSome, nat_eq, ◌+◌, length, arith, ◌++◌}
 use Rattle.std.proofs.lemmas.Grind.{common_steps}
-use Rattle.std.specs.Prelude.{option_and_then, Ok, Err}
+use Rattle.std.specs.Prelude.{option_and_then, Result, Ok, Err}
 use Rattle.std.specs.Cmp.Lexicographic.{slice_cmp, pointwise, same_text, texts_ties, nat_list_cmp_total, nat_list_eq_equiv}
 use Rattle.std.specs.FinMap.Entries.{by_order, put, find-put}
 use Rattle.std.specs.Option.{option_or, option_map_or}
@@ -10,7 +10,7 @@ use Rattle.std.specs.declared.cmp.Ordering.TheVariants.{Less, Equal, Greater}
 use Rattle.redo_path.specs.Names.{IsPath, parent_of}
 use Rattle.redo_path.proofs.ApartLemmas.{apart}
 use Rattle.redo_tree.specs.declared.faults.TreeFault.{TreeFault}
-use Rattle.redo_tree.specs.Tree.{Node, Directory, File, Tree, IsTree, node_at, parent_refusal, place_refusal, refusal, added, with_node}
+use Rattle.redo_tree.specs.Tree.{Node, Directory, File, Tree, IsTree, node_at, parent_refusal, place_refusal, refusal, added, with_node, grown}
 use Rattle.redo_tree.proofs.KeyLemmas.{keys-with, sorted-with}
 
 -- whether a path is the one that is looked for
@@ -115,3 +115,14 @@ pub length-added : (old new : Tree) (path : List ℕ) (node : Node) → added ol
 length-added old new path node h =
     let a = added-with (refusal old path node) (with_node old path node) new h in
     sym (ap length a.1) ∙ length-with old path node (free old path node a.0)
+
+-- the entries after one that was added, or the fault
+abbrev pub onward : List (List ℕ × Node) → Result Tree TreeFault → Result Tree TreeFault
+onward es r = elim r [ Ok next ↦ grown next es | Err fault ↦ Err fault ]
+
+pub grown-append : (old mid new : Tree) (es : List (List ℕ × Node)) (e : List ℕ × Node) → grown old es ≡ Ok mid → added mid e.0 e.1 ≡ Ok new → grown old (es ++ e ∷ []) ≡ Ok new
+grown-append old mid new [] e h k = let same : old ≡ mid = cc in ap (λ t. onward [] (added t e.0 e.1)) same ∙ ap (onward []) k
+grown-append old mid new (x ∷ xs) e h k = elim (added old x.0 x.1) as (λ r. onward xs r ≡ Ok mid → onward (xs ++ e ∷ []) r ≡ Ok new) [
+  | Ok next ↦ λ g. grown-append next mid new xs e g k
+  | Err fault ↦ λ g. cc
+] h

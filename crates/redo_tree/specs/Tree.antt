@@ -1,5 +1,5 @@
 -- A tree: what stands at each path, in the order of the paths' texts.
-use Rattle.std.specs.Prelude.{◌≡◌, ◌&&◌, Bool, true, nat_eq, ℕ, List, [], ◌∷◌, ◌++◌, codes, filter_map, fold, length, Option, Some, None, Result, Ok, Err, IsSome, option_and_then, option_map, refl, if◌then◌else◌}
+use Rattle.std.specs.Prelude.{◌≡◌, ◌&&◌, Bool, true, nat_eq, ℕ, List, [], ◌∷◌, ◌++◌, codes, filter_map, fold, length, Option, Some, None, Result, Ok, Err, IsSome, option_and_then, option_map, refl, if◌then◌else◌, ◌-◌}
 use Rattle.std.specs.BTreeMap.{insert_entry, is_at}
 use Rattle.std.specs.Cmp.{IsEquivalence, and_equiv, on_equiv}
 use Rattle.std.specs.Cmp.Lexicographic.{lists_equiv, nat_list_eq_equiv, options_equiv, pointwise, slice_cmp}
@@ -156,3 +156,8 @@ pub record IsKept (es : List (List ℕ × Entry)) (dirs : List (List ℕ)) : Typ
   pub counted : length (tree_of es) ≡ length es
   pub found : (path : List ℕ) → option_map node_of (lookup (pointwise nat_eq path) es) ≡ node_at (tree_of es) path
   pub noted : NotesDefaults dirs (tree_of es)
+
+-- the entries added in turn
+abbrev pub grown : Tree → List (List ℕ × Node) → Result Tree TreeFault
+grown tree [] = Ok tree
+grown tree (e ∷ es) = elim (added tree e.0 e.1) [ Ok next ↦ grown next es | Err fault ↦ Err fault ]

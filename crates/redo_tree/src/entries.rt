@@ -26,9 +26,9 @@ pub enum Kind {
     Nothing,
 }
 
-/// What is kept at a path.
+/// What stands at a path of the tree.
 #[derive(Debug, PartialEq, Eq, Drop)]
-pub(crate) enum Entry {
+pub enum Entry {
     Directory,
     File(Content),
 }
@@ -88,7 +88,7 @@ impl Tree {
     }
 
     /// How many entries there are, the top directory among them.
-    pub(crate) fn len(&self) -> usize
+    pub fn len(&self) -> usize
         ensures count { result ≡ length self.now }
         ensures small { result < 2 ^ 63 }
     {
@@ -148,7 +148,7 @@ impl Tree {
     }
 
     /// The entries in path order, the top directory first. They are sorted at each call.
-    pub(crate) fn in_order<'a>(
+    pub fn in_order<'a>(
         &'a self,
         alloc: Global,
     ) -> Result<BTreeMap<&'a Path, &'a Entry>, AllocError>

@@ -5,14 +5,14 @@ ghost use Rattle.std.specs.Prelude.{nat_le, option_copied, true, ◌&&◌};
 ghost use Rattle.std.specs.Option.{option_to_list};
 ghost use Rattle.redo_path.specs.Names.{IsNameStart, IsPart, IsPath, child_of, name_of, names, parent_of};
 ghost use Rattle.redo_path.specs.Resolve.{resolved};
-ghost use Rattle.redo_tree.specs.Bundle.{Writes};
+ghost use Rattle.redo_bundle.specs.Bundle.{Writes};
 ghost use Rattle.redo_which.specs.Candidates.{place_at};
 ghost use Rattle.redo_which.specs.inside.Pieces.{prefix_of};
 ghost use Rattle.redo_which.specs.Views.{place_of};
 
 use crate::Candidate;
 use redo_path::Path;
-use redo_tree::{Broken, ByteOut, write_parts};
+use redo_bundle::{Broken, ByteOut, write_parts};
 use std::alloc::{AllocError, Global};
 use std::marker::Model;
 

@@ -1,11 +1,11 @@
 //! The lines of missing candidates, target after target.
 
 ghost use Rattle.std.specs.Prelude.{◌≡◌, ◌++◌, ◌∷◌, [], IfOk, OnOk, false, flat_map, is_err};
-ghost use Rattle.redo_tree.specs.Bundle.{Writes};
+ghost use Rattle.redo_bundle.specs.Bundle.{Writes};
 ghost use Rattle.redo_which.specs.inside.Lines.{lines_of};
 
 use crate::missing::{Missing, Rest};
-use redo_tree::{Broken, ByteOut, write_all};
+use redo_bundle::{Broken, ByteOut, write_all};
 use std::alloc::{AllocError, Global};
 use std::marker::Model;
 use std::mem;

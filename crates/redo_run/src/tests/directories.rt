@@ -4,7 +4,7 @@
 use super::options;
 use crate::{Cause, Exit, NoGate, RunDirFault, run_dir, whichdo_dir};
 use redo_path::{Path, resolve};
-use redo_tree::Plain;
+use redo_bundle::Plain;
 use std::alloc::Global;
 use std::io::ErrorKind;
 use std::path::PathBuf;

@@ -4,7 +4,7 @@ ghost use Rattle.std.specs.Prelude.{◌≡◌, None, false};
 
 use super::{GOOD, HELLO, HELLO_REPORT, options};
 use crate::{Cause, NoGate, RunIoFault, run_bundle};
-use redo_tree::{Broken, BundleFault, ByteIn, ByteOut, Plain};
+use redo_bundle::{Broken, BundleFault, ByteIn, ByteOut, Plain};
 use std::alloc::Global;
 use std::test::Fail;
 

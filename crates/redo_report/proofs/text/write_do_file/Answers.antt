@@ -1,6 +1,6 @@
 use Rattle.std.proofs.Common.{◌++◌, sym, subst, append-nil}
 use Rattle.std.specs.Prelude.{codes}
-use Rattle.redo_tree.specs.Bundle.{Writes}
+use Rattle.redo_bundle.specs.Bundle.{Writes}
 use Rattle.redo_report.specs.ReportText.{path_line}
 use Rattle.redo_report.proofs.text.write_do_file.Goals as goal
 

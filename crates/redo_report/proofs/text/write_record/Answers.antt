@@ -2,7 +2,7 @@ use Rattle.std.proofs.Common.{◌++◌, ◌∙◌, [], append_assoc, subst}
 use Rattle.std.specs.Prelude.{Err, flat_map, option_copied}
 use Rattle.std.proofs.KnownBytes.{Appends-nil, Appends-trans}
 use Rattle.std.specs.Io.KnownBytes.{Appends}
-use Rattle.redo_tree.specs.Bundle.{Writes}
+use Rattle.redo_bundle.specs.Bundle.{Writes}
 use Rattle.redo_record.specs.Entries.{change_of}
 use Rattle.redo_report.specs.ReportText.{dep_line}
 use Rattle.redo_report.proofs.LineLemmas.{create_lines, front-lines, record-lines}

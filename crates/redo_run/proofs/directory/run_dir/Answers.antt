@@ -1,7 +1,7 @@
 use Rattle.std.proofs.Common.{ℕ, List, refl, sym, ap, subst, ◌∙◌}
 use Rattle.redo_core.specs.Build.{rules_of}
 use Rattle.redo_report.specs.Reports.{IsReport}
-use Rattle.redo_tree.specs.Directory.{places_in}
+use Rattle.redo_dir.specs.Directory.{places_in}
 use Rattle.redo_run.specs.Exits.{IsExit}
 use Rattle.redo_run.specs.Runs.{request_of}
 use Rattle.redo_run.proofs.ToldLemmas.{reports_tree}

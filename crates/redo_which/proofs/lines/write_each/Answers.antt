@@ -4,7 +4,7 @@ use Rattle.std.proofs.lemmas.Result.{err_from_is_err_and}
 use Rattle.std.specs.Prelude.{Err}
 use Rattle.std.specs.Iterator.Adapters.{take_count, take_source}
 use Rattle.std.proofs.KnownBytes.{Appends-trans}
-use Rattle.redo_tree.proofs.PieceLemmas.{Writes-then, Writes-cut}
+use Rattle.redo_bundle.proofs.PieceLemmas.{Writes-then, Writes-cut}
 use Rattle.redo_which.specs.inside.Lines.{lines_of}
 use Rattle.redo_which.proofs.TextLemmas.{one-more}
 use Rattle.redo_which.proofs.lines.write_each.Goals as goal

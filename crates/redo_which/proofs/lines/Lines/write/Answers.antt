@@ -1,7 +1,7 @@
 use Rattle.std.proofs.Common.{rules, ◌≡◌, ◌++◌, ◌∷◌, ◌∙◌, [], ap, sym, subst}
 use Rattle.std.proofs.lemmas.Result.{err_from_is_err_and}
-use Rattle.redo_tree.proofs.PieceLemmas.{Writes-then, Writes-cut}
-use Rattle.redo_tree.specs.Bundle.{Writes}
+use Rattle.redo_bundle.proofs.PieceLemmas.{Writes-then, Writes-cut}
+use Rattle.redo_bundle.specs.Bundle.{Writes}
 use Rattle.redo_which.specs.inside.Lines.{lines_of}
 use Rattle.redo_which.proofs.TextLemmas.{lines-split}
 use Rattle.redo_which.proofs.lines.Lines.write.Goals as goal

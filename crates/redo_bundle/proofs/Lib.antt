@@ -1,0 +1,10 @@
+pub mod BodyLemmas
+pub mod EveryLemmas
+pub mod LineLemmas
+pub mod OnceLemmas
+pub mod PieceLemmas
+pub mod SmallLemmas
+pub mod SpelledLemmas
+pub mod TurnLemmas
+pub mod WrittenLemmas
+pub mod Examples

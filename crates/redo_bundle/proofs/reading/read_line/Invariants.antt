@@ -1,0 +1,15 @@
+use Rattle.std.proofs.Common.{◌≡◌, ◌-◌, length, false}
+use Rattle.std.specs.Io.KnownBytes.{Consumes, prepend_known}
+use Rattle.redo_bundle.specs.inside.Steps.{IsLine}
+use Rattle.redo_bundle.proofs.reading.read_line.Given as goal
+
+-- the line so far is what came since the call
+abbrev pub invariant-loop-held : goal.invariant-loop-held
+invariant-loop-held g l = record {
+  works : g.R.ByteIn.has_failed l.reader ≡ false;
+  line : IsLine l.line.items;
+  came : Consumes (prepend_known l.fn.held (g.R.ByteIn.left l.fn.reader)) (prepend_known l.held (g.R.ByteIn.left l.reader)) l.line.items;
+}
+
+abbrev pub decreases-loop-held : goal.decreases-loop-held
+decreases-loop-held g l = 1101 - length l.line.items

@@ -1,0 +1,117 @@
+//! The two ends of a bundle: what gives bytes, and what takes them.
+
+ghost use Rattle.std.specs.Prelude.{◌≡◌, ◌≤◌, length, IfOk, is_err, false, List, ℕ, Option, Bool};
+ghost use Rattle.std.specs.Io.KnownBytes.{ReadConsumes, WriteAppends};
+ghost use Rattle.redo_bundle.specs.Ends.{failed_write};
+
+use std::io::{Read, Write};
+
+/// A call of a reader or a writer failed. Why is not kept.
+#[derive(Clone, Copy, Debug, PartialEq, Eq)]
+pub struct Broken;
+
+/// Gives bytes until its end, or until it fails. It is asked for nothing after a failure.
+pub trait ByteIn {
+    // The bytes that are left, where they are known.
+    ghost left: { Self → Option (List ℕ) };
+    // Whether a call has failed.
+    ghost has_failed: { Self → Bool };
+
+    /// Puts some of the bytes that are left at the front of `buf`, and answers how many. None means
+    /// the end, where `buf` has any room.
+    fn read(&mut self, buf: &mut [u8]) -> Result<usize, Broken>
+        requires { has_failed self.old ≡ false }
+        ensures bound { IfOk result (λ n. n ≤ length buf.new) }
+        ensures bytes { ReadConsumes (left self.old) (left self.new) result buf.new }
+        ensures failed { has_failed self.new ≡ is_err result };
+
+    /// Whether a call has failed.
+    fn failed(&self) -> bool
+        ensures { result ≡ has_failed self.now };
+}
+
+/// Takes bytes until it fails. It is given nothing after a failure.
+pub trait ByteOut {
+    // The bytes that it holds, where they are known.
+    ghost held: { Self → Option (List ℕ) };
+    // Whether a call has failed: it answered an error, or took nothing of some bytes.
+    ghost has_failed: { Self → Bool };
+
+    /// Takes some bytes from the front of `buf`, and answers how many. To take none of some bytes is
+    /// a failure.
+    fn write(&mut self, buf: &[u8]) -> Result<usize, Broken>
+        requires { has_failed self.old ≡ false }
+        ensures bound { IfOk result (λ n. n ≤ length buf.now) }
+        ensures bytes { WriteAppends (held self.old) (held self.new) result buf.now }
+        ensures failed { has_failed self.new ≡ failed_write result buf.now };
+
+    /// Whether a call has failed.
+    fn failed(&self) -> bool
+        ensures { result ≡ has_failed self.now };
+}
+
+/// A reader or a writer of std, with the mark that a call has failed. Any error is a failure,
+/// whatever its kind; to go on after an interrupted call, hand in a stream that does.
+#[derive(Drop)]
+pub struct Plain<S> {
+    pub stream: S,
+    pub broken: bool,
+}
+
+impl<S> Plain<S> {
+    /// A stream that has not failed yet.
+    pub fn new(stream: S) -> Plain<S>
+        ensures stream { result.stream ≡ stream }
+        ensures works { result.broken ≡ false }
+    {
+        Plain {
+            stream,
+            broken: false,
+        }
+    }
+}
+
+impl<S: Read> ByteIn for Plain<S> {
+    ghost left = { λ p. S.remaining p.stream };
+
+    ghost has_failed = { λ p. p.broken };
+
+    fn read(&mut self, buf: &mut [u8]) -> Result<usize, Broken> {
+        match self.stream.read(buf) {
+            Ok(count) => Ok(count),
+            Err(_) => {
+                self.broken = true;
+                Err(Broken)
+            }
+        }
+    }
+
+    fn failed(&self) -> bool {
+        self.broken
+    }
+}
+
+impl<S: Write> ByteOut for Plain<S> {
+    ghost held = { λ p. S.contents p.stream };
+
+    ghost has_failed = { λ p. p.broken };
+
+    fn write(&mut self, buf: &[u8]) -> Result<usize, Broken> {
+        match self.stream.write(buf) {
+            Ok(count) => {
+                if count == 0 && !buf.is_empty() {
+                    self.broken = true;
+                }
+                Ok(count)
+            }
+            Err(_) => {
+                self.broken = true;
+                Err(Broken)
+            }
+        }
+    }
+
+    fn failed(&self) -> bool {
+        self.broken
+    }
+}

@@ -1,0 +1,26 @@
+//! A tree's text as a bundle: how it is read and written.
+//!
+//! [`read_bundle`] makes a tree of a stream of bytes, and refuses what is no bundle by the first fault in it;
+//! [`write_bundle`] writes a tree in path order, so that it is read back as the same tree. Both work over the two small
+//! traits [`ByteIn`] and [`ByteOut`], whose contracts name the bytes and say whether a call has failed. The crate stands on
+//! `redo_tree` and `redo_path`, on `itoa`, which spells numbers, and on `thiserror`.
+//!
+//! - `ends`: where bytes come from and go to; `buffer`: what came and was not used yet;
+//! - `reading`, `writing`: bundles, entry by entry; `faults`: why a bundle was refused, or not written;
+//! - [`laws`]: a text is a bundle of one tree or has one first fault, and a tree's bundle is read as that tree.
+#![tactic(auto)]
+
+mod buffer;
+mod ends;
+mod faults;
+pub mod laws;
+mod reading;
+mod writing;
+
+pub use ends::{Broken, ByteIn, ByteOut, Plain};
+pub use faults::{BundleFault, WriteFault};
+pub use reading::{read_bundle, read_bundle_by_line};
+pub use writing::{write_all, write_bundle, write_parts};
+
+#[cfg(test)]
+mod tests;

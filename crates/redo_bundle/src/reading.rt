@@ -1,0 +1,363 @@
+//! Reading a bundle: a step for each part of an entry, over a buffer of what came and was not used.
+
+ghost use Rattle.std.specs.Prelude.{◌≡◌, ◌≢◌, ◌<◌, ◌≤◌, ◌+◌, ◌-◌, ◌*◌, ◌^◌, ◌↔◌, ℕ, List, [], ◌∷◌, ◌++◌, length, drop, take, codes, Bool, true, false, is_err, Option, Some, None, option_map, Result, Ok, Err, IfOk, OnOk, IfSome, IsErrOf, position};
+ghost use Rattle.std.specs.Io.KnownBytes.{Consumes, IsAtEnd, prepend_known};
+ghost use Rattle.std.specs.List.{position_or_len};
+ghost use Rattle.std.specs.Option.{option_or};
+ghost use Rattle.redo_tree.specs.Tree.{Directory, added};
+ghost use Rattle.redo_bundle.specs.Bundle.{HasSmallFiles, Reads, ReadsEach, is_newline, is_space, size_of, header_of, path_fault, tree_fault, body_fault, entry_fault, fault_at};
+ghost use Rattle.redo_bundle.specs.inside.Steps.{is_read, Finds, Refuses, IsLine, IsPlace, AddsFile, AddsEntry, AddsNext, told, words_of, line_fault, size_fault, newline_fault, file_fault};
+
+use crate::buffer::Held;
+use redo_tree::{Tree, TreeFault};
+use crate::{BundleFault, ByteIn};
+use itoa::Buffer;
+use redo_path::{Path, PathFault, resolve};
+use std::alloc::Global;
+
+/// The most bytes of a header line, without its newline.
+const LONGEST_LINE: usize = 1100;
+
+/// The most bytes of a file.
+const LARGEST_FILE: usize = 1 << 30;
+
+/// Where the first newline stands.
+fn newline_at(bytes: &[u8]) -> Option<usize>
+    ensures { result ≡ position is_newline bytes.now }
+{
+    bytes.iter().position(|byte| *byte == b'\n')
+}
+
+/// Where the first newline stands, or the length.
+#[tactic(auto, using(crate::proofs::LineLemmas::position_some, crate::proofs::LineLemmas::position_none))]
+fn line_end(bytes: &[u8]) -> usize
+    ensures { result ≡ position_or_len is_newline bytes.now }
+{
+    match newline_at(bytes) {
+        Some(end) => end,
+        None => bytes.len(),
+    }
+}
+
+/// Reads a header line and its newline, in place of a line.
+fn read_line<R: ByteIn>(
+    held: &mut Held,
+    reader: &mut R,
+    number: u64,
+    line: &mut Vec<u8>,
+) -> Result<(), BundleFault>
+    requires { R.has_failed reader.old ≡ false }
+    ensures line { OnOk result (IsLine line.new.items) }
+    ensures bytes { OnOk result (Consumes (prepend_known held.old (R.left reader.old)) (prepend_known held.new (R.left reader.new)) (line.new.items ++ 10 ∷ [])) }
+    ensures fault { Refuses result (prepend_known held.old (R.left reader.old)) (line_fault number) }
+    ensures failed { R.has_failed reader.new ≡ is_read result }
+{
+    line.clear();
+    loop {
+        if !held.fill(reader)? {
+            return Err(BundleFault::Truncated);
+        }
+        let bytes = held.bytes();
+        let size = bytes.len();
+        let end = line_end(bytes);
+        if end > LONGEST_LINE - line.len() {
+            return Err(BundleFault::Line(number));
+        }
+        line.extend_from_slice(&bytes[..end])?;
+        if end < size {
+            held.skip(end + 1);
+            return Ok(());
+        }
+        held.skip(end);
+    }
+}
+
+/// Reads the bytes of a file, which grow with what comes.
+fn read_bytes<R: ByteIn>(
+    alloc: Global,
+    held: &mut Held,
+    reader: &mut R,
+    size: usize,
+) -> Result<Vec<u8>, BundleFault>
+    requires { R.has_failed reader.old ≡ false }
+    ensures size { IfOk result (λ bytes. length bytes.items ≡ size) }
+    ensures bytes { IfOk result (λ bytes. Consumes (prepend_known held.old (R.left reader.old)) (prepend_known held.new (R.left reader.new)) bytes.items) }
+    ensures fault { Refuses result (prepend_known held.old (R.left reader.old)) (size_fault size) }
+    ensures failed { R.has_failed reader.new ≡ is_read result }
+{
+    let mut bytes = Vec::new(alloc);
+    while bytes.len() < size {
+        if !held.fill(reader)? {
+            return Err(BundleFault::Truncated);
+        }
+        let came = held.bytes();
+        let count = came.len().min(size - bytes.len());
+        bytes.extend_from_slice(&came[..count])?;
+        held.skip(count);
+    }
+    Ok(bytes)
+}
+
+/// Reads the newline behind a file's bytes.
+fn read_newline<R: ByteIn>(held: &mut Held, reader: &mut R, number: u64) -> Result<(), BundleFault>
+    requires { R.has_failed reader.old ≡ false }
+    ensures bytes { OnOk result (Consumes (prepend_known held.old (R.left reader.old)) (prepend_known held.new (R.left reader.new)) (10 ∷ [])) }
+    ensures fault { Refuses result (prepend_known held.old (R.left reader.old)) (newline_fault number) }
+    ensures failed { R.has_failed reader.new ≡ is_read result }
+{
+    held.fill(reader)?;
+    match held.bytes().first() {
+        None => return Err(BundleFault::Truncated),
+        Some(b'\n') => {}
+        Some(_) => return Err(BundleFault::Line(number)),
+    }
+    held.skip(1);
+    Ok(())
+}
+
+/// Reads the bytes of a file, and the newline behind them.
+fn read_body<R: ByteIn>(
+    alloc: Global,
+    held: &mut Held,
+    reader: &mut R,
+    number: u64,
+    size: usize,
+) -> Result<Vec<u8>, BundleFault>
+    requires { R.has_failed reader.old ≡ false }
+    ensures size { IfOk result (λ bytes. length bytes.items ≡ size) }
+    ensures bytes { IfOk result (λ bytes. Consumes (prepend_known held.old (R.left reader.old)) (prepend_known held.new (R.left reader.new)) (bytes.items ++ 10 ∷ [])) }
+    ensures fault { Refuses result (prepend_known held.old (R.left reader.old)) (file_fault number size) }
+    ensures failed { R.has_failed reader.new ≡ is_read result }
+{
+    let bytes = read_bytes(alloc, held, reader, size)?;
+    read_newline(held, reader, number)?;
+    Ok(bytes)
+}
+
+/// The number that decimal digits spell, where it is no larger than a file may be.
+fn read_size(digits: &[u8]) -> Option<usize>
+    ensures { result ≡ size_of digits.now }
+{
+    let mut sum = 0usize;
+    for digit in digits {
+        sum = 10 * sum + (*digit as usize).saturating_sub(48);
+        if sum > LARGEST_FILE {
+            return None;
+        }
+    }
+    let mut spelled = Buffer::new();
+    (spelled.format(sum).as_bytes() == digits).then_some(sum)
+}
+
+/// Where the first blank stands.
+fn blank_at(bytes: &[u8]) -> Option<usize>
+    ensures { result ≡ position is_space bytes.now }
+{
+    bytes.iter().position(|byte| *byte == b' ')
+}
+
+/// The size and the path that follow the first word of a file's header.
+#[tactic(auto, using(crate::proofs::LineLemmas::words_none, crate::proofs::LineLemmas::words_at))]
+fn read_words(words: &[u8]) -> Option<(usize, &[u8])>
+    ensures { option_map (λ f. (f.0, f.1.now)) result ≡ words_of words.now }
+{
+    let blank = blank_at(words)?;
+    let size = read_size(&words[..blank])?;
+    Some((size, &words[blank + 1..]))
+}
+
+/// What a header line says: the size of a file, none of a directory, and the path.
+#[tactic(auto, using(crate::proofs::LineLemmas::header_none, crate::proofs::LineLemmas::header_file))]
+fn read_header(line: &[u8]) -> Option<(Option<usize>, &[u8])>
+    ensures { option_map (λ h. (h.0, h.1.now)) result ≡ header_of line.now }
+{
+    if let Some(path) = line.strip_prefix(b"dir ") {
+        return Some((None, path));
+    }
+    let words = line.strip_prefix(b"file ")?;
+    let (size, path) = read_words(words)?;
+    Some((Some(size), path))
+}
+
+/// The path of a header, which has to be spelled as the path's text.
+fn read_path(alloc: Global, number: u64, word: &[u8]) -> Result<Path, BundleFault>
+    ensures path { IfOk result (λ path. path ≡ word.now) }
+    ensures place { OnOk result (IsPlace word.now) }
+    ensures fault { Finds result (path_fault number word.now) }
+    ensures quiet { is_read result ≡ false }
+{
+    match resolve(alloc, &Path::root(), word) {
+        Ok(path) => {
+            if path.text() == word {
+                Ok(path)
+            } else {
+                Err(BundleFault::Line(number))
+            }
+        }
+        Err(PathFault::Memory) => Err(BundleFault::Memory),
+        Err(fault) => Err(BundleFault::Path(number, fault)),
+    }
+}
+
+/// What the tree answered, as an answer on an entry.
+fn tell(number: u64, outcome: Result<(), TreeFault>) -> Result<(), BundleFault>
+    ensures { result ≡ told number outcome }
+{
+    match outcome {
+        Ok(()) => Ok(()),
+        Err(TreeFault::Memory) => Err(BundleFault::Memory),
+        Err(fault) => Err(BundleFault::Tree(number, fault)),
+    }
+}
+
+/// Adds the directory that a header names.
+fn read_directory(
+    alloc: Global,
+    number: u64,
+    tree: &mut Tree,
+    word: &[u8],
+) -> Result<(), BundleFault>
+    ensures place { OnOk result (IsPlace word.now) }
+    ensures adds { OnOk result (added tree.old word.now Directory ≡ Ok tree.new) }
+    ensures fault { Finds result (option_or (path_fault number word.now) (tree_fault number tree.old word.now Directory)) }
+    ensures quiet { is_read result ≡ false }
+{
+    let path = read_path(alloc, number, word)?;
+    let outcome = tree.add_dir(&path);
+    tell(number, outcome)
+}
+
+/// Reads the bytes of a file, and adds it at a path.
+fn add_file<R: ByteIn>(
+    alloc: Global,
+    held: &mut Held,
+    reader: &mut R,
+    number: u64,
+    tree: &mut Tree,
+    size: usize,
+    path: &Path,
+) -> Result<(), BundleFault>
+    requires { R.has_failed reader.old ≡ false }
+    ensures adds { OnOk result (AddsFile tree.old tree.new path.now size (prepend_known held.old (R.left reader.old)) (prepend_known held.new (R.left reader.new))) }
+    ensures fault { Refuses result (prepend_known held.old (R.left reader.old)) (body_fault number tree.old (Some size) path.now) }
+    ensures failed { R.has_failed reader.new ≡ is_read result }
+{
+    let bytes = read_body(alloc, held, reader, number, size)?;
+    let outcome = tree.add_file(path, bytes);
+    tell(number, outcome)
+}
+
+/// Reads the file that a header names, and adds it.
+fn read_file<R: ByteIn>(
+    alloc: Global,
+    held: &mut Held,
+    reader: &mut R,
+    number: u64,
+    tree: &mut Tree,
+    size: usize,
+    word: &[u8],
+) -> Result<(), BundleFault>
+    requires { R.has_failed reader.old ≡ false }
+    ensures place { OnOk result (IsPlace word.now) }
+    ensures adds { OnOk result (AddsFile tree.old tree.new word.now size (prepend_known held.old (R.left reader.old)) (prepend_known held.new (R.left reader.new))) }
+    ensures fault { Refuses result (prepend_known held.old (R.left reader.old)) (λ text. option_or (path_fault number word.now) (body_fault number tree.old (Some size) word.now text)) }
+    ensures failed { R.has_failed reader.new ≡ is_read result }
+{
+    let path = read_path(alloc, number, word)?;
+    add_file(alloc, held, reader, number, tree, size, &path)
+}
+
+/// Reads what a header announces, and adds the entry to the tree.
+fn read_entry<R: ByteIn>(
+    alloc: Global,
+    held: &mut Held,
+    reader: &mut R,
+    number: u64,
+    tree: &mut Tree,
+    line: &[u8],
+) -> Result<(), BundleFault>
+    requires { R.has_failed reader.old ≡ false }
+    ensures adds { OnOk result (AddsEntry tree.old tree.new line.now (prepend_known held.old (R.left reader.old)) (prepend_known held.new (R.left reader.new))) }
+    ensures fault { Refuses result (prepend_known held.old (R.left reader.old)) (entry_fault number tree.old line.now) }
+    ensures failed { R.has_failed reader.new ≡ is_read result }
+{
+    match read_header(line) {
+        None => Err(BundleFault::Line(number)),
+        Some((None, word)) => read_directory(alloc, number, tree, word),
+        Some((Some(size), word)) => read_file(alloc, held, reader, number, tree, size, word),
+    }
+}
+
+/// Reads one more entry, or the end: whether there was an entry. Its line is read in place of a line.
+fn read_next<R: ByteIn>(
+    alloc: Global,
+    held: &mut Held,
+    reader: &mut R,
+    number: u64,
+    tree: &mut Tree,
+    line: &mut Vec<u8>,
+) -> Result<bool, BundleFault>
+    requires works { R.has_failed reader.old ≡ false }
+    requires more { number < 2 ^ 64 - 1 }
+    ensures entry { result ≡ Ok true → AddsNext tree.old tree.new (prepend_known held.old (R.left reader.old)) (prepend_known held.new (R.left reader.new)) }
+    ensures end { result ≡ Ok false → (tree.new ≡ tree.old) × Consumes (prepend_known held.old (R.left reader.old)) (prepend_known held.new (R.left reader.new)) (codes "end\n") × (held.new ≡ []) × IsAtEnd (R.left reader.new) }
+    ensures fault { Refuses result (prepend_known held.old (R.left reader.old)) (fault_at number tree.old) }
+    ensures failed { R.has_failed reader.new ≡ is_read result }
+{
+    read_line(held, reader, number, line)?;
+    if line.as_slice() == b"end".as_slice() {
+        if held.fill(reader)? {
+            return Err(BundleFault::Line(number + 1));
+        }
+        return Ok(false);
+    }
+    read_entry(alloc, held, reader, number, tree, line)?;
+    Ok(true)
+}
+
+/// Reads a bundle to the end of the input, in pieces of 64 KiB. A file's bytes are copied once, out
+/// of the piece, and memory grows with the bytes that came, whatever length a header states.
+///
+/// A bundle is entries and then the line `end`, with nothing behind it. An entry is a line
+/// `dir <path>`, or a line `file <length> <path>`, that many bytes (at most 1,073,741,824, in plain
+/// decimal without leading zeros) and a newline. A header line has at most 1,100 bytes, a path is
+/// spelled as its text, and a directory comes before what it holds. The first fault in the order of
+/// the text is answered; of one entry it is the line's form, then its path, its content, and what
+/// the tree says of it. After `Err` the reader may have given any part of its bytes.
+pub fn read_bundle<R: ByteIn>(alloc: Global, reader: &mut R) -> Result<Tree, BundleFault>
+    requires { R.has_failed reader.old ≡ false }
+    ensures reads { IfSome (R.left reader.old) (λ text. Reads result text) }
+    ensures each { IfSome (R.left reader.old) (λ text. ReadsEach result text) }
+    ensures whole { OnOk result (IfSome (R.left reader.new) (λ rest. rest ≡ [])) }
+    ensures small { IfOk result HasSmallFiles }
+    ensures read { IsErrOf result BundleFault.Read ↔ (R.has_failed reader.new ≡ true) }
+{
+    let mut line = Vec::with_capacity(alloc, LONGEST_LINE)?;
+    read_bundle_by_line(alloc, reader, &mut line)
+}
+
+/// Reads a bundle as [`read_bundle`] does, each header line in place of `line`. So after a refusal the
+/// caller can show the line that it is about: it is the last of which anything was read, without its
+/// newline, and a beginning of it where it is too long or the input ends in it.
+pub fn read_bundle_by_line<R: ByteIn>(
+    alloc: Global,
+    reader: &mut R,
+    line: &mut Vec<u8>,
+) -> Result<Tree, BundleFault>
+    requires { R.has_failed reader.old ≡ false }
+    ensures reads { IfSome (R.left reader.old) (λ text. Reads result text) }
+    ensures each { IfSome (R.left reader.old) (λ text. ReadsEach result text) }
+    ensures whole { OnOk result (IfSome (R.left reader.new) (λ rest. rest ≡ [])) }
+    ensures small { IfOk result HasSmallFiles }
+    ensures read { IsErrOf result BundleFault.Read ↔ (R.has_failed reader.new ≡ true) }
+{
+    let mut held = Held::new(alloc)?;
+    let mut tree = Tree::new(alloc)?;
+    loop {
+        // The top directory counts for the header that comes.
+        let number = tree.len() as u64;
+        if !read_next(alloc, &mut held, reader, number, &mut tree, line)? {
+            return Ok(tree);
+        }
+    }
+}

@@ -1,0 +1,5 @@
+//! Small bundles, a table for each rule.
+
+mod ends;
+mod reading;
+mod writing;

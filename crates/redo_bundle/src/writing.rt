@@ -1,0 +1,105 @@
+//! Writing a bundle, entry by entry.
+
+ghost use Rattle.std.specs.Prelude.{◌≡◌, ◌↔◌, ◌++◌, ◌∷◌, [], flat_map, is_err, true, false, IfOk, OnOk, IsErrOf};
+ghost use Rattle.redo_tree.specs.Tree.{node_of};
+ghost use Rattle.redo_bundle.specs.Bundle.{Writes, HasSmallFiles, IsBundle, bundle_of, spelling};
+ghost use Rattle.redo_bundle.specs.inside.Steps.{is_device, header_bytes};
+
+use redo_tree::Entry;
+use redo_tree::Tree;
+use crate::{Broken, ByteOut, WriteFault};
+use redo_path::Path;
+use std::alloc::{AllocError, Global};
+
+/// Writes all of the bytes, in as many calls as the writer takes. A writer that takes nothing of
+/// what is left has failed. After a failure it holds a beginning of the bytes.
+pub fn write_all<W: ByteOut>(writer: &mut W, bytes: &[u8]) -> Result<(), Broken>
+    requires { W.has_failed writer.old ≡ false }
+    ensures writes { Writes (W.held writer.old) (W.held writer.new) result bytes.now }
+    ensures failed { W.has_failed writer.new ≡ is_err result }
+{
+    let mut rest = bytes;
+    while !rest.is_empty() {
+        let count = writer.write(rest)?;
+        if count == 0 {
+            return Err(Broken);
+        }
+        rest = &rest[count..];
+    }
+    Ok(())
+}
+
+/// Writes bytes that lie in several places, one after another. After a failure the writer holds a
+/// beginning of them.
+pub fn write_parts<W: ByteOut>(writer: &mut W, parts: &[&[u8]]) -> Result<(), Broken>
+    requires { W.has_failed writer.old ≡ false }
+    ensures writes { Writes (W.held writer.old) (W.held writer.new) result (flat_map (λ part. part.now) parts.now) }
+    ensures failed { W.has_failed writer.new ≡ is_err result }
+{
+    for part in parts {
+        write_all(writer, part)?;
+    }
+    Ok(())
+}
+
+/// The header line of an entry, with its newline.
+fn header(alloc: Global, path: &Path, entry: &Entry) -> Result<Vec<u8>, AllocError>
+    ensures { IfOk result (λ line. line.items ≡ header_bytes (path.now, node_of entry.now)) }
+{
+    let mut line = Vec::new(alloc);
+    match entry {
+        Entry::Directory => line.extend_from_slice(b"dir ")?,
+        Entry::File(content) => {
+            let size = content.bytes().len().to_string(alloc)?;
+            line.extend_from_slice(b"file ")?;
+            line.extend_from_slice(size.as_bytes())?;
+            line.extend_from_slice(b" ")?;
+        }
+    }
+    line.extend_from_slice(path.text())?;
+    line.extend_from_slice(b"\n")?;
+    Ok(line)
+}
+
+/// Writes an entry.
+fn write_entry<W: ByteOut>(
+    alloc: Global,
+    writer: &mut W,
+    path: &Path,
+    entry: &Entry,
+) -> Result<(), WriteFault>
+    requires { W.has_failed writer.old ≡ false }
+    ensures writes { Writes (W.held writer.old) (W.held writer.new) result (spelling (path.now, node_of entry.now)) }
+    ensures failed { W.has_failed writer.new ≡ is_device result }
+{
+    let line = header(alloc, path, entry)?;
+    write_all(writer, &line)?;
+    if let Entry::File(content) = entry {
+        write_all(writer, content.bytes())?;
+        write_all(writer, b"\n")?;
+    }
+    Ok(())
+}
+
+/// Writes the directories and files below the top directory as a bundle, in path order; the form is
+/// that of [`read_bundle`](crate::read_bundle). No file may have more than 1,073,741,824 bytes, which
+/// `read_bundle` ensures. After `Err` a beginning of the text went out.
+pub fn write_bundle<W: ByteOut>(
+    alloc: Global,
+    writer: &mut W,
+    tree: &Tree,
+) -> Result<(), WriteFault>
+    requires works { W.has_failed writer.old ≡ false }
+    requires small { HasSmallFiles tree.now }
+    ensures writes { Writes (W.held writer.old) (W.held writer.new) result (bundle_of tree.now) }
+    ensures readable { IsBundle (bundle_of tree.now) tree.now }
+    ensures device { IsErrOf result WriteFault.Device ↔ (W.has_failed writer.new ≡ true) }
+{
+    let mut entries = tree.in_order(alloc)?.into_iter();
+    let _root = entries.next();
+    for (path, entry) in entries {
+        write_entry(alloc, writer, path, entry)?;
+    }
+    write_all(writer, b"end\n")?;
+    Ok(())
+}

@@ -1,0 +1,4 @@
+pub mod EntryNameLemmas
+pub mod LoadedLemmas
+pub mod StoredFileLemmas
+pub mod TextLemmas

@@ -1,0 +1,90 @@
+-- The names that were listed make the tree that was loaded, and the count of those that were passed over.
+use Rattle.std.proofs.Common.{◌≡◌, ◌^◌, ◌-◌, ◌+◌, ℕ, List, [], ◌∷◌, ◌++◌, refl, sym, ap, subst, ◌∙◌, inl, inr, arith, Option, Some, None, cond}
+use Rattle.std.proofs.lemmas.List.Sums.{sum_by-append}
+use Rattle.std.specs.Fs.{dir_entry_name}
+use Rattle.std.specs.declared.fs.dir.DirEntry.{DirEntry}
+use Rattle.std.specs.declared.io.Error.{Error}
+use Rattle.std.specs.List.{AllZip, filter_map}
+use Rattle.std.specs.Prelude.{Result, Ok, Err, count_by, is_none, min}
+use Rattle.redo_path.specs.Names.{child_of}
+use Rattle.redo_tree.specs.Tree.{Node, top, added}
+use Rattle.redo_tree.specs.Tree.{grown}
+use Rattle.redo_dir.specs.Directory.{ComesTo, IsLoaded, Listed, MayStand, Progress, Receives, TakesIn, TakesInListed, with_passed}
+use Rattle.redo_tree.proofs.GrowLemmas.{grown-append}
+
+AllZip-last : {A B : Type 0} (R : A → B → Type 0) (xs : List A) (ys : List B) (x : A) (y : B) → AllZip R xs ys → R x y → AllZip R (xs ++ x ∷ []) (ys ++ y ∷ [])
+AllZip-last R [] [] x y h k = (k, tt)
+AllZip-last R [] (z ∷ zs) x y h k = absurd h
+AllZip-last R (w ∷ ws) [] x y h k = absurd h
+AllZip-last R (w ∷ ws) (z ∷ zs) x y h k = (h.0, AllZip-last R ws zs x y h.1 k)
+
+-- one entry more
+entries-some : {X : Type 0} (os : List (Option X)) (e : X) → filter_map (λ o. o) (os ++ Some e ∷ []) ≡ filter_map (λ o. o) os ++ e ∷ []
+entries-some [] e = refl
+entries-some (None ∷ os) e = entries-some os e
+entries-some (Some x ∷ os) e = ap (λ l. x ∷ l) (entries-some os e)
+
+entries-none : {X : Type 0} (os : List (Option X)) → filter_map (λ o. o) (os ++ None ∷ []) ≡ filter_map (λ o. o) os
+entries-none [] = refl
+entries-none (None ∷ os) = entries-none os
+entries-none (Some x ∷ os) = ap (λ l. x ∷ l) (entries-none os)
+
+-- counting goes on behind a list
+count-last : {X : Type 0} (os : List (Option X)) (o : Option X) → count_by is_none (os ++ o ∷ []) ≡ count_by is_none os + count_by is_none (o ∷ [])
+count-last os o = sum_by-append (λ x. cond (is_none x) 1 0) os (o ∷ [])
+
+add-none : (n : ℕ) → n + 0 ≡ n
+add-none n = omega arith
+
+count-some : {X : Type 0} (os : List (Option X)) (e : X) → count_by is_none (os ++ Some e ∷ []) ≡ count_by is_none os
+count-some os e = count-last os (Some e) ∙ add-none (count_by is_none os)
+
+min-more : (n m : ℕ) → min (min n m + 1) m ≡ min (n + 1) m
+min-more n m = omega arith
+
+-- before the first name
+pub loaded_first : (p : Progress) → p ≡ record { tree = top; waiting = [] ∷ []; passed = 0 } → IsLoaded p.tree p.passed
+loaded_first p e = subst (λ q. IsLoaded q.tree q.passed) (sym e) ([], record { became = []; each = tt; grows = refl; counts = refl })
+
+-- a name was passed over
+passed_over : (old new : Progress) (l : Listed) → IsLoaded old.tree old.passed → ComesTo l None → new ≡ with_passed old → IsLoaded new.tree new.passed
+passed_over old new l h k e =
+    let r = h.1 in
+    subst (λ q. IsLoaded q.tree q.passed) (sym e) (
+      h.0 ++ l ∷ [],
+      record {
+        became = r.became ++ None ∷ [];
+        each = AllZip-last ComesTo h.0 r.became l None r.each k;
+        grows = ap (grown top) (entries-none r.became) ∙ r.grows;
+        counts = ap (λ n. min (n + 1) (2 ^ 64 - 1)) r.counts ∙ min-more (count_by is_none r.became) (2 ^ 64 - 1) ∙ ap (λ n. min n (2 ^ 64 - 1)) (sym (count-last r.became None));
+      },
+    )
+
+-- a name was entered
+entered : (old new : Progress) (l : Listed) (path : List ℕ) (node : Node) → IsLoaded old.tree old.passed → ComesTo l (Some (path, node)) → added old.tree path node ≡ Ok new.tree → new.passed ≡ old.passed → IsLoaded new.tree new.passed
+entered old new l path node h k e f =
+    let r = h.1 in (
+      h.0 ++ l ∷ [],
+      record {
+        became = r.became ++ Some (path, node) ∷ [];
+        each = AllZip-last ComesTo h.0 r.became l (Some (path, node)) r.each k;
+        grows = ap (grown top) (entries-some r.became (path, node)) ∙ grown-append top old.tree new.tree (filter_map (λ o. o) r.became) (path, node) r.grows e;
+        counts = f ∙ r.counts ∙ ap (λ n. min n (2 ^ 64 - 1)) (sym (count-some r.became (path, node)));
+      },
+    )
+
+received : (old new : Progress) (dir name : List ℕ) (node : Option Node) → IsLoaded old.tree old.passed → MayStand dir name → Receives old new (child_of dir name) node → IsLoaded new.tree new.passed
+received old new dir name None h k r = passed_over old new (record { dir = dir; name = name; node = None }) h (inr refl) r
+received old new dir name (Some node) h k r = entered old new (record { dir = dir; name = name; node = Some node }) (child_of dir name) node h (k, refl, refl) r.adds r.counts
+
+-- a name was taken in
+loaded_taken : (old new : Progress) (dir name : List ℕ) → IsLoaded old.tree old.passed → TakesIn old new dir name → IsLoaded new.tree new.passed
+loaded_taken old new dir name h t = elim t [
+  | inl s ↦ passed_over old new (record { dir = dir; name = name; node = None }) h (inl s.0) s.1
+  | inr s ↦ received old new dir name s.1.0 h s.0 s.1.1
+]
+
+-- what was listed was taken in
+pub loaded_listed : {R A F D : Type 0} (old new : Progress) (dir : List ℕ) (listed : Result (DirEntry R A F D) Error) → IsLoaded old.tree old.passed → TakesInListed old new dir listed → IsLoaded new.tree new.passed
+loaded_listed old new dir (Ok entry) h t = loaded_taken old new dir (dir_entry_name entry) h t.1
+loaded_listed old new dir (Err error) h t = passed_over old new (record { dir = dir; name = []; node = None }) h (inr refl) t.1

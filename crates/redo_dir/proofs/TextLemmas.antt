@@ -1,0 +1,113 @@
+-- Lists of paths that are text, and trees of them.
+use Rattle.std.proofs.Common.{◌≡◌, ◌<◌, ◌+◌, ℕ, List, [], ◌∷◌, get_or, length, map, take, refl, sym, ap, subst, zero, suc, arith, Option, Some, None, inl, inr, ◌++◌, ◌∙◌}
+use Rattle.std.specs.Prelude.{Err, IsUtf8, slice_get, Ok, Result}
+use Rattle.std.specs.Fs.{dir_entry_name}
+use Rattle.std.specs.List.{AllByRecursion}
+use Rattle.std.specs.declared.fs.dir.DirEntry.{DirEntry}
+use Rattle.std.specs.declared.io.Error.{Error}
+use Rattle.redo_path.proofs.ApartLemmas.{apart}
+use Rattle.redo_dir.specs.declared.storing.Unwritten.{Unwritten}
+use Rattle.redo_dir.specs.declared.storing.Unwritten.TheVariants.{Device, Name, Memory}
+use Rattle.redo_dir.specs.declared.faults.StoreFault.{StoreFault}
+use Rattle.std.proofs.lemmas.List.{map-append}
+use Rattle.std.proofs.lemmas.Str.{IsUtf8-append}
+use Rattle.std.specs.BTreeMap.{insert_entry}
+use Rattle.std.specs.Cmp.Lexicographic.{slice_cmp}
+use Rattle.std.specs.Option.{option_map_or}
+use Rattle.std.specs.Ordering.{nat_cmp, match_ordering}
+use Rattle.std.specs.declared.cmp.Ordering.TheVariants.{Less, Equal, Greater}
+use Rattle.redo_path.specs.Names.{child_of}
+use Rattle.redo_path.proofs.PartLemmas.{AllByRecursion-append, AllByRecursion-front}
+use Rattle.redo_tree.specs.declared.faults.TreeFault.{TreeFault}
+use Rattle.redo_tree.specs.Tree.{Node, Directory, File, Tree, added, refusal, with_node}
+use Rattle.redo_dir.specs.Directory.{HasTextPaths, HasTexts, MeansText, MetText, Progress, Receives, TakesIn, TakesInListed, fault_at, with_passed, with_waiting}
+
+-- what a list that was made of another one has at a place
+pub at_map : {A : Type 0} (f : A → List ℕ) (xs : List A) (k : ℕ) (d : A) → k < length xs → d ≡ get_or xs k d → slice_get (map f xs) k ≡ Some (f d)
+at_map f [] k d l e = absurd (omega arith)
+at_map f (x ∷ xs) zero d l e = ap (λ y. Some (f y)) (sym e)
+at_map f (x ∷ xs) (suc k) d l e = at_map f xs k d (omega arith) e
+
+texts_suc : (paths : List (List ℕ)) (k : ℕ) (path : List ℕ) → slice_get paths k ≡ Some path → IsUtf8 path → AllByRecursion IsUtf8 (take k paths) → AllByRecursion IsUtf8 (take (suc k) paths)
+texts_suc [] k path e u h = apart cc
+texts_suc (x ∷ xs) zero path e u h = let same : x ≡ path = cc in (subst IsUtf8 (sym same) u, tt)
+texts_suc (x ∷ xs) (suc k) path e u h = (h.0, texts_suc xs k path e u h.1)
+
+-- one path more is text
+pub texts_next : (paths : List (List ℕ)) (k : ℕ) (path : List ℕ) → slice_get paths k ≡ Some path → IsUtf8 path → AllByRecursion IsUtf8 (take k paths) → AllByRecursion IsUtf8 (take (k + 1) paths)
+texts_next paths k path e u h =
+    let more : suc k ≡ k + 1 = omega arith in
+    subst (λ n. AllByRecursion IsUtf8 (take n paths)) more (texts_suc paths k path e u h)
+
+refused_so : (paths : List (List ℕ)) (k : ℕ) (path : List ℕ) (fault : Unwritten) → slice_get paths k ≡ Some path → MeansText {A = Unit {0}} (Err fault) path → AllByRecursion IsUtf8 (take k paths) → HasTexts {A = Unit {0}} (Err (fault_at fault k)) paths
+refused_so paths k path (Device kind) e w h = (path, e, w, h)
+refused_so paths k path Name e w h = (path, e, w, h)
+refused_so paths k path Memory e w h = (path, e, w, h)
+
+-- the file at a place wasn't written
+pub refused_at : (paths : List (List ℕ)) (k : ℕ) (path : List ℕ) (fault : Unwritten) (answer : StoreFault) → slice_get paths k ≡ Some path → MeansText {A = Unit {0}} (Err fault) path → AllByRecursion IsUtf8 (take k paths) → answer ≡ fault_at fault k → HasTexts {A = Unit {0}} (Err answer) paths
+refused_at paths k path fault answer e w h same = subst (λ f. HasTexts {A = Unit {0}} (Err f) paths) (sym same) (refused_so paths k path fault e w h)
+
+-- the path of a text name in a directory whose path is text
+child_text : (dir name : List ℕ) → IsUtf8 dir → IsUtf8 name → IsUtf8 (child_of dir name)
+unfolding lib.Utf8.encode
+child_text [] name d n = n
+child_text (b ∷ bs) name d n =
+    let slash : IsUtf8 (47 ∷ []) = (47 ∷ [], (refl, refl)) in
+    IsUtf8-append (b ∷ bs) (47 ∷ name) d (IsUtf8-append (47 ∷ []) name slash n)
+
+text-insert : (es : Tree) (path : List ℕ) (node : Node) → HasTextPaths es → IsUtf8 path → HasTextPaths (insert_entry (slice_cmp nat_cmp) es path node)
+text-insert [] path node h k = (k, tt)
+text-insert (e ∷ es) path node h k =
+    elim (slice_cmp nat_cmp path e.0) as (λ o. HasTextPaths (match_ordering {X = Tree} o ((path, node) ∷ e ∷ es) ((e.0, node) ∷ es) (e ∷ insert_entry (slice_cmp nat_cmp) es path node))) [
+      | Less ↦ (k, h)
+      | Equal ↦ (h.0, h.1)
+      | Greater ↦ (h.0, text-insert es path node h.1 k)
+    ]
+
+fine : (o : Option TreeFault) (x y : Tree) → option_map_or Err o (Ok x) ≡ Ok y → x ≡ y
+fine None x y h = cc
+fine (Some f) x y h = cc
+
+text-added : (old new : Tree) (path : List ℕ) (node : Node) → HasTextPaths old → IsUtf8 path → added old path node ≡ Ok new → HasTextPaths new
+text-added old new path node h k e = subst HasTextPaths (fine (refusal old path node) (with_node old path node) new e) (text-insert old path node h k)
+
+text-waiting : (waiting : List (List ℕ)) (path : List ℕ) (node : Node) → AllByRecursion IsUtf8 waiting → IsUtf8 path → AllByRecursion IsUtf8 (with_waiting waiting path node)
+text-waiting waiting path Directory h k = AllByRecursion-append IsUtf8 waiting (path ∷ []) h (k, tt)
+text-waiting waiting path (File bytes) h k = h
+
+-- a name that was passed over leaves all that was met text
+text_passed : (old new : Progress) → MetText old → new ≡ with_passed old → MetText new
+text_passed old new h e = subst MetText (sym e) (record { entered = h.entered; ahead = h.ahead })
+
+text_received : (old new : Progress) (path : List ℕ) (node : Option Node) → MetText old → IsUtf8 path → Receives old new path node → MetText new
+text_received old new path None h k r = text_passed old new h r
+text_received old new path (Some node) h k r = record {
+  entered = text-added old.tree new.tree path node h.entered k r.adds;
+  ahead = subst (AllByRecursion IsUtf8) (sym r.waits) (text-waiting old.waiting path node h.ahead k);
+}
+
+-- all that was met is text after one more name
+text_taken : (old new : Progress) (dir name : List ℕ) → MetText old → IsUtf8 dir → IsUtf8 name → TakesIn old new dir name → MetText new
+text_taken old new dir name h d n t = elim t [
+  | inl s ↦ text_passed old new h s.1
+  | inr s ↦ text_received old new (child_of dir name) s.1.0 h (child_text dir name d n) s.1.1
+]
+
+pub text_listed : {R A F D : Type 0} (old new : Progress) (dir : List ℕ) (listed : Result (DirEntry R A F D) Error) → MetText old → IsUtf8 dir → TakesInListed old new dir listed → MetText new
+text_listed old new dir (Ok entry) h d t = text_taken old new dir (dir_entry_name entry) h d t.0 t.1
+text_listed old new dir (Err error) h d t = text_passed old new h t.1
+
+last_text : (paths : List (List ℕ)) (path : List ℕ) → AllByRecursion IsUtf8 (paths ++ path ∷ []) → IsUtf8 path
+last_text [] path h = h.0
+last_text (x ∷ xs) path h = last_text xs path h.1
+
+split_texts : {A : Type 0} (f : A → List ℕ) (old new : List A) (next : A) → old ≡ new ++ next ∷ [] → AllByRecursion IsUtf8 (map f old) → AllByRecursion IsUtf8 (map f new ++ f next ∷ [])
+split_texts f old new next e h = subst (AllByRecursion IsUtf8) (ap (map f) e ∙ map-append f new (next ∷ [])) h
+
+-- the paths of a list without its last are text, and so is the last
+pub front_texts : {A : Type 0} (f : A → List ℕ) (old new : List A) (next : A) → old ≡ new ++ next ∷ [] → AllByRecursion IsUtf8 (map f old) → AllByRecursion IsUtf8 (map f new)
+front_texts f old new next e h = AllByRecursion-front IsUtf8 (map f new) (f next ∷ []) (split_texts f old new next e h)
+
+pub end_text : {A : Type 0} (f : A → List ℕ) (old new : List A) (next : A) → old ≡ new ++ next ∷ [] → AllByRecursion IsUtf8 (map f old) → IsUtf8 (f next)
+end_text f old new next e h = last_text (map f new) (f next) (split_texts f old new next e h)

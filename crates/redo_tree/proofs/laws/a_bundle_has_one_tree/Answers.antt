@@ -1,5 +1,0 @@
-use Rattle.redo_tree.proofs.OnceLemmas.{one_tree}
-use Rattle.redo_tree.proofs.laws.a_bundle_has_one_tree.Goals as goal
-
-pub returns : goal.returns
-returns c = one_tree
