@@ -77,7 +77,8 @@ impl<T: Drop> From<AllocFailed<T>> for PathFault {
 }
 
 /// A canonical path. A clone copies a short text and shares a long one. In a contract a path is its
-/// text.
+/// text. A text of up to 22 bytes lies in the path itself, which has the size of three words, so
+/// reading most paths of a build takes no step into memory elsewhere; a longer one is kept once.
 #[derive(Debug)]
 pub struct Path {
     text: Bytes,

@@ -1,4 +1,8 @@
 //! What a word names, read from a directory: part by part, as a shell reads it.
+//!
+//! A word that is read from the top directory and whose parts are all names is a path's text already,
+//! and is kept as it stands. Any other is walked into a buffer that gets its room once, at most 1,024
+//! bytes; where the word has `.` or `..`, some of that room stays spare.
 
 ghost use Rattle.std.specs.Prelude.{◌≡◌, ◌↔◌, Err, IfErr, IfOk, IsOk, IsTrue, MatchOption, None, position};
 ghost use Rattle.std.specs.List.{AllByRecursion};

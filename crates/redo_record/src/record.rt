@@ -66,7 +66,8 @@ impl Record {
         }
     }
 
-    /// The record of a target whose script ended and declared this, which is taken over.
+    /// The record of a target whose script ended and declared this, which is taken over; it is copied only
+    /// where the search has entered some of it already.
     pub fn of_script(alloc: Global, rule: Rule, declared: Deps) -> Result<Record, AllocError>
         ensures { IfOk result (λ deps. deps ≡ with_all (search_deps rule.missing rule.do_file) declared) }
     {

@@ -1,4 +1,5 @@
-//! What a build came to, as data: rows, files and begun scripts.
+//! What a build came to, as data: rows, files and begun scripts. Records and contents are shared with those who decided
+//! the targets, not copied.
 use redo_path::Path;
 use redo_record::{Outcome, Record};
 use redo_tree::Content;

@@ -67,7 +67,8 @@ struct Course {
     place: Place,
     effects: Effects,
     turn: u64,
-    /// The redo-ifchange that waits at the place.
+    /// The redo-ifchange that waits at the place. Contracts don't see it; the invariant of [`Job`] ties it to the
+    /// statement at the place.
     kept: Option<Waiting>,
 }
 

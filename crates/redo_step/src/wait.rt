@@ -1,4 +1,8 @@
 //! What a redo-ifchange waits for.
+//!
+//! A script that goes on does so with the operands that are no sources: its words are not evaluated again, nothing is
+//! entered again, and the tree isn't asked again. Each operand is looked up once, to see whether all are built; only
+//! where they aren't it is looked for which.
 
 ghost use Rattle.std.specs.Prelude.{◌≡◌, IfOk, IsTrue, false, is_none, []};
 ghost use Rattle.redo_step.specs.Runs.{State};

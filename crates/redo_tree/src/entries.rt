@@ -1,4 +1,7 @@
 //! The tree: what stands at each path.
+//!
+//! Entries are kept in the order in which they were added. They are sorted for [`Tree::in_order`] and
+//! [`Tree::files`] alone, so memory may run out there and while a bundle is written.
 
 ghost use Rattle.std.specs.Prelude.{◌≡◌, ◌<◌, ◌^◌, IfOk, IfSome, OnOk, false, length, option_copied, map, nat_eq, option_map, List, ℕ};
 ghost use Rattle.std.proofs.Common.{ap};
