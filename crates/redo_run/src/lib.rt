@@ -1,16 +1,17 @@
 //! Builds from the bytes of a bundle, or a directory, to the bytes of the report, by one thread or by many.
 //!
-//! [`run_bundle`] reads a bundle to its end, builds the requested targets by as many workers as the options say, and writes
-//! the report; [`whichdo_bundle`] writes where the rule of a target is looked for. [`run_dir`] and [`whichdo_dir`] do the same
-//! over a directory, into which the files that were built are stored. [`build_many`] is the build alone, and
-//! [`build_one`] the same in one thread, without a lock. The crate stands on `redo_core` for what a build is and for the
-//! board that holds it, on `redo_tree` for trees and bundles, and on `redo_which` for the search.
+//! [`run_bundle`] reads a bundle to its end, builds the requested targets by as many workers as the options say, and
+//! writes the report; [`whichdo_bundle`] writes where the rule of a target is looked for. [`run_dir`] and
+//! [`whichdo_dir`] do the same over a directory, into which the files that were built are stored. [`build_many`] is the
+//! build alone, and [`build_one`] the same in one thread, without a lock. The crate stands on `redo_build` for what a
+//! build is, on `redo_core` for the board that holds it, on `redo_report` for the report and its text, on `redo_tree`,
+//! `redo_bundle` and `redo_dir` for trees and where they come from, and on `redo_which` for the search.
 //!
 //! - `one`: a build by one thread; `workers`: by many, round one board under a lock; `gate`: who is told of each job;
 //!   `picks`: a build in an order that is given beforehand;
 //! - `run_fault`: why a build has no report; `exit`: whether all that was requested is there;
-//! - `bundle`: the two calls over bundles; `options` and `fault`: what they take and refuse; `directory` and `dir_fault`: the
-//!   same over a directory; `request` and `candidates`: what both share.
+//! - `bundle`: the two calls over bundles; `options` and `fault`: what they take and refuse; `directory` and
+//!   `dir_fault`: the same over a directory; `request` and `candidates`: what both share.
 #![tactic(auto)]
 
 mod bundle;
