@@ -3,9 +3,9 @@
 use crate::options::TARGETS;
 use crate::status::Fault;
 use bstr::BStr;
+use redo_bundle::BundleFault;
 use redo_path::PathFault;
 use redo_run::Cause;
-use redo_bundle::BundleFault;
 use std::alloc::{AllocError, Global};
 use std::fmt::Display;
 
@@ -75,9 +75,10 @@ fn path_in(header: &[u8]) -> &[u8] {
 mod tests {
     use super::{of_fault, of_target};
     use crate::status::Fault;
+    use redo_bundle::BundleFault;
     use redo_path::PathFault;
     use redo_run::Cause;
-    use redo_tree::{BundleFault, TreeFault};
+    use redo_tree::TreeFault;
     use std::alloc::Global;
     use std::io::ErrorKind;
     use std::test::Fail;

@@ -8,10 +8,10 @@ mod options;
 mod status;
 
 use clap::{ArgMatches, Error};
-use options::{Call, Place, Refusal, Task};
+use options::{Action, Call, Input, Refusal};
+use redo_bundle::Plain;
 use redo_path::Path;
 use redo_run::{Cause, Exit, NoGate, Options, run_bundle, run_dir, whichdo_bundle, whichdo_dir};
-use redo_bundle::Plain;
 use status::Fault;
 use std::alloc::Global;
 use std::io::{BufWriter, Write};
@@ -31,7 +31,7 @@ fn main(rt: HostRuntime) -> ExitCode {
         Err(status) => return ExitCode::from(status),
     };
     let mut cause = Cause::new(alloc);
-    match run(&rt, alloc, &call.task, &mut cause) {
+    match run(&rt, alloc, &call.action, &mut cause) {
         Ok(true) => ExitCode::from(status::GOOD),
         Ok(false) => ExitCode::from(status::FAILED),
         Err(fault) => {
@@ -56,7 +56,8 @@ fn read_call(rt: &HostRuntime, alloc: Global) -> Result<Call, u8> {
     options::call_of(alloc, &matches).map_err(|refusal| refuse_call(rt, alloc, refusal, &matches))
 }
 
-/// Shows what the parse ended in: help or the version on standard output, a refusal on standard error. Answers the exit status.
+/// Shows what the parse ended in: help or the version on standard output, a refusal on standard error. Answers the exit
+/// status.
 fn show_parse(rt: &HostRuntime, error: &Error) -> u8 {
     if error.print(rt).is_err() && !error.use_stderr() {
         let fault = Fault::Output;
@@ -100,12 +101,12 @@ fn show_cause<E: Drop>(rt: &HostRuntime, cause: Result<Option<String>, E>) {
 fn run<H: Runtime + Threads + Wait + Sync>(
     rt: &H,
     alloc: Global,
-    task: &Task,
+    action: &Action,
     cause: &mut Cause,
 ) -> Result<bool, Fault> {
-    match task {
-        Task::Build(options, place) => build(rt, alloc, options, place, cause),
-        Task::Whichdo(target, place) => list(rt, alloc, target, place, cause),
+    match action {
+        Action::Build(options, input) => build(rt, alloc, options, input, cause),
+        Action::Whichdo(target, input) => list(rt, alloc, target, input, cause),
     }
 }
 
@@ -114,17 +115,17 @@ fn build<H: Runtime + Threads + Wait + Sync>(
     rt: &H,
     alloc: Global,
     options: &Options,
-    place: &Place,
+    input: &Input,
     cause: &mut Cause,
 ) -> Result<bool, Fault> {
     let mut writer = Plain::new(buffered(alloc, io::writer(rt))?);
-    let (exit, passed) = match place {
-        Place::Bundle => {
+    let (exit, passed) = match input {
+        Input::Bundle => {
             let mut reader = Plain::new(rt.reader());
             let exit = run_bundle(rt, alloc, &mut reader, &mut writer, options, &NoGate, cause)?;
             (exit, 0)
         }
-        Place::Directory(dir) => {
+        Input::Directory(dir) => {
             let run = run_dir(rt, alloc, dir, &mut writer, options, &NoGate, cause)?;
             (run.exit, run.passed)
         }
@@ -149,16 +150,16 @@ fn list<H: Runtime>(
     rt: &H,
     alloc: Global,
     target: &Path,
-    place: &Place,
+    input: &Input,
     cause: &mut Cause,
 ) -> Result<bool, Fault> {
     let mut writer = Plain::new(io::writer(rt));
-    match place {
-        Place::Bundle => {
+    match input {
+        Input::Bundle => {
             let mut reader = Plain::new(rt.reader());
             Ok(whichdo_bundle(alloc, &mut reader, &mut writer, target, cause)?)
         }
-        Place::Directory(dir) => {
+        Input::Directory(dir) => {
             let (found, passed) = whichdo_dir(rt, alloc, dir, &mut writer, target, cause)?;
             note_passed(rt, passed);
             Ok(found)

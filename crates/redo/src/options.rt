@@ -24,7 +24,7 @@ const MOST_JOBS: usize = 64;
 
 /// Where the tree is read from.
 #[derive(Drop)]
-pub(crate) enum Place {
+pub(crate) enum Input {
     /// A bundle on standard input.
     Bundle,
     Directory(String),
@@ -33,16 +33,16 @@ pub(crate) enum Place {
 /// What the command line asks for.
 #[derive(Drop)]
 pub(crate) struct Call {
-    pub(crate) task: Task,
+    pub(crate) action: Action,
     /// Whether a message is to be followed by its cause.
     pub(crate) verbose: bool,
 }
 
 /// What is to be done.
 #[derive(Drop)]
-pub(crate) enum Task {
-    Build(Options, Place),
-    Whichdo(Path, Place),
+pub(crate) enum Action {
+    Build(Options, Input),
+    Whichdo(Path, Input),
 }
 
 /// Why the words of the command line, each good by itself, can't be served together.
@@ -171,18 +171,18 @@ pub(crate) fn call_of(alloc: Global, matches: &ArgMatches<'_>) -> Result<Call, R
     if whichdo.is_some() && matches.contains_id("targets") {
         return Err(Refusal::TargetsBesideWhichdo);
     }
-    let place = if bundle {
-        Place::Bundle
+    let input = if bundle {
+        Input::Bundle
     } else {
         let dir = matches.get_str("directory").unwrap_or(".");
-        Place::Directory(String::from_str(alloc, dir)?)
+        Input::Directory(String::from_str(alloc, dir)?)
     };
-    let task = match whichdo {
-        Some(word) => Task::Whichdo(target(alloc, word)?, place),
-        None => Task::Build(options(alloc, matches)?, place),
+    let action = match whichdo {
+        Some(word) => Action::Whichdo(target(alloc, word)?, input),
+        None => Action::Build(options(alloc, matches)?, input),
     };
     let verbose = matches.get_flag("verbose");
-    Ok(Call { task, verbose })
+    Ok(Call { action, verbose })
 }
 
 /// The first word that names no target, and why.
@@ -233,7 +233,7 @@ fn options(alloc: Global, matches: &ArgMatches<'_>) -> Result<Options, Refusal> 
 
 #[cfg(test)]
 mod tests {
-    use super::{Call, Place, Refusal, Task, bad_target, call_of, command};
+    use super::{Action, Call, Input, Refusal, bad_target, call_of, command};
     use crate::status::of_parse;
     use redo_path::PathFault;
     use std::alloc::Global;
@@ -320,10 +320,10 @@ mod tests {
             return Err("no call".into());
         };
         assert!(rt; call.verbose);
-        let Task::Build(options, place) = call.task else {
+        let Action::Build(options, input) = call.action else {
             return Err("no build".into());
         };
-        assert!(rt; matches!(place, Place::Bundle));
+        assert!(rt; matches!(input, Input::Bundle));
         assert_eq!(rt; options.workers, 64);
         assert_eq!(rt; options.targets.len(), 2);
         assert_eq!(rt; options.targets[1].text(), b"b".as_slice());
@@ -333,11 +333,11 @@ mod tests {
             return Err("no call".into());
         };
         assert!(rt; !call.verbose);
-        let Task::Whichdo(target, place) = call.task else {
+        let Action::Whichdo(target, input) = call.action else {
             return Err("no search".into());
         };
         assert_eq!(rt; target.text(), b"a/x".as_slice());
-        let Place::Directory(dir) = place else {
+        let Input::Directory(dir) = input else {
             return Err("no directory".into());
         };
         assert_eq!(rt; dir.as_str(), "d");
@@ -350,12 +350,12 @@ mod tests {
         let Some(Ok(call)) = read(alloc, &["redo", "-k"])? else {
             return Err("no call".into());
         };
-        let Task::Build(options, place) = call.task else {
+        let Action::Build(options, input) = call.action else {
             return Err("no build".into());
         };
         assert_eq!(rt; options.workers, 1);
         assert_eq!(rt; options.targets.len(), 0);
-        let Place::Directory(dir) = place else {
+        let Input::Directory(dir) = input else {
             return Err("no directory".into());
         };
         assert_eq!(rt; dir.as_str(), ".");

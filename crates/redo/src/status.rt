@@ -3,8 +3,8 @@
 use crate::options::Refusal;
 use clap::Error;
 use clap::error::ErrorKind;
-use redo_run::{RunDirFault, RunIoFault};
 use redo_bundle::BundleFault;
+use redo_run::{RunDirFault, RunIoFault};
 use std::fmt;
 
 /// All requested targets are built or sources; a rule was found; help was shown.
@@ -102,9 +102,10 @@ impl fmt::Display for Fault {
 mod tests {
     use super::{Fault, of_fault, of_refusal};
     use crate::options::Refusal;
+    use redo_bundle::BundleFault;
     use redo_path::PathFault;
     use redo_run::{RunDirFault, RunIoFault};
-    use redo_tree::{BundleFault, TreeFault};
+    use redo_tree::TreeFault;
     use std::test::Fail;
 
     #[test]

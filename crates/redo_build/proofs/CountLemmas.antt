@@ -1,13 +1,17 @@
 -- How many jobs are out, and how many may still be taken, after each event.
-use Rattle.std.proofs.Common.{◌≡◌, ℕ, suc, ◌+◌, ◌*◌, ◌-◌, ◌<◌, ◌≤◌, true, false, cond, inl, inr, List, [], ◌∷◌, ◌++◌, length, length-append, filter, Option, Some, None, is_some, slice_get, option_and_then, refl, sym, ap, subst, ◌∙◌, arith, bytes_eq}
+use Rattle.std.proofs.Common.{◌≡◌, ℕ, suc, ◌+◌, ◌*◌, ◌-◌, ◌<◌, ◌≤◌, true, false, cond, inl, inr, List, [], ◌∷◌, ◌++◌}
+use Rattle.std.proofs.Common.{length, length-append, filter, Option, Some, None, is_some, slice_get, option_and_then}
+use Rattle.std.proofs.Common.{refl, sym, ap, subst, ◌∙◌, arith, bytes_eq}
 use Rattle.std.proofs.lemmas.Bool.{cases_Bool}
 use Rattle.redo_record.specs.Paths.{is_among}
 use Rattle.redo_build.specs.Rules.{Rules, AreLawful, operands}
 use Rattle.redo_build.specs.Outcomes.{requested_targets}
-use Rattle.redo_build.specs.Schedule.{Entry, State, paths_of, entry_of, new_entry, entered, put, sent_out, taken, advanced, moved_on, handed_in, happens, out_count, opening, IsOutAt}
+use Rattle.redo_build.specs.Schedule.{Entry, State, paths_of, entry_of, new_entry, entered, put, sent_out, taken}
+use Rattle.redo_build.specs.Schedule.{advanced, moved_on, handed_in, happens, out_count, opening, IsOutAt}
 use Rattle.redo_build.specs.Schedule.Event.{Take, Hand_in}
 use Rattle.redo_build.specs.TakesLeft.{turns_left, turns_of, takes_left}
-use Rattle.redo_build.proofs.SeenLemmas.{paths_of-put, entry_of-path, entry_of-among, entry_of-put_same, entry_of-entered_old, entered-longer}
+use Rattle.redo_build.proofs.SeenLemmas.{paths_of-put, entry_of-path, entry_of-among, entry_of-put_same}
+use Rattle.redo_build.proofs.SeenLemmas.{entry_of-entered_old, entered-longer}
 use Rattle.redo_build.proofs.QueueLemmas.{slice_get-among, slice_get-below}
 use Rattle.redo_build.proofs.SoundLemmas.{IsSound}
 use Rattle.redo_build.proofs.TurnBoundLemmas.{turn-below}

@@ -1,12 +1,15 @@
 -- No target is taken twice at one turn.
-use Rattle.std.proofs.Common.{◌≡◌, ℕ, ◌<◌, ◌≤◌, true, ◌⊎◌, inl, inr, List, [], ◌∷◌, ◌++◌, Option, Some, None, is_some, option_and_then, refl, sym, ap, subst, ◌∙◌, arith, bytes_eq}
+use Rattle.std.proofs.Common.{◌≡◌, ℕ, ◌<◌, ◌≤◌, true, ◌⊎◌, inl, inr, List, [], ◌∷◌, ◌++◌, Option, Some, None, is_some}
+use Rattle.std.proofs.Common.{option_and_then, refl, sym, ap, subst, ◌∙◌, arith, bytes_eq}
 use Rattle.std.proofs.lemmas.Bool.{cases_Bool, both_ways}
 use Rattle.std.proofs.lemmas.Slice.Eq.{bytes_eq-Decides}
 use Rattle.redo_build.specs.Rules.{Rules, AreLawful, operands}
-use Rattle.redo_build.specs.Schedule.{Entry, State, Event, entry_of, entered, put, sent_out, taken, advanced, moved_on, handed_in, happens, IsOpen, AllOpen}
+use Rattle.redo_build.specs.Schedule.{Entry, State, Event, entry_of, entered, put, sent_out, taken, advanced, moved_on}
+use Rattle.redo_build.specs.Schedule.{handed_in, happens, IsOpen, AllOpen}
 use Rattle.redo_build.specs.Schedule.Event.{Take, Hand_in}
 use Rattle.redo_build.specs.Takes.{place_of, takes, IsTaken, AreOnce}
-use Rattle.redo_build.proofs.SeenLemmas.{entry_of-path, entry_of-among, entry_of-entered_old, entry_of-put_same, entry_of-put_other}
+use Rattle.redo_build.proofs.SeenLemmas.{entry_of-path, entry_of-among, entry_of-entered_old, entry_of-put_same}
+use Rattle.redo_build.proofs.SeenLemmas.{entry_of-put_other}
 use Rattle.redo_build.proofs.QueueLemmas.{slice_get-among, slice_get-below}
 use Rattle.redo_build.proofs.SoundLemmas.{IsSound, happens-sound}
 

@@ -1,5 +1,6 @@
 -- Lemmas on the lists of paths that are ready and out.
-use Rattle.std.proofs.Common.{◌≡◌, ℕ, zero, suc, ◌<◌, Bool, true, ◌⊎◌, inl, inr, List, [], ◌∷◌, ◌++◌, length, filter, Some, remove, slice_get, refl, sym, ap, ◌∙◌, arith, bytes_eq}
+use Rattle.std.proofs.Common.{◌≡◌, ℕ, zero, suc, ◌<◌, Bool, true, ◌⊎◌, inl, inr, List, [], ◌∷◌, ◌++◌, length, filter}
+use Rattle.std.proofs.Common.{Some, remove, slice_get, refl, sym, ap, ◌∙◌, arith, bytes_eq}
 use Rattle.std.proofs.lemmas.Bool.{cases_Bool}
 use Rattle.std.proofs.lemmas.Slice.Eq.{bytes_eq-Decides}
 use Rattle.redo_record.specs.Paths.{IsAmong, AreDistinct}

@@ -1,5 +1,6 @@
 -- What a quiet board shows.
-use Rattle.std.proofs.Common.{◌≡◌, ℕ, zero, suc, ◌<◌, ◌≤◌, max, false, inl, inr, List, [], ◌∷◌, length, filter, Some, None, refl, sym, ap, subst, ◌∙◌, arith, bytes_eq}
+use Rattle.std.proofs.Common.{◌≡◌, ℕ, zero, suc, ◌<◌, ◌≤◌, max, false, inl, inr, List, [], ◌∷◌, length, filter, Some}
+use Rattle.std.proofs.Common.{None, refl, sym, ap, subst, ◌∙◌, arith, bytes_eq}
 use Rattle.std.proofs.lemmas.Bool.{cases_Bool, cases_lt}
 use Rattle.redo_record.specs.Paths.{is_among, IsAmong}
 use Rattle.redo_record.specs.Progress.{Progress}
@@ -9,8 +10,10 @@ use Rattle.redo_build.specs.Schedule.{Entry, State, paths_of, entry_of, outcome_
 use Rattle.redo_build.specs.Theorems.{IsPartOfBuild, ShowsBuild}
 use Rattle.redo_build.specs.inside.Turns.{deps_at_turn, CameTo}
 use Rattle.redo_build.proofs.PathLemmas.{within-length, is_among-true}
-use Rattle.redo_build.proofs.DepthLemmas.{cases_Option, deeper, ended_stays, outcome_at-step, outcome_at-zero, asked_at-grows, reached-within, reached-more, reached-distinct, settled}
-use Rattle.redo_build.proofs.SeenLemmas.{entry_of-path, entry_of-among, among-entry_of, outcomes_of-at, decided_count-length}
+use Rattle.redo_build.proofs.DepthLemmas.{cases_Option, deeper, ended_stays, outcome_at-step, outcome_at-zero}
+use Rattle.redo_build.proofs.DepthLemmas.{asked_at-grows, reached-within, reached-more, reached-distinct, settled}
+use Rattle.redo_build.proofs.SeenLemmas.{entry_of-path, entry_of-among, among-entry_of, outcomes_of-at}
+use Rattle.redo_build.proofs.SeenLemmas.{decided_count-length}
 use Rattle.redo_build.specs.inside.Standing.{decided_count}
 use Rattle.redo_build.proofs.TurnLemmas.{only-Extends, only-among}
 use Rattle.redo_build.proofs.SoundLemmas.{IsSound}

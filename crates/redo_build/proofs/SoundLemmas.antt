@@ -1,20 +1,31 @@
 -- What holds of every state that a run of open events reaches.
-use Rattle.std.proofs.Common.{◌≡◌, ℕ, Bool, true, false, ◌⊎◌, inl, inr, List, [], ◌∷◌, filter, Option, Some, None, is_none, slice_get, remove, option_and_then, refl, sym, ap, subst, ◌∙◌, bytes_eq}
+use Rattle.std.proofs.Common.{◌≡◌, ℕ, Bool, true, false, ◌⊎◌, inl, inr, List, [], ◌∷◌, filter, Option, Some, None}
+use Rattle.std.proofs.Common.{is_none, slice_get, remove, option_and_then, refl, sym, ap, subst, ◌∙◌, bytes_eq}
 use Rattle.std.specs.List.{list_any}
-use Rattle.std.proofs.lemmas.Bool.{cases_Bool, both_ways, and_parts, or_parts, or_cases, not-true, not-false, not_from_false, and_from}
+use Rattle.std.proofs.lemmas.Bool.{cases_Bool, both_ways, and_parts, or_parts, or_cases, not-true, not-false}
+use Rattle.std.proofs.lemmas.Bool.{not_from_false, and_from}
 use Rattle.std.proofs.lemmas.Slice.Eq.{bytes_eq-Decides}
 use Rattle.redo_record.specs.Paths.{is_among, IsAmong, AreDistinct}
 use Rattle.redo_record.specs.Progress.{Progress}
 use Rattle.redo_build.specs.Rules.{Rules, AreLawful, Extends, operands}
 use Rattle.redo_build.specs.Outcomes.{outcome_at, requested_targets}
-use Rattle.redo_build.specs.Schedule.{Entry, State, Event, paths_of, entry_of, outcome_of, outcomes_of, only, entered, put, lacks_none, is_free, released, opening, sent_out, new_entry, taken, advanced, moved_on, handed_in, happens, IsOpen, run, AllOpen}
+use Rattle.redo_build.specs.Schedule.{Entry, State, Event, paths_of, entry_of, outcome_of, outcomes_of, only, entered}
+use Rattle.redo_build.specs.Schedule.{put, lacks_none, is_able_to_go_on, enqueued, opening, sent_out, new_entry, taken}
+use Rattle.redo_build.specs.Schedule.{advanced, moved_on, handed_in, happens, IsOpen, run, AllOpen}
 use Rattle.redo_build.specs.Schedule.Event.{Take, Hand_in}
-use Rattle.redo_build.proofs.PathLemmas.{IsAmong-same, IsAmong-append, IsAmong-left, IsAmong-right, is_among-true, is_among-from}
+use Rattle.redo_build.proofs.PathLemmas.{IsAmong-same, IsAmong-append, IsAmong-left, IsAmong-right, is_among-true}
+use Rattle.redo_build.proofs.PathLemmas.{is_among-from}
 use Rattle.redo_build.proofs.DepthLemmas.{cases_Option, operand-target, requested-target}
-use Rattle.redo_build.proofs.SeenLemmas.{entry_of-path, entry_of-among, among-entry_of, paths_of-put, entry_of-entered_old, entry_of-entered_cases, entry_of-put_other, entry_of-put_same}
-use Rattle.redo_build.proofs.QueueLemmas.{slice_get-among, slice_get-below, remove-cases, remove-from, remove-distinct, remove-gone, AreDistinct-append, paths_of-filter_from, paths_of-filter_to, paths_of-filter_distinct}
+use Rattle.redo_build.proofs.SeenLemmas.{entry_of-path, entry_of-among, among-entry_of, paths_of-put}
+use Rattle.redo_build.proofs.SeenLemmas.{entry_of-entered_old, entry_of-entered_cases, entry_of-put_other}
+use Rattle.redo_build.proofs.SeenLemmas.{entry_of-put_same}
+use Rattle.redo_build.proofs.QueueLemmas.{slice_get-among, slice_get-below, remove-cases, remove-from, remove-distinct}
+use Rattle.redo_build.proofs.QueueLemmas.{remove-gone, AreDistinct-append, paths_of-filter_from, paths_of-filter_to}
+use Rattle.redo_build.proofs.QueueLemmas.{paths_of-filter_distinct}
 use Rattle.redo_build.proofs.TurnLemmas.{only-Extends, progress-more}
-use Rattle.redo_build.proofs.StandingLemmas.{IsNeeded-asked, outcomes_of-deep, entered-outcomes, paths-entered, entered-standing, put-outcomes, put-standing, sent-cases, sent-outcomes, sent-standing}
+use Rattle.redo_build.proofs.StandingLemmas.{IsNeeded-asked, outcomes_of-deep, entered-outcomes, paths-entered}
+use Rattle.redo_build.proofs.StandingLemmas.{entered-standing, put-outcomes, put-standing, sent-cases, sent-outcomes}
+use Rattle.redo_build.proofs.StandingLemmas.{sent-standing}
 use Rattle.redo_build.specs.inside.Standing.{AreStanding, IsNeeded, decided_count}
 use Rattle.redo_record.specs.declared.outcome.Outcome.{Outcome}
 
@@ -76,41 +87,41 @@ module _ (r : Rules) where
       (found.0, found.1, is_none-true (outcomes_of es found.0) found.2)
 
   -- what a free entry is
-  pub is_free-parts : (s : State) (e : Entry) → is_free r s e ≡ true →
+  pub is_able_to_go_on-parts : (s : State) (e : Entry) → is_able_to_go_on r s e ≡ true →
       (e.outcome ≡ None) × (lacks_none r s.entries e ≡ true) × (e.is_out ≡ false) × (is_among s.ready e.path ≡ false)
-  is_free-parts s e h =
+  is_able_to_go_on-parts s e h =
       let third = and_parts _ _ h in
       let second = and_parts _ _ third.0 in
       let first = and_parts _ _ second.0 in
       (is_none-true e.outcome first.0, first.1, not-true _ second.1, not-true _ third.1)
 
 module _ (r : Rules) (lawful : AreLawful r) (request : List (List ℕ)) where
-  pub released-sound : (s : State) → AreStanding r request s.entries →
+  pub enqueued-sound : (s : State) → AreStanding r request s.entries →
       ((p : List ℕ) → IsAmong (requested_targets r request) p → IsAmong (paths_of s.entries) p) →
-      AreQueued r s → IsSound r request (released r s)
-  released-sound s standing requested queued = record {
+      AreQueued r s → IsSound r request (enqueued r s)
+  enqueued-sound s standing requested queued = record {
     standing = standing;
     requested = requested;
     queued = record {
-      ready_fed = λ p m. elim (IsAmong-append s.ready (paths_of (filter (is_free r s) s.entries)) p m) [
+      ready_fed = λ p m. elim (IsAmong-append s.ready (paths_of (filter (is_able_to_go_on r s) s.entries)) p m) [
         | inl old ↦ queued.ready_fed p old
         | inr new ↦
-            let found = paths_of-filter_from (is_free r s) s.entries p standing.distinct new in
-            let parts = is_free-parts r s found.0 found.2 in
+            let found = paths_of-filter_from (is_able_to_go_on r s) s.entries p standing.distinct new in
+            let parts = is_able_to_go_on-parts r s found.0 found.2 in
             (found.0, found.1, parts.0, lacks_none-true r s.entries found.0 parts.1)
       ];
       out_fed = queued.out_fed;
-      ready_distinct = AreDistinct-append s.ready (paths_of (filter (is_free r s) s.entries)) queued.ready_distinct
-          (paths_of-filter_distinct (is_free r s) s.entries standing.distinct)
+      ready_distinct = AreDistinct-append s.ready (paths_of (filter (is_able_to_go_on r s) s.entries)) queued.ready_distinct
+          (paths_of-filter_distinct (is_able_to_go_on r s) s.entries standing.distinct)
           (λ p old new.
-          let found = paths_of-filter_from (is_free r s) s.entries p standing.distinct new in
+          let found = paths_of-filter_from (is_able_to_go_on r s) s.entries p standing.distinct new in
           both_ways _ (not_ready-at p found.0 found.1 found.2) (is_among-from s.ready p old));
-      apart = λ p e m at. elim (IsAmong-append s.ready (paths_of (filter (is_free r s) s.entries)) p m) [
+      apart = λ p e m at. elim (IsAmong-append s.ready (paths_of (filter (is_able_to_go_on r s) s.entries)) p m) [
         | inl old ↦ queued.apart p e old at
         | inr new ↦
-            let found = paths_of-filter_from (is_free r s) s.entries p standing.distinct new in
+            let found = paths_of-filter_from (is_able_to_go_on r s) s.entries p standing.distinct new in
             let same : found.0 ≡ e = let both : Some found.0 ≡ Some e = sym found.1 ∙ at in cc in
-            sym (ap (λ (x : Entry). x.is_out) same) ∙ (is_free-parts r s found.0 found.2).2
+            sym (ap (λ (x : Entry). x.is_out) same) ∙ (is_able_to_go_on-parts r s found.0 found.2).2
       ];
     };
     others_wait = λ p e at open' not_ready not_out.
@@ -119,19 +130,19 @@ module _ (r : Rules) (lawful : AreLawful r) (request : List (List ℕ)) where
           | inl all ↦ absurd (
               let a : is_none e.outcome ≡ true = is_none-from e.outcome open' in
               let b : is_among s.ready e.path ≡ false = not_among s.ready e.path (λ m.
-              not_ready (IsAmong-left s.ready (paths_of (filter (is_free r s) s.entries)) p (IsAmong-same s.ready e.path p path m))) in
-              let free : is_free r s e ≡ true =
+              not_ready (IsAmong-left s.ready (paths_of (filter (is_able_to_go_on r s) s.entries)) p (IsAmong-same s.ready e.path p path m))) in
+              let free : is_able_to_go_on r s e ≡ true =
               and_from _ _ (and_from _ _ (and_from _ _ a all) (not_from_false _ not_out)) (not_from_false _ b) in
-              not_ready (IsAmong-right s.ready (paths_of (filter (is_free r s) s.entries)) p
-              (paths_of-filter_to (is_free r s) s.entries p e at free)))
+              not_ready (IsAmong-right s.ready (paths_of (filter (is_able_to_go_on r s) s.entries)) p
+              (paths_of-filter_to (is_able_to_go_on r s) s.entries p e at free)))
           | inr some ↦ lacks_none-false r s.entries e some
         ];
   }
     where
-      not_ready-at : (p : List ℕ) (e : Entry) → entry_of s.entries p ≡ Some e → is_free r s e ≡ true → is_among s.ready p ≡ false
+      not_ready-at : (p : List ℕ) (e : Entry) → entry_of s.entries p ≡ Some e → is_able_to_go_on r s e ≡ true → is_among s.ready p ≡ false
       not_ready-at p e at free =
           let P : List ℕ → Type 0 = λ x. is_among s.ready x ≡ false in
-          subst P (entry_of-path s.entries p e at) (is_free-parts r s e free).3
+          subst P (entry_of-path s.entries p e at) (is_able_to_go_on-parts r s e free).3
 
       not_among : (ps : List (List ℕ)) (p : List ℕ) → (IsAmong ps p → ⊥) → is_among ps p ≡ false
       not_among ps p h = elim (cases_Bool (is_among ps p)) [
@@ -169,7 +180,7 @@ module _ (r : Rules) (lawful : AreLawful r) (request : List (List ℕ)) where
   opening-sound =
       let targets : (q : List ℕ) → IsAmong (requested_targets r request) q → r.is_source q ≡ false = requested-target r lawful request in
       let needed : (q : List ℕ) → IsAmong (requested_targets r request) q → IsNeeded r request q = λ q m. (0, m) in
-      released-sound (record { entries = entered r [] (requested_targets r request); ready = [] })
+      enqueued-sound (record { entries = entered r [] (requested_targets r request); ready = [] })
       (entered-standing r lawful request [] nothing-standing (requested_targets r request) targets needed)
       (λ p m. paths-entered r lawful request [] nothing-standing (requested_targets r request) targets needed p (inr m))
       (record {
@@ -372,7 +383,7 @@ module _ (r : Rules) (lawful : AreLawful r) (request : List (List ℕ)) where
 
     pub handed_in-sound : IsSound r request (handed_in r s (Some e))
     unfolding moved wider
-    handed_in-sound = released-sound
+    handed_in-sound = enqueued-sound
         (record { entries = moved; ready = s.ready })
         moved_standing
         (λ q m.
@@ -394,18 +405,18 @@ module _ (r : Rules) (lawful : AreLawful r) (request : List (List ℕ)) where
             both_ways _ (sound.queued.apart q e m (subst P same out_entry)) out
 
     -- what goes on after the piece is the target itself, a path seen for the first time, or one that asked for the target
-    pub freed-cases : (q : List ℕ) (x : Entry) → entry_of (put (entered r s.entries (operands r (advanced r s.entries e).deps)) (moved_on e (advanced r s.entries e))) q ≡ Some x →
-        is_free r (record { entries = put (entered r s.entries (operands r (advanced r s.entries e).deps)) (moved_on e (advanced r s.entries e)); ready = s.ready }) x ≡ true →
+    pub newly_ready-cases : (q : List ℕ) (x : Entry) → entry_of (put (entered r s.entries (operands r (advanced r s.entries e).deps)) (moved_on e (advanced r s.entries e))) q ≡ Some x →
+        is_able_to_go_on r (record { entries = put (entered r s.entries (operands r (advanced r s.entries e).deps)) (moved_on e (advanced r s.entries e)); ready = s.ready }) x ≡ true →
         (e.path ≡ q) ⊎ ((entry_of s.entries q ≡ None) ⊎ ((entry_of s.entries q ≡ Some x) × IsAmong (operands r x.deps) e.path))
     unfolding moved wider
-    freed-cases q x h free = elim (cases_Bool (bytes_eq e.path q)) [
+    newly_ready-cases q x h free = elim (cases_Bool (bytes_eq e.path q)) [
       | inl t ↦ inl ((bytes_eq-Decides e.path q).0 t)
       | inr f ↦
           let other : e.path ≡ q → ⊥ = λ same. both_ways _ f ((bytes_eq-Decides e.path q).1 same) in
           let there = sym (entry_of-put_other wider (moved_on e (advanced r s.entries e)) q other) ∙ h in
           elim (entry_of-entered_cases r s.entries (operands r (advanced r s.entries e).deps) q x there) [
             | inl old ↦
-                let parts = is_free-parts r (record { entries = moved; ready = s.ready }) x free in
+                let parts = is_able_to_go_on-parts r (record { entries = moved; ready = s.ready }) x free in
                 let path = entry_of-path s.entries q x old in
                 let waits = sound.others_wait q x old parts.0
                 (λ m. both_ways _ parts.3 (is_among-from s.ready x.path (IsAmong-same s.ready q x.path (sym path) m))) parts.2 in

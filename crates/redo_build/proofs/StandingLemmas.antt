@@ -1,16 +1,23 @@
 -- What holds of the entries of every state of the schedule, and that entering and deciding keep it.
-use Rattle.std.proofs.Common.{◌≡◌, ℕ, zero, suc, ◌≤◌, max, false, cond, ◌⊎◌, inl, inr, List, [], Option, Some, None, is_some, flat_map, refl, sym, ap, subst, ◌∙◌, arith, bytes_eq}
+use Rattle.std.proofs.Common.{◌≡◌, ℕ, zero, suc, ◌≤◌, max, false, cond, ◌⊎◌, inl, inr, List, [], Option, Some, None}
+use Rattle.std.proofs.Common.{is_some, flat_map, refl, sym, ap, subst, ◌∙◌, arith, bytes_eq}
 use Rattle.std.proofs.lemmas.Bool.{cases_Bool, cases_lt, both_ways}
 use Rattle.std.proofs.lemmas.Slice.Eq.{bytes_eq-Decides}
 use Rattle.redo_record.specs.Paths.{IsAmong, AreDistinct, with_new}
 use Rattle.redo_record.specs.Progress.{Progress}
 use Rattle.redo_build.specs.Rules.{Rules, AreLawful, Extends, operands}
 use Rattle.redo_build.specs.Outcomes.{outcome_at, asked_at, reached_in}
-use Rattle.redo_build.specs.Schedule.{Entry, paths_of, entry_of, outcome_of, outcomes_of, only, nothing_known, new_entry, entered, put, sent_out, advanced, moved_on}
+use Rattle.redo_build.specs.Schedule.{Entry, paths_of, entry_of, outcome_of, outcomes_of, only, nothing_known}
+use Rattle.redo_build.specs.Schedule.{new_entry, entered, put, sent_out, advanced, moved_on}
 use Rattle.redo_build.specs.inside.Turns.{deps_at_turn, progress_at_turn, CameTo}
-use Rattle.redo_build.proofs.PathLemmas.{with_new-first, with_new-second, with_new-cases, with_new-distinct, flat_map-among, flat_map-from}
-use Rattle.redo_build.proofs.DepthLemmas.{deeper, ended_stays, outcome_at-step, asked_at-grows, reached-once, reached-more}
-use Rattle.redo_build.proofs.SeenLemmas.{entry_of-path, entry_of-among, outcomes_of-entry, outcomes_of-at, paths_of-put, entry_of-put_same, entry_of-put_other, decided_count-put, decided_count-some, decided_count-entered, new_entry-path, paths_of-entered, entry_of-entered_old, entry_of-entered_cases}
+use Rattle.redo_build.proofs.PathLemmas.{with_new-first, with_new-second, with_new-cases, with_new-distinct}
+use Rattle.redo_build.proofs.PathLemmas.{flat_map-among, flat_map-from}
+use Rattle.redo_build.proofs.DepthLemmas.{deeper, ended_stays, outcome_at-step, asked_at-grows, reached-once}
+use Rattle.redo_build.proofs.DepthLemmas.{reached-more}
+use Rattle.redo_build.proofs.SeenLemmas.{entry_of-path, entry_of-among, outcomes_of-entry, outcomes_of-at, paths_of-put}
+use Rattle.redo_build.proofs.SeenLemmas.{entry_of-put_same, entry_of-put_other, decided_count-put, decided_count-some}
+use Rattle.redo_build.proofs.SeenLemmas.{decided_count-entered, new_entry-path, paths_of-entered, entry_of-entered_old}
+use Rattle.redo_build.proofs.SeenLemmas.{entry_of-entered_cases}
 use Rattle.redo_build.specs.inside.Standing.{decided_count, IsNeeded, IsDecidedAs, IsUnderWay, AreStanding}
 use Rattle.redo_build.proofs.TurnLemmas.{only-Extends, CameTo-more, deps_at_turn-more}
 use Rattle.redo_record.specs.declared.deps.Dep.{Dep}

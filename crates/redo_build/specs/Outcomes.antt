@@ -1,5 +1,6 @@
 -- The build as a recursion on a depth over all paths at once.
-use Rattle.std.specs.Prelude.{◌≡◌, ℕ, zero, suc, ◌<◌, ◌≤◌, not, List, [], Option, Some, None, if◌then◌else◌, length, filter, flat_map, unwrap_or}
+use Rattle.std.specs.Prelude.{◌≡◌, ℕ, zero, suc, ◌<◌, ◌≤◌, not, List, [], Option, Some, None, if◌then◌else◌, length}
+use Rattle.std.specs.Prelude.{filter, flat_map, unwrap_or}
 use Rattle.redo_record.specs.Paths.{with_new, IsAmong}
 use Rattle.redo_build.specs.Rules.{Rules, asked_under}
 use Rattle.redo_record.specs.declared.deps.Dep.{Dep}

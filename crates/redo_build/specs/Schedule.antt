@@ -1,5 +1,7 @@
 -- The states of a build and what may happen next, over every order in which scripts are taken and handed in.
-use Rattle.std.specs.Prelude.{◌≡◌, ℕ, ◌+◌, ◌<◌, Bool, true, false, not, ◌&&◌, List, [], ◌∷◌, ◌++◌, Option, Some, None, is_some, is_none, if◌then◌else◌, length, filter, remove, slice_get, option_and_then, bytes_eq}
+use Rattle.std.specs.Prelude.{◌≡◌, ℕ, ◌+◌, ◌<◌, Bool, true, false, not, ◌&&◌, List, [], ◌∷◌, ◌++◌, Option, Some, None}
+use Rattle.std.specs.Prelude.{is_some, is_none, if◌then◌else◌, length, filter, remove, slice_get, option_and_then}
+use Rattle.std.specs.Prelude.{bytes_eq}
 use Rattle.std.specs.List.{list_any}
 use Rattle.redo_record.specs.Paths.{is_among}
 use Rattle.redo_record.specs.Progress.{Progress}
@@ -68,16 +70,16 @@ abbrev pub lacks_none : Rules → List Entry → Entry → Bool
 lacks_none r es e = not (list_any (λ q. is_none (outcomes_of es q)) (operands r e.deps))
 
 -- the entry can go on, and isn't noted as ready or out
-abbrev pub is_free : Rules → State → Entry → Bool
-is_free r s e = is_none e.outcome && lacks_none r s.entries e && not e.is_out && not (is_among s.ready e.path)
+abbrev pub is_able_to_go_on : Rules → State → Entry → Bool
+is_able_to_go_on r s e = is_none e.outcome && lacks_none r s.entries e && not e.is_out && not (is_among s.ready e.path)
 
 -- what can go on now is ready behind the others, in order of first sight
-abbrev pub released : Rules → State → State
-released r s = record s { ready = s.ready ++ paths_of (filter (is_free r s) s.entries) }
+abbrev pub enqueued : Rules → State → State
+enqueued r s = record s { ready = s.ready ++ paths_of (filter (is_able_to_go_on r s) s.entries) }
 
 -- the opening
 abbrev pub opening : Rules → List (List ℕ) → State
-opening r request = released r (record { entries = entered r [] (requested_targets r request); ready = [] })
+opening r request = enqueued r (record { entries = entered r [] (requested_targets r request); ready = [] })
 
 pub data Event : Type 0 where
   Take : (which : ℕ) → Event
@@ -104,7 +106,7 @@ abbrev pub handed_in : Rules → State → Option Entry → State
 handed_in r s None = s
 handed_in r s (Some e) =
     let now = advanced r s.entries e in
-    released r (record {
+    enqueued r (record {
       entries = put (entered r s.entries (operands r now.deps)) (moved_on e now);
       ready = s.ready;
     })

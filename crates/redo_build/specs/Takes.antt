@@ -13,7 +13,8 @@ place_of (Some e) = (e.path, e.turn) ∷ []
 abbrev pub takes : Rules → List Event → State → List ((List ℕ) × ℕ)
 takes r [] s = []
 takes r (Take which ∷ events) s =
-    place_of (option_and_then (entry_of s.entries) (slice_get s.ready which)) ++ takes r events (happens r s (Take which))
+    place_of (option_and_then (entry_of s.entries) (slice_get s.ready which)) ++
+    takes r events (happens r s (Take which))
 takes r (Hand_in target turn ∷ events) s = takes r events (happens r s (Hand_in target turn))
 
 abbrev pub IsTaken : List ((List ℕ) × ℕ) → List ℕ → ℕ → Type 0

@@ -12,7 +12,8 @@ pub record IsPartOfBuild (r : Rules) (request : List (List ℕ)) (limit : ℕ) (
   pub decided : (p : List ℕ) (e : Entry) (o : Outcome) → entry_of s.entries p ≡ Some e → e.outcome ≡ Some o →
       (n : ℕ) × (outcome_at r n p ≡ Some o)
   -- within the limit it is so at the limit, with all that it asked for
-  pub declared : length s.entries ≤ limit → (p : List ℕ) (e : Entry) (o : Outcome) → entry_of s.entries p ≡ Some e → e.outcome ≡ Some o →
+  pub declared : length s.entries ≤ limit → (p : List ℕ) (e : Entry) (o : Outcome) → entry_of s.entries p ≡ Some e →
+      e.outcome ≡ Some o →
       (outcome_at r limit p ≡ Some o) × (e.deps ≡ declared_of r limit p)
   -- nothing is entered that isn't needed
   pub needed : (p : List ℕ) → IsAmong (paths_of s.entries) p → (n : ℕ) × IsAmong (needed_at r request n) p

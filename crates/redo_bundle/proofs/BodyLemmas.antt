@@ -1,5 +1,7 @@
 -- What the steps of one entry find and add.
-use Rattle.std.proofs.Common.{◌≡◌, ℕ, ◌+◌, ◌*◌, ◌-◌, ◌≤◌, ◌^◌, Bool, true, false, cond, List, [], ◌∷◌, ◌++◌, length, take, drop, refl, sym, ap, subst, ◌∙◌, arith, Option, Some, None, nat_le, append_assoc, take-append-drop, IfSome}
+use Rattle.std.proofs.Common.{◌≡◌, ℕ, ◌+◌, ◌*◌, ◌-◌, ◌≤◌, ◌^◌, Bool, true, false, cond, List, [], ◌∷◌, ◌++◌, length}
+use Rattle.std.proofs.Common.{take, drop, refl, sym, ap, subst, ◌∙◌, arith, Option, Some, None, nat_le, append_assoc}
+use Rattle.std.proofs.Common.{take-append-drop, IfSome}
 use Rattle.std.proofs.lemmas.Grind.{common_steps}
 use Rattle.std.proofs.lemmas.Bool.{lt-leb}
 use Rattle.std.proofs.lemmas.Slice.Eq.{bytes_eq-Decides}
@@ -9,11 +11,13 @@ use Rattle.std.specs.Prelude.{Result, Ok, Err, OnOk, option_map, codes, ◌&&◌
 use Rattle.std.specs.Str.{bytes_eq}
 use Rattle.std.specs.Io.KnownBytes.{Consumes}
 use Rattle.redo_bundle.specs.declared.faults.BundleFault.{BundleFault}
-use Rattle.redo_bundle.specs.declared.faults.BundleFault.TheVariants.{Line, Path, Tree as TreeAt, Truncated, Read, Memory}
+use Rattle.redo_bundle.specs.declared.faults.BundleFault.TheVariants.{Line, Path, Tree as TreeAt, Truncated, Read}
+use Rattle.redo_bundle.specs.declared.faults.BundleFault.TheVariants.{Memory}
 use Rattle.redo_tree.specs.declared.faults.TreeFault.{TreeFault}
 use Rattle.redo_tree.specs.declared.faults.TreeFault.TheVariants as tree
 use Rattle.redo_tree.specs.Tree.{Node, Directory, File, Tree, added, Adds}
-use Rattle.redo_bundle.specs.Bundle.{is_newline, is_space, size_of, header_of, path_fault, tree_fault, body_fault, entry_fault, spelling}
+use Rattle.redo_bundle.specs.Bundle.{is_newline, is_space, size_of, header_of, path_fault, tree_fault, body_fault}
+use Rattle.redo_bundle.specs.Bundle.{entry_fault, spelling}
 use Rattle.redo_bundle.specs.inside.Steps.{told, Finds, Refuses, IsPlace, AddsFile, AddsEntry, is_read}
 use Rattle.redo_bundle.proofs.LineLemmas.{split_first}
 

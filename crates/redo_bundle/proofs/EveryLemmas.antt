@@ -1,5 +1,7 @@
 -- A text is read to its end, or to its first fault.
-use Rattle.std.proofs.Common.{◌≡◌, ◌≢◌, ℕ, ◌+◌, ◌<◌, ◌≤◌, Bool, true, false, cond, not, List, [], ◌∷◌, ◌++◌, length, take, drop, zero, suc, refl, sym, ap, subst, ◌∙◌, arith, Option, Some, None, nat_lt, nat_le, append_assoc, take-append-drop, ◌⊎◌, inl, inr}
+use Rattle.std.proofs.Common.{◌≡◌, ◌≢◌, ℕ, ◌+◌, ◌<◌, ◌≤◌, Bool, true, false, cond, not, List, [], ◌∷◌, ◌++◌, length}
+use Rattle.std.proofs.Common.{take, drop, zero, suc, refl, sym, ap, subst, ◌∙◌, arith, Option, Some, None, nat_lt}
+use Rattle.std.proofs.Common.{nat_le, append_assoc, take-append-drop, ◌⊎◌, inl, inr}
 use Rattle.std.proofs.lemmas.Grind.{common_steps}
 use Rattle.std.specs.List.{list_any, before_first, after_first}
 use Rattle.std.specs.Option.{option_or}
@@ -15,7 +17,8 @@ use Rattle.redo_bundle.specs.declared.faults.BundleFault.{BundleFault}
 use Rattle.redo_bundle.specs.declared.faults.BundleFault.TheVariants.{Line, Path, Tree as TreeAt, Truncated}
 use Rattle.redo_tree.specs.declared.faults.TreeFault.{TreeFault}
 use Rattle.redo_tree.specs.Tree.{Node, Directory, File, Tree, top, added}
-use Rattle.redo_bundle.specs.Bundle.{IsBundleOrRefused, IsEntry, is_newline, header_of, path_fault, tree_fault, body_fault, entry_fault, fault_at, body_of, spelling}
+use Rattle.redo_bundle.specs.Bundle.{IsBundleOrRefused, IsEntry, is_newline, header_of, path_fault, tree_fault}
+use Rattle.redo_bundle.specs.Bundle.{body_fault, entry_fault, fault_at, body_of, spelling}
 use Rattle.redo_bundle.specs.inside.Steps.{IsPlace}
 use Rattle.redo_bundle.proofs.BodyLemmas.{header_dir, header_file_is, same_bytes, spelled}
 use Rattle.redo_bundle.proofs.LineLemmas.{drop-cons-one, newline_is, split_first}

@@ -1,11 +1,13 @@
 -- A text is read in one way at most.
-use Rattle.std.proofs.Common.{◌≡◌, ℕ, ◌+◌, List, [], ◌∷◌, ◌++◌, length, refl, sym, ap, subst, ◌∙◌, arith, Option, Some, None, append_assoc, IfSome}
+use Rattle.std.proofs.Common.{◌≡◌, ℕ, ◌+◌, List, [], ◌∷◌, ◌++◌, length, refl, sym, ap, subst, ◌∙◌, arith, Option, Some}
+use Rattle.std.proofs.Common.{None, append_assoc, IfSome}
 use Rattle.std.specs.List.{AllByRecursion}
 use Rattle.std.specs.Prelude.{Result, Ok, Err, codes}
 use Rattle.redo_tree.proofs.GrowLemmas.{onward}
 use Rattle.redo_path.proofs.ApartLemmas.{apart}
 use Rattle.redo_bundle.specs.declared.faults.BundleFault.{BundleFault}
-use Rattle.redo_bundle.specs.declared.faults.BundleFault.TheVariants.{Line, Path, Tree as TreeAt, Truncated, Read, Memory}
+use Rattle.redo_bundle.specs.declared.faults.BundleFault.TheVariants.{Line, Path, Tree as TreeAt, Truncated, Read}
+use Rattle.redo_bundle.specs.declared.faults.BundleFault.TheVariants.{Memory}
 use Rattle.redo_tree.specs.declared.faults.TreeFault.{TreeFault}
 use Rattle.redo_tree.specs.Tree.{Node, Directory, File, Tree, top, added}
 use Rattle.redo_bundle.specs.Bundle.{IsBundle, IsEntry, IsRefused, Reads, ReadsEach, body_of, fault_at, spelling}

@@ -1,5 +1,6 @@
 -- What is written piece by piece.
-use Rattle.std.proofs.Common.{◌≡◌, ◌<◌, ◌+◌, ℕ, List, [], ◌∷◌, ◌++◌, length, take, drop, sym, ap, ◌∙◌, Option, append_assoc, append-nil, take-append-drop, slice_index_or, suc, zero, refl, arith}
+use Rattle.std.proofs.Common.{◌≡◌, ◌<◌, ◌+◌, ℕ, List, [], ◌∷◌, ◌++◌, length, take, drop, sym, ap, ◌∙◌, Option}
+use Rattle.std.proofs.Common.{append_assoc, append-nil, take-append-drop, slice_index_or, suc, zero, refl, arith}
 use Rattle.std.specs.Prelude.{Result, Ok, Err, codes, decimal, flat_map}
 use Rattle.std.specs.Io.KnownBytes.{Appends, Keeps}
 use Rattle.std.proofs.KnownBytes.{Appends-trans, Appends-kept}

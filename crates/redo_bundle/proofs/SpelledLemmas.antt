@@ -1,5 +1,7 @@
 -- A spelled entry, read back.
-use Rattle.std.proofs.Common.{◌≡◌, ◌≢◌, ℕ, ◌+◌, ◌*◌, ◌-◌, ◌<◌, ◌≤◌, ◌^◌, ◌%◌, Bool, true, false, cond, List, [], ◌∷◌, ◌++◌, length, take, drop, refl, sym, ap, ◌∙◌, arith, Option, Some, None, nat_le, nat_lt, append_assoc}
+use Rattle.std.proofs.Common.{◌≡◌, ◌≢◌, ℕ, ◌+◌, ◌*◌, ◌-◌, ◌<◌, ◌≤◌, ◌^◌, ◌%◌, Bool, true, false, cond, List, [], ◌∷◌}
+use Rattle.std.proofs.Common.{◌++◌, length, take, drop, refl, sym, ap, ◌∙◌, arith, Option, Some, None, nat_le, nat_lt}
+use Rattle.std.proofs.Common.{append_assoc}
 use Rattle.std.proofs.lemmas.Fmt.{decimal_by_steps, length-decimal-le}
 use Rattle.std.proofs.lemmas.Grind.{common_steps}
 use Rattle.std.proofs.lemmas.List.Sums.{fold_push}
@@ -13,7 +15,8 @@ use Rattle.redo_path.proofs.CanonicalLemmas.{printable_path, resolved-path}
 use Rattle.redo_path.specs.declared.PathFault.{PathFault}
 use Rattle.redo_bundle.specs.declared.faults.BundleFault.TheVariants.{Line, Path}
 use Rattle.redo_tree.specs.Tree.{Node, Directory, File, Tree, added}
-use Rattle.redo_bundle.specs.Bundle.{IsEntry, is_newline, is_space, size_of, header_of, path_fault, body_fault, entry_fault, fault_at, spelling}
+use Rattle.redo_bundle.specs.Bundle.{IsEntry, is_newline, is_space, size_of, header_of, path_fault, body_fault}
+use Rattle.redo_bundle.specs.Bundle.{entry_fault, fault_at, spelling}
 use Rattle.redo_bundle.specs.inside.Steps.{IsLine}
 use Rattle.redo_bundle.proofs.BodyLemmas.{body_known, tree_fault-added}
 use Rattle.redo_bundle.proofs.LineLemmas.{cut_first, any-append, take-length, drop-length}

@@ -1,5 +1,6 @@
 -- The bundle of a tree is read as that tree.
-use Rattle.std.proofs.Common.{◌≡◌, ◌≢◌, ℕ, ◌≤◌, ◌^◌, cond, List, [], ◌∷◌, ◌++◌, length, drop, refl, sym, ap, subst, ◌∙◌, Option, Some, None, IsSome, append_assoc, append-nil}
+use Rattle.std.proofs.Common.{◌≡◌, ◌≢◌, ℕ, ◌≤◌, ◌^◌, cond, List, [], ◌∷◌, ◌++◌, length, drop, refl, sym, ap, subst, ◌∙◌}
+use Rattle.std.proofs.Common.{Option, Some, None, IsSome, append_assoc, append-nil}
 use Rattle.std.proofs.lemmas.Cmp.{nat_list_cmp_total, tied_itself}
 use Rattle.std.proofs.lemmas.Map.Keys.{sorted_head, sorted_tail}
 use Rattle.std.specs.BTreeMap.{insert_entry}
@@ -15,7 +16,8 @@ use Rattle.std.specs.declared.cmp.Ordering.TheVariants.{Less, Greater}
 use Rattle.redo_path.proofs.ApartLemmas.{apart}
 use Rattle.redo_path.specs.Names.{IsPath, parent_of}
 use Rattle.redo_path.proofs.CanonicalLemmas.{parent_first}
-use Rattle.redo_tree.specs.Tree.{Node, Directory, File, Tree, IsTree, top, added, bytes_of, node_at, parent_refusal, place_refusal, with_node}
+use Rattle.redo_tree.specs.Tree.{Node, Directory, File, Tree, IsTree, top, added, bytes_of, node_at, parent_refusal}
+use Rattle.redo_tree.specs.Tree.{place_refusal, with_node}
 use Rattle.redo_bundle.specs.Bundle.{HasSmallFiles, IsBundle, IsEntry, bundle_of}
 use Rattle.redo_tree.specs.Tree.{grown}
 use Rattle.redo_tree.proofs.GrowLemmas.{added-free, onward}

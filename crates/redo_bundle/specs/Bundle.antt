@@ -1,5 +1,7 @@
 -- Bundles: the bytes of a tree, entry by entry.
-use Rattle.std.specs.Prelude.{◌≡◌, ◌≢◌, ◌≤◌, ◌+◌, ◌-◌, ◌*◌, ◌^◌, ◌==◌, ◌&&◌, ◌⊎◌, not, fold, Bool, ℕ, List, [], ◌∷◌, ◌++◌, flat_map, length, take, drop, slice_index, nat_lt, nat_le, Option, Some, None, Result, Ok, Err, codes, decimal, if◌then◌else◌, option_map}
+use Rattle.std.specs.Prelude.{◌≡◌, ◌≢◌, ◌≤◌, ◌+◌, ◌-◌, ◌*◌, ◌^◌, ◌==◌, ◌&&◌, ◌⊎◌, not, fold, Bool, ℕ, List, [], ◌∷◌}
+use Rattle.std.specs.Prelude.{◌++◌, flat_map, length, take, drop, slice_index, nat_lt, nat_le, Option, Some, None}
+use Rattle.std.specs.Prelude.{Result, Ok, Err, codes, decimal, if◌then◌else◌, option_map}
 use Rattle.std.specs.List.{AllByRecursion, after_first, before_first, list_any}
 use Rattle.std.specs.Str.{bytes_eq}
 use Rattle.std.specs.Option.{option_or}
@@ -7,7 +9,8 @@ use Rattle.std.specs.Io.KnownBytes.{Appends}
 use Rattle.redo_path.specs.Names.{IsPath}
 use Rattle.redo_path.specs.Resolve.{resolved}
 use Rattle.redo_bundle.specs.declared.faults.BundleFault.{BundleFault}
-use Rattle.redo_bundle.specs.declared.faults.BundleFault.TheVariants.{Line, Path, Tree as TreeAt, Truncated, Read, Memory}
+use Rattle.redo_bundle.specs.declared.faults.BundleFault.TheVariants.{Line, Path, Tree as TreeAt, Truncated, Read}
+use Rattle.redo_bundle.specs.declared.faults.BundleFault.TheVariants.{Memory}
 use Rattle.redo_tree.specs.Tree.{Node, Directory, File, Tree, top, added, file_at, grown}
 
 -- an entry's bytes
@@ -73,7 +76,8 @@ body_fault n tree (Some size) path rest =
     if nat_le (length rest) size then Some Truncated else
     if is_newline (slice_index rest size) then tree_fault n tree path (File (take size rest)) else Some (Line n)
 
--- what is wrong with entry n, if anything is: its line, the line's form, the path, what it holds, and the tree, in this order
+-- what is wrong with entry n, if anything is: its line, the line's form, the path, what it holds, and the tree, in this
+-- order
 abbrev pub entry_fault : ℕ → Tree → List ℕ → List ℕ → Option BundleFault
 entry_fault n tree line rest = elim (header_of line) [
   | None ↦ Some (Line n)
@@ -93,7 +97,8 @@ fault_at n tree text =
 -- the first fault of a text that is no bundle
 abbrev pub IsRefused : List ℕ → BundleFault → Type 0
 IsRefused text fault =
-    (es : List (List ℕ × Node)) × (tree : Tree) × (rest : List ℕ) × Begins text es tree rest × (fault_at (length es + 1) tree rest ≡ Some fault)
+    (es : List (List ℕ × Node)) × (tree : Tree) × (rest : List ℕ) × Begins text es tree rest ×
+    (fault_at (length es + 1) tree rest ≡ Some fault)
 
 -- the text is a bundle, or has a first fault
 abbrev pub IsBundleOrRefused : List ℕ → Type 0

@@ -17,7 +17,8 @@ pub fn a_bundle_has_no_fault()
 
 /// A text is refused by one fault at most.
 pub fn a_text_has_one_fault()
-    ensures { (text : List ℕ) (fault other : BundleFault) → IsRefused text fault → IsRefused text other → fault ≡ other }
+    ensures { (text : List ℕ) (fault other : BundleFault) → IsRefused text fault → IsRefused text other →
+        fault ≡ other }
 {}
 
 /// A text that is no bundle is refused, so reading that doesn't fail answers a tree exactly for the bundles.
@@ -29,4 +30,3 @@ pub fn each_text_is_a_bundle_or_refused()
 pub fn a_written_tree_is_read_back()
     ensures { (tree : Tree) → IsTree tree → HasSmallFiles tree → IsBundle (bundle_of tree) tree }
 {}
-

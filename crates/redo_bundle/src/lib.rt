@@ -2,7 +2,8 @@
 //!
 //! [`read_bundle`] makes a tree of a stream of bytes, and refuses what is no bundle by the first fault in it;
 //! [`write_bundle`] writes a tree in path order, so that it is read back as the same tree. Both work over the two small
-//! traits [`ByteIn`] and [`ByteOut`], whose contracts name the bytes and say whether a call has failed. The crate stands on
+//! traits [`ByteIn`] and [`ByteOut`], whose contracts name the bytes and say whether a call has failed. The crate
+//! stands on
 //! `redo_tree` and `redo_path`, on `itoa`, which spells numbers, and on `thiserror`.
 //!
 //! - `ends`: where bytes come from and go to; `buffer`: what came and was not used yet;

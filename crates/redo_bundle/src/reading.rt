@@ -1,18 +1,23 @@
 //! Reading a bundle: a step for each part of an entry, over a buffer of what came and was not used.
 
-ghost use Rattle.std.specs.Prelude.{◌≡◌, ◌≢◌, ◌<◌, ◌≤◌, ◌+◌, ◌-◌, ◌*◌, ◌^◌, ◌↔◌, ℕ, List, [], ◌∷◌, ◌++◌, length, drop, take, codes, Bool, true, false, is_err, Option, Some, None, option_map, Result, Ok, Err, IfOk, OnOk, IfSome, IsErrOf, position};
+ghost use Rattle.std.specs.Prelude.{◌≡◌, ◌≢◌, ◌<◌, ◌≤◌, ◌+◌, ◌-◌, ◌*◌, ◌^◌, ◌↔◌, ℕ, List, [], ◌∷◌, ◌++◌, length, drop};
+ghost use Rattle.std.specs.Prelude.{take, codes, Bool, true, false, is_err, Option, Some, None, option_map, Result, Ok};
+ghost use Rattle.std.specs.Prelude.{Err, IfOk, OnOk, IfSome, IsErrOf, position};
 ghost use Rattle.std.specs.Io.KnownBytes.{Consumes, IsAtEnd, prepend_known};
 ghost use Rattle.std.specs.List.{position_or_len};
 ghost use Rattle.std.specs.Option.{option_or};
 ghost use Rattle.redo_tree.specs.Tree.{Directory, added};
-ghost use Rattle.redo_bundle.specs.Bundle.{HasSmallFiles, Reads, ReadsEach, is_newline, is_space, size_of, header_of, path_fault, tree_fault, body_fault, entry_fault, fault_at};
-ghost use Rattle.redo_bundle.specs.inside.Steps.{is_read, Finds, Refuses, IsLine, IsPlace, AddsFile, AddsEntry, AddsNext, told, words_of, line_fault, size_fault, newline_fault, file_fault};
+ghost use Rattle.redo_bundle.specs.Bundle.{HasSmallFiles, Reads, ReadsEach, is_newline, is_space, size_of, header_of};
+ghost use Rattle.redo_bundle.specs.Bundle.{path_fault, tree_fault, body_fault, entry_fault, fault_at};
+ghost use Rattle.redo_bundle.specs.inside.Steps.{is_read, Finds, Refuses, IsLine, IsPlace, AddsFile, AddsEntry};
+ghost use Rattle.redo_bundle.specs.inside.Steps.{AddsNext, told, words_of, line_fault, size_fault, newline_fault};
+ghost use Rattle.redo_bundle.specs.inside.Steps.{file_fault};
 
 use crate::buffer::Held;
-use redo_tree::{Tree, TreeFault};
 use crate::{BundleFault, ByteIn};
 use itoa::Buffer;
 use redo_path::{Path, PathFault, resolve};
+use redo_tree::{Tree, TreeFault};
 use std::alloc::Global;
 
 /// The most bytes of a header line, without its newline.
@@ -299,8 +304,11 @@ fn read_next<R: ByteIn>(
 ) -> Result<bool, BundleFault>
     requires works { R.has_failed reader.old ≡ false }
     requires more { number < 2 ^ 64 - 1 }
-    ensures entry { result ≡ Ok true → AddsNext tree.old tree.new (prepend_known held.old (R.left reader.old)) (prepend_known held.new (R.left reader.new)) }
-    ensures end { result ≡ Ok false → (tree.new ≡ tree.old) × Consumes (prepend_known held.old (R.left reader.old)) (prepend_known held.new (R.left reader.new)) (codes "end\n") × (held.new ≡ []) × IsAtEnd (R.left reader.new) }
+    ensures entry { result ≡ Ok true →
+        AddsNext tree.old tree.new (prepend_known held.old (R.left reader.old)) (prepend_known held.new (R.left reader.new)) }
+    ensures end { result ≡ Ok false →
+        (tree.new ≡ tree.old) ×
+        Consumes (prepend_known held.old (R.left reader.old)) (prepend_known held.new (R.left reader.new)) (codes "end\n") × (held.new ≡ []) × IsAtEnd (R.left reader.new) }
     ensures fault { Refuses result (prepend_known held.old (R.left reader.old)) (fault_at number tree.old) }
     ensures failed { R.has_failed reader.new ≡ is_read result }
 {

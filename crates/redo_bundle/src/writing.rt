@@ -5,10 +5,9 @@ ghost use Rattle.redo_tree.specs.Tree.{node_of};
 ghost use Rattle.redo_bundle.specs.Bundle.{Writes, HasSmallFiles, IsBundle, bundle_of, spelling};
 ghost use Rattle.redo_bundle.specs.inside.Steps.{is_device, header_bytes};
 
-use redo_tree::Entry;
-use redo_tree::Tree;
 use crate::{Broken, ByteOut, WriteFault};
 use redo_path::Path;
+use redo_tree::{Entry, Tree};
 use std::alloc::{AllocError, Global};
 
 /// Writes all of the bytes, in as many calls as the writer takes. A writer that takes nothing of

@@ -1,5 +1,6 @@
 -- A work that is advanced comes to what its piece says.
-use Rattle.std.proofs.Common.{◌≡◌, ℕ, suc, ◌+◌, ◌<◌, ◌≤◌, ◌↔◌, List, [], ◌∷◌, filter, Option, Some, None, inl, inr, true, false, refl, sym, ap, subst, ◌∙◌, arith, length, slice_get, Global}
+use Rattle.std.proofs.Common.{◌≡◌, ℕ, suc, ◌+◌, ◌<◌, ◌≤◌, ◌↔◌, List, [], ◌∷◌, filter, Option, Some, None, inl, inr}
+use Rattle.std.proofs.Common.{true, false, refl, sym, ap, subst, ◌∙◌, arith, length, slice_get, Global}
 use Rattle.std.specs.Prelude.{is_none, Box}
 use Rattle.std.proofs.lemmas.Bool.{cases_Bool}
 use Rattle.redo_tree.specs.Tree.{Tree}

@@ -1,5 +1,7 @@
 -- Entering paths one after the other.
-use Rattle.std.proofs.Common.{◌≡◌, ℕ, zero, suc, ◌+◌, ◌<◌, Bool, cond, not, List, [], ◌∷◌, ◌++◌, Some, inl, inr, length, take, drop, take-append-drop, slice_get, filter, filter_map, refl, sym, ap, subst, ◌∙◌, arith}
+use Rattle.std.proofs.Common.{◌≡◌, ℕ, zero, suc, ◌+◌, ◌<◌, Bool, cond, not, List, [], ◌∷◌, ◌++◌, Some, inl, inr, length}
+use Rattle.std.proofs.Common.{take, drop, take-append-drop, slice_get, filter, filter_map, refl, sym, ap, subst, ◌∙◌}
+use Rattle.std.proofs.Common.{arith}
 use Rattle.std.proofs.lemmas.List.Elements.{filter_map-append, filter-append}
 use Rattle.redo_tree.specs.Tree.{Tree}
 use Rattle.redo_record.specs.declared.deps.Dep.{Dep}
@@ -78,13 +80,13 @@ module _ (tree : Tree) (limits : LimitsView) where
   abbrev r : Rules
   r = rules_of tree limits
 
-  pub enter-none : (t : Table) (freed : List ℕ) → IsTableOf tree limits t freed → AreEnteredInto tree limits t t freed []
-  enter-none t freed table = record { table = table; entries = refl; rest = (refl, refl); keys_kept = λ k p h. h; slots_kept = λ k slot h. h; watched = λ pending all. all }
+  pub enter-none : (t : Table) (newly_ready : List ℕ) → IsTableOf tree limits t newly_ready → AreEnteredInto tree limits t t newly_ready []
+  enter-none t newly_ready table = record { table = table; entries = refl; rest = (refl, refl); keys_kept = λ k p h. h; slots_kept = λ k slot h. h; watched = λ pending all. all }
 
   -- some paths, and then others
-  pub enter-more : (t u v : Table) (freed freed' : List ℕ) (ps qs : List (List ℕ)) → AreEnteredInto tree limits t u freed ps → AreEnteredInto tree limits u v freed' qs →
-      AreEnteredInto tree limits t v freed' (ps ++ qs)
-  enter-more t u v freed freed' ps qs one two = record {
+  pub enter-more : (t u v : Table) (newly_ready newly_ready' : List ℕ) (ps qs : List (List ℕ)) → AreEnteredInto tree limits t u newly_ready ps → AreEnteredInto tree limits u v newly_ready' qs →
+      AreEnteredInto tree limits t v newly_ready' (ps ++ qs)
+  enter-more t u v newly_ready newly_ready' ps qs one two = record {
     table = two.table;
     entries = two.entries ∙ ap (λ es. entered (rules_of tree limits) es qs) one.entries ∙ sym (entered-append (rules_of tree limits) (table_entries (rules_of tree limits) limits.targets t) ps qs);
     rest = (two.rest.0 ∙ one.rest.0, two.rest.1 ∙ one.rest.1);

@@ -1,5 +1,7 @@
 -- Entering a path that is new.
-use Rattle.std.proofs.Common.{slice_get, ◌≡◌, ℕ, zero, suc, ◌+◌, ◌<◌, ◌≤◌, true, false, cond, ◌⊎◌, inl, inr, List, [], ◌∷◌, ◌++◌, length, length-append, append-nil, filter, Some, None, refl, sym, ap, subst, ◌∙◌, arith}
+use Rattle.std.proofs.Common.{slice_get, ◌≡◌, ℕ, zero, suc, ◌+◌, ◌<◌, ◌≤◌, true, false, cond, ◌⊎◌, inl, inr, List, []}
+use Rattle.std.proofs.Common.{◌∷◌, ◌++◌, length, length-append, append-nil, filter, Some, None, refl, sym, ap, subst}
+use Rattle.std.proofs.Common.{◌∙◌, arith}
 use Rattle.std.proofs.lemmas.Bool.{cases_Bool, both_ways}
 use Rattle.redo_tree.specs.Tree.{Tree}
 use Rattle.redo_record.specs.Paths.{IsAmong, is_among}
@@ -7,7 +9,10 @@ use Rattle.redo_build.specs.Rules.{Ask, Rules, Extends, operands}
 use Rattle.redo_build.specs.Outcomes.{outcome_at}
 use Rattle.redo_core.specs.Build.{rules_of}
 use Rattle.redo_build.specs.Schedule.{Entry, outcomes_of, paths_of, entered, new_entry, nothing_known}
-use Rattle.redo_core.specs.inside.Slots.{table_entries, entries_from, slot_entries, slot_entry, stage_deps, stage_outcome, path_at, is_stage_out, is_stage_ready, is_stage_waiting, Fits, AllFit, AllWatched, AllWatchersBelow, IsWatched, IsPlace, IsQueue, IsTable, IsTableOf, IsNumbered, AllNumbered, IsBegun, IsPushed, IsEnteredInto, IsFull}
+use Rattle.redo_core.specs.inside.Slots.{table_entries, entries_from, slot_entries, slot_entry, stage_deps}
+use Rattle.redo_core.specs.inside.Slots.{stage_outcome, path_at, is_stage_out, is_stage_ready, is_stage_waiting, Fits}
+use Rattle.redo_core.specs.inside.Slots.{AllFit, AllWatched, AllWatchersBelow, IsWatched, IsPlace, IsQueue, IsTable}
+use Rattle.redo_core.specs.inside.Slots.{IsTableOf, IsNumbered, AllNumbered, IsBegun, IsPushed, IsEnteredInto, IsFull}
 use Rattle.redo_core.specs.declared.table.Slot.{Slot}
 use Rattle.redo_core.specs.declared.table.Table.{Table}
 use Rattle.redo_core.specs.declared.table.Stage.{Stage}
@@ -80,8 +85,8 @@ count-push (y ∷ xs) x h =
     let rest = count-push xs x h in
     elim (cases_Bool (is_stage_out y.stage)) [ inl t ↦ rw t (ap suc rest) | inr f ↦ rw f rest ]
 
-module _ (slots : List Slot) (ready freed : List ℕ) (new : Slot) (queue : IsQueue slots ready freed) where
-  pub queue-push : IsQueue (slots ++ new ∷ []) ready (freed ++ cond (is_stage_ready new.stage) (length slots ∷ []) [])
+module _ (slots : List Slot) (ready newly_ready : List ℕ) (new : Slot) (queue : IsQueue slots ready newly_ready) where
+  pub queue-push : IsQueue (slots ++ new ∷ []) ready (newly_ready ++ cond (is_stage_ready new.stage) (length slots ∷ []) [])
   queue-push =
       let len : length (slots ++ new ∷ []) ≡ length slots + 1 = length-append slots (new ∷ []) in
       let only : (k : ℕ) → IsPlace (cond (is_stage_ready new.stage) (length slots ∷ []) []) k → (k ≡ length slots) × (is_stage_ready new.stage ≡ true) = λ k m.
@@ -91,21 +96,21 @@ module _ (slots : List Slot) (ready freed : List ℕ) (new : Slot) (queue : IsQu
       ] in
       record {
         ready_below = λ k m. omega (arith, queue.ready_below k m, len);
-        freed_below = λ k m. elim (place-append freed (cond (is_stage_ready new.stage) (length slots ∷ []) []) k m) [
-          | inl old ↦ omega (arith, queue.freed_below k old, len)
+        newly_ready_below = λ k m. elim (place-append newly_ready (cond (is_stage_ready new.stage) (length slots ∷ []) []) k m) [
+          | inl old ↦ omega (arith, queue.newly_ready_below k old, len)
           | inr end ↦ omega (arith, (only k end).0, len)
         ];
         ready_is = λ k x m g. elim (get-push_cases slots new x k g) [
           | inl here ↦ elim m [
             | inl l ↦ absurd (omega (arith, queue.ready_below k l, here.0))
-            | inr l ↦ elim (place-append freed (cond (is_stage_ready new.stage) (length slots ∷ []) []) k l) [
-              | inl f ↦ absurd (omega (arith, queue.freed_below k f, here.0))
+            | inr l ↦ elim (place-append newly_ready (cond (is_stage_ready new.stage) (length slots ∷ []) []) k l) [
+              | inl f ↦ absurd (omega (arith, queue.newly_ready_below k f, here.0))
               | inr end ↦ sym (ap (λ (y : Slot). is_stage_ready y.stage) here.1) ∙ (only k end).1
             ]
           ]
           | inr old ↦ elim m [
             | inl l ↦ queue.ready_is k x (inl l) old
-            | inr l ↦ elim (place-append freed (cond (is_stage_ready new.stage) (length slots ∷ []) []) k l) [
+            | inr l ↦ elim (place-append newly_ready (cond (is_stage_ready new.stage) (length slots ∷ []) []) k l) [
               | inl f ↦ queue.ready_is k x (inr f) old
               | inr end ↦ absurd (omega (arith, (only k end).0, slice_get-below_some slots k x old))
             ]
@@ -114,18 +119,18 @@ module _ (slots : List Slot) (ready freed : List ℕ) (new : Slot) (queue : IsQu
         ready_in = λ k x g t. elim (get-push_cases slots new x k g) [
           | inl here ↦
               let now : is_stage_ready new.stage ≡ true = ap (λ (y : Slot). is_stage_ready y.stage) here.1 ∙ t in
-              inr (place-right freed (cond (is_stage_ready new.stage) (length slots ∷ []) []) k (rw now (inl (sym here.0))))
+              inr (place-right newly_ready (cond (is_stage_ready new.stage) (length slots ∷ []) []) k (rw now (inl (sym here.0))))
           | inr old ↦ elim (queue.ready_in k x old t) [
             | inl l ↦ inl l
-            | inr f ↦ inr (place-left freed (cond (is_stage_ready new.stage) (length slots ∷ []) []) k f)
+            | inr f ↦ inr (place-left newly_ready (cond (is_stage_ready new.stage) (length slots ∷ []) []) k f)
           ]
         ];
-        apart = λ k m f. elim (place-append freed (cond (is_stage_ready new.stage) (length slots ∷ []) []) k f) [
+        apart = λ k m f. elim (place-append newly_ready (cond (is_stage_ready new.stage) (length slots ∷ []) []) k f) [
           | inl l ↦ queue.apart k m l
           | inr end ↦ absurd (omega (arith, queue.ready_below k m, (only k end).0))
         ];
         once = elim (cases_Bool (is_stage_ready new.stage)) [
-          | inl t ↦ rw t (once-push freed (length slots) queue.once (λ m. absurd (let h = queue.freed_below (length slots) m in omega (arith, h))))
+          | inl t ↦ rw t (once-push newly_ready (length slots) queue.once (λ m. absurd (let h = queue.newly_ready_below (length slots) m in omega (arith, h))))
           | inr f ↦ rw f (rw append-nil queue.once)
         ];
       }
@@ -147,8 +152,8 @@ slots-length r a [] (slot ∷ slots) h = absurd (omega arith)
 slots-length r a (p ∷ ps) [] h = refl
 slots-length r a (p ∷ ps) (slot ∷ slots) h = ap suc (slots-length r a ps slots (omega arith))
 
-module _ (tree : Tree) (limits : LimitsView) (t u : Table) (freed freed' : List ℕ) (p : List ℕ) (table : IsTableOf tree limits t freed)
-    (room : length t.slots.items < limits.targets) (out : IsAmong t.targets.keys p → ⊥) (w : IsPushed tree limits t u freed freed' p) where
+module _ (tree : Tree) (limits : LimitsView) (t u : Table) (newly_ready newly_ready' : List ℕ) (p : List ℕ) (table : IsTableOf tree limits t newly_ready)
+    (room : length t.slots.items < limits.targets) (out : IsAmong t.targets.keys p → ⊥) (w : IsPushed tree limits t u newly_ready newly_ready' p) where
   abbrev r : Rules
   r = rules_of tree limits
 
@@ -216,7 +221,7 @@ module _ (tree : Tree) (limits : LimitsView) (t u : Table) (freed freed' : List 
       ]
 
   table-push : IsTable (rules_of tree limits) tree limits (t.targets.keys ++ p ∷ []) (t.slots.items ++ w.new ∷ []) t.ready.items t.out
-      (freed ++ cond (is_stage_ready w.new.stage) (length t.slots.items ∷ []) [])
+      (newly_ready ++ cond (is_stage_ready w.new.stage) (length t.slots.items ∷ []) [])
   table-push =
       let len : length (t.slots.items ++ w.new ∷ []) ≡ length t.slots.items + 1 = length-append t.slots.items (w.new ∷ []) in
       let keys : length (t.targets.keys ++ p ∷ []) ≡ length t.targets.keys + 1 = length-append t.targets.keys (p ∷ []) in
@@ -227,7 +232,7 @@ module _ (tree : Tree) (limits : LimitsView) (t u : Table) (freed freed' : List 
         out_counted = table.out_counted ∙ sym (count-push t.slots.items w.new (begun-inside tree limits p w.new.stage w.begun).0);
         fits = fits-push;
         numbered = numbered-push;
-        queue = queue-push t.slots.items t.ready.items freed w.new table.queue;
+        queue = queue-push t.slots.items t.ready.items newly_ready w.new table.queue;
         watchers_below = below-push;
       }
 
@@ -254,9 +259,9 @@ module _ (tree : Tree) (limits : LimitsView) (t u : Table) (freed freed' : List 
         ]
   ]
 
-  pub entered-new : IsEnteredInto tree limits t u freed' p
+  pub entered-new : IsEnteredInto tree limits t u newly_ready' p
   entered-new = record {
-    table = rw (w.keys, w.slots, w.rest.0, w.rest.1, w.freed_is) table-push;
+    table = rw (w.keys, w.slots, w.rest.0, w.rest.1, w.newly_ready_is) table-push;
     entries = rw (w.keys, w.slots) pushed;
     rest = w.rest;
     keys_kept = λ k q h. rw w.keys (get-push_old t.targets.keys p q k h);
@@ -271,9 +276,9 @@ module _ (tree : Tree) (limits : LimitsView) (t u : Table) (freed freed' : List 
       rw w.keys (subst P (sym (end ∙ table.one_each)) (get-push_end t.targets.keys p))
 
 -- a path that is there already
-pub entered-old : (tree : Tree) (limits : LimitsView) (t : Table) (freed : List ℕ) (p : List ℕ) → IsTableOf tree limits t freed → IsAmong t.targets.keys p →
-    IsEnteredInto tree limits t t freed p
-entered-old tree limits t freed p table m = record {
+pub entered-old : (tree : Tree) (limits : LimitsView) (t : Table) (newly_ready : List ℕ) (p : List ℕ) → IsTableOf tree limits t newly_ready → IsAmong t.targets.keys p →
+    IsEnteredInto tree limits t t newly_ready p
+entered-old tree limits t newly_ready p table m = record {
   table = table;
   entries =
       let P : List (List ℕ) → Type 0 = λ xs. is_among xs p ≡ true in
@@ -286,9 +291,9 @@ entered-old tree limits t freed p table m = record {
   watched = λ pending all. all;
 }
 
-pub full : (tree : Tree) (limits : LimitsView) (t : Table) (freed : List ℕ) (p : List ℕ) → IsTableOf tree limits t freed → (IsAmong t.targets.keys p → ⊥) →
+pub full : (tree : Tree) (limits : LimitsView) (t : Table) (newly_ready : List ℕ) (p : List ℕ) → IsTableOf tree limits t newly_ready → (IsAmong t.targets.keys p → ⊥) →
     limits.targets ≤ length t.slots.items → IsFull (rules_of tree limits) limits.targets (table_entries (rules_of tree limits) limits.targets t) p
-full tree limits t freed p table out h =
+full tree limits t newly_ready p table out h =
     let a = outcome_at (rules_of tree limits) limits.targets in
     let es = table_entries (rules_of tree limits) limits.targets t in
     let P : List (List ℕ) → Type 0 = λ xs. is_among xs p ≡ false in
@@ -301,9 +306,9 @@ full tree limits t freed p table out h =
     ))
 
 -- what was entered is within the limit
-pub entered-room : (tree : Tree) (limits : LimitsView) (t u : Table) (freed : List ℕ) (p : List ℕ) → IsEnteredInto tree limits t u freed p →
+pub entered-room : (tree : Tree) (limits : LimitsView) (t u : Table) (newly_ready : List ℕ) (p : List ℕ) → IsEnteredInto tree limits t u newly_ready p →
     IsFull (rules_of tree limits) limits.targets (table_entries (rules_of tree limits) limits.targets t) p → ⊥
-entered-room tree limits t u freed p entered many =
+entered-room tree limits t u newly_ready p entered many =
     let r = rules_of tree limits in
     omega (
       arith,
@@ -314,9 +319,9 @@ entered-room tree limits t u freed p entered many =
     )
 
 -- where a slot is free, one more path is within the limit
-pub room-left : (tree : Tree) (limits : LimitsView) (t : Table) (freed : List ℕ) (p : List ℕ) → IsTableOf tree limits t freed → length t.slots.items < limits.targets →
+pub room-left : (tree : Tree) (limits : LimitsView) (t : Table) (newly_ready : List ℕ) (p : List ℕ) → IsTableOf tree limits t newly_ready → length t.slots.items < limits.targets →
     IsFull (rules_of tree limits) limits.targets (table_entries (rules_of tree limits) limits.targets t) p → ⊥
-room-left tree limits t freed p table room many =
+room-left tree limits t newly_ready p table room many =
     let r = rules_of tree limits in
     let es = table_entries (rules_of tree limits) limits.targets t in
     let len = slots-length r (outcome_at r limits.targets) t.targets.keys t.slots.items table.one_each in

@@ -1,5 +1,6 @@
 -- What facts tell.
-use Rattle.std.proofs.Common.{◌≡◌, ℕ, List, [], ◌∷◌, ◌++◌, Bool, Option, Some, None, inl, inr, map, cond, refl, sym, ap, ◌∙◌, bytes_eq, zero, suc, ◌+◌, ◌<◌, ◌≤◌, length, drop, slice_index_or, arith, Global}
+use Rattle.std.proofs.Common.{◌≡◌, ℕ, List, [], ◌∷◌, ◌++◌, Bool, Option, Some, None, inl, inr, map, cond, refl, sym, ap}
+use Rattle.std.proofs.Common.{◌∙◌, bytes_eq, zero, suc, ◌+◌, ◌<◌, ◌≤◌, length, drop, slice_index_or, arith, Global}
 use Rattle.std.specs.Arc.{arc_value}
 use Rattle.std.specs.Map.{lookup}
 use Rattle.std.specs.Prelude.{option_map}

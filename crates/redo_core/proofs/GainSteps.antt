@@ -1,5 +1,6 @@
 -- Facts that are taken over from the table.
-use Rattle.std.proofs.Common.{◌≡◌, ℕ, ◌+◌, List, Bool, Some, None, true, false, cond, inl, inr, slice_get, refl, sym, ap, subst, ◌∙◌, arith, bytes_eq, Global, [], ◌∷◌, ◌++◌, Option}
+use Rattle.std.proofs.Common.{◌≡◌, ℕ, ◌+◌, List, Bool, Some, None, true, false, cond, inl, inr, slice_get, refl, sym}
+use Rattle.std.proofs.Common.{ap, subst, ◌∙◌, arith, bytes_eq, Global, [], ◌∷◌, ◌++◌, Option}
 use Rattle.std.specs.Arc.{arc_value}
 use Rattle.std.specs.Map.{lookup}
 use Rattle.std.specs.declared.sync.Arc.{Arc}

@@ -1,5 +1,6 @@
 -- A piece that is handed in leaves the board in the state that the schedule says.
-use Rattle.std.proofs.Common.{slice_get, ◌≡◌, ℕ, ◌<◌, ◌≤◌, List, [], length, Option, Some, None, refl, sym, ap, subst, ◌∙◌, arith}
+use Rattle.std.proofs.Common.{slice_get, ◌≡◌, ℕ, ◌<◌, ◌≤◌, List, [], length, Option, Some, None, refl, sym, ap, subst}
+use Rattle.std.proofs.Common.{◌∙◌, arith}
 use Rattle.std.specs.Arc.{arc_value}
 use Rattle.redo_build.specs.Outcomes.{outcome_at, IsTooMany}
 use Rattle.redo_build.specs.Schedule.{Entry, State, entry_of, happens, IsOutAt}
@@ -9,7 +10,8 @@ use Rattle.redo_core.specs.Faults.{fault_of, IsSameBuild, RefusedRunning}
 use Rattle.redo_core.specs.declared.board.Stop.{Stop}
 use Rattle.redo_core.specs.declared.board.Stop.TheVariants.{TooMany, Memory}
 use Rattle.redo_core.specs.inside.Ends.{IsEndAt}
-use Rattle.redo_core.specs.inside.Slots.{rules_inside, state_of, path_at, slot_entry, is_stage_out, IsKept, IsOutSlotAt, MayTakeIn, IsTakenIn, state_after}
+use Rattle.redo_core.specs.inside.Slots.{rules_inside, state_of, path_at, slot_entry, is_stage_out, IsKept, IsOutSlotAt}
+use Rattle.redo_core.specs.inside.Slots.{MayTakeIn, IsTakenIn, state_after}
 use Rattle.redo_core.specs.declared.board.Board.TheInside.{Inside}
 use Rattle.redo_core.specs.declared.table.Table.{Table}
 use Rattle.redo_core.specs.declared.table.Stage.TheVariants.{Out}
@@ -18,7 +20,7 @@ use Rattle.redo_core.proofs.LawfulTreeLemmas.{rules_lawful}
 use Rattle.redo_build.proofs.SoundLemmas.{happens-sound}
 use Rattle.redo_build.proofs.QuietLemmas.{is_part}
 use Rattle.redo_core.proofs.SlotLemmas.{entry_of-slots}
-use Rattle.redo_core.proofs.FreeSteps.{slot-of-path}
+use Rattle.redo_core.proofs.MakeReadySteps.{slot-of-path}
 use Rattle.redo_core.proofs.TakeLemmas.{sound-inside, distinct-inside, reached-more}
 
 module _ (b : Inside) (kept : IsKept b) (target : List ℕ) (turn at : ℕ) (o : IsOutSlotAt b.table target turn at) where

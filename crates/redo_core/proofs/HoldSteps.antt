@@ -1,5 +1,6 @@
 -- Noting how far a parked job was looked at keeps the entries.
-use Rattle.std.proofs.Common.{slice_get, slice_set, ◌≡◌, ℕ, ◌<◌, ◌≤◌, inl, inr, ◌⊎◌, List, ◌∷◌, ◌++◌, length, length-set, true, false, Some, None, refl, sym, ap, subst, ◌∙◌, arith}
+use Rattle.std.proofs.Common.{slice_get, slice_set, ◌≡◌, ℕ, ◌<◌, ◌≤◌, inl, inr, ◌⊎◌, List, ◌∷◌, ◌++◌, length}
+use Rattle.std.proofs.Common.{length-set, true, false, Some, None, refl, sym, ap, subst, ◌∙◌, arith}
 use Rattle.std.proofs.lemmas.Bool.{cases_lt}
 use Rattle.redo_tree.specs.Tree.{Tree}
 use Rattle.redo_record.specs.declared.deps.Dep.{Dep}
@@ -8,7 +9,10 @@ use Rattle.redo_build.specs.Outcomes.{outcome_at}
 use Rattle.redo_core.specs.Build.{rules_of}
 use Rattle.redo_build.specs.Schedule.{Entry, outcomes_of}
 use Rattle.redo_build.specs.inside.Standing.{AreStanding}
-use Rattle.redo_core.specs.inside.Slots.{table_entries, slot_entry, stage_deps, stage_outcome, is_stage_ready, is_stage_waiting, is_stage_decided, path_at, Fits, AllWatched, IsPlace, AreNumbers, IsNumbered, waited_by, IsTable, IsTableOf, IsStandingTable, IsWaitingWith, IsLackingAt, IsHeldAt, IsWatchAdded, IsLookedAt}
+use Rattle.redo_core.specs.inside.Slots.{table_entries, slot_entry, stage_deps, stage_outcome, is_stage_ready}
+use Rattle.redo_core.specs.inside.Slots.{is_stage_waiting, is_stage_decided, path_at, Fits, AllWatched, IsPlace}
+use Rattle.redo_core.specs.inside.Slots.{AreNumbers, IsNumbered, waited_by, IsTable, IsTableOf, IsStandingTable}
+use Rattle.redo_core.specs.inside.Slots.{IsWaitingWith, IsLackingAt, IsHeldAt, IsWatchAdded, IsLookedAt}
 use Rattle.redo_core.specs.declared.table.Parked.{Parked}
 use Rattle.redo_core.specs.declared.table.Slot.{Slot}
 use Rattle.redo_core.specs.declared.table.Stage.{Stage}
@@ -16,10 +20,11 @@ use Rattle.redo_core.specs.declared.table.Stage.TheVariants.{Waiting}
 use Rattle.redo_core.specs.declared.table.Table.{Table}
 use Rattle.redo_core.proofs.NumberLemmas.{numbers-path}
 use Rattle.redo_core.proofs.TableLemmas.{cases_place, get-set_same, get-set_other, watched-set, IsWatched-set}
-use Rattle.redo_core.proofs.TableSteps.{number-decided, parked_numbered, decided-known, entries-same, table-same, queue-same, watch-table, watch-looked}
+use Rattle.redo_core.proofs.TableSteps.{number-decided, parked_numbered, decided-known, entries-same, table-same}
+use Rattle.redo_core.proofs.TableSteps.{queue-same, watch-table, watch-looked}
 use Rattle.redo_step.specs.Limits.{LimitsView}
 
-module _ (tree : Tree) (limits : LimitsView) (t : Table) (freed : List ℕ) (table : IsTableOf tree limits t freed) (standing : IsStandingTable tree limits t)
+module _ (tree : Tree) (limits : LimitsView) (t : Table) (newly_ready : List ℕ) (table : IsTableOf tree limits t newly_ready) (standing : IsStandingTable tree limits t)
     (at : ℕ) (slot : Slot) (parked : Parked) (there : slice_get t.slots.items at ≡ Some slot) (is : slot.stage ≡ Waiting parked)
     (v : Table) (i place : ℕ) (h : IsHeldAt t v at i) (l : IsLackingAt t parked.operands.items parked.held i place) where
   abbrev r : Rules
@@ -67,7 +72,7 @@ module _ (tree : Tree) (limits : LimitsView) (t : Table) (freed : List ℕ) (tab
       one ∙ ap (λ n. E n (D h.new.turn h.new.stage)) turn-same ∙ ap (E slot.turn) (deps-same (path_at t.targets.keys at)) ∙ sym two
 
   numbers : AreNumbers t.targets.keys parked.operands.items (waited_by (rules_of tree limits) parked.begun.value)
-  numbers = parked_numbered tree limits t freed table standing at slot parked there is
+  numbers = parked_numbered tree limits t newly_ready table standing at slot parked there is
 
   held-numbered : IsNumbered (rules_of tree limits) t.targets.keys h.new.stage
   unfolding held
@@ -90,7 +95,7 @@ module _ (tree : Tree) (limits : LimitsView) (t : Table) (freed : List ℕ) (tab
           | inl before ↦ w.answered k q before get none
           | inr after' ↦
               let number = numbers-path t.targets.keys parked.operands.items (waited_by r parked.begun.value) k q numbers get in
-              decided-known tree limits t freed table standing q (number-decided t q number.0 number.2 (l.before k number.0 after' below number.1)) none
+              decided-known tree limits t newly_ready table standing q (number-decided t q number.0 number.2 (l.before k number.0 after' below number.1)) none
         ];
         told = w.told;
         goes_on = w.goes_on;
@@ -98,18 +103,18 @@ module _ (tree : Tree) (limits : LimitsView) (t : Table) (freed : List ℕ) (tab
         gained = w.gained;
       }))
 
-  pub held-table : IsTableOf tree limits v freed
+  pub held-table : IsTableOf tree limits v newly_ready
   held-table =
       let list = ap (λ (y : Rattle.std.specs.declared.vec.Vec.Vec ℕ Rattle.std.proofs.Common.Global). y.items) (h.watchers ∙ ap (λ (y : Slot). y.watchers) same-slot) in
       let ready : is_stage_ready h.new.stage ≡ is_stage_ready slot.stage = ap is_stage_ready held-is ∙ sym (ap is_stage_ready is) in
-      let raw = table-same tree limits t freed table standing at slot h.new there old-open new-open same-entry freed
-      (queue-same t.slots.items t.ready.items freed at slot h.new there table.queue ready)
+      let raw = table-same tree limits t newly_ready table standing at slot h.new there old-open new-open same-entry newly_ready
+      (queue-same t.slots.items t.ready.items newly_ready at slot h.new there table.queue ready)
       (λ k m. let L : List ℕ → Type 0 = λ xs. IsPlace xs k in table.watchers_below at k slot there (subst L list m)) held-fits held-numbered in
-      let S : List Slot → Type 0 = λ xs. IsTable r tree limits t.targets.keys xs t.ready.items t.out freed in
+      let S : List Slot → Type 0 = λ xs. IsTable r tree limits t.targets.keys xs t.ready.items t.out newly_ready in
       rw (h.rest.0, h.rest.1, h.rest.2) (subst S (sym h.slots) raw)
 
   pub held-entries : table_entries (rules_of tree limits) limits.targets v ≡ table_entries (rules_of tree limits) limits.targets t
-  held-entries = rw (h.rest.0, h.slots) (entries-same tree limits t freed table standing at slot h.new there old-open new-open same-entry)
+  held-entries = rw (h.rest.0, h.slots) (entries-same tree limits t newly_ready table standing at slot h.new there old-open new-open same-entry)
 
   pub held-standing : IsStandingTable tree limits v
   held-standing = let S : List Entry → Type 0 = AreStanding r standing.0 in (standing.0, subst S (sym held-entries) standing.1)
@@ -153,12 +158,12 @@ module _ (tree : Tree) (limits : LimitsView) (t : Table) (freed : List ℕ) (tab
   ]
 
   module _ (u : Table) (w : IsWatchAdded v u at place) where
-    pub held-watch-table : IsTableOf tree limits u freed
-    held-watch-table = watch-table tree limits v freed held-table held-standing at h.new held held-there held-is u place i i w held-lacks
+    pub held-watch-table : IsTableOf tree limits u newly_ready
+    held-watch-table = watch-table tree limits v newly_ready held-table held-standing at h.new held held-there held-is u place i i w held-lacks
 
     pub held-watch-looked : IsLookedAt tree limits t u at
     held-watch-looked =
-        let looked = watch-looked tree limits v freed held-table held-standing at h.new held held-there held-is u place i i w held-lacks in
+        let looked = watch-looked tree limits v newly_ready held-table held-standing at h.new held held-there held-is u place i i w held-lacks in
         record {
           entries = looked.entries ∙ held-entries;
           rest = (looked.rest.0 ∙ h.rest.0, looked.rest.1 ∙ h.rest.1, looked.rest.2 ∙ h.rest.2);

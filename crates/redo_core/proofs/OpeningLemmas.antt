@@ -1,5 +1,7 @@
 -- The opening of a build on the table.
-use Rattle.std.proofs.Common.{slice_get, ◌≡◌, ℕ, zero, suc, ◌+◌, ◌<◌, ◌≤◌, Bool, true, false, cond, not, List, [], ◌∷◌, ◌++◌, Some, is_some, inl, inr, length, take, drop, take-append-drop, refl, sym, ap, subst, ◌∙◌, arith}
+use Rattle.std.proofs.Common.{slice_get, ◌≡◌, ℕ, zero, suc, ◌+◌, ◌<◌, ◌≤◌, Bool, true, false, cond, not, List, [], ◌∷◌}
+use Rattle.std.proofs.Common.{◌++◌, Some, is_some, inl, inr, length, take, drop, take-append-drop, refl, sym, ap, subst}
+use Rattle.std.proofs.Common.{◌∙◌, arith}
 use Rattle.std.proofs.lemmas.Bool.{cases_Bool}
 use Rattle.std.proofs.lemmas.List.Elements.{filter-append}
 use Rattle.redo_tree.specs.Tree.{Tree, file_at}
@@ -7,7 +9,7 @@ use Rattle.redo_record.specs.Paths.{IsAmong, is_among, with_new}
 use Rattle.redo_build.specs.Rules.{Rules}
 use Rattle.redo_build.specs.Outcomes.{IsTooMany}
 use Rattle.redo_core.specs.Build.{rules_of}
-use Rattle.redo_build.specs.Schedule.{Entry, State, paths_of, entered, released, opening}
+use Rattle.redo_build.specs.Schedule.{Entry, State, paths_of, entered, enqueued, opening}
 use Rattle.redo_build.specs.inside.Standing.{AreStanding}
 use Rattle.std.specs.Arc.{arc_value}
 use Rattle.redo_core.specs.declared.board.Board.TheInside.{Inside}
@@ -16,14 +18,15 @@ use Rattle.redo_core.specs.declared.board.Stop.TheVariants.{TooMany, Memory}
 use Rattle.redo_core.specs.declared.board.OpenFault.TheVariants.{TooMany as OpenTooMany}
 use Rattle.redo_core.specs.Faults.{opening_fault_of}
 use Rattle.redo_build.proofs.QuietLemmas.{is_part}
-use Rattle.redo_core.specs.inside.Slots.{IsKept, table_entries, table_state, targets_in, IsTableOf, AllWatched, AreEnteredInto, AreReleased, IsFirstTable}
+use Rattle.redo_core.specs.inside.Slots.{IsKept, table_entries, table_state, targets_in, IsTableOf, AllWatched}
+use Rattle.redo_core.specs.inside.Slots.{AreEnteredInto, AreEnqueued, IsFirstTable}
 use Rattle.redo_core.specs.declared.table.Table.{Table}
 use Rattle.redo_build.proofs.PathLemmas.{is_among-true, with_new-second}
 use Rattle.redo_build.proofs.SeenLemmas.{paths_of-entered, entered-longer}
 use Rattle.redo_core.proofs.LawfulTreeLemmas.{rules_lawful}
 use Rattle.redo_build.proofs.SoundLemmas.{opening-sound}
 use Rattle.redo_core.proofs.EnterAllLemmas.{entered-append, entered-seen}
-use Rattle.redo_core.proofs.ReleaseLemmas.{released-table, released-watched, released-state}
+use Rattle.redo_core.proofs.EnqueueLemmas.{enqueued-table, enqueued-watched, enqueued-state}
 use Rattle.redo_step.specs.Limits.{LimitsView}
 
 path-take : (ps : List (List ℕ)) (i : ℕ) (p : List ℕ) → slice_get ps i ≡ Some p → take (i + 1) ps ≡ take i ps ++ p ∷ []
@@ -80,7 +83,7 @@ empty-table tree limits t keys slots ready out few = rw (keys, slots, ready, out
   numbered = λ k x g. absurd (nothing k x g);
   queue = record {
     ready_below = λ k m. absurd m;
-    freed_below = λ k m. absurd m;
+    newly_ready_below = λ k m. absurd m;
     ready_is = λ k x m g. absurd (nothing k x g);
     ready_in = λ k x g h. absurd (nothing k x g);
     apart = λ k m n. n;
@@ -98,9 +101,9 @@ empty-watched tree limits t keys slots = rw (keys, slots) (λ k x g h. absurd (n
     nothing : (k : ℕ) (x : Rattle.redo_core.specs.declared.table.Slot.Slot) → slice_get {X = Rattle.redo_core.specs.declared.table.Slot.Slot} [] k ≡ Some x → ⊥
     nothing k x g = cc
 
-pub first-is : (tree : Tree) (limits : LimitsView) (request : List (List ℕ)) (t u v : Table) (freed : List ℕ) → t.targets.keys ≡ [] → t.slots.items ≡ [] → t.ready.items ≡ [] →
-    AreEnteredInto tree limits t u freed (targets_in tree request) → AreReleased u v freed → IsFirstTable tree limits request v
-first-is tree limits request t u v freed keys slots ready a w =
+pub first-is : (tree : Tree) (limits : LimitsView) (request : List (List ℕ)) (t u v : Table) (newly_ready : List ℕ) → t.targets.keys ≡ [] → t.slots.items ≡ [] → t.ready.items ≡ [] →
+    AreEnteredInto tree limits t u newly_ready (targets_in tree request) → AreEnqueued u v newly_ready → IsFirstTable tree limits request v
+first-is tree limits request t u v newly_ready keys slots ready a w =
     let r = rules_of tree limits in
     let none : table_entries r limits.targets t ≡ [] = rw keys refl in
     let entries : table_entries r limits.targets u ≡ (opening r request).entries = a.entries ∙ ap (λ es. entered r es (targets_in tree request)) none ∙ sym (opening-entries tree limits request) in
@@ -110,9 +113,9 @@ first-is tree limits request t u v freed keys slots ready a w =
     let T : List Entry → List (List ℕ) → State = λ xs ps. record { entries = xs; ready = ps } in
     let before : table_state r limits.targets u ≡ T (opening r request).entries [] = (let numbers : table_state r limits.targets u ≡ T (table_entries r limits.targets u) [] = rw (a.rest.0, ready) refl in numbers ∙ ap (λ xs. T xs []) entries) in
     record {
-      table = released-table tree limits request u v freed a.table standing watched w;
-      watched = released-watched tree limits request u v freed a.table standing watched w;
-      state = released-state tree limits request u v freed a.table standing watched w ∙ ap (released r) before;
+      table = enqueued-table tree limits request u v newly_ready a.table standing watched w;
+      watched = enqueued-watched tree limits request u v newly_ready a.table standing watched w;
+      state = enqueued-state tree limits request u v newly_ready a.table standing watched w ∙ ap (enqueued r) before;
     }
 
 -- a board with the first table keeps what it shows

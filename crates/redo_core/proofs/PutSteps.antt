@@ -1,5 +1,7 @@
 -- Putting back what a target that was out came to.
-use Rattle.std.proofs.Common.{slice_get, slice_set, ◌≡◌, ℕ, ◌+◌, ◌<◌, ◌≤◌, Bool, true, false, ◌⊎◌, inl, inr, List, [], ◌∷◌, length, length-set, filter, Option, Some, None, refl, sym, ap, subst, ◌∙◌, arith, Global}
+use Rattle.std.proofs.Common.{slice_get, slice_set, ◌≡◌, ℕ, ◌+◌, ◌<◌, ◌≤◌, Bool, true, false, ◌⊎◌, inl, inr, List, []}
+use Rattle.std.proofs.Common.{◌∷◌, length, length-set, filter, Option, Some, None, refl, sym, ap, subst, ◌∙◌, arith}
+use Rattle.std.proofs.Common.{Global}
 use Rattle.std.proofs.lemmas.Bool.{cases_Bool, both_ways}
 use Rattle.redo_tree.specs.Tree.{Tree}
 use Rattle.redo_record.specs.Paths.{AreDistinct}
@@ -8,7 +10,10 @@ use Rattle.redo_build.specs.Outcomes.{outcome_at}
 use Rattle.redo_core.specs.Build.{rules_of}
 use Rattle.redo_build.specs.Schedule.{outcomes_of, put}
 use Rattle.redo_core.specs.Views.{FactView}
-use Rattle.redo_core.specs.inside.Slots.{table_entries, entries_from, slot_entry, stage_deps, stage_outcome, path_at, is_stage_out, is_stage_ready, is_stage_waiting, Fits, AllWatched, IsPlace, IsTable, IsTableOf, IsPutBack, IsDecidedAt, IsParkedAt, IsDecidedStage, IsParkedStage, IsWaitingWith, IsNumbered, AreNumbers, waited_by}
+use Rattle.redo_core.specs.inside.Slots.{table_entries, entries_from, slot_entry, stage_deps, stage_outcome, path_at}
+use Rattle.redo_core.specs.inside.Slots.{is_stage_out, is_stage_ready, is_stage_waiting, Fits, AllWatched, IsPlace}
+use Rattle.redo_core.specs.inside.Slots.{IsTable, IsTableOf, IsPutBack, IsDecidedAt, IsParkedAt, IsDecidedStage}
+use Rattle.redo_core.specs.inside.Slots.{IsParkedStage, IsWaitingWith, IsNumbered, AreNumbers, waited_by}
 use Rattle.std.specs.Prelude.{Box}
 use Rattle.std.specs.declared.vec.Vec.{Vec}
 use Rattle.redo_core.proofs.NumberLemmas.{numbered-set, numbered-still}
@@ -19,7 +24,8 @@ use Rattle.redo_core.specs.declared.table.Table.{Table}
 use Rattle.redo_core.specs.declared.table.Stage.{Stage}
 use Rattle.redo_core.specs.declared.table.Stage.TheVariants.{Waiting, Ready, Out, Decided}
 use Rattle.redo_core.proofs.SlotLemmas.{slot_entries-set, slice_get-from, slice_get-below_some}
-use Rattle.redo_core.proofs.TableLemmas.{Fits-more, get-set_cases, get-set_other, fits-set, outcomes-more, watchers-set, IsWatched-set, cases_place}
+use Rattle.redo_core.proofs.TableLemmas.{Fits-more, get-set_cases, get-set_other, fits-set, outcomes-more, watchers-set}
+use Rattle.redo_core.proofs.TableLemmas.{IsWatched-set, cases_place}
 use Rattle.redo_core.proofs.TableSteps.{queue-same}
 use Rattle.redo_core.proofs.LawfulTreeLemmas.{rules_lawful}
 use Rattle.redo_step.specs.Limits.{LimitsView}
@@ -35,7 +41,7 @@ count-back (x ∷ xs) (Rattle.std.proofs.Common.suc at) old new h was now =
     let rest = count-back xs at old new h was now in
     elim (cases_Bool (is_stage_out x.stage)) [ inl t ↦ rw t (omega (arith, rest)) | inr f ↦ rw f rest ]
 
-module _ (tree : Tree) (limits : LimitsView) (t u : Table) (freed : List ℕ) (table : IsTableOf tree limits t freed) (distinct : AreDistinct t.targets.keys)
+module _ (tree : Tree) (limits : LimitsView) (t u : Table) (newly_ready : List ℕ) (table : IsTableOf tree limits t newly_ready) (distinct : AreDistinct t.targets.keys)
     (at : ℕ) (old new : Slot) (w : IsPutBack t u at old new) where
   abbrev r : Rules
   r = rules_of tree limits
@@ -56,11 +62,11 @@ module _ (tree : Tree) (limits : LimitsView) (t u : Table) (freed : List ℕ) (t
 
   pub put-table : is_stage_out new.stage ≡ false → is_stage_ready new.stage ≡ false → ((k : ℕ) → IsPlace new.watchers.items k → k < length t.slots.items) →
       ((a : Ask) → Extends (rules_of tree limits) (outcomes_of (table_entries (rules_of tree limits) limits.targets t)) a →
-      Fits (rules_of tree limits) a tree limits (path_at t.targets.keys at) new.turn new.stage) → IsNumbered (rules_of tree limits) t.targets.keys new.stage → IsTableOf tree limits u freed
+      Fits (rules_of tree limits) a tree limits (path_at t.targets.keys at) new.turn new.stage) → IsNumbered (rules_of tree limits) t.targets.keys new.stage → IsTableOf tree limits u newly_ready
   put-table in' still below fit numbers =
       let len = length-set t.slots.items at new in
       let count = count-back t.slots.items at old new w.there (rw w.was refl) in' in
-      let raw : IsTable r tree limits t.targets.keys (slice_set t.slots.items at new) t.ready.items u.out freed = record {
+      let raw : IsTable r tree limits t.targets.keys (slice_set t.slots.items at new) t.ready.items u.out newly_ready = record {
         one_each = len ∙ table.one_each;
         within_limit = omega (arith, len, table.within_limit);
         few = table.few;
@@ -70,10 +76,10 @@ module _ (tree : Tree) (limits : LimitsView) (t u : Table) (freed : List ℕ) (t
             table.fits (fit (outcomes_of (entries_from r limits.targets t.targets.keys (slice_set t.slots.items at new)))
             (outcomes-more r (rules_lawful tree limits) limits.targets t.targets.keys t.slots.items at (path_at t.targets.keys at) old new distinct put_path w.there old_open));
         numbered = numbered-set r t.targets.keys t.slots.items at new numbers table.numbered;
-        queue = queue-same t.slots.items t.ready.items freed at old new w.there table.queue (still ∙ sym (rw w.was refl));
+        queue = queue-same t.slots.items t.ready.items newly_ready at old new w.there table.queue (still ∙ sym (rw w.was refl));
         watchers_below = watchers-set t.slots.items at old new w.there below table.watchers_below;
       } in
-      let S : List Slot → Type 0 = λ xs. IsTable r tree limits t.targets.keys xs t.ready.items u.out freed in
+      let S : List Slot → Type 0 = λ xs. IsTable r tree limits t.targets.keys xs t.ready.items u.out newly_ready in
       rw (w.rest.0, w.rest.1) (subst S (sym w.slots) raw)
 
 decided-stage : (fact : FactView) (tree : Tree) (limits : LimitsView) (p : List ℕ) (turn : ℕ) (stage : Stage) → IsDecidedStage fact stage →
@@ -113,14 +119,14 @@ parked-numbers begun numbers r ps (Ready work) h are = absurd h
 parked-numbers begun numbers r ps Out h are = absurd h
 parked-numbers begun numbers r ps (Decided held) h are = absurd h
 
-module _ (tree : Tree) (limits : LimitsView) (t u : Table) (freed : List ℕ) (table : IsTableOf tree limits t freed) (distinct : AreDistinct t.targets.keys) (at : ℕ) where
+module _ (tree : Tree) (limits : LimitsView) (t u : Table) (newly_ready : List ℕ) (table : IsTableOf tree limits t newly_ready) (distinct : AreDistinct t.targets.keys) (at : ℕ) where
   -- a target that is decided
   module _ (fact : FactView) (pending : List ℕ) (d : IsDecidedAt t u at fact pending)
       (one : fact.tree ≡ tree) (two : fact.limits ≡ limits) (three : fact.target ≡ path_at t.targets.keys at) where
-    pub decided-table : IsTableOf tree limits u freed
+    pub decided-table : IsTableOf tree limits u newly_ready
     decided-table =
         let h = decided-stage fact tree limits (path_at t.targets.keys at) d.new.turn d.new.stage d.stage one two three in
-        put-table tree limits t u freed table distinct at d.old d.new d.put_back h.0 h.1
+        put-table tree limits t u newly_ready table distinct at d.old d.new d.put_back h.0 h.1
         (λ k m. absurd (let P : List ℕ → Type 0 = λ xs. IsPlace xs k in subst P d.watchers m)) (λ a more. h.3 a) (numbered-still (rules_of tree limits) t.targets.keys d.new.stage h.2)
 
     decided-raw : AllWatched (rules_of tree limits) limits.targets t.targets.keys t.slots.items [] →
@@ -162,10 +168,10 @@ module _ (tree : Tree) (limits : LimitsView) (t u : Table) (freed : List ℕ) (t
     same_list : d.new.watchers.items ≡ d.old.watchers.items
     same_list = ap (λ (y : Rattle.std.specs.declared.vec.Vec.Vec ℕ Rattle.std.proofs.Common.Global). y.items) d.watchers
 
-    pub parked-table : IsTableOf tree limits u freed
+    pub parked-table : IsTableOf tree limits u newly_ready
     parked-table =
         let h = parked-stage begun numbers tree limits (outcomes_of (table_entries (rules_of tree limits) limits.targets t)) (path_at t.targets.keys at) d.new.turn d.new.stage d.stage waits in
-        put-table tree limits t u freed table distinct at d.old d.new d.put_back h.0 h.1
+        put-table tree limits t u newly_ready table distinct at d.old d.new d.put_back h.0 h.1
         (λ k m. table.watchers_below at k d.old d.put_back.there (rw same_list at m)) h.3
         (parked-numbers begun numbers (rules_of tree limits) t.targets.keys d.new.stage d.stage are)
 

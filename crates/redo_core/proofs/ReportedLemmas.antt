@@ -1,5 +1,7 @@
 -- A quiet board's table makes the report of its build.
-use Rattle.std.proofs.Common.{◌≡◌, ℕ, Bool, zero, suc, ◌<◌, true, false, ◌⊎◌, inl, inr, List, [], ◌∷◌, length, map, filter, Option, Some, None, IsNone, Result, Ok, Err, IfOk, is_some, slice_get, refl, sym, ap, subst, ◌∙◌, arith}
+use Rattle.std.proofs.Common.{◌≡◌, ℕ, Bool, zero, suc, ◌<◌, true, false, ◌⊎◌, inl, inr, List, [], ◌∷◌, length, map}
+use Rattle.std.proofs.Common.{filter, Option, Some, None, IsNone, Result, Ok, Err, IfOk, is_some, slice_get, refl, sym}
+use Rattle.std.proofs.Common.{ap, subst, ◌∙◌, arith}
 use Rattle.std.specs.Arc.{arc_value}
 use Rattle.std.specs.List.{AllByRecursion}
 use Rattle.std.specs.Prelude.{Contains, unwrap_or, option_and_then}
@@ -7,7 +9,8 @@ use Rattle.std.proofs.lemmas.Bool.{cases_Bool}
 use Rattle.redo_tree.specs.Tree as tree_words
 use Rattle.redo_tree.specs.Tree.{Tree, Node, bytes_of, node_at, file_at}
 use Rattle.redo_path.specs.Names.{parent_of}
-use Rattle.redo_which.specs.Rule.{Source, Directory, NoDirectory, NoRule, Rule, chosen_of, missing_of, arguments_of, found_of}
+use Rattle.redo_which.specs.Rule.{Source, Directory, NoDirectory, NoRule, Rule, chosen_of, missing_of, arguments_of}
+use Rattle.redo_which.specs.Rule.{found_of}
 use Rattle.redo_step.specs.Setting.{is_rule}
 use Rattle.redo_step.specs.JobView.{JobView, record_so_far}
 use Rattle.redo_record.specs.declared.deps.Dep.{Dep}
@@ -16,11 +19,14 @@ use Rattle.redo_record.specs.declared.outcome.Outcome.TheVariants.{Built, Cyclic
 use Rattle.redo_core.specs.Build.{rules_of}
 use Rattle.redo_build.specs.Outcomes.{outcome_at, needed_at, final_outcome, record_of}
 use Rattle.redo_record.specs.Paths.{IsAmong, AreDistinct}
-use Rattle.redo_core.specs.inside.Reported.{reported_paths, placed, sources_among, row_files, row_begun, IsShown, IsBegunAs, IsTold, AllTold, IsTargetRow, IsSourceRow, IsRowOf, IsReportOf, is_settled, AllSettled}
+use Rattle.redo_core.specs.inside.Reported.{reported_paths, placed, sources_among, row_files, row_begun, IsShown}
+use Rattle.redo_core.specs.inside.Reported.{IsBegunAs, IsTold, AllTold, IsTargetRow, IsSourceRow, IsRowOf, IsReportOf}
+use Rattle.redo_core.specs.inside.Reported.{is_settled, AllSettled}
 use Rattle.redo_report.specs.Reports.{AreAscending, IsReport, row_paths, deps_of}
 use Rattle.redo_build.specs.Rules.{Ask, Rules}
 use Rattle.redo_build.specs.Schedule.{Entry, IsQuiet, State, entry_of, outcome_of, outcomes_of, paths_of}
-use Rattle.redo_core.specs.inside.Slots.{AllFit, Fits, IsKept, IsPlace, entries_from, is_stage_out, is_stage_ready, path_at, rules_inside, slot_entry, stage_deps, stage_outcome, state_of}
+use Rattle.redo_core.specs.inside.Slots.{AllFit, Fits, IsKept, IsPlace, entries_from, is_stage_out, is_stage_ready}
+use Rattle.redo_core.specs.inside.Slots.{path_at, rules_inside, slot_entry, stage_deps, stage_outcome, state_of}
 use Rattle.redo_core.specs.Views.{BoardView, IsQuietBoard, rules_on}
 use Rattle.redo_core.specs.declared.board.Board.TheInside.{Inside}
 use Rattle.redo_build.specs.Theorems.{ShowsBuild}
@@ -31,10 +37,12 @@ use Rattle.redo_core.specs.declared.table.Slot.{Slot}
 use Rattle.redo_core.specs.declared.table.Stage.{Stage}
 use Rattle.redo_core.specs.declared.table.Stage.TheVariants.{Waiting, Ready, Out, Decided}
 use Rattle.redo_core.specs.declared.table.Table.{Table}
-use Rattle.redo_core.proofs.OrderLemmas.{AreSorted, sorted-ascending, filter-sorted, placed-sorted, placed-from, placed-first, placed-second}
+use Rattle.redo_core.proofs.OrderLemmas.{AreSorted, sorted-ascending, filter-sorted, placed-sorted, placed-from}
+use Rattle.redo_core.proofs.OrderLemmas.{placed-first, placed-second}
 use Rattle.redo_build.proofs.PathLemmas.{filter-from, filter-passes}
 use Rattle.redo_build.proofs.QueueLemmas.{slice_get-among}
-use Rattle.redo_core.proofs.RowLemmas.{IsItem, item-contained, contained-item, all_rows, of_item, all_from, path_row, row_path, filter-among, files_sorted, file_row, row_file}
+use Rattle.redo_core.proofs.RowLemmas.{IsItem, item-contained, contained-item, all_rows, of_item, all_from, path_row}
+use Rattle.redo_core.proofs.RowLemmas.{row_path, filter-among, files_sorted, file_row, row_file}
 use Rattle.redo_core.proofs.SlotLemmas.{paths_of-slots, entry_of-slots, out_count-slots}
 use Rattle.redo_core.proofs.TakeLemmas.{distinct-inside, shows-inside, sound-inside, view_of}
 use Rattle.redo_step.specs.Limits.{LimitsView}

@@ -1,5 +1,6 @@
 -- Looking at several numbers again, one after the other.
-use Rattle.std.proofs.Common.{◌≡◌, ℕ, zero, suc, ◌+◌, ◌<◌, List, [], ◌∷◌, ◌++◌, length, drop, slice_get, slice_index_or, Some, refl, subst, ◌∙◌, arith}
+use Rattle.std.proofs.Common.{◌≡◌, ℕ, zero, suc, ◌+◌, ◌<◌, List, [], ◌∷◌, ◌++◌, length, drop, slice_get, slice_index_or}
+use Rattle.std.proofs.Common.{Some, refl, subst, ◌∙◌, arith}
 use Rattle.redo_tree.specs.Tree.{Tree}
 use Rattle.redo_core.specs.Build.{rules_of}
 use Rattle.redo_core.specs.inside.Slots.{AllWatched, IsPlace, IsLookedAt, AreLookedAtBelow}

@@ -1,5 +1,7 @@
 -- How the slots stand for the entries.
-use Rattle.std.proofs.Common.{map, remove, slice_get, slice_set, slice_index_or, option_and_then, ◌≡◌, ℕ, zero, suc, ◌<◌, ◌≤◌, Bool, true, false, inl, inr, List, [], ◌∷◌, length, filter, Option, Some, None, is_some, IsNone, rules, refl, sym, ap, subst, ◌∙◌, arith, bytes_eq}
+use Rattle.std.proofs.Common.{map, remove, slice_get, slice_set, slice_index_or, option_and_then, ◌≡◌, ℕ, zero, suc}
+use Rattle.std.proofs.Common.{◌<◌, ◌≤◌, Bool, true, false, inl, inr, List, [], ◌∷◌, length, filter, Option, Some, None}
+use Rattle.std.proofs.Common.{is_some, IsNone, rules, refl, sym, ap, subst, ◌∙◌, arith, bytes_eq}
 use Rattle.std.proofs.lemmas.Bool.{cases_Bool}
 use Rattle.redo_tree.specs.Tree.{Tree}
 use Rattle.redo_build.specs.Rules.{Ask, Rules, AreLawful}
@@ -10,7 +12,8 @@ use Rattle.redo_build.proofs.DepthLemmas.{deeper}
 use Rattle.redo_build.proofs.TurnLemmas.{deps_at_turn-more, Extends-trans'}
 use Rattle.redo_build.proofs.StandingLemmas.{outcomes_of-deep}
 use Rattle.redo_build.specs.Schedule.{Entry, paths_of, entry_of, outcomes_of, State, put, sent_out, taken, happens}
-use Rattle.redo_core.specs.inside.Slots.{slot_entries, stage_outcome, is_stage_out, is_stage_ready, Fits, AllAnswered, entries_from, slot_entry, stage_deps, path_at, state_from, IsParked}
+use Rattle.redo_core.specs.inside.Slots.{slot_entries, stage_outcome, is_stage_out, is_stage_ready, Fits, AllAnswered}
+use Rattle.redo_core.specs.inside.Slots.{entries_from, slot_entry, stage_deps, path_at, state_from, IsParked}
 use Rattle.redo_core.specs.declared.table.Slot.{Slot}
 use Rattle.redo_core.specs.declared.table.Stage.{Stage}
 use Rattle.redo_core.specs.declared.table.Stage.TheVariants.{Waiting, Ready, Out, Decided}

@@ -1,5 +1,6 @@
 -- What changes of single slots keep.
-use Rattle.std.proofs.Common.{drop, remove, slice_get, slice_set, ◌≡◌, ℕ, zero, suc, ◌<◌, true, ◌⊎◌, inl, inr, List, [], ◌∷◌, ◌++◌, length, length-set, Some, None, refl, sym, ap, subst, ◌∙◌, arith, bytes_eq}
+use Rattle.std.proofs.Common.{drop, remove, slice_get, slice_set, ◌≡◌, ℕ, zero, suc, ◌<◌, true, ◌⊎◌, inl, inr, List, []}
+use Rattle.std.proofs.Common.{◌∷◌, ◌++◌, length, length-set, Some, None, refl, sym, ap, subst, ◌∙◌, arith, bytes_eq}
 use Rattle.std.proofs.lemmas.Bool.{cases_Bool, both_ways}
 use Rattle.redo_tree.specs.Tree.{Tree}
 use Rattle.redo_record.specs.Paths.{IsAmong, AreDistinct}
@@ -8,7 +9,8 @@ use Rattle.redo_build.proofs.SeenLemmas.{entry_of-put_other}
 use Rattle.redo_record.specs.declared.deps.Dep.{Dep}
 use Rattle.redo_build.specs.Outcomes.{outcome_at}
 use Rattle.redo_build.specs.Schedule.{outcome_of, outcomes_of}
-use Rattle.redo_core.specs.inside.Slots.{entries_from, slot_entry, stage_deps, stage_outcome, path_at, is_stage_waiting, Fits, AllFit, waited_by, AllWatched, AllWatchersBelow, IsWatched, IsPlace}
+use Rattle.redo_core.specs.inside.Slots.{entries_from, slot_entry, stage_deps, stage_outcome, path_at, is_stage_waiting}
+use Rattle.redo_core.specs.inside.Slots.{Fits, AllFit, waited_by, AllWatched, AllWatchersBelow, IsWatched, IsPlace}
 use Rattle.redo_core.specs.inside.Works.{job_deps}
 use Rattle.redo_core.specs.declared.table.Slot.{Slot}
 use Rattle.redo_core.specs.declared.table.Stage.{Stage}

@@ -1,5 +1,7 @@
 -- Looking again at what waits keeps the entries.
-use Rattle.std.proofs.Common.{map, remove, slice_get, slice_set, ◌≡◌, ℕ, zero, suc, ◌+◌, ◌<◌, ◌≤◌, Bool, true, false, ◌⊎◌, inl, inr, List, [], ◌∷◌, ◌++◌, length, length-set, filter, filter_map, drop, Option, Some, None, not, refl, sym, ap, subst, ◌∙◌, arith, bytes_eq}
+use Rattle.std.proofs.Common.{map, remove, slice_get, slice_set, ◌≡◌, ℕ, zero, suc, ◌+◌, ◌<◌, ◌≤◌, Bool, true, false}
+use Rattle.std.proofs.Common.{◌⊎◌, inl, inr, List, [], ◌∷◌, ◌++◌, length, length-set, filter, filter_map, drop, Option}
+use Rattle.std.proofs.Common.{Some, None, not, refl, sym, ap, subst, ◌∙◌, arith, bytes_eq}
 use Rattle.std.proofs.lemmas.Bool.{cases_Bool, both_ways, not-true, not_from_false}
 use Rattle.redo_tree.specs.Tree.{Tree}
 use Rattle.redo_record.specs.Paths.{IsAmong, AreDistinct}
@@ -7,7 +9,12 @@ use Rattle.redo_build.specs.Rules.{Ask, Rules, AreLawful, Extends, operands, cha
 use Rattle.redo_build.specs.Outcomes.{outcome_at}
 use Rattle.redo_core.specs.Build.{rules_of}
 use Rattle.redo_build.specs.Schedule.{Entry, outcome_of, outcomes_of, entry_of}
-use Rattle.redo_core.specs.inside.Slots.{table_entries, entries_from, slot_entries, slot_entry, stage_deps, stage_outcome, path_at, is_stage_out, is_stage_ready, is_stage_waiting, is_stage_decided, Fits, AllWatched, AllAnswered, AreDecidedFrom, AreNumbers, IsNumbered, waited_by, IsDecidedNumber, IsOperand, IsWatched, IsPlace, ArePlacesOnce, IsQueue, IsTable, IsTableOf, IsParked, IsLookedAt, IsLackingAt, IsWatchAdded, IsFreedAt, IsFed, IsStandingTable, IsDecidedSlot}
+use Rattle.redo_core.specs.inside.Slots.{table_entries, entries_from, slot_entries, slot_entry, stage_deps}
+use Rattle.redo_core.specs.inside.Slots.{stage_outcome, path_at, is_stage_out, is_stage_ready, is_stage_waiting}
+use Rattle.redo_core.specs.inside.Slots.{is_stage_decided, Fits, AllWatched, AllAnswered, AreDecidedFrom, AreNumbers}
+use Rattle.redo_core.specs.inside.Slots.{IsNumbered, waited_by, IsDecidedNumber, IsOperand, IsWatched, IsPlace}
+use Rattle.redo_core.specs.inside.Slots.{ArePlacesOnce, IsQueue, IsTable, IsTableOf, IsParked, IsLookedAt, IsLackingAt}
+use Rattle.redo_core.specs.inside.Slots.{IsWatchAdded, IsMadeReadyAt, IsFed, IsStandingTable, IsDecidedSlot}
 use Rattle.redo_core.specs.inside.Works.{job_deps, told_in}
 use Rattle.redo_core.specs.declared.table.Slot.{Slot}
 use Rattle.redo_core.specs.declared.table.Table.{Table}
@@ -16,10 +23,12 @@ use Rattle.redo_core.specs.declared.table.Stage.{Stage}
 use Rattle.redo_core.specs.declared.table.Stage.TheVariants.{Waiting, Ready, Out, Decided}
 use Rattle.redo_build.proofs.PathLemmas.{filter-passes, filter-from}
 use Rattle.redo_build.proofs.QueueLemmas.{filter-keeps, slice_get-among}
-use Rattle.redo_core.proofs.NumberLemmas.{numbers-number, numbers-path, numbered-set, among-place, drop-place, place-drop}
+use Rattle.redo_core.proofs.NumberLemmas.{numbers-number, numbers-path, numbered-set, among-place, drop-place}
+use Rattle.redo_core.proofs.NumberLemmas.{place-drop}
 use Rattle.redo_build.proofs.DepthLemmas.{cases_Option}
 use Rattle.redo_core.proofs.LawfulTreeLemmas.{rules_lawful}
-use Rattle.redo_core.proofs.TableLemmas.{fits-set, place-slice_get, place-append, place-left, place-right, get-set_cases, get-set_same, IsWatched-set, watchers-set}
+use Rattle.redo_core.proofs.TableLemmas.{fits-set, place-slice_get, place-append, place-left, place-right}
+use Rattle.redo_core.proofs.TableLemmas.{get-set_cases, get-set_same, IsWatched-set, watchers-set}
 use Rattle.redo_build.proofs.HandoverLemmas.{taken-work, taken-deep}
 use Rattle.redo_build.proofs.TurnBoundLemmas.{turn-below}
 use Rattle.redo_core.proofs.JobLemmas.{asked_of_job, asked_by_job}
@@ -122,15 +131,15 @@ once-push (x ∷ xs) k once new = (
   once-push xs k once.1 (λ m. new (inr m)),
 )
 
-module _ (slots : List Slot) (ready freed : List ℕ) (at : ℕ) (old new : Slot) (there : slice_get slots at ≡ Some old) (queue : IsQueue slots ready freed) where
-  pub queue-same : is_stage_ready new.stage ≡ is_stage_ready old.stage → IsQueue (slice_set slots at new) ready freed
+module _ (slots : List Slot) (ready newly_ready : List ℕ) (at : ℕ) (old new : Slot) (there : slice_get slots at ≡ Some old) (queue : IsQueue slots ready newly_ready) where
+  pub queue-same : is_stage_ready new.stage ≡ is_stage_ready old.stage → IsQueue (slice_set slots at new) ready newly_ready
   queue-same same =
       let len = length-set slots at new in
       let mine : (x : Slot) → new ≡ x → is_stage_ready x.stage ≡ is_stage_ready old.stage = λ x is. sym (ap (λ (y : Slot). is_stage_ready y.stage) is) ∙ same in
-      let P : ℕ → Type 0 = λ j. IsPlace ready j ⊎ IsPlace freed j in
+      let P : ℕ → Type 0 = λ j. IsPlace ready j ⊎ IsPlace newly_ready j in
       record {
         ready_below = λ k m. omega (arith, queue.ready_below k m, len);
-        freed_below = λ k m. omega (arith, queue.freed_below k m, len);
+        newly_ready_below = λ k m. omega (arith, queue.newly_ready_below k m, len);
         ready_is = λ k x m g. elim (get-set_cases slots at k new x g) [
           | inl here ↦ mine x here.1 ∙ queue.ready_is at old (subst P here.0 m) there
           | inr before ↦ queue.ready_is k x m before.1
@@ -143,36 +152,36 @@ module _ (slots : List Slot) (ready freed : List ℕ) (at : ℕ) (old new : Slot
         once = queue.once;
       }
 
-  pub queue-freed : is_stage_ready old.stage ≡ false → is_stage_ready new.stage ≡ true → IsQueue (slice_set slots at new) ready (freed ++ at ∷ [])
-  queue-freed was now =
+  pub queue-newly_ready : is_stage_ready old.stage ≡ false → is_stage_ready new.stage ≡ true → IsQueue (slice_set slots at new) ready (newly_ready ++ at ∷ [])
+  queue-newly_ready was now =
       let len = length-set slots at new in
-      let out : IsPlace ready at ⊎ IsPlace freed at → ⊥ = λ m. both_ways _ was (queue.ready_is at old m there) in
+      let out : IsPlace ready at ⊎ IsPlace newly_ready at → ⊥ = λ m. both_ways _ was (queue.ready_is at old m there) in
       let last : (k : ℕ) → IsPlace (at ∷ []) k → at ≡ k = λ k m. elim m [ inl here ↦ here | inr none ↦ absurd none ] in
       record {
         ready_below = λ k m. omega (arith, queue.ready_below k m, len);
-        freed_below = λ k m. elim (place-append freed (at ∷ []) k m) [
-          | inl before ↦ omega (arith, queue.freed_below k before, len)
+        newly_ready_below = λ k m. elim (place-append newly_ready (at ∷ []) k m) [
+          | inl before ↦ omega (arith, queue.newly_ready_below k before, len)
           | inr end ↦ omega (arith, last k end, slice_get-below_some slots at old there, len)
         ];
         ready_is = λ k x m g. elim (get-set_cases slots at k new x g) [
           | inl here ↦ sym (ap (λ (y : Slot). is_stage_ready y.stage) here.1) ∙ now
           | inr before ↦ elim m [
             | inl l ↦ queue.ready_is k x (inl l) before.1
-            | inr l ↦ elim (place-append freed (at ∷ []) k l) [
+            | inr l ↦ elim (place-append newly_ready (at ∷ []) k l) [
               | inl f ↦ queue.ready_is k x (inr f) before.1
               | inr end ↦ absurd (before.0 (sym (last k end)))
             ]
           ]
         ];
         ready_in = λ k x g t. elim (get-set_cases slots at k new x g) [
-          | inl here ↦ inr (place-right freed (at ∷ []) k (inl (sym here.0)))
-          | inr before ↦ elim (queue.ready_in k x before.1 t) [ inl l ↦ inl l | inr f ↦ inr (place-left freed (at ∷ []) k f) ]
+          | inl here ↦ inr (place-right newly_ready (at ∷ []) k (inl (sym here.0)))
+          | inr before ↦ elim (queue.ready_in k x before.1 t) [ inl l ↦ inl l | inr f ↦ inr (place-left newly_ready (at ∷ []) k f) ]
         ];
-        apart = λ k m f. elim (place-append freed (at ∷ []) k f) [
+        apart = λ k m f. elim (place-append newly_ready (at ∷ []) k f) [
           | inl l ↦ queue.apart k m l
           | inr end ↦ out (inl (let P : ℕ → Type 0 = IsPlace ready in subst P (sym (last k end)) m))
         ];
-        once = once-push freed at queue.once (λ m. out (inr m));
+        once = once-push newly_ready at queue.once (λ m. out (inr m));
       }
 
 -- what is waited for stands among what was declared
@@ -193,7 +202,7 @@ pub number-decided : (t : Table) (q : List ℕ) (n : ℕ) → slice_get t.target
 number-decided t q n path d = record { at = n; slot = d.0; path = path; there = d.1; decided = d.2 }
 
 -- the table before a step
-module _ (tree : Tree) (limits : LimitsView) (t : Table) (freed : List ℕ) (table : IsTableOf tree limits t freed) (standing : IsStandingTable tree limits t) where
+module _ (tree : Tree) (limits : LimitsView) (t : Table) (newly_ready : List ℕ) (table : IsTableOf tree limits t newly_ready) (standing : IsStandingTable tree limits t) where
   abbrev r : Rules
   r = rules_of tree limits
 
@@ -333,9 +342,9 @@ module _ (tree : Tree) (limits : LimitsView) (t : Table) (freed : List ℕ) (tab
     ];
   }
 
-  moved : (u : Table) → u.targets ≡ t.targets → u.ready ≡ t.ready → u.out ≡ t.out → (freed' : List ℕ) →
-      IsTable (rules_of tree limits) tree limits t.targets.keys u.slots.items t.ready.items t.out freed' → IsTableOf tree limits u freed'
-  moved u a b c freed' h = rw (a, b, c) h
+  moved : (u : Table) → u.targets ≡ t.targets → u.ready ≡ t.ready → u.out ≡ t.out → (newly_ready' : List ℕ) →
+      IsTable (rules_of tree limits) tree limits t.targets.keys u.slots.items t.ready.items t.out newly_ready' → IsTableOf tree limits u newly_ready'
+  moved u a b c newly_ready' h = rw (a, b, c) h
 
   -- a slot is replaced by one that stands for the same entry
   module _ (at : ℕ) (old new : Slot) (there : slice_get t.slots.items at ≡ Some old) (open' : stage_outcome old.stage ≡ None) (still : stage_outcome new.stage ≡ None)
@@ -344,12 +353,12 @@ module _ (tree : Tree) (limits : LimitsView) (t : Table) (freed : List ℕ) (tab
     pub entries-same : entries_from (rules_of tree limits) limits.targets t.targets.keys (slice_set t.slots.items at new) ≡ table_entries (rules_of tree limits) limits.targets t
     entries-same = slot_entries-same r (outcome_at r limits.targets) t.targets.keys t.slots.items at (path_at t.targets.keys at) old new (path_there at old there) there same
 
-    pub table-same : (freed' : List ℕ) → IsQueue (slice_set t.slots.items at new) t.ready.items freed' →
+    pub table-same : (newly_ready' : List ℕ) → IsQueue (slice_set t.slots.items at new) t.ready.items newly_ready' →
         ((k : ℕ) → IsPlace new.watchers.items k → k < length t.slots.items) →
         Fits (rules_of tree limits) (outcomes_of (table_entries (rules_of tree limits) limits.targets t)) tree limits (path_at t.targets.keys at) new.turn new.stage →
         IsNumbered (rules_of tree limits) t.targets.keys new.stage →
-        IsTable (rules_of tree limits) tree limits t.targets.keys (slice_set t.slots.items at new) t.ready.items t.out freed'
-    table-same freed' queue below fit numbers =
+        IsTable (rules_of tree limits) tree limits t.targets.keys (slice_set t.slots.items at new) t.ready.items t.out newly_ready'
+    table-same newly_ready' queue below fit numbers =
         let len = length-set t.slots.items at new in
         let P : List Entry → Type 0 = λ xs. Extends r (outcomes_of es) (outcomes_of xs) in
         let F : List Entry → Type 0 = λ xs. Fits r (outcomes_of xs) tree limits (path_at t.targets.keys at) new.turn new.stage in
@@ -396,12 +405,12 @@ module _ (tree : Tree) (limits : LimitsView) (t : Table) (freed : List ℕ) (tab
       watch_numbered : IsNumbered (rules_of tree limits) t.targets.keys w.new.stage
       watch_numbered = rw w.stage (table.numbered place w.other w.there)
 
-      pub watch-table : IsTableOf tree limits u freed
+      pub watch-table : IsTableOf tree limits u newly_ready
       watch-table =
-          let new = table-same place w.other w.new w.there other_open new_open same_entry freed
-          (queue-same t.slots.items t.ready.items freed place w.other w.new w.there table.queue (ap is_stage_ready w.stage)) watch_below watch_fits watch_numbered in
-          let S : List Slot → Type 0 = λ xs. IsTable r tree limits t.targets.keys xs t.ready.items t.out freed in
-          moved u w.rest.0 w.rest.1 w.rest.2 freed (subst S (sym w.slots) new)
+          let new = table-same place w.other w.new w.there other_open new_open same_entry newly_ready
+          (queue-same t.slots.items t.ready.items newly_ready place w.other w.new w.there table.queue (ap is_stage_ready w.stage)) watch_below watch_fits watch_numbered in
+          let S : List Slot → Type 0 = λ xs. IsTable r tree limits t.targets.keys xs t.ready.items t.out newly_ready in
+          moved u w.rest.0 w.rest.1 w.rest.2 newly_ready (subst S (sym w.slots) new)
 
       old-slot : (k : ℕ) (x : Slot) → slice_get (slice_set t.slots.items place w.new) k ≡ Some x →
           (y : Slot) × (slice_get t.slots.items k ≡ Some y) × (x.stage ≡ y.stage) × (x.turn ≡ y.turn)
@@ -463,7 +472,7 @@ module _ (tree : Tree) (limits : LimitsView) (t : Table) (freed : List ℕ) (tab
       }
 
     -- the job is a work
-    module _ (f : IsFreedAt tree limits t u at) (all_held : AreDecidedFrom t parked.operands.items parked.held (length parked.operands.items)) where
+    module _ (f : IsMadeReadyAt tree limits t u at) (all_held : AreDecidedFrom t parked.operands.items parked.held (length parked.operands.items)) where
       was_parked : (f.old ≡ slot) × (f.parked ≡ parked)
       was_parked =
           let both : Some f.old ≡ Some slot = sym f.there ∙ there in
@@ -474,9 +483,9 @@ module _ (tree : Tree) (limits : LimitsView) (t : Table) (freed : List ℕ) (tab
       deps_parked : f.work.deps ≡ job_deps parked.begun.value.job
       deps_parked = f.same.4 ∙ ap (λ (x : Parked). job_deps x.begun.value.job) was_parked.1
 
-      freed_entry : slot_entry (rules_of tree limits) (outcome_at (rules_of tree limits) limits.targets) (path_at t.targets.keys at) f.new ≡
+      newly_ready_entry : slot_entry (rules_of tree limits) (outcome_at (rules_of tree limits) limits.targets) (path_at t.targets.keys at) f.new ≡
           slot_entry (rules_of tree limits) (outcome_at (rules_of tree limits) limits.targets) (path_at t.targets.keys at) slot
-      freed_entry =
+      newly_ready_entry =
           let E : ℕ → List Dep → Entry = λ n ds. record { path = path_at t.targets.keys at; turn = n; deps = ds; outcome = None; is_out = false } in
           let one : slot_entry r (outcome_at r limits.targets) (path_at t.targets.keys at) f.new ≡ E f.new.turn f.work.deps = rw f.is refl in
           let two : slot_entry r (outcome_at r limits.targets) (path_at t.targets.keys at) slot ≡ E slot.turn (job_deps parked.begun.value.job) = rw is refl in
@@ -487,14 +496,14 @@ module _ (tree : Tree) (limits : LimitsView) (t : Table) (freed : List ℕ) (tab
       slot_open : stage_outcome slot.stage ≡ None
       slot_open = rw is refl
 
-      freed_open : stage_outcome f.new.stage ≡ None
-      freed_open = rw f.is refl
+      newly_ready_open : stage_outcome f.new.stage ≡ None
+      newly_ready_open = rw f.is refl
 
       same_watchers : f.new.watchers.items ≡ slot.watchers.items
       same_watchers = ap (λ (y : Rattle.std.specs.declared.vec.Vec.Vec ℕ Rattle.std.proofs.Common.Global). y.items) f.watchers ∙ ap (λ (y : Slot). y.watchers.items) was_parked.0
 
-      freed_fits : Fits (rules_of tree limits) (outcomes_of (table_entries (rules_of tree limits) limits.targets t)) tree limits (path_at t.targets.keys at) f.new.turn f.new.stage
-      freed_fits =
+      newly_ready_fits : Fits (rules_of tree limits) (outcomes_of (table_entries (rules_of tree limits) limits.targets t)) tree limits (path_at t.targets.keys at) f.new.turn f.new.stage
+      newly_ready_fits =
           let fits : Fits r (outcomes_of es) tree limits (path_at t.targets.keys at) slot.turn (Waiting parked) =
           (let P : Stage → Type 0 = Fits r (outcomes_of es) tree limits (path_at t.targets.keys at) slot.turn in subst P is (table.fits at slot there)) in
           let turn : f.new.turn ≡ slot.turn = f.turn ∙ ap (λ (y : Slot). y.turn) was_parked.0 in
@@ -505,31 +514,31 @@ module _ (tree : Tree) (limits : LimitsView) (t : Table) (freed : List ℕ) (tab
           let P : Stage → Type 0 = Fits r (outcomes_of es) tree limits (path_at t.targets.keys at) f.new.turn in
           subst P (sym f.is) (parts, subst A (sym deps_parked) (parked_answered at slot parked there is all_held))
 
-      pub freed-table : IsTableOf tree limits u (freed ++ at ∷ [])
-      freed-table =
-          let new = table-same at slot f.new there slot_open freed_open freed_entry (freed ++ at ∷ [])
-          (queue-freed t.slots.items t.ready.items freed at slot f.new there table.queue (rw is refl) (rw f.is refl))
-          (λ k m. table.watchers_below at k slot there (rw same_watchers at m)) freed_fits (rw f.is tt) in
-          let S : List Slot → Type 0 = λ xs. IsTable r tree limits t.targets.keys xs t.ready.items t.out (freed ++ at ∷ []) in
-          moved u f.rest.0 f.rest.1 f.rest.2 (freed ++ at ∷ []) (subst S (sym f.slots) new)
+      pub newly_ready-table : IsTableOf tree limits u (newly_ready ++ at ∷ [])
+      newly_ready-table =
+          let new = table-same at slot f.new there slot_open newly_ready_open newly_ready_entry (newly_ready ++ at ∷ [])
+          (queue-newly_ready t.slots.items t.ready.items newly_ready at slot f.new there table.queue (rw is refl) (rw f.is refl))
+          (λ k m. table.watchers_below at k slot there (rw same_watchers at m)) newly_ready_fits (rw f.is tt) in
+          let S : List Slot → Type 0 = λ xs. IsTable r tree limits t.targets.keys xs t.ready.items t.out (newly_ready ++ at ∷ []) in
+          moved u f.rest.0 f.rest.1 f.rest.2 (newly_ready ++ at ∷ []) (subst S (sym f.slots) new)
 
-      freed-watched : (pending : List ℕ) → AllWatched (rules_of tree limits) limits.targets t.targets.keys t.slots.items (at ∷ pending) →
+      newly_ready-watched : (pending : List ℕ) → AllWatched (rules_of tree limits) limits.targets t.targets.keys t.slots.items (at ∷ pending) →
           AllWatched (rules_of tree limits) limits.targets t.targets.keys (slice_set t.slots.items at f.new) pending
-      freed-watched pending all k x g m = elim (get-set_cases t.slots.items at k f.new x g) [
+      newly_ready-watched pending all k x g m = elim (get-set_cases t.slots.items at k f.new x g) [
         | inl here ↦ absurd (
             let no : is_stage_waiting f.new.stage ≡ false = rw f.is refl in
             both_ways _ no (ap (λ (y : Slot). is_stage_waiting y.stage) here.1 ∙ m))
         | inr before ↦ elim (all k x before.1 m) [
           | inl p ↦ elim p [ inl here ↦ absurd (before.0 (sym here)) | inr later ↦ inl later ]
           | inr w ↦ inr (IsWatched-set t.slots.items at slot f.new there r t.targets.keys k (stage_deps r (outcome_at r limits.targets) (path_at t.targets.keys k) x.turn x.stage)
-              freed_open (λ j p. rw same_watchers p) w)
+              newly_ready_open (λ j p. rw same_watchers p) w)
         ]
       ]
 
-      pub freed-looked : IsLookedAt tree limits t u at
-      freed-looked = record {
-        entries = rw (f.rest.0, f.slots) (entries-same at slot f.new there slot_open freed_open freed_entry);
+      pub newly_ready-looked : IsLookedAt tree limits t u at
+      newly_ready-looked = record {
+        entries = rw (f.rest.0, f.slots) (entries-same at slot f.new there slot_open newly_ready_open newly_ready_entry);
         rest = f.rest;
         slots = ap length f.slots ∙ length-set t.slots.items at f.new;
-        watched = λ pending all. rw (f.rest.0, f.slots) (freed-watched pending all);
+        watched = λ pending all. rw (f.rest.0, f.slots) (newly_ready-watched pending all);
       }

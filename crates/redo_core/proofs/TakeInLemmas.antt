@@ -1,5 +1,7 @@
 -- What a handed in piece does to the table is what the schedule says.
-use Rattle.std.proofs.Common.{map, slice_get, slice_set, ◌≡◌, ℕ, zero, suc, ◌+◌, ◌<◌, ◌≤◌, max, Bool, true, false, cond, ◌&&◌, ◌⊎◌, inl, inr, List, [], ◌∷◌, ◌++◌, length, take, drop, take-append-drop, filter, Option, Some, None, is_some, refl, sym, ap, subst, ◌∙◌, arith, Global}
+use Rattle.std.proofs.Common.{map, slice_get, slice_set, ◌≡◌, ℕ, zero, suc, ◌+◌, ◌<◌, ◌≤◌, max, Bool, true, false, cond}
+use Rattle.std.proofs.Common.{◌&&◌, ◌⊎◌, inl, inr, List, [], ◌∷◌, ◌++◌, length, take, drop, take-append-drop, filter}
+use Rattle.std.proofs.Common.{Option, Some, None, is_some, refl, sym, ap, subst, ◌∙◌, arith, Global}
 use Rattle.std.proofs.lemmas.Bool.{cases_Bool}
 use Rattle.redo_tree.specs.Tree.{Tree}
 use Rattle.redo_record.specs.declared.deps.Dep.{Dep}
@@ -13,7 +15,8 @@ use Rattle.redo_record.proofs.Public.{entered_operand, one_entered, operand_ente
 use Rattle.redo_build.specs.Rules.{Ask, Rules, AreLawful, Extends, operands}
 use Rattle.redo_build.specs.Outcomes.{outcome_at}
 use Rattle.redo_core.specs.Build.{rules_of}
-use Rattle.redo_build.specs.Schedule.{Entry, State, outcomes_of, paths_of, entry_of, entered, put, only, advanced, moved_on, released, IsOutAt}
+use Rattle.redo_build.specs.Schedule.{Entry, State, outcomes_of, paths_of, entry_of, entered, put, only, advanced}
+use Rattle.redo_build.specs.Schedule.{moved_on, enqueued, IsOutAt}
 use Rattle.redo_build.specs.Schedule.Event.{Hand_in}
 use Rattle.redo_build.specs.inside.Standing.{decided_count}
 use Rattle.redo_build.specs.inside.Turns.{CameTo, deps_at_turn}
@@ -22,7 +25,10 @@ use Rattle.std.specs.declared.sync.Arc.{Arc}
 use Rattle.redo_core.specs.Views.{FactView}
 use Rattle.redo_core.specs.inside.Works.{job_deps, told_in, IsStopped}
 use Rattle.redo_core.specs.inside.Ends.{end_progress}
-use Rattle.redo_core.specs.inside.Slots.{table_entries, table_state, slot_entry, stage_deps, stage_outcome, is_stage_out, path_at, IsPlace, AreNumbers, waited_by, IsWaitingWith, AreEnteredInto, IsDecidedStage, IsDecidedAt, IsParkedStage, IsParkedAt, IsOutThere, MayTakeIn, IsPutBackThere, state_after}
+use Rattle.redo_core.specs.inside.Slots.{table_entries, table_state, slot_entry, stage_deps, stage_outcome}
+use Rattle.redo_core.specs.inside.Slots.{is_stage_out, path_at, IsPlace, AreNumbers, waited_by, IsWaitingWith}
+use Rattle.redo_core.specs.inside.Slots.{AreEnteredInto, IsDecidedStage, IsDecidedAt, IsParkedStage, IsParkedAt}
+use Rattle.redo_core.specs.inside.Slots.{IsOutThere, MayTakeIn, IsPutBackThere, state_after}
 use Rattle.std.specs.Prelude.{Box}
 use Rattle.std.specs.declared.vec.Vec.{Vec}
 use Rattle.redo_core.specs.declared.table.Parked.{Parked}
@@ -170,10 +176,10 @@ module _ (tree : Tree) (limits : LimitsView) (t : Table) (at : ℕ) (end : End) 
   moved = put (entered (rules_of tree limits) (table_entries (rules_of tree limits) limits.targets t) (operands (rules_of tree limits) (end_progress end).deps))
       (moved_on (slot_entry (rules_of tree limits) (outcome_at (rules_of tree limits) limits.targets) (path_at t.targets.keys at) may.slot) (end_progress end))
 
-  pub after-state : state_after tree limits t at ≡ released (rules_of tree limits) (record { entries = moved; ready = map (path_at t.targets.keys) t.ready.items })
+  pub after-state : state_after tree limits t at ≡ enqueued (rules_of tree limits) (record { entries = moved; ready = map (path_at t.targets.keys) t.ready.items })
   unfolding moved
   after-state =
-      let N : Progress → State = λ now. released r (record { entries = put (entered r es (operands r now.deps)) (moved_on e now); ready = map (path_at t.targets.keys) t.ready.items }) in
+      let N : Progress → State = λ now. enqueued r (record { entries = put (entered r es (operands r now.deps)) (moved_on e now); ready = map (path_at t.targets.keys) t.ready.items }) in
       let first : state_after tree limits t at ≡ N (advanced r es e) = rw entry-there refl in
       first ∙ ap N (sym now-is)
 
@@ -327,7 +333,7 @@ module _ (tree : Tree) (limits : LimitsView) (t : Table) (at : ℕ) (end : End) 
         length-put [] x = refl
         length-put (y ∷ xs) x = elim (cases_Bool (Rattle.std.proofs.Common.bytes_eq y.path x.path)) [ inl t' ↦ rw t' refl | inr f ↦ rw f (ap suc (length-put xs x)) ]
 
-    module _ (v : Table) (freed : List ℕ) (a : AreEnteredInto tree limits t v freed (operands (rules_of tree limits) (drop begun.value.facts.gained begun.value.job.state.entries))) where
+    module _ (v : Table) (newly_ready : List ℕ) (a : AreEnteredInto tree limits t v newly_ready (operands (rules_of tree limits) (drop begun.value.facts.gained begun.value.job.state.entries))) where
       there-still : slice_get v.slots.items at ≡ Some may.slot
       there-still = a.slots_kept at may.slot may.there
 
@@ -402,7 +408,7 @@ module _ (tree : Tree) (limits : LimitsView) (t : Table) (at : ℕ) (end : End) 
         parked-moved : table_entries (rules_of tree limits) limits.targets u ≡ moved
         unfolding moved
         parked-moved =
-            let put-in = put-entries tree limits v u freed a.table wider-distinct at d.old d.new d.put_back in
+            let put-in = put-entries tree limits v u newly_ready a.table wider-distinct at d.old d.new d.put_back in
             let shows = parked-shows r (outcome_at r limits.targets) begun numbers (path_at v.targets.keys at) d.new.turn d.new.stage d.stage in
             let M : List ℕ → ℕ → List Dep → Entry = λ p n ds. record { path = p; turn = n; deps = ds; outcome = None; is_out = false } in
             let entry' = shows ∙ ap (λ p. M p d.new.turn (job_deps begun.value.job)) path-still ∙ ap (λ n. M target n (job_deps begun.value.job)) new-turn ∙ ap (M target (may.slot.turn + 1)) job-record in
@@ -410,11 +416,11 @@ module _ (tree : Tree) (limits : LimitsView) (t : Table) (at : ℕ) (end : End) 
             let last : M target (may.slot.turn + 1) (end_progress end).deps ≡ moved_on e (end_progress end) = subst N (sym stopped) refl in
             put-in ∙ ap (put (table_entries r limits.targets v)) (entry' ∙ last) ∙ ap (λ xs. put xs (moved_on e (end_progress end))) wider-entries
 
-        pub parked-put : IsPutBackThere tree limits t u at freed (at ∷ [])
+        pub parked-put : IsPutBackThere tree limits t u at newly_ready (at ∷ [])
         parked-put =
             let len = ap length d.put_back.slots ∙ Rattle.std.proofs.Common.length-set v.slots.items at d.new in
             record {
-              table = parked-table tree limits v u freed a.table wider-distinct at begun numbers d waits are;
+              table = parked-table tree limits v u newly_ready a.table wider-distinct at begun numbers d waits are;
               entries = parked-moved ∙ sym after-entries;
               ready = d.put_back.rest.1 ∙ a.rest.0;
               keys_kept = λ k p h. rw d.put_back.rest.0 (a.keys_kept k p h);
@@ -422,5 +428,5 @@ module _ (tree : Tree) (limits : LimitsView) (t : Table) (at : ℕ) (end : End) 
                 | inl here ↦ omega (arith, here, len, slice_get-below_some v.slots.items at may.slot there-still)
                 | inr none ↦ absurd none
               ];
-              watched = parked-watched tree limits v u freed a.table wider-distinct at begun numbers d waits are (a.watched [] may.watched);
+              watched = parked-watched tree limits v u newly_ready a.table wider-distinct at begun numbers d waits are (a.watched [] may.watched);
             }

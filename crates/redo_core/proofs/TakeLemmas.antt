@@ -1,5 +1,7 @@
 -- What `take` finds on a board.
-use Rattle.std.proofs.Common.{Bool, true, false, not, zero, suc, ◌++◌, map, Vec, Global, length-set, ◌≡◌, ℕ, ◌+◌, ◌<◌, ◌≤◌, true, false, cond, inl, inr, List, [], ◌∷◌, length, filter, Option, Some, None, is_some, slice_get, slice_set, slice_index_or, remove, refl, sym, ap, subst, ◌∙◌, arith}
+use Rattle.std.proofs.Common.{Bool, true, false, not, zero, suc, ◌++◌, map, Vec, Global, length-set, ◌≡◌, ℕ, ◌+◌, ◌<◌}
+use Rattle.std.proofs.Common.{◌≤◌, true, false, cond, inl, inr, List, [], ◌∷◌, length, filter, Option, Some, None}
+use Rattle.std.proofs.Common.{is_some, slice_get, slice_set, slice_index_or, remove, refl, sym, ap, subst, ◌∙◌, arith}
 use Rattle.std.specs.Arc.{arc_value}
 use Rattle.std.proofs.lemmas.Bool.{cases_Bool}
 use Rattle.redo_tree.specs.Tree.{Tree}
@@ -8,11 +10,15 @@ use Rattle.redo_record.specs.Paths.{IsAmong, AreDistinct}
 use Rattle.redo_core.proofs.NumberLemmas.{numbered-set}
 use Rattle.redo_build.proofs.QueueLemmas.{remove-gone, slice_get-among}
 use Rattle.std.specs.declared.collections.VecDeque.{VecDeque}
-use Rattle.redo_build.specs.Schedule.{Entry, State, Event, IsOpen, AllOpen, entry_of, opening, run, happens, outcomes_of, only, IsQuiet}
+use Rattle.redo_build.specs.Schedule.{Entry, State, Event, IsOpen, AllOpen, entry_of, opening, run, happens}
+use Rattle.redo_build.specs.Schedule.{outcomes_of, only, IsQuiet}
 use Rattle.redo_build.specs.Schedule.Event.{Take}
-use Rattle.redo_core.specs.inside.Slots.{stage_outcome, rules_inside, state_of, state_from, slot_entry, path_at, is_stage_out, is_stage_ready, AllAnswered, IsKept, IsBoard, IsParked, IsPlace, IsQueue, IsTable, AllWatched, stage_deps, slot_entries}
+use Rattle.redo_core.specs.inside.Slots.{stage_outcome, rules_inside, state_of, state_from, slot_entry, path_at}
+use Rattle.redo_core.specs.inside.Slots.{is_stage_out, is_stage_ready, AllAnswered, IsKept, IsBoard, IsParked, IsPlace}
+use Rattle.redo_core.specs.inside.Slots.{IsQueue, IsTable, AllWatched, stage_deps, slot_entries}
 use Rattle.redo_build.specs.Outcomes.{outcome_at}
-use Rattle.redo_core.proofs.TableLemmas.{slice_get-place, place-slice_get, remove-place, remove-place_cases, get-set_cases, fits-set, outcomes-more, watchers-set, watched-set}
+use Rattle.redo_core.proofs.TableLemmas.{slice_get-place, place-slice_get, remove-place, remove-place_cases}
+use Rattle.redo_core.proofs.TableLemmas.{get-set_cases, fits-set, outcomes-more, watchers-set, watched-set}
 use Rattle.redo_core.specs.Build.{rules_of}
 use Rattle.redo_core.specs.Views.{jobs_out, ready_count, rules_on, told_by, BoardView, WorkView, IsReached, IsWorkTaken}
 use Rattle.redo_core.specs.inside.Works.{HoldsOutcomes}
@@ -26,7 +32,8 @@ use Rattle.redo_build.proofs.QuietLemmas.{is_part, shows}
 use Rattle.redo_build.specs.Theorems.{IsPartOfBuild, ShowsBuild}
 use Rattle.redo_build.proofs.TurnBoundLemmas.{turn-below}
 use Rattle.redo_build.proofs.SoundLemmas.{IsSound, opening-sound, run-sound}
-use Rattle.redo_core.proofs.SlotLemmas.{map-remove, slice_get-from, slice_get-item, slice_get-map, ready-job, entry, state_taken, paths_of-slots, length-filter_le}
+use Rattle.redo_core.proofs.SlotLemmas.{map-remove, slice_get-from, slice_get-item, slice_get-map, ready-job, entry}
+use Rattle.redo_core.proofs.SlotLemmas.{state_taken, paths_of-slots, length-filter_le}
 
 pub sound-inside : (b : Inside) → IsKept b → IsSound (rules_inside b) b.request.items (state_of b)
 sound-inside b kept =
@@ -170,7 +177,7 @@ module _ (b : Inside) (kept : IsKept b) (which at : ℕ) (slot : Slot)
       let gone' : IsPlace (remove b.table.ready.items which) at → ⊥ = λ m. let found = place-slice_get _ at m in gone found.0 found.1 in
       record {
         ready_below = λ k m. omega (arith, kept.table.queue.ready_below k (remove-place b.table.ready.items which k m), len);
-        freed_below = λ k m. absurd m;
+        newly_ready_below = λ k m. absurd m;
         ready_is = λ k x m g. elim m [
           | inl old ↦ elim (get-set_cases b.table.slots.items at k (record slot { stage = Out }) x g) [
             | inl here ↦ absurd (let P : ℕ → Type 0 = IsPlace (remove b.table.ready.items which) in gone' (subst P here.0 old))

@@ -1,5 +1,6 @@
 -- What a board has taken, one event further.
-use Rattle.std.proofs.Common.{◌≡◌, ℕ, ◌<◌, cond, is_some, length, List, [], ◌∷◌, ◌++◌, Option, Some, None, slice_get, option_and_then, append_assoc, append-nil, refl, sym, ap, subst, ◌∙◌, arith}
+use Rattle.std.proofs.Common.{◌≡◌, ℕ, ◌<◌, cond, is_some, length, List, [], ◌∷◌, ◌++◌, Option, Some, None, slice_get}
+use Rattle.std.proofs.Common.{option_and_then, append_assoc, append-nil, refl, sym, ap, subst, ◌∙◌, arith}
 use Rattle.redo_build.specs.Rules.{Rules}
 use Rattle.redo_build.specs.Schedule.{Entry, State, Event, IsOpen, entry_of, happens, opening, run}
 use Rattle.redo_build.specs.Schedule.Event.{Take, Hand_in}

@@ -1,5 +1,5 @@
--- The rules of a source tree: what the tree, the search for rules, the grammar of scripts and their meaning say together
--- of how far each target comes under an ask.
+-- The rules of a source tree: what the tree, the search for rules, the grammar of scripts and their meaning say
+-- together of how far each target comes under an ask.
 use Rattle.std.specs.Prelude.{◌≡◌, ℕ, true, List, [], is_some, unwrap_or}
 use Rattle.redo_script.specs.Texts.{script_in}
 use Rattle.redo_record.specs.declared.deps.DepKind.TheVariants.{Create}

@@ -6,7 +6,8 @@ use Rattle.redo_core.specs.Views.{BoardView, PieceView, rules_on}
 use Rattle.redo_core.specs.declared.board.Stop.{Stop}
 use Rattle.redo_core.specs.declared.board.Stop.TheVariants.{TooMany as Stopped_at_limit, Memory as Stopped_for_memory}
 use Rattle.redo_core.specs.declared.board.OpenFault.{OpenFault}
-use Rattle.redo_core.specs.declared.board.OpenFault.TheVariants.{TooMany as Opened_too_many, Memory as Opened_without_memory}
+use Rattle.redo_core.specs.declared.board.OpenFault.TheVariants.{TooMany as Opened_too_many}
+use Rattle.redo_core.specs.declared.board.OpenFault.TheVariants.{Memory as Opened_without_memory}
 use Rattle.redo_core.specs.declared.board.HandFault.{HandFault}
 use Rattle.redo_core.specs.declared.board.HandFault.TheVariants.{Stranger, TooMany, Memory}
 
@@ -24,14 +25,18 @@ opening_fault_of Stopped_for_memory = Opened_without_memory
 abbrev pub IsSameBuild : BoardView → BoardView → Type 0
 IsSameBuild old new = (new.tree ≡ old.tree) × (new.request ≡ old.request) × (new.limits ≡ old.limits)
 
--- a board that ran: exactly a piece whose target isn't out at its turn is a stranger, comes back and changes nothing; after any
--- other fault the board has stopped
+-- a board that ran: exactly a piece whose target isn't out at its turn is a stranger, comes back and changes nothing;
+-- after any other fault the board has stopped
 abbrev pub RefusedRunning : BoardView → BoardView → PieceView → HandFault → Type 0
-RefusedRunning old new piece (Stranger back) = (back ≡ piece) × (new ≡ old) × (IsOutAt old.state piece.target piece.turn → ⊥)
+RefusedRunning old new piece (Stranger back) =
+    (back ≡ piece) × (new ≡ old) × (IsOutAt old.state piece.target piece.turn → ⊥)
 RefusedRunning old new piece TooMany =
-    IsSameBuild old new × (new.stopped ≡ Some Stopped_at_limit) × IsTooMany (rules_on old) old.request old.limits.targets × IsOutAt old.state piece.target piece.turn
-RefusedRunning old new piece Memory = IsSameBuild old new × (new.stopped ≡ Some Stopped_for_memory) × IsOutAt old.state piece.target piece.turn
+    IsSameBuild old new × (new.stopped ≡ Some Stopped_at_limit) ×
+    IsTooMany (rules_on old) old.request old.limits.targets × IsOutAt old.state piece.target piece.turn
+RefusedRunning old new piece Memory =
+    IsSameBuild old new × (new.stopped ≡ Some Stopped_for_memory) × IsOutAt old.state piece.target piece.turn
 
 -- a board that had stopped answers why, for good
 abbrev pub Refused : BoardView → BoardView → PieceView → HandFault → Type 0
-Refused old new piece fault = MatchOption old.stopped (RefusedRunning old new piece fault) (λ stop. (fault ≡ fault_of stop) × (new ≡ old))
+Refused old new piece fault =
+    MatchOption old.stopped (RefusedRunning old new piece fault) (λ stop. (fault ≡ fault_of stop) × (new ≡ old))

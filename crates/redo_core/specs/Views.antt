@@ -1,11 +1,13 @@
 -- What contracts see of facts, works, pieces and boards.
-use Rattle.std.specs.Prelude.{◌≡◌, ℕ, Bool, List, length, Option, Some, None, IsNone, slice_get, is_some, if◌then◌else◌, bytes_eq}
+use Rattle.std.specs.Prelude.{◌≡◌, ℕ, Bool, List, length, Option, Some, None, IsNone, slice_get, is_some, if◌then◌else◌}
+use Rattle.std.specs.Prelude.{bytes_eq}
 use Rattle.std.specs.Map.{lookup}
 use Rattle.redo_record.specs.Progress.{Progress}
 use Rattle.redo_build.specs.Rules.{Ask, Rules, operands}
 use Rattle.redo_tree.specs.Tree.{Tree}
 use Rattle.redo_core.specs.Build.{rules_of}
-use Rattle.redo_build.specs.Schedule.{Entry, State, Event, AllOpen, entry_of, outcomes_of, only, opening, run, happens, out_count}
+use Rattle.redo_build.specs.Schedule.{Entry, State, Event, AllOpen, entry_of, outcomes_of, only, opening, run, happens}
+use Rattle.redo_build.specs.Schedule.{out_count}
 use Rattle.redo_record.specs.declared.deps.Dep.{Dep}
 use Rattle.redo_record.specs.declared.outcome.Outcome.{Outcome}
 use Rattle.redo_core.specs.declared.board.Stop.{Stop}
@@ -90,7 +92,8 @@ Belongs b piece = (piece.tree ≡ b.tree) × (piece.limits ≡ b.limits)
 abbrev pub IsFor : BoardView → Tree → List (List ℕ) → LimitsView → Type 0
 IsFor b tree request limits = (b.tree ≡ tree) × (b.request ≡ request) × (b.limits ≡ limits)
 
--- the work is of the target at that place, at its turn, and holds the decided outcomes of all that it asked for, and no others
+-- the work is of the target at that place, at its turn, and holds the decided outcomes of all that it asked for, and no
+-- others
 pub record IsWorkTaken (b : BoardView) (which : ℕ) (w : WorkView) : Type 0 where
   pub tree : w.tree ≡ b.tree
   pub limits : w.limits ≡ b.limits

@@ -1,10 +1,12 @@
 //! The board: which targets are ready, out, waiting or decided, and what each event makes of them.
 //!
-//! A caller opens a board, takes works and hands their pieces in, in whatever order, until the board is quiet or has stopped.
-//! Nothing here runs a script or waits: that is left to the caller, on one thread or on many.
-ghost use Rattle.std.specs.Prelude.{◌≡◌, ◌↔◌, ◌<◌, ◌≤◌, ◌+◌, ◌*◌, IsTrue, IsNone, IfOk, IfErr, OnOk, OnErr, length, slice_get, Some, None};
+//! A caller opens a board, takes works and hands their pieces in, in whatever order, until the board is quiet or has
+//! stopped. Nothing here runs a script or waits: that is left to the caller, on one thread or on many.
+ghost use Rattle.std.specs.Prelude.{◌≡◌, ◌↔◌, ◌<◌, ◌≤◌, ◌+◌, ◌*◌, IsTrue, IsNone, IfOk, IfErr, OnOk, OnErr, length};
+ghost use Rattle.std.specs.Prelude.{slice_get, Some, None};
 ghost use Rattle.std.specs.Arc.{arc_value};
-ghost use Rattle.redo_core.specs.Views.{ready_count, jobs_out, opened, after, rules_on, IsQuietBoard, Belongs, IsFor, IsWorkTaken};
+ghost use Rattle.redo_core.specs.Views.{ready_count, jobs_out, opened, after, rules_on, IsQuietBoard, Belongs, IsFor};
+ghost use Rattle.redo_core.specs.Views.{IsWorkTaken};
 ghost use Rattle.redo_build.specs.Outcomes.{IsTooMany};
 ghost use Rattle.redo_core.specs.Build.{rules_of};
 ghost use Rattle.redo_build.specs.Schedule.{Event, IsOutAt, IsOpen};
@@ -58,10 +60,10 @@ impl<T: Drop> From<AllocFailed<T>> for Stop {
     }
 }
 
-/// The entries of a build, and what may happen to them next. In a contract it is its tree, request and limits, the state of
-/// its entries, and why it has stopped. Of whatever value of this type that hasn't stopped, the state is one that some run of
-/// takes and hand-ins led to, so what is proved of runs holds for it wherever it comes from. Of one that has stopped only this
-/// is known: where it has stopped at the limit, the build needs too many targets.
+/// The entries of a build, and what may happen to them next. In a contract it is its tree, request and limits, the
+/// state of its entries, and why it has stopped. Of whatever value of this type that hasn't stopped, the state is one
+/// that some run of takes and hand-ins led to, so what is proved of runs holds for it wherever it comes from. Of one
+/// that has stopped only this is known: where it has stopped at the limit, the build needs too many targets.
 #[derive(Drop)]
 pub struct Board {
     alloc: Global,
@@ -162,7 +164,8 @@ impl Board {
         ensures part { IfOk result (λ b. IsPartOfBuild (rules_on b) b.request b.limits.targets b.state) }
         ensures none_out { IfOk result (λ b. jobs_out b ≡ 0) }
         ensures left { IfOk result (λ b. takes_left b.limits.targets b.state ≤ b.limits.targets * b.limits.targets) }
-        ensures too_many { result ≡ Err OpenFault.TooMany → IsTooMany (rules_of (arc_value tree) limits) request.now limits.targets }
+        ensures too_many { result ≡ Err OpenFault.TooMany →
+            IsTooMany (rules_of (arc_value tree) limits) request.now limits.targets }
     {
         let request = copied(alloc, request)?;
         let table = first_table(alloc, &request, &tree, limits)?;
@@ -176,7 +179,8 @@ impl Board {
         })
     }
 
-    /// How many targets may be taken; 0 once the board has stopped. With redo -j, as many as there are free workers are taken.
+    /// How many targets may be taken; 0 once the board has stopped. With redo -j, as many as there are free workers are
+    /// taken.
     pub fn ready(&self) -> usize
         ensures { result ≡ ready_count self.now }
     {
@@ -190,7 +194,8 @@ impl Board {
     /// Why the board has stopped, if it has. A board that has stopped has no report.
     pub fn stopped(&self) -> Option<Stop>
         ensures value { result ≡ self.now.stopped }
-        ensures too_many { result ≡ Some Stop.TooMany → IsTooMany (rules_on self.now) self.now.request self.now.limits.targets }
+        ensures too_many { result ≡ Some Stop.TooMany →
+            IsTooMany (rules_on self.now) self.now.request self.now.limits.targets }
     {
         self.stopped
     }
@@ -272,18 +277,20 @@ impl Board {
         }
     }
 
-    /// Whether nothing more can happen: nothing is ready, nothing is out, and the board hasn't stopped. It is the test for
+    /// Whether nothing more can happen: nothing is ready, nothing is out, and the board hasn't stopped. It is the test
+    /// for
     /// `finish`.
     pub fn quiet(&self) -> bool
         ensures quiet { IsTrue result ↔ IsQuietBoard self.now }
-        ensures shows { IsTrue result → ShowsBuild (rules_on self.now) self.now.request self.now.limits.targets self.now.state }
+        ensures shows { IsTrue result →
+            ShowsBuild (rules_on self.now) self.now.request self.now.limits.targets self.now.state }
     {
         self.stopped.is_none() && self.ready() == 0 && self.out() == 0
     }
 
-    /// What the build came to, of a quiet board alone: only then it is sure that a target that still waits never ends, and so
-    /// is cyclic. As with redo -k, a target that failed doesn't keep the others from being built. On want of memory the board
-    /// is lost.
+    /// What the build came to, of a quiet board alone: only then it is sure that a target that still waits never ends,
+    /// and so is cyclic. As with redo -k, a target that failed doesn't keep the others from being built. On want of
+    /// memory the board is lost.
     pub fn finish(self) -> Result<Report, AllocError>
         requires { IsQuietBoard self }
         ensures { IfOk result (IsReport (rules_on self) self.request self.limits.targets) }
@@ -291,18 +298,18 @@ impl Board {
         report_of(self.alloc, &self.tree, &self.request, &self.table)
     }
 
-    /// Whether a piece is of the board's tree and limits, as `hand_in` asks. It compares by value, in the time of the tree's
-    /// bytes. It is for a piece of which nothing but its type is known. A runner that knows which work its piece came from
-    /// needs no test, nor does a parallel one whose messages say so by their own type.
+    /// Whether a piece is of the board's tree and limits, as `hand_in` asks. It compares by value, in the time of the
+    /// tree's bytes. It is for a piece of which nothing but its type is known. A runner that knows which work its piece
+    /// came from needs no test, nor does a parallel one whose messages say so by their own type.
     pub fn belongs(&self, piece: &Piece) -> bool
         ensures { IsTrue result ↔ Belongs self.now piece.now }
     {
         piece.is_of(&self.tree, self.limits)
     }
 
-    /// Whether the board is that of this tree, request and limits, and so its report is theirs. It compares by value, in the
-    /// time of the tree's bytes. It is for a board that is known by its type alone, as one that a lock gave; who opened the
-    /// board, or keeps it under an invariant that says so, needs no test.
+    /// Whether the board is that of this tree, request and limits, and so its report is theirs. It compares by value,
+    /// in the time of the tree's bytes. It is for a board that is known by its type alone, as one that a lock gave; who
+    /// opened the board, or keeps it under an invariant that says so, needs no test.
     pub fn is_for(&self, tree: &Tree, request: &[Path], limits: Limits) -> bool
         ensures { IsTrue result ↔ IsFor self.now tree.now request.now limits }
     {

@@ -11,8 +11,8 @@ use redo_tree::Tree;
 use std::marker::Model;
 use std::sync::Arc;
 
-/// A decided target with its outcome, its record and whether its script was begun. It is always the truth for its tree and
-/// limits.
+/// A decided target with its outcome, its record and whether its script was begun. It is always the truth for its tree
+/// and limits.
 #[derive(Drop)]
 pub struct Fact {
     tree: Arc<Tree>,

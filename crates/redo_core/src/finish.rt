@@ -4,7 +4,8 @@ ghost use Rattle.std.specs.Arc.{arc_value};
 ghost use Rattle.redo_which.specs.Rule.{found_of};
 ghost use Rattle.redo_step.specs.Setting.{is_rule};
 ghost use Rattle.redo_record.specs.declared.outcome.Outcome.TheVariants.{Source};
-ghost use Rattle.redo_core.specs.inside.Reported.{placed, sources_among, listed_paths, IsNumberOf, is_settled, IsShown, IsBegunAs, IsRowOf, AllSettled, AllTold, AddsRow, IsReportOf};
+ghost use Rattle.redo_core.specs.inside.Reported.{placed, sources_among, listed_paths, IsNumberOf, is_settled, IsShown};
+ghost use Rattle.redo_core.specs.inside.Reported.{IsBegunAs, IsRowOf, AllSettled, AllTold, AddsRow, IsReportOf};
 
 use crate::table::{Stage, Table, find};
 use indexmap::IndexSet;
@@ -48,7 +49,8 @@ fn in_order<'a>(
     request: &'a [Path],
     targets: &'a IndexSet<Path>,
 ) -> Result<Vec<(&'a Path, Option<usize>)>, AllocError>
-    ensures paths { IfOk result (λ listed. listed_paths listed.items ≡ placed (placed [] targets.now.keys) (sources_among tree.now request.now)) }
+    ensures paths { IfOk result (λ listed. listed_paths listed.items ≡
+        placed (placed [] targets.now.keys) (sources_among tree.now request.now)) }
     ensures numbers { IfOk result (λ listed. All (λ e. IsNumberOf targets.now.keys e.0.now e.1) listed.items) }
 {
     let mut listed = numbered(alloc, targets.as_slice())?;
@@ -79,7 +81,8 @@ fn add_sources<'a>(
     listed: &mut Vec<(&'a Path, Option<usize>)>,
 ) -> Result<(), AllocError>
     requires { All (λ e. IsNumberOf targets.now.keys e.0.now e.1) listed.old.items }
-    ensures paths { OnOk result (listed_paths listed.new.items ≡ listed_paths listed.old.items ++ sources_among tree.now request.now) }
+    ensures paths { OnOk result (listed_paths listed.new.items ≡
+        listed_paths listed.old.items ++ sources_among tree.now request.now) }
     ensures numbers { OnOk result (All (λ e. IsNumberOf targets.now.keys e.0.now e.1) listed.new.items) }
 {
     for path in request {

@@ -3,7 +3,9 @@ ghost use Rattle.std.specs.Prelude.{◌≡◌, ◌<◌, ◌≤◌, ℕ, [], drop
 ghost use Rattle.std.specs.Arc.{arc_value};
 ghost use Rattle.redo_core.specs.Build.{rules_of};
 ghost use Rattle.redo_build.specs.Rules.{operands};
-ghost use Rattle.redo_core.specs.inside.Slots.{IsPlace, AreNumbers, IsTableOf, IsStandingTable, AreEnteredInto, AreTooMany, AreLookedAt, AreReleased, MayTakeIn, IsPutBackThere, IsTakenIn, IsFirstTable, targets_in, table_entries, state_after};
+ghost use Rattle.redo_core.specs.inside.Slots.{IsPlace, AreNumbers, IsTableOf, IsStandingTable, AreEnteredInto};
+ghost use Rattle.redo_core.specs.inside.Slots.{AreTooMany, AreLookedAt, AreEnqueued, MayTakeIn, IsPutBackThere};
+ghost use Rattle.redo_core.specs.inside.Slots.{IsTakenIn, IsFirstTable, targets_in, table_entries, state_after};
 ghost use Rattle.redo_build.specs.Schedule.{opening};
 ghost use Rattle.redo_tree.specs.Tree.{file_at};
 
@@ -27,17 +29,18 @@ pub(crate) fn enter_all(
     deps: &[Dep],
     tree: &Arc<Tree>,
     limits: Limits,
-    freed: &mut Vec<u32>,
+    newly_ready: &mut Vec<u32>,
 ) -> Result<Vec<u32>, Stop>
-    requires table { IsTableOf (arc_value tree.now) limits table.old freed.old.items }
-    ensures ok { OnOk result (AreEnteredInto (arc_value tree.now) limits table.old table.new freed.new.items (operands (rules_of (arc_value tree.now) limits) deps.now)) }
+    requires table { IsTableOf (arc_value tree.now) limits table.old newly_ready.old.items }
+    ensures ok { OnOk result (AreEnteredInto (arc_value tree.now) limits table.old table.new newly_ready.new.items (operands (rules_of (arc_value tree.now) limits) deps.now)) }
     ensures numbers { IfOk result (λ ns. AreNumbers table.new.targets.keys ns.items (operands (rules_of (arc_value tree.now) limits) deps.now)) }
-    ensures too_many { result ≡ Err Stop.TooMany → AreTooMany (rules_of (arc_value tree.now) limits) limits.targets (table_entries (rules_of (arc_value tree.now) limits) limits.targets table.old) (operands (rules_of (arc_value tree.now) limits) deps.now) }
+    ensures too_many { result ≡ Err Stop.TooMany →
+        AreTooMany (rules_of (arc_value tree.now) limits) limits.targets (table_entries (rules_of (arc_value tree.now) limits) limits.targets table.old) (operands (rules_of (arc_value tree.now) limits) deps.now) }
 {
     let mut numbers = Vec::with_capacity(alloc, deps.len())?;
     for dep in deps {
         if is_operand(tree, limits, dep) {
-            let at = enter(table, alloc, &dep.path, tree, limits, freed)?;
+            let at = enter(table, alloc, &dep.path, tree, limits, newly_ready)?;
             numbers.push(at)?;
         }
     }
@@ -50,27 +53,27 @@ pub(crate) fn settle_all(
     pending: &[u32],
     tree: &Arc<Tree>,
     limits: Limits,
-    freed: &mut Vec<u32>,
+    newly_ready: &mut Vec<u32>,
 ) -> Result<(), AllocError>
     requires within { (k : ℕ) → IsPlace pending.now k → k < length table.old.slots.items }
-    requires table { IsTableOf (arc_value tree.now) limits table.old freed.old.items }
+    requires table { IsTableOf (arc_value tree.now) limits table.old newly_ready.old.items }
     requires standing { IsStandingTable (arc_value tree.now) limits table.old }
-    ensures table { OnOk result (IsTableOf (arc_value tree.now) limits table.new freed.new.items) }
+    ensures table { OnOk result (IsTableOf (arc_value tree.now) limits table.new newly_ready.new.items) }
     ensures looked { OnOk result (AreLookedAt (arc_value tree.now) limits table.old table.new pending.now) }
 {
     for at in pending {
-        settle(table, *at, tree, limits, freed)?;
+        settle(table, *at, tree, limits, newly_ready)?;
     }
     Ok(())
 }
 
-/// Puts the numbers freed into the queue, in order of first sight.
-pub(crate) fn release(table: &mut Table, mut freed: Vec<u32>) -> Result<(), AllocError>
-    ensures { OnOk result (AreReleased table.old table.new freed.items) }
+/// Puts the numbers that are newly ready into the queue, in order of first sight.
+pub(crate) fn enqueue(table: &mut Table, mut newly_ready: Vec<u32>) -> Result<(), AllocError>
+    ensures { OnOk result (AreEnqueued table.old table.new newly_ready.items) }
 {
-    freed.sort_unstable();
+    newly_ready.sort_unstable();
     let ready = &mut table.ready;
-    for at in &freed {
+    for at in &newly_ready {
         ready.push_back(*at)?;
     }
     Ok(())
@@ -92,14 +95,14 @@ fn conclude(
     fact: Arc<Fact>,
     tree: &Arc<Tree>,
     limits: Limits,
-    freed: &mut Vec<u32>,
+    newly_ready: &mut Vec<u32>,
 ) -> Result<(), AllocError>
     requires may { MayTakeIn (arc_value tree.now) limits table.old at (End.Ended fact) }
-    requires none_freed { freed.old.items ≡ [] }
-    ensures { OnOk result (IsPutBackThere (arc_value tree.now) limits table.old table.new at freed.new.items []) }
+    requires none_newly_ready { newly_ready.old.items ≡ [] }
+    ensures { OnOk result (IsPutBackThere (arc_value tree.now) limits table.old table.new at newly_ready.new.items []) }
 {
     let watchers = decide(table, alloc, at, fact);
-    settle_all(table, &watchers, tree, limits, freed)
+    settle_all(table, &watchers, tree, limits, newly_ready)
 }
 
 /// Parks a job that was out and stopped, with what it asks for entered, and looks at it.
@@ -110,16 +113,17 @@ fn suspend(
     begun: Box<Begun>,
     tree: &Arc<Tree>,
     limits: Limits,
-    freed: &mut Vec<u32>,
+    newly_ready: &mut Vec<u32>,
 ) -> Result<(), Stop>
     requires may { MayTakeIn (arc_value tree.now) limits table.old at (End.Stopped begun) }
-    requires none_freed { freed.old.items ≡ [] }
-    ensures ok { OnOk result (IsPutBackThere (arc_value tree.now) limits table.old table.new at freed.new.items []) }
-    ensures too_many { result ≡ Err Stop.TooMany → limits.targets < length (state_after (arc_value tree.now) limits table.old at).entries }
+    requires none_newly_ready { newly_ready.old.items ≡ [] }
+    ensures ok { OnOk result (IsPutBackThere (arc_value tree.now) limits table.old table.new at newly_ready.new.items []) }
+    ensures too_many { result ≡ Err Stop.TooMany →
+        limits.targets < length (state_after (arc_value tree.now) limits table.old at).entries }
 {
-    let operands = enter_all(table, alloc, asked(&begun), tree, limits, freed)?;
+    let operands = enter_all(table, alloc, asked(&begun), tree, limits, newly_ready)?;
     park(table, at, begun, operands);
-    settle(table, at as u32, tree, limits, freed)?;
+    settle(table, at as u32, tree, limits, newly_ready)?;
     Ok(())
 }
 
@@ -134,14 +138,15 @@ pub(crate) fn take_in(
 ) -> Result<(), Stop>
     requires { MayTakeIn (arc_value tree.now) limits table.old at end }
     ensures ok { OnOk result (IsTakenIn (arc_value tree.now) limits table.old table.new at) }
-    ensures too_many { result ≡ Err Stop.TooMany → limits.targets < length (state_after (arc_value tree.now) limits table.old at).entries }
+    ensures too_many { result ≡ Err Stop.TooMany →
+        limits.targets < length (state_after (arc_value tree.now) limits table.old at).entries }
 {
-    let mut freed = Vec::new(alloc);
+    let mut newly_ready = Vec::new(alloc);
     match end {
-        End::Ended(fact) => conclude(table, alloc, at, fact, tree, limits, &mut freed)?,
-        End::Stopped(begun) => suspend(table, alloc, at, begun, tree, limits, &mut freed)?,
+        End::Ended(fact) => conclude(table, alloc, at, fact, tree, limits, &mut newly_ready)?,
+        End::Stopped(begun) => suspend(table, alloc, at, begun, tree, limits, &mut newly_ready)?,
     }
-    release(table, freed)?;
+    enqueue(table, newly_ready)?;
     Ok(())
 }
 
@@ -170,15 +175,16 @@ fn enter_requested(
     request: &[Path],
     tree: &Arc<Tree>,
     limits: Limits,
-    freed: &mut Vec<u32>,
+    newly_ready: &mut Vec<u32>,
 ) -> Result<(), Stop>
-    requires table { IsTableOf (arc_value tree.now) limits table.old freed.old.items }
-    ensures ok { OnOk result (AreEnteredInto (arc_value tree.now) limits table.old table.new freed.new.items (targets_in (arc_value tree.now) request.now)) }
-    ensures too_many { result ≡ Err Stop.TooMany → AreTooMany (rules_of (arc_value tree.now) limits) limits.targets (table_entries (rules_of (arc_value tree.now) limits) limits.targets table.old) (targets_in (arc_value tree.now) request.now) }
+    requires table { IsTableOf (arc_value tree.now) limits table.old newly_ready.old.items }
+    ensures ok { OnOk result (AreEnteredInto (arc_value tree.now) limits table.old table.new newly_ready.new.items (targets_in (arc_value tree.now) request.now)) }
+    ensures too_many { result ≡ Err Stop.TooMany →
+        AreTooMany (rules_of (arc_value tree.now) limits) limits.targets (table_entries (rules_of (arc_value tree.now) limits) limits.targets table.old) (targets_in (arc_value tree.now) request.now) }
 {
     for path in request {
         if is_target(tree, path) {
-            enter(table, alloc, path, tree, limits, freed)?;
+            enter(table, alloc, path, tree, limits, newly_ready)?;
         }
     }
     Ok(())
@@ -192,7 +198,8 @@ pub(crate) fn first_table(
     limits: Limits,
 ) -> Result<Table, Stop>
     ensures ok { IfOk result (λ t. IsFirstTable (arc_value tree.now) limits request.now t) }
-    ensures too_many { result ≡ Err Stop.TooMany → limits.targets < length (opening (rules_of (arc_value tree.now) limits) request.now).entries }
+    ensures too_many { result ≡ Err Stop.TooMany →
+        limits.targets < length (opening (rules_of (arc_value tree.now) limits) request.now).entries }
 {
     let most = limits.targets();
     prove!(most <= 65_536);
@@ -202,8 +209,8 @@ pub(crate) fn first_table(
         ready: VecDeque::new(alloc),
         out: 0,
     };
-    let mut freed = Vec::new(alloc);
-    enter_requested(&mut table, alloc, request, tree, limits, &mut freed)?;
-    release(&mut table, freed)?;
+    let mut newly_ready = Vec::new(alloc);
+    enter_requested(&mut table, alloc, request, tree, limits, &mut newly_ready)?;
+    enqueue(&mut table, newly_ready)?;
     Ok(table)
 }

@@ -1,9 +1,15 @@
 //! The numbered table of the targets that were seen.
-ghost use Rattle.std.specs.Prelude.{◌≡◌, ℕ, List, ◌↔◌, ◌<◌, ◌≤◌, ◌+◌, ◌++◌, ◌∷◌, [], IsTrue, OnOk, IfOk, IfSome, IfNone, MatchOption, length, slice_get, Some, None};
+ghost use Rattle.std.specs.Prelude.{◌≡◌, ℕ, List, ◌↔◌, ◌<◌, ◌≤◌, ◌+◌, ◌++◌, ◌∷◌, [], IsTrue, OnOk, IfOk, IfSome};
+ghost use Rattle.std.specs.Prelude.{IfNone, MatchOption, length, slice_get, Some, None};
 ghost use Rattle.std.specs.Arc.{arc_value};
 ghost use Rattle.redo_record.specs.Paths.{IsAmong, AreDistinct};
 ghost use Rattle.redo_core.specs.Build.{rules_of};
-ghost use Rattle.redo_core.specs.inside.Slots.{IsOperand, IsPlace, IsDecidedNumber, GainsOne, IsLackingAt, AreDecidedFrom, is_stage_decided, is_stage_ready, is_stage_out, IsOutSlotAt, IsWaitingThere, IsHeldAt, IsTableOf, IsStandingTable, IsWatchAdded, IsFreedAt, IsFed, IsLookedAt, IsBegun, IsPushed, IsEnteredInto, IsFull, table_entries, IsDecidedAt, IsParkedAt, IsOutThere, Gains};
+ghost use Rattle.redo_core.specs.inside.Slots.{IsOperand, IsPlace, IsDecidedNumber, GainsOne, IsLackingAt};
+ghost use Rattle.redo_core.specs.inside.Slots.{AreDecidedFrom, is_stage_decided, is_stage_ready, is_stage_out};
+ghost use Rattle.redo_core.specs.inside.Slots.{IsOutSlotAt, IsWaitingThere, IsHeldAt, IsTableOf, IsStandingTable};
+ghost use Rattle.redo_core.specs.inside.Slots.{IsWatchAdded, IsMadeReadyAt, IsFed, IsLookedAt, IsBegun, IsPushed};
+ghost use Rattle.redo_core.specs.inside.Slots.{IsEnteredInto, IsFull, table_entries, IsDecidedAt, IsParkedAt};
+ghost use Rattle.redo_core.specs.inside.Slots.{IsOutThere, Gains};
 
 use crate::begin::begin;
 use crate::board::Stop;
@@ -58,7 +64,8 @@ pub struct Table {
 
 /// The number of a path.
 pub(crate) fn find(targets: &IndexSet<Path>, path: &Path) -> Option<usize>
-    ensures { MatchOption result (IsAmong targets.now.keys path.now → ⊥) (λ at. slice_get targets.now.keys at ≡ Some path.now) }
+    ensures { MatchOption result (IsAmong targets.now.keys path.now →
+        ⊥) (λ at. slice_get targets.now.keys at ≡ Some path.now) }
 {
     targets.get_index_of(path)
 }
@@ -94,7 +101,8 @@ fn is_out(stage: &Stage) -> bool
 
 /// The number of a path, which may be the one that is guessed.
 fn find_near(targets: &IndexSet<Path>, guess: usize, path: &Path) -> Option<usize>
-    ensures { MatchOption result (IsAmong targets.now.keys path.now → ⊥) (λ at. slice_get targets.now.keys at ≡ Some path.now) }
+    ensures { MatchOption result (IsAmong targets.now.keys path.now →
+        ⊥) (λ at. slice_get targets.now.keys at ≡ Some path.now) }
 {
     if guess < targets.len() && targets[guess] == *path {
         return Some(guess);
@@ -106,7 +114,8 @@ fn find_near(targets: &IndexSet<Path>, guess: usize, path: &Path) -> Option<usiz
 pub(crate) fn out_at(table: &Table, guess: usize, target: &Path, turn: u64) -> Option<usize>
     requires one_each { length table.now.slots.items ≡ length table.now.targets.keys }
     requires distinct { AreDistinct table.now.targets.keys }
-    ensures { MatchOption result ((at : ℕ) → IsOutSlotAt table.now target.now turn at → ⊥) (λ at. IsOutSlotAt table.now target.now turn at) }
+    ensures { MatchOption result ((at : ℕ) → IsOutSlotAt table.now target.now turn at →
+        ⊥) (λ at. IsOutSlotAt table.now target.now turn at) }
 {
     let Some(at) = find_near(&table.targets, guess, target) else {
         return None;
@@ -180,7 +189,7 @@ fn gain(table: &Table, operands: &[u32], job: &Job, facts: &mut Facts) -> Result
 }
 
 /// Makes a parked job with all its answers a work.
-pub(crate) fn free(
+pub(crate) fn make_ready(
     table: &mut Table,
     at: usize,
     tree: &Arc<Tree>,
@@ -188,7 +197,7 @@ pub(crate) fn free(
 ) -> Result<(), AllocError>
     requires one_each { length table.old.slots.items ≡ length table.old.targets.keys }
     requires fed { IsFed (arc_value tree.now) limits table.old at }
-    ensures { OnOk result (IsFreedAt (arc_value tree.now) limits table.old table.new at) }
+    ensures { OnOk result (IsMadeReadyAt (arc_value tree.now) limits table.old table.new at) }
 {
     let own = Arc::try_clone(tree)?;
     let slot = &mut table.slots[at];
@@ -208,18 +217,18 @@ pub(crate) fn free(
     Ok(())
 }
 
-/// Looks again at a target: if it waits, it is freed or watched at the next path that it lacks.
+/// Looks again at a target: if it waits, it becomes ready or is watched at the next path that it lacks.
 pub(crate) fn settle(
     table: &mut Table,
     at: u32,
     tree: &Arc<Tree>,
     limits: Limits,
-    freed: &mut Vec<u32>,
+    newly_ready: &mut Vec<u32>,
 ) -> Result<(), AllocError>
     requires within { at < length table.old.slots.items }
-    requires table { IsTableOf (arc_value tree.now) limits table.old freed.old.items }
+    requires table { IsTableOf (arc_value tree.now) limits table.old newly_ready.old.items }
     requires standing { IsStandingTable (arc_value tree.now) limits table.old }
-    ensures table { OnOk result (IsTableOf (arc_value tree.now) limits table.new freed.new.items) }
+    ensures table { OnOk result (IsTableOf (arc_value tree.now) limits table.new newly_ready.new.items) }
     ensures looked { OnOk result (IsLookedAt (arc_value tree.now) limits table.old table.new at) }
 {
     let slot = &table.slots[at as usize];
@@ -232,25 +241,26 @@ pub(crate) fn settle(
             watch(table, at, place)
         }
         None => {
-            freed.push(at)?;
-            free(table, at as usize, tree, limits)
+            newly_ready.push(at)?;
+            make_ready(table, at as usize, tree, limits)
         }
     }
 }
 
-/// Enters a path, which is freed if it has a rule, if it is new. It gives the path's number.
+/// Enters a path if it is new; it becomes ready if it has a rule. It gives the path's number.
 pub(crate) fn enter(
     table: &mut Table,
     alloc: Global,
     path: &Path,
     tree: &Arc<Tree>,
     limits: Limits,
-    freed: &mut Vec<u32>,
+    newly_ready: &mut Vec<u32>,
 ) -> Result<u32, Stop>
-    requires table { IsTableOf (arc_value tree.now) limits table.old freed.old.items }
-    ensures ok { OnOk result (IsEnteredInto (arc_value tree.now) limits table.old table.new freed.new.items path.now) }
+    requires table { IsTableOf (arc_value tree.now) limits table.old newly_ready.old.items }
+    ensures ok { OnOk result (IsEnteredInto (arc_value tree.now) limits table.old table.new newly_ready.new.items path.now) }
     ensures number { IfOk result (λ at. slice_get table.new.targets.keys at ≡ Some path.now) }
-    ensures too_many { result ≡ Err Stop.TooMany ↔ IsFull (rules_of (arc_value tree.now) limits) limits.targets (table_entries (rules_of (arc_value tree.now) limits) limits.targets table.old) path.now }
+    ensures too_many { result ≡ Err Stop.TooMany ↔
+        IsFull (rules_of (arc_value tree.now) limits) limits.targets (table_entries (rules_of (arc_value tree.now) limits) limits.targets table.old) path.now }
 {
     if let Some(at) = find(&table.targets, path) {
         return Ok(at as u32);
@@ -259,7 +269,7 @@ pub(crate) fn enter(
         return Err(Stop::TooMany);
     }
     let at = table.slots.len() as u32;
-    match enter_new(table, alloc, path, tree, limits, freed) {
+    match enter_new(table, alloc, path, tree, limits, newly_ready) {
         Ok(()) => Ok(at),
         Err(_) => Err(Stop::Memory),
     }
@@ -272,16 +282,16 @@ pub(crate) fn enter_new(
     path: &Path,
     tree: &Arc<Tree>,
     limits: Limits,
-    freed: &mut Vec<u32>,
+    newly_ready: &mut Vec<u32>,
 ) -> Result<(), AllocError>
     requires new { IsAmong table.old.targets.keys path.now → ⊥ }
     requires room { length table.old.slots.items < limits.targets }
-    requires table { IsTableOf (arc_value tree.now) limits table.old freed.old.items }
-    ensures { OnOk result (IsPushed (arc_value tree.now) limits table.old table.new freed.old.items freed.new.items path.now) }
+    requires table { IsTableOf (arc_value tree.now) limits table.old newly_ready.old.items }
+    ensures { OnOk result (IsPushed (arc_value tree.now) limits table.old table.new newly_ready.old.items newly_ready.new.items path.now) }
 {
     let stage = begin(alloc, path, tree, limits)?;
     if is_ready(&stage) {
-        freed.push(table.slots.len() as u32)?;
+        newly_ready.push(table.slots.len() as u32)?;
     }
     table.targets.insert(path.clone()?)?;
     let watchers = Vec::new(alloc);

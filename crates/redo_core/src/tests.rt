@@ -1,4 +1,3 @@
-//! Small builds, and the text of reports.
+//! Small builds.
 
 mod board;
-mod reports;

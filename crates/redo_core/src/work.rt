@@ -21,9 +21,8 @@ use std::alloc::{AllocError, Global};
 use std::marker::Model;
 use std::sync::Arc;
 
-/// A job with the outcomes of all that it asked for. It is moved and never cloned, so each stretch of a script runs once, and
-/// it needs no board to be advanced: another thread may do so.
-/// The script is read when it is first advanced.
+/// A job with the outcomes of all that it asked for. It is moved and never cloned, so each stretch of a script runs
+/// once, and it needs no board to be advanced: another thread may do so. The script is read when it is first advanced.
 #[derive(Drop)]
 pub struct Work {
     tree: Arc<Tree>,
@@ -33,8 +32,8 @@ pub struct Work {
     script: Script,
 }
 
-/// A target's script: not read yet, or begun. Each is boxed, so that a board's many targets take little room each, and what
-/// is begun is handed on without being moved.
+/// A target's script: not read yet, or begun. Each is boxed, so that a board's many targets take little room each, and
+/// what is begun is handed on without being moved.
 #[derive(Drop)]
 pub(crate) enum Script {
     Unread(Box<Unread>),
@@ -115,8 +114,10 @@ impl Work {
         target: Path,
         rule: Rule,
     ) -> Result<Work, AllocError>
-        requires found { found_of (arc_value tree) target ≡ IsRule rule.do_file rule.missing (arguments_view rule.args) }
-        ensures { IfOk result (λ w. w ≡ record { tree = arc_value tree; limits = limits; target = target; turn = 0; deps = []; known = [] }) }
+        requires found { found_of (arc_value tree) target ≡
+            IsRule rule.do_file rule.missing (arguments_view rule.args) }
+        ensures { IfOk result (λ w. w ≡
+            record { tree = arc_value tree; limits = limits; target = target; turn = 0; deps = []; known = [] }) }
     {
         let unread = Box::new(alloc, Unread { target, rule })?;
         Ok(Work {
@@ -130,7 +131,8 @@ impl Work {
     /// A job with the facts of all that it asked for.
     pub(crate) fn of(tree: Arc<Tree>, limits: Limits, begun: Box<Begun>) -> Work
         requires { IsWorkWith (arc_value tree) limits begun.value.job begun.value.facts }
-        ensures { result ≡ record { tree = arc_value tree; limits = limits; target = begun.value.job.target; turn = begun.value.job.turn; deps = job_deps begun.value.job; known = known_in begun.value.facts } }
+        ensures { result ≡
+            record { tree = arc_value tree; limits = limits; target = begun.value.job.target; turn = begun.value.job.turn; deps = job_deps begun.value.job; known = known_in begun.value.facts } }
     {
         Work {
             tree,
@@ -182,9 +184,12 @@ impl Work {
     /// Advances the script as far as the outcomes that the work holds allow: to its end, or to the first statement that
     /// asks for more, as redo-ifchange(1) waits for all of its operands. On want of memory the work is lost.
     pub fn advance(self) -> Result<Piece, AllocError>
-        ensures place { IfOk result (λ p. (p.tree ≡ self.tree) × (p.limits ≡ self.limits) × (p.target ≡ self.target) × (p.turn ≡ self.turn)) }
-        ensures progress { IfOk result (λ p. p.progress ≡ (rules_of self.tree self.limits).progress self.target (told_by self.known)) }
-        ensures ended { IfOk result (λ p. (p.progress.outcome ≡ None → ⊥) ↔ (lacking_under (rules_of self.tree self.limits) self.target (told_by self.known) ≡ [])) }
+        ensures place { IfOk result (λ p. (p.tree ≡ self.tree) × (p.limits ≡ self.limits) × (p.target ≡ self.target) ×
+            (p.turn ≡ self.turn)) }
+        ensures progress { IfOk result (λ p. p.progress ≡
+            (rules_of self.tree self.limits).progress self.target (told_by self.known)) }
+        ensures ended { IfOk result (λ p. (p.progress.outcome ≡ None → ⊥) ↔
+            (lacking_under (rules_of self.tree self.limits) self.target (told_by self.known) ≡ [])) }
     {
         let Work {
             tree,
@@ -216,9 +221,12 @@ fn advance_job(
     facts: Facts,
 ) -> Result<Piece, AllocError>
     requires { IsWorkWith (arc_value tree) limits job facts }
-    ensures place { IfOk result (λ p. (p.tree ≡ arc_value tree) × (p.limits ≡ limits) × (p.target ≡ job.target) × (p.turn ≡ job.turn)) }
-    ensures progress { IfOk result (λ p. p.progress ≡ (rules_of (arc_value tree) limits).progress job.target (told_in facts)) }
-    ensures ended { IfOk result (λ p. (p.progress.outcome ≡ None → ⊥) ↔ (lacking_under (rules_of (arc_value tree) limits) job.target (told_in facts) ≡ [])) }
+    ensures place { IfOk result (λ p. (p.tree ≡ arc_value tree) × (p.limits ≡ limits) × (p.target ≡ job.target) ×
+        (p.turn ≡ job.turn)) }
+    ensures progress { IfOk result (λ p. p.progress ≡
+        (rules_of (arc_value tree) limits).progress job.target (told_in facts)) }
+    ensures ended { IfOk result (λ p. (p.progress.outcome ≡ None → ⊥) ↔
+        (lacking_under (rules_of (arc_value tree) limits) job.target (told_in facts) ≡ [])) }
 {
     let alloc = facts.allocator();
     let turn = job.turn();

@@ -1,5 +1,6 @@
 -- The names that were listed make the tree that was loaded, and the count of those that were passed over.
-use Rattle.std.proofs.Common.{◌≡◌, ◌^◌, ◌-◌, ◌+◌, ℕ, List, [], ◌∷◌, ◌++◌, refl, sym, ap, subst, ◌∙◌, inl, inr, arith, Option, Some, None, cond}
+use Rattle.std.proofs.Common.{◌≡◌, ◌^◌, ◌-◌, ◌+◌, ℕ, List, [], ◌∷◌, ◌++◌, refl, sym, ap, subst, ◌∙◌, inl, inr, arith}
+use Rattle.std.proofs.Common.{Option, Some, None, cond}
 use Rattle.std.proofs.lemmas.List.Sums.{sum_by-append}
 use Rattle.std.specs.Fs.{dir_entry_name}
 use Rattle.std.specs.declared.fs.dir.DirEntry.{DirEntry}
@@ -9,7 +10,8 @@ use Rattle.std.specs.Prelude.{Result, Ok, Err, count_by, is_none, min}
 use Rattle.redo_path.specs.Names.{child_of}
 use Rattle.redo_tree.specs.Tree.{Node, top, added}
 use Rattle.redo_tree.specs.Tree.{grown}
-use Rattle.redo_dir.specs.Directory.{ComesTo, IsLoaded, Listed, MayStand, Progress, Receives, TakesIn, TakesInListed, with_passed}
+use Rattle.redo_dir.specs.Directory.{ComesTo, IsLoaded, Listed, MayStand, Progress, Receives, TakesIn, TakesInListed}
+use Rattle.redo_dir.specs.Directory.{with_passed}
 use Rattle.redo_tree.proofs.GrowLemmas.{grown-append}
 
 AllZip-last : {A B : Type 0} (R : A → B → Type 0) (xs : List A) (ys : List B) (x : A) (y : B) → AllZip R xs ys → R x y → AllZip R (xs ++ x ∷ []) (ys ++ y ∷ [])

@@ -1,5 +1,6 @@
 -- The files that were stored so far.
-use Rattle.std.proofs.Common.{◌≡◌, ◌<◌, ◌+◌, ℕ, List, [], ◌∷◌, ◌++◌, get_or, length, take, refl, sym, ap, subst, ◌∙◌, zero, suc, arith}
+use Rattle.std.proofs.Common.{◌≡◌, ◌<◌, ◌+◌, ℕ, List, [], ◌∷◌, ◌++◌, get_or, length, take, refl, sym, ap, subst, ◌∙◌}
+use Rattle.std.proofs.Common.{zero, suc, arith}
 use Rattle.std.specs.Prelude.{Err}
 use Rattle.std.specs.Path.{path_join}
 use Rattle.redo_dir.specs.declared.storing.Unwritten.{Unwritten}

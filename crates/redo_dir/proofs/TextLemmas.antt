@@ -1,5 +1,6 @@
 -- Lists of paths that are text, and trees of them.
-use Rattle.std.proofs.Common.{◌≡◌, ◌<◌, ◌+◌, ℕ, List, [], ◌∷◌, get_or, length, map, take, refl, sym, ap, subst, zero, suc, arith, Option, Some, None, inl, inr, ◌++◌, ◌∙◌}
+use Rattle.std.proofs.Common.{◌≡◌, ◌<◌, ◌+◌, ℕ, List, [], ◌∷◌, get_or, length, map, take, refl, sym, ap, subst, zero}
+use Rattle.std.proofs.Common.{suc, arith, Option, Some, None, inl, inr, ◌++◌, ◌∙◌}
 use Rattle.std.specs.Prelude.{Err, IsUtf8, slice_get, Ok, Result}
 use Rattle.std.specs.Fs.{dir_entry_name}
 use Rattle.std.specs.List.{AllByRecursion}
@@ -20,7 +21,8 @@ use Rattle.redo_path.specs.Names.{child_of}
 use Rattle.redo_path.proofs.PartLemmas.{AllByRecursion-append, AllByRecursion-front}
 use Rattle.redo_tree.specs.declared.faults.TreeFault.{TreeFault}
 use Rattle.redo_tree.specs.Tree.{Node, Directory, File, Tree, added, refusal, with_node}
-use Rattle.redo_dir.specs.Directory.{HasTextPaths, HasTexts, MeansText, MetText, Progress, Receives, TakesIn, TakesInListed, fault_at, with_passed, with_waiting}
+use Rattle.redo_dir.specs.Directory.{HasTextPaths, HasTexts, MeansText, MetText, Progress, Receives, TakesIn}
+use Rattle.redo_dir.specs.Directory.{TakesInListed, fault_at, with_passed, with_waiting}
 
 -- what a list that was made of another one has at a place
 pub at_map : {A : Type 0} (f : A → List ℕ) (xs : List A) (k : ℕ) (d : A) → k < length xs → d ≡ get_or xs k d → slice_get (map f xs) k ≡ Some (f d)

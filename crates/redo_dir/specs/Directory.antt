@@ -1,5 +1,7 @@
 -- Directories of the system: what a tree takes in of them, and what was written into one.
-use Rattle.std.specs.Prelude.{◌≡◌, ◌≤◌, ◌+◌, ◌-◌, ◌^◌, ◌&&◌, ◌⊎◌, not, Bool, ℕ, List, [], ◌∷◌, ◌++◌, IsUtf8, codes, count_by, decimal, filter_map, is_none, length, map, min, slice_get, take, Option, Some, None, Result, Ok, Err}
+use Rattle.std.specs.Prelude.{◌≡◌, ◌≤◌, ◌+◌, ◌-◌, ◌^◌, ◌&&◌, ◌⊎◌, not, Bool, ℕ, List, [], ◌∷◌, ◌++◌, IsUtf8, codes}
+use Rattle.std.specs.Prelude.{count_by, decimal, filter_map, is_none, length, map, min, slice_get, take, Option, Some}
+use Rattle.std.specs.Prelude.{None, Result, Ok, Err}
 use Rattle.std.specs.Fs.{IsDir, IsFile, dir_entry_name, file_type}
 use Rattle.std.specs.IoError.{error_kind}
 use Rattle.std.specs.List.{AllByRecursion, AllZip, list_any}
@@ -63,12 +65,14 @@ pub record Listed : Type 0 where
   pub name : List ℕ
   pub node : Option Node
 
--- what a listed name comes to: where it fits and leads to a directory or a file, that entry; otherwise it is passed over
+-- what a listed name comes to: where it fits and leads to a directory or a file, that entry; otherwise it is passed
+-- over
 abbrev pub ComesTo : Listed → Option (List ℕ × Node) → Type 0
 ComesTo l (Some e) = MayStand l.dir l.name × (e.0 ≡ child_of l.dir l.name) × (l.node ≡ Some e.1)
 ComesTo l None = (MayStand l.dir l.name → ⊥) ⊎ (l.node ≡ None)
 
--- the tree is grown by the entries that the listed names come to, in their order, and the others are counted, up to 2^64 - 1
+-- the tree is grown by the entries that the listed names come to, in their order, and the others are counted, up to
+-- 2^64 - 1
 pub record Loads (listed : List Listed) (tree : Tree) (passed : ℕ) : Type 0 where
   pub became : List (Option (List ℕ × Node))
   pub each : AllZip ComesTo listed became
@@ -79,7 +83,8 @@ pub record Loads (listed : List Listed) (tree : Tree) (passed : ℕ) : Type 0 wh
 abbrev pub IsLoaded : Tree → ℕ → Type 0
 IsLoaded tree passed = (listed : List Listed) × Loads listed tree passed
 
--- what was read of a directory so far: its tree, the directories whose names were not read yet, and how many names were passed over
+-- what was read of a directory so far: its tree, the directories whose names were not read yet, and how many names were
+-- passed over
 pub record Progress : Type 0 where
   pub tree : Tree
   pub waiting : List (List ℕ)
@@ -108,10 +113,12 @@ abbrev pub Receives : Progress → Progress → List ℕ → Option Node → Typ
 Receives old new path None = new ≡ with_passed old
 Receives old new path (Some node) = Enters old new path node
 
--- a name of a directory was entered, or was passed over, where it may not stand or leads to neither a directory nor a file
+-- a name of a directory was entered, or was passed over, where it may not stand or leads to neither a directory nor a
+-- file
 abbrev pub TakesIn : Progress → Progress → List ℕ → List ℕ → Type 0
 TakesIn old new dir name =
-    ((MayStand dir name → ⊥) × (new ≡ with_passed old)) ⊎ (MayStand dir name × ((node : Option Node) × Receives old new (child_of dir name) node))
+    ((MayStand dir name → ⊥) × (new ≡ with_passed old)) ⊎
+    (MayStand dir name × ((node : Option Node) × Receives old new (child_of dir name) node))
 
 -- what was listed of a directory was taken in: a name that is text, or one that isn't, which is passed over
 abbrev pub TakesInListed : {R A F D : Type 0} → Progress → Progress → List ℕ → Result (DirEntry R A F D) Error → Type 0
@@ -177,4 +184,5 @@ MeansPath (Memory place) path = IsUtf8 path
 abbrev pub HasTexts : {A : Type 0} → Result A StoreFault → List (List ℕ) → Type 0
 HasTexts (Ok x) paths = AllByRecursion IsUtf8 paths
 HasTexts (Err fault) paths =
-    (path : List ℕ) × (slice_get paths (place_of fault) ≡ Some path) × MeansPath fault path × AllByRecursion IsUtf8 (take (place_of fault) paths)
+    (path : List ℕ) × (slice_get paths (place_of fault) ≡ Some path) × MeansPath fault path ×
+    AllByRecursion IsUtf8 (take (place_of fault) paths)

@@ -1,7 +1,7 @@
 //! Directories of the system: read as trees, and given the files that a build made.
 //!
-//! [`load_dir`] makes a tree of a directory, and [`store_files`] writes files into one, each whole before it gets its name.
-//! The crate stands on `redo_tree` and `redo_path`, and on `thiserror`.
+//! [`load_dir`] makes a tree of a directory, and [`store_files`] writes files into one, each whole before it gets its
+//! name. The crate stands on `redo_tree` and `redo_path`, and on `thiserror`.
 //!
 //! - `loading`: a directory as a tree; `places`: which of its names a tree takes in;
 //! - `storing`: files that are written; `whole`: one that was written whole;

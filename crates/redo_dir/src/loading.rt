@@ -4,12 +4,13 @@
 
 ghost use Rattle.std.specs.Prelude.{◌≡◌, [], ◌∷◌, IfOk, IsUtf8, OnOk, string_bytes};
 ghost use Rattle.redo_tree.specs.Tree.{Directory, File, top};
-ghost use Rattle.redo_dir.specs.Directory.{Enters, HasTextPaths, IsLoaded, MetText, Receives, Shows, TakesIn, TakesInListed, node_found, progress, told_load, with_passed};
+ghost use Rattle.redo_dir.specs.Directory.{Enters, HasTextPaths, IsLoaded, MetText, Receives, Shows, TakesIn};
+ghost use Rattle.redo_dir.specs.Directory.{TakesInListed, node_found, progress, told_load, with_passed};
 
-use crate::places::place_of;
-use redo_tree::{Tree, TreeFault};
 use crate::LoadFault;
+use crate::places::place_of;
 use redo_path::Path;
+use redo_tree::{Tree, TreeFault};
 use std::alloc::{AllocError, Global};
 use std::fs::{DirEntry, Metadata};
 use std::io::{ErrorKind, Read};
@@ -86,7 +87,8 @@ impl Loading {
     /// Nothing but the top directory.
     fn new(alloc: Global, dir: &str) -> Result<Loading, AllocError>
         ensures text { IfOk result (λ loading. MetText (progress loading)) }
-        ensures start { IfOk result (λ loading. progress loading ≡ record { tree = top; waiting = [] ∷ []; passed = 0 }) }
+        ensures start { IfOk result (λ loading. progress loading ≡
+            record { tree = top; waiting = [] ∷ []; passed = 0 }) }
     {
         let tree = Tree::new(alloc)?;
         let mut waiting = Vec::new(alloc);

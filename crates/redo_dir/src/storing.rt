@@ -2,12 +2,13 @@
 
 ghost use Rattle.std.specs.Prelude.{◌≡◌, ◌++◌, ◌∷◌, [], map, take, IfOk, OnErr, OnOk, string_bytes};
 ghost use Rattle.std.specs.Path.{path_buf_bytes, path_join};
-ghost use Rattle.redo_dir.specs.Directory.{HasTexts, IsBeside, MeansText, fault_at, places_in, stored_count, temporary_name};
+ghost use Rattle.redo_dir.specs.Directory.{HasTexts, IsBeside, MeansText, fault_at, places_in, stored_count};
+ghost use Rattle.redo_dir.specs.Directory.{temporary_name};
 
-use crate::whole::{Whole, finish};
-use redo_tree::Content;
 use crate::StoreFault;
+use crate::whole::{Whole, finish};
 use redo_path::Path;
+use redo_tree::Content;
 use std::alloc::{AllocError, AllocFailed, Global};
 use std::fs::File;
 use std::io::ErrorKind;

@@ -2,9 +2,9 @@
 //! which it makes and removes. The helpers are small, and a test holds little more than its
 //! directory, so that each is proved in a few seconds.
 
-use redo_tree::{Content, Tree};
 use crate::{LoadFault, StoreFault, load_dir, store_files};
 use redo_path::{Path, PathFault, resolve};
+use redo_tree::{Content, Tree};
 use std::alloc::Global;
 use std::io::ErrorKind;
 use std::os::unix::fs::symlink;

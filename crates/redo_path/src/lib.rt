@@ -14,7 +14,8 @@
 
 ghost use Rattle.std.specs.Prelude.{◌≡◌, ◌++◌, ◌∷◌, [], IfOk, IfSome, Some, nat_eq, option_copied, refl};
 ghost use Rattle.std.specs.Cmp.{partial_equiv_from_equiv};
-ghost use Rattle.std.specs.Cmp.Lexicographic.{nat_list_cmp_total, nat_list_eq_equiv, pointwise, slice_cmp, texts_po, texts_ties};
+ghost use Rattle.std.specs.Cmp.Lexicographic.{nat_list_cmp_total, nat_list_eq_equiv, pointwise, slice_cmp, texts_po};
+ghost use Rattle.std.specs.Cmp.Lexicographic.{texts_ties};
 ghost use Rattle.std.specs.Cmp.Rules.{hashing};
 ghost use Rattle.std.specs.Hash as fed;
 ghost use Rattle.std.specs.Ordering.{nat_cmp};
@@ -137,7 +138,8 @@ impl Path {
     pub fn parent(&self, alloc: Global) -> Result<Option<Path>, AllocError>
         ensures path { IsPath self.now }
         ensures text { IfOk result (λ parent. parent ≡ parent_of self.now) }
-        ensures names { IfOk result (λ parent. IfSome parent (λ up. names self.now ≡ names up ++ name_of self.now ∷ [])) }
+        ensures names { IfOk result (λ parent. IfSome parent (λ up. names self.now ≡
+            names up ++ name_of self.now ∷ [])) }
     {
         match front(self.text()) {
             Some(front) => Ok(Some(Path::of_text(alloc, front)?)),

@@ -1,5 +1,6 @@
 -- The entries of a record as the search and the script made them.
-use Rattle.std.proofs.Common.{◌≡◌, Bool, true, false, cond, ◌&&◌, ◌||◌, List, [], ◌∷◌, ◌++◌, refl, sym, ap, ◌∙◌, Some, None, append_assoc, append-nil}
+use Rattle.std.proofs.Common.{◌≡◌, Bool, true, false, cond, ◌&&◌, ◌||◌, List, [], ◌∷◌, ◌++◌, refl, sym, ap, ◌∙◌, Some}
+use Rattle.std.proofs.Common.{None, append_assoc, append-nil}
 use Rattle.std.specs.List.{AllByRecursion, IsDistinct, list_any}
 use Rattle.std.specs.Prelude.{bytes_eq}
 use Rattle.std.proofs.lemmas.List.{map-append}
@@ -11,7 +12,8 @@ use Rattle.redo_record.specs.declared.deps.Dep.{Dep}
 use Rattle.redo_record.specs.declared.deps.DepKind.{DepKind}
 use Rattle.redo_record.specs.declared.deps.DepKind.TheVariants as kinds
 use Rattle.redo_record.specs.contracts.deps.DepPartialEq.TheImpl.{eq-value}
-use Rattle.redo_record.specs.Entries.{AreOnce, change_of, creates, entries_of, search_entries, is_entered, same_kind, with_entry, with_entries, search_deps, with_all}
+use Rattle.redo_record.specs.Entries.{AreOnce, change_of, creates, entries_of, search_entries, is_entered, same_kind}
+use Rattle.redo_record.specs.Entries.{with_entry, with_entries, search_deps, with_all}
 use Rattle.redo_record.specs.Paths.{Path}
 use Rattle.redo_record.proofs.SetLemmas.{any_entered}
 

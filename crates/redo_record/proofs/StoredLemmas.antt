@@ -3,7 +3,8 @@ use Rattle.std.proofs.Common.{◌≡◌, true, false, cond, ◌&&◌, ◌||◌, 
 use Rattle.std.specs.Prelude.{bytes_eq}
 use Rattle.redo_record.specs.declared.deps.Dep.{Dep}
 use Rattle.redo_record.specs.Entries.{AreOnce, is_entered, same_kind, with_entry, with_all}
-use Rattle.redo_record.proofs.SearchLemmas.{all-new, any_found, entered-append, neither, or_false, same_kind-flips, same_way}
+use Rattle.redo_record.proofs.SearchLemmas.{all-new, any_found, entered-append, neither, or_false, same_kind-flips}
+use Rattle.redo_record.proofs.SearchLemmas.{same_way}
 
 pub once-append : (es : List Dep) (d : Dep) → AreOnce es → is_entered es d.kind d.path ≡ false → AreOnce (es ++ d ∷ [])
 once-append [] d once new = (refl, tt)

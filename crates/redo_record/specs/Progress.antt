@@ -36,14 +36,19 @@ Gains source a b = (q : Path) (o : Outcome) → source q ≡ false → a q ≡ S
 -- How a target's progress follows the answers.
 pub record IsLawful (source : Path → Bool) (progress : Ask → Progress) : Type 0 where
   -- it looks at the answers to the paths that it asks for, and at no others
-  pub local : (a b : Ask) → ((q : Path) → IsAmong (operands source (progress a).deps) q → a q ≡ b q) → progress a ≡ progress b
+  pub local : (a b : Ask) → ((q : Path) → IsAmong (operands source (progress a).deps) q → a q ≡ b q) →
+      progress a ≡ progress b
   -- once it ended it has every answer that it asked for
-  pub answered : (q : Path) (a : Ask) (o : Outcome) → (progress a).outcome ≡ Some o → IsAmong (operands source (progress a).deps) q → a q ≡ None → ⊥
+  pub answered : (q : Path) (a : Ask) (o : Outcome) → (progress a).outcome ≡ Some o →
+      IsAmong (operands source (progress a).deps) q → a q ≡ None → ⊥
   -- while it hasn't ended it lacks an answer
-  pub lacking : (a : Ask) → (progress a).outcome ≡ None → (q : Path) × IsAmong (operands source (progress a).deps) q × (a q ≡ None)
+  pub lacking : (a : Ask) → (progress a).outcome ≡ None →
+      (q : Path) × IsAmong (operands source (progress a).deps) q × (a q ≡ None)
   -- with more answers it asks for no fewer paths
-  pub grows : (q : Path) (a b : Ask) → Gains source a b → IsAmong (operands source (progress a).deps) q → IsAmong (operands source (progress b).deps) q
+  pub grows : (q : Path) (a b : Ask) → Gains source a b → IsAmong (operands source (progress a).deps) q →
+      IsAmong (operands source (progress b).deps) q
   -- it waits for all of its operands: while one lacks, more answers leave it where it is
-  pub waits : (q : Path) (a b : Ask) → Gains source a b → IsAmong (operands source (progress a).deps) q → b q ≡ None → progress b ≡ progress a
+  pub waits : (q : Path) (a b : Ask) → Gains source a b → IsAmong (operands source (progress a).deps) q → b q ≡ None →
+      progress b ≡ progress a
   -- it asks for each path once
   pub distinct : (a : Ask) → AreDistinct (operands source (progress a).deps)

@@ -3,7 +3,8 @@
 ghost use Rattle.std.specs.Prelude.{◌≡◌, ◌∷◌, ◌++◌, [], List, IfOk, OnOk, Some, option_copied};
 ghost use Rattle.redo_record.specs.declared.deps.Dep.{Dep};
 ghost use Rattle.redo_record.specs.declared.deps.DepKind.TheVariants as kinds;
-ghost use Rattle.redo_record.specs.Entries.{change_of, creates, entries_of, search_entries, is_entered, with_entries, search_deps, with_all};
+ghost use Rattle.redo_record.specs.Entries.{change_of, creates, entries_of, search_entries, is_entered, with_entries};
+ghost use Rattle.redo_record.specs.Entries.{search_deps, with_all};
 
 use crate::deps::{Dep, DepKind, Deps};
 use redo_path::Path;
@@ -157,7 +158,8 @@ fn add_all(list: &mut Vec<Dep>, own: &[Dep]) -> Result<(), AllocError>
 
 /// Whether the search for a rule entered it already.
 fn is_found(alloc: Global, rule: &Rule, dep: &Dep) -> Result<bool, AllocError>
-    ensures { IfOk result (λ found. found ≡ is_entered (search_entries rule.now.missing (Some rule.now.do_file)) dep.now.kind dep.now.path) }
+    ensures { IfOk result (λ found. found ≡
+        is_entered (search_entries rule.now.missing (Some rule.now.do_file)) dep.now.kind dep.now.path) }
 {
     match dep.kind {
         DepKind::Change => Ok(dep.path == rule.do_file),
@@ -167,7 +169,8 @@ fn is_found(alloc: Global, rule: &Rule, dep: &Dep) -> Result<bool, AllocError>
 
 /// The entries that the search for a rule has not entered already. Mostly these are all of them.
 fn without_found(alloc: Global, rule: &Rule, declared: Deps) -> Result<Deps, AllocError>
-    ensures { IfOk result (λ own. entries_of rule.now.missing (Some rule.now.do_file) own ≡ with_all (search_entries rule.now.missing (Some rule.now.do_file)) declared) }
+    ensures { IfOk result (λ own. entries_of rule.now.missing (Some rule.now.do_file) own ≡
+        with_all (search_entries rule.now.missing (Some rule.now.do_file)) declared) }
 {
     declared.each_once();
     for dep in declared.as_slice() {
@@ -180,7 +183,8 @@ fn without_found(alloc: Global, rule: &Rule, declared: Deps) -> Result<Deps, All
 
 /// Copies of the entries that the search for a rule has not entered already.
 fn new_of(alloc: Global, rule: &Rule, declared: &Deps) -> Result<Deps, AllocError>
-    ensures { IfOk result (λ own. entries_of rule.now.missing (Some rule.now.do_file) own ≡ with_all (search_entries rule.now.missing (Some rule.now.do_file)) declared.now) }
+    ensures { IfOk result (λ own. entries_of rule.now.missing (Some rule.now.do_file) own ≡
+        with_all (search_entries rule.now.missing (Some rule.now.do_file)) declared.now) }
 {
     let mut own = Deps::new(alloc);
     for dep in declared.as_slice() {
@@ -191,7 +195,8 @@ fn new_of(alloc: Global, rule: &Rule, declared: &Deps) -> Result<Deps, AllocErro
 
 /// Adds a copy of an entry, unless the search for a rule has entered it already.
 fn add_new(alloc: Global, rule: &Rule, dep: &Dep, own: &mut Deps) -> Result<(), AllocError>
-    ensures { OnOk result ((rest : List Dep) → with_all (search_entries rule.now.missing (Some rule.now.do_file) ++ own.old) (dep.now ∷ rest)
+    ensures { OnOk result ((rest : List Dep) →
+        with_all (search_entries rule.now.missing (Some rule.now.do_file) ++ own.old) (dep.now ∷ rest)
         ≡ with_all (search_entries rule.now.missing (Some rule.now.do_file) ++ own.new) rest) }
 {
     if is_found(alloc, rule, dep)? {

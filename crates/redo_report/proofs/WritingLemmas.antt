@@ -1,5 +1,6 @@
 -- What is written piece by piece, as far as it went.
-use Rattle.std.proofs.Common.{◌≡◌, ◌<◌, ◌+◌, ◌∙◌, ℕ, zero, suc, drop, slice_index_or, arith, List, [], ◌∷◌, ◌++◌, length, Option, sym, ap, subst, append_assoc}
+use Rattle.std.proofs.Common.{◌≡◌, ◌<◌, ◌+◌, ◌∙◌, ℕ, zero, suc, drop, slice_index_or, arith, List, [], ◌∷◌, ◌++◌}
+use Rattle.std.proofs.Common.{length, Option, sym, ap, subst, append_assoc}
 use Rattle.std.proofs.lemmas.Result.{err_from_is_err_and}
 use Rattle.std.specs.Prelude.{Result, Err, flat_map}
 use Rattle.std.specs.Result.{IsErrAnd}

@@ -1,5 +1,6 @@
 -- The report of a build.
-use Rattle.std.specs.Prelude.{◌≡◌, ℕ, ◌≤◌, ◌↔◌, ◌⊎◌, true, List, [], ◌∷◌, Some, map, All, Contains, length, if◌then◌else◌}
+use Rattle.std.specs.Prelude.{◌≡◌, ℕ, ◌≤◌, ◌↔◌, ◌⊎◌, true, List, [], ◌∷◌, Some, map, All, Contains, length}
+use Rattle.std.specs.Prelude.{if◌then◌else◌}
 use Rattle.std.specs.Ordering.{nat_cmp}
 use Rattle.std.specs.Cmp.Lexicographic.{slice_cmp}
 use Rattle.std.specs.declared.cmp.Ordering.TheVariants.{Less}
@@ -29,7 +30,8 @@ pub record IsReport (r : Rules) (request : List (List ℕ)) (limit : ℕ) (repor
   pub within : length (needed_at r request limit) ≤ limit
   pub rows : (p : List ℕ) → IsAmong (row_paths report) p ↔
       (IsAmong (needed_at r request limit) p ⊎ (IsAmong request p × (r.is_source p ≡ true)))
-  pub outcomes : All (λ row. (row.outcome ≡ final_outcome r limit row.path) × (arc_value row.deps ≡ deps_of r limit row.path)) report.rows.items
+  pub outcomes : All (λ row. (row.outcome ≡ final_outcome r limit row.path) ×
+      (arc_value row.deps ≡ deps_of r limit row.path)) report.rows.items
   pub files : (p bytes : List ℕ) → Contains report.files.items (p, bytes) ↔
       (IsAmong (needed_at r request limit) p × (final_outcome r limit p ≡ Built (Some bytes)))
   pub begun : (p : List ℕ) → IsAmong report.begun.items p ↔

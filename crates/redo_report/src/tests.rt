@@ -1,9 +1,9 @@
 //! The text of reports.
 
 use crate::{Report, Row, report_text, write_report};
+use redo_bundle::Plain;
 use redo_path::{Path, resolve};
 use redo_record::{Dep, DepKind, Deps, Outcome, Record, Why};
-use redo_bundle::Plain;
 use redo_tree::{Content, Tree};
 use redo_which::{Found, lookup};
 use std::alloc::Global;

@@ -1,16 +1,17 @@
-//! The report of a build as text, written piece by piece. Nothing here allocates but [`report_text`], and what keeps the
-//! lines of candidates for the next row.
+//! The report of a build as text, written piece by piece. Nothing here allocates but [`report_text`], and what keeps
+//! the lines of candidates for the next row.
 ghost use Rattle.std.specs.Prelude.{◌≡◌, ◌++◌, ◌∷◌, [], IfOk, codes, false, flat_map, is_err, option_copied};
 ghost use Rattle.redo_record.specs.Entries.{change_of};
 ghost use Rattle.redo_bundle.specs.Bundle.{Writes};
-ghost use Rattle.redo_report.specs.ReportText.{begun_line, dep_line, file_text, outcome_words, path_line, reason_word, report_text, row_text, why_words, word_at};
+ghost use Rattle.redo_report.specs.ReportText.{begun_line, dep_line, file_text, outcome_words, path_line, reason_word};
+ghost use Rattle.redo_report.specs.ReportText.{report_text, row_text, why_words, word_at};
 
 use crate::report::{Report, Row};
 use itoa::Buffer;
+use redo_bundle::{Broken, ByteOut, Plain, write_all, write_parts};
 use redo_path::Path;
 use redo_record::{Dep, DepKind, Outcome, Record, Why};
 use redo_script::{Reason, ScriptFault};
-use redo_bundle::{Broken, ByteOut, Plain, write_all, write_parts};
 use redo_tree::Content;
 use redo_which::Lines;
 use std::alloc::{AllocError, Global};
@@ -30,8 +31,9 @@ pub fn report_text(alloc: Global, report: &Report, with_files: bool) -> Result<V
     }
 }
 
-/// Writes the text that [`report_text`] makes. It goes out in many small pieces, so hand in a writer with a buffer. After a
-/// failure a beginning of the text was written. It needs no memory but to write faster: neighbours' candidates are spelled once.
+/// Writes the text that [`report_text`] makes. It goes out in many small pieces, so hand in a writer with a buffer.
+/// After a failure a beginning of the text was written. It needs no memory but to write faster: neighbours' candidates
+/// are spelled once.
 pub fn write_report<W: ByteOut>(
     out: &mut W,
     report: &Report,

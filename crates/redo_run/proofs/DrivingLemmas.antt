@@ -1,5 +1,6 @@
 -- What a list of picks leads to, as they are performed one after another.
-use Rattle.std.proofs.Common.{◌≡◌, ℕ, zero, suc, ◌+◌, ◌<◌, ◌≤◌, Bool, true, false, not, List, [], ◌∷◌, Some, None, Option, drop, length, refl, sym, ap, subst, ◌∙◌, arith}
+use Rattle.std.proofs.Common.{◌≡◌, ℕ, zero, suc, ◌+◌, ◌<◌, ◌≤◌, Bool, true, false, not, List, [], ◌∷◌, Some, None}
+use Rattle.std.proofs.Common.{Option, drop, length, refl, sym, ap, subst, ◌∙◌, arith}
 use Rattle.std.specs.Prelude.{IsNone, slice_index_or}
 use Rattle.redo_core.specs.Build.{rules_of}
 use Rattle.redo_build.specs.Rules.{Rules}

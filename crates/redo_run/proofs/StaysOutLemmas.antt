@@ -1,15 +1,19 @@
 -- What is out stays out while others are taken and handed in.
-use Rattle.std.proofs.Common.{◌≡◌, ℕ, zero, suc, ◌+◌, ◌⊎◌, inl, inr, List, [], ◌∷◌, ◌++◌, Option, Some, None, true, ◌<◌, length, filter, map, option_and_then, remove, slice_get, refl, sym, ap, subst, ◌∙◌, arith, bytes_eq}
+use Rattle.std.proofs.Common.{◌≡◌, ℕ, zero, suc, ◌+◌, ◌⊎◌, inl, inr, List, [], ◌∷◌, ◌++◌, Option, Some, None, true, ◌<◌}
+use Rattle.std.proofs.Common.{length, filter, map, option_and_then, remove, slice_get, refl, sym, ap, subst, ◌∙◌, arith}
+use Rattle.std.proofs.Common.{bytes_eq}
 use Rattle.std.specs.Prelude.{IsNone, option_map, slice_index_or}
 use Rattle.std.proofs.lemmas.Bool.{cases_Bool, both_ways}
 use Rattle.std.proofs.lemmas.Slice.Eq.{bytes_eq-Decides}
 use Rattle.redo_record.specs.Paths.{IsAmong}
 use Rattle.redo_build.specs.Rules.{Rules, operands}
-use Rattle.redo_build.specs.Schedule.{Entry, State, entry_of, advanced, moved_on, entered, handed_in, happens, put, sent_out, taken, IsOutAt}
+use Rattle.redo_build.specs.Schedule.{Entry, State, entry_of, advanced, moved_on, entered, handed_in, happens, put}
+use Rattle.redo_build.specs.Schedule.{sent_out, taken, IsOutAt}
 use Rattle.redo_build.specs.Schedule.Event.{Take, Hand_in}
 use Rattle.redo_core.specs.Views.{BoardView, PieceView, WorkView, IsWorkTaken, after, jobs_out, rules_on}
 use Rattle.redo_build.proofs.DepthLemmas.{cases_Option}
-use Rattle.redo_build.proofs.SeenLemmas.{entry_of-path, entry_of-among, entry_of-put_same, entry_of-put_other, entry_of-entered_old}
+use Rattle.redo_build.proofs.SeenLemmas.{entry_of-path, entry_of-among, entry_of-put_same, entry_of-put_other}
+use Rattle.redo_build.proofs.SeenLemmas.{entry_of-entered_old}
 use Rattle.redo_run.proofs.RefusalLemmas.{running}
 use Rattle.redo_run.specs.inside.Driving.{AreOut, IsOutOn}
 use Rattle.redo_run.specs.Picks.{Driven, driven_on, targets_of, with_handed_in}

@@ -1,4 +1,5 @@
--- What a run over a directory leaves on its writer. What the directory held is known to no contract: there is some tree.
+-- What a run over a directory leaves on its writer. What the directory held is known to no contract: there is some
+-- tree.
 use Rattle.std.specs.Prelude.{◌≡◌, ◌↔◌, Bool, false, IsTrue, IsSome, ℕ, List, Option, Result, Ok, Err}
 use Rattle.std.specs.Io.KnownBytes.{Appends}
 use Rattle.redo_core.specs.Build.{rules_of}
@@ -29,7 +30,8 @@ pub record ReportsTree (options : Options) (dir : List ℕ) (old new : Option (L
 
 -- a tree needs too many targets
 abbrev pub NeedsTooMany : Options → Type 0
-NeedsTooMany options = (tree : Tree) × IsTooMany (rules_of tree options.limits) (request_in options) options.limits.targets
+NeedsTooMany options =
+    (tree : Tree) × IsTooMany (rules_of tree options.limits) (request_in options) options.limits.targets
 
 -- a tree was loaded, and the writer took the list of the target's candidates in it, and nothing else
 pub record ListsTree (target : List ℕ) (old new : Option (List ℕ)) (found : Bool) (passed : ℕ) : Type 0 where

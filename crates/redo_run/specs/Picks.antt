@@ -1,4 +1,5 @@
--- An order of a build, said by places: which ready target is taken next, and which of the jobs that are out is handed in.
+-- An order of a build, said by places: which ready target is taken next, and which of the jobs that are out is handed
+-- in.
 use Rattle.std.specs.Prelude.{◌≡◌, ℕ, ◌+◌, List, [], ◌∷◌, ◌++◌, Option, Some, None, slice_get, remove, map, option_map}
 use Rattle.redo_core.specs.Build.{rules_of}
 use Rattle.redo_build.specs.Rules.{Rules}
@@ -21,7 +22,8 @@ with_taken r d which target = record { state = happens r d.state (Take which); o
 
 -- the job of the target at a place is handed in
 abbrev pub with_handed_in : Rules → Driven → ℕ → List ℕ → Driven
-with_handed_in r d which target = record { state = handed_in r d.state (entry_of d.state.entries target); out = remove d.out which }
+with_handed_in r d which target =
+    record { state = handed_in r d.state (entry_of d.state.entries target); out = remove d.out which }
 
 -- what a pick leads to; nothing where it isn't open
 abbrev pub picked : Rules → Driven → Pick → Option Driven
@@ -45,7 +47,8 @@ at_opening tree request limits = record { state = opening (rules_of tree limits)
 abbrev pub IsDriven : Tree → List (List ℕ) → LimitsView → List Pick → BoardView → ℕ → Type 0
 IsDriven tree request limits picks board done =
     let end = driven (rules_of tree limits) (at_opening tree request limits) picks in
-    (board ≡ record { tree = tree; request = request; limits = limits; state = end.0.state; stopped = None }) × (done ≡ end.1)
+    (board ≡ record { tree = tree; request = request; limits = limits; state = end.0.state; stopped = None }) ×
+    (done ≡ end.1)
 
 abbrev pub targets_of : List WorkView → List (List ℕ)
 targets_of works = map (λ w. w.target) works

@@ -1,5 +1,6 @@
 -- What a run over a bundle leaves on its writer.
-use Rattle.std.specs.Prelude.{◌≡◌, ◌↔◌, ◌++◌, ◌∷◌, [], ℕ, Bool, true, IsTrue, IsSome, List, Option, Result, Ok, Err, codes}
+use Rattle.std.specs.Prelude.{◌≡◌, ◌↔◌, ◌++◌, ◌∷◌, [], ℕ, Bool, true, IsTrue, IsSome, List, Option, Result, Ok, Err}
+use Rattle.std.specs.Prelude.{codes}
 use Rattle.std.specs.Io.KnownBytes.{Appends}
 use Rattle.redo_core.specs.Build.{rules_of}
 use Rattle.redo_build.specs.Outcomes.{IsTooMany}
@@ -26,7 +27,8 @@ request_in options = request_of options.targets.items
 
 -- the report of the build of a tree, as the options want it
 abbrev pub IsReportFor : Options → Tree → Report → Type 0
-IsReportFor options tree report = IsReport (rules_of tree options.limits) (request_in options) options.limits.targets report
+IsReportFor options tree report =
+    IsReport (rules_of tree options.limits) (request_in options) options.limits.targets report
 
 -- the text is a bundle of a tree, and the writer took the report of its build, and nothing else
 pub record Reports (options : Options) (text : List ℕ) (old new : Option (List ℕ)) (exit : Exit) : Type 0 where
@@ -39,7 +41,9 @@ pub record Reports (options : Options) (text : List ℕ) (old new : Option (List
 
 -- the text is a bundle of a tree that needs too many targets
 abbrev pub NeedsTooMany : Options → List ℕ → Type 0
-NeedsTooMany options text = (tree : Tree) × IsBundle text tree × IsTooMany (rules_of tree options.limits) (request_in options) options.limits.targets
+NeedsTooMany options text =
+    (tree : Tree) × IsBundle text tree ×
+    IsTooMany (rules_of tree options.limits) (request_in options) options.limits.targets
 
 -- the text is a bundle of a tree, and the writer took a beginning of the report of its build
 pub record BreaksOff (options : Options) (text : List ℕ) (old new : Option (List ℕ)) : Type 0 where
@@ -76,10 +80,12 @@ pub record Lists (target text : List ℕ) (old new : Option (List ℕ)) (found :
   pub chosen : IsTrue found ↔ IsSome (chosen_of tree target)
 
 -- the same for a list of candidates, where no targets are built
-abbrev pub ExplainsList : {A : Type 0} → List ℕ → List ℕ → Option (List ℕ) → Option (List ℕ) → Result A RunIoFault → Type 0
+abbrev pub ExplainsList : {A : Type 0} → List ℕ → List ℕ → Option (List ℕ) → Option (List ℕ) → Result A RunIoFault →
+    Type 0
 ExplainsList target text old new (Ok x) = Unit {0}
 ExplainsList target text old new (Err (Bundle fault)) = Reads (Err fault) text
 ExplainsList target text old new (Err TooMany) = ⊥
 ExplainsList target text old new (Err Device) =
-    (tree : Tree) × IsBundle text tree × (out more : List ℕ) × (candidate_text tree target ≡ out ++ more) × Appends old new out
+    (tree : Tree) × IsBundle text tree × (out more : List ℕ) × (candidate_text tree target ≡ out ++ more) ×
+    Appends old new out
 ExplainsList target text old new (Err Memory) = Unit {0}

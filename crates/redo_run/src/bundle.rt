@@ -9,19 +9,19 @@ use crate::exit::exit_after;
 use crate::request::requested;
 use crate::workers::build_many;
 use crate::{Cause, Exit, Gate, Options, RunIoFault};
-use redo_report::write_report;
-use redo_path::Path;
 use redo_bundle::{ByteIn, ByteOut, read_bundle_by_line, write_all};
+use redo_path::Path;
+use redo_report::write_report;
 use redo_which::lookup::search;
 use std::alloc::Global;
 use std::sync::Wait;
 use std::thread::Threads;
 
-/// Reads a bundle to its end, builds the targets of its tree, and writes the report, with the files that were built. The
-/// report is the same for every number of workers. Nothing is written before the build has answered.
+/// Reads a bundle to its end, builds the targets of its tree, and writes the report, with the files that were built.
+/// The report is the same for every number of workers. Nothing is written before the build has answered.
 ///
-/// The report goes out in many small pieces: hand in a writer with a buffer, as `Plain::new` over std's `BufWriter`, and flush
-/// it afterwards.
+/// The report goes out in many small pieces: hand in a writer with a buffer, as `Plain::new` over std's `BufWriter`,
+/// and flush it afterwards.
 pub fn run_bundle<H: Threads + Wait + Sync, R: ByteIn, W: ByteOut, G: Gate>(
     rt: &H,
     alloc: Global,

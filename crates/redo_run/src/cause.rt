@@ -1,7 +1,7 @@
 //! What a run was at when it failed, for messages.
 
-use redo_path::Path;
 use redo_dir::StoreFault;
+use redo_path::Path;
 use redo_tree::Content;
 use std::alloc::Global;
 use std::io::ErrorKind;
@@ -27,7 +27,8 @@ impl Cause {
         }
     }
 
-    /// Notes a file of the list that could not be stored. A path that isn't UTF-8 is a name that the system would refuse.
+    /// Notes a file of the list that could not be stored. A path that isn't UTF-8 is a name that the system would
+    /// refuse.
     pub(crate) fn note_unstored(&mut self, files: &[(Path, Content)], fault: StoreFault) {
         let (place, said) = match fault {
             StoreFault::Device(place, kind) => (place, kind),

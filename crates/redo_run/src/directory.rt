@@ -9,10 +9,10 @@ use crate::exit::exit_after;
 use crate::request::requested;
 use crate::workers::build_many;
 use crate::{Cause, Exit, Gate, Options, RunDirFault};
-use redo_report::write_report;
-use redo_path::Path;
 use redo_bundle::{ByteOut, write_all};
 use redo_dir::{LoadFault, StoreFault, Stored, load_dir, store_files};
+use redo_path::Path;
+use redo_report::write_report;
 use redo_tree::{Content, Tree};
 use redo_which::lookup::search;
 use std::alloc::Global;
@@ -69,12 +69,12 @@ fn store<H: Files>(
     }
 }
 
-/// Reads a directory with all that is below it, builds the targets, writes the files that were built into the directory,
-/// and then writes the report, without the files.
+/// Reads a directory with all that is below it, builds the targets, writes the files that were built into the
+/// directory, and then writes the report, without the files.
 ///
-/// Nothing is written before the build has answered. Where a file can't be stored, those before it in path order were, and
-/// no report is written; where the report can't be written, all files were stored. A file that stands in the directory, one
-/// of an earlier run too, is a source.
+/// Nothing is written before the build has answered. Where a file can't be stored, those before it in path order were,
+/// and no report is written; where the report can't be written, all files were stored. A file that stands in the
+/// directory, one of an earlier run too, is a source.
 ///
 /// The report goes out in many small pieces: hand in a writer with a buffer, and flush it afterwards.
 pub fn run_dir<H: Threads + Wait + Sync + Files, W: ByteOut, G: Gate>(
@@ -113,8 +113,8 @@ pub fn run_dir<H: Threads + Wait + Sync + Files, W: ByteOut, G: Gate>(
     })
 }
 
-/// Reads a directory with all that is below it, and writes the candidates for a target's rule, as `whichdo_bundle` does.
-/// Answers whether one of them is a file, and how many names were passed over.
+/// Reads a directory with all that is below it, and writes the candidates for a target's rule, as `whichdo_bundle`
+/// does. Answers whether one of them is a file, and how many names were passed over.
 pub fn whichdo_dir<H: Files, W: ByteOut>(
     rt: &H,
     alloc: Global,

@@ -7,9 +7,9 @@ ghost use Rattle.redo_build.specs.Rules.{Rules};
 ghost use Rattle.redo_core.specs.inside.Reported.{placed};
 ghost use Rattle.redo_run.specs.Exits.{IsExit, fails, is_made};
 
-use redo_report::{Report, Row};
 use redo_path::Path;
 use redo_record::Outcome;
+use redo_report::{Report, Row};
 use std::alloc::{AllocError, Global};
 use std::collections::BTreeSet;
 
@@ -51,7 +51,8 @@ pub(crate) fn exit_after(
     report: &Report,
     request: &[Path],
 ) -> Result<Exit, AllocError>
-    ensures { (r : Rules) (limit : ℕ) → IsReport r request.now limit report.now → IfOk result (IsExit r limit request.now) }
+    ensures { (r : Rules) (limit : ℕ) → IsReport r request.now limit report.now →
+        IfOk result (IsExit r limit request.now) }
 {
     let wanted = set_of(alloc, request)?;
     if has_failed(&wanted, &report.rows) {

@@ -10,15 +10,15 @@ ghost use Rattle.redo_core.specs.Views.{jobs_out, ready_count, rules_on};
 
 use crate::RunFault;
 use redo_core::board::{Board, HandFault};
-use redo_report::Report;
 use redo_path::Path;
+use redo_report::Report;
 use redo_step::Limits;
 use redo_tree::Tree;
 use std::alloc::Global;
 use std::sync::Arc;
 
-/// Takes the target that became ready last, advances its script, and hands it in. So what was just asked for is built before
-/// more is asked for, and few scripts stand begun at a time.
+/// Takes the target that became ready last, advances its script, and hands it in. So what was just asked for is built
+/// before more is asked for, and few scripts stand begun at a time.
 fn advance_newest(board: &mut Board) -> Result<(), RunFault>
     requires ready { 0 < ready_count board.old }
     requires none_out { jobs_out board.old ≡ 0 }
@@ -27,7 +27,8 @@ fn advance_newest(board: &mut Board) -> Result<(), RunFault>
     ensures none_out { OnOk result (jobs_out board.new ≡ 0) }
     ensures running { OnOk result (IsNone board.new.stopped) }
     ensures left { OnOk result (takes_left board.new.limits.targets board.new.state < takes_left board.old.limits.targets board.old.state) }
-    ensures too_many { result ≡ Err RunFault.TooMany → IsTooMany (rules_on board.old) board.old.request board.old.limits.targets }
+    ensures too_many { result ≡ Err RunFault.TooMany →
+        IsTooMany (rules_on board.old) board.old.request board.old.limits.targets }
 {
     let work = board.take(board.ready() - 1)?;
     let piece = work.advance()?;

@@ -1,7 +1,7 @@
 //! A build in an order that is given beforehand, event by event.
 //!
-//! Workers come to a board in an order that nobody can foresee. [`drive`] makes one order to be looked at: each [`Pick`] says
-//! what happens next, by places alone.
+//! Workers come to a board in an order that nobody can foresee. [`drive`] makes one order to be looked at: each
+//! [`Pick`] says what happens next, by places alone.
 
 ghost use Rattle.std.specs.Prelude.{◌≡◌, Err, IfOk, IsNone, MatchBool, None, OnOk, Some, length};
 ghost use Rattle.redo_core.specs.Build.{rules_of};
@@ -54,7 +54,8 @@ fn hand_in_at(board: &mut Board, out: &mut Vec<Work>, which: usize) -> Result<bo
     ensures build { OnOk result (IsSameBuild board.old board.new) }
     ensures running { OnOk result (IsNone board.new.stopped) }
     ensures out { OnOk result (AreOut board.new out.new.items) }
-    ensures too_many { result ≡ Err RunFault.TooMany → IsTooMany (rules_on board.old) board.old.request board.old.limits.targets }
+    ensures too_many { result ≡ Err RunFault.TooMany →
+        IsTooMany (rules_on board.old) board.old.request board.old.limits.targets }
 {
     if which >= out.len() {
         return Ok(false);
@@ -76,7 +77,8 @@ fn perform(board: &mut Board, out: &mut Vec<Work>, pick: Pick) -> Result<bool, R
     ensures build { OnOk result (IsSameBuild board.old board.new) }
     ensures running { OnOk result (IsNone board.new.stopped) }
     ensures out { OnOk result (AreOut board.new out.new.items) }
-    ensures too_many { result ≡ Err RunFault.TooMany → IsTooMany (rules_on board.old) board.old.request board.old.limits.targets }
+    ensures too_many { result ≡ Err RunFault.TooMany →
+        IsTooMany (rules_on board.old) board.old.request board.old.limits.targets }
 {
     match pick {
         Pick::Take(which) => take_at(board, out, which),
@@ -84,9 +86,9 @@ fn perform(board: &mut Board, out: &mut Vec<Work>, pick: Pick) -> Result<bool, R
     }
 }
 
-/// Opens a board and performs the picks one after another, up to the first that isn't open: a place where nothing is ready, or
-/// nothing is out. Answers the board, whatever is left to do on it, and how many picks were done. With the works that are
-/// still out the board is left as it is; they are lost.
+/// Opens a board and performs the picks one after another, up to the first that isn't open: a place where nothing is
+/// ready, or nothing is out. Answers the board, whatever is left to do on it, and how many picks were done. With the
+/// works that are still out the board is left as it is; they are lost.
 pub fn drive(
     alloc: Global,
     tree: Tree,

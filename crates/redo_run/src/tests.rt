@@ -3,9 +3,9 @@
 ghost use Rattle.std.specs.Prelude.{◌≡◌, ◌≤◌, false, IfOk};
 
 use crate::{Cause, Exit, Gate, NoGate, Options, RunIoFault, run_bundle};
+use redo_bundle::Plain;
 use redo_path::{Path, resolve};
 use redo_step::Limits;
-use redo_bundle::Plain;
 use std::alloc::Global;
 use std::sync::Wait;
 use std::test::Fail;

@@ -1,8 +1,8 @@
 //! Workers round one board.
 //!
 //! The board stands under a lock. A worker takes a job, lets the lock go, advances the script, and hands in how far it
-//! came; one that finds nothing ready sleeps until another has handed in. What a lock keeps is known by its type alone, so
-//! that type names the build, which contracts alone see: no piece is compared with the board when the program runs.
+//! came; one that finds nothing ready sleeps until another has handed in. What a lock keeps is known by its type alone,
+//! so that type names the build, which contracts alone see: no piece is compared with the board when the program runs.
 
 ghost use Rattle.std.specs.Prelude.{◌≡◌, ◌↔◌, ◌<◌, ◌≤◌, true, false, Ok, Err, None, IfOk, IfSome, IsTrue, OnErr};
 ghost use Rattle.redo_core.specs.Build.{rules_of};
@@ -16,9 +16,9 @@ ghost use Rattle.redo_run.specs.inside.Workers.{IsAnswerTo, IsBoardOf, IsPieceOf
 use crate::gate::Gate;
 use crate::run_fault::RunFault;
 use redo_core::board::{Board, HandFault};
-use redo_report::Report;
 use redo_core::work::{Piece, Work};
 use redo_path::Path;
+use redo_report::Report;
 use redo_step::Limits;
 use redo_tree::Tree;
 use std::alloc::{AllocError, Global};
@@ -68,8 +68,8 @@ struct Office<B: Build> {
     moved: Condvar,
 }
 
-/// Doesn't return. No run comes here: each piece that a worker hands in is of a job that it took from the same board, and
-/// workers end only at the end of a run. But no type of what a lock keeps says so.
+/// Doesn't return. No run comes here: each piece that a worker hands in is of a job that it took from the same board,
+/// and workers end only at the end of a run. But no type of what a lock keeps says so.
 fn never<R: Wait>(rt: &R) -> ! {
     for _ in rt.forever() {}
     unreachable!()
@@ -114,7 +114,8 @@ impl<B: Build> Desk<B> {
 
     /// Whether one who has no job is to wait for a change: nothing is ready, but a job is out.
     fn is_waiting(&self) -> bool
-        ensures { IsTrue result ↔ ((self.now.refused ≡ false) × (ready_count self.now.board ≡ 0) × (0 < jobs_out self.now.board)) }
+        ensures { IsTrue result ↔
+            ((self.now.refused ≡ false) × (ready_count self.now.board ≡ 0) × (0 < jobs_out self.now.board)) }
     {
         !self.refused && self.board.ready() == 0 && self.board.out() > 0
     }
@@ -260,9 +261,9 @@ fn run_workers<B: Build + Send + Sync, R: Threads + Wait + Sync, G: Gate>(
     desk.into_inner().answer(rt)
 }
 
-/// Builds the requested targets by so many workers side by side, each in a thread of its own; the caller's thread is one of
-/// them. The report is that of the recursive build in one thread, whatever the workers do when. All threads have ended
-/// when it answers. It answers `Memory` too where a thread could not be started.
+/// Builds the requested targets by so many workers side by side, each in a thread of its own; the caller's thread is
+/// one of them. The report is that of the recursive build in one thread, whatever the workers do when. All threads have
+/// ended when it answers. It answers `Memory` too where a thread could not be started.
 pub fn build_many<R: Threads + Wait + Sync, G: Gate>(
     rt: &R,
     alloc: Global,

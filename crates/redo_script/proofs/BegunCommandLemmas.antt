@@ -1,16 +1,20 @@
 -- Commands as far as they were read, and what is left of them.
-use Rattle.std.proofs.Common.{◌≡◌, ℕ, Bool, true, false, ◌||◌, List, [], ◌∷◌, ◌++◌, Option, Some, None, Result, Ok, Err, refl, sym, ap, ◌∙◌, subst, append_assoc}
+use Rattle.std.proofs.Common.{◌≡◌, ℕ, Bool, true, false, ◌||◌, List, [], ◌∷◌, ◌++◌, Option, Some, None, Result, Ok, Err}
+use Rattle.std.proofs.Common.{refl, sym, ap, ◌∙◌, subst, append_assoc}
 use Rattle.std.proofs.lemmas.List.{append-nil}
 use Rattle.redo_script.specs.declared.fault.ScriptFault.{ScriptFault}
 use Rattle.redo_script.specs.declared.fault.Reason.TheVariants as reasons
 use Rattle.redo_script.specs.Syntax.{Word, Redirection, Command, Condition}
 use Rattle.redo_script.specs.Tokens.{Token, word, redirect}
-use Rattle.redo_script.specs.Grammar.{Item, command_form, condition_form, AtSeparator, IsItems, none_left, one_item, redirected}
-use Rattle.redo_script.specs.Parsing.{Begun, begun, or_shape, is_unfinished, with_word, with_redirect, no_redirection, ended_command, ended_condition}
+use Rattle.redo_script.specs.Grammar.{Item, command_form, condition_form, AtSeparator, IsItems, none_left, one_item}
+use Rattle.redo_script.specs.Grammar.{redirected}
+use Rattle.redo_script.specs.Parsing.{Begun, begun, or_shape, is_unfinished, with_word, with_redirect, no_redirection}
+use Rattle.redo_script.specs.Parsing.{ended_command, ended_condition}
 use Rattle.redo_script.specs.Refusals.{in_line, HasNoForm, HasNoTest}
 use Rattle.redo_script.proofs.BitLemmas.{never}
 use Rattle.redo_script.proofs.NameLemmas.{item, none_some}
-use Rattle.redo_script.proofs.FoundScriptLemmas.{Takes, TakesOf, state, word_continues, redirect_continues, shape_ok, takes_end}
+use Rattle.redo_script.proofs.FoundScriptLemmas.{Takes, TakesOf, state, word_continues, redirect_continues, shape_ok}
+use Rattle.redo_script.proofs.FoundScriptLemmas.{takes_end}
 
 items_word : {us rest : List Token} {others : List Item} {r : Option Redirection} (k : ℕ) (p : Bool) (w : Word) (ts : List Token) → IsItems us others r rest → us ≡ word k p w ∷ ts → (more : List Item) × (others ≡ item p w ∷ more) × IsItems ts more r rest
 items_word k p w ts (none_left a) e = absurd (subst AtSeparator e a)

@@ -1,5 +1,6 @@
 -- What is wrong with a text is never want of memory.
-use Rattle.std.proofs.Common.{◌≡◌, ◌≢◌, ◌⊎◌, ℕ, Bool, true, false, if◌then◌else◌, List, [], ◌∷◌, Option, Some, None, Result, Ok, Err, refl, inl, inr}
+use Rattle.std.proofs.Common.{◌≡◌, ◌≢◌, ◌⊎◌, ℕ, Bool, true, false, if◌then◌else◌, List, [], ◌∷◌, Option, Some, None}
+use Rattle.std.proofs.Common.{Result, Ok, Err, refl, inl, inr}
 use Rattle.std.specs.Prelude.{codes, nat_lt, ◌==◌}
 use Rattle.redo_script.specs.declared.fault.ScriptFault.{ScriptFault}
 use Rattle.redo_script.specs.declared.fault.Reason.TheVariants as reasons
@@ -7,7 +8,11 @@ use Rattle.redo_script.specs.Faults.{◌>>=◌}
 use Rattle.redo_script.specs.Syntax.{Script}
 use Rattle.redo_script.specs.Tokens.{Token, word, semicolon, newline, redirect, line_after}
 use Rattle.redo_script.specs.Grammar.{Item, is_named, command_form, condition_form}
-use Rattle.redo_script.specs.Parsing.{Begun, Phase, at_command, in_command, behind_if, in_condition, before_then, behind_fi, Open, Parser, is_empty, is_one_of, commands, words_outside, or_shape, is_unfinished, no_redirection, ended_command, ended_condition, with_command, with_condition, length_of, at_else, at_fi, first_word, next_token, unless_open, end_by_phase, parse_on, statements_of}
+use Rattle.redo_script.specs.Parsing.{Begun, Phase, at_command, in_command, behind_if, in_condition, before_then}
+use Rattle.redo_script.specs.Parsing.{behind_fi, Open, Parser, is_empty, is_one_of, commands, words_outside, or_shape}
+use Rattle.redo_script.specs.Parsing.{is_unfinished, no_redirection, ended_command, ended_condition, with_command}
+use Rattle.redo_script.specs.Parsing.{with_condition, length_of, at_else, at_fi, first_word, next_token, unless_open}
+use Rattle.redo_script.specs.Parsing.{end_by_phase, parse_on, statements_of}
 use Rattle.redo_script.specs.Reading.{tokens_of}
 use Rattle.redo_script.specs.Places.{StopsAtByte, StopsAtEnd}
 use Rattle.redo_script.specs.Texts.{nul_from, interpreter_is_fit, interpreter_of, script_in}

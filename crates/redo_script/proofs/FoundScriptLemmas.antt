@@ -1,5 +1,6 @@
 -- What is read without a fault is a program by the grammar, with this tree.
-use Rattle.std.proofs.Common.{◌≡◌, ◌⊎◌, ℕ, suc, ◌<◌, Bool, true, false, ◌||◌, List, [], ◌∷◌, ◌++◌, Option, Some, None, Result, Ok, refl, sym, ap, ◌∙◌, subst, append_assoc, inl, inr}
+use Rattle.std.proofs.Common.{◌≡◌, ◌⊎◌, ℕ, suc, ◌<◌, Bool, true, false, ◌||◌, List, [], ◌∷◌, ◌++◌, Option, Some, None}
+use Rattle.std.proofs.Common.{Result, Ok, refl, sym, ap, ◌∙◌, subst, append_assoc, inl, inr}
 use Rattle.std.specs.Prelude.{codes, nat_lt}
 use Rattle.std.proofs.lemmas.List.{append-nil}
 use Rattle.std.proofs.lemmas.Bool.{cases_Bool, both_ways, ltb-true}
@@ -8,8 +9,15 @@ use Rattle.redo_script.specs.declared.fault.Reason.TheVariants as reasons
 use Rattle.redo_script.specs.Faults.{◌>>=◌, fault_at}
 use Rattle.redo_script.specs.Syntax.{Word, Redirection, Command, Condition, Script, finish, simple, choice}
 use Rattle.redo_script.specs.Tokens.{Token, word, semicolon, newline, redirect}
-use Rattle.redo_script.specs.Grammar.{Item, spells, command_form, condition_form, AtSeparator, IsItems, none_left, one_item, redirected, SkipsNewlines, here, past, Separates, by_semicolon, by_newline, IsKeyword, keyword, opens_if, IsCommand, a_command, if_then, if_else, IsBlock, after_newlines, last, more, empty, unended, continues, IsProgram}
-use Rattle.redo_script.specs.Parsing.{Begun, Phase, at_command, in_command, behind_if, in_condition, before_then, behind_fi, Open, Parser, is_empty, with_last, is_one_of, commands, words_outside, begun, length_of, closed, or_shape, is_unfinished, with_word, with_redirect, no_redirection, parse_on, statements_of, with_command, with_condition, ended_command, ended_condition, unless_open}
+use Rattle.redo_script.specs.Grammar.{Item, spells, command_form, condition_form, AtSeparator, IsItems, none_left}
+use Rattle.redo_script.specs.Grammar.{one_item, redirected, SkipsNewlines, here, past, Separates, by_semicolon}
+use Rattle.redo_script.specs.Grammar.{by_newline, IsKeyword, keyword, opens_if, IsCommand, a_command, if_then, if_else}
+use Rattle.redo_script.specs.Grammar.{IsBlock, after_newlines, last, more, empty, unended, continues, IsProgram}
+use Rattle.redo_script.specs.Parsing.{Begun, Phase, at_command, in_command, behind_if, in_condition, before_then}
+use Rattle.redo_script.specs.Parsing.{behind_fi, Open, Parser, is_empty, with_last, is_one_of, commands, words_outside}
+use Rattle.redo_script.specs.Parsing.{begun, length_of, closed, or_shape, is_unfinished, with_word, with_redirect}
+use Rattle.redo_script.specs.Parsing.{no_redirection, parse_on, statements_of, with_command, with_condition}
+use Rattle.redo_script.specs.Parsing.{ended_command, ended_condition, unless_open}
 use Rattle.redo_script.proofs.BitLemmas.{never, injected, bind_ok}
 use Rattle.redo_script.proofs.NameLemmas.{item, spells_is, none_some}
 use Rattle.redo_script.specs.Refusals.{conditions}

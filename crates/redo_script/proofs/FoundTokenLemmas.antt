@@ -1,5 +1,6 @@
 -- What is read without a fault has these tokens by the grammar.
-use Rattle.std.proofs.Common.{◌≡◌, ◌≢◌, ◌⊎◌, ℕ, suc, Bool, true, false, ◌&&◌, ◌==◌, List, [], ◌∷◌, ◌++◌, Ok, refl, sym, ap, ◌∙◌, subst, append_assoc, inl, inr}
+use Rattle.std.proofs.Common.{◌≡◌, ◌≢◌, ◌⊎◌, ℕ, suc, Bool, true, false, ◌&&◌, ◌==◌, List, [], ◌∷◌, ◌++◌, Ok, refl, sym}
+use Rattle.std.proofs.Common.{ap, ◌∙◌, subst, append_assoc, inl, inr}
 use Rattle.std.proofs.lemmas.List.{append-nil}
 use Rattle.std.proofs.lemmas.Bool.{cases_Bool, cases_eq, eqb-true, ne_eqb, or_cases, and_left, and_right}
 use Rattle.redo_script.specs.declared.lexer.Mode.{Mode}
@@ -8,11 +9,17 @@ use Rattle.redo_script.specs.declared.ast.Parameter.{Parameter}
 use Rattle.redo_script.specs.declared.ast.Parameter.TheVariants.{One, Two, Three}
 use Rattle.redo_script.specs.Bytes.{is_digit, is_plain, is_blank}
 use Rattle.redo_script.specs.Syntax.{byte, quoted, bare, Word}
-use Rattle.redo_script.specs.Tokens.{Token, word, semicolon, newline, redirect, Names, one, two, three, IsGap, IsComment, IsWord, IsSingle, IsDouble, AreTokens, IsNotBefore, begins_word, ends_word, is_escaped, line_after, numbers_redirection, digits_then, nothing, blank, line_end, comment, separator, truncates, appends, a_word, at_end, goes_on, at_newline, ends, plain, opens_single, opens_double, parameter, closes, stands, closes_double, stands_double, in_double, escapes, backslash}
+use Rattle.redo_script.specs.Tokens.{Token, word, semicolon, newline, redirect, Names, one, two, three, IsGap}
+use Rattle.redo_script.specs.Tokens.{IsComment, IsWord, IsSingle, IsDouble, AreTokens, IsNotBefore, begins_word}
+use Rattle.redo_script.specs.Tokens.{ends_word, is_escaped, line_after, numbers_redirection, digits_then, nothing}
+use Rattle.redo_script.specs.Tokens.{blank, line_end, comment, separator, truncates, appends, a_word, at_end, goes_on}
+use Rattle.redo_script.specs.Tokens.{at_newline, ends, plain, opens_single, opens_double, parameter, closes, stands}
+use Rattle.redo_script.specs.Tokens.{closes_double, stands_double, in_double, escapes, backslash}
 use Rattle.redo_script.specs.Reading.{Reader, read_on, tokens_of, at_start, at_end as text_end}
 use Rattle.redo_script.proofs.BitLemmas.{never, injected, not_same, and_true, and_false, number_back}
 use Rattle.redo_script.proofs.OneByteLemmas
-use Rattle.redo_script.proofs.OneByteLemmas.{at, ill, token_more, word_more, symbol_more, byte_more, word_begun, opened_at}
+use Rattle.redo_script.proofs.OneByteLemmas.{at, ill, token_more, word_more, symbol_more, byte_more, word_begun}
+use Rattle.redo_script.proofs.OneByteLemmas.{opened_at}
 
 -- From this place on the bytes have tokens by the grammar, and behind those so far they are ts.
 record InGap (l : ℕ) (r : Reader) (bs : List ℕ) (ts : List Token) : Type 0 where

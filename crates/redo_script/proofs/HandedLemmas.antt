@@ -1,5 +1,6 @@
 -- Tokens that are handed over before reading goes on.
-use Rattle.std.proofs.Common.{◌≡◌, ℕ, Bool, true, false, cond, ◌&&◌, ◌==◌, List, [], ◌∷◌, ◌++◌, Option, Some, None, Result, Ok, Err, refl, sym, ap, ◌∙◌, append_assoc, inl, inr}
+use Rattle.std.proofs.Common.{◌≡◌, ℕ, Bool, true, false, cond, ◌&&◌, ◌==◌, List, [], ◌∷◌, ◌++◌, Option, Some, None}
+use Rattle.std.proofs.Common.{Result, Ok, Err, refl, sym, ap, ◌∙◌, append_assoc, inl, inr}
 use Rattle.std.proofs.lemmas.Bool.{cases_Bool}
 use Rattle.redo_script.specs.declared.fault.ScriptFault.{ScriptFault}
 use Rattle.redo_script.specs.declared.ast.Parameter.{Parameter}
@@ -14,7 +15,9 @@ use Rattle.redo_script.specs.inside.Passes.{IsOn, Follows}
 use Rattle.redo_script.specs.inside.Lexer.{with_no_tokens}
 use Rattle.redo_script.specs.Parsing.{statements_of}
 use Rattle.std.proofs.lemmas.List.{append-nil}
-use Rattle.redo_script.specs.Reading.{tokens_of, Reader, with_token, unsupported, with_begun_word, word_byte, gap_byte, with_word, in_word, with_parameter, parameter_named, by_mode, next_byte, end_by_mode, at_end, read_on}
+use Rattle.redo_script.specs.Reading.{tokens_of, Reader, with_token, unsupported, with_begun_word, word_byte, gap_byte}
+use Rattle.redo_script.specs.Reading.{with_word, in_word, with_parameter, parameter_named, by_mode, next_byte}
+use Rattle.redo_script.specs.Reading.{end_by_mode, at_end, read_on}
 
 -- these tokens before those so far
 abbrev pub over : List Token → Reader → Reader

@@ -1,5 +1,6 @@
 -- What one byte does to reading, by the place where it stands.
-use Rattle.std.proofs.Common.{◌≡◌, ◌≢◌, ℕ, suc, Bool, true, false, ◌&&◌, ◌||◌, ◌==◌, List, [], ◌∷◌, ◌++◌, Ok, Some, refl, sym, ap, add-one}
+use Rattle.std.proofs.Common.{◌≡◌, ◌≢◌, ℕ, suc, Bool, true, false, ◌&&◌, ◌||◌, ◌==◌, List, [], ◌∷◌, ◌++◌, Ok, Some}
+use Rattle.std.proofs.Common.{refl, sym, ap, add-one}
 use Rattle.std.specs.Prelude.{codes}
 use Rattle.std.proofs.lemmas.List.{append-nil}
 use Rattle.std.proofs.lemmas.Bool.{ne_eqb, or_parts}
@@ -10,7 +11,8 @@ use Rattle.redo_script.specs.declared.ast.Parameter.{Parameter}
 use Rattle.redo_script.specs.Bytes.{is_digit, is_letter, is_among, is_plain, is_blank}
 use Rattle.redo_script.specs.Faults.{fault_at}
 use Rattle.redo_script.specs.Syntax.{Symbol, byte, quoted, bare}
-use Rattle.redo_script.specs.Tokens.{Token, word, semicolon, newline, redirect, Names, one, two, three, begins_word, ends_word, is_escaped, line_after, digits_then, AtWordEnd, IsNotBefore}
+use Rattle.redo_script.specs.Tokens.{Token, word, semicolon, newline, redirect, Names, one, two, three, begins_word}
+use Rattle.redo_script.specs.Tokens.{ends_word, is_escaped, line_after, digits_then, AtWordEnd, IsNotBefore}
 use Rattle.redo_script.specs.Reading.{Reader, next_byte, at_end, read_on, parameter_named}
 use Rattle.redo_script.proofs.BitLemmas.{not_same, not_in, no_number}
 

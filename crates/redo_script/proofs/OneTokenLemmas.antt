@@ -1,12 +1,16 @@
 -- What tokens do to the reading of statements, by the place where they stand.
-use Rattle.std.proofs.Common.{◌≡◌, ℕ, ◌<◌, Bool, true, false, List, [], ◌∷◌, ◌++◌, Option, Some, None, refl, sym, ap, ◌∙◌, append_assoc, map}
+use Rattle.std.proofs.Common.{◌≡◌, ℕ, ◌<◌, Bool, true, false, List, [], ◌∷◌, ◌++◌, Option, Some, None, refl, sym, ap}
+use Rattle.std.proofs.Common.{◌∙◌, append_assoc, map}
 use Rattle.std.specs.Prelude.{codes}
 use Rattle.std.proofs.lemmas.List.{append-nil}
 use Rattle.std.proofs.lemmas.Bool.{lt-ltb}
 use Rattle.redo_script.specs.Syntax.{byte, Word, Redirection, Command, Condition, Script, finish, simple}
 use Rattle.redo_script.specs.Tokens.{Token, word, semicolon, newline, redirect}
-use Rattle.redo_script.specs.Grammar.{Item, spells, is_named, command_form, condition_form, AtSeparator, IsItems, none_left, one_item, redirected, SkipsNewlines, here, past, Separates, by_semicolon, by_newline, IsKeyword, keyword}
-use Rattle.redo_script.specs.Parsing.{Begun, at_command, in_command, in_condition, before_then, behind_fi, Open, Parser, is_empty, with_last, is_one_of, commands, length_of, closed, parse_on}
+use Rattle.redo_script.specs.Grammar.{Item, spells, is_named, command_form, condition_form, AtSeparator, IsItems}
+use Rattle.redo_script.specs.Grammar.{none_left, one_item, redirected, SkipsNewlines, here, past, Separates}
+use Rattle.redo_script.specs.Grammar.{by_semicolon, by_newline, IsKeyword, keyword}
+use Rattle.redo_script.specs.Parsing.{Begun, at_command, in_command, in_condition, before_then, behind_fi, Open, Parser}
+use Rattle.redo_script.specs.Parsing.{is_empty, with_last, is_one_of, commands, length_of, closed, parse_on}
 use Rattle.redo_script.proofs.NameLemmas.{item, spells_is, not_named}
 use Rattle.redo_script.specs.Refusals.{conditions}
 

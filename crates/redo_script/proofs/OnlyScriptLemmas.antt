@@ -2,10 +2,13 @@
 use Rattle.std.proofs.Common.{◌≡◌, ℕ, suc, ◌<◌, true, false, List, [], ◌∷◌, Some, None, Ok, refl, sym, ap, ◌∙◌, subst}
 use Rattle.redo_script.specs.Syntax.{Script, finish, simple, choice}
 use Rattle.redo_script.specs.Tokens.{Token}
-use Rattle.redo_script.specs.Grammar.{AtSeparator, OpensIf, opens_if, IsCommand, a_command, if_then, if_else, IsBlock, after_newlines, IsList, last, more, IsWhole, empty, unended, continues, IsProgram}
+use Rattle.redo_script.specs.Grammar.{AtSeparator, OpensIf, opens_if, IsCommand, a_command, if_then, if_else, IsBlock}
+use Rattle.redo_script.specs.Grammar.{after_newlines, IsList, last, more, IsWhole, empty, unended, continues, IsProgram}
 use Rattle.redo_script.specs.Parsing.{Open, is_empty, with_last, length_of, parse_on, statements_of}
 use Rattle.redo_script.proofs.NameLemmas.{item, command_named, condition_named}
-use Rattle.redo_script.proofs.OneTokenLemmas.{in_place, behind, opened, items_read, condition_items_read, command_ends, separates_at, newlines_read, separators_read, condition_ends, then_read, fi_read, else_read, command_begins, if_begins}
+use Rattle.redo_script.proofs.OneTokenLemmas.{in_place, behind, opened, items_read, condition_items_read, command_ends}
+use Rattle.redo_script.proofs.OneTokenLemmas.{separates_at, newlines_read, separators_read, condition_ends, then_read}
+use Rattle.redo_script.proofs.OneTokenLemmas.{fi_read, else_read, command_begins, if_begins}
 
 pub with_finish : (s : Script) → with_last s finish ≡ s
 with_finish finish = refl

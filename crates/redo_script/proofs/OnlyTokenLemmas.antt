@@ -1,11 +1,16 @@
 -- What has tokens by the grammar is read, as these tokens.
-use Rattle.std.proofs.Common.{◌≡◌, ℕ, Bool, true, false, ◌&&◌, ◌==◌, if◌then◌else◌, List, [], ◌∷◌, ◌++◌, Result, Ok, refl, ap, ◌∙◌, append_assoc}
+use Rattle.std.proofs.Common.{◌≡◌, ℕ, Bool, true, false, ◌&&◌, ◌==◌, if◌then◌else◌, List, [], ◌∷◌, ◌++◌, Result, Ok}
+use Rattle.std.proofs.Common.{refl, ap, ◌∙◌, append_assoc}
 use Rattle.std.proofs.lemmas.List.{append-nil}
 use Rattle.redo_script.specs.declared.fault.ScriptFault.{ScriptFault}
 use Rattle.redo_script.specs.declared.lexer.Mode.TheVariants as modes
 use Rattle.redo_script.specs.Syntax.{byte, quoted, bare, Word}
 use Rattle.redo_script.specs.Tokens
-use Rattle.redo_script.specs.Tokens.{Token, word, semicolon, newline, redirect, IsGap, IsComment, IsWord, IsSingle, IsDouble, AreTokens, digits_then, nothing, blank, line_end, comment, separator, truncates, appends, a_word, at_end, goes_on, at_newline, ends, plain, opens_single, opens_double, parameter, closes, stands, closes_double, stands_double, in_double, escapes, backslash}
+use Rattle.redo_script.specs.Tokens.{Token, word, semicolon, newline, redirect, IsGap, IsComment, IsWord, IsSingle}
+use Rattle.redo_script.specs.Tokens.{IsDouble, AreTokens, digits_then, nothing, blank, line_end, comment, separator}
+use Rattle.redo_script.specs.Tokens.{truncates, appends, a_word, at_end, goes_on, at_newline, ends, plain, opens_single}
+use Rattle.redo_script.specs.Tokens.{opens_double, parameter, closes, stands, closes_double, stands_double, in_double}
+use Rattle.redo_script.specs.Tokens.{escapes, backslash}
 use Rattle.redo_script.specs.Reading.{Reader, read_on, tokens_of, at_end as text_end}
 use Rattle.redo_script.proofs.BitLemmas.{and_true, and_false, number_on, not_same}
 use Rattle.redo_script.specs.Bytes.{is_digit, is_plain}

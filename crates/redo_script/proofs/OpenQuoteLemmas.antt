@@ -1,5 +1,6 @@
 -- Quotes that are open at the end of a text.
-use Rattle.std.proofs.Common.{◌≡◌, ◌⊎◌, ℕ, Bool, true, false, ◌&&◌, ◌==◌, if◌then◌else◌, List, Option, Some, None, Result, Ok, Err, refl, sym, ◌∙◌, ap, inl, inr}
+use Rattle.std.proofs.Common.{◌≡◌, ◌⊎◌, ℕ, Bool, true, false, ◌&&◌, ◌==◌, if◌then◌else◌, List, Option, Some, None}
+use Rattle.std.proofs.Common.{Result, Ok, Err, refl, sym, ◌∙◌, ap, inl, inr}
 use Rattle.std.proofs.lemmas.Bool.{eqb-true}
 use Rattle.redo_script.specs.declared.ast.Parameter.{Parameter}
 use Rattle.redo_script.specs.declared.fault.ScriptFault.{ScriptFault}
@@ -8,7 +9,8 @@ use Rattle.redo_script.specs.declared.lexer.Mode.TheVariants as modes
 use Rattle.redo_script.specs.Bytes.{is_plain, is_blank}
 use Rattle.redo_script.specs.Syntax.{bare, quoted}
 use Rattle.redo_script.specs.Tokens.{Token, redirect, ends_word, is_escaped}
-use Rattle.redo_script.specs.Reading.{Reader, with_token, with_begun_word, with_word, word_byte, gap_byte, in_word, parameter_named, with_parameter, with_symbol, next_byte, at_end}
+use Rattle.redo_script.specs.Reading.{Reader, with_token, with_begun_word, with_word, word_byte, gap_byte, in_word}
+use Rattle.redo_script.specs.Reading.{parameter_named, with_parameter, with_symbol, next_byte, at_end}
 use Rattle.redo_script.proofs.BitLemmas.{never, injected}
 use Rattle.redo_script.proofs.OneByteLemmas.{at}
 

@@ -1,5 +1,7 @@
 -- What runs of bytes in quotes do to reading.
-use Rattle.std.proofs.Common.{◌≡◌, ℕ, zero, suc, ◌<◌, ◌≤◌, ◌+◌, ◌-◌, drop, Bool, true, false, not, ◌==◌, List, [], ◌∷◌, ◌++◌, map, take, length, get_or, add-one, refl, sym, ap, ◌∙◌, append_assoc, arith, ◌⊎◌, inl, inr, Some, Result, Ok}
+use Rattle.std.proofs.Common.{◌≡◌, ℕ, zero, suc, ◌<◌, ◌≤◌, ◌+◌, ◌-◌, drop, Bool, true, false, not, ◌==◌, List, [], ◌∷◌}
+use Rattle.std.proofs.Common.{◌++◌, map, take, length, get_or, add-one, refl, sym, ap, ◌∙◌, append_assoc, arith, ◌⊎◌}
+use Rattle.std.proofs.Common.{inl, inr, Some, Result, Ok}
 use Rattle.std.proofs.lemmas.List.{append-nil, map-append, take_all}
 use Rattle.std.proofs.lemmas.Bool.{and_parts, or_parts, or_cases, both_ways, eq-eqb, eqb-true}
 use Rattle.redo_script.specs.declared.lexer.Mode.{Mode}
@@ -14,7 +16,9 @@ use Rattle.redo_script.specs.Reading.{Reader, read_on, parameter_named, with_sym
 use Rattle.redo_script.specs.inside.Runs.{is_special, is_quote, all_quotable, ends_plainly}
 use Rattle.redo_script.specs.inside.Lexer.{with_quoted}
 use Rattle.redo_script.proofs.BitLemmas.{injected}
-use Rattle.redo_script.proofs.OneByteLemmas.{at, symbol_more, single_byte, double_byte, word_begun, opened_at, gap_word, word_single, word_double, single_closes, double_closes, double_dollar, quoted_dollar_read, word_ends}
+use Rattle.redo_script.proofs.OneByteLemmas.{at, symbol_more, single_byte, double_byte, word_begun, opened_at, gap_word}
+use Rattle.redo_script.proofs.OneByteLemmas.{word_single, word_double, single_closes, double_closes, double_dollar}
+use Rattle.redo_script.proofs.OneByteLemmas.{quoted_dollar_read, word_ends}
 use Rattle.redo_script.proofs.RunLemmas.{in_mode, ends, head_on}
 use Rattle.redo_script.specs.Bytes.{is_plain}
 

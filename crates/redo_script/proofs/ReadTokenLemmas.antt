@@ -1,5 +1,6 @@
 -- Reading token after token, as a loop does.
-use Rattle.std.proofs.Common.{◌≡◌, ◌≢◌, false, List, [], ◌∷◌, Option, Some, None, Result, Ok, Err, refl, sym, ap, inl, inr}
+use Rattle.std.proofs.Common.{◌≡◌, ◌≢◌, false, List, [], ◌∷◌, Option, Some, None, Result, Ok, Err, refl, sym, ap, inl}
+use Rattle.std.proofs.Common.{inr}
 use Rattle.std.specs.Option.{is_some}
 use Rattle.redo_script.specs.declared.fault.ScriptFault.{ScriptFault}
 use Rattle.redo_script.specs.declared.parser.Statements.{Statements}

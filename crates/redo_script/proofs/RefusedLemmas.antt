@@ -1,5 +1,6 @@
 -- Tokens that are no program have the fault of the table.
-use Rattle.std.proofs.Common.{◌≡◌, ℕ, suc, ◌<◌, ◌≤◌, Bool, true, false, List, [], ◌∷◌, length, Option, Some, None, Result, Ok, Err, refl, sym, ap, ◌∙◌, subst, inl, inr}
+use Rattle.std.proofs.Common.{◌≡◌, ℕ, suc, ◌<◌, ◌≤◌, Bool, true, false, List, [], ◌∷◌, length, Option, Some, None}
+use Rattle.std.proofs.Common.{Result, Ok, Err, refl, sym, ap, ◌∙◌, subst, inl, inr}
 use Rattle.std.specs.Prelude.{codes, nat_lt}
 use Rattle.std.proofs.lemmas.Bool.{cases_Bool, both_ways, ltb-true, ltb-false}
 use Rattle.redo_script.specs.declared.fault.ScriptFault.{ScriptFault}
@@ -7,15 +8,28 @@ use Rattle.redo_script.specs.declared.fault.Reason.TheVariants as reasons
 use Rattle.redo_script.specs.Faults.{◌>>=◌, fault_at}
 use Rattle.redo_script.specs.Syntax.{Word, Command, Condition, Script, finish, simple, choice}
 use Rattle.redo_script.specs.Tokens.{Token, word, semicolon, newline, redirect}
-use Rattle.redo_script.specs.Grammar.{Item, spells, condition_form, AtSeparator, IsItems, SkipsNewlines, here, past, Separates, by_semicolon, by_newline, IsKeyword, keyword, opens_if, IsCommand, a_command, if_then, if_else, IsBlock, after_newlines, IsList, last, more}
-use Rattle.redo_script.specs.Parsing.{Begun, Phase, at_command, in_command, behind_if, in_condition, before_then, behind_fi, Open, is_empty, with_last, is_one_of, commands, words_outside, begun, length_of, closed, with_word, with_redirect, parse_on, statements_of, with_command, with_condition, ended_command, ended_condition, unless_open}
-use Rattle.redo_script.specs.Refusals.{OpenIf, IsPart, bare, full, IsOpened, to_then, to_else, IsPlace, outside, inside, in_line, conditions, AtCondition, IsNoThen, line_of, HasNoForm, HasNoTest, MayElse, MayEnd, HasCondition, a_condition, IsWrong, a_separator, a_redirection, too_deep, no_condition, no_test, no_then, ends_before_then, then_alone, no_else_here, no_fi_here, ends_inside, ends_behind, left_out, unknown, no_form, FaultStands}
+use Rattle.redo_script.specs.Grammar.{Item, spells, condition_form, AtSeparator, IsItems, SkipsNewlines, here, past}
+use Rattle.redo_script.specs.Grammar.{Separates, by_semicolon, by_newline, IsKeyword, keyword, opens_if, IsCommand}
+use Rattle.redo_script.specs.Grammar.{a_command, if_then, if_else, IsBlock, after_newlines, IsList, last, more}
+use Rattle.redo_script.specs.Parsing.{Begun, Phase, at_command, in_command, behind_if, in_condition, before_then}
+use Rattle.redo_script.specs.Parsing.{behind_fi, Open, is_empty, with_last, is_one_of, commands, words_outside, begun}
+use Rattle.redo_script.specs.Parsing.{length_of, closed, with_word, with_redirect, parse_on, statements_of}
+use Rattle.redo_script.specs.Parsing.{with_command, with_condition, ended_command, ended_condition, unless_open}
+use Rattle.redo_script.specs.Refusals.{OpenIf, IsPart, bare, full, IsOpened, to_then, to_else, IsPlace, outside, inside}
+use Rattle.redo_script.specs.Refusals.{in_line, conditions, AtCondition, IsNoThen, line_of, HasNoForm, HasNoTest}
+use Rattle.redo_script.specs.Refusals.{MayElse, MayEnd, HasCondition, a_condition, IsWrong, a_separator, a_redirection}
+use Rattle.redo_script.specs.Refusals.{too_deep, no_condition, no_test, no_then, ends_before_then, then_alone}
+use Rattle.redo_script.specs.Refusals.{no_else_here, no_fi_here, ends_inside, ends_behind, left_out, unknown, no_form}
+use Rattle.redo_script.specs.Refusals.{FaultStands}
 use Rattle.redo_script.specs.Refusals as refusals
 use Rattle.redo_script.proofs.BitLemmas.{never}
 use Rattle.redo_script.proofs.NameLemmas.{item}
 use Rattle.redo_script.proofs.OneTokenLemmas.{in_place, opened, else_read, command_begins}
-use Rattle.redo_script.proofs.BegunCommandLemmas.{IsBegun, begins, goes_word, goes_redirect, ends_well, EndsTest, ends_test, ends_ill, test_ill}
-use Rattle.redo_script.proofs.FoundScriptLemmas.{if_opens, if_too_deep, then_out, else_alone, else_twice, else_early, fi_alone, fi_early, fi_closes, name_outside, name_unknown, skips_both, separates_on, parser}
+use Rattle.redo_script.proofs.BegunCommandLemmas.{IsBegun, begins, goes_word, goes_redirect, ends_well, EndsTest}
+use Rattle.redo_script.proofs.BegunCommandLemmas.{ends_test, ends_ill, test_ill}
+use Rattle.redo_script.proofs.FoundScriptLemmas.{if_opens, if_too_deep, then_out, else_alone, else_twice, else_early}
+use Rattle.redo_script.proofs.FoundScriptLemmas.{fi_alone, fi_early, fi_closes, name_outside, name_unknown, skips_both}
+use Rattle.redo_script.proofs.FoundScriptLemmas.{separates_on, parser}
 
 -- A command, and what follows it
 

@@ -1,5 +1,6 @@
 -- Tokens that have a fault of the table are refused with it.
-use Rattle.std.proofs.Common.{◌≡◌, ℕ, suc, ◌<◌, ◌≤◌, Bool, true, false, List, [], ◌∷◌, length, Option, Some, None, Result, Ok, Err, refl, sym, ap, ◌∙◌, subst, inl, inr, map}
+use Rattle.std.proofs.Common.{◌≡◌, ℕ, suc, ◌<◌, ◌≤◌, Bool, true, false, List, [], ◌∷◌, length, Option, Some, None}
+use Rattle.std.proofs.Common.{Result, Ok, Err, refl, sym, ap, ◌∙◌, subst, inl, inr, map}
 use Rattle.std.specs.Prelude.{codes}
 use Rattle.std.proofs.lemmas.Bool.{cases_Bool, lt-ltb, le-ltb, or_parts}
 use Rattle.redo_script.specs.declared.fault.ScriptFault.{ScriptFault}
@@ -7,13 +8,25 @@ use Rattle.redo_script.specs.declared.fault.Reason.TheVariants as reasons
 use Rattle.redo_script.specs.Faults.{fault_at}
 use Rattle.redo_script.specs.Syntax.{Word, Redirection, Command, Condition, Script, finish}
 use Rattle.redo_script.specs.Tokens.{Token, word, semicolon, newline, redirect}
-use Rattle.redo_script.specs.Grammar.{Item, spells, is_named, command_form, condition_form, AtSeparator, OpensIf, opens_if}
-use Rattle.redo_script.specs.Parsing.{Begun, behind_if, Open, is_empty, is_one_of, commands, words_outside, length_of, is_unfinished, no_redirection, ended_command, ended_condition, unless_open, parse_on, statements_of}
-use Rattle.redo_script.specs.Refusals.{OpenIf, IsPart, bare, full, IsOpened, to_then, to_else, IsPlace, outside, inside, in_line, conditions, AtCondition, IsNoThen, line_of, MayElse, MayEnd, HasCondition, a_condition, IsWrong, a_separator, a_redirection, too_deep, no_condition, no_test, no_then, ends_before_then, then_alone, no_else_here, no_fi_here, behind_fi, ends_inside, ends_behind, left_out, unknown, no_form, FaultStands}
+use Rattle.redo_script.specs.Grammar.{Item, spells, is_named, command_form, condition_form, AtSeparator, OpensIf}
+use Rattle.redo_script.specs.Grammar.{opens_if}
+use Rattle.redo_script.specs.Parsing.{Begun, behind_if, Open, is_empty, is_one_of, commands, words_outside, length_of}
+use Rattle.redo_script.specs.Parsing.{is_unfinished, no_redirection, ended_command, ended_condition, unless_open}
+use Rattle.redo_script.specs.Parsing.{parse_on, statements_of}
+use Rattle.redo_script.specs.Refusals.{OpenIf, IsPart, bare, full, IsOpened, to_then, to_else, IsPlace, outside, inside}
+use Rattle.redo_script.specs.Refusals.{in_line, conditions, AtCondition, IsNoThen, line_of, MayElse, MayEnd}
+use Rattle.redo_script.specs.Refusals.{HasCondition, a_condition, IsWrong, a_separator, a_redirection, too_deep}
+use Rattle.redo_script.specs.Refusals.{no_condition, no_test, no_then, ends_before_then, then_alone, no_else_here}
+use Rattle.redo_script.specs.Refusals.{no_fi_here, behind_fi, ends_inside, ends_behind, left_out, unknown, no_form}
+use Rattle.redo_script.specs.Refusals.{FaultStands}
 use Rattle.redo_script.proofs.NameLemmas.{item, condition_named, not_named}
-use Rattle.redo_script.proofs.OneTokenLemmas.{parts, in_place, within, within_condition, awaiting_then, behind, opened, condition_items_read, newlines_read, condition_ends, then_read, else_read, command_begins, if_begins}
+use Rattle.redo_script.proofs.OneTokenLemmas.{parts, in_place, within, within_condition, awaiting_then, behind, opened}
+use Rattle.redo_script.proofs.OneTokenLemmas.{condition_items_read, newlines_read, condition_ends, then_read, else_read}
+use Rattle.redo_script.proofs.OneTokenLemmas.{command_begins, if_begins}
 use Rattle.redo_script.proofs.OnlyScriptLemmas.{command_read, block_read}
-use Rattle.redo_script.proofs.FoundScriptLemmas.{if_opens, if_too_deep, then_out, else_alone, else_twice, else_early, fi_alone, fi_early, fi_closes, name_outside, name_unknown, TakesOf, word_continues, redirect_continues, shape_ok, takes_end, parser}
+use Rattle.redo_script.proofs.FoundScriptLemmas.{if_opens, if_too_deep, then_out, else_alone, else_twice, else_early}
+use Rattle.redo_script.proofs.FoundScriptLemmas.{fi_alone, fi_early, fi_closes, name_outside, name_unknown, TakesOf}
+use Rattle.redo_script.proofs.FoundScriptLemmas.{word_continues, redirect_continues, shape_ok, takes_end, parser}
 use Rattle.redo_script.proofs.RefusedLemmas.{second_of, ifs, same_depth}
 use Rattle.redo_script.proofs.BegunCommandLemmas.{shape_is, no_redirection_is}
 

@@ -1,5 +1,7 @@
 -- What runs of bytes do to reading.
-use Rattle.std.proofs.Common.{◌≡◌, ℕ, ◌≢◌, zero, suc, ◌<◌, ◌≤◌, ◌+◌, ◌-◌, Result, Ok, ap₂, drop, add-one, Bool, true, false, ◌&&◌, ◌==◌, List, [], ◌∷◌, ◌++◌, map, take, length, get_or, refl, sym, ap, ◌∙◌, append_assoc, arith, inl, inr}
+use Rattle.std.proofs.Common.{◌≡◌, ℕ, ◌≢◌, zero, suc, ◌<◌, ◌≤◌, ◌+◌, ◌-◌, Result, Ok, ap₂, drop, add-one, Bool, true}
+use Rattle.std.proofs.Common.{false, ◌&&◌, ◌==◌, List, [], ◌∷◌, ◌++◌, map, take, length, get_or, refl, sym, ap, ◌∙◌}
+use Rattle.std.proofs.Common.{append_assoc, arith, inl, inr}
 use Rattle.std.proofs.Math.Seq.{drop-cons}
 use Rattle.std.proofs.lemmas.List.{append-nil, map-append, take_all, nil_from_length}
 use Rattle.std.proofs.lemmas.Bool.{eqb-true, and_parts, or_cases}
@@ -13,7 +15,8 @@ use Rattle.redo_script.specs.Tokens.{Token, word, digits_then, begins_word, AtWo
 use Rattle.redo_script.specs.Reading.{Reader, read_on, at_end, with_token, with_word, with_begun_word}
 use Rattle.redo_script.specs.inside.Runs.{all_plain, all_digits, ends_plainly}
 use Rattle.redo_script.proofs.BitLemmas.{and_true, and_false, injected}
-use Rattle.redo_script.proofs.OneByteLemmas.{at, word_begun, byte_more, gap_blank, gap_comment, gap_word, comment_on, word_plain, word_ends}
+use Rattle.redo_script.proofs.OneByteLemmas.{at, word_begun, byte_more, gap_blank, gap_comment, gap_word, comment_on}
+use Rattle.redo_script.proofs.OneByteLemmas.{word_plain, word_ends}
 
 -- plain bytes more
 abbrev bytes_more : Reader → List ℕ → Reader

@@ -1,5 +1,6 @@
 -- Where reading of bytes stops.
-use Rattle.std.proofs.Common.{◌≡◌, ◌⊎◌, ℕ, Bool, true, false, ◌&&◌, ◌==◌, if◌then◌else◌, List, [], ◌∷◌, ◌++◌, Some, None, Result, Ok, Err, refl, sym, ◌∙◌, ap, subst, inl, inr, append_assoc, add-one}
+use Rattle.std.proofs.Common.{◌≡◌, ◌⊎◌, ℕ, Bool, true, false, ◌&&◌, ◌==◌, if◌then◌else◌, List, [], ◌∷◌, ◌++◌, Some}
+use Rattle.std.proofs.Common.{None, Result, Ok, Err, refl, sym, ◌∙◌, ap, subst, inl, inr, append_assoc, add-one}
 use Rattle.std.proofs.lemmas.Bool.{cases_Bool, eqb-true}
 use Rattle.std.proofs.lemmas.List.{append-nil}
 use Rattle.redo_script.specs.declared.ast.Parameter.{Parameter}
@@ -11,7 +12,9 @@ use Rattle.redo_script.specs.declared.lexer.Mode.TheVariants as modes
 use Rattle.redo_script.specs.Bytes.{is_plain, is_blank}
 use Rattle.redo_script.specs.Syntax.{Symbol, bare, quoted}
 use Rattle.redo_script.specs.Tokens.{Token, redirect, Names, one, two, three, line_after, ends_word, is_escaped}
-use Rattle.redo_script.specs.Reading.{Reader, at_start, with_token, with_begun_word, with_word, word_byte, gap_byte, in_word, in_single, in_double, after_backslash, parameter_named, with_parameter, next_byte, at_end, read_on, tokens_of}
+use Rattle.redo_script.specs.Reading.{Reader, at_start, with_token, with_begun_word, with_word, word_byte, gap_byte}
+use Rattle.redo_script.specs.Reading.{in_word, in_single, in_double, after_backslash, parameter_named, with_parameter}
+use Rattle.redo_script.specs.Reading.{next_byte, at_end, read_on, tokens_of}
 use Rattle.redo_script.specs.Places.{line_from, CanGoOn, NeedsDigit, QuoteIsOpen, StopsAtByte, StopsAtEnd}
 use Rattle.redo_script.proofs.BitLemmas.{never, bind_ok, not_same, not_in}
 use Rattle.redo_script.proofs.OneByteLemmas.{at}

@@ -1,5 +1,6 @@
 -- Bytes that are added one after the other.
-use Rattle.std.proofs.Common.{◌≡◌, ℕ, true, false, not, inl, inr, List, [], ◌++◌, length, refl, sym, ◌∙◌, arith, append_assoc, length-append, subst}
+use Rattle.std.proofs.Common.{◌≡◌, ℕ, true, false, not, inl, inr, List, [], ◌++◌, length, refl, sym, ◌∙◌, arith}
+use Rattle.std.proofs.Common.{append_assoc, length-append, subst}
 use Rattle.std.specs.Prelude.{nat_le}
 use Rattle.std.proofs.lemmas.Bool.Decides.{leb_tells}
 use Rattle.std.proofs.lemmas.List.{append-nil}

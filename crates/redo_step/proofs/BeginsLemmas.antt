@@ -1,6 +1,7 @@
 -- A run under an ask is a beginning of the run under each ask that keeps its answers.
 use Rattle.std.proofs.Common.{◌≡◌, ℕ, Bool, true, false, cond, inl, inr, Result, Ok, Err, List, [], ◌∷◌, refl, sym, ◌∙◌}
-use Rattle.redo_script.specs.Syntax.{Command, write, test, change, create, always_true, always_false, exit, Script, finish, simple, choice}
+use Rattle.redo_script.specs.Syntax.{Command, write, test, change, create, always_true, always_false, exit, Script}
+use Rattle.redo_script.specs.Syntax.{finish, simple, choice}
 use Rattle.redo_record.specs.declared.deps.DepKind.TheVariants as kinds
 use Rattle.redo_record.specs.declared.outcome.Why.TheVariants as why
 use Rattle.redo_record.specs.Paths.{Path}
@@ -16,11 +17,13 @@ use Rattle.redo_record.specs.declared.deps.Dep.{Dep}
 use Rattle.redo_step.specs.Reach.{Keeps}
 use Rattle.redo_record.specs.Entries.{Extends}
 use Rattle.redo_step.specs.Begins.{AreKnown, Awaits, IsEnd, Begins}
-use Rattle.redo_record.proofs.EntryLemmas.{Extends-refl, Extends-trans, Extends-with_entries, AllEntered, AllEntered-with_entries}
+use Rattle.redo_record.proofs.EntryLemmas.{Extends-refl, Extends-trans, Extends-with_entries, AllEntered}
+use Rattle.redo_record.proofs.EntryLemmas.{AllEntered-with_entries}
 use Rattle.redo_step.proofs.RunLemmas.{Keeps-extends}
 use Rattle.redo_step.proofs.StableLemmas.{lacking-nil, lacking-answered, answered_later}
 use Rattle.redo_step.proofs.StepLemmas.{command_goes, command_stays, written_entries}
-use Rattle.redo_step.proofs.SettledLemmas.{IsOver, over_bind, Settled, texts_over, paths_over, free_over, written_settled, tested_settled, condition_settled}
+use Rattle.redo_step.proofs.SettledLemmas.{IsOver, over_bind, Settled, texts_over, paths_over, free_over}
+use Rattle.redo_step.proofs.SettledLemmas.{written_settled, tested_settled, condition_settled}
 use Rattle.redo_step.proofs.KnownLemmas.{known_changes, known_creates, answered_or, known_later}
 
 -- Entries only grow

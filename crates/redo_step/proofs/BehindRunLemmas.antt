@@ -1,6 +1,8 @@
 -- What a script declares stands behind what was declared before.
-use Rattle.std.proofs.Common.{◌≡◌, ℕ, Bool, true, false, cond, List, [], ◌∷◌, refl, sym, ◌∙◌, Result, Ok, Err, append-nil}
-use Rattle.redo_script.specs.Syntax.{Command, write, test, change, create, always_true, always_false, exit, Script, finish, simple, choice}
+use Rattle.std.proofs.Common.{◌≡◌, ℕ, Bool, true, false, cond, List, [], ◌∷◌, refl, sym, ◌∙◌, Result, Ok, Err}
+use Rattle.std.proofs.Common.{append-nil}
+use Rattle.redo_script.specs.Syntax.{Command, write, test, change, create, always_true, always_false, exit, Script}
+use Rattle.redo_script.specs.Syntax.{finish, simple, choice}
 use Rattle.redo_record.specs.declared.deps.Dep.{Dep}
 use Rattle.redo_record.specs.declared.deps.DepKind.TheVariants as kinds
 use Rattle.redo_record.specs.declared.outcome.Why.TheVariants as why

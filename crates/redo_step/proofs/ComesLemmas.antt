@@ -1,5 +1,6 @@
 -- How the progress of a part becomes that of the whole.
-use Rattle.std.proofs.Common.{◌≡◌, ℕ, suc, ◌+◌, ◌<◌, ◌≤◌, Bool, true, false, length, get_or, List, Result, Ok, Err, IfOk, refl, sym, ap, ◌∙◌, subst, add-one}
+use Rattle.std.proofs.Common.{◌≡◌, ℕ, suc, ◌+◌, ◌<◌, ◌≤◌, Bool, true, false, length, get_or, List, Result, Ok, Err}
+use Rattle.std.proofs.Common.{IfOk, refl, sym, ap, ◌∙◌, subst, add-one}
 use Rattle.std.specs.declared.vec.Vec.{Vec}
 use Rattle.std.specs.declared.alloc.Global.{Global}
 use Rattle.std.specs.Prelude.{Box}
@@ -14,10 +15,10 @@ use Rattle.redo_step.specs.declared.place.Branch.{Branch}
 use Rattle.redo_step.specs.declared.place.Branch.TheVariants.{First, Second}
 use Rattle.redo_step.specs.declared.place.Place.{Place, Before, Within'}
 use Rattle.redo_step.specs.declared.place.Place.TheVariants as places
-use Rattle.redo_step.specs.declared.stop.Stop.{Stop}
-use Rattle.redo_step.specs.declared.stop.Stop.TheVariants as stops
-use Rattle.redo_step.specs.declared.machine.Progress.{Progress}
-use Rattle.redo_step.specs.declared.machine.Progress.TheVariants as progress
+use Rattle.redo_step.specs.declared.halt.Halt.{Halt}
+use Rattle.redo_step.specs.declared.halt.Halt.TheVariants as stops
+use Rattle.redo_step.specs.declared.machine.RunEnd.{RunEnd}
+use Rattle.redo_step.specs.declared.machine.RunEnd.TheVariants as progress
 use Rattle.redo_record.specs.Paths.{Path}
 use Rattle.redo_step.specs.Setting.{Setting}
 use Rattle.redo_step.specs.Runs.{State, End, stopped, goes, ends}
@@ -25,7 +26,8 @@ use Rattle.redo_step.specs.Statements.{run, then_run, chosen, command_run, condi
 use Rattle.redo_record.specs.Answers.{Ask}
 use Rattle.redo_step.specs.Place.{skip, followed_by, inside, branch_of, stands_at, left_at}
 use Rattle.redo_step.specs.Reach.{Reaches}
-use Rattle.redo_step.specs.inside.Machine.{end_of, Stops, EndsAt, Comes, IsStopBefore, IsWithin, IsPassed, picked, HasBranch, HasNoBranch}
+use Rattle.redo_step.specs.inside.Machine.{end_of, Stops, EndsAt, Comes, IsStopBefore, IsWithin, IsPassed, picked}
+use Rattle.redo_step.specs.inside.Machine.{HasBranch, HasNoBranch}
 use Rattle.redo_step.specs.inside.Kept.{IsFirst}
 use Rattle.redo_step.proofs.RunLemmas.{run-followed_by, Keeps-refl, Reaches-refl, Reaches-trans, Reaches-followed_by}
 use Rattle.redo_step.proofs.StepLemmas.{reaches_simple, stops_simple, reaches_branch, branch_when}
@@ -37,13 +39,13 @@ if_ok_map (Err e) f h = h
 
 module _ (setting : Setting) (ask : Ask) where
   -- a part that was run before
-  pub comes_after : (whole a b rest : Script) (s t u : State) (p : Progress) → Reaches setting ask a s b t → Comes setting ask whole b rest t p u → Comes setting ask whole a rest s p u
+  pub comes_after : (whole a b rest : Script) (s t u : State) (p : RunEnd) → Reaches setting ask a s b t → Comes setting ask whole b rest t p u → Comes setting ask whole a rest s p u
   comes_after whole a b rest s t u progress.Finished r c = Reaches-trans setting ask a b rest s t u r c
   comes_after whole a b rest s t u (progress.Ended e) r c = r.same ask (Keeps-refl setting t.entries ask) ∙ c
   comes_after whole a b rest s t u (progress.Stopped ps place kept) r c = (Reaches-trans setting ask a b (left_at place whole) s t u r c.0, c.1, c.2)
 
   -- a run that did not finish says the same of any rest
-  pub comes_default : (whole a rest other : Script) (s t : State) (p : Progress) → (p ≡ progress.Finished → ⊥) → Comes setting ask whole a rest s p t → Comes setting ask whole a other s p t
+  pub comes_default : (whole a rest other : Script) (s t : State) (p : RunEnd) → (p ≡ progress.Finished → ⊥) → Comes setting ask whole a rest s p t → Comes setting ask whole a other s p t
   comes_default whole a rest other s t progress.Finished n c = absurd (n refl)
   comes_default whole a rest other s t (progress.Ended e) n c = c
   comes_default whole a rest other s t (progress.Stopped ps place kept) n c = c
@@ -69,7 +71,7 @@ module _ (setting : Setting) (ask : Ask) where
       let again : run setting ask (simple line c rest) t ≡ ends (stopped ps) t = sym (reached.same ask (Keeps-refl setting t.entries ask)) ∙ ends_run line c rest s t (stopped ps) e in
       (rw same reached, rw same again)
 
-  pub stop_comes : (line : ℕ) (c : Command) (index : ℕ) (s t : State) (stop : Stop) (p : Progress) (whole rest other : Script) → EndsAt setting line c stop (command_run setting ask line c s) t → IsStopBefore stop index p → skip index whole ≡ simple line c rest → Comes setting ask whole (simple line c rest) other s p t
+  pub stop_comes : (line : ℕ) (c : Command) (index : ℕ) (s t : State) (stop : Halt) (p : RunEnd) (whole rest other : Script) → EndsAt setting line c stop (command_run setting ask line c s) t → IsStopBefore stop index p → skip index whole ≡ simple line c rest → Comes setting ask whole (simple line c rest) other s p t
   stop_comes line c index s t (stops.Ended w) p whole rest other e is at = rw is (ends_run line c rest s t (end_of w) e)
   stop_comes line c index s t (stops.Lacks ps) p whole rest other e is at = let l = lacking_comes line c index s t ps.items whole rest e at in rw is (l.0, l.1, tt)
   stop_comes line c index s t (stops.Waits ps w) p whole rest other e is at =
@@ -89,7 +91,7 @@ module _ (setting : Setting) (ask : Ask) where
     comes = λ whole rest at. let o = opened_simple x line c rest is in rw o (reaches_simple setting ask line (command_of c) rest s t e);
   }
 
-  pub passes_stop : (x : Stmt) (line : ℕ) (c : CommandTree) (index : ℕ) (s t : State) (stop : Stop) (p : Progress) → x ≡ stmt.Simple line c → EndsAt setting line (command_of c) stop (command_run setting ask line (command_of c) s) t → IsStopBefore stop index p → IsPassed setting ask x index s p t
+  pub passes_stop : (x : Stmt) (line : ℕ) (c : CommandTree) (index : ℕ) (s t : State) (stop : Halt) (p : RunEnd) → x ≡ stmt.Simple line c → EndsAt setting line (command_of c) stop (command_run setting ask line (command_of c) s) t → IsStopBefore stop index p → IsPassed setting ask x index s p t
   passes_stop x line c index s t stop p is e before = record {
     comes = λ whole rest at. let o = opened_simple x line c rest is in rw o (stop_comes line (command_of c) index s t stop p whole rest rest e before (at ∙ o));
   }
@@ -99,7 +101,7 @@ module _ (setting : Setting) (ask : Ask) where
   unfolding run
   choice_ends line c a b rest s w h = ap (λ r. then_run (chosen r (run setting ask a) (run setting ask b) s) (run setting ask rest)) h
 
-  choice_comes : (line : ℕ) (c : Condition) (a b : Script) (index : ℕ) (s : State) (stop : Stop) (p : Progress) (whole rest : Script) → Stops stop (condition_result setting ask line c s) → IsStopBefore stop index p → skip index whole ≡ choice line c a b rest → Comes setting ask whole (choice line c a b rest) rest s p s
+  choice_comes : (line : ℕ) (c : Condition) (a b : Script) (index : ℕ) (s : State) (stop : Halt) (p : RunEnd) (whole rest : Script) → Stops stop (condition_result setting ask line c s) → IsStopBefore stop index p → skip index whole ≡ choice line c a b rest → Comes setting ask whole (choice line c a b rest) rest s p s
   choice_comes line c a b index s (stops.Ended w) p whole rest e is at = rw is (choice_ends line c a b rest s (end_of w) e)
   choice_comes line c a b index s (stops.Lacks ps) p whole rest e is at =
       let same : left_at (Before index) whole ≡ choice line c a b rest = at_place index whole (choice line c a b rest) at in
@@ -107,7 +109,7 @@ module _ (setting : Setting) (ask : Ask) where
   choice_comes line c a b index s (stops.Waits ps w) p whole rest e is at = absurd e
   choice_comes line c a b index s stops.Memory p whole rest e is at = absurd is
 
-  pub passes_check : (x : Stmt) (line : ℕ) (c : ConditionTree) (a b : Vec Stmt Global) (index : ℕ) (s : State) (stop : Stop) (p : Progress) → x ≡ stmt.If line c a b → Stops stop (condition_result setting ask line (condition_of c) s) → IsStopBefore stop index p → IsPassed setting ask x index s p s
+  pub passes_check : (x : Stmt) (line : ℕ) (c : ConditionTree) (a b : Vec Stmt Global) (index : ℕ) (s : State) (stop : Halt) (p : RunEnd) → x ≡ stmt.If line c a b → Stops stop (condition_result setting ask line (condition_of c) s) → IsStopBefore stop index p → IsPassed setting ask x index s p s
   passes_check x line c a b index s stop p is e before = record {
     comes = λ whole rest at. let o = opened_if x line c a b rest is in rw o (choice_comes line (condition_of c) (script_of a.items) (script_of b.items) index s stop p whole rest e before (at ∙ o));
   }
@@ -138,7 +140,7 @@ module _ (setting : Setting) (ask : Ask) where
   stands_within index branch q place whole line c a b rest at = ap (λ y. stands_at place (branch_of branch y)) at ∙ ap (stands_at place) (branch_choice branch line c a b rest)
 
   -- The progress of a part of a branch, as that of the statements round it.
-  pub comes_within : (whole : Script) (index : ℕ) (branch : Branch) (line : ℕ) (c : Condition) (a b part rest : Script) (s t : State) (p outer : Progress) → skip index whole ≡ choice line c a b rest → Comes setting ask (picked branch a b) part finish s p t → IsWithin p index branch outer → Comes setting ask whole (followed_by part rest) rest s outer t
+  pub comes_within : (whole : Script) (index : ℕ) (branch : Branch) (line : ℕ) (c : Condition) (a b part rest : Script) (s t : State) (p outer : RunEnd) → skip index whole ≡ choice line c a b rest → Comes setting ask (picked branch a b) part finish s p t → IsWithin p index branch outer → Comes setting ask whole (followed_by part rest) rest s outer t
   comes_within whole index branch line c a b part rest s t progress.Finished outer at h w =
       rw w (subst (λ (x : Script). Reaches setting ask (followed_by part rest) s x t) (followed_finish rest) (Reaches-followed_by setting ask part finish rest s t h))
   comes_within whole index branch line c a b part rest s t (progress.Ended e) outer at h w = rw w (followed_ends part rest s t (end_of e) h)
@@ -151,7 +153,7 @@ module _ (setting : Setting) (ask : Ask) where
   unfolding skip
   skip_none script = refl
 
-  branch_passes : (x : Stmt) (line : ℕ) (c : ConditionTree) (a b : Vec Stmt Global) (branch : Branch) (v : Bool) (items : List Stmt) (index : ℕ) (s t : State) (p outer : Progress) → x ≡ stmt.If line c a b → condition_result setting ask line (condition_of c) s ≡ Ok v → branch_when v (script_of a.items) (script_of b.items) ≡ picked branch (script_of a.items) (script_of b.items) → script_of items ≡ picked branch (script_of a.items) (script_of b.items) → Comes setting ask (script_of items) (skip 0 (script_of items)) finish s p t → IsWithin p index branch outer → IsPassed setting ask x index s outer t
+  branch_passes : (x : Stmt) (line : ℕ) (c : ConditionTree) (a b : Vec Stmt Global) (branch : Branch) (v : Bool) (items : List Stmt) (index : ℕ) (s t : State) (p outer : RunEnd) → x ≡ stmt.If line c a b → condition_result setting ask line (condition_of c) s ≡ Ok v → branch_when v (script_of a.items) (script_of b.items) ≡ picked branch (script_of a.items) (script_of b.items) → script_of items ≡ picked branch (script_of a.items) (script_of b.items) → Comes setting ask (script_of items) (skip 0 (script_of items)) finish s p t → IsWithin p index branch outer → IsPassed setting ask x index s outer t
   branch_passes x line c a b branch v items index s t p outer is cond chooses part h w = record {
     comes = λ whole rest at.
         let o = opened_if x line c a b rest is in
@@ -162,10 +164,10 @@ module _ (setting : Setting) (ask : Ask) where
         rw o (comes_after whole (choice line (condition_of c) (script_of a.items) (script_of b.items) rest) (followed_by (picked branch (script_of a.items) (script_of b.items)) rest) rest s s t outer first' second);
   }
 
-  pub passes_first : (x : Stmt) (line : ℕ) (c : ConditionTree) (a b : Vec Stmt Global) (items : List Stmt) (index : ℕ) (s t : State) (p outer : Progress) → x ≡ stmt.If line c a b → condition_result setting ask line (condition_of c) s ≡ Ok true → items ≡ a.items → Comes setting ask (script_of items) (skip 0 (script_of items)) finish s p t → IsWithin p index First outer → IsPassed setting ask x index s outer t
+  pub passes_first : (x : Stmt) (line : ℕ) (c : ConditionTree) (a b : Vec Stmt Global) (items : List Stmt) (index : ℕ) (s t : State) (p outer : RunEnd) → x ≡ stmt.If line c a b → condition_result setting ask line (condition_of c) s ≡ Ok true → items ≡ a.items → Comes setting ask (script_of items) (skip 0 (script_of items)) finish s p t → IsWithin p index First outer → IsPassed setting ask x index s outer t
   passes_first x line c a b items index s t p outer is cond part h w = branch_passes x line c a b First true items index s t p outer is cond refl (ap script_of part) h w
 
-  pub passes_second : (x : Stmt) (line : ℕ) (c : ConditionTree) (a b : Vec Stmt Global) (items : List Stmt) (index : ℕ) (s t : State) (p outer : Progress) → x ≡ stmt.If line c a b → condition_result setting ask line (condition_of c) s ≡ Ok false → items ≡ b.items → Comes setting ask (script_of items) (skip 0 (script_of items)) finish s p t → IsWithin p index Second outer → IsPassed setting ask x index s outer t
+  pub passes_second : (x : Stmt) (line : ℕ) (c : ConditionTree) (a b : Vec Stmt Global) (items : List Stmt) (index : ℕ) (s t : State) (p outer : RunEnd) → x ≡ stmt.If line c a b → condition_result setting ask line (condition_of c) s ≡ Ok false → items ≡ b.items → Comes setting ask (script_of items) (skip 0 (script_of items)) finish s p t → IsWithin p index Second outer → IsPassed setting ask x index s outer t
   passes_second x line c a b items index s t p outer is cond part h w = branch_passes x line c a b Second false items index s t p outer is cond refl (ap script_of part) h w
 
   -- the loop over statements
@@ -173,7 +175,7 @@ module _ (setting : Setting) (ask : Ask) where
   at_item : (xs : List Stmt) (index : ℕ) (x : Stmt) → index < length xs → x ≡ get_or xs index x → skip index (script_of xs) ≡ before x (skip (index + 1) (script_of xs))
   at_item xs index x lt is = rw add-one (skip_at xs index x lt ∙ ap (λ y. opened (out-Stmt y) (skip (suc index) (script_of xs))) (sym is) ∙ sym (before-opened x (skip (suc index) (script_of xs))))
 
-  pub item_comes : (xs : List Stmt) (first index : ℕ) (x : Stmt) (s t u : State) (p : Progress) → index < length xs → x ≡ get_or xs index x → Reaches setting ask (skip first (script_of xs)) s (skip index (script_of xs)) t → IsPassed setting ask x index t p u → Comes setting ask (script_of xs) (skip first (script_of xs)) (skip (index + 1) (script_of xs)) s p u
+  pub item_comes : (xs : List Stmt) (first index : ℕ) (x : Stmt) (s t u : State) (p : RunEnd) → index < length xs → x ≡ get_or xs index x → Reaches setting ask (skip first (script_of xs)) s (skip index (script_of xs)) t → IsPassed setting ask x index t p u → Comes setting ask (script_of xs) (skip first (script_of xs)) (skip (index + 1) (script_of xs)) s p u
   item_comes xs first index x s t u p lt is r passed =
       let at = at_item xs index x lt is in
       let here = subst (λ (y : Script). Comes setting ask (script_of xs) y (skip (index + 1) (script_of xs)) t p u) (sym at) (passed.comes (script_of xs) (skip (index + 1) (script_of xs)) at) in
@@ -223,7 +225,7 @@ unfolding left_at
 left_inside place n branch inner script is = rw is refl
 
 module _ (setting : Setting) (ask : Ask) (whole : List Stmt) (place : Place) (s : State) where
-  pub comes_before : (n : ℕ) (t : State) (p : Progress) → place ≡ Before n → Comes setting ask (script_of whole) (skip n (script_of whole)) finish s p t → Comes setting ask (script_of whole) (left_at place (script_of whole)) finish s p t
+  pub comes_before : (n : ℕ) (t : State) (p : RunEnd) → place ≡ Before n → Comes setting ask (script_of whole) (skip n (script_of whole)) finish s p t → Comes setting ask (script_of whole) (left_at place (script_of whole)) finish s p t
   comes_before n t p is h = subst (λ (y : Script). Comes setting ask (script_of whole) y finish s p t) (left_before place n (script_of whole) is) h
 
   pub nothing_left : (n : ℕ) (branch : Branch) (inner : Box Place Global) → place ≡ places.Within n branch inner → HasNoBranch whole n → Reaches setting ask (left_at place (script_of whole)) s finish s
@@ -231,7 +233,7 @@ module _ (setting : Setting) (ask : Ask) (whole : List Stmt) (place : Place) (s 
       subst (λ (y : Script). Reaches setting ask y s finish s) (sym (left_inside place n branch inner (script_of whole) is ∙ none.nothing branch (left_at inner.value))) (Reaches-refl setting ask finish s)
 
   -- what is left in a branch was run
-  pub part_comes : (n : ℕ) (branch : Branch) (inner : Box Place Global) (part : List Stmt) (here : Place) (t : State) (p outer : Progress) → place ≡ places.Within n branch inner → HasBranch whole n branch part → here ≡ inner.value → Comes setting ask (script_of part) (left_at here (script_of part)) finish s p t → IsWithin p n branch outer → Comes setting ask (script_of whole) (left_at place (script_of whole)) (skip (n + 1) (script_of whole)) s outer t
+  pub part_comes : (n : ℕ) (branch : Branch) (inner : Box Place Global) (part : List Stmt) (here : Place) (t : State) (p outer : RunEnd) → place ≡ places.Within n branch inner → HasBranch whole n branch part → here ≡ inner.value → Comes setting ask (script_of part) (left_at here (script_of part)) finish s p t → IsWithin p n branch outer → Comes setting ask (script_of whole) (left_at place (script_of whole)) (skip (n + 1) (script_of whole)) s outer t
   part_comes n branch inner part here t p outer is has e h w =
       let rest = skip (n + 1) (script_of whole) in
       let inner_script = left_at inner.value (picked branch has.first has.second) in

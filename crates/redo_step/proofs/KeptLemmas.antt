@@ -1,5 +1,6 @@
 -- A script that goes on with a redo-ifchange that waited.
-use Rattle.std.proofs.Common.{◌≡◌, ℕ, zero, suc, ◌+◌, ◌<◌, length, List, [], ◌∷◌, Option, Result, Ok, refl, sym, ap, ◌∙◌, subst, add-one, arith}
+use Rattle.std.proofs.Common.{◌≡◌, ℕ, zero, suc, ◌+◌, ◌<◌, length, List, [], ◌∷◌, Option, Result, Ok, refl, sym, ap}
+use Rattle.std.proofs.Common.{◌∙◌, subst, add-one, arith}
 use Rattle.std.specs.Prelude.{Box}
 use Rattle.std.specs.declared.alloc.Global.{Global}
 use Rattle.redo_script.specs.declared.ast.Stmt.{Stmt}
@@ -9,8 +10,8 @@ use Rattle.redo_script.specs.declared.fault.ScriptFault.{ScriptFault}
 use Rattle.redo_step.specs.declared.place.Branch.{Branch}
 use Rattle.redo_step.specs.declared.place.Place.{Place, Before, Within'}
 use Rattle.redo_step.specs.declared.place.Place.TheVariants as places
-use Rattle.redo_step.specs.declared.machine.Progress.{Progress}
-use Rattle.redo_step.specs.declared.stop.Stop.{Stop}
+use Rattle.redo_step.specs.declared.machine.RunEnd.{RunEnd}
+use Rattle.redo_step.specs.declared.halt.Halt.{Halt}
 use Rattle.redo_step.specs.declared.wait.Waiting.{Waiting}
 use Rattle.redo_step.specs.Setting.{Setting}
 use Rattle.redo_step.specs.Runs.{State, goes}
@@ -70,7 +71,7 @@ module _ (setting : Setting) (ask : Ask) (whole : List Stmt) (place : Place) (s 
     kept_within = within_here whole n first.rest first.line first.command at
 
     -- it goes on
-    pub kept_goes : (t : State) (p : Progress) → waited_on ask w.line w.targets.items (unanswered ask [] w.targets.items) s ≡ goes s → Comes setting ask (script_of whole) (skip (n + 1) (script_of whole)) finish s p t → Comes setting ask (script_of whole) (left_at place (script_of whole)) finish s p t
+    pub kept_goes : (t : State) (p : RunEnd) → waited_on ask w.line w.targets.items (unanswered ask [] w.targets.items) s ≡ goes s → Comes setting ask (script_of whole) (skip (n + 1) (script_of whole)) finish s p t → Comes setting ask (script_of whole) (left_at place (script_of whole)) finish s p t
     kept_goes t p g c =
         let runs = first_is setting ask first.line first.command w s first.has ∙ g in
         let reaches = reaches_simple setting ask first.line first.command first.rest s s runs in
@@ -79,7 +80,7 @@ module _ (setting : Setting) (ask : Ask) (whole : List Stmt) (place : Place) (s 
         comes_before setting ask whole place s n t p is (subst (λ (y : Script). Comes setting ask (script_of whole) y finish s p t) (sym at) all)
 
     -- it stops again
-    pub kept_stops : (stop : Stop) (p : Progress) → WaitsBy w stop (waited_on ask w.line w.targets.items (unanswered ask [] w.targets.items) s) s → IsStopBefore stop n p → Comes setting ask (script_of whole) (left_at place (script_of whole)) finish s p s
+    pub kept_stops : (stop : Halt) (p : RunEnd) → WaitsBy w stop (waited_on ask w.line w.targets.items (unanswered ask [] w.targets.items) s) s → IsStopBefore stop n p → Comes setting ask (script_of whole) (left_at place (script_of whole)) finish s p s
     kept_stops stop p h before =
         let ends = ends_waiting setting ask first.line first.command w stop _ s first.has (rw (← first_is setting ask first.line first.command w s first.has) at h) in
         let stopped = stop_comes setting ask first.line first.command n s s stop p (script_of whole) first.rest finish ends before at in

@@ -1,5 +1,6 @@
 -- A target's progress by its script follows the laws.
-use Rattle.std.proofs.Common.{◌≡◌, ℕ, zero, suc, true, false, ◌&&◌, not, inl, inr, List, Option, Some, None, Result, Ok, Err, refl, sym, ◌∙◌}
+use Rattle.std.proofs.Common.{◌≡◌, ℕ, zero, suc, true, false, ◌&&◌, not, inl, inr, List, Option, Some, None, Result, Ok}
+use Rattle.std.proofs.Common.{Err, refl, sym, ◌∙◌}
 use Rattle.std.specs.Prelude.{is_some, is_none}
 use Rattle.std.proofs.lemmas.Bool.{both_ways, not-true}
 use Rattle.redo_script.specs.Syntax.{Script}
@@ -23,7 +24,8 @@ use Rattle.redo_record.specs.Progress.{changes, operands, Gains, IsLawful}
 use Rattle.redo_step.proofs.RunLemmas.{Keeps-refl}
 use Rattle.redo_record.proofs.EntryLemmas.{Extends-refl}
 use Rattle.redo_step.proofs.BeginsLemmas.{run_begins}
-use Rattle.redo_record.proofs.OperandLemmas.{filter-passes, all_cases, all_second, distinct-all, distinct-operands, operand-entered, entered-operand}
+use Rattle.redo_record.proofs.OperandLemmas.{filter-passes, all_cases, all_second, distinct-all, distinct-operands}
+use Rattle.redo_record.proofs.OperandLemmas.{operand-entered, entered-operand}
 use Rattle.redo_record.proofs.LawfulLemmas.{at_once-lawful, search_distinct, search_entry, sources-asked}
 
 -- Runs and progress

@@ -1,19 +1,20 @@
 -- Parts of a command, one after the other.
-use Rattle.std.proofs.Common.{◌≡◌, ℕ, suc, ◌+◌, ◌<◌, ◌≤◌, List, [], ◌∷◌, ◌++◌, length, drop, get_or, Result, Ok, Err, refl, sym, ap, ◌∙◌, arith, add-one, append_assoc, length-drop}
+use Rattle.std.proofs.Common.{◌≡◌, ℕ, suc, ◌+◌, ◌<◌, ◌≤◌, List, [], ◌∷◌, ◌++◌, length, drop, get_or, Result, Ok, Err}
+use Rattle.std.proofs.Common.{refl, sym, ap, ◌∙◌, arith, add-one, append_assoc, length-drop}
 use Rattle.std.proofs.Math.Seq.{drop-cons}
 use Rattle.std.proofs.lemmas.List.{nil_from_length, append-nil}
 use Rattle.redo_script.specs.declared.ast.Word.{Word as WordTree}
 use Rattle.redo_script.specs.View.{word_of, words_of}
 use Rattle.redo_record.specs.Paths.{Path}
-use Rattle.redo_step.specs.declared.stop.Stop.{Stop}
-use Rattle.redo_step.specs.declared.stop.Stop.TheVariants as stops
+use Rattle.redo_step.specs.declared.halt.Halt.{Halt}
+use Rattle.redo_step.specs.declared.halt.Halt.TheVariants as stops
 use Rattle.redo_step.specs.Setting.{Setting}
 use Rattle.redo_step.specs.Runs.{End, ◌>>=◌}
 use Rattle.redo_step.specs.Words.{text_of, texts_of, path_of, paths_of}
 use Rattle.redo_step.specs.inside.Machine.{Stops}
 
 -- a part that stopped stops what goes on from it
-pub stops_bind : {A B : Type 0} (stop : Stop) (r : Result A End) (f : A → Result B End) → Stops stop r → Stops stop (r >>= f)
+pub stops_bind : {A B : Type 0} (stop : Halt) (r : Result A End) (f : A → Result B End) → Stops stop r → Stops stop (r >>= f)
 stops_bind (stops.Ended e) r f h = rw h refl
 stops_bind (stops.Lacks ps) r f h = rw h refl
 stops_bind (stops.Waits ps w) r f h = absurd h
@@ -48,7 +49,7 @@ module _ {A B : Type 0} (f : A → Result B End) (xs : List A) (i : ℕ) (x : A)
       sym n ∙ sym e ∙ before
 
   -- a turn that stops
-  pub each_stops : (total : Result (List B) End) (stop : Stop) → Stops stop (f x) → after_front front (each_of f (drop i xs)) ≡ total → Stops stop total
+  pub each_stops : (total : Result (List B) End) (stop : Halt) → Stops stop (f x) → after_front front (each_of f (drop i xs)) ≡ total → Stops stop total
   each_stops total stop h before =
       rw (← before, split) (stops_bind stop (each_of f (x ∷ drop (i + 1) xs)) (λ ys. Ok (front ++ ys)) (stops_bind stop (f x) (λ y. each_of f (drop (i + 1) xs) >>= λ ys. Ok (y ∷ ys)) h))
 

@@ -1,12 +1,14 @@
 -- What loops over bytes to be written keep.
-use Rattle.std.proofs.Common.{◌≡◌, ℕ, zero, suc, ◌+◌, ◌<◌, ◌≤◌, true, false, Option, Some, None, List, [], ◌∷◌, ◌++◌, length, drop, get_or, Result, Ok, Err, refl, sym, ap, ◌∙◌, arith, append_assoc, length-drop, add-one, subst, eqb-true}
+use Rattle.std.proofs.Common.{◌≡◌, ℕ, zero, suc, ◌+◌, ◌<◌, ◌≤◌, true, false, Option, Some, None, List, [], ◌∷◌, ◌++◌}
+use Rattle.std.proofs.Common.{length, drop, get_or, Result, Ok, Err, refl, sym, ap, ◌∙◌, arith, append_assoc}
+use Rattle.std.proofs.Common.{length-drop, add-one, subst, eqb-true}
 use Rattle.std.proofs.Math.Seq.{drop-cons}
 use Rattle.std.proofs.lemmas.List.{append-nil, nil_from_length}
-use Rattle.redo_step.specs.declared.printf.Piece.{Piece}
-use Rattle.redo_step.specs.declared.printf.Piece.TheVariants.{Literal, Operand}
+use Rattle.redo_step.specs.declared.printf.FormatPart.{FormatPart}
+use Rattle.redo_step.specs.declared.printf.FormatPart.TheVariants.{Literal, Operand}
 use Rattle.redo_step.specs.declared.sink.Sink.{Sink}
-use Rattle.redo_step.specs.declared.stop.Stop.{Stop}
-use Rattle.redo_step.specs.declared.stop.Stop.TheVariants as stops
+use Rattle.redo_step.specs.declared.halt.Halt.{Halt}
+use Rattle.redo_step.specs.declared.halt.Halt.TheVariants as stops
 use Rattle.redo_step.specs.Setting.{Setting}
 use Rattle.redo_step.specs.Runs.{End, ◌>>=◌, or_else, exited}
 use Rattle.redo_step.specs.Reading.{file_of, contents_of}
@@ -32,16 +34,16 @@ pub drop_end : {A : Type 0} (xs : List A) (i : ℕ) → length xs ≤ i → drop
 drop_end xs i le = nil_from_length (drop i xs) (simp length-drop (omega arith))
 
 -- One round of printf: the bytes so far, and what is left to print gives the whole.
-pub record Round (rest : List Piece) (left : List (List ℕ)) (whole : List ℕ × List (List ℕ)) (old new : Sink) : Type 0 where
+pub record Round (rest : List FormatPart) (left : List (List ℕ)) (whole : List ℕ × List (List ℕ)) (old new : Sink) : Type 0 where
   pub bytes : List ℕ
   pub adds : Adds bytes old new
   pub output : bytes ++ (once rest left).0 ≡ whole.0
   pub operands : (once rest left).1 ≡ whole.1
 
-pub round_begins : (pieces : List Piece) (texts : List (List ℕ)) (s : Sink) → Round pieces texts (once pieces texts) s s
+pub round_begins : (pieces : List FormatPart) (texts : List (List ℕ)) (s : Sink) → Round pieces texts (once pieces texts) s s
 round_begins pieces texts s = record { bytes = []; adds = adds-nil s; output = refl; operands = refl }
 
-pub round_literal : (b : ℕ) (ps : List Piece) (left : List (List ℕ)) (whole : List ℕ × List (List ℕ)) (old mid new : Sink) → Round (Literal b ∷ ps) left whole old mid → Adds (b ∷ []) mid new → Round ps left whole old new
+pub round_literal : (b : ℕ) (ps : List FormatPart) (left : List (List ℕ)) (whole : List ℕ × List (List ℕ)) (old mid new : Sink) → Round (Literal b ∷ ps) left whole old mid → Adds (b ∷ []) mid new → Round ps left whole old new
 round_literal b ps left whole old mid new r a = record {
   bytes = r.bytes ++ b ∷ [];
   adds = adds-trans r.bytes (b ∷ []) old mid new r.adds a;
@@ -49,7 +51,7 @@ round_literal b ps left whole old mid new r a = record {
   operands = r.operands;
 }
 
-pub round_operand : (t : List ℕ) (ts : List (List ℕ)) (ps : List Piece) (whole : List ℕ × List (List ℕ)) (old mid new : Sink) → Round (Operand ∷ ps) (t ∷ ts) whole old mid → Adds t mid new → Round ps ts whole old new
+pub round_operand : (t : List ℕ) (ts : List (List ℕ)) (ps : List FormatPart) (whole : List ℕ × List (List ℕ)) (old mid new : Sink) → Round (Operand ∷ ps) (t ∷ ts) whole old mid → Adds t mid new → Round ps ts whole old new
 round_operand t ts ps whole old mid new r a = record {
   bytes = r.bytes ++ t;
   adds = adds-trans r.bytes t old mid new r.adds a;
@@ -57,7 +59,7 @@ round_operand t ts ps whole old mid new r a = record {
   operands = r.operands;
 }
 
-pub round_none : (ps : List Piece) (whole : List ℕ × List (List ℕ)) (old new : Sink) → Round (Operand ∷ ps) [] whole old new → Round ps [] whole old new
+pub round_none : (ps : List FormatPart) (whole : List ℕ × List (List ℕ)) (old new : Sink) → Round (Operand ∷ ps) [] whole old new → Round ps [] whole old new
 round_none ps whole old new r = record { bytes = r.bytes; adds = r.adds; output = r.output; operands = r.operands }
 
 pub round_done : (left : List (List ℕ)) (whole : List ℕ × List (List ℕ)) (old new : Sink) → Round [] left whole old new → PrintsOnce whole left old new
@@ -65,24 +67,24 @@ round_done left whole old new r = (adds-same r.bytes whole.0 old new (sym (appen
 
 -- Rounds
 
-pub once-none : (ps : List Piece) → (once ps []).1 ≡ []
+pub once-none : (ps : List FormatPart) → (once ps []).1 ≡ []
 once-none [] = refl
 once-none (Literal b ∷ ps) = once-none ps
 once-none (Operand ∷ ps) = once-none ps
 
-pub once-shrinks : (ps : List Piece) (ts : List (List ℕ)) → length (once ps ts).1 ≤ length ts
+pub once-shrinks : (ps : List FormatPart) (ts : List (List ℕ)) → length (once ps ts).1 ≤ length ts
 once-shrinks [] ts = omega arith
 once-shrinks (Literal b ∷ ps) ts = once-shrinks ps ts
 once-shrinks (Operand ∷ ps) [] = once-shrinks ps []
 once-shrinks (Operand ∷ ps) (t ∷ ts) = let h = once-shrinks ps ts in omega arith
 
-pub once-takes : (ps : List Piece) (t : List ℕ) (ts : List (List ℕ)) → takes_operands ps ≡ true → length (once ps (t ∷ ts)).1 ≤ length ts
+pub once-takes : (ps : List FormatPart) (t : List ℕ) (ts : List (List ℕ)) → takes_operands ps ≡ true → length (once ps (t ∷ ts)).1 ≤ length ts
 once-takes [] t ts h = absurd cc
 once-takes (Literal b ∷ ps) t ts h = once-takes ps t ts h
 once-takes (Operand ∷ ps) t ts h = once-shrinks ps ts
 
 -- The rounds so far, and those that are left, give the whole.
-pub record Rounds (pieces : List Piece) (left : List (List ℕ)) (whole : Option (List ℕ)) (old new : Sink) : Type 0 where
+pub record Rounds (pieces : List FormatPart) (left : List (List ℕ)) (whole : Option (List ℕ)) (old new : Sink) : Type 0 where
   pub bytes : List ℕ
   pub count : ℕ
   pub within : length left ≤ count
@@ -90,18 +92,18 @@ pub record Rounds (pieces : List Piece) (left : List (List ℕ)) (whole : Option
   pub adds : Adds bytes old new
   pub output : whole ≡ Some (bytes ++ again count pieces left)
 
-has_places : (ps : List Piece) (ts : List (List ℕ)) → takes_operands ps ≡ true → HasPlaces ps ts
+has_places : (ps : List FormatPart) (ts : List (List ℕ)) → takes_operands ps ≡ true → HasPlaces ps ts
 has_places ps [] h = tt
 has_places ps (t ∷ ts) h = h
 
-pub rounds_begin : (ps : List Piece) (ts left : List (List ℕ)) (old new : Sink) → HasPlaces ps ts → PrintsOnce (once ps ts) left old new → Rounds ps left (formatted ps ts) old new
+pub rounds_begin : (ps : List FormatPart) (ts left : List (List ℕ)) (old new : Sink) → HasPlaces ps ts → PrintsOnce (once ps ts) left old new → Rounds ps left (formatted ps ts) old new
 rounds_begin ps [] left old new h p =
     let none : left ≡ [] = p.1 ∙ once-none ps in
     rw none (record { bytes = (once ps []).0; count = 0; within = omega arith; places = tt; adds = p.0; output = ap Some (sym (append-nil (once ps []).0)) })
 rounds_begin ps (t ∷ ts) left old new h p =
     rw (p.1, h) (record { bytes = (once ps (t ∷ ts)).0; count = length ts; within = once-takes ps t ts h; places = has_places ps (once ps (t ∷ ts)).1 h; adds = p.0; output = refl })
 
-pub rounds_go : (ps : List Piece) (t : List ℕ) (ts left : List (List ℕ)) (whole : Option (List ℕ)) (old mid new : Sink) → Rounds ps (t ∷ ts) whole old mid → PrintsOnce (once ps (t ∷ ts)) left mid new → Rounds ps left whole old new
+pub rounds_go : (ps : List FormatPart) (t : List ℕ) (ts left : List (List ℕ)) (whole : Option (List ℕ)) (old mid new : Sink) → Rounds ps (t ∷ ts) whole old mid → PrintsOnce (once ps (t ∷ ts)) left mid new → Rounds ps left whole old new
 rounds_go ps t ts left whole old mid new r p =
     (elim r.count as (λ (n : ℕ). length (t ∷ ts) ≤ n → whole ≡ Some (r.bytes ++ again n ps (t ∷ ts)) → Rounds ps left whole old new) [
       | zero ↦ λ w o. absurd (omega arith)
@@ -115,22 +117,22 @@ rounds_go ps t ts left whole old mid new r p =
       })
     ]) r.within r.output
 
-pub fewer_left : (ps : List Piece) (t : List ℕ) (ts left : List (List ℕ)) (whole : Option (List ℕ)) (old mid new : Sink) → Rounds ps (t ∷ ts) whole old mid → PrintsOnce (once ps (t ∷ ts)) left mid new → length left ≤ length ts
+pub fewer_left : (ps : List FormatPart) (t : List ℕ) (ts left : List (List ℕ)) (whole : Option (List ℕ)) (old mid new : Sink) → Rounds ps (t ∷ ts) whole old mid → PrintsOnce (once ps (t ∷ ts)) left mid new → length left ≤ length ts
 fewer_left ps t ts left whole old mid new r p = rw p.1 (once-takes ps t ts r.places)
 
-again-none : (n : ℕ) (ps : List Piece) → again n ps [] ≡ []
+again-none : (n : ℕ) (ps : List FormatPart) → again n ps [] ≡ []
 again-none zero ps = refl
 again-none (suc n) ps = refl
 
-pub rounds_done : (ps : List Piece) (whole : Option (List ℕ)) (old new : Sink) → Rounds ps [] whole old new → Prints whole old new
+pub rounds_done : (ps : List FormatPart) (whole : Option (List ℕ)) (old new : Sink) → Rounds ps [] whole old new → Prints whole old new
 rounds_done ps whole old new r = (r.bytes, r.output ∙ ap Some (ap (λ l. r.bytes ++ l) (again-none r.count ps) ∙ append-nil r.bytes), r.adds)
 
-pub rounds_over : (ps : List Piece) (left : List (List ℕ)) (whole : Option (List ℕ)) (old new : Sink) → new.is_over ≡ true → Rounds ps left whole old new → Prints whole old new
+pub rounds_over : (ps : List FormatPart) (left : List (List ℕ)) (whole : Option (List ℕ)) (old new : Sink) → new.is_over ≡ true → Rounds ps left whole old new → Prints whole old new
 rounds_over ps left whole old new over r = (r.bytes ++ again r.count ps left, r.output, adds-over r.bytes (again r.count ps left) old new over r.adds)
 
 -- the same, where a slice holds the operands
 
-module _ (ps : List Piece) (whole : Option (List ℕ)) (old mid new : Sink) where
+module _ (ps : List FormatPart) (whole : Option (List ℕ)) (old mid new : Sink) where
   pub next_round : (vs : List (List ℕ)) (left : List (List ℕ)) → (length vs == 0) ≡ false → Rounds ps vs whole old mid → PrintsOnce (once ps vs) left mid new → Rounds ps left whole old new
   next_round [] left some r p = absurd cc
   next_round (v ∷ vs) left some r p = rounds_go ps v vs left whole old mid new r p
@@ -141,7 +143,7 @@ module _ (ps : List Piece) (whole : Option (List ℕ)) (old mid new : Sink) wher
       let fewer = fewer_left ps v vs us whole old mid new r p in
       omega arith
 
-pub last_round : (ps : List Piece) (whole : Option (List ℕ)) (old new : Sink) (vs : List (List ℕ)) → (length vs == 0) ≡ true → Rounds ps vs whole old new → Prints whole old new
+pub last_round : (ps : List FormatPart) (whole : Option (List ℕ)) (old new : Sink) (vs : List (List ℕ)) → (length vs == 0) ≡ true → Rounds ps vs whole old new → Prints whole old new
 last_round ps whole old new [] none r = rounds_done ps whole old new r
 last_round ps whole old new (v ∷ vs) none r = absurd (let e = eqb-true (length (v ∷ vs)) 0 none in omega arith)
 
@@ -205,13 +207,13 @@ module _ (setting : Setting) (ask : Ask) (es : List Dep) (line : ℕ) where
         meant = sym (ap (λ r. r >>= λ more. Ok (c.bytes ++ more)) all ∙ regroup c.bytes f.0 (contents_of setting ask es line ts)) ∙ c.meant;
       }
 
-  leaves : (stop : Stop) (old mid new : Sink) → Grows old mid → Leaves stop mid new → Leaves stop old new
+  leaves : (stop : Halt) (old mid new : Sink) → Grows old mid → Leaves stop mid new → Leaves stop old new
   leaves (stops.Ended e) old mid new g l = grows-trans old mid new g l
   leaves (stops.Lacks ps) old mid new g l = grows-trans old mid new g l
   leaves (stops.Waits ps w) old mid new g l = grows-trans old mid new g l
   leaves stops.Memory old mid new g l = tt
 
-  pub catted_stops : (t : List ℕ) (ts : List (List ℕ)) (whole : Result (List ℕ) End) (old mid new : Sink) (stop : Stop) → Catted setting ask es line (t ∷ ts) whole old mid → Fills {X = Unit {0}} (Err stop) (content_of setting ask es line t) mid new → Fills {X = Unit {0}} (Err stop) whole old new
+  pub catted_stops : (t : List ℕ) (ts : List (List ℕ)) (whole : Result (List ℕ) End) (old mid new : Sink) (stop : Halt) → Catted setting ask es line (t ∷ ts) whole old mid → Fills {X = Unit {0}} (Err stop) (content_of setting ask es line t) mid new → Fills {X = Unit {0}} (Err stop) whole old new
   catted_stops t ts whole old mid new stop c f =
       let one = stops_bind stop (content_of setting ask es line t) (λ bytes. contents_of setting ask es line ts >>= λ more. Ok (bytes ++ more)) f.0 in
       let P : Result (List ℕ) End → Type 0 = λ r. Stops stop r in

@@ -1,8 +1,10 @@
 -- Small scripts, computed.
-use Rattle.std.specs.Prelude.{◌≡◌, ℕ, Bool, true, false, List, [], ◌∷◌, ◌++◌, Option, Some, None, codes, refl, if◌then◌else◌}
+use Rattle.std.specs.Prelude.{◌≡◌, ℕ, Bool, true, false, List, [], ◌∷◌, ◌++◌, Option, Some, None, codes, refl}
+use Rattle.std.specs.Prelude.{if◌then◌else◌}
 use Rattle.redo_script.specs.declared.ast.Parameter.{Parameter}
 use Rattle.redo_script.specs.declared.ast.Parameter.TheVariants.{One, Two, Three}
-use Rattle.redo_script.specs.Syntax.{byte, bare, Word, Redirection, is_file, equal, Writer, echo, printf, cat, write, change, create, always_false, exit, if_test, Script, finish, simple, choice}
+use Rattle.redo_script.specs.Syntax.{byte, bare, Word, Redirection, is_file, equal, Writer, echo, printf, cat, write}
+use Rattle.redo_script.specs.Syntax.{change, create, always_false, exit, if_test, Script, finish, simple, choice}
 use Rattle.redo_script.specs.Bytes.{is_plain}
 use Rattle.redo_record.specs.declared.deps.DepKind.TheVariants as kinds
 use Rattle.redo_record.specs.declared.outcome.Why.TheVariants as why

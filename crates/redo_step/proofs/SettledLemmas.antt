@@ -1,8 +1,10 @@
 -- Where every operand that is declared has an answer, commands other than redo-ifchange do the same under each ask that
 -- keeps these answers, and never stop.
-use Rattle.std.proofs.Common.{◌≡◌, ℕ, Bool, true, false, ◌&&◌, cond, Option, Some, None, Result, Ok, Err, List, [], ◌∷◌, ◌++◌, refl}
+use Rattle.std.proofs.Common.{◌≡◌, ℕ, Bool, true, false, ◌&&◌, cond, Option, Some, None, Result, Ok, Err, List, [], ◌∷◌}
+use Rattle.std.proofs.Common.{◌++◌, refl}
 use Rattle.std.specs.Prelude.{is_some, is_none, nat_le, length}
-use Rattle.redo_script.specs.Syntax.{Word, Redirection, Test, is_file, equal, differ, Writer, echo, printf, cat, Condition, if_test, if_true, if_false}
+use Rattle.redo_script.specs.Syntax.{Word, Redirection, Test, is_file, equal, differ, Writer, echo, printf, cat}
+use Rattle.redo_script.specs.Syntax.{Condition, if_test, if_true, if_false}
 use Rattle.redo_record.specs.declared.deps.DepKind.TheVariants as kinds
 use Rattle.redo_record.specs.declared.outcome.Why.{Why}
 use Rattle.redo_record.specs.declared.outcome.Why.TheVariants as why
@@ -14,9 +16,11 @@ use Rattle.redo_step.specs.Value.{value_of}
 use Rattle.redo_step.specs.Setting.{Setting}
 use Rattle.redo_step.specs.Runs.{State, End, exited, faulted, ◌>>=◌, or_else}
 use Rattle.redo_step.specs.Words.{text_of, texts_of, path_of, paths_of}
-use Rattle.redo_step.specs.Reading.{answered_file, file_at, is_declared, file_of, contents_of, test_texts, holds, tested}
+use Rattle.redo_step.specs.Reading.{answered_file, file_at, is_declared, file_of, contents_of, test_texts, holds}
+use Rattle.redo_step.specs.Reading.{tested}
 use Rattle.redo_step.specs.Formats.{print_of}
-use Rattle.redo_step.specs.Outputs.{is_third, goal_at, writer_texts, bytes_of, goal_of, bytes_or_none, limited, put, written}
+use Rattle.redo_step.specs.Outputs.{is_third, goal_at, writer_texts, bytes_of, goal_of, bytes_or_none, limited, put}
+use Rattle.redo_step.specs.Outputs.{written}
 use Rattle.redo_step.specs.Declaring.{obstacle, free_of, free_paths}
 use Rattle.redo_step.specs.Statements.{condition_result}
 use Rattle.redo_record.specs.Answers.{Ask}

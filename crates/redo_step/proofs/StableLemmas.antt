@@ -1,7 +1,9 @@
 -- What is known under an ask stays so under one that keeps its answers.
-use Rattle.std.proofs.Common.{◌≡◌, ℕ, Bool, true, false, ◌&&◌, cond, not, Option, Some, None, Result, Ok, Err, List, [], ◌∷◌, ◌++◌, refl, subst}
+use Rattle.std.proofs.Common.{◌≡◌, ℕ, Bool, true, false, ◌&&◌, cond, not, Option, Some, None, Result, Ok, Err, List, []}
+use Rattle.std.proofs.Common.{◌∷◌, ◌++◌, refl, subst}
 use Rattle.std.specs.Prelude.{is_some, is_none}
-use Rattle.redo_script.specs.Syntax.{Word, Redirection, Test, is_file, equal, differ, Writer, echo, printf, cat, Condition, if_test, if_true, if_false}
+use Rattle.redo_script.specs.Syntax.{Word, Redirection, Test, is_file, equal, differ, Writer, echo, printf, cat}
+use Rattle.redo_script.specs.Syntax.{Condition, if_test, if_true, if_false}
 use Rattle.redo_record.specs.declared.deps.DepKind.TheVariants as kinds
 use Rattle.redo_record.specs.declared.outcome.Why.TheVariants as why
 use Rattle.redo_record.specs.declared.outcome.Outcome.{Outcome}
@@ -10,14 +12,16 @@ use Rattle.redo_step.specs.Setting.{Setting}
 use Rattle.redo_step.specs.Runs.{State, End, exited, faulted, goes, ends, ◌>>=◌, or_else}
 use Rattle.redo_step.specs.Words.{path_of}
 use Rattle.redo_step.specs.Declaring.{declaring, lacks, is_in, lacking, any_failed, waited, changed}
-use Rattle.redo_step.specs.Reading.{answered_file, file_at, is_declared, file_of, contents_of, test_texts, holds, tested}
+use Rattle.redo_step.specs.Reading.{answered_file, file_at, is_declared, file_of, contents_of, test_texts, holds}
+use Rattle.redo_step.specs.Reading.{tested}
 use Rattle.redo_step.specs.Outputs.{writer_texts, bytes_of, goal_of, put, written}
 use Rattle.redo_step.specs.Statements.{condition_result}
 use Rattle.redo_record.specs.Answers.{Ask, is_failure}
 use Rattle.redo_record.specs.Entries.{is_entered, with_entries, Extends}
 use Rattle.redo_record.specs.declared.deps.Dep.{Dep}
 use Rattle.redo_step.specs.Reach.{Keeps}
-use Rattle.redo_record.proofs.EntryLemmas.{Extends-refl, Extends-with_entries, AllEntered, AllEntered-with_entries, with_entries-again}
+use Rattle.redo_record.proofs.EntryLemmas.{Extends-refl, Extends-with_entries, AllEntered, AllEntered-with_entries}
+use Rattle.redo_record.proofs.EntryLemmas.{with_entries-again}
 
 -- where the first gives a value, the second gives it too
 pub record Stable {A : Type 0} (first second : Result A End) : Type 0 where

@@ -1,6 +1,7 @@
 -- How far one statement comes.
 use Rattle.std.proofs.Common.{◌≡◌, ℕ, Bool, true, false, Option, Some, None, Result, Ok, Err, List, ◌++◌, refl, sym, ap}
-use Rattle.redo_script.specs.Syntax.{Word, Redirection, Writer, Command, write, test, change, create, always_true, always_false, exit, Condition, Script, simple, choice}
+use Rattle.redo_script.specs.Syntax.{Word, Redirection, Writer, Command, write, test, change, create, always_true}
+use Rattle.redo_script.specs.Syntax.{always_false, exit, Condition, Script, simple, choice}
 use Rattle.redo_record.specs.declared.deps.DepKind.TheVariants as kinds
 use Rattle.redo_record.specs.Paths.{Path}
 use Rattle.redo_step.specs.Setting.{Setting}
@@ -16,7 +17,8 @@ use Rattle.redo_record.specs.Entries.{Extends}
 use Rattle.redo_step.specs.Place.{followed_by}
 use Rattle.redo_record.proofs.EntryLemmas.{Extends-refl, Extends-with_entries}
 use Rattle.redo_step.proofs.RunLemmas.{run-followed_by}
-use Rattle.redo_step.proofs.StableLemmas.{Stable, written_stable, tested_stable, condition_stable, changed_goes, changed_stays}
+use Rattle.redo_step.proofs.StableLemmas.{Stable, written_stable, tested_stable, condition_stable, changed_goes}
+use Rattle.redo_step.proofs.StableLemmas.{changed_stays}
 
 bind_ok : {A B : Type 0} (r : Result A End) (f : A → Result B End) (y : B) → (r >>= f) ≡ Ok y → (x : A) × (r ≡ Ok x) × (f x ≡ Ok y)
 bind_ok (Ok x) f y e = (x, refl, e)

@@ -1,5 +1,6 @@
 -- A wait for operands is a wait for those of them that are no sources.
-use Rattle.std.proofs.Common.{◌≡◌, ℕ, suc, ◌+◌, ◌<◌, Bool, true, false, ◌&&◌, ◌||◌, cond, not, inl, inr, List, [], ◌∷◌, ◌++◌, length, drop, get_or, Result, Ok, Err, refl, sym, ap, ◌∙◌, add-one}
+use Rattle.std.proofs.Common.{◌≡◌, ℕ, suc, ◌+◌, ◌<◌, Bool, true, false, ◌&&◌, ◌||◌, cond, not, inl, inr, List, [], ◌∷◌}
+use Rattle.std.proofs.Common.{◌++◌, length, drop, get_or, Result, Ok, Err, refl, sym, ap, ◌∙◌, add-one}
 use Rattle.std.specs.Prelude.{is_none}
 use Rattle.std.proofs.Math.Seq.{drop-cons}
 use Rattle.std.specs.List.{list_any}
@@ -7,10 +8,10 @@ use Rattle.std.proofs.lemmas.Bool.{cases_Bool, both_ways}
 use Rattle.std.specs.Str.{bytes_eq}
 use lib.Pointwise.{bytes_decides}
 use Rattle.redo_record.specs.declared.deps.DepKind.TheVariants as kinds
-use Rattle.redo_step.specs.declared.stop.Stop.{Stop}
+use Rattle.redo_step.specs.declared.halt.Halt.{Halt}
 use Rattle.redo_record.specs.Paths.{Path}
 use Rattle.redo_script.specs.Syntax.{Word, Command, change}
-use Rattle.redo_step.specs.declared.stop.Stop.TheVariants as stops
+use Rattle.redo_step.specs.declared.halt.Halt.TheVariants as stops
 use Rattle.redo_step.specs.declared.wait.Waiting.{Waiting}
 use Rattle.redo_step.specs.inside.Machine.{WaitsBy, GoesOn, EndsAt, Passes}
 use Rattle.redo_step.specs.inside.Kept.{HasOperands}
@@ -48,20 +49,20 @@ module _ (setting : Setting) (ask : Ask) where
   changed_is line meant ps targets s t m g d = rw (m, g, d) (waited_is line ps (declaring s kinds.Change ps))
 
   -- what was waited for is kept
-  pub ends_waiting : (line : ℕ) (c : Command) (w : Waiting) (stop : Stop) (r : Run) (t : State) → HasOperands setting line c t w → WaitsBy w stop r t → EndsAt setting line c stop r t
+  pub ends_waiting : (line : ℕ) (c : Command) (w : Waiting) (stop : Halt) (r : Run) (t : State) → HasOperands setting line c t w → WaitsBy w stop r t → EndsAt setting line c stop r t
   ends_waiting line c w (stops.Ended e) r t has h = h
   ends_waiting line c w (stops.Lacks ps) r t has h = absurd h
   ends_waiting line c w (stops.Waits ps v) r t has h = (h.0, rw h.1 has)
   ends_waiting line c w stops.Memory r t has h = tt
 
-  passes_waiting : {X : Type 0} (line : ℕ) (c : Command) (w : Waiting) (result : Result X Stop) (r : Run) (t : State) → HasOperands setting line c t w → GoesOn w result r t → Passes setting line c result r t
+  passes_waiting : {X : Type 0} (line : ℕ) (c : Command) (w : Waiting) (result : Result X Halt) (r : Run) (t : State) → HasOperands setting line c t w → GoesOn w result r t → Passes setting line c result r t
   passes_waiting line c w (Ok x) r t has h = h
   passes_waiting line c w (Err stop) r t has h = ends_waiting line c w stop r t has h
 
   again : (s t : State) (ps : List Path) → t ≡ declaring s kinds.Change ps → declaring t kinds.Change ps ≡ t
   again s t ps d = rw d (ap (λ es. record s { entries = es }) (with_entries-again s.entries kinds.Change ps))
 
-  pub changed_passes : {X : Type 0} (line : ℕ) (words : List Word) (ps : List Path) (w : Waiting) (s t : State) (result : Result X Stop) → operands_of setting line words ≡ Ok ps → w.line ≡ line → w.targets.items ≡ targets_in setting ps → t ≡ declaring s kinds.Change ps → GoesOn w result (waited_on ask w.line w.targets.items (unanswered ask [] w.targets.items) t) t → Passes setting line (change words) result (changed setting ask line (operands_of setting line words) s) t
+  pub changed_passes : {X : Type 0} (line : ℕ) (words : List Word) (ps : List Path) (w : Waiting) (s t : State) (result : Result X Halt) → operands_of setting line words ≡ Ok ps → w.line ≡ line → w.targets.items ≡ targets_in setting ps → t ≡ declaring s kinds.Change ps → GoesOn w result (waited_on ask w.line w.targets.items (unanswered ask [] w.targets.items) t) t → Passes setting line (change words) result (changed setting ask line (operands_of setting line words) s) t
   changed_passes line words ps w s t result m l g d h =
       let has : HasOperands setting line (change words) t w = record { words = words; operands = ps; same_line = l; same_command = refl; names = m; waits_for = g; declared = again s t ps d } in
       let is = changed_is line (operands_of setting line words) ps w.targets.items s t m g d in

@@ -1,5 +1,6 @@
 -- What redo-ifchange and redo-ifcreate declare, and when they stop or fail.
-use Rattle.std.specs.Prelude.{ℕ, Bool, false, ◌&&◌, ◌||◌, not, List, [], ◌∷◌, ◌++◌, Option, Some, None, is_some, is_none, Result, Ok, Err, if◌then◌else◌}
+use Rattle.std.specs.Prelude.{ℕ, Bool, false, ◌&&◌, ◌||◌, not, List, [], ◌∷◌, ◌++◌, Option, Some, None, is_some}
+use Rattle.std.specs.Prelude.{is_none, Result, Ok, Err, if◌then◌else◌}
 use Rattle.redo_script.specs.Syntax.{Word}
 use Rattle.redo_record.specs.declared.deps.DepKind.{DepKind}
 use Rattle.redo_record.specs.declared.deps.DepKind.TheVariants as kinds
@@ -30,7 +31,8 @@ is_in (q ∷ qs) p = bytes_eq p q || is_in qs p
 abbrev pub lacking : Setting → Ask → List Path → List Path → List Path
 lacking setting ask found [] = found
 lacking setting ask found (p ∷ ps) =
-    if lacks setting ask p && not (is_in found p) then lacking setting ask (found ++ p ∷ []) ps else lacking setting ask found ps
+    if lacks setting ask p && not (is_in found p) then lacking setting ask (found ++ p ∷ []) ps
+    else lacking setting ask found ps
 
 -- no source, and answered as failed
 abbrev pub has_failed : Setting → Ask → Path → Bool

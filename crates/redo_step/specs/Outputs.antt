@@ -1,5 +1,6 @@
 -- Commands that write: to standard output, or to $3.
-use Rattle.std.specs.Prelude.{ℕ, Bool, true, false, nat_le, List, [], ◌∷◌, ◌++◌, length, Option, Some, None, Result, Ok, Err, if◌then◌else◌}
+use Rattle.std.specs.Prelude.{ℕ, Bool, true, false, nat_le, List, [], ◌∷◌, ◌++◌, length, Option, Some, None, Result, Ok}
+use Rattle.std.specs.Prelude.{Err, if◌then◌else◌}
 use Rattle.redo_script.specs.Syntax.{Word, Redirection, Writer, echo, printf, cat}
 use Rattle.redo_record.specs.declared.outcome.Why.TheVariants as why
 use Rattle.std.specs.Str.{bytes_eq}

@@ -14,13 +14,15 @@ use Rattle.redo_record.specs.declared.deps.Dep.{Dep}
 -- Every answer stays that was given to an operand of redo-ifchange among the entries. A source has its bytes, whatever
 -- an ask says of it.
 pub record Keeps (setting : Setting) (entries : List Dep) (ask later : Ask) : Type 0 where
-  pub same : (p : Path) (a : Outcome) → setting.source p ≡ None → is_entered entries kinds.Change p ≡ true → ask p ≡ Some a → later p ≡ Some a
+  pub same : (p : Path) (a : Outcome) → setting.source p ≡ None → is_entered entries kinds.Change p ≡ true →
+      ask p ≡ Some a → later p ≡ Some a
 
 -- The run of these statements from this state comes to those statements and that state: under this ask,
 -- and under each that keeps its answers to what is then declared.
 pub record Reaches (setting : Setting) (ask : Ask) (script : Script) (old : State) (rest : Script) (new : State) : Type 0 where
   pub extends : Extends old.entries new.entries
-  pub same : (later : Ask) → Keeps setting new.entries ask later → run setting later script old ≡ run setting later rest new
+  pub same : (later : Ask) → Keeps setting new.entries ask later →
+      run setting later script old ≡ run setting later rest new
 
 -- A job fits an ask where the run of the whole script comes to what the job has left.
 abbrev pub Fits : Setting → Ask → Script → Script → State → Type 0

@@ -20,7 +20,8 @@ outcome_of (not_made w) = Failed w
 
 -- how far a run came, with the record of the search before its own
 abbrev pub after_run : List Dep → Run → Progress
-after_run deps run = record { outcome = option_map outcome_of (result_of run); deps = with_all deps (end_state run).entries }
+after_run deps run =
+    record { outcome = option_map outcome_of (result_of run); deps = with_all deps (end_state run).entries }
 
 -- how far a target comes by the script that was read, or by the fault of its text
 abbrev pub by_script : Setting → List Dep → Result Script ScriptFault → Ask → Progress

@@ -1,6 +1,7 @@
 -- What a script does, as a function of the answers to what it asks for.
 use Rattle.std.specs.Prelude.{ℕ, zero, suc, Bool, true, false, List, [], ◌∷◌, Option, Some, None, Result, Ok, Err}
-use Rattle.redo_script.specs.Syntax.{Command, write, test, change, create, always_true, always_false, exit, Condition, if_test, if_true, if_false, Script, finish, simple, choice}
+use Rattle.redo_script.specs.Syntax.{Command, write, test, change, create, always_true, always_false, exit, Condition}
+use Rattle.redo_script.specs.Syntax.{if_test, if_true, if_false, Script, finish, simple, choice}
 use Rattle.redo_record.specs.declared.outcome.Why.{Why}
 use Rattle.redo_record.specs.declared.outcome.Why.TheVariants as why
 use Rattle.redo_record.specs.Answers.{Ask}

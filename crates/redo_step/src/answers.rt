@@ -3,8 +3,8 @@
 ghost use Rattle.std.specs.Prelude.{◌≡◌, List, ℕ, Option, option_copied};
 ghost use Rattle.redo_record.specs.declared.outcome.Outcome.{Outcome as OutcomeTree};
 
-use redo_record::Outcome;
 use redo_path::Path;
+use redo_record::Outcome;
 
 /// Knows what became of some paths. Of a source it is never asked.
 pub trait Answers {

@@ -11,11 +11,11 @@ ghost use Rattle.redo_step.specs.inside.Scene.{scene_setting};
 
 use crate::answers::Answers;
 use crate::declaring::declare;
-use redo_record::{DepKind, Deps};
+use crate::halt::Halt;
 use crate::machine::Effects;
 use crate::scene::Scene;
-use crate::stop::Stop;
 use crate::wait::Waiting;
+use redo_record::{DepKind, Deps};
 use redo_script::{Command, Condition, Test, Word};
 
 impl Scene<'_> {
@@ -26,7 +26,7 @@ impl Scene<'_> {
         line: u64,
         command: &Command,
         effects: &mut Effects,
-    ) -> Result<(), Stop>
+    ) -> Result<(), Halt>
         ensures { Passes (scene_setting self.now) line (command_of command.now) result (command_run (scene_setting self.now) (A.ask answers.now) line (command_of command.now) (state_of effects.old)) (state_of effects.new) }
     {
         match command {
@@ -37,14 +37,14 @@ impl Scene<'_> {
                 if self.tested(answers, line, test, &effects.deps)? {
                     Ok(())
                 } else {
-                    Err(Stop::exit(1))
+                    Err(Halt::exit(1))
                 }
             }
             Command::Change(words) => self.change(answers, line, words, effects),
             Command::Create(words) => self.create(line, words, effects),
             Command::True => Ok(()),
-            Command::False => Err(Stop::exit(1)),
-            Command::Exit(status) => Err(Stop::exit(*status)),
+            Command::False => Err(Halt::exit(1)),
+            Command::Exit(status) => Err(Halt::exit(*status)),
         }
     }
 
@@ -55,7 +55,7 @@ impl Scene<'_> {
         line: u64,
         words: &[Word],
         effects: &mut Effects,
-    ) -> Result<(), Stop>
+    ) -> Result<(), Halt>
         ensures { Passes (scene_setting self.now) line (change (words_of words.now)) result (changed (scene_setting self.now) (A.ask answers.now) line (operands_of (scene_setting self.now) line (words_of words.now)) (state_of effects.old)) (state_of effects.new) }
     {
         let paths = self.operands(line, words)?;
@@ -65,7 +65,7 @@ impl Scene<'_> {
     }
 
     /// redo-ifcreate(1): declares these words' paths, none of which may be there.
-    fn create(&self, line: u64, words: &[Word], effects: &mut Effects) -> Result<(), Stop>
+    fn create(&self, line: u64, words: &[Word], effects: &mut Effects) -> Result<(), Halt>
         ensures { Runs result (created (free_operands (scene_setting self.now) line (words_of words.now)) (state_of effects.old)) (state_of effects.new) }
     {
         let paths = self.operands(line, words)?;
@@ -81,7 +81,7 @@ impl Scene<'_> {
         line: u64,
         test: &Test,
         declared: &Deps,
-    ) -> Result<bool, Stop>
+    ) -> Result<bool, Halt>
         ensures { Gives (λ holds. holds) result (tested_in (scene_setting self.now) (A.ask answers.now) declared.now line (test_of test.now)) }
     {
         match test {
@@ -109,7 +109,7 @@ impl Scene<'_> {
         line: u64,
         condition: &Condition,
         effects: &Effects,
-    ) -> Result<bool, Stop>
+    ) -> Result<bool, Halt>
         ensures { Gives (λ holds. holds) result (condition_result (scene_setting self.now) (A.ask answers.now) line (condition_of condition.now) (state_of effects.now)) }
     {
         match condition {

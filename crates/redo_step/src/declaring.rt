@@ -7,11 +7,10 @@ ghost use Rattle.redo_step.specs.inside.Machine.{Gives};
 ghost use Rattle.redo_step.specs.inside.Scene.{scene_setting};
 ghost use Rattle.redo_step.specs.inside.Waiting.{targets_in};
 
-use redo_record::{Dep, DepKind, Deps};
-use redo_record::Why;
+use crate::halt::Halt;
 use crate::scene::Scene;
-use crate::stop::Stop;
 use redo_path::Path;
+use redo_record::{Dep, DepKind, Deps, Why};
 use std::alloc::AllocError;
 
 /// Enters these paths in order.
@@ -38,15 +37,15 @@ impl Scene<'_> {
     }
 
     /// Refuses a path that is there, or that a rule makes.
-    pub(crate) fn check_free(&self, line: u64, paths: &[Path]) -> Result<(), Stop>
+    pub(crate) fn check_free(&self, line: u64, paths: &[Path]) -> Result<(), Halt>
         ensures { Gives (λ _. paths.now) result (free_of paths.now (obstacle (scene_setting self.now) line paths.now)) }
     {
         for path in paths {
             if self.source(path).is_some() || self.is_directory(path) {
-                return Err(Stop::fault(Why::Exists(line)));
+                return Err(Halt::fault(Why::Exists(line)));
             }
             if self.has_rule(path)? {
-                return Err(Stop::fault(Why::Buildable(line)));
+                return Err(Halt::fault(Why::Buildable(line)));
             }
         }
         Ok(())

@@ -16,17 +16,15 @@ ghost use Rattle.redo_step.specs.Setting.{setting_of};
 ghost use Rattle.redo_which.specs.Views.{arguments_view};
 
 use crate::answers::Answers;
-use redo_record::Deps;
+use crate::halt::Ending;
 use crate::limits::Limits;
-use crate::machine::{Effects, Progress, resume};
-use redo_record::{Outcome, Why};
+use crate::machine::{Effects, RunEnd, resume};
 use crate::parsed::Parsed;
 use crate::place::Place;
-use redo_record::Record;
 use crate::scene::Scene;
-use crate::stop::Ending;
 use crate::wait::Waiting;
 use redo_path::Path;
+use redo_record::{Deps, Outcome, Record, Why};
 use redo_script::ScriptFault;
 use redo_tree::{Content, Tree};
 use redo_which::Rule;
@@ -48,7 +46,8 @@ struct Task {
 impl Task {
     /// What the script's commands see.
     fn scene(&self) -> Scene<'_>
-        ensures { scene_setting result ≡ setting_of (arc_value self.now.tree) self.now.limits.file_bytes self.now.target (arguments_view self.now.rule.args) }
+        ensures { scene_setting result ≡
+            setting_of (arc_value self.now.tree) self.now.limits.file_bytes self.now.target (arguments_view self.now.rule.args) }
     {
         Scene {
             alloc: self.alloc,
@@ -72,8 +71,8 @@ struct Course {
     kept: Option<Waiting>,
 }
 
-/// A target's script, the place that it stopped at, and what it has done. These are boxed, since a job is handed on from
-/// one stop to the next and is large.
+/// A target's script, the place that it stopped at, and what it has done. These are boxed, since a job is handed on
+/// from one stop to the next and is large.
 #[derive(Drop)]
 pub struct Job {
     course: Box<Course>,
@@ -183,9 +182,9 @@ impl Job {
         Record::so_far(task.alloc, &task.rule, &effects.deps)
     }
 
-    /// Runs on until the script ends, or until redo-ifchange(1) lacks an answer. It asks that the job fits the answers: a
-    /// job just begun fits any, and one that stopped fits all that keep what it was told of its operands. Of sources the
-    /// tree alone is asked. On want of memory the job is lost.
+    /// Runs on until the script ends, or until redo-ifchange(1) lacks an answer. It asks that the job fits the answers:
+    /// a job just begun fits any, and one that stopped fits all that keep what it was told of its operands. Of sources
+    /// the tree alone is asked. On want of memory the job is lost.
     pub fn advance<A: Answers>(self, answers: &A) -> Result<Step, AllocError>
         requires fits { IsFit self (A.ask answers.now) }
         requires turn { self.turn + 1 < 2 ^ 64 }
@@ -214,9 +213,9 @@ impl Job {
             place,
             kept.take(),
         )? {
-            Progress::Finished => ended(course, Ending::Exited(0)),
-            Progress::Ended(ending) => ended(course, ending),
-            Progress::Stopped(paths, place, kept) => {
+            RunEnd::Finished => ended(course, Ending::Exited(0)),
+            RunEnd::Ended(ending) => ended(course, ending),
+            RunEnd::Stopped(paths, place, kept) => {
                 let here = &mut *course;
                 here.place = place;
                 here.kept = kept;
@@ -261,7 +260,8 @@ fn outcome_after(
     output: Vec<u8>,
     third: Option<Vec<u8>>,
 ) -> Result<Outcome, AllocError>
-    ensures { IfOk result (λ outcome. Some outcome ≡ option_map outcome_of (result_of (after_end (end_of ending) output third))) }
+    ensures { IfOk result (λ outcome. Some outcome ≡
+        option_map outcome_of (result_of (after_end (end_of ending) output third))) }
 {
     match ending {
         Ending::Exited(0) => made(output, third),

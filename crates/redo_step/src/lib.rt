@@ -6,15 +6,16 @@
 //! and arguments, on redo_script for the reader, and on redo_record for what a script declares and how it ends.
 //!
 //! - What a script is given: `limits`, `parsed` and `refusal`, `answers`.
-//! - A job and how it goes on: `job`, `machine`, `place`, `stop`.
-//! - Commands, one idea each: `scene` (what they see), `text`, `value` and `words`, `reading`, `printf`, `sink` and `writing`,
-//!   `declaring`, `commands`.
+//! - A job and how it goes on: `job`, `machine`, `place`, `halt`.
+//! - Commands, one idea each: `scene` (what they see), `text`, `value` and `words`, `reading`, `printf`, `sink` and
+//!   `writing`, `declaring`, `commands`.
 //! - Laws over what scripts mean: `laws`.
 #![tactic(auto)]
 
 mod answers;
 mod commands;
 mod declaring;
+mod halt;
 mod job;
 mod laws;
 mod limits;
@@ -26,7 +27,6 @@ mod reading;
 mod refusal;
 mod scene;
 mod sink;
-mod stop;
 mod text;
 mod value;
 mod wait;

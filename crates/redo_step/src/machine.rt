@@ -5,16 +5,17 @@ ghost use Rattle.redo_script.specs.View.{script_of};
 ghost use Rattle.redo_script.specs.Syntax.{finish};
 ghost use Rattle.redo_step.specs.Place.{skip, left_at, stands_at};
 ghost use Rattle.redo_step.specs.inside.Kept.{IsKept};
-ghost use Rattle.redo_step.specs.inside.Machine.{state_of, Comes, IsStopBefore, IsWithin, IsPassed, HasBranch, HasNoBranch};
+ghost use Rattle.redo_step.specs.inside.Machine.{state_of, Comes, IsStopBefore, IsWithin, IsPassed, HasBranch};
+ghost use Rattle.redo_step.specs.inside.Machine.{HasNoBranch};
 ghost use Rattle.redo_step.specs.inside.Scene.{scene_setting};
 
 use crate::answers::Answers;
-use redo_record::Deps;
+use crate::halt::{Ending, Halt};
 use crate::place::{Branch, Place};
 use crate::scene::Scene;
-use crate::stop::{Ending, Stop};
 use crate::wait::Waiting;
 use redo_path::Path;
+use redo_record::Deps;
 use redo_script::Stmt;
 use std::alloc::{AllocError, Global};
 
@@ -29,10 +30,11 @@ pub(crate) struct Effects {
 
 /// How far a list of statements was run.
 #[derive(Debug, Drop)]
-pub(crate) enum Progress {
+pub(crate) enum RunEnd {
     Finished,
     Ended(Ending),
-    /// Stopped at a place of the list, for want of the answers for these paths, with the redo-ifchange that waits there.
+    /// Stopped at a place of the list, for want of the answers for these paths, with the redo-ifchange that waits
+    /// there.
     Stopped(Vec<Path>, Place, Option<Waiting>),
 }
 
@@ -44,16 +46,16 @@ fn run_from<A: Answers>(
     effects: &mut Effects,
     stmts: &[Stmt],
     first: usize,
-) -> Result<Progress, AllocError>
+) -> Result<RunEnd, AllocError>
     ensures { IfOk result (λ progress. Comes (scene_setting scene.now) (A.ask answers.now) (script_of stmts.now) (skip first (script_of stmts.now)) finish (state_of effects.old) progress (state_of effects.new)) }
 {
     for index in first..stmts.len() {
         match run_stmt(scene, answers, effects, &stmts[index], index)? {
-            Progress::Finished => {}
+            RunEnd::Finished => {}
             progress => return Ok(progress),
         }
     }
-    Ok(Progress::Finished)
+    Ok(RunEnd::Finished)
 }
 
 /// Runs one statement, which has this number among those round it.
@@ -64,12 +66,12 @@ fn run_stmt<A: Answers>(
     effects: &mut Effects,
     stmt: &Stmt,
     index: usize,
-) -> Result<Progress, AllocError>
+) -> Result<RunEnd, AllocError>
     ensures { IfOk result (λ progress. IsPassed (scene_setting scene.now) (A.ask answers.now) stmt.now index (state_of effects.old) progress (state_of effects.new)) }
 {
     match stmt {
         Stmt::Simple(line, command) => match scene.command(answers, *line, command, effects) {
-            Ok(()) => Ok(Progress::Finished),
+            Ok(()) => Ok(RunEnd::Finished),
             Err(stop) => stop_before(stop, index),
         },
         Stmt::If(line, condition, first, second) => {
@@ -96,7 +98,7 @@ pub(crate) fn resume<A: Answers>(
     stmts: &[Stmt],
     place: &Place,
     kept: Option<Waiting>,
-) -> Result<Progress, AllocError>
+) -> Result<RunEnd, AllocError>
     requires { IsKept (scene_setting scene.now) (stands_at place.now (script_of stmts.now)) (state_of effects.old) kept }
     ensures { IfOk result (λ progress. Comes (scene_setting scene.now) (A.ask answers.now) (script_of stmts.now) (left_at place.now (script_of stmts.now)) finish (state_of effects.old) progress (state_of effects.new)) }
 {
@@ -113,11 +115,11 @@ pub(crate) fn resume<A: Answers>(
         Place::Within(index, branch, inner) => {
             // A place inside what is no `if` has nothing left.
             let Some(part) = branch_at(stmts, *index, *branch) else {
-                return Ok(Progress::Finished);
+                return Ok(RunEnd::Finished);
             };
             let progress = resume(scene, answers, effects, part, inner, kept)?;
             match within(scene.alloc, progress, *index, *branch)? {
-                Progress::Finished => run_from(scene, answers, effects, stmts, *index + 1),
+                RunEnd::Finished => run_from(scene, answers, effects, stmts, *index + 1),
                 progress => Ok(progress),
             }
         }
@@ -142,31 +144,31 @@ fn branch_at(stmts: &[Stmt], index: usize, branch: Branch) -> Option<&[Stmt]>
 }
 
 /// Why a statement stopped, as the progress of the statements round it.
-fn stop_before(stop: Stop, index: usize) -> Result<Progress, AllocError>
+fn stop_before(stop: Halt, index: usize) -> Result<RunEnd, AllocError>
     ensures { IfOk result (IsStopBefore stop index) }
 {
     let here = Place::Before(index);
     match stop {
-        Stop::Ended(ending) => Ok(Progress::Ended(ending)),
-        Stop::Lacks(paths) => Ok(Progress::Stopped(paths, here, None)),
-        Stop::Waits(paths, waiting) => Ok(Progress::Stopped(paths, here, Some(waiting))),
-        Stop::Memory => Err(AllocError),
+        Halt::Ended(ending) => Ok(RunEnd::Ended(ending)),
+        Halt::Lacks(paths) => Ok(RunEnd::Stopped(paths, here, None)),
+        Halt::Waits(paths, waiting) => Ok(RunEnd::Stopped(paths, here, Some(waiting))),
+        Halt::Memory => Err(AllocError),
     }
 }
 
 /// The progress of a branch, as that of the statements round it.
 fn within(
     alloc: Global,
-    progress: Progress,
+    progress: RunEnd,
     index: usize,
     branch: Branch,
-) -> Result<Progress, AllocError>
+) -> Result<RunEnd, AllocError>
     ensures { IfOk result (IsWithin progress index branch) }
 {
     match progress {
-        Progress::Stopped(paths, place, kept) => {
+        RunEnd::Stopped(paths, place, kept) => {
             let place = Box::new(alloc, place)?;
-            Ok(Progress::Stopped(paths, Place::Within(index, branch, place), kept))
+            Ok(RunEnd::Stopped(paths, Place::Within(index, branch, place), kept))
         }
         other => Ok(other),
     }

@@ -2,20 +2,21 @@
 
 ghost use Rattle.std.specs.Prelude.{◌≡◌, ◌≤◌, ◌∷◌, IfOk, OnOk, IfSome, IfNone, None, Some, option_map, length};
 ghost use Rattle.redo_step.specs.Runs.{or_else, faulted};
-ghost use Rattle.redo_step.specs.Formats.{sequence_of, with_piece, pieces_of, takes_operands, once, formatted, print_of};
+ghost use Rattle.redo_step.specs.Formats.{sequence_of, with_piece, pieces_of, takes_operands, once, formatted};
+ghost use Rattle.redo_step.specs.Formats.{print_of};
 ghost use Rattle.redo_step.specs.inside.Printing.{HasPlaces, Prints, PrintsOnce};
 ghost use Rattle.redo_step.specs.inside.Sink.{Fills};
 ghost use Rattle.redo_record.specs.declared.outcome.Why.TheVariants.{Format};
 
-use redo_record::Why;
+use crate::halt::Halt;
 use crate::sink::Sink;
-use crate::stop::Stop;
 use crate::text::Text;
+use redo_record::Why;
 use std::alloc::{AllocError, Global};
 
 /// A piece of a format.
 #[derive(Clone, Copy, Debug, PartialEq, Eq)]
-pub(crate) enum Piece {
+pub(crate) enum FormatPart {
     /// A byte that stands for itself, or for which an escape stands.
     Literal(u8),
     /// The place of an operand.
@@ -29,21 +30,21 @@ pub(crate) fn printf(
     format: &[u8],
     texts: &[Text],
     sink: &mut Sink,
-) -> Result<(), Stop>
+) -> Result<(), Halt>
     ensures { Fills result (or_else (faulted (Format line)) (print_of format.now texts.now)) sink.old sink.new }
 {
     let Some(pieces) = pieces(alloc, format)? else {
-        return Err(Stop::fault(Why::Format(line)));
+        return Err(Halt::fault(Why::Format(line)));
     };
     if !texts.is_empty() && !takes_operands(&pieces) {
-        return Err(Stop::fault(Why::Format(line)));
+        return Err(Halt::fault(Why::Format(line)));
     }
     print(&pieces, texts, sink)?;
     Ok(())
 }
 
 /// The pieces of a format, unless another sequence stands in it.
-fn pieces(alloc: Global, format: &[u8]) -> Result<Option<Vec<Piece>>, AllocError>
+fn pieces(alloc: Global, format: &[u8]) -> Result<Option<Vec<FormatPart>>, AllocError>
     ensures { IfOk result (λ pieces. option_map (λ v. v.items) pieces ≡ pieces_of format.now) }
 {
     let mut pieces = Vec::new(alloc);
@@ -59,7 +60,7 @@ fn pieces(alloc: Global, format: &[u8]) -> Result<Option<Vec<Piece>>, AllocError
 }
 
 /// The first piece of a format, and what is behind it.
-fn piece_at(first: u8, others: &[u8]) -> Option<(Piece, &[u8])>
+fn piece_at(first: u8, others: &[u8]) -> Option<(FormatPart, &[u8])>
     ensures none { IfNone result (pieces_of (first ∷ others.now) ≡ None) }
     ensures some { IfSome result (λ r. pieces_of (first ∷ others.now) ≡ with_piece (Some r.0) (pieces_of r.1.now)) }
     ensures shorter { IfSome result (λ r. length r.1.now ≤ length others.now) }
@@ -70,30 +71,30 @@ fn piece_at(first: u8, others: &[u8]) -> Option<(Piece, &[u8])>
             let piece = sequence(first, *second)?;
             Some((piece, after))
         }
-        _ => Some((Piece::Literal(first), others)),
+        _ => Some((FormatPart::Literal(first), others)),
     }
 }
 
 /// What two bytes stand for, of which the first is a percent sign or a backslash.
-fn sequence(first: u8, second: u8) -> Option<Piece>
+fn sequence(first: u8, second: u8) -> Option<FormatPart>
     ensures { result ≡ sequence_of first second }
 {
     match (first, second) {
-        (b'%', b's') => Some(Piece::Operand),
-        (b'%', b'%') => Some(Piece::Literal(b'%')),
-        (b'\\', b'n') => Some(Piece::Literal(b'\n')),
-        (b'\\', b't') => Some(Piece::Literal(b'\t')),
-        (b'\\', b'\\') => Some(Piece::Literal(b'\\')),
+        (b'%', b's') => Some(FormatPart::Operand),
+        (b'%', b'%') => Some(FormatPart::Literal(b'%')),
+        (b'\\', b'n') => Some(FormatPart::Literal(b'\n')),
+        (b'\\', b't') => Some(FormatPart::Literal(b'\t')),
+        (b'\\', b'\\') => Some(FormatPart::Literal(b'\\')),
         _ => None,
     }
 }
 
 /// Whether a format has a place for an operand.
-fn takes_operands(pieces: &[Piece]) -> bool
+fn takes_operands(pieces: &[FormatPart]) -> bool
     ensures { result ≡ takes_operands pieces.now }
 {
     for piece in pieces {
-        if let Piece::Operand = piece {
+        if let FormatPart::Operand = piece {
             return true;
         }
     }
@@ -101,7 +102,7 @@ fn takes_operands(pieces: &[Piece]) -> bool
 }
 
 /// Prints the format once, and then again while operands are left.
-fn print(pieces: &[Piece], texts: &[Text], sink: &mut Sink) -> Result<(), AllocError>
+fn print(pieces: &[FormatPart], texts: &[Text], sink: &mut Sink) -> Result<(), AllocError>
     requires { HasPlaces pieces.now texts.now }
     ensures { OnOk result (Prints (formatted pieces.now texts.now) sink.old sink.new) }
 {
@@ -115,7 +116,7 @@ fn print(pieces: &[Piece], texts: &[Text], sink: &mut Sink) -> Result<(), AllocE
 
 /// Prints the format once, and answers the operands that are left.
 fn print_once<'t, 'a>(
-    pieces: &[Piece],
+    pieces: &[FormatPart],
     texts: &'t [Text<'a>],
     sink: &mut Sink,
 ) -> Result<&'t [Text<'a>], AllocError>
@@ -124,8 +125,8 @@ fn print_once<'t, 'a>(
     let mut printed = 0;
     for piece in pieces {
         match piece {
-            Piece::Literal(byte) => sink.add(&[*byte])?,
-            Piece::Operand => {
+            FormatPart::Literal(byte) => sink.add(&[*byte])?,
+            FormatPart::Operand => {
                 if printed < texts.len() {
                     sink.add(texts[printed].bytes())?;
                     printed += 1;

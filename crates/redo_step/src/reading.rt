@@ -6,11 +6,10 @@ ghost use Rattle.redo_step.specs.inside.Machine.{Gives};
 ghost use Rattle.redo_step.specs.inside.Scene.{scene_setting};
 
 use crate::answers::Answers;
-use redo_record::{Dep, DepKind, Deps};
-use redo_record::Why;
+use crate::halt::Halt;
 use crate::scene::Scene;
-use crate::stop::Stop;
 use redo_path::Path;
+use redo_record::{Dep, DepKind, Deps, Why};
 
 impl Scene<'_> {
     /// The file of a path that the script has declared.
@@ -20,7 +19,7 @@ impl Scene<'_> {
         line: u64,
         declared: &Deps,
         text: &[u8],
-    ) -> Result<Option<&'s [u8]>, Stop>
+    ) -> Result<Option<&'s [u8]>, Halt>
         ensures { Gives option_copied result (file_of (scene_setting self.now) (A.ask answers.now) declared.now line text.now) }
     {
         let change = Dep {
@@ -33,7 +32,7 @@ impl Scene<'_> {
             path: change.path,
         };
         if !is_changed && !declared.contains(&create) {
-            return Err(Stop::fault(Why::Undeclared(line)));
+            return Err(Halt::fault(Why::Undeclared(line)));
         }
         match self.source(&create.path) {
             Some(bytes) => Ok(Some(bytes)),
@@ -47,7 +46,7 @@ impl Scene<'_> {
         &self,
         answers: &'s A,
         path: &Path,
-    ) -> Result<Option<&'s [u8]>, Stop>
+    ) -> Result<Option<&'s [u8]>, Halt>
         ensures { Gives option_copied result (answered_file path.now (A.ask answers.now path.now)) }
     {
         match answers.answer(path) {
@@ -55,7 +54,7 @@ impl Scene<'_> {
             None => {
                 let mut paths = Vec::new(self.alloc);
                 paths.push(path.clone()?)?;
-                Err(Stop::Lacks(paths))
+                Err(Halt::Lacks(paths))
             }
         }
     }

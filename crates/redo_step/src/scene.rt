@@ -8,11 +8,11 @@ ghost use Rattle.redo_step.specs.Outputs.{is_third};
 ghost use Rattle.redo_step.specs.inside.Machine.{Gives};
 ghost use Rattle.redo_step.specs.inside.Scene.{scene_setting};
 
-use redo_record::Why;
-use crate::stop::Stop;
+use crate::halt::Halt;
 use crate::text::Text;
 use crate::value::word_value;
 use redo_path::{Path, PathFault, resolve};
+use redo_record::Why;
 use redo_script::Word;
 use redo_tree::{Kind, Tree};
 use redo_which::lookup::find;
@@ -40,24 +40,24 @@ impl Scene<'_> {
 
     /// The value of a word.
     #[tactic(auto, unfolding(crate::specs::Setting::setting_by))]
-    pub(crate) fn text<'s>(&'s self, line: u64, word: &'s Word) -> Result<Text<'s>, Stop>
+    pub(crate) fn text<'s>(&'s self, line: u64, word: &'s Word) -> Result<Text<'s>, Halt>
         ensures { Gives (λ t. t) result (text_of (scene_setting self.now) line (word_of word.now)) }
     {
         match word_value(self.alloc, self.args, word)? {
             Some(text) => Ok(text),
-            None => Err(Stop::fault(Why::Unquoted(line))),
+            None => Err(Halt::fault(Why::Unquoted(line))),
         }
     }
 
     /// The path that a text names from the script's directory.
     #[tactic(auto, unfolding(crate::specs::Setting::setting_by, crate::specs::Path::resolved))]
-    pub(crate) fn path(&self, line: u64, text: &[u8]) -> Result<Path, Stop>
+    pub(crate) fn path(&self, line: u64, text: &[u8]) -> Result<Path, Halt>
         ensures { Gives (λ p. p) result (path_of (scene_setting self.now) line text.now) }
     {
         match resolve(self.alloc, &self.args.dir, text) {
             Ok(path) => Ok(path),
-            Err(PathFault::Memory) => Err(Stop::Memory),
-            Err(_) => Err(Stop::fault(Why::Outside(line))),
+            Err(PathFault::Memory) => Err(Halt::Memory),
+            Err(_) => Err(Halt::fault(Why::Outside(line))),
         }
     }
 

@@ -12,9 +12,9 @@ ghost use Rattle.redo_step.specs.JobView.{IsFit};
 ghost use Rattle.redo_record.specs.Answers.{Ask as AskOf};
 
 use crate::{Answers, Done, Job, Limits, Parsed, Step};
-use redo_record::Outcome;
 use indexmap::IndexMap;
 use redo_path::{Path, resolve};
+use redo_record::Outcome;
 use redo_tree::Tree;
 use redo_which::Found;
 use redo_which::lookup::find;
@@ -48,7 +48,8 @@ impl Known {
 
     /// Learns what became of a path, unless that is known.
     fn learn(&mut self, path: Path, outcome: Outcome) -> Result<(), Fail>
-        ensures { OnOk result ((p : List ℕ) (o : OutcomeTree) → get (pointwise nat_eq) self.old.outcomes p ≡ Some o → get (pointwise nat_eq) self.new.outcomes p ≡ Some o) }
+        ensures { OnOk result ((p : List ℕ) (o : OutcomeTree) → get (pointwise nat_eq) self.old.outcomes p ≡ Some o →
+            get (pointwise nat_eq) self.new.outcomes p ≡ Some o) }
     {
         if self.outcomes.get(&path).is_none() {
             self.outcomes.insert(path, outcome)?;

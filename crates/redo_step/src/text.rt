@@ -11,8 +11,8 @@ enum Bytes<'a> {
     Held(Vec<u8>),
 }
 
-/// The value of a word. Where a single part gives it, its bytes are lent by the script or by an argument, and not copied.
-/// In a contract it is its bytes.
+/// The value of a word. Where a single part gives it, its bytes are lent by the script or by an argument, and not
+/// copied. In a contract it is its bytes.
 #[derive(Drop)]
 pub(crate) struct Text<'a> {
     bytes: Bytes<'a>,

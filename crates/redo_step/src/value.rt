@@ -66,7 +66,8 @@ fn part_value<'a>(
 
 /// What parts stand for, one after the other.
 fn joined_value(alloc: Global, args: &Args, parts: &[Part]) -> Result<Option<Vec<u8>>, AllocError>
-    ensures { IfOk result (λ value. option_map (λ v. v.items) value ≡ value_of (value_in (arguments_view args.now)) (symbols_of parts.now)) }
+    ensures { IfOk result (λ value. option_map (λ v. v.items) value ≡
+        value_of (value_in (arguments_view args.now)) (symbols_of parts.now)) }
 {
     let mut value = Vec::new(alloc);
     for part in parts {

@@ -10,10 +10,10 @@ ghost use Rattle.redo_step.specs.inside.Machine.{GoesOn};
 ghost use Rattle.redo_step.specs.inside.Waiting.{unanswered, any_failure, waited_on};
 
 use crate::answers::Answers;
-use redo_record::Why;
-use crate::stop::Stop;
+use crate::halt::Halt;
 use indexmap::IndexSet;
 use redo_path::Path;
+use redo_record::Why;
 use std::alloc::{AllocError, Global};
 
 /// Up to how many targets are compared with each other rather than hashed.
@@ -28,18 +28,19 @@ pub(crate) struct Waiting {
 
 impl Waiting {
     /// Goes on once all the targets have answers, and none of them failed.
-    pub(crate) fn go_on<A: Answers>(self, alloc: Global, answers: &A) -> Result<(), Stop>
-        ensures { (s : State) → GoesOn self result (waited_on (A.ask answers.now) self.line self.targets.items (unanswered (A.ask answers.now) [] self.targets.items) s) s }
+    pub(crate) fn go_on<A: Answers>(self, alloc: Global, answers: &A) -> Result<(), Halt>
+        ensures { (s : State) →
+            GoesOn self result (waited_on (A.ask answers.now) self.line self.targets.items (unanswered (A.ask answers.now) [] self.targets.items) s) s }
     {
         if are_made(answers, &self.targets) {
             return Ok(());
         }
         let found = without_answer(alloc, answers, &self.targets)?;
         if !found.is_empty() {
-            return Err(Stop::Waits(found, self));
+            return Err(Halt::Waits(found, self));
         }
         if is_any_failed(answers, &self.targets) {
-            return Err(Stop::fault(Why::Depends(self.line)));
+            return Err(Halt::fault(Why::Depends(self.line)));
         }
         Ok(())
     }

@@ -6,15 +6,15 @@ ghost use Rattle.redo_step.specs.Words.{texts_of, paths_of, operands_of};
 ghost use Rattle.redo_step.specs.inside.Machine.{Gives};
 ghost use Rattle.redo_step.specs.inside.Scene.{scene_setting};
 
+use crate::halt::Halt;
 use crate::scene::Scene;
-use crate::stop::Stop;
 use crate::text::Text;
 use redo_path::Path;
 use redo_script::Word;
 
 impl Scene<'_> {
     /// The values of these words, from left to right.
-    pub(crate) fn texts<'s>(&'s self, line: u64, words: &'s [Word]) -> Result<Vec<Text<'s>>, Stop>
+    pub(crate) fn texts<'s>(&'s self, line: u64, words: &'s [Word]) -> Result<Vec<Text<'s>>, Halt>
         ensures { Gives (λ ts. ts.items) result (texts_of (scene_setting self.now) line (words_of words.now)) }
     {
         let mut texts = Vec::with_capacity(self.alloc, words.len())?;
@@ -25,7 +25,7 @@ impl Scene<'_> {
     }
 
     /// The paths that these texts name.
-    pub(crate) fn paths(&self, line: u64, texts: &[Text]) -> Result<Vec<Path>, Stop>
+    pub(crate) fn paths(&self, line: u64, texts: &[Text]) -> Result<Vec<Path>, Halt>
         ensures { Gives (λ ps. ps.items) result (paths_of (scene_setting self.now) line texts.now) }
     {
         let mut paths = Vec::with_capacity(self.alloc, texts.len())?;
@@ -36,7 +36,7 @@ impl Scene<'_> {
     }
 
     /// The paths that these words name.
-    pub(crate) fn operands(&self, line: u64, words: &[Word]) -> Result<Vec<Path>, Stop>
+    pub(crate) fn operands(&self, line: u64, words: &[Word]) -> Result<Vec<Path>, Halt>
         ensures { Gives (λ ps. ps.items) result (operands_of (scene_setting self.now) line (words_of words.now)) }
     {
         let texts = self.texts(line, words)?;

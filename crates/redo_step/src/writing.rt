@@ -11,14 +11,13 @@ ghost use Rattle.redo_step.specs.inside.Sink.{Adds, Fills};
 ghost use Rattle.redo_step.specs.inside.Writing.{writing_of, content_of, appended, Appends, put_bytes};
 
 use crate::answers::Answers;
-use redo_record::Deps;
+use crate::halt::Halt;
 use crate::machine::Effects;
-use redo_record::Why;
 use crate::printf::printf;
 use crate::scene::Scene;
 use crate::sink::Sink;
-use crate::stop::Stop;
 use crate::text::Text;
+use redo_record::{Deps, Why};
 use redo_script::{Redirection, Writer};
 use std::alloc::AllocError;
 use std::mem;
@@ -56,7 +55,7 @@ fn add_joined(texts: &[Text], sink: &mut Sink) -> Result<(), AllocError>
 
 impl Scene<'_> {
     /// The values of a command's words.
-    fn writing<'s>(&'s self, line: u64, writer: &'s Writer) -> Result<Writing<'s>, Stop>
+    fn writing<'s>(&'s self, line: u64, writer: &'s Writer) -> Result<Writing<'s>, Halt>
         ensures { Gives writing_of result (writer_texts (scene_setting self.now) line (writer_of writer.now)) }
     {
         match writer {
@@ -71,7 +70,7 @@ impl Scene<'_> {
     }
 
     /// Whether a redirection, if there is one, appends to `$3`.
-    fn goal(&self, line: u64, redirection: &Option<Redirection>) -> Result<Option<bool>, Stop>
+    fn goal(&self, line: u64, redirection: &Option<Redirection>) -> Result<Option<bool>, Halt>
         ensures { Gives (λ goal. goal) result (goal_of (scene_setting self.now) line (option_map redirection_of redirection.now)) }
     {
         let Some(redirection) = redirection else {
@@ -80,10 +79,10 @@ impl Scene<'_> {
         let text = self.text(line, &redirection.word)?;
         let path = self.path(line, text.bytes())?;
         if self.is_target(&path) {
-            return Err(Stop::fault(Why::Direct(line)));
+            return Err(Halt::fault(Why::Direct(line)));
         }
         if !self.is_third(&path)? {
-            return Err(Stop::fault(Why::Elsewhere(line)));
+            return Err(Halt::fault(Why::Elsewhere(line)));
         }
         Ok(Some(redirection.appends))
     }
@@ -96,7 +95,7 @@ impl Scene<'_> {
         texts: &[Text],
         declared: &Deps,
         sink: &mut Sink,
-    ) -> Result<(), Stop>
+    ) -> Result<(), Halt>
         ensures { Fills result (contents_of (scene_setting self.now) (A.ask answers.now) declared.now line texts.now) sink.old sink.new }
     {
         for text in texts {
@@ -113,7 +112,7 @@ impl Scene<'_> {
         text: &[u8],
         declared: &Deps,
         sink: &mut Sink,
-    ) -> Result<(), Stop>
+    ) -> Result<(), Halt>
         ensures { Fills result (content_of (scene_setting self.now) (A.ask answers.now) declared.now line text.now) sink.old sink.new }
     {
         match self.file(answers, line, declared, text)? {
@@ -121,7 +120,7 @@ impl Scene<'_> {
                 sink.add(bytes)?;
                 Ok(())
             }
-            None => Err(Stop::exit(1)),
+            None => Err(Halt::exit(1)),
         }
     }
 
@@ -133,7 +132,7 @@ impl Scene<'_> {
         writing: &Writing,
         declared: &Deps,
         sink: &mut Sink,
-    ) -> Result<(), Stop>
+    ) -> Result<(), Halt>
         ensures { Fills result (bytes_of (scene_setting self.now) (A.ask answers.now) declared.now line (writing_of writing.now)) sink.old sink.new }
     {
         match writing {
@@ -154,7 +153,7 @@ impl Scene<'_> {
         writing: &Writing,
         declared: &Deps,
         bytes: Vec<u8>,
-    ) -> (Vec<u8>, Result<(), Stop>)
+    ) -> (Vec<u8>, Result<(), Halt>)
         ensures { Appends result.1 (appended (scene_setting self.now) (A.ask answers.now) declared.now line (writing_of writing.now) bytes.items) bytes.items result.0.items }
     {
         let length = bytes.len();
@@ -166,7 +165,7 @@ impl Scene<'_> {
             ..
         } = sink;
         let end = match end {
-            Ok(()) if is_over => Err(Stop::fault(Why::TooLarge(line))),
+            Ok(()) if is_over => Err(Halt::fault(Why::TooLarge(line))),
             end => end,
         };
         if end.is_err() {
@@ -182,7 +181,7 @@ impl Scene<'_> {
         line: u64,
         writing: &Writing,
         effects: &mut Effects,
-    ) -> Result<(), Stop>
+    ) -> Result<(), Halt>
         ensures { Runs result (put_bytes (scene_setting self.now) (A.ask answers.now) line (writing_of writing.now) None (state_of effects.old)) (state_of effects.new) }
     {
         let bytes = mem::replace(&mut effects.output, Vec::new(self.alloc));
@@ -199,7 +198,7 @@ impl Scene<'_> {
         writing: &Writing,
         appends: bool,
         effects: &mut Effects,
-    ) -> Result<(), Stop>
+    ) -> Result<(), Halt>
         ensures { Runs result (put_bytes (scene_setting self.now) (A.ask answers.now) line (writing_of writing.now) (Some appends) (state_of effects.old)) (state_of effects.new) }
     {
         if appends {
@@ -225,7 +224,7 @@ impl Scene<'_> {
         writer: &Writer,
         redirection: &Option<Redirection>,
         effects: &mut Effects,
-    ) -> Result<(), Stop>
+    ) -> Result<(), Halt>
         ensures { Runs result (with_state (written (scene_setting self.now) (A.ask answers.now) line (writer_of writer.now) (option_map redirection_of redirection.now) (state_of effects.old)) (state_of effects.old)) (state_of effects.new) }
     {
         let writing = self.writing(line, writer)?;

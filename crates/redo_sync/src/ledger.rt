@@ -82,7 +82,7 @@ fn take_in<T: Numbered + Drop>(deque: &mut Worker<T, Global, Hand, ShareOut>, ta
 }
 
 /// Takes what the queue holds. There is a job in it where memory is refused, so not all were taken.
-#[tactic(auto, using(crate::proofs::Relays::not_all_taken))]
+#[tactic(auto, using(crate::proofs::RelayLemmas::not_all_taken))]
 fn drain<T: Numbered + Drop>(
     alloc: Global,
     deque: &mut Worker<T, Global, Hand, ShareOut>,

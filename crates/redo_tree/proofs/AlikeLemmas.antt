@@ -1,5 +1,6 @@
 -- Trees that `==` tells equal are one tree.
-use Rattle.std.proofs.Common.{◌≡◌, ◌&&◌, [], ◌∷◌, Bool, true, false, refl, ap, sym, subst, ◌∙◌, Option, Some, None, nat_eq}
+use Rattle.std.proofs.Common.{◌≡◌, ◌&&◌, [], ◌∷◌, Bool, true, false, refl, ap, sym, subst, ◌∙◌, Option, Some, None}
+use Rattle.std.proofs.Common.{nat_eq}
 use Rattle.std.specs.Cmp.Lexicographic.{nat_list_eq_equiv, options_equiv, pointwise, same_text}
 use Rattle.std.specs.Option.{option_eq}
 use Rattle.std.specs.Prelude.{option_map}

@@ -1,8 +1,10 @@
 -- A tree with one more node is a tree.
-use Rattle.std.proofs.Common.{◌≡◌, List, [], ◌∷◌, ℕ, Bool, true, false, cond, refl, sym, ap, subst, ◌∙◌, Option, Some, None, IsSome, nat_eq, ◌+◌, length, arith, ◌++◌}
+use Rattle.std.proofs.Common.{◌≡◌, List, [], ◌∷◌, ℕ, Bool, true, false, cond, refl, sym, ap, subst, ◌∙◌, Option, Some}
+use Rattle.std.proofs.Common.{None, IsSome, nat_eq, ◌+◌, length, arith, ◌++◌}
 use Rattle.std.proofs.lemmas.Grind.{common_steps}
 use Rattle.std.specs.Prelude.{option_and_then, Result, Ok, Err}
-use Rattle.std.specs.Cmp.Lexicographic.{slice_cmp, pointwise, same_text, texts_ties, nat_list_cmp_total, nat_list_eq_equiv}
+use Rattle.std.specs.Cmp.Lexicographic.{slice_cmp, pointwise, same_text, texts_ties, nat_list_cmp_total}
+use Rattle.std.specs.Cmp.Lexicographic.{nat_list_eq_equiv}
 use Rattle.std.specs.FinMap.Entries.{by_order, put, find-put}
 use Rattle.std.specs.Option.{option_or, option_map_or}
 use Rattle.std.specs.Ordering.{nat_cmp, match_ordering, is_eq}
@@ -10,7 +12,8 @@ use Rattle.std.specs.declared.cmp.Ordering.TheVariants.{Less, Equal, Greater}
 use Rattle.redo_path.specs.Names.{IsPath, parent_of}
 use Rattle.redo_path.proofs.ApartLemmas.{apart}
 use Rattle.redo_tree.specs.declared.faults.TreeFault.{TreeFault}
-use Rattle.redo_tree.specs.Tree.{Node, Directory, File, Tree, IsTree, node_at, parent_refusal, place_refusal, refusal, added, with_node, grown}
+use Rattle.redo_tree.specs.Tree.{Node, Directory, File, Tree, IsTree, node_at, parent_refusal, place_refusal, refusal}
+use Rattle.redo_tree.specs.Tree.{added, with_node, grown}
 use Rattle.redo_tree.proofs.KeyLemmas.{keys-with, sorted-with}
 
 -- whether a path is the one that is looked for

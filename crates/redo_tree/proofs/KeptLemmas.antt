@@ -1,5 +1,6 @@
 -- The entries that the code keeps: they grow to a tree, and look-ups by hash find what stands in it.
-use Rattle.std.proofs.Common.{◌≡◌, List, [], ◌∷◌, ◌++◌, ℕ, Bool, true, false, cond, refl, sym, ap, subst, ◌∙◌, Option, Some, None, IsSome, nat_eq, T, arith, ◌+◌, length, length-append}
+use Rattle.std.proofs.Common.{◌≡◌, List, [], ◌∷◌, ◌++◌, ℕ, Bool, true, false, cond, refl, sym, ap, subst, ◌∙◌, Option}
+use Rattle.std.proofs.Common.{Some, None, IsSome, nat_eq, T, arith, ◌+◌, length, length-append}
 use Rattle.std.proofs.lemmas.Map.Keys.{sorted_head, sorted_tail}
 use Rattle.std.specs.Prelude.{IfSome, option_map, ◌&&◌}
 use Rattle.std.specs.Cmp.Lexicographic.{slice_cmp, pointwise, nat_list_cmp_total, nat_list_eq_equiv}
@@ -16,7 +17,8 @@ use Rattle.redo_path.specs.Names.{IsPath, parent_of}
 use Rattle.redo_tree.specs.contracts.entries.EntryPartialEq.TheImpl.{ghosts}
 use Rattle.redo_tree.specs.declared.entries.Entry.{Entry}
 use Rattle.redo_tree.specs.declared.entries.Entry.TheVariants as entries
-use Rattle.redo_tree.specs.Tree.{Directory, Tree, IsKept, IsNoted, IsTree, NotesDefaults, default_dir, node_at, node_of, refusal, top, tree_eq, tree_of, with_node}
+use Rattle.redo_tree.specs.Tree.{Directory, Tree, IsKept, IsNoted, IsTree, NotesDefaults, default_dir, node_at, node_of}
+use Rattle.redo_tree.specs.Tree.{refusal, top, tree_eq, tree_of, with_node}
 use Rattle.redo_tree.proofs.AlikeLemmas.{alike, found_alike, same_entries, same_found}
 use Rattle.redo_tree.proofs.GrowLemmas.{IsTree-with, Puts-with, free, is_path, length-with}
 use Rattle.redo_tree.proofs.NodeLemmas.{node_of-cond, tree_of-last}

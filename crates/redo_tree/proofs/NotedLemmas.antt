@@ -1,5 +1,7 @@
 -- The directories that are noted for their default files: none is missed.
-use Rattle.std.proofs.Common.{◌≡◌, ◌≢◌, ◌<◌, ◌+◌, ◌-◌, List, [], ◌∷◌, ◌++◌, ℕ, Bool, true, false, cond, get_or, take, drop, length, refl, sym, ap, subst, ◌∙◌, zero, suc, arith, Some, None, codes, nat_eq, length-append, true≢false}
+use Rattle.std.proofs.Common.{◌≡◌, ◌≢◌, ◌<◌, ◌+◌, ◌-◌, List, [], ◌∷◌, ◌++◌, ℕ, Bool, true, false, cond, get_or, take}
+use Rattle.std.proofs.Common.{drop, length, refl, sym, ap, subst, ◌∙◌, zero, suc, arith, Some, None, codes, nat_eq}
+use Rattle.std.proofs.Common.{length-append, true≢false}
 use Rattle.std.proofs.Math.Seq.{drop-append_seam, take-append_seam}
 use Rattle.std.proofs.lemmas.Bool.Decides.{Decides-eqb}
 use Rattle.std.proofs.lemmas.List.{append_assoc, get_or-append_right}
@@ -9,7 +11,8 @@ use Rattle.std.specs.Cmp.Lexicographic.{pointwise, same_text}
 use Rattle.std.specs.List.{AllByRecursion, list_any}
 use Rattle.redo_path.specs.Names.{IsNameStart, IsPart, child_of, is_slash, name_of, parent_of}
 use Rattle.redo_path.proofs.PartLemmas.{AllByRecursion-append, before_last-start, name_of-start}
-use Rattle.redo_tree.specs.Tree.{Directory, File, HasNoDefaults, IsNoted, Node, NotesDefaults, Tree, bytes_of, default_dir, is_default, node_at, top}
+use Rattle.redo_tree.specs.Tree.{Directory, File, HasNoDefaults, IsNoted, Node, NotesDefaults, Tree, bytes_of}
+use Rattle.redo_tree.specs.Tree.{default_dir, is_default, node_at, top}
 use Rattle.redo_tree.proofs.GrowLemmas.{Puts, is_path}
 
 -- ---- the tree grows

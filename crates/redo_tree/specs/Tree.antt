@@ -1,5 +1,7 @@
 -- A tree: what stands at each path, in the order of the paths' texts.
-use Rattle.std.specs.Prelude.{◌≡◌, ◌&&◌, Bool, true, nat_eq, ℕ, List, [], ◌∷◌, ◌++◌, codes, filter_map, fold, length, Option, Some, None, Result, Ok, Err, IsSome, option_and_then, option_map, refl, if◌then◌else◌, ◌-◌}
+use Rattle.std.specs.Prelude.{◌≡◌, ◌&&◌, Bool, true, nat_eq, ℕ, List, [], ◌∷◌, ◌++◌, codes, filter_map, fold, length}
+use Rattle.std.specs.Prelude.{Option, Some, None, Result, Ok, Err, IsSome, option_and_then, option_map, refl}
+use Rattle.std.specs.Prelude.{if◌then◌else◌, ◌-◌}
 use Rattle.std.specs.BTreeMap.{insert_entry, is_at}
 use Rattle.std.specs.Cmp.{IsEquivalence, and_equiv, on_equiv}
 use Rattle.std.specs.Cmp.Lexicographic.{lists_equiv, nat_list_eq_equiv, options_equiv, pointwise, slice_cmp}
@@ -53,7 +55,8 @@ file_at tree path = option_and_then bytes_of (node_at tree path)
 
 -- no file stands in the directory whose name is `default`, a suffix and `.do`
 abbrev pub HasNoDefaults : Tree → List ℕ → Type 0
-HasNoDefaults tree dir = (suffix : List ℕ) → IsPart suffix → file_at tree (child_of dir (codes "default" ++ suffix ++ codes ".do")) ≡ None
+HasNoDefaults tree dir =
+    (suffix : List ℕ) → IsPart suffix → file_at tree (child_of dir (codes "default" ++ suffix ++ codes ".do")) ≡ None
 
 -- a name that begins with `default` and ends in `.do`
 abbrev pub is_default : List ℕ → Bool
@@ -74,7 +77,8 @@ tree_eq = pointwise entry_eq
 
 -- being the same is an equivalence
 abbrev pub trees_alike : IsEquivalence tree_eq
-trees_alike = lists_equiv (and_equiv (on_equiv (λ e. e.0) nat_list_eq_equiv) (on_equiv (λ e. bytes_of e.1) (options_equiv nat_list_eq_equiv)))
+trees_alike =
+    lists_equiv (and_equiv (on_equiv (λ e. e.0) nat_list_eq_equiv) (on_equiv (λ e. bytes_of e.1) (options_equiv nat_list_eq_equiv)))
 
 -- the path of an entry that is a file
 abbrev pub file_path : List ℕ × Node → Option (List ℕ)
@@ -125,14 +129,16 @@ node_of entries.Directory = Directory
 node_of (entries.File content) = File content
 
 abbrev pub node_code : Coded Node
-node_code = code_by (Option (List ℕ)) (coded_option (coded_list coded_ℕ)) bytes_of (λ o. elim o [ None ↦ Directory | Some bytes ↦ File bytes ]) (elim [ Directory ↦ refl | File bytes ↦ refl ])
+node_code =
+    code_by (Option (List ℕ)) (coded_option (coded_list coded_ℕ)) bytes_of (λ o. elim o [ None ↦ Directory | Some bytes ↦ File bytes ]) (elim [ Directory ↦ refl | File bytes ↦ refl ])
 
 -- the keys are paths and rise, the root is a directory, and so is the parent of all that stands in the tree
 pub record IsTree (tree : Tree) : Type 0 where
   pub sorted : IsStrictlySortedBy (slice_cmp nat_cmp) (keys_of tree)
   pub paths : AllByRecursion IsPath (keys_of tree)
   pub root : node_at tree [] ≡ Some Directory
-  pub parents : (path dir : List ℕ) → IsSome (node_at tree path) → parent_of path ≡ Some dir → node_at tree dir ≡ Some Directory
+  pub parents : (path dir : List ℕ) → IsSome (node_at tree path) → parent_of path ≡ Some dir →
+      node_at tree dir ≡ Some Directory
 
 -- the tree with each of the entries that the code keeps put at its place, in turn
 abbrev pub with_entries : Tree → List (List ℕ × Entry) → Tree
@@ -148,9 +154,12 @@ IsNoted dirs dir = list_any (pointwise nat_eq dir) dirs ≡ true
 
 -- the directory of each file with such a name is among these
 abbrev pub NotesDefaults : List (List ℕ) → Tree → Type 0
-NotesDefaults dirs tree = (path dir : List ℕ) (node : Node) → node_at tree path ≡ Some node → default_dir path node ≡ Some dir → IsNoted dirs dir
+NotesDefaults dirs tree =
+    (path dir : List ℕ) (node : Node) → node_at tree path ≡ Some node → default_dir path node ≡ Some dir →
+    IsNoted dirs dir
 
--- the code keeps a tree, each entry once, looking for a path among its entries finds what stands there, and looking for a directory among those noted finds each with such a file
+-- the code keeps a tree, each entry once, looking for a path among its entries finds what stands there, and looking for
+-- a directory among those noted finds each with such a file
 pub record IsKept (es : List (List ℕ × Entry)) (dirs : List (List ℕ)) : Type 0 where
   pub tree : IsTree (tree_of es)
   pub counted : length (tree_of es) ≡ length es

@@ -3,13 +3,16 @@
 //! Entries are kept in the order in which they were added. They are sorted for [`Tree::in_order`] and
 //! [`Tree::files`] alone, so memory may run out there and while a bundle is written.
 
-ghost use Rattle.std.specs.Prelude.{◌≡◌, ◌<◌, ◌^◌, IfOk, IfSome, OnOk, false, length, option_copied, map, nat_eq, option_map, List, ℕ};
+ghost use Rattle.std.specs.Prelude.{◌≡◌, ◌<◌, ◌^◌, IfOk, IfSome, OnOk, false, length, option_copied, map, nat_eq};
+ghost use Rattle.std.specs.Prelude.{option_map, List, ℕ};
 ghost use Rattle.std.proofs.Common.{ap};
 ghost use Rattle.std.specs.Cmp.{partial_equiv_from_equiv};
 ghost use Rattle.std.specs.Cmp.Lexicographic.{bytes_decides, nat_list_eq_equiv, pointwise};
 ghost use Rattle.std.specs.Hash as fed;
 ghost use Rattle.redo_path.specs.Names.{IsPath};
-ghost use Rattle.redo_tree.specs.Tree.{Directory, File, top, node_at, kind_of, file_at, files_of, node_of, refusal, added, tree_eq, trees_alike, default_dir as dir_of_default, is_default as begins_and_ends, Adds, Allows, HasNoDefaults, IsNoted, IsTree};
+ghost use Rattle.redo_tree.specs.Tree.{Directory, File, top, node_at, kind_of, file_at, files_of, node_of, refusal};
+ghost use Rattle.redo_tree.specs.Tree.{added, tree_eq, trees_alike, default_dir as dir_of_default};
+ghost use Rattle.redo_tree.specs.Tree.{is_default as begins_and_ends, Adds, Allows, HasNoDefaults, IsNoted, IsTree};
 
 use crate::{Content, TreeFault};
 use indexmap::{Equivalent, IndexMap, IndexSet};

@@ -1,5 +1,6 @@
 -- The candidates of a target are distinct places, and few.
-use Rattle.std.proofs.Common.{◌≡◌, ◌≤◌, ◌+◌, ◌*◌, ◌^◌, List, [], ◌∷◌, ◌++◌, ℕ, cond, reverse, refl, sym, ap, subst, ◌∙◌, Some, None, length, arith, length-append, true, false}
+use Rattle.std.proofs.Common.{◌≡◌, ◌≤◌, ◌+◌, ◌*◌, ◌^◌, List, [], ◌∷◌, ◌++◌, ℕ, cond, reverse, refl, sym, ap, subst, ◌∙◌}
+use Rattle.std.proofs.Common.{Some, None, length, arith, length-append, true, false}
 use Rattle.std.specs.List.{AllByRecursion}
 use Rattle.std.specs.Prelude.{Ok, Err, codes, flat_map}
 use Rattle.std.proofs.lemmas.List.{length-map, length-reverse}
@@ -9,7 +10,8 @@ use Rattle.std.specs.Str.{bytes_eq}
 use Rattle.redo_path.proofs.PartLemmas.{AllByRecursion-front}
 use Rattle.redo_path.specs.Names.{IsName, IsPart, is_slash, name_of, names, text_of}
 use Rattle.redo_path.specs.Resolve.{resolved}
-use Rattle.redo_which.specs.Candidates.{LiesIn, Place, candidates_of, defaults_in, fronts, is_do_file, is_dot, once, place_at, places_of, suffixes, upward}
+use Rattle.redo_which.specs.Candidates.{LiesIn, Place, candidates_of, defaults_in, fronts, is_do_file, is_dot, once}
+use Rattle.redo_which.specs.Candidates.{place_at, places_of, suffixes, upward}
 use Rattle.redo_which.specs.inside.Distinct.{above, defaults_by, distinct_places, without_whole}
 use Rattle.redo_which.proofs.OnceLemmas.{once-distinct}
 

@@ -1,5 +1,6 @@
 -- The .do files of candidates, each the path of a file name in a directory.
-use Rattle.std.proofs.Common.{◌≡◌, ◌≢◌, ◌<◌, ℕ, Bool, true, false, cond, List, [], ◌∷◌, ◌++◌, length, codes, refl, sym, ap, ◌∙◌, suc, arith, nat_lt, length-append, append_assoc, ◌+◌}
+use Rattle.std.proofs.Common.{◌≡◌, ◌≢◌, ◌<◌, ℕ, Bool, true, false, cond, List, [], ◌∷◌, ◌++◌, length, codes, refl, sym}
+use Rattle.std.proofs.Common.{ap, ◌∙◌, suc, arith, nat_lt, length-append, append_assoc, ◌+◌}
 use Rattle.std.specs.List.{AllByRecursion}
 use Rattle.std.specs.Prelude.{Ok, Err, Some, None}
 use Rattle.std.specs.Option.{option_map_or}
@@ -9,7 +10,8 @@ use Rattle.std.proofs.lemmas.Slice.Eq.{bytes_eq-Decides}
 use Rattle.redo_path.proofs.ApartLemmas.{apart}
 use Rattle.redo_path.proofs.PartLemmas.{AllByRecursion-append, names-child, parts-name, text_of-names}
 use Rattle.redo_path.specs.declared.PathFault.TheVariants.{LongName, LongPath}
-use Rattle.redo_path.specs.Names.{IsPart, child_of, is_control, is_slash, names, parts, text_of, IsFileName as IsChildName}
+use Rattle.redo_path.specs.Names.{IsPart, child_of, is_control, is_slash, names, parts, text_of}
+use Rattle.redo_path.specs.Names.{IsFileName as IsChildName}
 use Rattle.redo_path.specs.Resolve.{resolved, step, walk, within_limit, word_fault, ◌>>=◌}
 use Rattle.redo_which.specs.Candidates.{is_dot, suffixes}
 

@@ -1,5 +1,6 @@
 -- The first candidates of a target: no path stands twice, and each ends in `.do`.
-use Rattle.std.proofs.Common.{◌≡◌, true, false, cond, ◌||◌, ◌++◌, ◌∷◌, [], List, ℕ, map, take, length, refl, sym, ap, subst, ◌∙◌, codes, append_assoc, append-nil, suc, zero}
+use Rattle.std.proofs.Common.{◌≡◌, true, false, cond, ◌||◌, ◌++◌, ◌∷◌, [], List, ℕ, map, take, length, refl, sym, ap}
+use Rattle.std.proofs.Common.{subst, ◌∙◌, codes, append_assoc, append-nil, suc, zero}
 use Rattle.std.specs.List.{AllByRecursion, ends_with, list_any}
 use Rattle.std.specs.Prelude.{IfSome, Option, None, Some, fold, flat_map, nat_eq, bytes_eq}
 use Rattle.std.proofs.lemmas.List.{map-append}
@@ -8,10 +9,12 @@ use Rattle.redo_path.proofs.ApartLemmas.{apart}
 use Rattle.std.proofs.lemmas.Bool.Decides.{Decides-eqb}
 use Rattle.redo_path.proofs.PartLemmas.{AllByRecursion-append}
 use Rattle.redo_path.specs.Names.{child_of, name_of, parent_of}
-use Rattle.redo_which.specs.Candidates.{LiesIn, Place, candidates_of, defaults_in, is_do_file, once, place_at, places_of, suffixes, upward, with_new}
+use Rattle.redo_which.specs.Candidates.{LiesIn, Place, candidates_of, defaults_in, is_do_file, once, place_at}
+use Rattle.redo_which.specs.Candidates.{places_of, suffixes, upward, with_new}
 use Rattle.redo_which.specs.Missing.{AreDistinct, AreFirst, AreNewAfter, IsTarget, first_candidates}
 use Rattle.redo_which.specs.inside.Distinct.{above, defaults_by, distinct_places, without_whole}
-use Rattle.redo_which.proofs.FileLemmas.{IsFileName-default, IsFileName-named, NoSlash, default_file, named_file, not_same}
+use Rattle.redo_which.proofs.FileLemmas.{IsFileName-default, IsFileName-named, NoSlash, default_file, named_file}
+use Rattle.redo_which.proofs.FileLemmas.{not_same}
 use Rattle.redo_which.proofs.OnceLemmas.{place-all, suffixes-no_slash, without_whole-all}
 use Rattle.redo_which.proofs.DistinctLemmas.{candidates-distinct, name_part}
 

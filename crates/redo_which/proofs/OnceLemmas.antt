@@ -1,5 +1,6 @@
 -- Each candidate stands once: only the one by the whole name is met again, as the first by suffix.
-use Rattle.std.proofs.Common.{◌≡◌, ◌≢◌, ◌<◌, ◌≤◌, ℕ, true, false, cond, ◌||◌, List, [], ◌∷◌, ◌++◌, length, codes, refl, sym, ap, subst, ◌∙◌, suc, arith, length-append, append_assoc, append-nil, map, reverse}
+use Rattle.std.proofs.Common.{◌≡◌, ◌≢◌, ◌<◌, ◌≤◌, ℕ, true, false, cond, ◌||◌, List, [], ◌∷◌, ◌++◌, length, codes, refl}
+use Rattle.std.proofs.Common.{sym, ap, subst, ◌∙◌, suc, arith, length-append, append_assoc, append-nil, map, reverse}
 use Rattle.std.specs.List.{AllByRecursion, list_any}
 use Rattle.std.specs.Prelude.{Ok, Err, Result, flat_map, fold}
 use Rattle.std.specs.Str.{bytes_eq}
@@ -12,9 +13,12 @@ use Rattle.redo_path.proofs.PartLemmas.{AllByRecursion-append, parts-append, par
 use Rattle.redo_path.specs.Names.{IsName, child_of, names, parts, text_of}
 use Rattle.redo_path.specs.declared.PathFault.{PathFault}
 use Rattle.redo_path.specs.Resolve.{resolved}
-use Rattle.redo_which.specs.Candidates.{Place, defaults_in, fronts, is_dot, place_at, places_of, suffixes, upward, with_new}
+use Rattle.redo_which.specs.Candidates.{Place, defaults_in, fronts, is_dot, place_at, places_of, suffixes, upward}
+use Rattle.redo_which.specs.Candidates.{with_new}
 use Rattle.redo_which.specs.inside.Distinct.{above, defaults_by, distinct_places, without_whole}
-use Rattle.redo_which.proofs.FileLemmas.{IsFileName, IsFileName-default, IsFileName-named, NoSlash, child-depth, child-resolved, child-same, default-named, default-same, default_file, named-default, named_file, not_same}
+use Rattle.redo_which.proofs.FileLemmas.{IsFileName, IsFileName-default, IsFileName-named, NoSlash, child-depth}
+use Rattle.redo_which.proofs.FileLemmas.{child-resolved, child-same, default-named, default-same, default_file}
+use Rattle.redo_which.proofs.FileLemmas.{named-default, named_file, not_same}
 use Rattle.redo_which.proofs.PlaceLemmas.{fronts-append, upward-first}
 
 all-map : {X : Type 0} (P Q : X → Type 0) → ((x : X) → P x → Q x) → (xs : List X) → AllByRecursion P xs → AllByRecursion Q xs

@@ -1,5 +1,6 @@
 -- The pieces of a candidate, put together.
-use Rattle.std.proofs.Common.{◌≡◌, ℕ, Bool, true, false, cond, List, [], ◌∷◌, ◌++◌, ◌&&◌, length, codes, refl, sym, ap, ◌∙◌, arith, nat_lt, append_assoc}
+use Rattle.std.proofs.Common.{◌≡◌, ℕ, Bool, true, false, cond, List, [], ◌∷◌, ◌++◌, ◌&&◌, length, codes, refl, sym, ap}
+use Rattle.std.proofs.Common.{◌∙◌, arith, nat_lt, append_assoc}
 use Rattle.std.proofs.lemmas.Grind.{common_steps}
 use Rattle.std.specs.List.{AllByRecursion}
 use Rattle.std.specs.Prelude.{Result, Ok, Err, nat_le}

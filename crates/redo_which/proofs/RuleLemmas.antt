@@ -1,5 +1,6 @@
 -- What is found for a target that has a rule.
-use Rattle.std.proofs.Common.{◌≡◌, ◌∷◌, ◌∙◌, [], List, ℕ, Some, None, true, false, ap, cond, length, map, not, refl, subst, sym, take}
+use Rattle.std.proofs.Common.{◌≡◌, ◌∷◌, ◌∙◌, [], List, ℕ, Some, None, true, false, ap, cond, length, map, not, refl}
+use Rattle.std.proofs.Common.{subst, sym, take}
 use Rattle.std.specs.List.{take_while}
 use Rattle.std.proofs.lemmas.List.Sums.{take_while-cons}
 use Rattle.redo_path.specs.Names.{parent_of}

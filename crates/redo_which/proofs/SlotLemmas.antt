@@ -1,5 +1,6 @@
 -- The places of a search one after another.
-use Rattle.std.proofs.Common.{◌≡◌, ◌≢◌, ℕ, true, false, cond, List, [], ◌∷◌, ◌++◌, length, drop, codes, refl, sym, ap, ◌∙◌, suc, zero, arith, append_assoc, Option, None}
+use Rattle.std.proofs.Common.{◌≡◌, ◌≢◌, ℕ, true, false, cond, List, [], ◌∷◌, ◌++◌, length, drop, codes, refl, sym, ap}
+use Rattle.std.proofs.Common.{◌∙◌, suc, zero, arith, append_assoc, Option, None}
 use Rattle.std.proofs.lemmas.Grind.{common_steps}
 use Rattle.std.specs.List.{ends_with}
 use Rattle.std.specs.Prelude.{IfSome, flat_map, nat_eq}

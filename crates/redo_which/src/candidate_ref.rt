@@ -11,8 +11,8 @@ ghost use Rattle.redo_which.specs.inside.Pieces.{prefix_of};
 ghost use Rattle.redo_which.specs.Views.{place_of};
 
 use crate::Candidate;
-use redo_path::Path;
 use redo_bundle::{Broken, ByteOut, write_parts};
+use redo_path::Path;
 use std::alloc::{AllocError, Global};
 use std::marker::Model;
 

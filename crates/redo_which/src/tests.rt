@@ -2,8 +2,8 @@
 
 use crate::lookup::{candidates, find, search};
 use crate::{Found, Lines, Missing, Rule};
-use redo_path::{Path, PathFault, resolve};
 use redo_bundle::{Broken, Plain};
+use redo_path::{Path, PathFault, resolve};
 use redo_tree::Tree;
 use std::alloc::Global;
 use std::test::Fail;

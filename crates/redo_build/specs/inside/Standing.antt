@@ -31,6 +31,8 @@ pub record AreStanding (r : Rules) (request : List (List ℕ)) (es : List Entry)
   pub distinct : AreDistinct (paths_of es)
   pub targets : (p : List ℕ) → IsAmong (paths_of es) p → r.is_source p ≡ false
   pub needed : (p : List ℕ) → IsAmong (paths_of es) p → IsNeeded r request p
-  pub closed : (p q : List ℕ) (e : Entry) → entry_of es p ≡ Some e → IsAmong (operands r e.deps) q → IsAmong (paths_of es) q
-  pub decided : (p : List ℕ) (e : Entry) (o : Outcome) → entry_of es p ≡ Some e → e.outcome ≡ Some o → IsDecidedAs r es e o
+  pub closed : (p q : List ℕ) (e : Entry) → entry_of es p ≡ Some e → IsAmong (operands r e.deps) q →
+      IsAmong (paths_of es) q
+  pub decided : (p : List ℕ) (e : Entry) (o : Outcome) → entry_of es p ≡ Some e → e.outcome ≡ Some o →
+      IsDecidedAs r es e o
   pub under_way : (p : List ℕ) (e : Entry) → entry_of es p ≡ Some e → e.outcome ≡ None → IsUnderWay r es e

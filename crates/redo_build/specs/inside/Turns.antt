@@ -1,4 +1,5 @@
--- How far a target's script has come after it stopped so many times: at each turn it has the answers that it asked for before.
+-- How far a target's script has come after it stopped so many times: at each turn it has the answers that it asked for
+-- before.
 use Rattle.std.specs.Prelude.{◌≡◌, ℕ, Bool, ◌&&◌, zero, suc, ◌<◌, List, [], Some, None}
 use Rattle.redo_record.specs.Paths.{IsAmong}
 use Rattle.redo_record.specs.Progress.{Progress}
@@ -33,7 +34,8 @@ pub record IsWork (r : Rules) (p : List ℕ) (turn : ℕ) (deps : List Dep) : Ty
 pub record IsPiece (r : Rules) (p : List ℕ) (turn : ℕ) (now : Progress) : Type 0 where
   pub depth : ℕ
   pub came : CameTo r p (outcome_at r depth) turn
-  pub fed : (q : List ℕ) → IsAmong (operands r (deps_at_turn r p (outcome_at r depth) turn)) q → outcome_at r depth q ≡ None → ⊥
+  pub fed : (q : List ℕ) → IsAmong (operands r (deps_at_turn r p (outcome_at r depth) turn)) q →
+      outcome_at r depth q ≡ None → ⊥
   pub is : now ≡ progress_at_turn r p (outcome_at r depth) turn
 
 -- a decided target: its outcome, all that it asked for, its record and whether its script was begun are those of the

@@ -1,5 +1,7 @@
 -- What each step of reading a bundle finds.
-use Rattle.std.specs.Prelude.{◌≡◌, ◌≤◌, ℕ, Bool, true, false, List, [], ◌∷◌, length, slice_index, nat_lt, nat_le, not, ◌++◌, ◌≢◌, option_map, Option, Some, None, Result, Ok, Err, codes, decimal, IfSome, if◌then◌else◌}
+use Rattle.std.specs.Prelude.{◌≡◌, ◌≤◌, ℕ, Bool, true, false, List, [], ◌∷◌, length, slice_index, nat_lt, nat_le, not}
+use Rattle.std.specs.Prelude.{◌++◌, ◌≢◌, option_map, Option, Some, None, Result, Ok, Err, codes, decimal, IfSome}
+use Rattle.std.specs.Prelude.{if◌then◌else◌}
 use Rattle.std.specs.List.{before_first, after_first, list_any}
 use Rattle.std.specs.Io.KnownBytes.{Consumes}
 use Rattle.redo_path.specs.Names.{IsPath}
@@ -60,7 +62,8 @@ file_fault n size text =
 
 -- the size and the path behind the first word of a file's header
 abbrev pub words_of : List ℕ → Option (ℕ × List ℕ)
-words_of words = if list_any is_space words then option_map (λ size. (size, after_first is_space words)) (size_of (before_first is_space words)) else None
+words_of words =
+    if list_any is_space words then option_map (λ size. (size, after_first is_space words)) (size_of (before_first is_space words)) else None
 
 -- a path below the root
 abbrev pub IsPlace : List ℕ → Type 0
@@ -69,16 +72,19 @@ IsPlace word = (word ≢ []) × IsPath word
 -- a file of this size was read and added
 abbrev pub AddsFile : Tree → Tree → List ℕ → ℕ → Option (List ℕ) → Option (List ℕ) → Type 0
 AddsFile old new path size before after =
-    (bytes : List ℕ) × (length bytes ≡ size) × (added old path (File bytes) ≡ Ok new) × Consumes before after (bytes ++ 10 ∷ [])
+    (bytes : List ℕ) × (length bytes ≡ size) × (added old path (File bytes) ≡ Ok new) ×
+    Consumes before after (bytes ++ 10 ∷ [])
 
 -- what follows this header line was read, and the entry was added
 abbrev pub AddsEntry : Tree → Tree → List ℕ → Option (List ℕ) → Option (List ℕ) → Type 0
 AddsEntry old new line before after =
-    (e : List ℕ × Node) × IsEntry e × (added old e.0 e.1 ≡ Ok new) × (rest : List ℕ) × (spelling e ≡ line ++ 10 ∷ rest) × Consumes before after rest
+    (e : List ℕ × Node) × IsEntry e × (added old e.0 e.1 ≡ Ok new) × (rest : List ℕ) ×
+    (spelling e ≡ line ++ 10 ∷ rest) × Consumes before after rest
 
 -- an entry was read and added
 abbrev pub AddsNext : Tree → Tree → Option (List ℕ) → Option (List ℕ) → Type 0
-AddsNext old new before after = (e : List ℕ × Node) × IsEntry e × (added old e.0 e.1 ≡ Ok new) × Consumes before after (spelling e)
+AddsNext old new before after =
+    (e : List ℕ × Node) × IsEntry e × (added old e.0 e.1 ≡ Ok new) × Consumes before after (spelling e)
 
 -- what the tree answered, as an answer on an entry
 abbrev pub told : ℕ → Result (Unit {0}) TreeFault → Result (Unit {0}) BundleFault

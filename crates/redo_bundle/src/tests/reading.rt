@@ -3,9 +3,9 @@
 ghost use Rattle.std.specs.Prelude.{◌≡◌, false};
 
 use super::ends::{Drops, fault_in};
-use redo_tree::{Kind, TreeFault};
 use crate::{BundleFault, ByteIn, Plain, read_bundle, read_bundle_by_line};
 use redo_path::{Path, PathFault, resolve};
+use redo_tree::{Kind, TreeFault};
 use std::alloc::Global;
 use std::test::Fail;
 

@@ -4,8 +4,8 @@ ghost use Rattle.std.specs.Prelude.{IfOk};
 ghost use Rattle.redo_bundle.specs.Bundle.{HasSmallFiles};
 
 use super::ends::{Drops, Sink};
-use redo_tree::Tree;
 use crate::{ByteOut, Plain, WriteFault, read_bundle, write_bundle};
+use redo_tree::Tree;
 use std::alloc::Global;
 use std::test::Fail;
 

@@ -17,8 +17,10 @@ end_progress (Stopped begun) = record { outcome = None; deps = record_so_far beg
 
 -- what an end holds is of its target
 abbrev pub IsEndOf : Tree → LimitsView → ℕ → List ℕ → ℕ → End → Type 0
-IsEndOf tree limits depth target turn (Ended fact) = ((arc_value fact).tree ≡ tree) × ((arc_value fact).limits ≡ limits) × ((arc_value fact).target ≡ target)
-IsEndOf tree limits depth target turn (Stopped begun) = IsStopped tree limits depth target turn begun.value.job begun.value.facts
+IsEndOf tree limits depth target turn (Ended fact) =
+    ((arc_value fact).tree ≡ tree) × ((arc_value fact).limits ≡ limits) × ((arc_value fact).target ≡ target)
+IsEndOf tree limits depth target turn (Stopped begun) =
+    IsStopped tree limits depth target turn begun.value.job begun.value.facts
 
 -- the end says how far the script of a target comes at a turn, and holds what is left of it
 pub record IsEndAt (tree : Tree) (limits : LimitsView) (target : List ℕ) (turn : ℕ) (end : End) : Type 0 where

@@ -1,5 +1,6 @@
 -- How a table whose targets wait or are decided makes a report.
-use Rattle.std.specs.Prelude.{◌≡◌, ◌⊎◌, Bool, true, false, ℕ, List, [], ◌∷◌, ◌++◌, Option, Some, None, MatchOption, filter, flat_map, fold, is_some, map, slice_get, if◌then◌else◌}
+use Rattle.std.specs.Prelude.{◌≡◌, ◌⊎◌, Bool, true, false, ℕ, List, [], ◌∷◌, ◌++◌, Option, Some, None, MatchOption}
+use Rattle.std.specs.Prelude.{filter, flat_map, fold, is_some, map, slice_get, if◌then◌else◌}
 use Rattle.std.specs.Arc.{arc_value}
 use Rattle.std.specs.Borrow.{Bor}
 use Rattle.std.specs.BTreeSet.{insert_key}
@@ -65,10 +66,12 @@ IsTold tree p Out = Unit {0}
 IsTold tree p (Decided fact) = ((arc_value fact).tree ≡ tree) × ((arc_value fact).target ≡ p)
 
 abbrev pub AllTold : Tree → Table → Type 0
-AllTold tree t = (k : ℕ) (slot : Slot) (p : List ℕ) → slice_get t.slots.items k ≡ Some slot → slice_get t.targets.keys k ≡ Some p → IsTold tree p slot.stage
+AllTold tree t =
+    (k : ℕ) (slot : Slot) (p : List ℕ) → slice_get t.slots.items k ≡ Some slot → slice_get t.targets.keys k ≡ Some p →
+    IsTold tree p slot.stage
 
--- whether the script of a target was begun: it was, where the target waits; and a fact tells, and says that it was where
--- there is a rule
+-- whether the script of a target was begun: it was, where the target waits; and a fact tells, and says that it was
+-- where there is a rule
 abbrev pub IsBegunAs : Stage → Bool → Type 0
 IsBegunAs (Waiting parked) begun = begun ≡ true
 IsBegunAs (Ready work) begun = ⊥

@@ -33,7 +33,8 @@ script_known (Begun begun) = known_in begun.value.facts
 -- an unread script has the rule that the search finds; a job has the outcomes of all that it asked for
 abbrev pub IsScriptOf : Tree → LimitsView → Script → Type 0
 IsScriptOf tree limits (Unread unread) =
-    found_of tree unread.value.target ≡ Rule unread.value.rule.do_file unread.value.rule.missing (arguments_view unread.value.rule.args)
+    found_of tree unread.value.target ≡
+    Rule unread.value.rule.do_file unread.value.rule.missing (arguments_view unread.value.rule.args)
 IsScriptOf tree limits (Begun begun) = IsWorkWith tree limits begun.value.job begun.value.facts
 
 -- the job of a target before its first statement: it is a work that knows nothing

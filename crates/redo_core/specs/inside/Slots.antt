@@ -1,5 +1,7 @@
 -- How a board keeps its entries.
-use Rattle.std.specs.Prelude.{◌≡◌, ◌⊎◌, ℕ, ◌+◌, ◌<◌, ◌≤◌, Bool, true, false, not, List, [], ◌∷◌, ◌++◌, Option, Some, None, is_some, IsNone, if◌then◌else◌, map, length, drop, filter, slice_get, slice_set, unwrap_or, IsSorted, IsPermutation, Box}
+use Rattle.std.specs.Prelude.{◌≡◌, ◌⊎◌, ℕ, ◌+◌, ◌<◌, ◌≤◌, Bool, true, false, not, List, [], ◌∷◌, ◌++◌, Option, Some}
+use Rattle.std.specs.Prelude.{None, is_some, IsNone, if◌then◌else◌, map, length, drop, filter, slice_get, slice_set}
+use Rattle.std.specs.Prelude.{unwrap_or, IsSorted, IsPermutation, Box}
 use Rattle.std.specs.Ordering.{nat_cmp}
 use Rattle.std.specs.Arc.{arc_value}
 use Rattle.std.specs.declared.sync.Arc.{Arc}
@@ -122,7 +124,8 @@ pub record IsWaitingWith (r : Rules) (a : Ask) (tree : Tree) (limits : LimitsVie
   pub at_turn : parked.begun.value.job.turn ≡ turn
   pub stopped : 0 < turn
   pub answered : AnsweredBelow a (waited_by r parked.begun.value) parked.held
-  pub told : (q : List ℕ) (o : Outcome) → told_in parked.begun.value.facts q ≡ Some o → IsAmong (operands r (job_deps parked.begun.value.job)) q × (a q ≡ Some o)
+  pub told : (q : List ℕ) (o : Outcome) → told_in parked.begun.value.facts q ≡ Some o →
+      IsAmong (operands r (job_deps parked.begun.value.job)) q × (a q ≡ Some o)
   pub goes_on : GoesOn parked.begun.value.job (told_in parked.begun.value.facts)
   pub gained_within : parked.begun.value.facts.gained ≤ length parked.begun.value.job.state.entries
   pub gained : AreKnownBelow r parked.begun.value.job (told_in parked.begun.value.facts) parked.begun.value.facts.gained
@@ -132,7 +135,8 @@ abbrev pub Fits : Rules → Ask → Tree → LimitsView → List ℕ → ℕ →
 Fits r a tree limits p turn (Waiting parked) = IsWaitingWith r a tree limits p turn parked
 Fits r a tree limits p turn (Ready work) = IsParked tree limits p turn work × AllAnswered r a work.deps
 Fits r a tree limits p turn Out = Unit {0}
-Fits r a tree limits p turn (Decided fact) = ((arc_value fact).tree ≡ tree) × ((arc_value fact).limits ≡ limits) × ((arc_value fact).target ≡ p)
+Fits r a tree limits p turn (Decided fact) =
+    ((arc_value fact).tree ≡ tree) × ((arc_value fact).limits ≡ limits) × ((arc_value fact).target ≡ p)
 
 -- a job that waits has the numbers of what it waits for
 abbrev pub IsNumbered : Rules → List (List ℕ) → Stage → Type 0
@@ -173,18 +177,21 @@ pub record IsWatched (r : Rules) (ps : List (List ℕ)) (slots : List Slot) (k :
   pub listed : IsPlace other.watchers.items k
   pub asked : IsAmong (operands r deps) (path_at ps at)
 
--- the numbers of those ready: in the queue, or freed and not in it yet
-pub record IsQueue (slots : List Slot) (ready freed : List ℕ) : Type 0 where
+-- the numbers of those ready: in the queue, or newly ready and not in it yet
+pub record IsQueue (slots : List Slot) (ready newly_ready : List ℕ) : Type 0 where
   pub ready_below : (k : ℕ) → IsPlace ready k → k < length slots
-  pub freed_below : (k : ℕ) → IsPlace freed k → k < length slots
-  pub ready_is : (k : ℕ) (slot : Slot) → IsPlace ready k ⊎ IsPlace freed k → slice_get slots k ≡ Some slot → is_stage_ready slot.stage ≡ true
-  pub ready_in : (k : ℕ) (slot : Slot) → slice_get slots k ≡ Some slot → is_stage_ready slot.stage ≡ true → IsPlace ready k ⊎ IsPlace freed k
-  pub apart : (k : ℕ) → IsPlace ready k → IsPlace freed k → ⊥
-  pub once : ArePlacesOnce freed
+  pub newly_ready_below : (k : ℕ) → IsPlace newly_ready k → k < length slots
+  pub ready_is : (k : ℕ) (slot : Slot) → IsPlace ready k ⊎ IsPlace newly_ready k → slice_get slots k ≡ Some slot →
+      is_stage_ready slot.stage ≡ true
+  pub ready_in : (k : ℕ) (slot : Slot) → slice_get slots k ≡ Some slot → is_stage_ready slot.stage ≡ true →
+      IsPlace ready k ⊎ IsPlace newly_ready k
+  pub apart : (k : ℕ) → IsPlace ready k → IsPlace newly_ready k → ⊥
+  pub once : ArePlacesOnce newly_ready
 
 -- what waits is watched, but for those numbers that are still to be looked at
 abbrev pub AllWatched : Rules → ℕ → List (List ℕ) → List Slot → List ℕ → Type 0
-AllWatched r depth ps slots pending = (k : ℕ) (slot : Slot) → slice_get slots k ≡ Some slot → is_stage_waiting slot.stage ≡ true →
+AllWatched r depth ps slots pending =
+    (k : ℕ) (slot : Slot) → slice_get slots k ≡ Some slot → is_stage_waiting slot.stage ≡ true →
     IsPlace pending k ⊎ IsWatched r ps slots k (stage_deps r (outcome_at r depth) (path_at ps k) slot.turn slot.stage)
 
 abbrev pub AllFit : Rules → ℕ → Tree → LimitsView → List (List ℕ) → List Slot → Type 0
@@ -192,21 +199,23 @@ AllFit r depth tree limits ps slots = (k : ℕ) (slot : Slot) → slice_get slot
     Fits r (outcomes_of (entries_from r depth ps slots)) tree limits (path_at ps k) slot.turn slot.stage
 
 abbrev pub AllWatchersBelow : List Slot → Type 0
-AllWatchersBelow slots = (i k : ℕ) (slot : Slot) → slice_get slots i ≡ Some slot → IsPlace slot.watchers.items k → k < length slots
+AllWatchersBelow slots =
+    (i k : ℕ) (slot : Slot) → slice_get slots i ≡ Some slot → IsPlace slot.watchers.items k → k < length slots
 
--- how a table stands, with the numbers freed
-pub record IsTable (r : Rules) (tree : Tree) (limits : LimitsView) (ps : List (List ℕ)) (slots : List Slot) (ready : List ℕ) (out : ℕ) (freed : List ℕ) : Type 0 where
+-- how a table stands, with the newly ready numbers
+pub record IsTable (r : Rules) (tree : Tree) (limits : LimitsView) (ps : List (List ℕ)) (slots : List Slot) (ready : List ℕ) (out : ℕ) (newly_ready : List ℕ) : Type 0 where
   pub one_each : length slots ≡ length ps
   pub within_limit : length slots ≤ limits.targets
   pub few : limits.targets ≤ 65536
   pub out_counted : out ≡ length (filter (λ slot. is_stage_out slot.stage) slots)
   pub fits : AllFit r limits.targets tree limits ps slots
   pub numbered : AllNumbered r ps slots
-  pub queue : IsQueue slots ready freed
+  pub queue : IsQueue slots ready newly_ready
   pub watchers_below : AllWatchersBelow slots
 
 abbrev pub IsTableOf : Tree → LimitsView → Table → List ℕ → Type 0
-IsTableOf tree limits t freed = IsTable (rules_of tree limits) tree limits t.targets.keys t.slots.items t.ready.items t.out freed
+IsTableOf tree limits t newly_ready =
+    IsTable (rules_of tree limits) tree limits t.targets.keys t.slots.items t.ready.items t.out newly_ready
 
 -- what a board keeps: a state that is reached, and a table with nothing left to do
 pub record IsKept (b : Inside) : Type 0 where
@@ -252,7 +261,9 @@ pub record IsLackingAt (t : Table) (ns : List ℕ) (from i at : ℕ) : Type 0 wh
 
 -- the entries of the table stand as those of a build
 abbrev pub IsStandingTable : Tree → LimitsView → Table → Type 0
-IsStandingTable tree limits t = (request : List (List ℕ)) × AreStanding (rules_of tree limits) request (table_entries (rules_of tree limits) limits.targets t)
+IsStandingTable tree limits t =
+    (request : List (List ℕ)) ×
+    AreStanding (rules_of tree limits) request (table_entries (rules_of tree limits) limits.targets t)
 
 -- the fact of a number whose target is decided
 abbrev pub IsFactAt : Table → ℕ → Arc FactView Global → Type 0
@@ -276,16 +287,19 @@ GainsOne t n old new = (fact : Arc FactView Global) × IsFactAt t n fact × Adds
 pub record GainsBelow (t : Table) (ns : List ℕ) (old new : Facts) (i : ℕ) : Type 0 where
   pub kept : (q : List ℕ) → told_in new q ≡ None → told_in old q ≡ None
   pub origin : (q : List ℕ) (o : Outcome) → told_in new q ≡ Some o → (told_in old q ≡ Some o) ⊎ IsToldBy t ns q o
-  pub known : (k n : ℕ) (fact : Arc FactView Global) → k < i → slice_get ns k ≡ Some n → IsFactAt t n fact → told_in new (arc_value fact).target ≡ None → ⊥
+  pub known : (k n : ℕ) (fact : Arc FactView Global) → k < i → slice_get ns k ≡ Some n → IsFactAt t n fact →
+      told_in new (arc_value fact).target ≡ None → ⊥
 
--- the facts hold those of all the numbers, and hold nothing else that is new: so they have those of all the job's entries
+-- the facts hold those of all the numbers, and hold nothing else that is new: so they have those of all the job's
+-- entries
 pub record Gains (t : Table) (ns : List ℕ) (job : JobView) (old new : Facts) : Type 0 where
   pub all : new.gained ≡ length job.state.entries
   pub below : GainsBelow t ns old new (length ns)
 
 -- the job of a slot is parked
 abbrev pub IsWaitingThere : Table → ℕ → Type 0
-IsWaitingThere t at = (slot : Slot) × (parked : Parked) × (slice_get t.slots.items at ≡ Some slot) × (slot.stage ≡ Waiting parked)
+IsWaitingThere t at =
+    (slot : Slot) × (parked : Parked) × (slice_get t.slots.items at ≡ Some slot) × (slot.stage ≡ Waiting parked)
 
 -- the operands of one parked job were looked at so far
 pub record IsHeldAt (t u : Table) (at held : ℕ) : Type 0 where
@@ -312,7 +326,7 @@ pub record IsWatchAdded (t u : Table) (at place : ℕ) : Type 0 where
   pub rest : (u.targets ≡ t.targets) × (u.ready ≡ t.ready) × (u.out ≡ t.out)
 
 -- one job is no longer parked, and ready
-pub record IsFreedAt (tree : Tree) (limits : LimitsView) (t u : Table) (at : ℕ) : Type 0 where
+pub record IsMadeReadyAt (tree : Tree) (limits : LimitsView) (t u : Table) (at : ℕ) : Type 0 where
   pub old : Slot
   pub new : Slot
   pub parked : Parked
@@ -322,7 +336,8 @@ pub record IsFreedAt (tree : Tree) (limits : LimitsView) (t u : Table) (at : ℕ
   pub is : new.stage ≡ Ready work
   pub turn : new.turn ≡ old.turn
   pub watchers : new.watchers ≡ old.watchers
-  pub same : (work.tree ≡ tree) × (work.limits ≡ limits) × (work.target ≡ parked.begun.value.job.target) × (work.turn ≡ parked.begun.value.job.turn) × (work.deps ≡ job_deps parked.begun.value.job)
+  pub same : (work.tree ≡ tree) × (work.limits ≡ limits) × (work.target ≡ parked.begun.value.job.target) ×
+      (work.turn ≡ parked.begun.value.job.turn) × (work.deps ≡ job_deps parked.begun.value.job)
   pub slots : u.slots.items ≡ slice_set t.slots.items at new
   pub rest : (u.targets ≡ t.targets) × (u.ready ≡ t.ready) × (u.out ≡ t.out)
 
@@ -344,44 +359,52 @@ IsFed tree limits t at = (slot : Slot) × (parked : Parked) × IsFedAs tree limi
 
 -- a number was looked at: the table shows the same entries
 pub record IsLookedAt (tree : Tree) (limits : LimitsView) (t u : Table) (at : ℕ) : Type 0 where
-  pub entries : table_entries (rules_of tree limits) limits.targets u ≡ table_entries (rules_of tree limits) limits.targets t
+  pub entries : table_entries (rules_of tree limits) limits.targets u ≡
+      table_entries (rules_of tree limits) limits.targets t
   pub rest : (u.targets ≡ t.targets) × (u.ready ≡ t.ready) × (u.out ≡ t.out)
   pub slots : length u.slots.items ≡ length t.slots.items
-  pub watched : (pending : List ℕ) → AllWatched (rules_of tree limits) limits.targets t.targets.keys t.slots.items (at ∷ pending) →
+  pub watched : (pending : List ℕ) →
+      AllWatched (rules_of tree limits) limits.targets t.targets.keys t.slots.items (at ∷ pending) →
       AllWatched (rules_of tree limits) limits.targets u.targets.keys u.slots.items pending
 
 -- what a path that is seen for the first time is at once
 abbrev pub IsBegun : Tree → LimitsView → List ℕ → Stage → Type 0
 IsBegun tree limits p (Waiting parked) = ⊥
-IsBegun tree limits p (Ready work) = IsParked tree limits p 0 work × (work.deps ≡ []) × ((rules_of tree limits).has_rule p ≡ true)
+IsBegun tree limits p (Ready work) =
+    IsParked tree limits p 0 work × (work.deps ≡ []) × ((rules_of tree limits).has_rule p ≡ true)
 IsBegun tree limits p Out = ⊥
-IsBegun tree limits p (Decided fact) = ((arc_value fact).tree ≡ tree) × ((arc_value fact).limits ≡ limits) × ((arc_value fact).target ≡ p) ×
+IsBegun tree limits p (Decided fact) =
+    ((arc_value fact).tree ≡ tree) × ((arc_value fact).limits ≡ limits) × ((arc_value fact).target ≡ p) ×
     ((rules_of tree limits).has_rule p ≡ false) ×
-    ((rules_of tree limits).progress p nothing_known ≡ record { outcome = Some (arc_value fact).outcome; deps = (arc_value fact).deps })
+    ((rules_of tree limits).progress p nothing_known ≡
+    record { outcome = Some (arc_value fact).outcome; deps = (arc_value fact).deps })
 
 -- a new path has a slot behind the others
-pub record IsPushed (tree : Tree) (limits : LimitsView) (t u : Table) (freed freed' : List ℕ) (p : List ℕ) : Type 0 where
+pub record IsPushed (tree : Tree) (limits : LimitsView) (t u : Table) (newly_ready newly_ready' : List ℕ) (p : List ℕ) : Type 0 where
   pub new : Slot
   pub begun : IsBegun tree limits p new.stage
   pub turn : new.turn ≡ 0
   pub watchers : new.watchers.items ≡ []
   pub keys : u.targets.keys ≡ t.targets.keys ++ p ∷ []
   pub slots : u.slots.items ≡ t.slots.items ++ new ∷ []
-  pub freed_is : freed' ≡ freed ++ (if is_stage_ready new.stage then length t.slots.items ∷ [] else [])
+  pub newly_ready_is : newly_ready' ≡ newly_ready ++ (if is_stage_ready new.stage then length t.slots.items ∷ []
+      else [])
   pub rest : (u.ready ≡ t.ready) × (u.out ≡ t.out)
 
 -- the table shows the entries with these paths entered
-pub record AreEnteredInto (tree : Tree) (limits : LimitsView) (t u : Table) (freed : List ℕ) (ps : List (List ℕ)) : Type 0 where
-  pub table : IsTableOf tree limits u freed
-  pub entries : table_entries (rules_of tree limits) limits.targets u ≡ entered (rules_of tree limits) (table_entries (rules_of tree limits) limits.targets t) ps
+pub record AreEnteredInto (tree : Tree) (limits : LimitsView) (t u : Table) (newly_ready : List ℕ) (ps : List (List ℕ)) : Type 0 where
+  pub table : IsTableOf tree limits u newly_ready
+  pub entries : table_entries (rules_of tree limits) limits.targets u ≡
+      entered (rules_of tree limits) (table_entries (rules_of tree limits) limits.targets t) ps
   pub rest : (u.ready ≡ t.ready) × (u.out ≡ t.out)
   pub keys_kept : (k : ℕ) (p : List ℕ) → slice_get t.targets.keys k ≡ Some p → slice_get u.targets.keys k ≡ Some p
   pub slots_kept : (k : ℕ) (slot : Slot) → slice_get t.slots.items k ≡ Some slot → slice_get u.slots.items k ≡ Some slot
-  pub watched : (pending : List ℕ) → AllWatched (rules_of tree limits) limits.targets t.targets.keys t.slots.items pending →
+  pub watched : (pending : List ℕ) →
+      AllWatched (rules_of tree limits) limits.targets t.targets.keys t.slots.items pending →
       AllWatched (rules_of tree limits) limits.targets u.targets.keys u.slots.items pending
 
 abbrev pub IsEnteredInto : Tree → LimitsView → Table → Table → List ℕ → List ℕ → Type 0
-IsEnteredInto tree limits t u freed p = AreEnteredInto tree limits t u freed (p ∷ [])
+IsEnteredInto tree limits t u newly_ready p = AreEnteredInto tree limits t u newly_ready (p ∷ [])
 
 -- entering the paths passes the limit
 abbrev pub AreTooMany : Rules → ℕ → List Entry → List (List ℕ) → Type 0
@@ -392,20 +415,22 @@ IsFull r limit es p = AreTooMany r limit es (p ∷ [])
 
 -- of these numbers all but those left were looked at: the table shows the same entries
 pub record AreLookedAtBelow (tree : Tree) (limits : LimitsView) (t u : Table) (pending left : List ℕ) : Type 0 where
-  pub entries : table_entries (rules_of tree limits) limits.targets u ≡ table_entries (rules_of tree limits) limits.targets t
+  pub entries : table_entries (rules_of tree limits) limits.targets u ≡
+      table_entries (rules_of tree limits) limits.targets t
   pub rest : (u.targets ≡ t.targets) × (u.ready ≡ t.ready) × (u.out ≡ t.out)
   pub slots : length u.slots.items ≡ length t.slots.items
-  pub watched : (more : List ℕ) → AllWatched (rules_of tree limits) limits.targets t.targets.keys t.slots.items (pending ++ more) →
+  pub watched : (more : List ℕ) →
+      AllWatched (rules_of tree limits) limits.targets t.targets.keys t.slots.items (pending ++ more) →
       AllWatched (rules_of tree limits) limits.targets u.targets.keys u.slots.items (left ++ more)
 
 abbrev pub AreLookedAt : Tree → LimitsView → Table → Table → List ℕ → Type 0
 AreLookedAt tree limits t u pending = AreLookedAtBelow tree limits t u pending []
 
--- the numbers freed are in the queue, in ascending order
-pub record AreReleased (t u : Table) (freed : List ℕ) : Type 0 where
+-- the newly ready numbers are in the queue, in ascending order
+pub record AreEnqueued (t u : Table) (newly_ready : List ℕ) : Type 0 where
   pub sorted : List ℕ
   pub ordered : IsSorted nat_cmp sorted
-  pub shuffled : IsPermutation freed sorted
+  pub shuffled : IsPermutation newly_ready sorted
   pub queue : u.ready.items ≡ t.ready.items ++ sorted
   pub rest : (u.targets ≡ t.targets) × (u.slots ≡ t.slots) × (u.out ≡ t.out)
 
@@ -451,7 +476,8 @@ pub record IsParkedAt (t u : Table) (at : ℕ) (begun : Box Begun Global) (opera
 
 -- the job of a slot is out
 abbrev pub IsOutThere : Table → ℕ → Type 0
-IsOutThere t at = (0 < t.out) × ((slot : Slot) × (slice_get t.slots.items at ≡ Some slot) × (slot.stage ≡ Out) × (slot.turn < 65536))
+IsOutThere t at =
+    (0 < t.out) × ((slot : Slot) × (slice_get t.slots.items at ≡ Some slot) × (slot.stage ≡ Out) × (slot.turn < 65536))
 
 -- the state that a table stands for
 abbrev pub table_state : Rules → ℕ → Table → State
@@ -462,7 +488,8 @@ abbrev pub state_after : Tree → LimitsView → Table → ℕ → State
 state_after tree limits t at =
     handed_in (rules_of tree limits) (table_state (rules_of tree limits) limits.targets t) (entry_of (table_entries (rules_of tree limits) limits.targets t) (path_at t.targets.keys at))
 
--- the table is that of a state that is reached, with nothing left to do, and the end is that of the job that is out at the number
+-- the table is that of a state that is reached, with nothing left to do, and the end is that of the job that is out at
+-- the number
 pub record MayTakeIn (tree : Tree) (limits : LimitsView) (t : Table) (at : ℕ) (end : End) : Type 0 where
   pub request : List (List ℕ)
   pub reached : IsReached (rules_of tree limits) request (table_state (rules_of tree limits) limits.targets t)
@@ -473,9 +500,9 @@ pub record MayTakeIn (tree : Tree) (limits : LimitsView) (t : Table) (at : ℕ) 
   pub is_out : slot.stage ≡ Out
   pub is_end : IsEndAt tree limits (path_at t.targets.keys at) slot.turn end
 
--- the table shows the entries after it, with these numbers freed and those to be looked at
-pub record IsPutBackThere (tree : Tree) (limits : LimitsView) (t u : Table) (at : ℕ) (freed pending : List ℕ) : Type 0 where
-  pub table : IsTableOf tree limits u freed
+-- the table shows the entries after it, with these numbers newly ready and those to be looked at
+pub record IsPutBackThere (tree : Tree) (limits : LimitsView) (t u : Table) (at : ℕ) (newly_ready pending : List ℕ) : Type 0 where
+  pub table : IsTableOf tree limits u newly_ready
   pub entries : table_entries (rules_of tree limits) limits.targets u ≡ (state_after tree limits t at).entries
   pub ready : u.ready ≡ t.ready
   pub keys_kept : (k : ℕ) (p : List ℕ) → slice_get t.targets.keys k ≡ Some p → slice_get u.targets.keys k ≡ Some p

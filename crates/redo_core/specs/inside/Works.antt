@@ -1,5 +1,6 @@
 -- Jobs as the board keeps them, with the outcomes that they hold.
-use Rattle.std.specs.Prelude.{◌≡◌, ◌⊎◌, ℕ, zero, suc, false, ◌+◌, ◌<◌, ◌≤◌, List, [], Some, None, map, length, slice_get, unwrap_or, Box, Option, ◌++◌}
+use Rattle.std.specs.Prelude.{◌≡◌, ◌⊎◌, ℕ, zero, suc, false, ◌+◌, ◌<◌, ◌≤◌, List, [], Some, None, map, length}
+use Rattle.std.specs.Prelude.{slice_get, unwrap_or, Box, Option, ◌++◌}
 use Rattle.std.specs.Arc.{arc_value}
 use Rattle.std.specs.declared.sync.Arc.{Arc}
 use Rattle.std.specs.declared.alloc.Global.{Global}
@@ -28,7 +29,8 @@ few_known facts = map (λ f. ((arc_value {X = FactView} f).target, (arc_value {X
 abbrev pub entries_known : List (List ℕ × Arc FactView Global) → List (List ℕ × Outcome)
 entries_known es = map (λ e. (e.0, (arc_value {X = FactView} e.1).outcome)) es
 
-abbrev pub more_known : {S : Type 0} → Option (Box (IndexMap (List ℕ) (Arc FactView Global) S) Global) → List (List ℕ × Outcome)
+abbrev pub more_known : {S : Type 0} → Option (Box (IndexMap (List ℕ) (Arc FactView Global) S) Global) →
+    List (List ℕ × Outcome)
 more_known None = []
 more_known (Some more) = entries_known more.value.entries
 
@@ -46,7 +48,8 @@ job_deps job = elim (job.turn) [ zero ↦ [] | suc n ↦ record_so_far job ]
 pub record AddsFact (fact : FactView) (old new : Facts) : Type 0 where
   pub same : new.gained ≡ old.gained
   pub kept : (q : List ℕ) → told_in new q ≡ None → told_in old q ≡ None
-  pub origin : (q : List ℕ) (o : Outcome) → told_in new q ≡ Some o → (told_in old q ≡ Some o) ⊎ ((fact.target ≡ q) × (fact.outcome ≡ o))
+  pub origin : (q : List ℕ) (o : Outcome) → told_in new q ≡ Some o →
+      (told_in old q ≡ Some o) ⊎ ((fact.target ≡ q) × (fact.outcome ≡ o))
   pub known : told_in new fact.target ≡ None → ⊥
 
 -- the path of an entry of a record that is waited for
@@ -66,14 +69,19 @@ GoesOn job known = (later : Ask) → Keeps (job_setting job) job.state.entries k
 
 -- of the first so many entries that a job declared, each that is waited for has an answer
 abbrev pub AreKnownBelow : Rules → JobView → Ask → ℕ → Type 0
-AreKnownBelow r job known n = (k : ℕ) (d : Dep) (q : List ℕ) → k < n → slice_get job.state.entries k ≡ Some d → IsOperand r d q → known q ≡ None → ⊥
+AreKnownBelow r job known n =
+    (k : ℕ) (d : Dep) (q : List ℕ) → k < n → slice_get job.state.entries k ≡ Some d → IsOperand r d q →
+    known q ≡ None → ⊥
 
 -- a work: a job at its turn, with the build's outcomes for all that it asked for, and for nothing else
 pub record IsWorkWith (tree : Tree) (limits : LimitsView) (job : JobView) (facts : Facts) : Type 0 where
   pub is_job : IsJobOf tree limits job
   pub is_work : IsWork (rules_of tree limits) job.target job.turn (job_deps job)
-  pub exact : (q : List ℕ) → told_in facts q ≡ only (operands (rules_of tree limits) (job_deps job)) (outcome_at (rules_of tree limits) is_work.depth) q
-  pub declared : (q : List ℕ) → IsAmong (operands (rules_of tree limits) job.state.entries) q → IsAmong (operands (rules_of tree limits) (job_deps job)) q
+  pub exact : (q : List ℕ) →
+      told_in facts q ≡
+      only (operands (rules_of tree limits) (job_deps job)) (outcome_at (rules_of tree limits) is_work.depth) q
+  pub declared : (q : List ℕ) → IsAmong (operands (rules_of tree limits) job.state.entries) q →
+      IsAmong (operands (rules_of tree limits) (job_deps job)) q
   pub goes_on : GoesOn job (told_in facts)
   pub gained : facts.gained ≡ length job.state.entries
   pub few : job.turn < 65536
@@ -93,5 +101,8 @@ pub record IsStopped (tree : Tree) (limits : LimitsView) (depth : ℕ) (target :
 -- a work holds the outcomes of the build at some depth for all that it asked for, and no others
 pub record HoldsOutcomes (w : WorkView) : Type 0 where
   pub depth : ℕ
-  pub fed : (q : List ℕ) → IsAmong (operands (rules_of w.tree w.limits) w.deps) q → outcome_at (rules_of w.tree w.limits) depth q ≡ None → ⊥
-  pub exact : (q : List ℕ) → told_by w.known q ≡ only (operands (rules_of w.tree w.limits) w.deps) (outcome_at (rules_of w.tree w.limits) depth) q
+  pub fed : (q : List ℕ) → IsAmong (operands (rules_of w.tree w.limits) w.deps) q →
+      outcome_at (rules_of w.tree w.limits) depth q ≡ None → ⊥
+  pub exact : (q : List ℕ) →
+      told_by w.known q ≡
+      only (operands (rules_of w.tree w.limits) w.deps) (outcome_at (rules_of w.tree w.limits) depth) q

@@ -215,8 +215,8 @@ fn is_for(
     Ok(board.is_for(&tree, &request, limits))
 }
 
-/// How many scripts a tree has, a requested word, a limit of targets, and whether the board is for them: its own build, and
-/// then another tree, another request and another limit.
+/// How many scripts a tree has, a requested word, a limit of targets, and whether the board is for them: its own build,
+/// and then another tree, another request and another limit.
 const BUILDS: [(usize, &[u8], u32, bool); 4] = [
     (4, b"top", 100, true),
     (3, b"top", 100, false),

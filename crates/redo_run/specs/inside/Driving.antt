@@ -20,4 +20,5 @@ AreOut board (work ∷ works) = IsOutOn board work × (IsAmong (targets_of works
 -- the pick was done, or isn't open and changed nothing
 abbrev pub IsPicked : Pick → BoardView → List WorkView → BoardView → List WorkView → Bool → Type 0
 IsPicked pick old works new after true = picked (rules_on old) (driven_on old works) pick ≡ Some (driven_on new after)
-IsPicked pick old works new after false = (picked (rules_on old) (driven_on old works) pick ≡ None) × (new ≡ old) × (after ≡ works)
+IsPicked pick old works new after false =
+    (picked (rules_on old) (driven_on old works) pick ≡ None) × (new ≡ old) × (after ≡ works)

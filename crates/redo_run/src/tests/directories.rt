@@ -1,10 +1,10 @@
-//! Runs over directories of the system. Each test works in a directory of its own, which it makes and removes. The helpers are
-//! small, and a test holds little more than its directory, so that each is proved in a few seconds.
+//! Runs over directories of the system. Each test works in a directory of its own, which it makes and removes. The
+//! helpers are small, and a test holds little more than its directory, so that each is proved in a few seconds.
 
 use super::options;
 use crate::{Cause, Exit, NoGate, RunDirFault, run_dir, whichdo_dir};
-use redo_path::{Path, resolve};
 use redo_bundle::Plain;
+use redo_path::{Path, resolve};
 use std::alloc::Global;
 use std::io::ErrorKind;
 use std::path::PathBuf;

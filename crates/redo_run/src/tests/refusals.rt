@@ -2,8 +2,8 @@
 
 use super::{options, run};
 use crate::{Cause, RunIoFault, whichdo_bundle};
-use redo_path::{Path, resolve};
 use redo_bundle::{BundleFault, Plain};
+use redo_path::{Path, resolve};
 use redo_tree::TreeFault;
 use std::test::Fail;
 

@@ -4,8 +4,8 @@ ghost use Rattle.std.specs.Prelude.{◌≤◌};
 
 use super::{GOOD, options, run_through};
 use crate::{Gate, NoGate, RunFault, build_many};
-use redo_report::report_text;
 use redo_path::{Path, resolve};
+use redo_report::report_text;
 use redo_step::Limits;
 use redo_tree::Tree;
 use std::alloc::Global;
@@ -163,7 +163,8 @@ fn holds_the_limit_of_targets(rt: HostRuntime) -> Result<(), Fail> {
     Ok(())
 }
 
-/// Holds who enters until two have entered, for so many yields at most, and notes who waited in vain. The target `top` isn't held.
+/// Holds who enters until two have entered, for so many yields at most, and notes who waited in vain. The target `top`
+/// isn't held.
 #[derive(Drop)]
 struct Pair {
     entered: AtomicU64,

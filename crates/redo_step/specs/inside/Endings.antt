@@ -15,7 +15,8 @@ use Rattle.redo_step.specs.Results.{after_run}
 
 -- a step that ended with the fault of its script's text
 abbrev pub IsRefused : List Dep → ScriptFault → Step → Type 0
-IsRefused deps fault (steps.Ended done) = record { outcome = Some done.outcome; deps = done.deps } ≡ at_once (Failed (why.Script fault)) deps
+IsRefused deps fault (steps.Ended done) =
+    record { outcome = Some done.outcome; deps = done.deps } ≡ at_once (Failed (why.Script fault)) deps
 IsRefused deps fault (steps.Asks job paths) = ⊥
 
 -- a step that ended as this run
@@ -29,4 +30,5 @@ by_both output third = by_outputs output.items (option_map (λ v. v.items) third
 
 -- a run that ended so, with these outputs
 abbrev pub after_end : End → Vec ℕ Global → Option (Vec ℕ Global) → Run
-after_end e output third = ends e (record { output = output.items; third = option_map (λ v. v.items) third; entries = [] })
+after_end e output third =
+    ends e (record { output = output.items; third = option_map (λ v. v.items) third; entries = [] })

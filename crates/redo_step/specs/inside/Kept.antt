@@ -38,4 +38,5 @@ IsKept setting script state (Some waiting) = IsFirst setting script state waitin
 
 -- what is kept, if anything, is the statement at this place of the script
 abbrev pub IsKeptIn : Setting → Result Script ScriptFault → Place → State → Option Waiting → Type 0
-IsKeptIn setting whole place state kept = (script : Script) → whole ≡ Ok script → IsKept setting (stands_at place script) state kept
+IsKeptIn setting whole place state kept =
+    (script : Script) → whole ≡ Ok script → IsKept setting (stands_at place script) state kept

@@ -2,13 +2,13 @@
 use Rattle.std.specs.Prelude.{◌≡◌, ℕ, ◌+◌, ◌<◌, length, List, option_map, None, Some, Result, Ok, Err}
 use Rattle.redo_script.specs.Syntax.{Script, Command, Condition, finish, choice}
 use Rattle.redo_step.specs.declared.machine.Effects.{Effects}
-use Rattle.redo_step.specs.declared.stop.Ending.{Ending}
-use Rattle.redo_step.specs.declared.stop.Ending.TheVariants as endings
-use Rattle.redo_step.specs.declared.stop.Stop.{Stop}
-use Rattle.redo_step.specs.declared.stop.Stop.TheVariants as stops
+use Rattle.redo_step.specs.declared.halt.Ending.{Ending}
+use Rattle.redo_step.specs.declared.halt.Ending.TheVariants as endings
+use Rattle.redo_step.specs.declared.halt.Halt.{Halt}
+use Rattle.redo_step.specs.declared.halt.Halt.TheVariants as stops
 use Rattle.redo_step.specs.declared.wait.Waiting.{Waiting}
-use Rattle.redo_step.specs.declared.machine.Progress.{Progress}
-use Rattle.redo_step.specs.declared.machine.Progress.TheVariants as progress
+use Rattle.redo_step.specs.declared.machine.RunEnd.{RunEnd}
+use Rattle.redo_step.specs.declared.machine.RunEnd.TheVariants as progress
 use Rattle.redo_step.specs.Setting.{Setting}
 use Rattle.redo_step.specs.Runs.{State, End, exited, faulted, stopped, Run, goes, ends}
 use Rattle.redo_step.specs.Statements.{run}
@@ -32,77 +32,82 @@ end_of (endings.Exited n) = exited n
 end_of (endings.Faulted w) = faulted w
 
 -- a part of a command that stopped says why, unless memory ran out
-abbrev pub Stops : {Y : Type 0} → Stop → Result Y End → Type 0
+abbrev pub Stops : {Y : Type 0} → Halt → Result Y End → Type 0
 Stops (stops.Ended e) meant = meant ≡ Err (end_of e)
 Stops (stops.Lacks ps) meant = meant ≡ Err (stopped ps.items)
 Stops (stops.Waits ps w) meant = ⊥
 Stops stops.Memory meant = Unit {0}
 
 -- what a function answered, seen by view, is what is meant, unless memory ran out
-abbrev pub Gives : {X Y : Type 0} → (X → Y) → Result X Stop → Result Y End → Type 0
+abbrev pub Gives : {X Y : Type 0} → (X → Y) → Result X Halt → Result Y End → Type 0
 Gives view (Ok x) meant = meant ≡ Ok (view x)
 Gives view (Err stop) meant = Stops stop meant
 
 -- a run ended so, unless memory ran out
-abbrev pub EndsBy : Stop → Run → State → Type 0
+abbrev pub EndsBy : Halt → Run → State → Type 0
 EndsBy (stops.Ended e) run new = run ≡ ends (end_of e) new
 EndsBy (stops.Lacks ps) run new = run ≡ ends (stopped ps.items) new
 EndsBy (stops.Waits ps w) run new = ⊥
 EndsBy stops.Memory run new = Unit {0}
 
 -- a command came to this state, unless memory ran out
-abbrev pub Runs : {X : Type 0} → Result X Stop → Run → State → Type 0
+abbrev pub Runs : {X : Type 0} → Result X Halt → Run → State → Type 0
 Runs (Ok x) run new = run ≡ goes new
 Runs (Err stop) run new = EndsBy stop run new
 
 -- a wait ended so, and is kept where answers are lacking, unless memory ran out
-abbrev pub WaitsBy : Waiting → Stop → Run → State → Type 0
+abbrev pub WaitsBy : Waiting → Halt → Run → State → Type 0
 WaitsBy waiting (stops.Ended e) run new = run ≡ ends (end_of e) new
 WaitsBy waiting (stops.Lacks ps) run new = ⊥
 WaitsBy waiting (stops.Waits ps w) run new = (run ≡ ends (stopped ps.items) new) × (w ≡ waiting)
 WaitsBy waiting stops.Memory run new = Unit {0}
 
 -- a wait came to this state, unless memory ran out
-abbrev pub GoesOn : {X : Type 0} → Waiting → Result X Stop → Run → State → Type 0
+abbrev pub GoesOn : {X : Type 0} → Waiting → Result X Halt → Run → State → Type 0
 GoesOn waiting (Ok x) run new = run ≡ goes new
 GoesOn waiting (Err stop) run new = WaitsBy waiting stop run new
 
 -- a run ended so at this command, with its operands where it waits, unless memory ran out
-abbrev pub EndsAt : Setting → ℕ → Command → Stop → Run → State → Type 0
+abbrev pub EndsAt : Setting → ℕ → Command → Halt → Run → State → Type 0
 EndsAt setting line command (stops.Ended e) run new = run ≡ ends (end_of e) new
 EndsAt setting line command (stops.Lacks ps) run new = run ≡ ends (stopped ps.items) new
-EndsAt setting line command (stops.Waits ps w) run new = (run ≡ ends (stopped ps.items) new) × HasOperands setting line command new w
+EndsAt setting line command (stops.Waits ps w) run new =
+    (run ≡ ends (stopped ps.items) new) × HasOperands setting line command new w
 EndsAt setting line command stops.Memory run new = Unit {0}
 
 -- this command came to this state, unless memory ran out
-abbrev pub Passes : {X : Type 0} → Setting → ℕ → Command → Result X Stop → Run → State → Type 0
+abbrev pub Passes : {X : Type 0} → Setting → ℕ → Command → Result X Halt → Run → State → Type 0
 Passes setting line command (Ok x) run new = run ≡ goes new
 Passes setting line command (Err stop) run new = EndsAt setting line command stop run new
 
 -- Running a part of these statements from this state comes to the rest, or to an end, or stops at a place
 -- of the statements.
-abbrev pub Comes : Setting → Ask → (whole part rest : Script) → State → Progress → State → Type 0
+abbrev pub Comes : Setting → Ask → (whole part rest : Script) → State → RunEnd → State → Type 0
 Comes setting ask whole part rest old progress.Finished new = Reaches setting ask part old rest new
 Comes setting ask whole part rest old (progress.Ended e) new = run setting ask part old ≡ ends (end_of e) new
 Comes setting ask whole part rest old (progress.Stopped ps place kept) new =
-    Reaches setting ask part old (left_at place whole) new × (run setting ask (left_at place whole) new ≡ ends (stopped ps.items) new) × IsKept setting (stands_at place whole) new kept
+    Reaches setting ask part old (left_at place whole) new ×
+    (run setting ask (left_at place whole) new ≡ ends (stopped ps.items) new) ×
+    IsKept setting (stands_at place whole) new kept
 
 -- why the statement with this number stopped, as progress
-abbrev pub IsStopBefore : Stop → ℕ → Progress → Type 0
+abbrev pub IsStopBefore : Halt → ℕ → RunEnd → Type 0
 IsStopBefore (stops.Ended e) index p = p ≡ progress.Ended e
 IsStopBefore (stops.Lacks ps) index p = p ≡ progress.Stopped ps (Before index) None
 IsStopBefore (stops.Waits ps w) index p = p ≡ progress.Stopped ps (Before index) (Some w)
 IsStopBefore stops.Memory index p = ⊥
 
 -- The same progress, but for a place, which is one deeper.
-abbrev pub IsWithin : Progress → ℕ → Branch → Progress → Type 0
+abbrev pub IsWithin : RunEnd → ℕ → Branch → RunEnd → Type 0
 IsWithin progress.Finished index branch outer = outer ≡ progress.Finished
 IsWithin (progress.Ended e) index branch outer = outer ≡ progress.Ended e
-IsWithin (progress.Stopped ps place kept) index branch outer = (p : _) × (outer ≡ progress.Stopped ps (Within' index branch p place) kept)
+IsWithin (progress.Stopped ps place kept) index branch outer =
+    (p : _) × (outer ≡ progress.Stopped ps (Within' index branch p place) kept)
 
 -- Running a statement, wherever it stands at this number.
-pub record IsPassed (setting : Setting) (ask : Ask) (stmt : Stmt) (index : ℕ) (old : State) (progress : Progress) (new : State) : Type 0 where
-  pub comes : (whole rest : Script) → skip index whole ≡ before stmt rest → Comes setting ask whole (before stmt rest) rest old progress new
+pub record IsPassed (setting : Setting) (ask : Ask) (stmt : Stmt) (index : ℕ) (old : State) (progress : RunEnd) (new : State) : Type 0 where
+  pub comes : (whole rest : Script) → skip index whole ≡ before stmt rest →
+      Comes setting ask whole (before stmt rest) rest old progress new
 
 -- the branch, of these two
 abbrev pub picked : Branch → Script → Script → Script

@@ -1,12 +1,12 @@
 -- What the parts of printf do.
 use Rattle.std.specs.Prelude.{◌≡◌, ℕ, true, List, [], ◌∷◌, Option, Some}
-use Rattle.redo_step.specs.declared.printf.Piece.{Piece}
+use Rattle.redo_step.specs.declared.printf.FormatPart.{FormatPart}
 use Rattle.redo_step.specs.declared.sink.Sink.{Sink}
 use Rattle.redo_step.specs.Formats.{takes_operands}
 use Rattle.redo_step.specs.inside.Sink.{Adds}
 
 -- where operands are given, the format has a place for one
-abbrev pub HasPlaces : List Piece → List (List ℕ) → Type 0
+abbrev pub HasPlaces : List FormatPart → List (List ℕ) → Type 0
 HasPlaces pieces [] = Unit {0}
 HasPlaces pieces (text ∷ texts) = takes_operands pieces ≡ true
 

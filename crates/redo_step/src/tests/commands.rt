@@ -318,8 +318,8 @@ fn long_names(rt: HostRuntime) -> Result<(), Fail> {
     Ok(())
 }
 
-/// A word so often after itself, and what redo-ifcreate makes of it: one row for each reason that it names no path, and the
-/// longest name and path.
+/// A word so often after itself, and what redo-ifcreate makes of it: one row for each reason that it names no path, and
+/// the longest name and path.
 const WORDS: &[(&[u8], usize, &[u8])] = &[
     (b"", 1, b"outside 1"),
     (b"/x", 1, b"outside 1"),

@@ -2,8 +2,8 @@
 
 use super::{File, Known, check_outcome, check_target, learned, limits_of, path, run};
 use crate::Limits;
-use redo_record::{Dep, DepKind, Deps, Outcome, Record, Why};
 use redo_path::{Path, resolve};
+use redo_record::{Dep, DepKind, Deps, Outcome, Record, Why};
 use std::alloc::Global;
 use std::process::Abort;
 use std::test::Fail;

@@ -9,8 +9,8 @@ ghost use Rattle.redo_record.specs.Answers.{Ask as AskOf};
 
 use super::{File, Known, begin, check_outcome, ended, limits_of, path};
 use crate::{Job, Step};
-use redo_record::{Outcome, Why};
 use redo_path::Path;
+use redo_record::{Outcome, Why};
 use std::alloc::Global;
 use std::process::Abort;
 use std::test::Fail;
@@ -30,7 +30,9 @@ fn same_paths(paths: &[Path], want: &[&[u8]]) -> bool {
 fn stopped(rt: &(impl Abort + Eprint), job: Job, known: &Known, want: &[&[u8]]) -> Result<Job, Fail>
     requires fits { IsFit job (get (pointwise nat_eq) known.now.outcomes) }
     requires turn { job.turn < 10000 }
-    ensures fits { IfOk result (λ later. (ask : AskOf) → ((p : List ℕ) (o : OutcomeTree) → get (pointwise nat_eq) known.now.outcomes p ≡ Some o → ask p ≡ Some o) → IsFit later ask) }
+    ensures fits { IfOk result (λ later. (ask : AskOf) →
+        ((p : List ℕ) (o : OutcomeTree) → get (pointwise nat_eq) known.now.outcomes p ≡ Some o → ask p ≡ Some o) →
+        IsFit later ask) }
     ensures turn { IfOk result (λ later. later.turn ≡ job.turn + 1) }
 {
     match job.advance(known)? {
@@ -70,7 +72,8 @@ fn begun(alloc: Global, script: &[u8]) -> Result<Job, Fail>
 
 /// Learns what became of a path.
 fn learn(alloc: Global, known: &mut Known, name: &[u8], outcome: Outcome) -> Result<(), Fail>
-    ensures { OnOk result ((p : List ℕ) (o : OutcomeTree) → get (pointwise nat_eq) known.old.outcomes p ≡ Some o → get (pointwise nat_eq) known.new.outcomes p ≡ Some o) }
+    ensures { OnOk result ((p : List ℕ) (o : OutcomeTree) → get (pointwise nat_eq) known.old.outcomes p ≡ Some o →
+        get (pointwise nat_eq) known.new.outcomes p ≡ Some o) }
 {
     let path = path(alloc, name)?;
     known.learn(path, outcome)
@@ -85,7 +88,9 @@ fn waits_for_second(
     first: Outcome,
     want: &[u8],
 ) -> Result<(), Fail>
-    requires fits { (ask : AskOf) → ((p : List ℕ) (o : OutcomeTree) → get (pointwise nat_eq) known.old.outcomes p ≡ Some o → ask p ≡ Some o) → IsFit job ask }
+    requires fits { (ask : AskOf) →
+        ((p : List ℕ) (o : OutcomeTree) → get (pointwise nat_eq) known.old.outcomes p ≡ Some o → ask p ≡ Some o) →
+        IsFit job ask }
     requires turn { job.turn < 100 }
 {
     learn(alloc, known, b"a", first)?;

@@ -3,7 +3,8 @@ use Rattle.std.proofs.lemmas.Grind.{common_steps}
 use Rattle.std.proofs.lemmas.Result.{err_from_is_err_and}
 use Rattle.redo_bundle.specs.Bundle.{Reads}
 use Rattle.redo_bundle.proofs.OnceLemmas.{reads_each}
-use Rattle.redo_bundle.proofs.TurnLemmas.{Reached, Reached-first, Reached-next, longer, nothing_held, reads_all, reads_fault}
+use Rattle.redo_bundle.proofs.TurnLemmas.{Reached, Reached-first, Reached-next, longer, nothing_held, reads_all}
+use Rattle.redo_bundle.proofs.TurnLemmas.{reads_fault}
 use Rattle.redo_bundle.proofs.SmallLemmas.{reached_small}
 use Rattle.redo_bundle.proofs.reading.read_bundle_by_line.Goals as goal
 

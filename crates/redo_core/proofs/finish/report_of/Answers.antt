@@ -1,4 +1,5 @@
-use Rattle.std.proofs.Common.{◌≡◌, ◌++◌, ◌∷◌, [], ◌+◌, ◌<◌, ℕ, List, Option, Bor, length, map, drop, if◌then◌else◌, slice_index_or, sym, ap, subst, ◌∙◌, arith}
+use Rattle.std.proofs.Common.{◌≡◌, ◌++◌, ◌∷◌, [], ◌+◌, ◌<◌, ℕ, List, Option, Bor, length, map, drop, if◌then◌else◌}
+use Rattle.std.proofs.Common.{slice_index_or, sym, ap, subst, ◌∙◌, arith}
 use Rattle.std.proofs.lemmas.List.{append_assoc, drop_more, map-append}
 use Rattle.std.specs.List.{AllByRecursion}
 use Rattle.redo_which.specs.Rule.{found_of}

@@ -6,15 +6,15 @@ use Rattle.redo_build.specs.inside.Standing.{AreStanding}
 use Rattle.redo_core.specs.inside.Slots.{IsPutBackThere, IsTableOf, AreLookedAt}
 use Rattle.redo_core.specs.declared.work.End.TheVariants.{Ended}
 use Rattle.redo_core.proofs.TakeInLemmas.{out-there, decided-put, after-sound}
-use Rattle.redo_core.proofs.ReleaseLemmas.{looked-put}
+use Rattle.redo_core.proofs.EnqueueLemmas.{looked-put}
 use Rattle.indexmap.proofs.SearchLemmas.{on_ok_of}
 use Rattle.redo_core.proofs.moves.conclude.Goals as goal
 use Rattle.redo_core.proofs.moves.conclude.Goals.{After-decide-watchers}
 
-decided : (c : After-decide-watchers) → IsPutBackThere (arc_value c.args.tree.now) c.args.limits c.args.table.now c.decide-watchers.new.table c.args.at c.args.freed.now.items c.decide-watchers.result.items
+decided : (c : After-decide-watchers) → IsPutBackThere (arc_value c.args.tree.now) c.args.limits c.args.table.now c.decide-watchers.new.table c.args.at c.args.newly_ready.now.items c.decide-watchers.result.items
 decided c =
     let P : List ℕ → Type 0 = λ xs. IsPutBackThere (arc_value c.args.tree.now) c.args.limits c.args.table.now c.decide-watchers.new.table c.args.at xs c.decide-watchers.result.items in
-    subst P (sym c.requires.none_freed) (decided-put (arc_value c.args.tree.now) c.args.limits c.args.table.now c.args.at (Ended c.args.fact) c.requires.may c.args.fact refl c.decide-watchers.new.table _ c.decide-watchers.ensures)
+    subst P (sym c.requires.none_newly_ready) (decided-put (arc_value c.args.tree.now) c.args.limits c.args.table.now c.args.at (Ended c.args.fact) c.requires.may c.args.fact refl c.decide-watchers.new.table _ c.decide-watchers.ensures)
 
 pub decide-watchers-requires : goal.decide-watchers-requires
 decide-watchers-requires c = out-there (arc_value c.args.tree.now) c.args.limits c.args.table.now c.args.at (Ended c.args.fact) c.requires.may
@@ -33,7 +33,7 @@ returns c =
     let d = (goal.at-returns c).After-decide-watchers in
     let tree = arc_value c.args.tree.now in
     let P : List ℕ → Type 0 = AreLookedAt tree c.args.limits c.decide-watchers.new.table c.settle_all.new.table in
-    on_ok_of c.settle_all.result (λ _. IsTableOf tree c.args.limits c.settle_all.new.table c.settle_all.new.freed.items) (λ _. P c.deref.result.now)
-    (IsPutBackThere tree c.args.limits c.args.table.now c.settle_all.new.table c.args.at c.settle_all.new.freed.items [])
+    on_ok_of c.settle_all.result (λ _. IsTableOf tree c.args.limits c.settle_all.new.table c.settle_all.new.newly_ready.items) (λ _. P c.deref.result.now)
+    (IsPutBackThere tree c.args.limits c.args.table.now c.settle_all.new.table c.args.at c.settle_all.new.newly_ready.items [])
     (λ _ table looked. looked-put tree c.args.limits c.args.table.now c.decide-watchers.new.table c.settle_all.new.table c.args.at _ _ _ (decided d) table (subst P c.deref.ensures.value looked))
     c.settle_all.ensures.table c.settle_all.ensures.looked

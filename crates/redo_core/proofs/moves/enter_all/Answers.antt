@@ -1,4 +1,5 @@
-use Rattle.std.proofs.Common.{◌≡◌, ℕ, List, [], ◌∷◌, ◌++◌, Err, take, refl, sym, ap, subst, ◌∙◌, append-nil, true, false}
+use Rattle.std.proofs.Common.{◌≡◌, ℕ, List, [], ◌∷◌, ◌++◌, Err, take, refl, sym, ap, subst, ◌∙◌, append-nil, true}
+use Rattle.std.proofs.Common.{false}
 use Rattle.std.specs.Arc.{arc_value}
 use Rattle.redo_tree.specs.Tree.{Tree}
 use Rattle.redo_core.specs.Build.{rules_of}
@@ -28,7 +29,7 @@ loop-dep-preserved c =
     let get = slice_get-item c.args.deps.now i c.dep-item.result c.loop-dep-test.true c.dep-item.is in
     let more = operands-more (rules_of tree c.args.limits) c.args.deps.now i c.dep-item.result get in
     let so_far = operands (rules_of tree c.args.limits) (take i c.args.deps.now) in
-    let P : List (List ℕ) → Type 0 = λ ps. AreEnteredInto tree c.args.limits c.args.table.now c.if-is_operand.table c.if-is_operand.freed.items ps ×
+    let P : List (List ℕ) → Type 0 = λ ps. AreEnteredInto tree c.args.limits c.args.table.now c.if-is_operand.table c.if-is_operand.newly_ready.items ps ×
     AreNumbers c.if-is_operand.table.targets.keys c.if-is_operand.numbers.items ps in
     let T : Tree → Type 0 = λ x. IsOperand (rules_of x c.args.limits) c.dep-item.result c.dep-item.result.path in
     elim c.if-is_operand.branch [
@@ -37,8 +38,8 @@ loop-dep-preserved c =
           let kept = numbers-kept c.loop-dep.table.targets.keys w.enter.new.table.targets.keys w.in_ok-at.ensures.ok.keys_kept c.loop-dep.numbers.items so_far c.loop-dep.invariant.1 in
           let N : List ℕ → Type 0 = λ ns. AreNumbers w.enter.new.table.targets.keys ns (so_far ++ c.dep-item.result.path ∷ []) in
           subst P (sym (more ∙ ap (λ xs. so_far ++ xs) one))
-          (rw (w.table-is, w.freed-is, w.numbers-is) (
-            enter-more tree c.args.limits c.args.table.now c.loop-dep.table w.enter.new.table c.loop-dep.freed.items w.enter.new.freed.items
+          (rw (w.table-is, w.newly_ready-is, w.numbers-is) (
+            enter-more tree c.args.limits c.args.table.now c.loop-dep.table w.enter.new.table c.loop-dep.newly_ready.items w.enter.new.newly_ready.items
                 so_far (c.dep-item.result.path ∷ []) c.loop-dep.invariant.0 w.in_ok-at.ensures.ok,
             subst N (sym w.in_ok-push.ensures.items) (numbers-push w.enter.new.table.targets.keys c.loop-dep.numbers.items so_far w.in_ok-at.at c.dep-item.result.path kept w.in_ok-at.ensures.number),
           ))
@@ -46,5 +47,5 @@ loop-dep-preserved c =
           let un : IsOperand (rules_of tree c.args.limits) c.dep-item.result c.dep-item.result.path → ⊥ = λ is.
           (let h : false ≡ true = w.if-is_operand.ensures.1 (subst T (sym c.deref.ensures) is) in cc) in
           let none = no-operand (rules_of tree c.args.limits) c.dep-item.result un in
-          subst P (sym (more ∙ ap (λ xs. so_far ++ xs) none ∙ append-nil so_far)) (rw (w.table-is, w.freed-is, w.numbers-is) c.loop-dep.invariant)
+          subst P (sym (more ∙ ap (λ xs. so_far ++ xs) none ∙ append-nil so_far)) (rw (w.table-is, w.newly_ready-is, w.numbers-is) c.loop-dep.invariant)
     ]

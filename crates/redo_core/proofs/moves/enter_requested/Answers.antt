@@ -1,4 +1,5 @@
-use Rattle.std.proofs.Common.{◌≡◌, ℕ, List, [], ◌∷◌, ◌++◌, Err, take, not, is_some, sym, ap, subst, ◌∙◌, append-nil, true}
+use Rattle.std.proofs.Common.{◌≡◌, ℕ, List, [], ◌∷◌, ◌++◌, Err, take, not, is_some, sym, ap, subst, ◌∙◌, append-nil}
+use Rattle.std.proofs.Common.{true}
 use Rattle.std.specs.Arc.{arc_value}
 use Rattle.redo_tree.specs.Tree.{Tree, file_at}
 use Rattle.redo_core.specs.Build.{rules_of}
@@ -26,16 +27,16 @@ loop-path-preserved c =
     let i = c.loop-path.path-index in
     let get = slice_get-item c.args.request.now i c.path-item.result c.loop-path-test.true c.path-item.is in
     let more = targets-more tree c.args.request.now i c.path-item.result get in
-    let P : List (List ℕ) → Type 0 = λ ps. AreEnteredInto tree c.args.limits c.args.table.now c.if-is_target.table c.if-is_target.freed.items ps in
+    let P : List (List ℕ) → Type 0 = λ ps. AreEnteredInto tree c.args.limits c.args.table.now c.if-is_target.table c.if-is_target.newly_ready.items ps in
     let here = ap (λ t. not (is_some (file_at t c.path-item.result))) (sym c.deref.ensures) in
     elim c.if-is_target.branch [
       | then-is_target+in_ok-enter w ↦
           let one = one-target tree c.path-item.result (here ∙ sym w.if-is_target.ensures) in
           subst P (sym (more ∙ ap (λ xs. targets_in tree (take i c.args.request.now) ++ xs) one))
-          (rw (w.table-is, w.freed-is) (enter-more tree c.args.limits c.args.table.now c.loop-path.table w.enter.new.table c.loop-path.freed.items w.enter.new.freed.items
+          (rw (w.table-is, w.newly_ready-is) (enter-more tree c.args.limits c.args.table.now c.loop-path.table w.enter.new.table c.loop-path.newly_ready.items w.enter.new.newly_ready.items
           (targets_in tree (take i c.args.request.now)) (c.path-item.result ∷ []) c.loop-path.invariant w.in_ok-enter.ensures.ok))
       | else-is_target w ↦
           let none = no-target tree c.path-item.result (here ∙ sym w.if-is_target.ensures) in
           subst P (sym (more ∙ ap (λ xs. targets_in tree (take i c.args.request.now) ++ xs) none ∙ append-nil (targets_in tree (take i c.args.request.now))))
-          (rw (w.table-is, w.freed-is) c.loop-path.invariant)
+          (rw (w.table-is, w.newly_ready-is) c.loop-path.invariant)
     ]

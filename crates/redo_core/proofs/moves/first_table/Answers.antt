@@ -23,4 +23,4 @@ returns-in_err-enter_requested-clause-too_many c = λ is.
 pub returns-clause-ok : goal.returns-clause-ok
 returns-clause-ok c =
     first-is (arc_value c.args.tree.now) c.args.limits c.args.request.now (record { targets = c.new.result; slots = c.new-2.result; ready = c.new-3.result; out = 0 })
-    c.enter_requested.new.table c.release.new.table c.enter_requested.new.freed.items c.new.ensures.empty c.new-2.ensures.items c.new-3.ensures.items c.in_ok-enter_requested.ensures.ok c.in_ok-release.ensures
+    c.enter_requested.new.table c.enqueue.new.table c.enter_requested.new.newly_ready.items c.new.ensures.empty c.new-2.ensures.items c.new-3.ensures.items c.in_ok-enter_requested.ensures.ok c.in_ok-enqueue.ensures

@@ -10,7 +10,7 @@ use Rattle.redo_build.specs.Schedule.{Entry, entered}
 use Rattle.redo_build.specs.inside.Standing.{AreStanding}
 use Rattle.redo_core.specs.inside.Slots.{AreEnteredInto, AreNumbers, IsPutBackThere, table_entries}
 use Rattle.redo_core.proofs.TakeInLemmas.{small, is_stopped, after-sound, after-length, out-still, parked-put}
-use Rattle.redo_core.proofs.ReleaseLemmas.{looked-put, looked-one}
+use Rattle.redo_core.proofs.EnqueueLemmas.{looked-put, looked-one}
 use Rattle.redo_core.proofs.moves.suspend.Goals as goal
 use Rattle.redo_core.proofs.moves.suspend.Goals.{In_ok-operands, After-park}
 
@@ -32,13 +32,13 @@ returns-in_err-operands-clause-too_many c = λ is.
     let S : ℕ → Type 0 = λ n. c.args.limits.targets < n in
     subst S same (subst P whole many)
 
-enters : (c : In_ok-operands) → AreEnteredInto (arc_value c.args.tree.now) c.args.limits c.args.table.now c.enter_all.new.table c.enter_all.new.freed.items
+enters : (c : In_ok-operands) → AreEnteredInto (arc_value c.args.tree.now) c.args.limits c.args.table.now c.enter_all.new.table c.enter_all.new.newly_ready.items
     (operands (rules_of (arc_value c.args.tree.now) c.args.limits) (drop c.args.begun.value.facts.gained c.args.begun.value.job.state.entries))
 enters c =
     let tree : Tree = arc_value c.args.tree.now in
     let whole : c.asked.result.now ≡ drop c.args.begun.value.facts.gained c.args.begun.value.job.state.entries =
     c.asked.ensures ∙ ap (λ (b : Begun). drop b.facts.gained b.job.state.entries) c.deref.ensures in
-    let E : List Dep → Type 0 = λ ds. AreEnteredInto tree c.args.limits c.args.table.now c.enter_all.new.table c.enter_all.new.freed.items (operands (rules_of tree c.args.limits) ds) in
+    let E : List Dep → Type 0 = λ ds. AreEnteredInto tree c.args.limits c.args.table.now c.enter_all.new.table c.enter_all.new.newly_ready.items (operands (rules_of tree c.args.limits) ds) in
     let ok : E c.asked.result.now = c.in_ok-operands.ensures.ok in
     subst E whole ok
 
@@ -58,10 +58,10 @@ park-requires c =
     out-still (arc_value c.args.tree.now) c.args.limits c.args.table.now c.args.at (Stopped c.args.begun) c.requires.may c.args.begun refl c.enter_all.new.table _ (enters d)
 
 -- the table once the job is parked, with its own number to be looked at
-parked : (c : After-park) → IsPutBackThere (arc_value c.args.tree.now) c.args.limits c.args.table.now c.park.new.table c.args.at c.enter_all.new.freed.items (c.args.at ∷ [])
+parked : (c : After-park) → IsPutBackThere (arc_value c.args.tree.now) c.args.limits c.args.table.now c.park.new.table c.args.at c.enter_all.new.newly_ready.items (c.args.at ∷ [])
 parked c =
     let d = (goal.at-After-park c).In_ok-operands in
-    parked-put (arc_value c.args.tree.now) c.args.limits c.args.table.now c.args.at (Stopped c.args.begun) c.requires.may c.args.begun refl c.enter_all.new.table c.enter_all.new.freed.items (enters d)
+    parked-put (arc_value c.args.tree.now) c.args.limits c.args.table.now c.args.at (Stopped c.args.begun) c.requires.may c.args.begun refl c.enter_all.new.table c.enter_all.new.newly_ready.items (enters d)
     c.park.new.table c.in_ok-operands.operands (numbers d) c.park.ensures
 
 pub overflow_cast-at : goal.overflow_cast-at
@@ -81,5 +81,5 @@ settle-requires-clause-standing c =
 pub returns-clause-ok : goal.returns-clause-ok
 returns-clause-ok c =
     let tree : Tree = arc_value c.args.tree.now in
-    looked-put tree c.args.limits c.args.table.now c.park.new.table c.settle.new.table c.args.at _ c.settle.new.freed.items _ (parked (goal.at-returns-clause-ok c).After-park)
+    looked-put tree c.args.limits c.args.table.now c.park.new.table c.settle.new.table c.args.at _ c.settle.new.newly_ready.items _ (parked (goal.at-returns-clause-ok c).After-park)
     c.in_ok-settle.ensures.table (looked-one tree c.args.limits c.park.new.table c.settle.new.table c.args.at c.in_ok-settle.ensures.looked)

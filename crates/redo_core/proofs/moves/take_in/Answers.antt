@@ -1,15 +1,15 @@
 use Rattle.std.proofs.Common.{[]}
 use Rattle.std.specs.Arc.{arc_value}
 use Rattle.redo_core.specs.inside.Slots.{IsPutBackThere}
-use Rattle.redo_core.proofs.ReleaseLemmas.{taken-in}
+use Rattle.redo_core.proofs.EnqueueLemmas.{taken-in}
 use Rattle.redo_core.proofs.moves.take_in.Goals as goal
 use Rattle.redo_core.proofs.moves.take_in.Goals.{in-Ended+in_ok-conclude-in-Ended, in-Stopped+in_ok-suspend-in-Stopped}
 
 pub returns-clause-ok : goal.returns-clause-ok
 returns-clause-ok c =
-    let put : IsPutBackThere (arc_value c.args.tree.now) c.args.limits c.args.table.now c.match-end.table c.args.at c.match-end.freed.items [] =
+    let put : IsPutBackThere (arc_value c.args.tree.now) c.args.limits c.args.table.now c.match-end.table c.args.at c.match-end.newly_ready.items [] =
     elim c.match-end.branch [
-      | in-Ended+in_ok-conclude-in-Ended w ↦ rw (w.table-is, w.freed-is) w.in_ok-conclude-in-Ended.ensures
-      | in-Stopped+in_ok-suspend-in-Stopped w ↦ rw (w.table-is, w.freed-is) w.in_ok-suspend-in-Stopped.ensures.ok
+      | in-Ended+in_ok-conclude-in-Ended w ↦ rw (w.table-is, w.newly_ready-is) w.in_ok-conclude-in-Ended.ensures
+      | in-Stopped+in_ok-suspend-in-Stopped w ↦ rw (w.table-is, w.newly_ready-is) w.in_ok-suspend-in-Stopped.ensures.ok
     ] in
-    taken-in (arc_value c.args.tree.now) c.args.limits c.args.table.now c.match-end.table c.release.new.table c.args.at c.args.end c.match-end.freed.items c.requires put c.in_ok-release.ensures
+    taken-in (arc_value c.args.tree.now) c.args.limits c.args.table.now c.match-end.table c.enqueue.new.table c.args.at c.args.end c.match-end.newly_ready.items c.requires put c.in_ok-enqueue.ensures

@@ -14,11 +14,11 @@ returns c =
       watchers = c.new-watchers.ensures.items;
       keys = rw out at k;
       slots = c.in_ok-push-2.ensures.items;
-      freed_is = elim c.if-is_ready.branch [
+      newly_ready_is = elim c.if-is_ready.branch [
         | then-is_ready+in_ok-push w ↦
             let l : w.len.result ≡ length c.args.table.now.slots.items = search rules in
-            rw (← w.if-is_ready.ensures) (rw w.freed-is (w.in_ok-push.ensures.items ∙ ap (λ (n : ℕ). c.args.freed.now.items ++ n ∷ []) l))
-        | else-is_ready w ↦ rw (← w.if-is_ready.ensures) (rw w.freed-is (sym (append-nil c.args.freed.now.items)))
+            rw (← w.if-is_ready.ensures) (rw w.newly_ready-is (w.in_ok-push.ensures.items ∙ ap (λ (n : ℕ). c.args.newly_ready.now.items ++ n ∷ []) l))
+        | else-is_ready w ↦ rw (← w.if-is_ready.ensures) (rw w.newly_ready-is (sym (append-nil c.args.newly_ready.now.items)))
       ];
       rest = (refl, refl);
     }

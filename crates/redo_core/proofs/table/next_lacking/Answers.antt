@@ -1,4 +1,5 @@
-use Rattle.std.proofs.Common.{rules, ◌≡◌, ℕ, ◌<◌, inl, inr, length, slice_get, slice_index_or, Some, arith, sym, subst, ◌∙◌}
+use Rattle.std.proofs.Common.{rules, ◌≡◌, ℕ, ◌<◌, inl, inr, length, slice_get, slice_index_or, Some, arith, sym, subst}
+use Rattle.std.proofs.Common.{◌∙◌}
 use Rattle.std.proofs.lemmas.Bool.{cases_lt}
 use Rattle.redo_core.specs.inside.Slots.{IsDecidedNumber}
 use Rattle.redo_core.proofs.SlotLemmas.{slice_get-item}

@@ -2,7 +2,7 @@ use Rattle.std.proofs.Common.{◌≡◌, ◌<◌, ℕ, rules, length, slice_get,
 use Rattle.redo_core.specs.declared.table.Slot.{Slot}
 use Rattle.redo_build.proofs.QueueLemmas.{slice_get-among}
 use Rattle.redo_core.proofs.SlotLemmas.{slice_get-item, slice_get-below_some}
-use Rattle.redo_core.proofs.FreedLemmas.{distinct-place}
+use Rattle.redo_core.proofs.NewlyReadyLemmas.{distinct-place}
 use Rattle.std.proofs.lemmas.Bool.{both_ways}
 use Rattle.redo_core.specs.inside.Slots.{is_stage_out}
 use Rattle.redo_core.proofs.GainSteps.{out-stage}

@@ -5,9 +5,11 @@ use Rattle.redo_core.specs.Build.{rules_of}
 use Rattle.redo_core.specs.inside.Works.{told_in}
 use Rattle.redo_core.specs.inside.Ends.{IsEndAt, end_progress}
 use Rattle.redo_core.specs.declared.work.End.{End}
-use Rattle.redo_core.proofs.AdvanceLemmas.{work-fits, fact-parts, stopped-end, ended-end, ended-progress, asks-progress, end-lacks}
+use Rattle.redo_core.proofs.AdvanceLemmas.{work-fits, fact-parts, stopped-end, ended-end, ended-progress, asks-progress}
+use Rattle.redo_core.proofs.AdvanceLemmas.{end-lacks}
 use Rattle.redo_core.proofs.work.advance_job.Goals as goal
-use Rattle.redo_core.proofs.work.advance_job.Goals.{in-Ended+in_ok-own-in-Ended+in_ok-path-in-Ended+in_ok-deps-in-Ended+in_ok-new-in-Ended, in-Asks+in_ok-new-in-Asks}
+use Rattle.redo_core.proofs.work.advance_job.Goals.{in-Ended+in_ok-own-in-Ended+in_ok-path-in-Ended+in_ok-deps-in-Ended+in_ok-new-in-Ended}
+use Rattle.redo_core.proofs.work.advance_job.Goals.{in-Asks+in_ok-new-in-Asks}
 
 pub advance-requires-clause-fits : goal.advance-requires-clause-fits
 advance-requires-clause-fits c = work-fits (arc_value c.args.tree) c.args.limits c.args.job c.args.facts c.requires

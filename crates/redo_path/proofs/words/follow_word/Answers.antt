@@ -4,7 +4,9 @@ use Rattle.std.specs.List.{AllByRecursion}
 use Rattle.redo_path.specs.Names.{IsName, IsPart, names}
 use Rattle.redo_path.specs.Resolve.{walk}
 use Rattle.redo_path.proofs.FileNameLemmas.{Answers-file}
-use Rattle.redo_path.proofs.CutLemmas.{parts_left, parts_left-next, parts_left-start, parts_left-done, IsPart-parts, printable-word, walk-next, walk-refused, resolved-walk, resolved-end, Answers-refused}
+use Rattle.redo_path.proofs.CutLemmas.{parts_left, parts_left-next, parts_left-start, parts_left-done, IsPart-parts}
+use Rattle.redo_path.proofs.CutLemmas.{printable-word, walk-next, walk-refused, resolved-walk, resolved-end}
+use Rattle.redo_path.proofs.CutLemmas.{Answers-refused}
 use Rattle.std.proofs.lemmas.Result.{err_from_is_err_and}
 use Rattle.std.specs.Prelude.{Err}
 use Rattle.redo_path.proofs.words.follow_word.Goals as goal

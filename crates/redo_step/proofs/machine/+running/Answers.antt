@@ -1,5 +1,6 @@
 use Rattle.std.proofs.Common.{rules, arith, sym}
-use Rattle.redo_step.proofs.ComesLemmas.{passes_goes, passes_stop, passes_check, passes_first, passes_second, item_comes, all_passed, comes_default, if_ok_map}
+use Rattle.redo_step.proofs.ComesLemmas.{passes_goes, passes_stop, passes_check, passes_first, passes_second}
+use Rattle.redo_step.proofs.ComesLemmas.{item_comes, all_passed, comes_default, if_ok_map}
 use Rattle.redo_step.proofs.WeightLemmas.{weight_first, weight_item}
 use Rattle.redo_step.proofs.machine.+running.Goals as goal
 

@@ -1,8 +1,10 @@
 use Rattle.std.proofs.Common.{◌≡◌, ◌+◌, [], ◌∷◌, drop, arith}
-use Rattle.redo_step.specs.declared.printf.Piece.TheVariants.{Literal, Operand}
+use Rattle.redo_step.specs.declared.printf.FormatPart.TheVariants.{Literal, Operand}
 use Rattle.redo_step.proofs.RoundLemmas.{drop_at, drop_split, drop_end, round_literal, round_operand, round_none}
 use Rattle.redo_step.proofs.printf.print_once.Goals as goal
-use Rattle.redo_step.proofs.printf.print_once.Goals.{in-Literal+in_ok-add-in-Literal, in-Operand+then-printed-texts+in_ok-add-in-Operand, in-Operand+else-printed-texts}
+use Rattle.redo_step.proofs.printf.print_once.Goals.{in-Literal+in_ok-add-in-Literal}
+use Rattle.redo_step.proofs.printf.print_once.Goals.{in-Operand+then-printed-texts+in_ok-add-in-Operand}
+use Rattle.redo_step.proofs.printf.print_once.Goals.{in-Operand+else-printed-texts}
 
 pub loop-piece-preserved : goal.loop-piece-preserved
 loop-piece-preserved c = elim c.match-piece.branch [

@@ -1,7 +1,10 @@
 use Rattle.std.proofs.Common.{rules, refl}
 use Rattle.redo_step.proofs.WaitingLemmas.{few_goes, in_skips, some_goes}
 use Rattle.redo_step.proofs.wait.few_without_answer.Goals as goal
-use Rattle.redo_step.proofs.wait.few_without_answer.Goals.{then-is_none+then-not-contains+in_ok-clone+in_ok-push, else-is_none, else-is_none-via-then-is_none+else-not-contains, else-is_none-via-else-is_none}
+use Rattle.redo_step.proofs.wait.few_without_answer.Goals.{then-is_none+then-not-contains+in_ok-clone+in_ok-push}
+use Rattle.redo_step.proofs.wait.few_without_answer.Goals.{else-is_none}
+use Rattle.redo_step.proofs.wait.few_without_answer.Goals.{else-is_none-via-then-is_none+else-not-contains}
+use Rattle.redo_step.proofs.wait.few_without_answer.Goals.{else-is_none-via-else-is_none}
 
 pub loop-path-preserved : goal.loop-path-preserved
 loop-path-preserved g c = elim c.if-is_none.branch [

@@ -1,5 +1,5 @@
 use Rattle.std.proofs.Common.{◌-◌, ◌∙◌}
-use Rattle.redo_sync.proofs.Relays.{taken_in}
+use Rattle.redo_sync.proofs.RelayLemmas.{taken_in}
 use Rattle.redo_sync.proofs.ledger.gather.Goals as goal
 
 pub takers-preserved : goal.takers-preserved

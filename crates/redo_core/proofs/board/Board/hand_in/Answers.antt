@@ -1,4 +1,5 @@
-use Rattle.std.proofs.Common.{rules, ◌≡◌, ◌≤◌, ℕ, List, Option, Some, None, Ok, Err, IsNone, MatchOption, length, refl, sym, ap, subst, ◌∙◌, arith}
+use Rattle.std.proofs.Common.{rules, ◌≡◌, ◌≤◌, ℕ, List, Option, Some, None, Ok, Err, IsNone, MatchOption, length, refl}
+use Rattle.std.proofs.Common.{sym, ap, subst, ◌∙◌, arith}
 use Rattle.std.specs.Arc.{arc_value}
 use Rattle.redo_tree.specs.Tree.{Tree}
 use Rattle.redo_build.specs.Schedule.{IsOutAt}
@@ -13,7 +14,8 @@ use Rattle.redo_core.specs.declared.board.HandFault.TheVariants.{Stranger}
 use Rattle.redo_core.proofs.SlotLemmas.{IsNone-from}
 use Rattle.redo_core.proofs.TakeLemmas.{view_of, distinct-inside, part-inside, length-entries}
 use Rattle.redo_core.proofs.BoardCountLemmas.{one_fewer, left_no_more}
-use Rattle.redo_core.proofs.HandInLemmas.{taken-state, open-out, may-take, taken-kept, too-many-after, stranger, none-stopped, refused-after}
+use Rattle.redo_core.proofs.HandInLemmas.{taken-state, open-out, may-take, taken-kept, too-many-after, stranger}
+use Rattle.redo_core.proofs.HandInLemmas.{none-stopped, refused-after}
 use Rattle.redo_core.proofs.board.Board.hand_in.Goals as goal
 use Rattle.redo_core.proofs.board.Board.hand_in.Goals.{In_default, In-Some-out_at}
 use Rattle.redo_step.specs.Limits.{LimitsView}

@@ -1,7 +1,8 @@
 use Rattle.std.proofs.Common.{rules, ◌≡◌, ◌<◌, cond, map, is_some, length, slice_get, Some, sym, ap, subst, ◌∙◌, refl}
 use Rattle.redo_core.specs.inside.Slots.{IsKept, path_at, state_of}
 use Rattle.redo_core.proofs.SlotLemmas.{slice_get-item}
-use Rattle.redo_core.proofs.TakeLemmas.{fits_one_more, found_job, taken_state, work_taken, running, first_item, kept-taken, below_items, turn_small, part-inside}
+use Rattle.redo_core.proofs.TakeLemmas.{fits_one_more, found_job, taken_state, work_taken, running, first_item}
+use Rattle.redo_core.proofs.TakeLemmas.{kept-taken, below_items, turn_small, part-inside}
 use Rattle.redo_core.proofs.TableLemmas.{slice_get-place}
 use Rattle.redo_core.specs.Views.{BoardView, WorkView, IsWorkTaken, jobs_out}
 use Rattle.redo_build.specs.Schedule.{IsOutAt}

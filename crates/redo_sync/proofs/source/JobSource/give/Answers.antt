@@ -1,5 +1,5 @@
 use Rattle.std.proofs.Common.{ap, arith, [], ◌∷◌}
-use Rattle.redo_sync.proofs.Relays.{gives}
+use Rattle.redo_sync.proofs.RelayLemmas.{gives}
 use Rattle.redo_sync.proofs.source.JobSource.give.Goals as goal
 
 pub push_as-requires-clause-pushes : goal.push_as-requires-clause-pushes

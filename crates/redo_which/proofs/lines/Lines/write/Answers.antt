@@ -5,7 +5,8 @@ use Rattle.redo_bundle.specs.Bundle.{Writes}
 use Rattle.redo_which.specs.inside.Lines.{lines_of}
 use Rattle.redo_which.proofs.TextLemmas.{lines-split}
 use Rattle.redo_which.proofs.lines.Lines.write.Goals as goal
-use Rattle.redo_which.proofs.lines.Lines.write.Goals.{else-not-is_same-via-then-not-is_same+else-is_err, else-not-is_same-via-else-not-is_same}
+use Rattle.redo_which.proofs.lines.Lines.write.Goals.{else-not-is_same-via-then-not-is_same+else-is_err}
+use Rattle.redo_which.proofs.lines.Lines.write.Goals.{else-not-is_same-via-else-not-is_same}
 
 pub returns-in_err-write_line-clause-writes : goal.returns-in_err-write_line-clause-writes
 returns-in_err-write_line-clause-writes g c =

@@ -1,30 +1,34 @@
--- The numbers freed go into the queue, and the table shows what the schedule releases.
-use Rattle.std.proofs.Common.{map, slice_get, take, drop, ◌-◌, ◌≤◌, ◌≡◌, ℕ, zero, suc, ◌+◌, ◌<◌, List, [], ◌∷◌, ◌++◌, append-nil, length, filter, Option, Some, None, inl, inr, ◌⊎◌, refl, sym, ap, subst, ◌∙◌, arith}
+-- The newly ready numbers go into the queue, and the table shows what the schedule enqueues.
+use Rattle.std.proofs.Common.{map, slice_get, take, drop, ◌-◌, ◌≤◌, ◌≡◌, ℕ, zero, suc, ◌+◌, ◌<◌, List, [], ◌∷◌, ◌++◌}
+use Rattle.std.proofs.Common.{append-nil, length, filter, Option, Some, None, inl, inr, ◌⊎◌, refl, sym, ap, subst, ◌∙◌}
+use Rattle.std.proofs.Common.{arith}
 use Rattle.std.proofs.lemmas.List.{map-append}
 use Rattle.redo_tree.specs.Tree.{Tree}
 use Rattle.redo_record.specs.Paths.{AreDistinct}
 use Rattle.redo_build.specs.Rules.{Rules}
 use Rattle.redo_build.specs.Outcomes.{outcome_at}
 use Rattle.redo_core.specs.Build.{rules_of}
-use Rattle.redo_build.specs.Schedule.{Entry, State, released}
+use Rattle.redo_build.specs.Schedule.{Entry, State, enqueued}
 use Rattle.redo_build.specs.inside.Standing.{AreStanding}
 use Rattle.redo_record.specs.declared.deps.Dep.{Dep}
 use Rattle.redo_core.specs.declared.work.End.{End}
 use Rattle.redo_core.proofs.TakeInLemmas.{after-sound, after-state, after-entries, moved}
 use Rattle.redo_core.proofs.SlotLemmas.{slice_get-from, paths_of-slots}
-use Rattle.redo_core.specs.inside.Slots.{MayTakeIn, IsPutBackThere, IsTakenIn, IsLookedAt, AreLookedAt, table_entries, table_state, path_at, IsPlace, IsQueue, IsTable, IsTableOf, AllWatched, AreReleased}
+use Rattle.redo_core.specs.inside.Slots.{MayTakeIn, IsPutBackThere, IsTakenIn, IsLookedAt, AreLookedAt, table_entries}
+use Rattle.redo_core.specs.inside.Slots.{table_state, path_at, IsPlace, IsQueue, IsTable, IsTableOf, AllWatched}
+use Rattle.redo_core.specs.inside.Slots.{AreEnqueued}
 use Rattle.redo_core.specs.declared.table.Slot.{Slot}
 use Rattle.redo_core.specs.declared.table.Table.{Table}
 use Rattle.redo_core.proofs.TableLemmas.{place-append, place-left, place-right}
-use Rattle.redo_core.proofs.FreedLemmas.{freed-paths}
+use Rattle.redo_core.proofs.NewlyReadyLemmas.{newly_ready-paths}
 use Rattle.redo_core.proofs.SortingLemmas.{sorted-ascend, shuffled-to, shuffled-from, shuffled-once}
 use Rattle.redo_step.specs.Limits.{LimitsView}
 
-queue-released : (slots : List Slot) (ready freed sorted : List ℕ) → ((k : ℕ) → IsPlace freed k → IsPlace sorted k) → ((k : ℕ) → IsPlace sorted k → IsPlace freed k) →
-    IsQueue slots ready freed → IsQueue slots (ready ++ sorted) []
-queue-released slots ready freed sorted to from queue = record {
-  ready_below = λ k m. elim (place-append ready sorted k m) [ inl old ↦ queue.ready_below k old | inr new ↦ queue.freed_below k (from k new) ];
-  freed_below = λ k m. absurd m;
+queue-enqueued : (slots : List Slot) (ready newly_ready sorted : List ℕ) → ((k : ℕ) → IsPlace newly_ready k → IsPlace sorted k) → ((k : ℕ) → IsPlace sorted k → IsPlace newly_ready k) →
+    IsQueue slots ready newly_ready → IsQueue slots (ready ++ sorted) []
+queue-enqueued slots ready newly_ready sorted to from queue = record {
+  ready_below = λ k m. elim (place-append ready sorted k m) [ inl old ↦ queue.ready_below k old | inr new ↦ queue.newly_ready_below k (from k new) ];
+  newly_ready_below = λ k m. absurd m;
   ready_is = λ k x m g. elim m [
     | inl l ↦ elim (place-append ready sorted k l) [ inl old ↦ queue.ready_is k x (inl old) g | inr new ↦ queue.ready_is k x (inr (from k new)) g ]
     | inr none ↦ absurd none
@@ -37,9 +41,9 @@ queue-released slots ready freed sorted to from queue = record {
   once = tt;
 }
 
-module _ (tree : Tree) (limits : LimitsView) (request : List (List ℕ)) (t u : Table) (freed : List ℕ) (table : IsTableOf tree limits t freed)
+module _ (tree : Tree) (limits : LimitsView) (request : List (List ℕ)) (t u : Table) (newly_ready : List ℕ) (table : IsTableOf tree limits t newly_ready)
     (standing : AreStanding (rules_of tree limits) request (table_entries (rules_of tree limits) limits.targets t))
-    (watched : AllWatched (rules_of tree limits) limits.targets t.targets.keys t.slots.items []) (w : AreReleased t u freed) where
+    (watched : AllWatched (rules_of tree limits) limits.targets t.targets.keys t.slots.items []) (w : AreEnqueued t u newly_ready) where
   abbrev r : Rules
   r = rules_of tree limits
 
@@ -48,8 +52,8 @@ module _ (tree : Tree) (limits : LimitsView) (request : List (List ℕ)) (t u : 
       let P : List (List ℕ) → Type 0 = AreDistinct in
       subst P (paths_of-slots r (outcome_at r limits.targets) t.targets.keys t.slots.items table.one_each) standing.distinct
 
-  pub released-table : IsTableOf tree limits u []
-  released-table =
+  pub enqueued-table : IsTableOf tree limits u []
+  enqueued-table =
       let raw : IsTable r tree limits t.targets.keys t.slots.items (t.ready.items ++ w.sorted) t.out [] = record {
         one_each = table.one_each;
         within_limit = table.within_limit;
@@ -57,18 +61,18 @@ module _ (tree : Tree) (limits : LimitsView) (request : List (List ℕ)) (t u : 
         out_counted = table.out_counted;
         fits = table.fits;
         numbered = table.numbered;
-        queue = queue-released t.slots.items t.ready.items freed w.sorted (shuffled-to freed w.sorted w.shuffled) (shuffled-from freed w.sorted w.shuffled) table.queue;
+        queue = queue-enqueued t.slots.items t.ready.items newly_ready w.sorted (shuffled-to newly_ready w.sorted w.shuffled) (shuffled-from newly_ready w.sorted w.shuffled) table.queue;
         watchers_below = table.watchers_below;
       } in
       rw (w.rest.0, w.rest.1, w.rest.2, w.queue) raw
 
-  pub released-watched : AllWatched (rules_of tree limits) limits.targets u.targets.keys u.slots.items []
-  released-watched = rw (w.rest.0, w.rest.1) watched
+  pub enqueued-watched : AllWatched (rules_of tree limits) limits.targets u.targets.keys u.slots.items []
+  enqueued-watched = rw (w.rest.0, w.rest.1) watched
 
-  pub released-state : table_state (rules_of tree limits) limits.targets u ≡ released (rules_of tree limits) (table_state (rules_of tree limits) limits.targets t)
-  released-state =
-      let paths = freed-paths tree limits t freed w.sorted table distinct watched (sorted-ascend w.sorted w.ordered (shuffled-once freed w.sorted w.shuffled table.queue.once))
-      (shuffled-from freed w.sorted w.shuffled) (shuffled-to freed w.sorted w.shuffled) in
+  pub enqueued-state : table_state (rules_of tree limits) limits.targets u ≡ enqueued (rules_of tree limits) (table_state (rules_of tree limits) limits.targets t)
+  enqueued-state =
+      let paths = newly_ready-paths tree limits t newly_ready w.sorted table distinct watched (sorted-ascend w.sorted w.ordered (shuffled-once newly_ready w.sorted w.shuffled table.queue.once))
+      (shuffled-from newly_ready w.sorted w.shuffled) (shuffled-to newly_ready w.sorted w.shuffled) in
       let S : List (List ℕ) → State = λ qs. record { entries = table_entries r limits.targets t; ready = qs } in
       let first : table_state r limits.targets u ≡ S (map (path_at t.targets.keys) (t.ready.items ++ w.sorted)) = rw (w.rest.0, w.rest.1, w.queue) refl in
       first ∙ ap S (map-append (path_at t.targets.keys) t.ready.items w.sorted ∙ ap (λ qs. map (path_at t.targets.keys) t.ready.items ++ qs) (sym paths))
@@ -90,9 +94,9 @@ map-same f g (x ∷ xs) h =
     ap (λ y. y ∷ map f xs) (h x (inl refl)) ∙ ap (λ ys. g x ∷ ys) rest
 
 -- the numbers left are looked at
-pub looked-put : (tree : Tree) (limits : LimitsView) (t u v : Table) (at : ℕ) (freed freed' pending : List ℕ) →
-    IsPutBackThere tree limits t u at freed pending → IsTableOf tree limits v freed' → AreLookedAt tree limits u v pending → IsPutBackThere tree limits t v at freed' []
-looked-put tree limits t u v at freed freed' pending put table looked =
+pub looked-put : (tree : Tree) (limits : LimitsView) (t u v : Table) (at : ℕ) (newly_ready newly_ready' pending : List ℕ) →
+    IsPutBackThere tree limits t u at newly_ready pending → IsTableOf tree limits v newly_ready' → AreLookedAt tree limits u v pending → IsPutBackThere tree limits t v at newly_ready' []
+looked-put tree limits t u v at newly_ready newly_ready' pending put table looked =
     let P : List ℕ → Type 0 = λ xs. AllWatched (rules_of tree limits) limits.targets u.targets.keys u.slots.items xs in
     record {
       table = table;
@@ -108,9 +112,9 @@ pub looked-one : (tree : Tree) (limits : LimitsView) (t u : Table) (at : ℕ) �
 looked-one tree limits t u at one = record { entries = one.entries; rest = one.rest; slots = one.slots; watched = one.watched }
 
 -- all the steps together
-pub taken-in : (tree : Tree) (limits : LimitsView) (t u v : Table) (at : ℕ) (end : End) (freed : List ℕ) (may : MayTakeIn tree limits t at end) →
-    IsPutBackThere tree limits t u at freed [] → AreReleased u v freed → IsTakenIn tree limits t v at
-taken-in tree limits t u v at end freed may put released' =
+pub taken-in : (tree : Tree) (limits : LimitsView) (t u v : Table) (at : ℕ) (end : End) (newly_ready : List ℕ) (may : MayTakeIn tree limits t at end) →
+    IsPutBackThere tree limits t u at newly_ready [] → AreEnqueued u v newly_ready → IsTakenIn tree limits t v at
+taken-in tree limits t u v at end newly_ready may put released' =
     let r = rules_of tree limits in
     let S : List Entry → Type 0 = AreStanding r may.request in
     let standing = subst S (sym put.entries) (after-sound tree limits t at end may).standing in
@@ -123,7 +127,7 @@ taken-in tree limits t u v at end freed may put released' =
     let before : table_state r limits.targets u ≡ T (moved tree limits t at end may) (map (path_at t.targets.keys) t.ready.items) =
     ap (λ xs. T xs (map (path_at u.targets.keys) u.ready.items)) (put.entries ∙ after-entries tree limits t at end may) ∙ ap (T (moved tree limits t at end may)) names in
     record {
-      table = released-table tree limits may.request u v freed put.table standing put.watched released';
-      watched = released-watched tree limits may.request u v freed put.table standing put.watched released';
-      state = released-state tree limits may.request u v freed put.table standing put.watched released' ∙ ap (released r) before ∙ sym (after-state tree limits t at end may);
+      table = enqueued-table tree limits may.request u v newly_ready put.table standing put.watched released';
+      watched = enqueued-watched tree limits may.request u v newly_ready put.table standing put.watched released';
+      state = enqueued-state tree limits may.request u v newly_ready put.table standing put.watched released' ∙ ap (enqueued r) before ∙ sym (after-state tree limits t at end may);
     }

@@ -1,5 +1,6 @@
--- The numbers freed, in order, are those of the entries that an event releases.
-use Rattle.std.proofs.Common.{map, slice_get, ◌≡◌, ℕ, zero, suc, ◌+◌, ◌<◌, true, false, is_none, ◌⊎◌, inl, inr, List, [], ◌∷◌, length, filter, Option, Some, None, refl, sym, ap, subst, ◌∙◌, arith}
+-- The newly ready numbers, in order, are those of the entries that an event enqueues.
+use Rattle.std.proofs.Common.{map, slice_get, ◌≡◌, ℕ, zero, suc, ◌+◌, ◌<◌, true, false, is_none, ◌⊎◌, inl, inr, List}
+use Rattle.std.proofs.Common.{[], ◌∷◌, length, filter, Option, Some, None, refl, sym, ap, subst, ◌∙◌, arith}
 use Rattle.std.specs.List.{list_any}
 use Rattle.std.proofs.lemmas.Bool.{cases_Bool, both_ways, and_from, not_from_false}
 use Rattle.redo_tree.specs.Tree.{Tree}
@@ -7,15 +8,17 @@ use Rattle.redo_record.specs.Paths.{IsAmong, AreDistinct, is_among}
 use Rattle.redo_build.specs.Rules.{Ask, Rules, operands}
 use Rattle.redo_build.specs.Outcomes.{outcome_at}
 use Rattle.redo_core.specs.Build.{rules_of}
-use Rattle.redo_build.specs.Schedule.{Entry, State, outcome_of, outcomes_of, paths_of, is_free, lacks_none}
-use Rattle.redo_core.specs.inside.Slots.{state_from, slot_entries, slot_entry, stage_deps, stage_outcome, path_at, is_stage_out, is_stage_ready, is_stage_waiting, AllWatched, AllAnswered, IsPlace, IsTableOf}
+use Rattle.redo_build.specs.Schedule.{Entry, State, outcome_of, outcomes_of, paths_of, is_able_to_go_on, lacks_none}
+use Rattle.redo_core.specs.inside.Slots.{state_from, slot_entries, slot_entry, stage_deps, stage_outcome, path_at}
+use Rattle.redo_core.specs.inside.Slots.{is_stage_out, is_stage_ready, is_stage_waiting, AllWatched, AllAnswered}
+use Rattle.redo_core.specs.inside.Slots.{IsPlace, IsTableOf}
 use Rattle.redo_core.specs.declared.table.Slot.{Slot}
 use Rattle.redo_core.specs.declared.table.Table.{Table}
 use Rattle.redo_core.specs.declared.table.Stage.{Stage}
 use Rattle.redo_core.specs.declared.table.Stage.TheVariants.{Waiting, Ready, Out, Decided}
 use Rattle.redo_build.proofs.PathLemmas.{is_among-true, is_among-from, IsAmong-same}
 use Rattle.redo_build.proofs.QueueLemmas.{slice_get-among}
-use Rattle.redo_build.proofs.SoundLemmas.{is_free-parts, lacks_none-true}
+use Rattle.redo_build.proofs.SoundLemmas.{is_able_to_go_on-parts, lacks_none-true}
 use Rattle.redo_core.proofs.SlotLemmas.{entry_of-slots, slice_get-from, slice_get-below_some, ready-job}
 use Rattle.redo_core.proofs.PlaceLemmas.{AscendFrom, filter-places}
 use Rattle.redo_record.specs.declared.deps.Dep.{Dep}
@@ -61,9 +64,9 @@ length-slots r a [] (slot ∷ slots) h = absurd (omega arith)
 length-slots r a (p ∷ ps) [] h = refl
 length-slots r a (p ∷ ps) (slot ∷ slots) h = ap suc (length-slots r a ps slots (omega arith))
 
-module _ (tree : Tree) (limits : LimitsView) (t : Table) (freed sorted : List ℕ) (table : IsTableOf tree limits t freed) (distinct : AreDistinct t.targets.keys)
+module _ (tree : Tree) (limits : LimitsView) (t : Table) (newly_ready sorted : List ℕ) (table : IsTableOf tree limits t newly_ready) (distinct : AreDistinct t.targets.keys)
     (watched : AllWatched (rules_of tree limits) limits.targets t.targets.keys t.slots.items [])
-    (ascends : AscendFrom 0 sorted) (in' : (k : ℕ) → IsPlace sorted k → IsPlace freed k) (out : (k : ℕ) → IsPlace freed k → IsPlace sorted k) where
+    (ascends : AscendFrom 0 sorted) (in' : (k : ℕ) → IsPlace sorted k → IsPlace newly_ready k) (out : (k : ℕ) → IsPlace newly_ready k → IsPlace sorted k) where
   abbrev r : Rules
   r = rules_of tree limits
 
@@ -79,8 +82,8 @@ module _ (tree : Tree) (limits : LimitsView) (t : Table) (freed sorted : List �
       let is : path_at t.targets.keys k ≡ found.0 = rw found.1 refl in
       found.1 ∙ ap Some (sym is)
 
-  free-there : (i : ℕ) (e : Entry) → slice_get s.entries i ≡ Some e → IsPlace freed i → is_free (rules_of tree limits) s e ≡ true
-  free-there i e h m =
+  make_ready-there : (i : ℕ) (e : Entry) → slice_get s.entries i ≡ Some e → IsPlace newly_ready i → is_able_to_go_on (rules_of tree limits) s e ≡ true
+  make_ready-there i e h m =
       let found = slot-of-entry r a t.targets.keys t.slots.items i e h in
       let slot = found.0 in
       let p = found.1 in
@@ -99,17 +102,17 @@ module _ (tree : Tree) (limits : LimitsView) (t : Table) (freed sorted : List �
             let at = among-map (path_at t.targets.keys) t.ready.items e.path (is_among-true s.ready e.path yes') in
             let same : at.0 ≡ i = distinct-place t.targets.keys at.0 i p distinct
             (key-at at.0 (table.queue.ready_below at.0 at.1) ∙ ap Some (at.2 ∙ path)) found.3 in
-            table.queue.apart at.0 at.1 (let Q : ℕ → Type 0 = IsPlace freed in subst Q (sym same) m))
+            table.queue.apart at.0 at.1 (let Q : ℕ → Type 0 = IsPlace newly_ready in subst Q (sym same) m))
         | inr f ↦ f
       ] in
       and_from _ _ (and_from _ _ (and_from _ _ (let o : is_none e.outcome ≡ true = rw outcome refl in o) all) (not_from_false _ inside)) (not_from_false _ away)
 
-  free-alone : (i : ℕ) (e : Entry) → slice_get s.entries i ≡ Some e → is_free (rules_of tree limits) s e ≡ true → IsPlace freed i
-  free-alone i e h free =
+  make_ready-alone : (i : ℕ) (e : Entry) → slice_get s.entries i ≡ Some e → is_able_to_go_on (rules_of tree limits) s e ≡ true → IsPlace newly_ready i
+  make_ready-alone i e h free =
       let found = slot-of-entry r a t.targets.keys t.slots.items i e h in
       let slot = found.0 in
       let p = found.1 in
-      let parts = is_free-parts r s e free in
+      let parts = is_able_to_go_on-parts r s e free in
       let path : e.path ≡ p = sym (ap (λ (x : Entry). x.path) found.4) in
       let here : path_at t.targets.keys i ≡ p = rw found.3 refl in
       let outcome : stage_outcome slot.stage ≡ None = ap (λ (x : Entry). x.outcome) found.4 ∙ parts.0 in
@@ -138,12 +141,12 @@ module _ (tree : Tree) (limits : LimitsView) (t : Table) (freed sorted : List �
       three Out o i' = cc
       three (Decided fact) o i' = cc
 
-  pub freed-paths : paths_of (filter (is_free (rules_of tree limits) s) s.entries) ≡ map (path_at t.targets.keys) sorted
-  freed-paths = filter-places (is_free r s) (path_at t.targets.keys) 0 s.entries sorted (record {
+  pub newly_ready-paths : paths_of (filter (is_able_to_go_on (rules_of tree limits) s) s.entries) ≡ map (path_at t.targets.keys) sorted
+  newly_ready-paths = filter-places (is_able_to_go_on r s) (path_at t.targets.keys) 0 s.entries sorted (record {
     ascending = ascends;
-    within = λ k m. omega (arith, table.queue.freed_below k (in' k m), length-slots r a t.targets.keys t.slots.items table.one_each);
-    passes = λ i e h m. let P : ℕ → Type 0 = IsPlace sorted in let same : 0 + i ≡ i = omega arith in free-there i e h (in' i (subst P same m));
-    alone = λ i e h t'. let P : ℕ → Type 0 = IsPlace sorted in let same : i ≡ 0 + i = omega arith in subst P same (out i (free-alone i e h t'));
+    within = λ k m. omega (arith, table.queue.newly_ready_below k (in' k m), length-slots r a t.targets.keys t.slots.items table.one_each);
+    passes = λ i e h m. let P : ℕ → Type 0 = IsPlace sorted in let same : 0 + i ≡ i = omega arith in make_ready-there i e h (in' i (subst P same m));
+    alone = λ i e h t'. let P : ℕ → Type 0 = IsPlace sorted in let same : i ≡ 0 + i = omega arith in subst P same (out i (make_ready-alone i e h t'));
     named = λ i e h.
         let found = slot-of-entry r a t.targets.keys t.slots.items i e h in
         let same : 0 + i ≡ i = omega arith in

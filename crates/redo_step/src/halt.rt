@@ -2,9 +2,9 @@
 
 ghost use Rattle.std.specs.Prelude.{◌≡◌};
 
-use redo_record::Why;
 use crate::wait::Waiting;
 use redo_path::Path;
+use redo_record::Why;
 use std::alloc::{AllocError, AllocFailed};
 
 /// How a script ends.
@@ -16,7 +16,7 @@ pub(crate) enum Ending {
 
 /// Why a command doesn't go on.
 #[derive(Debug, Drop)]
-pub(crate) enum Stop {
+pub(crate) enum Halt {
     /// The script ends here.
     Ended(Ending),
     /// These paths have no answer yet.
@@ -26,38 +26,38 @@ pub(crate) enum Stop {
     Memory,
 }
 
-impl Stop {
+impl Halt {
     /// The script ends here with a fault.
-    pub(crate) fn fault(why: Why) -> Stop
-        ensures { result ≡ Stop.Ended (Ending.Faulted why) }
+    pub(crate) fn fault(why: Why) -> Halt
+        ensures { result ≡ Halt.Ended (Ending.Faulted why) }
     {
-        Stop::Ended(Ending::Faulted(why))
+        Halt::Ended(Ending::Faulted(why))
     }
 
     /// The script ends here with a status.
-    pub(crate) fn exit(status: u8) -> Stop
-        ensures { result ≡ Stop.Ended (Ending.Exited status) }
+    pub(crate) fn exit(status: u8) -> Halt
+        ensures { result ≡ Halt.Ended (Ending.Exited status) }
     {
-        Stop::Ended(Ending::Exited(status))
+        Halt::Ended(Ending::Exited(status))
     }
 }
 
-impl From<AllocError> for Stop {
-    ghost use Rattle.redo_step.specs.declared.stop.Stop.TheVariants.{Memory};
+impl From<AllocError> for Halt {
+    ghost use Rattle.redo_step.specs.declared.halt.Halt.TheVariants.{Memory};
 
     ghost from_gives = { λ _ stop. stop ≡ Memory };
 
-    fn from(_error: AllocError) -> Stop {
-        Stop::Memory
+    fn from(_error: AllocError) -> Halt {
+        Halt::Memory
     }
 }
 
-impl<T: Drop> From<AllocFailed<T>> for Stop {
-    ghost use Rattle.redo_step.specs.declared.stop.Stop.TheVariants.{Memory};
+impl<T: Drop> From<AllocFailed<T>> for Halt {
+    ghost use Rattle.redo_step.specs.declared.halt.Halt.TheVariants.{Memory};
 
     ghost from_gives = { λ _ stop. stop ≡ Memory };
 
-    fn from(_error: AllocFailed<T>) -> Stop {
-        Stop::Memory
+    fn from(_error: AllocFailed<T>) -> Halt {
+        Halt::Memory
     }
 }

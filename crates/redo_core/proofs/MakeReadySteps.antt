@@ -1,5 +1,6 @@
 -- A parked job with all its answers takes over their facts and is made a work.
-use Rattle.std.proofs.Common.{slice_get, slice_set, ◌≡◌, ℕ, zero, suc, true, false, inl, inr, List, [], ◌∷◌, Option, Some, None, refl, sym, ap, subst, ◌∙◌, arith, bytes_eq, Global}
+use Rattle.std.proofs.Common.{slice_get, slice_set, ◌≡◌, ℕ, zero, suc, true, false, inl, inr, List, [], ◌∷◌, Option}
+use Rattle.std.proofs.Common.{Some, None, refl, sym, ap, subst, ◌∙◌, arith, bytes_eq, Global}
 use Rattle.std.proofs.lemmas.Bool.{cases_Bool, cases_lt, both_ways}
 use Rattle.std.proofs.lemmas.Slice.Eq.{bytes_eq-Decides}
 use Rattle.redo_tree.specs.Tree.{Tree}
@@ -11,7 +12,9 @@ use Rattle.redo_build.specs.Outcomes.{outcome_at}
 use Rattle.redo_core.specs.Build.{rules_of}
 use Rattle.redo_build.specs.Schedule.{Entry, outcome_of, outcomes_of, entry_of, only}
 use Rattle.redo_core.specs.inside.Works.{job_deps, told_in, IsWorkWith}
-use Rattle.redo_core.specs.inside.Slots.{path_at, table_entries, slot_entries, slot_entry, stage_outcome, is_stage_decided, Fits, IsDecidedSlot, IsDecidedNumber, IsFactAt, waited_by, IsFed, IsFedAs, Gains}
+use Rattle.redo_core.specs.inside.Slots.{path_at, table_entries, slot_entries, slot_entry, stage_outcome}
+use Rattle.redo_core.specs.inside.Slots.{is_stage_decided, Fits, IsDecidedSlot, IsDecidedNumber, IsFactAt, waited_by}
+use Rattle.redo_core.specs.inside.Slots.{IsFed, IsFedAs, Gains}
 use Rattle.redo_core.specs.declared.facts.Facts.{Facts}
 use Rattle.redo_core.specs.declared.table.Parked.{Parked}
 use Rattle.redo_core.specs.declared.table.Slot.{Slot}
@@ -27,7 +30,7 @@ use Rattle.redo_core.proofs.SlotLemmas.{entry_of-slots, slice_get-below_some}
 use Rattle.redo_core.proofs.TableLemmas.{get-set_cases, get-set_other}
 use Rattle.redo_core.proofs.TableSteps.{operand-entry, waited-declared, waited-place}
 use Rattle.redo_core.proofs.GainSteps.{decided-fact}
-use Rattle.redo_core.proofs.FreedLemmas.{distinct-place}
+use Rattle.redo_core.proofs.NewlyReadyLemmas.{distinct-place}
 use Rattle.redo_core.proofs.NumberLemmas.{numbers-number, numbers-path}
 use Rattle.redo_build.proofs.QueueLemmas.{slice_get-among}
 use Rattle.redo_core.specs.Views.{FactView}

@@ -1,4 +1,5 @@
-use Rattle.std.proofs.Common.{ℕ, List, ◌≡◌, ◌<◌, refl, sym, ap, subst, ◌∙◌, slice_get, slice_set, length, Some, length-set, arith, rules}
+use Rattle.std.proofs.Common.{ℕ, List, ◌≡◌, ◌<◌, refl, sym, ap, subst, ◌∙◌, slice_get, slice_set, length, Some}
+use Rattle.std.proofs.Common.{length-set, arith, rules}
 use Rattle.std.specs.Arc.{arc_value}
 use Rattle.std.specs.Vec.{with_item}
 use Rattle.redo_core.specs.inside.Slots.{IsFedAs, Gains}
@@ -9,9 +10,9 @@ use Rattle.redo_core.specs.declared.table.Slot.{Slot}
 use Rattle.redo_core.specs.declared.table.Stage.TheVariants.{Ready}
 use Rattle.redo_core.proofs.SlotLemmas.{slice_get-item, slice_get-below_some}
 use Rattle.redo_core.proofs.TableLemmas.{get-set_same, set-twice}
-use Rattle.redo_core.proofs.FreeSteps.{fed-here, gain-decided, fed-work}
-use Rattle.redo_core.proofs.table.free.Goals as goal
-use Rattle.redo_core.proofs.table.free.Goals.{After-replace-stage}
+use Rattle.redo_core.proofs.MakeReadySteps.{fed-here, gain-decided, fed-work}
+use Rattle.redo_core.proofs.table.make_ready.Goals as goal
+use Rattle.redo_core.proofs.table.make_ready.Goals.{After-replace-stage}
 
 there : (c : After-replace-stage) → slice_get c.args.table.now.slots.items c.args.at ≡ Some c.index_mut-slot.result.now
 there c = slice_get-item c.args.table.now.slots.items c.args.at c.index_mut-slot.result.now
