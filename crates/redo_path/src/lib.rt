@@ -8,6 +8,7 @@
 //! text is kept, on `bstr` for searches in bytes and on `thiserror`.
 //!
 //! - here: [`Path`] and [`PathFault`];
+//! - `text`: where a path's text is cut, and how long it may be;
 //! - `words`: a word, part by part;
 //! - [`laws`]: what the definitions say together, for the crates above.
 #![tactic(auto)]
@@ -21,17 +22,19 @@ ghost use Rattle.std.specs.Hash as fed;
 ghost use Rattle.std.specs.Ordering.{nat_cmp};
 ghost use Rattle.std.proofs.Common.{rules};
 ghost use Rattle.redo_path.specs.declared.PathFault.TheVariants.{Memory};
-ghost use Rattle.redo_path.specs.Names.{IsNameStart, IsPath, name_of, names, parent_of};
+ghost use Rattle.redo_path.specs.Names.{IsPath, name_of, names, parent_of};
 
 pub mod laws;
+mod text;
 mod words;
 
-use bstr::ByteSlice;
 use redo_bytes::Bytes;
 use std::alloc::{AllocError, AllocFailed, Global};
 use std::cmp::Ordering;
 use std::hash::{Hash, Hasher};
 use std::marker::Model;
+use text::last_name;
+pub use text::{LONGEST_NAME, LONGEST_PATH, parent_of_text};
 use thiserror::Error;
 pub use words::resolve;
 
@@ -141,8 +144,8 @@ impl Path {
         ensures names { IfOk result (λ parent. IfSome parent (λ up. names self.now ≡
             names up ++ name_of self.now ∷ [])) }
     {
-        match front(self.text()) {
-            Some(front) => Ok(Some(Path::of_text(alloc, front)?)),
+        match parent_of_text(self.text()) {
+            Some(up) => Ok(Some(Path::of_text(alloc, up)?)),
             None => Ok(None),
         }
     }
@@ -152,7 +155,7 @@ impl Path {
         ensures path { IsPath self.now }
         ensures text { option_copied result ≡ parent_of self.now }
     {
-        front(self.text())
+        parent_of_text(self.text())
     }
 
     /// What follows `dir` and its slash: the whole text for the root, nothing for the path
@@ -246,37 +249,6 @@ pub(crate) fn share(text: Vec<u8>) -> Result<Path, AllocError>
 {
     let text = Bytes::from_vec(text)?;
     Ok(Path { text })
-}
-
-/// Where the last name of a text begins.
-pub(crate) fn name_start(text: &[u8]) -> usize
-    ensures { IsNameStart text.now result }
-{
-    match text.rfind_byte(b'/') {
-        Some(slash) => slash + 1,
-        None => 0,
-    }
-}
-
-/// The last name of a path's text.
-fn last_name(text: &[u8]) -> &[u8]
-    ensures { result.now ≡ name_of text.now }
-{
-    &text[name_start(text)..]
-}
-
-/// What stands before the last name of a path's text; the root has no such directory.
-fn front(text: &[u8]) -> Option<&[u8]>
-    requires { IsPath text.now }
-    ensures text { option_copied result ≡ parent_of text.now }
-    ensures path { IfSome result (λ front. IsPath front.now) }
-    ensures names { IfSome result (λ front. names text.now ≡ names front.now ++ name_of text.now ∷ []) }
-{
-    if text.is_empty() {
-        return None;
-    }
-    let end = name_start(text).saturating_sub(1);
-    Some(&text[..end])
 }
 
 #[cfg(test)]

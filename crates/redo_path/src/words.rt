@@ -10,14 +10,9 @@ ghost use Rattle.redo_path.specs.declared.PathFault.TheVariants.{Memory};
 ghost use Rattle.redo_path.specs.Names.{IsName, IsPart, child_of, is_control, names, parts};
 ghost use Rattle.redo_path.specs.Resolve.{Answers, Leads, resolved, step, up_from, within_limit, word_fault};
 
-use crate::{Path, PathFault, name_start, share};
+use crate::text::name_start;
+use crate::{LONGEST_NAME, LONGEST_PATH, Path, PathFault, share};
 use std::alloc::{AllocError, Global};
-
-/// The most bytes that a name has.
-const LONGEST_NAME: usize = 255;
-
-/// The most bytes that a path has.
-const LONGEST_PATH: usize = 1024;
 
 /// Goes up to the directory that holds the path.
 fn leave(text: &mut Vec<u8>) -> Result<(), PathFault>

@@ -1,9 +1,8 @@
 //! A candidate in pieces of its target's text, so that no path is made of one that is no file.
 
-ghost use Rattle.std.specs.Prelude.{◌≡◌, ◌++◌, ◌∷◌, ◌≤◌, [], IfOk, IfSome, OnOk, codes, false, is_err, length, map};
-ghost use Rattle.std.specs.Prelude.{nat_le, option_copied, true, ◌&&◌};
+ghost use Rattle.std.specs.Prelude.{◌≡◌, ◌++◌, ◌∷◌, [], IfOk, OnOk, codes, false, is_err, length, nat_le, ◌&&◌};
 ghost use Rattle.std.specs.Option.{option_to_list};
-ghost use Rattle.redo_path.specs.Names.{IsNameStart, IsPart, IsPath, child_of, name_of, names, parent_of};
+ghost use Rattle.redo_path.specs.Names.{IsPart, IsPath, child_of};
 ghost use Rattle.redo_path.specs.Resolve.{resolved};
 ghost use Rattle.redo_bundle.specs.Bundle.{Writes};
 ghost use Rattle.redo_which.specs.Candidates.{place_at};
@@ -12,15 +11,9 @@ ghost use Rattle.redo_which.specs.Views.{place_of};
 
 use crate::Candidate;
 use redo_bundle::{Broken, ByteOut, write_parts};
-use redo_path::Path;
+use redo_path::{LONGEST_NAME, LONGEST_PATH, Path};
 use std::alloc::{AllocError, Global};
 use std::marker::Model;
-
-/// The most bytes that a name has.
-const LONGEST_NAME: usize = 255;
-
-/// The most bytes that a path has.
-const LONGEST_PATH: usize = 1024;
 
 /// A candidate in pieces, with no path of its own. In a contract it is the place of the candidate.
 #[derive(Drop)]
@@ -180,28 +173,4 @@ pub(crate) fn fits(dir: &[u8], front: &[u8], suffix: &[u8]) -> bool
         dir.len().saturating_add(1)
     };
     name <= LONGEST_NAME && above.saturating_add(name) <= LONGEST_PATH
-}
-
-/// The text of the directory that holds a path; the root lies in none.
-pub(crate) fn parent_text(text: &[u8]) -> Option<&[u8]>
-    requires { IsPath text.now }
-    ensures text { option_copied result ≡ parent_of text.now }
-    ensures path { IfSome result (λ up. IsPath up.now) }
-    ensures names { IfSome result (λ up. names text.now ≡ names up.now ++ name_of text.now ∷ []) }
-{
-    if text.is_empty() {
-        return None;
-    }
-    let end = name_start(text).saturating_sub(1);
-    Some(&text[..end])
-}
-
-/// Where the last name of a text begins.
-fn name_start(text: &[u8]) -> usize
-    ensures { IsNameStart text.now result }
-{
-    match text.iter().rposition(|byte| *byte == b'/') {
-        Some(slash) => slash + 1,
-        None => 0,
-    }
 }

@@ -13,8 +13,8 @@ ghost use Rattle.redo_which.specs.inside.Passed.{Passes, places_left};
 ghost use Rattle.redo_which.specs.inside.Slots.{IsFirstDot, IsNext, shorter, slots_above, slots_by, slots_left};
 ghost use Rattle.redo_which.specs.inside.Distinct.{distinct_places, without_whole};
 
-use crate::candidate_ref::{CandidateRef, fits, parent_text};
-use redo_path::Path;
+use crate::candidate_ref::{CandidateRef, fits};
+use redo_path::{Path, parent_of_text};
 use redo_tree::Tree;
 use std::marker::Model;
 
@@ -88,7 +88,7 @@ impl<'a> Candidates<'a> {
         ensures target { IsTarget target.now }
     {
         let name = target.name();
-        let next = match parent_text(target.text()) {
+        let next = match parent_of_text(target.text()) {
             Some(dir) => first_next(name, dir),
             None => Next::Nothing,
         };
@@ -242,7 +242,7 @@ fn above<'a>(name: &'a [u8], dir: &'a [u8]) -> Next<'a>
     ensures left { slots_left name.now result ≡ slots_above name.now dir.now }
     ensures next { IsNext name.now result }
 {
-    match parent_text(dir) {
+    match parent_of_text(dir) {
         Some(parent) => Next::Suffix(parent, name),
         None => Next::Nothing,
     }

@@ -12,18 +12,18 @@ pub returns-clause-candidates : goal.returns-clause-candidates
 returns-clause-candidates c =
     let name = c.name-name.result.now in
     let flat = λ (next : _). flat_map (λ (places : List Place). places) (slots_left name next) in
-    elim c.match-parent_text.branch [
+    elim c.match-parent_of_text.branch [
       | in-Some w ↦
           let dir = w.in-Some.dir.now in
           let lies : LiesIn c.args.target.now dir = record { is_path = c.text.ensures.path; parent = w.in-Some.ensures.text ∙ ap parent_of c.text.ensures.text; split = rw (← c.text.ensures.text) w.in-Some.ensures.names } in
-          candidates-some c.args.target.now dir name (flat c.match-parent_text.next) lies c.name-name.ensures (ap flat w.next-is ∙ w.first_next-next.ensures.left)
+          candidates-some c.args.target.now dir name (flat c.match-parent_of_text.next) lies c.name-name.ensures (ap flat w.next-is ∙ w.first_next-next.ensures.left)
       | in-None w ↦ ap flat w.next-is ∙ candidates-none c.args.target.now (w.in-None.ensures.text ∙ ap parent_of c.text.ensures.text)
     ]
 
 pub returns-clause-target : goal.returns-clause-target
 returns-clause-target c =
     let target = c.args.target.now in
-    elim c.match-parent_text.branch [
+    elim c.match-parent_of_text.branch [
       | in-Some w ↦
           let dir = w.in-Some.dir.now in
           let parent = w.in-Some.ensures.text ∙ ap parent_of c.text.ensures.text in
@@ -36,7 +36,7 @@ pub returns-clause-few : goal.returns-clause-few
 returns-clause-few c =
     let target = c.args.target.now in
     subst (λ (ps : List Place). length ps ≤ 2 ^ 20) (sym (returns-clause-candidates c))
-    (elim c.match-parent_text.branch [
+    (elim c.match-parent_of_text.branch [
       | in-Some w ↦
           let dir = w.in-Some.dir.now in
           let lies : LiesIn target dir = record { is_path = c.text.ensures.path; parent = w.in-Some.ensures.text ∙ ap parent_of c.text.ensures.text; split = rw (← c.text.ensures.text) w.in-Some.ensures.names } in

@@ -1,7 +1,7 @@
 use Rattle.std.proofs.Common.{arith, ◌≡◌, ◌∙◌, ◌-◌, sym, take, drop, length}
 use Rattle.std.proofs.lemmas.Grind.{common_steps}
 use Rattle.redo_path.proofs.PartLemmas.{name_of-start}
-use Rattle.redo_path.proofs.last_name.Goals as goal
+use Rattle.redo_path.proofs.text.last_name.Goals as goal
 
 pub returns : goal.returns
 returns c =

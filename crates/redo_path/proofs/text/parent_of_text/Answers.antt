@@ -2,7 +2,7 @@ use Rattle.std.proofs.Common.{◌<◌, subst, arith, length, take, ap, ◌∙◌
 use Rattle.std.proofs.lemmas.Grind.{common_steps}
 use Rattle.redo_path.specs.Names.{IsName, IsPath, names}
 use Rattle.redo_path.proofs.PartLemmas.{AllByRecursion-up, parent_of-start, names-parent, name_of-start}
-use Rattle.redo_path.proofs.front.Goals as goal
+use Rattle.redo_path.proofs.text.parent_of_text.Goals as goal
 
 pub returns-clause-text : goal.returns-clause-text
 returns-clause-text c =
