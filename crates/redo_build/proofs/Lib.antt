@@ -1,4 +1,6 @@
+pub mod BegunLemmas
 pub mod CountLemmas
+pub mod CountedLemmas
 pub mod DepthLemmas
 pub mod HandoverLemmas
 pub mod OnceLemmas

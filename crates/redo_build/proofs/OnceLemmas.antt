@@ -37,7 +37,7 @@ put-evolves es new old at how p e h = elim (cases_Bool (bytes_eq new.path p)) [
       (e, entry_of-put_other es new p (λ same. both_ways _ f ((bytes_eq-Decides new.path p).1 same)) ∙ h, stays e)
 ]
 
-at_path : (es : List Entry) (p : List ℕ) (e : Entry) → entry_of es p ≡ Some e → entry_of es e.path ≡ Some e
+pub at_path : (es : List Entry) (p : List ℕ) (e : Entry) → entry_of es p ≡ Some e → entry_of es e.path ≡ Some e
 at_path es p e h = let P : List ℕ → Type 0 = λ x. entry_of es x ≡ Some e in subst P (sym (entry_of-path es p e h)) h
 
 module _ (r : Rules) (lawful : AreLawful r) (request : List (List ℕ)) where

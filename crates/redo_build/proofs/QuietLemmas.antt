@@ -20,7 +20,7 @@ use Rattle.redo_build.proofs.SoundLemmas.{IsSound}
 use Rattle.redo_record.specs.declared.deps.Dep.{Dep}
 use Rattle.redo_record.specs.declared.outcome.Outcome.{Outcome}
 
-none-out : (es : List Entry) (p : List ℕ) (e : Entry) → entry_of es p ≡ Some e → length (filter (λ x. x.is_out) es) ≡ 0 → e.is_out ≡ false
+pub none-out : (es : List Entry) (p : List ℕ) (e : Entry) → entry_of es p ≡ Some e → length (filter (λ x. x.is_out) es) ≡ 0 → e.is_out ≡ false
 none-out [] p e at none = cc
 none-out (x ∷ es) p e at none = elim (cases_Bool x.is_out) [
   | inl out ↦ absurd (let some = rw out at none in omega arith)

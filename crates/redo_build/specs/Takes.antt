@@ -1,5 +1,8 @@
 -- What is taken in a run.
-use Rattle.std.specs.Prelude.{◌≡◌, ℕ, ◌⊎◌, List, [], ◌∷◌, ◌++◌, Option, Some, None, slice_get, option_and_then}
+use Rattle.std.specs.Prelude.{◌≡◌, ℕ, ◌≤◌, ◌⊎◌, ◌↔◌, Bool, ◌&&◌, List, [], ◌∷◌, ◌++◌, Option, Some, None, slice_get}
+use Rattle.std.specs.Prelude.{option_and_then, bytes_eq, nat_eq}
+use Rattle.std.specs.List.{count_by}
+use Rattle.redo_record.specs.Paths.{IsAmong}
 use Rattle.redo_build.specs.Rules.{Rules}
 use Rattle.redo_build.specs.Schedule.{Entry, State, Event, entry_of, happens}
 use Rattle.redo_build.specs.Schedule.Event.{Take, Hand_in}
@@ -25,3 +28,19 @@ IsTaken (x ∷ xs) p turn = ((x.0 ≡ p) × (x.1 ≡ turn)) ⊎ IsTaken xs p tur
 abbrev pub AreOnce : List ((List ℕ) × ℕ) → Type 0
 AreOnce [] = Unit {0}
 AreOnce (x ∷ xs) = (IsTaken xs x.0 x.1 → ⊥) × AreOnce xs
+
+-- whether this is the target at that turn
+abbrev pub is_at : List ℕ → ℕ → (List ℕ) × ℕ → Bool
+is_at p turn x = bytes_eq x.0 p && nat_eq x.1 turn
+
+-- how often a target is taken at a turn
+abbrev pub times_taken : List ((List ℕ) × ℕ) → List ℕ → ℕ → ℕ
+times_taken taken p turn = count_by (is_at p turn) taken
+
+-- each pair is counted at most once
+abbrev pub AreCountedOnce : List ((List ℕ) × ℕ) → Type 0
+AreCountedOnce taken = (p : List ℕ) (turn : ℕ) → times_taken taken p turn ≤ 1
+
+-- the targets that are taken at turn 0 are these
+abbrev pub AreBegun : List ((List ℕ) × ℕ) → List (List ℕ) → Type 0
+AreBegun taken begun = (p : List ℕ) → IsTaken taken p 0 ↔ IsAmong begun p
