@@ -3,7 +3,6 @@ use Rattle.std.proofs.Common.{◌≡◌, ℕ, suc, ◌+◌, ◌<◌, ◌≤◌, 
 use Rattle.std.proofs.Common.{true, false, refl, sym, ap, subst, ◌∙◌, arith, length, slice_get, Global}
 use Rattle.std.specs.Prelude.{is_none, Box}
 use Rattle.std.proofs.lemmas.Bool.{cases_Bool}
-use Rattle.redo_tree.specs.Tree.{Tree}
 use Rattle.redo_record.specs.declared.deps.Dep.{Dep}
 use Rattle.redo_record.specs.declared.outcome.Outcome.{Outcome}
 use Rattle.redo_step.specs.declared.job.Done.{Done}
@@ -16,7 +15,7 @@ use Rattle.redo_record.specs.Paths.{IsAmong}
 use Rattle.redo_build.specs.Rules.{Ask, Rules, AreLawful, asked_under, operands}
 use Rattle.redo_build.specs.Outcomes.{outcome_at}
 use Rattle.redo_build.specs.Schedule.{only}
-use Rattle.redo_core.specs.Build.{rules_of}
+use Rattle.redo_core.specs.Build.{GivenView, rules_for}
 use Rattle.redo_build.specs.inside.Turns.{IsFact, IsPiece, progress_at_turn}
 use Rattle.redo_core.specs.inside.Works.{IsWorkWith, IsJobOf, IsStopped, AreKnownBelow, job_deps, told_in}
 use Rattle.redo_build.specs.Lacking.{lacking_under}
@@ -31,12 +30,11 @@ use Rattle.redo_core.specs.declared.facts.Facts.{Facts}
 use Rattle.redo_build.proofs.DepthLemmas.{cases_Option}
 use Rattle.redo_build.proofs.HandoverLemmas.{piece-fact}
 use Rattle.redo_core.proofs.JobLemmas.{job_progress}
-use Rattle.redo_core.proofs.LawfulTreeLemmas.{rules_lawful}
+use Rattle.redo_core.proofs.LawfulTreeLemmas.{lawful_for}
 use Rattle.redo_record.specs.Entries.{IsBeginning}
 use Rattle.redo_core.proofs.PrefixLemmas.{asks-begins, beginning-get, beginning-length, keeps-itself}
 use Rattle.redo_build.proofs.TurnLemmas.{only-among}
 use Rattle.redo_core.proofs.TableSteps.{entry-operand}
-use Rattle.redo_step.specs.Limits.{LimitsView}
 
 -- What lacks
 
@@ -73,35 +71,35 @@ ended-lacks r lawful p ask = (
       one_passes (λ q. is_none (ask q)) (asked_under r p ask) found.0 found.1 (rw found.2 refl) nothing,
 )
 
-module _ (tree : Tree) (limits : LimitsView) (job : JobView) (facts : Facts) (work : IsWorkWith tree limits job facts) where
+module _ (given : GivenView) (job : JobView) (facts : Facts) (work : IsWorkWith given job facts) where
   abbrev r : Rules
-  r = rules_of tree limits
+  r = rules_for given
 
   -- it can go on
   pub work-fits : IsFit job (told_in facts)
   work-fits = work.goes_on (told_in facts) (keeps-itself (job_setting job) job.state.entries (told_in facts))
 
   -- how far the target comes with what the work holds is how far it comes at its turn
-  at-turn : (rules_of tree limits).progress job.target (told_in facts) ≡ progress_at_turn (rules_of tree limits) job.target (outcome_at (rules_of tree limits) work.is_work.depth) job.turn
+  at-turn : (rules_for given).progress job.target (told_in facts) ≡ progress_at_turn (rules_for given) job.target (outcome_at (rules_for given) work.is_work.depth) job.turn
   at-turn =
-      ((rules_lawful tree limits).each job.target).local (told_in facts) (only (operands r (job_deps job)) (outcome_at r work.is_work.depth)) (λ q m. work.exact q) ∙
+      ((lawful_for given).each job.target).local (told_in facts) (only (operands r (job_deps job)) (outcome_at r work.is_work.depth)) (λ q m. work.exact q) ∙
       ap (λ (ds : List Dep). r.progress job.target (only (operands r ds) (outcome_at r work.is_work.depth))) work.is_work.is
 
-  pub work-progress : (now : Progress) → progress_of job (told_in facts) ≡ now → now ≡ (rules_of tree limits).progress job.target (told_in facts)
-  work-progress now e = sym e ∙ job_progress tree limits job work.is_job (told_in facts)
+  pub work-progress : (now : Progress) → progress_of job (told_in facts) ≡ now → now ≡ (rules_for given).progress job.target (told_in facts)
+  work-progress now e = sym e ∙ job_progress given job work.is_job (told_in facts)
 
   -- what it comes to is a piece
-  unfoldable pub advanced-piece : (now : Progress) → progress_of job (told_in facts) ≡ now → IsPiece (rules_of tree limits) job.target job.turn now
+  unfoldable pub advanced-piece : (now : Progress) → progress_of job (told_in facts) ≡ now → IsPiece (rules_for given) job.target job.turn now
   unfolding at-turn
   advanced-piece now e =
       let Q : List Dep → Type 0 = λ ds. (q : List ℕ) → IsAmong (operands r ds) q → outcome_at r work.is_work.depth q ≡ None → ⊥ in
       record { depth = work.is_work.depth; came = work.is_work.came; fed = subst Q work.is_work.is work.is_work.fed; is = work-progress now e ∙ at-turn }
 
   -- a script that ended gives a fact
-  pub advanced-fact : (done : Done) → EndsAs (told_in facts) job done → IsFact (rules_of tree limits) job.target done.outcome done.deps done.deps true
+  pub advanced-fact : (done : Done) → EndsAs (told_in facts) job done → IsFact (rules_for given) job.target done.outcome done.deps done.deps true
   advanced-fact done ends =
       let piece = advanced-piece (record { outcome = Some done.outcome; deps = done.deps }) ends in
-      let fact = piece-fact r (rules_lawful tree limits) job.target job.turn done.deps done.outcome piece in
+      let fact = piece-fact r (lawful_for given) job.target job.turn done.deps done.outcome piece in
       record {
         depth = fact.depth;
         is = fact.is;
@@ -110,10 +108,10 @@ module _ (tree : Tree) (limits : LimitsView) (job : JobView) (facts : Facts) (wo
       }
 
   module _ (later : JobView) (paths : List (List ℕ)) (asks : AsksFor (told_in facts) job later paths) where
-    still_job : IsJobOf tree limits later
+    still_job : IsJobOf given later
     still_job =
-        let P : JobView → Type 0 = IsJobOf tree limits in
-        let further : IsJobOf tree limits (with_rest job later.place later.state (job.turn + 1)) = record {
+        let P : JobView → Type 0 = IsJobOf given in
+        let further : IsJobOf given (with_rest job later.place later.state (job.turn + 1)) = record {
           of_tree = work.is_job.of_tree;
           of_limits = work.is_job.of_limits;
           found = work.is_job.found;
@@ -127,7 +125,7 @@ module _ (tree : Tree) (limits : LimitsView) (job : JobView) (facts : Facts) (wo
     begins : IsBeginning job.state.entries later.state.entries
     begins = asks-begins (told_in facts) job later paths work-fits asks
 
-    still_known : AreKnownBelow (rules_of tree limits) later (told_in facts) facts.gained
+    still_known : AreKnownBelow (rules_for given) later (told_in facts) facts.gained
     still_known k d q below get is none =
         let within : k < length job.state.entries = omega (arith, below, work.gained) in
         let before : slice_get job.state.entries k ≡ Some d = sym (beginning-get job.state.entries later.state.entries begins k within) ∙ get in
@@ -135,7 +133,7 @@ module _ (tree : Tree) (limits : LimitsView) (job : JobView) (facts : Facts) (wo
         work.is_work.fed q asked (sym (only-among (operands r (job_deps job)) (outcome_at r work.is_work.depth) q asked) ∙ sym (work.exact q) ∙ none)
 
     -- a script that asks for more is at its next turn
-    pub advanced-stopped : IsStopped tree limits work.is_work.depth job.target job.turn later facts
+    pub advanced-stopped : IsStopped given work.is_work.depth job.target job.turn later facts
     advanced-stopped =
         let deps : List Dep → Type 0 = λ ds. (q : List ℕ) → told_in facts q ≡ only (operands r ds) (outcome_at r work.is_work.depth) q in
         record {
@@ -149,7 +147,7 @@ module _ (tree : Tree) (limits : LimitsView) (job : JobView) (facts : Facts) (wo
         }
 
     -- it is the end of a piece that stopped
-    pub stopped-end : (begun : Box Begun Global) → begun.value ≡ record { job = later; facts = facts } → IsEndAt tree limits job.target job.turn (Stopped begun)
+    pub stopped-end : (begun : Box Begun Global) → begun.value ≡ record { job = later; facts = facts } → IsEndAt given job.target job.turn (Stopped begun)
     unfolding advanced-piece
     stopped-end begun is =
         record {
@@ -157,36 +155,36 @@ module _ (tree : Tree) (limits : LimitsView) (job : JobView) (facts : Facts) (wo
           is_end = rw is advanced-stopped;
         }
 
-    pub asks-progress : (begun : Box Begun Global) → begun.value ≡ record { job = later; facts = facts } → end_progress (Stopped begun) ≡ (rules_of tree limits).progress job.target (told_in facts)
+    pub asks-progress : (begun : Box Begun Global) → begun.value ≡ record { job = later; facts = facts } → end_progress (Stopped begun) ≡ (rules_for given).progress job.target (told_in facts)
     asks-progress begun is = rw is (work-progress (record { outcome = None; deps = record_so_far later }) asks.progress)
 
   -- a fact of what it came to is the end of a piece that ended
-  pub ended-end : (done : Done) → EndsAs (told_in facts) job done → (fact : Arc FactView Global) → (arc_value {X = FactView} fact).tree ≡ tree → (arc_value {X = FactView} fact).limits ≡ limits →
+  pub ended-end : (done : Done) → EndsAs (told_in facts) job done → (fact : Arc FactView Global) → (arc_value {X = FactView} fact).given ≡ given →
       (arc_value {X = FactView} fact).target ≡ job.target → (arc_value {X = FactView} fact).outcome ≡ done.outcome → (arc_value {X = FactView} fact).deps ≡ done.deps →
-      IsEndAt tree limits job.target job.turn (Ended fact)
-  ended-end done ends fact of_tree of_limits of_target outcome deps = record {
+      IsEndAt given job.target job.turn (Ended fact)
+  ended-end done ends fact of_given of_target outcome deps = record {
     is_piece = advanced-piece (record { outcome = Some (arc_value {X = FactView} fact).outcome; deps = (arc_value {X = FactView} fact).deps }) (ends ∙ rw (outcome, deps) refl);
-    is_end = (of_tree, of_limits, of_target);
+    is_end = (of_given, of_target);
   }
 
   -- what an end says is how far the target comes with what the work holds
   pub ended-progress : (done : Done) → EndsAs (told_in facts) job done → (fact : Arc FactView Global) → (arc_value {X = FactView} fact).outcome ≡ done.outcome →
-      (arc_value {X = FactView} fact).deps ≡ done.deps → end_progress (Ended fact) ≡ (rules_of tree limits).progress job.target (told_in facts)
+      (arc_value {X = FactView} fact).deps ≡ done.deps → end_progress (Ended fact) ≡ (rules_for given).progress job.target (told_in facts)
   ended-progress done ends fact outcome deps =
       work-progress (record { outcome = Some (arc_value {X = FactView} fact).outcome; deps = (arc_value {X = FactView} fact).deps }) (ends ∙ rw (outcome, deps) refl)
 
   -- the same, of a fact that is still to be made
-  pub fact-parts : (done : Done) → EndsAs (told_in facts) job done → (own : Tree) (path : List ℕ) (deps : List Dep) → own ≡ tree → path ≡ job.target → deps ≡ done.deps →
-      IsFact (rules_of own limits) path done.outcome deps deps true
-  fact-parts done ends own path deps of_tree of_target of_deps =
-      let P : Tree → Type 0 = λ x. IsFact (rules_of x limits) path done.outcome deps deps true in
-      let Q : List ℕ → Type 0 = λ x. IsFact (rules_of tree limits) x done.outcome deps deps true in
-      let R : List Dep → Type 0 = λ x. IsFact (rules_of tree limits) job.target done.outcome x x true in
-      subst P (sym of_tree) (subst Q (sym of_target) (subst R (sym of_deps) (advanced-fact done ends)))
+  pub fact-parts : (done : Done) → EndsAs (told_in facts) job done → (own : GivenView) (path : List ℕ) (deps : List Dep) → own ≡ given → path ≡ job.target → deps ≡ done.deps →
+      IsFact (rules_for own) path done.outcome deps deps true
+  fact-parts done ends own path deps of_given of_target of_deps =
+      let P : GivenView → Type 0 = λ x. IsFact (rules_for x) path done.outcome deps deps true in
+      let Q : List ℕ → Type 0 = λ x. IsFact (rules_for given) x done.outcome deps deps true in
+      let R : List Dep → Type 0 = λ x. IsFact (rules_for given) job.target done.outcome x x true in
+      subst P (sym of_given) (subst Q (sym of_target) (subst R (sym of_deps) (advanced-fact done ends)))
 
   -- what the piece says has an outcome exactly where the work lacks nothing
-  pub end-lacks : (end : End) → end_progress end ≡ (rules_of tree limits).progress job.target (told_in facts) →
-      ((end_progress end).outcome ≡ None → ⊥) ↔ (lacking_under (rules_of tree limits) job.target (told_in facts) ≡ [])
+  pub end-lacks : (end : End) → end_progress end ≡ (rules_for given).progress job.target (told_in facts) →
+      ((end_progress end).outcome ≡ None → ⊥) ↔ (lacking_under (rules_for given) job.target (told_in facts) ≡ [])
   end-lacks end is =
-      let P : Progress → Type 0 = λ x. (x.outcome ≡ None → ⊥) ↔ (lacking_under (rules_of tree limits) job.target (told_in facts) ≡ []) in
-      subst P (sym is) (ended-lacks r (rules_lawful tree limits) job.target (told_in facts))
+      let P : Progress → Type 0 = λ x. (x.outcome ≡ None → ⊥) ↔ (lacking_under (rules_for given) job.target (told_in facts) ≡ []) in
+      subst P (sym is) (ended-lacks r (lawful_for given) job.target (told_in facts))

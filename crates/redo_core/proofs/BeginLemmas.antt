@@ -19,29 +19,29 @@ use Rattle.redo_record.specs.Progress.{Progress}
 use Rattle.redo_build.specs.Outcomes.{outcome_at}
 use Rattle.redo_build.specs.Schedule.{nothing_known}
 use Rattle.redo_build.specs.inside.Turns.{IsFact}
-use Rattle.redo_core.specs.Build.{rules_of}
+use Rattle.redo_core.specs.Build.{GivenView, rules_for}
 use Rattle.redo_core.specs.Views.{told_by}
 use Rattle.redo_core.specs.inside.Works.{known_in, IsWorkWith}
 use Rattle.redo_core.specs.declared.facts.Facts.{Facts}
-use Rattle.redo_core.proofs.LawfulTreeLemmas.{rules_lawful}
+use Rattle.redo_core.proofs.LawfulTreeLemmas.{lawful_for}
 use Rattle.redo_step.specs.Limits.{LimitsView}
 
 -- without a rule no answer makes a difference
-pub unruled-fact : (tree : Tree) (limits : LimitsView) (p : List ℕ) (o : Outcome) (deps : List Dep) → (rules_of tree limits).has_rule p ≡ false →
-    (rules_of tree limits).progress p nothing_known ≡ record { outcome = Some o; deps = deps } → IsFact (rules_of tree limits) p o deps deps false
-unruled-fact tree limits p o deps none is =
-    let lawful = rules_lawful tree limits in
-    let same = (lawful.each p).local nothing_known (outcome_at (rules_of tree limits) 0) (λ q m.
+pub unruled-fact : (given : GivenView) (p : List ℕ) (o : Outcome) (deps : List Dep) → (rules_for given).has_rule p ≡ false →
+    (rules_for given).progress p nothing_known ≡ record { outcome = Some o; deps = deps } → IsFact (rules_for given) p o deps deps false
+unruled-fact given p o deps none is =
+    let lawful = lawful_for given in
+    let same = (lawful.each p).local nothing_known (outcome_at (rules_for given) 0) (λ q m.
     (let P : List (List ℕ) → Type 0 = λ xs. IsAmong xs q in absurd (subst P (lawful.unruled p nothing_known none).0 m))) in
     record { depth = 0; is = sym same ∙ is; recorded = ap (λ (x : Progress). x.deps) (sym is ∙ same); begun = rw none refl }
 
 -- a job that was just begun is a work with no facts
-pub begun-work : (tree : Tree) (limits : LimitsView) (target : List ℕ) (rule : FoundRule) (parsed : Parsed) (facts : Facts) →
-    found_of tree target ≡ Rule rule.do_file rule.missing (arguments_view rule.args) →
-    parsed_of parsed ≡ script_in (unwrap_or (file_at tree rule.do_file) []) →
-    ((ask : Answers) → IsFit (begun tree target rule parsed limits) ask) → known_in facts ≡ [] → facts.gained ≡ 0 →
-    IsWorkWith tree limits (begun tree target rule parsed limits) facts
-begun-work tree limits target rule parsed facts found script fits none gained = record {
+pub begun-work : (given : GivenView) (target : List ℕ) (rule : FoundRule) (parsed : Parsed) (facts : Facts) →
+    found_of given.tree target ≡ Rule rule.do_file rule.missing (arguments_view rule.args) →
+    parsed_of parsed ≡ script_in (unwrap_or (file_at given.tree rule.do_file) []) →
+    ((ask : Answers) → IsFit (begun given.tree target rule parsed given.limits) ask) → known_in facts ≡ [] → facts.gained ≡ 0 →
+    IsWorkWith given (begun given.tree target rule parsed given.limits) facts
+begun-work given target rule parsed facts found script fits none gained = record {
   is_job = record { of_tree = refl; of_limits = refl; found = found; script = script };
   is_work = record {
     depth = 0;
@@ -57,24 +57,24 @@ begun-work tree limits target rule parsed facts found script fits none gained = 
 }
 
 -- a job that was begun on a shared tree is one of the tree
-pub begun-is : {E : Type 0} (tree given : Tree) (limits : LimitsView) (target : List ℕ) (rule : FoundRule) (parsed : Parsed) (result : Result JobView E) → given ≡ tree →
-    found_of tree target ≡ Rule rule.do_file rule.missing (arguments_view rule.args) →
-    parsed_of parsed ≡ script_in (unwrap_or (file_at tree rule.do_file) []) →
-    IfOk result (λ job. job ≡ begun given target rule parsed limits) → IfOk result (λ job. (ask : Answers) → IsFit job ask) →
-    IfOk result (IsBegunJob tree limits target)
-begun-is tree given limits target rule parsed (Ok job) same found script is fits =
-    let J : Tree → JobView = λ t. begun t target rule parsed limits in
-    let at : job ≡ J tree = is ∙ ap J same in
+pub begun-is : {E : Type 0} (given : GivenView) (own : Tree) (limits : LimitsView) (target : List ℕ) (rule : FoundRule) (parsed : Parsed) (result : Result JobView E) →
+    own ≡ given.tree → limits ≡ given.limits → found_of given.tree target ≡ Rule rule.do_file rule.missing (arguments_view rule.args) →
+    parsed_of parsed ≡ script_in (unwrap_or (file_at given.tree rule.do_file) []) →
+    IfOk result (λ job. job ≡ begun own target rule parsed limits) → IfOk result (λ job. (ask : Answers) → IsFit job ask) →
+    IfOk result (IsBegunJob given target)
+begun-is given own limits target rule parsed (Ok job) same bounds found script is fits =
+    let J : Tree → LimitsView → JobView = λ t l. begun t target rule parsed l in
+    let at : job ≡ J given.tree given.limits = is ∙ ap (λ t. J t limits) same ∙ ap (J given.tree) bounds in
     let F : JobView → Type 0 = λ j. (ask : Answers) → IsFit j ask in
     let fits' = subst F at fits in
-    let P : JobView → Type 0 = IsBegunJob tree limits target in
+    let P : JobView → Type 0 = IsBegunJob given target in
     subst P (sym at) (record {
       of_target = refl;
       at_first = refl;
       none_recorded = refl;
-      is_work = λ facts none gained. begun-work tree limits target rule parsed facts found script fits' none gained;
+      is_work = λ facts none gained. begun-work given target rule parsed facts found script fits' none gained;
     })
-begun-is tree given limits target rule parsed (Err e) same found script is fits = tt
+begun-is given own limits target rule parsed (Err e) same bounds found script is fits = tt
 
 pub unwrap-copied : (o : Option (Bor (List ℕ))) (d : Bor (List ℕ)) → (unwrap_or o d).now ≡ unwrap_or (option_copied o) d.now
 unwrap-copied None d = refl

@@ -3,11 +3,10 @@ use Rattle.std.proofs.Common.{map, slice_get, take, drop, ◌-◌, ◌≤◌, �
 use Rattle.std.proofs.Common.{append-nil, length, filter, Option, Some, None, inl, inr, ◌⊎◌, refl, sym, ap, subst, ◌∙◌}
 use Rattle.std.proofs.Common.{arith}
 use Rattle.std.proofs.lemmas.List.{map-append}
-use Rattle.redo_tree.specs.Tree.{Tree}
 use Rattle.redo_record.specs.Paths.{AreDistinct}
 use Rattle.redo_build.specs.Rules.{Rules}
 use Rattle.redo_build.specs.Outcomes.{outcome_at}
-use Rattle.redo_core.specs.Build.{rules_of}
+use Rattle.redo_core.specs.Build.{GivenView, rules_for}
 use Rattle.redo_build.specs.Schedule.{Entry, State, enqueued}
 use Rattle.redo_build.specs.inside.Standing.{AreStanding}
 use Rattle.redo_record.specs.declared.deps.Dep.{Dep}
@@ -22,7 +21,6 @@ use Rattle.redo_core.specs.declared.table.Table.{Table}
 use Rattle.redo_core.proofs.TableLemmas.{place-append, place-left, place-right}
 use Rattle.redo_core.proofs.NewlyReadyLemmas.{newly_ready-paths}
 use Rattle.redo_core.proofs.SortingLemmas.{sorted-ascend, shuffled-to, shuffled-from, shuffled-once}
-use Rattle.redo_step.specs.Limits.{LimitsView}
 
 queue-enqueued : (slots : List Slot) (ready newly_ready sorted : List ℕ) → ((k : ℕ) → IsPlace newly_ready k → IsPlace sorted k) → ((k : ℕ) → IsPlace sorted k → IsPlace newly_ready k) →
     IsQueue slots ready newly_ready → IsQueue slots (ready ++ sorted) []
@@ -41,20 +39,20 @@ queue-enqueued slots ready newly_ready sorted to from queue = record {
   once = tt;
 }
 
-module _ (tree : Tree) (limits : LimitsView) (request : List (List ℕ)) (t u : Table) (newly_ready : List ℕ) (table : IsTableOf tree limits t newly_ready)
-    (standing : AreStanding (rules_of tree limits) request (table_entries (rules_of tree limits) limits.targets t))
-    (watched : AllWatched (rules_of tree limits) limits.targets t.targets.keys t.slots.items []) (w : AreEnqueued t u newly_ready) where
+module _ (given : GivenView) (request : List (List ℕ)) (t u : Table) (newly_ready : List ℕ) (table : IsTableOf given t newly_ready)
+    (standing : AreStanding (rules_for given) request (table_entries (rules_for given) given.limits.targets t))
+    (watched : AllWatched (rules_for given) given.limits.targets t.targets.keys t.slots.items []) (w : AreEnqueued t u newly_ready) where
   abbrev r : Rules
-  r = rules_of tree limits
+  r = rules_for given
 
   distinct : AreDistinct t.targets.keys
   distinct =
       let P : List (List ℕ) → Type 0 = AreDistinct in
-      subst P (paths_of-slots r (outcome_at r limits.targets) t.targets.keys t.slots.items table.one_each) standing.distinct
+      subst P (paths_of-slots r (outcome_at r given.limits.targets) t.targets.keys t.slots.items table.one_each) standing.distinct
 
-  pub enqueued-table : IsTableOf tree limits u []
+  pub enqueued-table : IsTableOf given u []
   enqueued-table =
-      let raw : IsTable r tree limits t.targets.keys t.slots.items (t.ready.items ++ w.sorted) t.out [] = record {
+      let raw : IsTable r given t.targets.keys t.slots.items (t.ready.items ++ w.sorted) t.out [] = record {
         one_each = table.one_each;
         within_limit = table.within_limit;
         few = table.few;
@@ -66,15 +64,15 @@ module _ (tree : Tree) (limits : LimitsView) (request : List (List ℕ)) (t u : 
       } in
       rw (w.rest.0, w.rest.1, w.rest.2, w.queue) raw
 
-  pub enqueued-watched : AllWatched (rules_of tree limits) limits.targets u.targets.keys u.slots.items []
+  pub enqueued-watched : AllWatched (rules_for given) given.limits.targets u.targets.keys u.slots.items []
   enqueued-watched = rw (w.rest.0, w.rest.1) watched
 
-  pub enqueued-state : table_state (rules_of tree limits) limits.targets u ≡ enqueued (rules_of tree limits) (table_state (rules_of tree limits) limits.targets t)
+  pub enqueued-state : table_state (rules_for given) given.limits.targets u ≡ enqueued (rules_for given) (table_state (rules_for given) given.limits.targets t)
   enqueued-state =
-      let paths = newly_ready-paths tree limits t newly_ready w.sorted table distinct watched (sorted-ascend w.sorted w.ordered (shuffled-once newly_ready w.sorted w.shuffled table.queue.once))
+      let paths = newly_ready-paths given t newly_ready w.sorted table distinct watched (sorted-ascend w.sorted w.ordered (shuffled-once newly_ready w.sorted w.shuffled table.queue.once))
       (shuffled-from newly_ready w.sorted w.shuffled) (shuffled-to newly_ready w.sorted w.shuffled) in
-      let S : List (List ℕ) → State = λ qs. record { entries = table_entries r limits.targets t; ready = qs } in
-      let first : table_state r limits.targets u ≡ S (map (path_at t.targets.keys) (t.ready.items ++ w.sorted)) = rw (w.rest.0, w.rest.1, w.queue) refl in
+      let S : List (List ℕ) → State = λ qs. record { entries = table_entries r given.limits.targets t; ready = qs } in
+      let first : table_state r given.limits.targets u ≡ S (map (path_at t.targets.keys) (t.ready.items ++ w.sorted)) = rw (w.rest.0, w.rest.1, w.queue) refl in
       first ∙ ap S (map-append (path_at t.targets.keys) t.ready.items w.sorted ∙ ap (λ qs. map (path_at t.targets.keys) t.ready.items ++ qs) (sym paths))
 
 take-whole : (xs : List Dep) (n : ℕ) → length xs ≤ n → take n xs ≡ xs
@@ -94,10 +92,10 @@ map-same f g (x ∷ xs) h =
     ap (λ y. y ∷ map f xs) (h x (inl refl)) ∙ ap (λ ys. g x ∷ ys) rest
 
 -- the numbers left are looked at
-pub looked-put : (tree : Tree) (limits : LimitsView) (t u v : Table) (at : ℕ) (newly_ready newly_ready' pending : List ℕ) →
-    IsPutBackThere tree limits t u at newly_ready pending → IsTableOf tree limits v newly_ready' → AreLookedAt tree limits u v pending → IsPutBackThere tree limits t v at newly_ready' []
-looked-put tree limits t u v at newly_ready newly_ready' pending put table looked =
-    let P : List ℕ → Type 0 = λ xs. AllWatched (rules_of tree limits) limits.targets u.targets.keys u.slots.items xs in
+pub looked-put : (given : GivenView) (t u v : Table) (at : ℕ) (newly_ready newly_ready' pending : List ℕ) →
+    IsPutBackThere given t u at newly_ready pending → IsTableOf given v newly_ready' → AreLookedAt given u v pending → IsPutBackThere given t v at newly_ready' []
+looked-put given t u v at newly_ready newly_ready' pending put table looked =
+    let P : List ℕ → Type 0 = λ xs. AllWatched (rules_for given) given.limits.targets u.targets.keys u.slots.items xs in
     record {
       table = table;
       entries = looked.entries ∙ put.entries;
@@ -108,26 +106,26 @@ looked-put tree limits t u v at newly_ready newly_ready' pending put table looke
     }
 
 -- one number is looked at
-pub looked-one : (tree : Tree) (limits : LimitsView) (t u : Table) (at : ℕ) → IsLookedAt tree limits t u at → AreLookedAt tree limits t u (at ∷ [])
-looked-one tree limits t u at one = record { entries = one.entries; rest = one.rest; slots = one.slots; watched = one.watched }
+pub looked-one : (given : GivenView) (t u : Table) (at : ℕ) → IsLookedAt given t u at → AreLookedAt given t u (at ∷ [])
+looked-one given t u at one = record { entries = one.entries; rest = one.rest; slots = one.slots; watched = one.watched }
 
 -- all the steps together
-pub taken-in : (tree : Tree) (limits : LimitsView) (t u v : Table) (at : ℕ) (end : End) (newly_ready : List ℕ) (may : MayTakeIn tree limits t at end) →
-    IsPutBackThere tree limits t u at newly_ready [] → AreEnqueued u v newly_ready → IsTakenIn tree limits t v at
-taken-in tree limits t u v at end newly_ready may put released' =
-    let r = rules_of tree limits in
+pub taken-in : (given : GivenView) (t u v : Table) (at : ℕ) (end : End) (newly_ready : List ℕ) (may : MayTakeIn given t at end) →
+    IsPutBackThere given t u at newly_ready [] → AreEnqueued u v newly_ready → IsTakenIn given t v at
+taken-in given t u v at end newly_ready may put released' =
+    let r = rules_for given in
     let S : List Entry → Type 0 = AreStanding r may.request in
-    let standing = subst S (sym put.entries) (after-sound tree limits t at end may).standing in
+    let standing = subst S (sym put.entries) (after-sound given t at end may).standing in
     let T : List Entry → List (List ℕ) → State = λ xs ps. record { entries = xs; ready = ps } in
     let names : map (path_at u.targets.keys) u.ready.items ≡ map (path_at t.targets.keys) t.ready.items =
     (let one : map (path_at u.targets.keys) u.ready.items ≡ map (path_at u.targets.keys) t.ready.items = rw put.ready refl in
     one ∙ map-same (path_at u.targets.keys) (path_at t.targets.keys) t.ready.items (λ k m.
     let found = slice_get-from t.targets.keys k (omega (arith, may.table.one_each, may.table.queue.ready_below k m)) in
     rw (put.keys_kept k found.0 found.1, found.1) refl)) in
-    let before : table_state r limits.targets u ≡ T (moved tree limits t at end may) (map (path_at t.targets.keys) t.ready.items) =
-    ap (λ xs. T xs (map (path_at u.targets.keys) u.ready.items)) (put.entries ∙ after-entries tree limits t at end may) ∙ ap (T (moved tree limits t at end may)) names in
+    let before : table_state r given.limits.targets u ≡ T (moved given t at end may) (map (path_at t.targets.keys) t.ready.items) =
+    ap (λ xs. T xs (map (path_at u.targets.keys) u.ready.items)) (put.entries ∙ after-entries given t at end may) ∙ ap (T (moved given t at end may)) names in
     record {
-      table = enqueued-table tree limits may.request u v newly_ready put.table standing put.watched released';
-      watched = enqueued-watched tree limits may.request u v newly_ready put.table standing put.watched released';
-      state = enqueued-state tree limits may.request u v newly_ready put.table standing put.watched released' ∙ ap (enqueued r) before ∙ sym (after-state tree limits t at end may);
+      table = enqueued-table given may.request u v newly_ready put.table standing put.watched released';
+      watched = enqueued-watched given may.request u v newly_ready put.table standing put.watched released';
+      state = enqueued-state given may.request u v newly_ready put.table standing put.watched released' ∙ ap (enqueued r) before ∙ sym (after-state given t at end may);
     }

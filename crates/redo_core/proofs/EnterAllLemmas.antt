@@ -3,11 +3,10 @@ use Rattle.std.proofs.Common.{◌≡◌, ℕ, zero, suc, ◌+◌, ◌<◌, Bool,
 use Rattle.std.proofs.Common.{take, drop, take-append-drop, slice_get, filter, filter_map, refl, sym, ap, subst, ◌∙◌}
 use Rattle.std.proofs.Common.{arith}
 use Rattle.std.proofs.lemmas.List.Elements.{filter_map-append, filter-append}
-use Rattle.redo_tree.specs.Tree.{Tree}
 use Rattle.redo_record.specs.declared.deps.Dep.{Dep}
 use Rattle.redo_record.specs.Paths.{IsAmong, is_among}
 use Rattle.redo_build.specs.Rules.{Rules, operands, changed}
-use Rattle.redo_core.specs.Build.{rules_of}
+use Rattle.redo_core.specs.Build.{GivenView, rules_for}
 use Rattle.redo_build.specs.Schedule.{Entry, paths_of, entered, new_entry}
 use Rattle.redo_core.specs.inside.Slots.{table_entries, IsTableOf, AreEnteredInto}
 use Rattle.redo_core.specs.declared.table.Table.{Table}
@@ -15,7 +14,6 @@ use Rattle.redo_core.specs.inside.Works.{IsOperand}
 use Rattle.redo_build.proofs.PathLemmas.{is_among-from}
 use Rattle.redo_core.proofs.TableSteps.{operand-entry, operand-path}
 use Rattle.redo_build.proofs.SeenLemmas.{entered-longer}
-use Rattle.redo_step.specs.Limits.{LimitsView}
 
 pub entered-append : (r : Rules) (es : List Entry) (ps qs : List (List ℕ)) → entered r es (ps ++ qs) ≡ entered r (entered r es ps) qs
 entered-append r es [] qs = refl
@@ -76,19 +74,19 @@ too-many r es mid limit ds i d get is at many =
     ap (entered r es) both ∙ entered-append r es (operands r (take (i + 1) ds)) (operands r (drop (i + 1) ds)) in
     omega (arith, many, ap length so_far, ap length all, entered-longer r (entered r es (operands r (take (i + 1) ds))) (operands r (drop (i + 1) ds)))
 
-module _ (tree : Tree) (limits : LimitsView) where
+module _ (given : GivenView) where
   abbrev r : Rules
-  r = rules_of tree limits
+  r = rules_for given
 
-  pub enter-none : (t : Table) (newly_ready : List ℕ) → IsTableOf tree limits t newly_ready → AreEnteredInto tree limits t t newly_ready []
+  pub enter-none : (t : Table) (newly_ready : List ℕ) → IsTableOf given t newly_ready → AreEnteredInto given t t newly_ready []
   enter-none t newly_ready table = record { table = table; entries = refl; rest = (refl, refl); keys_kept = λ k p h. h; slots_kept = λ k slot h. h; watched = λ pending all. all }
 
   -- some paths, and then others
-  pub enter-more : (t u v : Table) (newly_ready newly_ready' : List ℕ) (ps qs : List (List ℕ)) → AreEnteredInto tree limits t u newly_ready ps → AreEnteredInto tree limits u v newly_ready' qs →
-      AreEnteredInto tree limits t v newly_ready' (ps ++ qs)
+  pub enter-more : (t u v : Table) (newly_ready newly_ready' : List ℕ) (ps qs : List (List ℕ)) → AreEnteredInto given t u newly_ready ps → AreEnteredInto given u v newly_ready' qs →
+      AreEnteredInto given t v newly_ready' (ps ++ qs)
   enter-more t u v newly_ready newly_ready' ps qs one two = record {
     table = two.table;
-    entries = two.entries ∙ ap (λ es. entered (rules_of tree limits) es qs) one.entries ∙ sym (entered-append (rules_of tree limits) (table_entries (rules_of tree limits) limits.targets t) ps qs);
+    entries = two.entries ∙ ap (λ es. entered (rules_for given) es qs) one.entries ∙ sym (entered-append (rules_for given) (table_entries (rules_for given) given.limits.targets t) ps qs);
     rest = (two.rest.0 ∙ one.rest.0, two.rest.1 ∙ one.rest.1);
     keys_kept = λ k p h. two.keys_kept k p (one.keys_kept k p h);
     slots_kept = λ k slot h. two.slots_kept k slot (one.slots_kept k slot h);

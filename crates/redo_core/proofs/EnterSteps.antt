@@ -3,11 +3,10 @@ use Rattle.std.proofs.Common.{slice_get, ◌≡◌, ℕ, zero, suc, ◌+◌, ◌
 use Rattle.std.proofs.Common.{◌∷◌, ◌++◌, length, length-append, append-nil, filter, Some, None, refl, sym, ap, subst}
 use Rattle.std.proofs.Common.{◌∙◌, arith}
 use Rattle.std.proofs.lemmas.Bool.{cases_Bool, both_ways}
-use Rattle.redo_tree.specs.Tree.{Tree}
 use Rattle.redo_record.specs.Paths.{IsAmong, is_among}
 use Rattle.redo_build.specs.Rules.{Ask, Rules, Extends, operands}
 use Rattle.redo_build.specs.Outcomes.{outcome_at}
-use Rattle.redo_core.specs.Build.{rules_of}
+use Rattle.redo_core.specs.Build.{GivenView, rules_for}
 use Rattle.redo_build.specs.Schedule.{Entry, outcomes_of, paths_of, entered, new_entry, nothing_known}
 use Rattle.redo_core.specs.inside.Slots.{table_entries, entries_from, slot_entries, slot_entry, stage_deps}
 use Rattle.redo_core.specs.inside.Slots.{stage_outcome, path_at, is_stage_out, is_stage_ready, is_stage_waiting, Fits}
@@ -23,10 +22,9 @@ use Rattle.redo_build.proofs.SeenLemmas.{outcomes_of-entry, outcomes_of-at, entr
 use Rattle.redo_core.proofs.SlotLemmas.{paths_of-slots, slice_get-below_some, slice_get-from}
 use Rattle.redo_core.proofs.TableLemmas.{Fits-more, place-append, place-left, place-right}
 use Rattle.redo_core.proofs.TableSteps.{once-push}
-use Rattle.redo_core.proofs.LawfulTreeLemmas.{rules_lawful}
+use Rattle.redo_core.proofs.LawfulTreeLemmas.{lawful_for}
 use Rattle.redo_record.specs.declared.deps.Dep.{Dep}
 use Rattle.redo_record.specs.declared.outcome.Outcome.{Outcome}
-use Rattle.redo_step.specs.Limits.{LimitsView}
 
 get-push_old : {A : Type 0} (xs : List A) (x y : A) (k : ℕ) → slice_get xs k ≡ Some y → slice_get (xs ++ x ∷ []) k ≡ Some y
 get-push_old [] x y k h = cc
@@ -57,26 +55,26 @@ entry-unruled : (r : Rules) (p : List ℕ) (o : Outcome) (ds : List Dep) → r.h
     new_entry r p ≡ record { path = p; turn = 0; deps = ds; outcome = Some o; is_out = false }
 entry-unruled r p o ds h is = rw (h, is) refl
 
-begun-entry : (tree : Tree) (limits : LimitsView) (a : Ask) (p : List ℕ) (stage : Stage) → IsBegun tree limits p stage →
-    record { path = p; turn = 0; deps = stage_deps (rules_of tree limits) a p 0 stage; outcome = stage_outcome stage; is_out = is_stage_out stage } ≡ new_entry (rules_of tree limits) p
-begun-entry tree limits a p (Waiting parked) h = absurd h
-begun-entry tree limits a p (Ready work) h =
+begun-entry : (given : GivenView) (a : Ask) (p : List ℕ) (stage : Stage) → IsBegun given p stage →
+    record { path = p; turn = 0; deps = stage_deps (rules_for given) a p 0 stage; outcome = stage_outcome stage; is_out = is_stage_out stage } ≡ new_entry (rules_for given) p
+begun-entry given a p (Waiting parked) h = absurd h
+begun-entry given a p (Ready work) h =
     let E : List Dep → Entry = λ ds. record { path = p; turn = 0; deps = ds; outcome = None; is_out = false } in
-    ap E h.1 ∙ sym (entry-ruled (rules_of tree limits) p h.2)
-begun-entry tree limits a p Out h = absurd h
-begun-entry tree limits a p (Decided fact) h = sym (entry-unruled (rules_of tree limits) p _ _ h.3 h.4)
+    ap E h.1 ∙ sym (entry-ruled (rules_for given) p h.2)
+begun-entry given a p Out h = absurd h
+begun-entry given a p (Decided fact) h = sym (entry-unruled (rules_for given) p _ _ h.2 h.3)
 
-begun-fits : (tree : Tree) (limits : LimitsView) (r : Rules) (a : Ask) (p : List ℕ) (stage : Stage) → IsBegun tree limits p stage → Fits r a tree limits p 0 stage
-begun-fits tree limits r a p (Waiting parked) h = absurd h
-begun-fits tree limits r a p (Ready work) h = (h.0, λ q m none. let P : List Dep → Type 0 = λ ds. IsAmong (operands r ds) q in absurd (subst P h.1 m))
-begun-fits tree limits r a p Out h = absurd h
-begun-fits tree limits r a p (Decided fact) h = (h.0, h.1, h.2)
+begun-fits : (given : GivenView) (r : Rules) (a : Ask) (p : List ℕ) (stage : Stage) → IsBegun given p stage → Fits r a given p 0 stage
+begun-fits given r a p (Waiting parked) h = absurd h
+begun-fits given r a p (Ready work) h = (h.0, λ q m none. let P : List Dep → Type 0 = λ ds. IsAmong (operands r ds) q in absurd (subst P h.1 m))
+begun-fits given r a p Out h = absurd h
+begun-fits given r a p (Decided fact) h = (h.0, h.1)
 
-begun-inside : (tree : Tree) (limits : LimitsView) (p : List ℕ) (stage : Stage) → IsBegun tree limits p stage → (is_stage_out stage ≡ false) × (is_stage_waiting stage ≡ false)
-begun-inside tree limits p (Waiting parked) h = absurd h
-begun-inside tree limits p (Ready work) h = (refl, refl)
-begun-inside tree limits p Out h = absurd h
-begun-inside tree limits p (Decided fact) h = (refl, refl)
+begun-inside : (given : GivenView) (p : List ℕ) (stage : Stage) → IsBegun given p stage → (is_stage_out stage ≡ false) × (is_stage_waiting stage ≡ false)
+begun-inside given p (Waiting parked) h = absurd h
+begun-inside given p (Ready work) h = (refl, refl)
+begun-inside given p Out h = absurd h
+begun-inside given p (Decided fact) h = (refl, refl)
 
 count-push : (xs : List Slot) (x : Slot) → is_stage_out x.stage ≡ false →
     length (filter (λ slot. is_stage_out slot.stage) (xs ++ x ∷ [])) ≡ length (filter (λ slot. is_stage_out slot.stage) xs)
@@ -152,61 +150,61 @@ slots-length r a [] (slot ∷ slots) h = absurd (omega arith)
 slots-length r a (p ∷ ps) [] h = refl
 slots-length r a (p ∷ ps) (slot ∷ slots) h = ap suc (slots-length r a ps slots (omega arith))
 
-module _ (tree : Tree) (limits : LimitsView) (t u : Table) (newly_ready newly_ready' : List ℕ) (p : List ℕ) (table : IsTableOf tree limits t newly_ready)
-    (room : length t.slots.items < limits.targets) (out : IsAmong t.targets.keys p → ⊥) (w : IsPushed tree limits t u newly_ready newly_ready' p) where
+module _ (given : GivenView) (t u : Table) (newly_ready newly_ready' : List ℕ) (p : List ℕ) (table : IsTableOf given t newly_ready)
+    (room : length t.slots.items < given.limits.targets) (out : IsAmong t.targets.keys p → ⊥) (w : IsPushed given t u newly_ready newly_ready' p) where
   abbrev r : Rules
-  r = rules_of tree limits
+  r = rules_for given
 
   abbrev a : Ask
-  a = outcome_at (rules_of tree limits) limits.targets
+  a = outcome_at (rules_for given) given.limits.targets
 
   abbrev es : List Entry
-  es = table_entries (rules_of tree limits) limits.targets t
+  es = table_entries (rules_for given) given.limits.targets t
 
-  begun : IsBegun tree limits p w.new.stage
+  begun : IsBegun given p w.new.stage
   begun = w.begun
 
-  new-entry : slot_entry (rules_of tree limits) (outcome_at (rules_of tree limits) limits.targets) p w.new ≡ new_entry (rules_of tree limits) p
+  new-entry : slot_entry (rules_for given) (outcome_at (rules_for given) given.limits.targets) p w.new ≡ new_entry (rules_for given) p
   new-entry =
       let P : ℕ → Type 0 = λ n. record { path = p; turn = n; deps = stage_deps r a p n w.new.stage; outcome = stage_outcome w.new.stage; is_out = is_stage_out w.new.stage } ≡ new_entry r p in
-      subst P (sym w.turn) (begun-entry tree limits a p w.new.stage w.begun)
+      subst P (sym w.turn) (begun-entry given a p w.new.stage w.begun)
 
-  pushed : entries_from (rules_of tree limits) limits.targets (t.targets.keys ++ p ∷ []) (t.slots.items ++ w.new ∷ []) ≡ entered (rules_of tree limits) (table_entries (rules_of tree limits) limits.targets t) (p ∷ [])
+  pushed : entries_from (rules_for given) given.limits.targets (t.targets.keys ++ p ∷ []) (t.slots.items ++ w.new ∷ []) ≡ entered (rules_for given) (table_entries (rules_for given) given.limits.targets t) (p ∷ [])
   pushed =
       let raw = slot_entries-push r a t.targets.keys t.slots.items p w.new table.one_each in
       let no : is_among (paths_of es) p ≡ false = (let P : List (List ℕ) → Type 0 = λ xs. is_among xs p ≡ false in
       subst P (sym (paths_of-slots r a t.targets.keys t.slots.items table.one_each)) (not-among t.targets.keys p out)) in
       raw ∙ ap (λ e. es ++ e ∷ []) new-entry ∙ sym (rw no refl)
 
-  more : Extends (rules_of tree limits) (outcomes_of (table_entries (rules_of tree limits) limits.targets t))
-      (outcomes_of (entries_from (rules_of tree limits) limits.targets (t.targets.keys ++ p ∷ []) (t.slots.items ++ w.new ∷ [])))
+  more : Extends (rules_for given) (outcomes_of (table_entries (rules_for given) given.limits.targets t))
+      (outcomes_of (entries_from (rules_for given) given.limits.targets (t.targets.keys ++ p ∷ []) (t.slots.items ++ w.new ∷ [])))
   more =
       let P : List Entry → Type 0 = λ xs. Extends r (outcomes_of es) (outcomes_of xs) in
       subst P (sym pushed) (λ q o s h.
       let at = outcomes_of-entry es q o h in
       outcomes_of-at (entered r es (p ∷ [])) q at.0 (entry_of-entered_old r es (p ∷ []) q at.0 at.1) ∙ at.2)
 
-  fits-push : AllFit (rules_of tree limits) limits.targets tree limits (t.targets.keys ++ p ∷ []) (t.slots.items ++ w.new ∷ [])
+  fits-push : AllFit (rules_for given) given.limits.targets given (t.targets.keys ++ p ∷ []) (t.slots.items ++ w.new ∷ [])
   fits-push k x g =
-      let b = outcomes_of (entries_from (rules_of tree limits) limits.targets (t.targets.keys ++ p ∷ []) (t.slots.items ++ w.new ∷ [])) in
+      let b = outcomes_of (entries_from (rules_for given) given.limits.targets (t.targets.keys ++ p ∷ []) (t.slots.items ++ w.new ∷ [])) in
       elim (get-push_cases t.slots.items w.new x k g) [
         | inl here ↦
             let path : path_at (t.targets.keys ++ p ∷ []) k ≡ p = ap (path_at (t.targets.keys ++ p ∷ [])) (here.0 ∙ table.one_each) ∙ path_at-end t.targets.keys p in
-            let P : List ℕ → Type 0 = λ q. Fits r b tree limits q x.turn x.stage in
-            let Q : Slot → Type 0 = λ y. Fits r b tree limits p y.turn y.stage in
-            let R : ℕ → Type 0 = λ n. Fits r b tree limits p n w.new.stage in
-            subst P (sym path) (subst Q here.1 (subst R (sym w.turn) (begun-fits tree limits r b p w.new.stage w.begun)))
+            let P : List ℕ → Type 0 = λ q. Fits r b given q x.turn x.stage in
+            let Q : Slot → Type 0 = λ y. Fits r b given p y.turn y.stage in
+            let R : ℕ → Type 0 = λ n. Fits r b given p n w.new.stage in
+            subst P (sym path) (subst Q here.1 (subst R (sym w.turn) (begun-fits given r b p w.new.stage w.begun)))
         | inr old ↦
             let path = path_at-old t.targets.keys p k (omega (arith, slice_get-below_some t.slots.items k x old, table.one_each)) in
-            let P : List ℕ → Type 0 = λ q. Fits r b tree limits q x.turn x.stage in
-            subst P (sym path) (Fits-more r (rules_lawful tree limits) (outcomes_of es) b tree limits (path_at t.targets.keys k) x.turn x.stage more (table.fits k x old))
+            let P : List ℕ → Type 0 = λ q. Fits r b given q x.turn x.stage in
+            subst P (sym path) (Fits-more r (lawful_for given) (outcomes_of es) b given (path_at t.targets.keys k) x.turn x.stage more (table.fits k x old))
       ]
 
-  numbered-push : AllNumbered (rules_of tree limits) (t.targets.keys ++ p ∷ []) (t.slots.items ++ w.new ∷ [])
+  numbered-push : AllNumbered (rules_for given) (t.targets.keys ++ p ∷ []) (t.slots.items ++ w.new ∷ [])
   numbered-push k x g = elim (get-push_cases t.slots.items w.new x k g) [
     | inl here ↦
         let P : Slot → Type 0 = λ y. IsNumbered r (t.targets.keys ++ p ∷ []) y.stage in
-        subst P here.1 (numbered-still r (t.targets.keys ++ p ∷ []) w.new.stage (begun-inside tree limits p w.new.stage w.begun).1)
+        subst P here.1 (numbered-still r (t.targets.keys ++ p ∷ []) w.new.stage (begun-inside given p w.new.stage w.begun).1)
     | inr old ↦ numbered-kept t.targets.keys (t.targets.keys ++ p ∷ []) (λ j q h. get-push_old t.targets.keys p q j h) r x.stage (table.numbered k x old)
   ]
 
@@ -220,7 +218,7 @@ module _ (tree : Tree) (limits : LimitsView) (t u : Table) (newly_ready newly_re
         | inr old ↦ omega (arith, table.watchers_below i k x old m, len)
       ]
 
-  table-push : IsTable (rules_of tree limits) tree limits (t.targets.keys ++ p ∷ []) (t.slots.items ++ w.new ∷ []) t.ready.items t.out
+  table-push : IsTable (rules_for given) given (t.targets.keys ++ p ∷ []) (t.slots.items ++ w.new ∷ []) t.ready.items t.out
       (newly_ready ++ cond (is_stage_ready w.new.stage) (length t.slots.items ∷ []) [])
   table-push =
       let len : length (t.slots.items ++ w.new ∷ []) ≡ length t.slots.items + 1 = length-append t.slots.items (w.new ∷ []) in
@@ -229,17 +227,17 @@ module _ (tree : Tree) (limits : LimitsView) (t u : Table) (newly_ready newly_re
         one_each = omega (arith, len, keys, table.one_each);
         within_limit = omega (arith, len, room);
         few = table.few;
-        out_counted = table.out_counted ∙ sym (count-push t.slots.items w.new (begun-inside tree limits p w.new.stage w.begun).0);
+        out_counted = table.out_counted ∙ sym (count-push t.slots.items w.new (begun-inside given p w.new.stage w.begun).0);
         fits = fits-push;
         numbered = numbered-push;
         queue = queue-push t.slots.items t.ready.items newly_ready w.new table.queue;
         watchers_below = below-push;
       }
 
-  watched-push : (pending : List ℕ) → AllWatched (rules_of tree limits) limits.targets t.targets.keys t.slots.items pending →
-      AllWatched (rules_of tree limits) limits.targets (t.targets.keys ++ p ∷ []) (t.slots.items ++ w.new ∷ []) pending
+  watched-push : (pending : List ℕ) → AllWatched (rules_for given) given.limits.targets t.targets.keys t.slots.items pending →
+      AllWatched (rules_for given) given.limits.targets (t.targets.keys ++ p ∷ []) (t.slots.items ++ w.new ∷ []) pending
   watched-push pending all k x g m = elim (get-push_cases t.slots.items w.new x k g) [
-    | inl here ↦ absurd (both_ways _ (begun-inside tree limits p w.new.stage w.begun).1 (ap (λ (y : Slot). is_stage_waiting y.stage) here.1 ∙ m))
+    | inl here ↦ absurd (both_ways _ (begun-inside given p w.new.stage w.begun).1 (ap (λ (y : Slot). is_stage_waiting y.stage) here.1 ∙ m))
     | inr old ↦
         let path = path_at-old t.targets.keys p k (omega (arith, slice_get-below_some t.slots.items k x old, table.one_each)) in
         elim (all k x old m) [
@@ -259,7 +257,7 @@ module _ (tree : Tree) (limits : LimitsView) (t u : Table) (newly_ready newly_re
         ]
   ]
 
-  pub entered-new : IsEnteredInto tree limits t u newly_ready' p
+  pub entered-new : IsEnteredInto given t u newly_ready' p
   entered-new = record {
     table = rw (w.keys, w.slots, w.rest.0, w.rest.1, w.newly_ready_is) table-push;
     entries = rw (w.keys, w.slots) pushed;
@@ -276,14 +274,14 @@ module _ (tree : Tree) (limits : LimitsView) (t u : Table) (newly_ready newly_re
       rw w.keys (subst P (sym (end ∙ table.one_each)) (get-push_end t.targets.keys p))
 
 -- a path that is there already
-pub entered-old : (tree : Tree) (limits : LimitsView) (t : Table) (newly_ready : List ℕ) (p : List ℕ) → IsTableOf tree limits t newly_ready → IsAmong t.targets.keys p →
-    IsEnteredInto tree limits t t newly_ready p
-entered-old tree limits t newly_ready p table m = record {
+pub entered-old : (given : GivenView) (t : Table) (newly_ready : List ℕ) (p : List ℕ) → IsTableOf given t newly_ready → IsAmong t.targets.keys p →
+    IsEnteredInto given t t newly_ready p
+entered-old given t newly_ready p table m = record {
   table = table;
   entries =
       let P : List (List ℕ) → Type 0 = λ xs. is_among xs p ≡ true in
-      let yes' : is_among (paths_of (table_entries (rules_of tree limits) limits.targets t)) p ≡ true =
-      subst P (sym (paths_of-slots (rules_of tree limits) (outcome_at (rules_of tree limits) limits.targets) t.targets.keys t.slots.items table.one_each)) (is_among-from t.targets.keys p m) in
+      let yes' : is_among (paths_of (table_entries (rules_for given) given.limits.targets t)) p ≡ true =
+      subst P (sym (paths_of-slots (rules_for given) (outcome_at (rules_for given) given.limits.targets) t.targets.keys t.slots.items table.one_each)) (is_among-from t.targets.keys p m) in
       sym (rw yes' refl);
   rest = (refl, refl);
   keys_kept = λ k q h. h;
@@ -291,40 +289,40 @@ entered-old tree limits t newly_ready p table m = record {
   watched = λ pending all. all;
 }
 
-pub full : (tree : Tree) (limits : LimitsView) (t : Table) (newly_ready : List ℕ) (p : List ℕ) → IsTableOf tree limits t newly_ready → (IsAmong t.targets.keys p → ⊥) →
-    limits.targets ≤ length t.slots.items → IsFull (rules_of tree limits) limits.targets (table_entries (rules_of tree limits) limits.targets t) p
-full tree limits t newly_ready p table out h =
-    let a = outcome_at (rules_of tree limits) limits.targets in
-    let es = table_entries (rules_of tree limits) limits.targets t in
+pub full : (given : GivenView) (t : Table) (newly_ready : List ℕ) (p : List ℕ) → IsTableOf given t newly_ready → (IsAmong t.targets.keys p → ⊥) →
+    given.limits.targets ≤ length t.slots.items → IsFull (rules_for given) given.limits.targets (table_entries (rules_for given) given.limits.targets t) p
+full given t newly_ready p table out h =
+    let a = outcome_at (rules_for given) given.limits.targets in
+    let es = table_entries (rules_for given) given.limits.targets t in
     let P : List (List ℕ) → Type 0 = λ xs. is_among xs p ≡ false in
-    let no : is_among (paths_of es) p ≡ false = subst P (sym (paths_of-slots (rules_of tree limits) a t.targets.keys t.slots.items table.one_each)) (not-among t.targets.keys p out) in
+    let no : is_among (paths_of es) p ≡ false = subst P (sym (paths_of-slots (rules_for given) a t.targets.keys t.slots.items table.one_each)) (not-among t.targets.keys p out) in
     rw no (omega (
       arith,
       h,
-      length-append es (new_entry (rules_of tree limits) p ∷ []),
-      slots-length (rules_of tree limits) a t.targets.keys t.slots.items table.one_each,
+      length-append es (new_entry (rules_for given) p ∷ []),
+      slots-length (rules_for given) a t.targets.keys t.slots.items table.one_each,
     ))
 
 -- what was entered is within the limit
-pub entered-room : (tree : Tree) (limits : LimitsView) (t u : Table) (newly_ready : List ℕ) (p : List ℕ) → IsEnteredInto tree limits t u newly_ready p →
-    IsFull (rules_of tree limits) limits.targets (table_entries (rules_of tree limits) limits.targets t) p → ⊥
-entered-room tree limits t u newly_ready p entered many =
-    let r = rules_of tree limits in
+pub entered-room : (given : GivenView) (t u : Table) (newly_ready : List ℕ) (p : List ℕ) → IsEnteredInto given t u newly_ready p →
+    IsFull (rules_for given) given.limits.targets (table_entries (rules_for given) given.limits.targets t) p → ⊥
+entered-room given t u newly_ready p entered many =
+    let r = rules_for given in
     omega (
       arith,
       many,
       ap length entered.entries,
-      slots-length r (outcome_at r limits.targets) u.targets.keys u.slots.items entered.table.one_each,
+      slots-length r (outcome_at r given.limits.targets) u.targets.keys u.slots.items entered.table.one_each,
       entered.table.within_limit,
     )
 
 -- where a slot is free, one more path is within the limit
-pub room-left : (tree : Tree) (limits : LimitsView) (t : Table) (newly_ready : List ℕ) (p : List ℕ) → IsTableOf tree limits t newly_ready → length t.slots.items < limits.targets →
-    IsFull (rules_of tree limits) limits.targets (table_entries (rules_of tree limits) limits.targets t) p → ⊥
-room-left tree limits t newly_ready p table room many =
-    let r = rules_of tree limits in
-    let es = table_entries (rules_of tree limits) limits.targets t in
-    let len = slots-length r (outcome_at r limits.targets) t.targets.keys t.slots.items table.one_each in
+pub room-left : (given : GivenView) (t : Table) (newly_ready : List ℕ) (p : List ℕ) → IsTableOf given t newly_ready → length t.slots.items < given.limits.targets →
+    IsFull (rules_for given) given.limits.targets (table_entries (rules_for given) given.limits.targets t) p → ⊥
+room-left given t newly_ready p table room many =
+    let r = rules_for given in
+    let es = table_entries (rules_for given) given.limits.targets t in
+    let len = slots-length r (outcome_at r given.limits.targets) t.targets.keys t.slots.items table.one_each in
     elim (cases_Bool (is_among (paths_of es) p)) [
       | inl old ↦ let few = rw old at many in omega (arith, few, len, room)
       | inr new ↦ let few = rw new at many in omega (arith, few, len, room, length-append es (new_entry r p ∷ []))

@@ -16,7 +16,7 @@ use Rattle.redo_core.specs.declared.board.Board.TheInside.{Inside}
 use Rattle.redo_core.specs.declared.table.Table.{Table}
 use Rattle.redo_core.specs.declared.table.Stage.TheVariants.{Out}
 use Rattle.redo_core.specs.declared.work.End.{End}
-use Rattle.redo_core.proofs.LawfulTreeLemmas.{rules_lawful}
+use Rattle.redo_core.proofs.LawfulTreeLemmas.{lawful_for}
 use Rattle.redo_build.proofs.SoundLemmas.{happens-sound}
 use Rattle.redo_build.proofs.QuietLemmas.{is_part}
 use Rattle.redo_core.proofs.SlotLemmas.{entry_of-slots}
@@ -27,21 +27,21 @@ module _ (b : Inside) (kept : IsKept b) (target : List ℕ) (turn at : ℕ) (o :
   path-is : path_at b.table.targets.keys at ≡ target
   path-is = rw o.path refl
 
-  entry-out : entry_of (state_of b).entries target ≡ Some (slot_entry (rules_inside b) (outcome_at (rules_inside b) b.limits.targets) target o.slot)
-  entry-out = entry_of-slots (rules_inside b) (outcome_at (rules_inside b) b.limits.targets) b.table.targets.keys b.table.slots.items at target o.slot (distinct-inside b kept) o.path o.there
+  entry-out : entry_of (state_of b).entries target ≡ Some (slot_entry (rules_inside b) (outcome_at (rules_inside b) (arc_value b.given).limits.targets) target o.slot)
+  entry-out = entry_of-slots (rules_inside b) (outcome_at (rules_inside b) (arc_value b.given).limits.targets) b.table.targets.keys b.table.slots.items at target o.slot (distinct-inside b kept) o.path o.there
 
   pub open-out : IsOutAt (state_of b) target turn
   open-out = record {
-    entry = slot_entry (rules_inside b) (outcome_at (rules_inside b) b.limits.targets) target o.slot;
+    entry = slot_entry (rules_inside b) (outcome_at (rules_inside b) (arc_value b.given).limits.targets) target o.slot;
     at = entry-out;
     is_out = ap is_stage_out o.is_out;
     at_turn = o.at_turn;
   }
 
-  pub may-take : (end : End) → IsEndAt (arc_value b.tree) b.limits target turn end → MayTakeIn (arc_value b.tree) b.limits b.table at end
+  pub may-take : (end : End) → IsEndAt (arc_value b.given) target turn end → MayTakeIn (arc_value b.given) b.table at end
   may-take end is =
-      let P : List ℕ → Type 0 = λ p. IsEndAt (arc_value b.tree) b.limits p o.slot.turn end in
-      let Q : ℕ → Type 0 = λ n. IsEndAt (arc_value b.tree) b.limits target n end in
+      let P : List ℕ → Type 0 = λ p. IsEndAt (arc_value b.given) p o.slot.turn end in
+      let Q : ℕ → Type 0 = λ n. IsEndAt (arc_value b.given) target n end in
       record {
         request = b.request.items;
         reached = kept.reached;
@@ -53,13 +53,13 @@ module _ (b : Inside) (kept : IsKept b) (target : List ℕ) (turn at : ℕ) (o :
         is_end = subst P (sym path-is) (subst Q (sym o.at_turn) is);
       }
 
-  pub after-is : state_after (arc_value b.tree) b.limits b.table at ≡ happens (rules_inside b) (state_of b) (Hand_in target turn)
+  pub after-is : state_after (arc_value b.given) b.table at ≡ happens (rules_inside b) (state_of b) (Hand_in target turn)
   after-is = let H : List ℕ → State = λ p. happens (rules_inside b) (state_of b) (Hand_in p turn) in ap H path-is
 
-  pub taken-state : (u : Table) → IsTakenIn (arc_value b.tree) b.limits b.table u at → state_of (record b { table = u }) ≡ happens (rules_inside b) (state_of b) (Hand_in target turn)
+  pub taken-state : (u : Table) → IsTakenIn (arc_value b.given) b.table u at → state_of (record b { table = u }) ≡ happens (rules_inside b) (state_of b) (Hand_in target turn)
   taken-state u taken = taken.state ∙ after-is
 
-  pub taken-kept : (u : Table) → IsTakenIn (arc_value b.tree) b.limits b.table u at → IsKept (record b { table = u })
+  pub taken-kept : (u : Table) → IsTakenIn (arc_value b.given) b.table u at → IsKept (record b { table = u })
   taken-kept u taken =
       let P : State → Type 0 = IsReached (rules_inside b) b.request.items in
       record {
@@ -68,18 +68,18 @@ module _ (b : Inside) (kept : IsKept b) (target : List ℕ) (turn at : ℕ) (o :
         watched = taken.watched;
       }
 
-  pub too-many-after : b.limits.targets < length (state_after (arc_value b.tree) b.limits b.table at).entries → IsTooMany (rules_inside b) b.request.items b.limits.targets
+  pub too-many-after : (arc_value b.given).limits.targets < length (state_after (arc_value b.given) b.table at).entries → IsTooMany (rules_inside b) b.request.items (arc_value b.given).limits.targets
   too-many-after many =
-      let lawful = rules_lawful (arc_value b.tree) b.limits in
+      let lawful = lawful_for (arc_value b.given) in
       let sound = happens-sound (rules_inside b) lawful b.request.items (state_of b) (Hand_in target turn) (sound-inside b kept) open-out in
-      let part = is_part (rules_inside b) lawful b.request.items (happens (rules_inside b) (state_of b) (Hand_in target turn)) sound b.limits.targets in
-      let S : State → Type 0 = λ s. b.limits.targets < length s.entries in
+      let part = is_part (rules_inside b) lawful b.request.items (happens (rules_inside b) (state_of b) (Hand_in target turn)) sound (arc_value b.given).limits.targets in
+      let S : State → Type 0 = λ s. (arc_value b.given).limits.targets < length s.entries in
       part.too_many (subst S after-is many)
 
 -- where no slot is out for a piece, its target isn't out
 pub stranger : (b : Inside) (kept : IsKept b) (target : List ℕ) (turn : ℕ) → ((at : ℕ) → IsOutSlotAt b.table target turn at → ⊥) → IsOutAt (state_of b) target turn → ⊥
 stranger b kept target turn none out =
-    let found = slot-of-path (rules_inside b) (outcome_at (rules_inside b) b.limits.targets) b.table.targets.keys b.table.slots.items target out.entry out.at in
+    let found = slot-of-path (rules_inside b) (outcome_at (rules_inside b) (arc_value b.given).limits.targets) b.table.targets.keys b.table.slots.items target out.entry out.at in
     none found.0 (record {
       slot = found.1;
       path = found.2;
@@ -100,6 +100,6 @@ none-stopped (Some s) h = absurd (h s refl)
 
 -- what a board that ran answers once it has stopped
 pub refused-after : (old new : BoardView) (piece : PieceView) (stop : Stop) → IsOutAt old.state piece.target piece.turn → IsSameBuild old new → new.stopped ≡ Some stop →
-    (stop ≡ TooMany → IsTooMany (rules_on old) old.request old.limits.targets) → RefusedRunning old new piece (fault_of stop)
+    (stop ≡ TooMany → IsTooMany (rules_on old) old.request old.given.limits.targets) → RefusedRunning old new piece (fault_of stop)
 refused-after old new piece TooMany out same is many = (same, is, many refl, out)
 refused-after old new piece Memory out same is many = (same, is, out)

@@ -2,11 +2,10 @@
 use Rattle.std.proofs.Common.{slice_get, slice_set, ◌≡◌, ℕ, ◌<◌, ◌≤◌, inl, inr, ◌⊎◌, List, ◌∷◌, ◌++◌, length}
 use Rattle.std.proofs.Common.{length-set, true, false, Some, None, refl, sym, ap, subst, ◌∙◌, arith}
 use Rattle.std.proofs.lemmas.Bool.{cases_lt}
-use Rattle.redo_tree.specs.Tree.{Tree}
 use Rattle.redo_record.specs.declared.deps.Dep.{Dep}
 use Rattle.redo_build.specs.Rules.{Rules}
 use Rattle.redo_build.specs.Outcomes.{outcome_at}
-use Rattle.redo_core.specs.Build.{rules_of}
+use Rattle.redo_core.specs.Build.{GivenView, rules_for}
 use Rattle.redo_build.specs.Schedule.{Entry, outcomes_of}
 use Rattle.redo_build.specs.inside.Standing.{AreStanding}
 use Rattle.redo_core.specs.inside.Slots.{table_entries, slot_entry, stage_deps, stage_outcome, is_stage_ready}
@@ -22,13 +21,12 @@ use Rattle.redo_core.proofs.NumberLemmas.{numbers-path}
 use Rattle.redo_core.proofs.TableLemmas.{cases_place, get-set_same, get-set_other, watched-set, IsWatched-set}
 use Rattle.redo_core.proofs.TableSteps.{number-decided, parked_numbered, decided-known, entries-same, table-same}
 use Rattle.redo_core.proofs.TableSteps.{queue-same, watch-table, watch-looked}
-use Rattle.redo_step.specs.Limits.{LimitsView}
 
-module _ (tree : Tree) (limits : LimitsView) (t : Table) (newly_ready : List ℕ) (table : IsTableOf tree limits t newly_ready) (standing : IsStandingTable tree limits t)
+module _ (given : GivenView) (t : Table) (newly_ready : List ℕ) (table : IsTableOf given t newly_ready) (standing : IsStandingTable given t)
     (at : ℕ) (slot : Slot) (parked : Parked) (there : slice_get t.slots.items at ≡ Some slot) (is : slot.stage ≡ Waiting parked)
     (v : Table) (i place : ℕ) (h : IsHeldAt t v at i) (l : IsLackingAt t parked.operands.items parked.held i place) where
   abbrev r : Rules
-  r = rules_of tree limits
+  r = rules_for given
 
   pub held : Parked
   held = record parked { held = i }
@@ -53,39 +51,39 @@ module _ (tree : Tree) (limits : LimitsView) (t : Table) (newly_ready : List ℕ
   old-open : stage_outcome slot.stage ≡ None
   old-open = rw is refl
 
-  deps-same : (p : List ℕ) → stage_deps (rules_of tree limits) (outcome_at (rules_of tree limits) limits.targets) p h.new.turn h.new.stage ≡ stage_deps (rules_of tree limits) (outcome_at (rules_of tree limits) limits.targets) p slot.turn slot.stage
+  deps-same : (p : List ℕ) → stage_deps (rules_for given) (outcome_at (rules_for given) given.limits.targets) p h.new.turn h.new.stage ≡ stage_deps (rules_for given) (outcome_at (rules_for given) given.limits.targets) p slot.turn slot.stage
   unfolding held
   deps-same p =
-      let D : Stage → Type 0 = λ st. stage_deps r (outcome_at r limits.targets) p h.new.turn st ≡ Rattle.redo_core.specs.inside.Works.job_deps parked.begun.value.job in
-      let E : Stage → Type 0 = λ st. stage_deps r (outcome_at r limits.targets) p slot.turn st ≡ Rattle.redo_core.specs.inside.Works.job_deps parked.begun.value.job in
+      let D : Stage → Type 0 = λ st. stage_deps r (outcome_at r given.limits.targets) p h.new.turn st ≡ Rattle.redo_core.specs.inside.Works.job_deps parked.begun.value.job in
+      let E : Stage → Type 0 = λ st. stage_deps r (outcome_at r given.limits.targets) p slot.turn st ≡ Rattle.redo_core.specs.inside.Works.job_deps parked.begun.value.job in
       let one = subst D (sym held-is) refl in
       let two = subst E (sym is) refl in
       one ∙ sym two
 
-  same-entry : slot_entry (rules_of tree limits) (outcome_at (rules_of tree limits) limits.targets) (path_at t.targets.keys at) h.new ≡
-      slot_entry (rules_of tree limits) (outcome_at (rules_of tree limits) limits.targets) (path_at t.targets.keys at) slot
+  same-entry : slot_entry (rules_for given) (outcome_at (rules_for given) given.limits.targets) (path_at t.targets.keys at) h.new ≡
+      slot_entry (rules_for given) (outcome_at (rules_for given) given.limits.targets) (path_at t.targets.keys at) slot
   same-entry =
       let E : ℕ → List Dep → Entry = λ n ds. record { path = path_at t.targets.keys at; turn = n; deps = ds; outcome = None; is_out = false } in
-      let D : ℕ → Stage → List Dep = λ n st. stage_deps r (outcome_at r limits.targets) (path_at t.targets.keys at) n st in
-      let one : slot_entry r (outcome_at r limits.targets) (path_at t.targets.keys at) h.new ≡ E h.new.turn (D h.new.turn h.new.stage) = rw held-is refl in
-      let two : slot_entry r (outcome_at r limits.targets) (path_at t.targets.keys at) slot ≡ E slot.turn (D slot.turn slot.stage) = rw is refl in
+      let D : ℕ → Stage → List Dep = λ n st. stage_deps r (outcome_at r given.limits.targets) (path_at t.targets.keys at) n st in
+      let one : slot_entry r (outcome_at r given.limits.targets) (path_at t.targets.keys at) h.new ≡ E h.new.turn (D h.new.turn h.new.stage) = rw held-is refl in
+      let two : slot_entry r (outcome_at r given.limits.targets) (path_at t.targets.keys at) slot ≡ E slot.turn (D slot.turn slot.stage) = rw is refl in
       one ∙ ap (λ n. E n (D h.new.turn h.new.stage)) turn-same ∙ ap (E slot.turn) (deps-same (path_at t.targets.keys at)) ∙ sym two
 
-  numbers : AreNumbers t.targets.keys parked.operands.items (waited_by (rules_of tree limits) parked.begun.value)
-  numbers = parked_numbered tree limits t newly_ready table standing at slot parked there is
+  numbers : AreNumbers t.targets.keys parked.operands.items (waited_by (rules_for given) parked.begun.value)
+  numbers = parked_numbered given t newly_ready table standing at slot parked there is
 
-  held-numbered : IsNumbered (rules_of tree limits) t.targets.keys h.new.stage
+  held-numbered : IsNumbered (rules_for given) t.targets.keys h.new.stage
   unfolding held
   held-numbered = let P : Stage → Type 0 = IsNumbered r t.targets.keys in subst P (sym held-is) numbers
 
-  held-fits : Fits (rules_of tree limits) (outcomes_of (table_entries (rules_of tree limits) limits.targets t)) tree limits (path_at t.targets.keys at) h.new.turn h.new.stage
+  held-fits : Fits (rules_for given) (outcomes_of (table_entries (rules_for given) given.limits.targets t)) given (path_at t.targets.keys at) h.new.turn h.new.stage
   unfolding held
   held-fits =
-      let a = outcomes_of (table_entries r limits.targets t) in
-      let P : Stage → Type 0 = Fits r a tree limits (path_at t.targets.keys at) slot.turn in
-      let w : IsWaitingWith r a tree limits (path_at t.targets.keys at) slot.turn parked = subst P is (table.fits at slot there) in
-      let Q : Stage → Type 0 = Fits r a tree limits (path_at t.targets.keys at) h.new.turn in
-      let R : ℕ → Type 0 = λ n. IsWaitingWith r a tree limits (path_at t.targets.keys at) n held in
+      let a = outcomes_of (table_entries r given.limits.targets t) in
+      let P : Stage → Type 0 = Fits r a given (path_at t.targets.keys at) slot.turn in
+      let w : IsWaitingWith r a given (path_at t.targets.keys at) slot.turn parked = subst P is (table.fits at slot there) in
+      let Q : Stage → Type 0 = Fits r a given (path_at t.targets.keys at) h.new.turn in
+      let R : ℕ → Type 0 = λ n. IsWaitingWith r a given (path_at t.targets.keys at) n held in
       subst Q (sym held-is) (subst R (sym turn-same) (record {
         is_job = w.is_job;
         of_target = w.of_target;
@@ -95,7 +93,7 @@ module _ (tree : Tree) (limits : LimitsView) (t : Table) (newly_ready : List ℕ
           | inl before ↦ w.answered k q before get none
           | inr after' ↦
               let number = numbers-path t.targets.keys parked.operands.items (waited_by r parked.begun.value) k q numbers get in
-              decided-known tree limits t newly_ready table standing q (number-decided t q number.0 number.2 (l.before k number.0 after' below number.1)) none
+              decided-known given t newly_ready table standing q (number-decided t q number.0 number.2 (l.before k number.0 after' below number.1)) none
         ];
         told = w.told;
         goes_on = w.goes_on;
@@ -103,27 +101,27 @@ module _ (tree : Tree) (limits : LimitsView) (t : Table) (newly_ready : List ℕ
         gained = w.gained;
       }))
 
-  pub held-table : IsTableOf tree limits v newly_ready
+  pub held-table : IsTableOf given v newly_ready
   held-table =
       let list = ap (λ (y : Rattle.std.specs.declared.vec.Vec.Vec ℕ Rattle.std.proofs.Common.Global). y.items) (h.watchers ∙ ap (λ (y : Slot). y.watchers) same-slot) in
       let ready : is_stage_ready h.new.stage ≡ is_stage_ready slot.stage = ap is_stage_ready held-is ∙ sym (ap is_stage_ready is) in
-      let raw = table-same tree limits t newly_ready table standing at slot h.new there old-open new-open same-entry newly_ready
+      let raw = table-same given t newly_ready table standing at slot h.new there old-open new-open same-entry newly_ready
       (queue-same t.slots.items t.ready.items newly_ready at slot h.new there table.queue ready)
       (λ k m. let L : List ℕ → Type 0 = λ xs. IsPlace xs k in table.watchers_below at k slot there (subst L list m)) held-fits held-numbered in
-      let S : List Slot → Type 0 = λ xs. IsTable r tree limits t.targets.keys xs t.ready.items t.out newly_ready in
+      let S : List Slot → Type 0 = λ xs. IsTable r given t.targets.keys xs t.ready.items t.out newly_ready in
       rw (h.rest.0, h.rest.1, h.rest.2) (subst S (sym h.slots) raw)
 
-  pub held-entries : table_entries (rules_of tree limits) limits.targets v ≡ table_entries (rules_of tree limits) limits.targets t
-  held-entries = rw (h.rest.0, h.slots) (entries-same tree limits t newly_ready table standing at slot h.new there old-open new-open same-entry)
+  pub held-entries : table_entries (rules_for given) given.limits.targets v ≡ table_entries (rules_for given) given.limits.targets t
+  held-entries = rw (h.rest.0, h.slots) (entries-same given t newly_ready table standing at slot h.new there old-open new-open same-entry)
 
-  pub held-standing : IsStandingTable tree limits v
+  pub held-standing : IsStandingTable given v
   held-standing = let S : List Entry → Type 0 = AreStanding r standing.0 in (standing.0, subst S (sym held-entries) standing.1)
 
-  held-watched : (pending : List ℕ) → AllWatched (rules_of tree limits) limits.targets t.targets.keys t.slots.items pending → AllWatched (rules_of tree limits) limits.targets v.targets.keys v.slots.items pending
+  held-watched : (pending : List ℕ) → AllWatched (rules_for given) given.limits.targets t.targets.keys t.slots.items pending → AllWatched (rules_for given) given.limits.targets v.targets.keys v.slots.items pending
   held-watched pending all =
       let list = ap (λ (y : Rattle.std.specs.declared.vec.Vec.Vec ℕ Rattle.std.proofs.Common.Global). y.items) (h.watchers ∙ ap (λ (y : Slot). y.watchers) same-slot) in
       let more : (j : ℕ) → IsPlace slot.watchers.items j → IsPlace h.new.watchers.items j = λ j m. (let L : List ℕ → Type 0 = λ xs. IsPlace xs j in subst L (sym list) m) in
-      rw (h.rest.0, h.slots) (watched-set t.slots.items at slot h.new there r limits.targets t.targets.keys pending new-open more
+      rw (h.rest.0, h.slots) (watched-set t.slots.items at slot h.new there r given.limits.targets t.targets.keys pending new-open more
       (λ _. elim (all at slot there (rw is refl)) [
         | inl m ↦ inl m
         | inr w ↦
@@ -158,12 +156,12 @@ module _ (tree : Tree) (limits : LimitsView) (t : Table) (newly_ready : List ℕ
   ]
 
   module _ (u : Table) (w : IsWatchAdded v u at place) where
-    pub held-watch-table : IsTableOf tree limits u newly_ready
-    held-watch-table = watch-table tree limits v newly_ready held-table held-standing at h.new held held-there held-is u place i i w held-lacks
+    pub held-watch-table : IsTableOf given u newly_ready
+    held-watch-table = watch-table given v newly_ready held-table held-standing at h.new held held-there held-is u place i i w held-lacks
 
-    pub held-watch-looked : IsLookedAt tree limits t u at
+    pub held-watch-looked : IsLookedAt given t u at
     held-watch-looked =
-        let looked = watch-looked tree limits v newly_ready held-table held-standing at h.new held held-there held-is u place i i w held-lacks in
+        let looked = watch-looked given v newly_ready held-table held-standing at h.new held held-there held-is u place i i w held-lacks in
         record {
           entries = looked.entries ∙ held-entries;
           rest = (looked.rest.0 ∙ h.rest.0, looked.rest.1 ∙ h.rest.1, looked.rest.2 ∙ h.rest.2);

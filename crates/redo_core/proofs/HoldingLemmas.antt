@@ -1,7 +1,6 @@
 -- A work holds the outcomes of all that it asked for, and no others.
 use Rattle.std.proofs.Common.{◌≡◌, ℕ, ◌+◌, inl, inr, List, refl, sym, ◌∙◌, arith}
 use Rattle.std.proofs.lemmas.Bool.{cases_Bool}
-use Rattle.redo_tree.specs.Tree.{Tree}
 use Rattle.redo_record.specs.declared.deps.Dep.{Dep}
 use Rattle.redo_record.specs.Paths.{is_among}
 use Rattle.redo_build.specs.Rules.{Rules, AreLawful, operands}
@@ -16,12 +15,12 @@ use Rattle.redo_core.specs.declared.work.Script.TheVariants.{Unread, Begun}
 use Rattle.redo_build.proofs.DepthLemmas.{cases_Option, deeper, operand-target}
 use Rattle.redo_build.proofs.PathLemmas.{is_among-true}
 use Rattle.redo_build.proofs.StandingLemmas.{outcomes_of-deep}
-use Rattle.redo_step.specs.Limits.{LimitsView}
+use Rattle.redo_core.specs.Build.{GivenView}
 
-pub script-holds : (tree : Tree) (limits : LimitsView) (s : Script) → IsScriptOf tree limits s →
-    HoldsOutcomes (record { tree = tree; limits = limits; target = script_target s; turn = script_turn s; deps = script_deps s; known = script_known s })
-script-holds tree limits (Unread unread) is = record { depth = 0; fed = λ q m none. m; exact = λ q. refl }
-script-holds tree limits (Begun begun) work = record { depth = work.is_work.depth; fed = work.is_work.fed; exact = work.exact }
+pub script-holds : (given : GivenView) (s : Script) → IsScriptOf given s →
+    HoldsOutcomes (record { given = given; target = script_target s; turn = script_turn s; deps = script_deps s; known = script_known s })
+script-holds given (Unread unread) is = record { depth = 0; fed = λ q m none. m; exact = λ q. refl }
+script-holds given (Begun begun) work = record { depth = work.is_work.depth; fed = work.is_work.fed; exact = work.exact }
 
 -- where the build at a depth and the entries both have all the answers, these are the same
 pub same-answers : (r : Rules) (lawful : AreLawful r) (request : List (List ℕ)) (es : List Entry) → AreStanding r request es → (depth : ℕ) (deps : List Dep) →

@@ -18,7 +18,7 @@ use Rattle.redo_which.specs.Candidates.{Place, candidates_of}
 use Rattle.redo_which.specs.Rule.{Outcome as Found, Source, Directory, NoDirectory, NoRule, Rule, is_file, missing_of}
 use Rattle.redo_which.specs.Rule.{chosen_of, arguments_of, found_of}
 use Rattle.redo_build.specs.Rules.{Ask, AreLawful, operands}
-use Rattle.redo_core.specs.Build.{World, IsFit, IsWorld, progress_by, rules_in, world_of, rules_of}
+use Rattle.redo_core.specs.Build.{World, IsFit, IsWorld, progress_by, rules_in, world_of, GivenView, rules_for, rules_of}
 use Rattle.redo_step.specs.Limits.{LimitsView}
 
 -- All that the search may find
@@ -101,3 +101,6 @@ module _ (tree : Tree) (p : List ℕ) where
 
 pub rules_lawful : (tree : Tree) (limits : LimitsView) → AreLawful (rules_of tree limits)
 rules_lawful tree limits = world-lawful (world_of tree limits) (record { fit = fit_found tree })
+
+pub lawful_for : (given : GivenView) → AreLawful (rules_for given)
+lawful_for given = rules_lawful given.tree given.limits

@@ -3,13 +3,12 @@ use Rattle.std.proofs.Common.{slice_get, slice_set, ◌≡◌, ℕ, zero, suc, t
 use Rattle.std.proofs.Common.{Some, None, refl, sym, ap, subst, ◌∙◌, arith, bytes_eq, Global}
 use Rattle.std.proofs.lemmas.Bool.{cases_Bool, cases_lt, both_ways}
 use Rattle.std.proofs.lemmas.Slice.Eq.{bytes_eq-Decides}
-use Rattle.redo_tree.specs.Tree.{Tree}
 use Rattle.redo_record.specs.declared.outcome.Outcome.{Outcome}
 use Rattle.redo_step.specs.JobView.{JobView}
 use Rattle.redo_record.specs.Paths.{IsAmong, is_among}
 use Rattle.redo_build.specs.Rules.{Ask, Rules, operands}
 use Rattle.redo_build.specs.Outcomes.{outcome_at}
-use Rattle.redo_core.specs.Build.{rules_of}
+use Rattle.redo_core.specs.Build.{GivenView, rules_for}
 use Rattle.redo_build.specs.Schedule.{Entry, outcome_of, outcomes_of, entry_of, only}
 use Rattle.redo_core.specs.inside.Works.{job_deps, told_in, IsWorkWith}
 use Rattle.redo_core.specs.inside.Slots.{path_at, table_entries, slot_entries, slot_entry, stage_outcome}
@@ -23,7 +22,7 @@ use Rattle.redo_core.specs.declared.table.Table.{Table}
 use Rattle.redo_core.specs.declared.table.Stage.TheVariants.{Waiting, Ready, Out, Decided}
 use Rattle.redo_build.proofs.PathLemmas.{is_among-true}
 use Rattle.redo_build.proofs.DepthLemmas.{cases_Option, operand-target}
-use Rattle.redo_core.proofs.LawfulTreeLemmas.{rules_lawful}
+use Rattle.redo_core.proofs.LawfulTreeLemmas.{lawful_for}
 use Rattle.redo_core.proofs.JobLemmas.{asked_of_job, asked_by_job}
 use Rattle.redo_build.proofs.TurnLemmas.{only-among}
 use Rattle.redo_core.proofs.SlotLemmas.{entry_of-slots, slice_get-below_some}
@@ -36,7 +35,6 @@ use Rattle.redo_build.proofs.QueueLemmas.{slice_get-among}
 use Rattle.redo_core.specs.Views.{FactView}
 use Rattle.std.specs.Arc.{arc_value}
 use Rattle.std.specs.declared.sync.Arc.{Arc}
-use Rattle.redo_step.specs.Limits.{LimitsView}
 
 -- the slot of an entry
 pub slot-of-path : (r : Rules) (a : Ask) (ps : List (List ℕ)) (slots : List Slot) (q : List ℕ) (e : Entry) → entry_of (slot_entries r a ps slots) q ≡ Some e →
@@ -77,25 +75,25 @@ known-decided r n t q o h =
       decided = decided-stage found.1.stage o (sym (ap (λ (x : Entry). x.outcome) found.4) ∙ e.2);
     }
 
-module _ (tree : Tree) (limits : LimitsView) (t : Table) (at : ℕ) (slot : Slot) (parked : Parked) where
+module _ (given : GivenView) (t : Table) (at : ℕ) (slot : Slot) (parked : Parked) where
   -- what was fed is this job
-  pub fed-here : IsFed tree limits t at → slice_get t.slots.items at ≡ Some slot → slot.stage ≡ Waiting parked → IsFedAs tree limits t at slot parked
+  pub fed-here : IsFed given t at → slice_get t.slots.items at ≡ Some slot → slot.stage ≡ Waiting parked → IsFedAs given t at slot parked
   fed-here fed there is =
       let both : Some fed.0 ≡ Some slot = sym fed.2.there ∙ there in
       let same : fed.0 ≡ slot = cc in
       let stages : Waiting fed.1 ≡ Waiting parked = sym fed.2.was ∙ ap (λ (y : Slot). y.stage) same ∙ is in
       let job : fed.1 ≡ parked = cc in
-      let P : Slot → Type 0 = λ y. IsFedAs tree limits t at y fed.1 in
-      let Q : Parked → Type 0 = λ y. IsFedAs tree limits t at slot y in
+      let P : Slot → Type 0 = λ y. IsFedAs given t at y fed.1 in
+      let Q : Parked → Type 0 = λ y. IsFedAs given t at slot y in
       subst Q job (subst P same fed.2)
 
-  module _ (fed : IsFedAs tree limits t at slot parked) (u : Table) (gone : Slot) (out : gone.stage ≡ Out) (keys : u.targets ≡ t.targets)
+  module _ (fed : IsFedAs given t at slot parked) (u : Table) (gone : Slot) (out : gone.stage ≡ Out) (keys : u.targets ≡ t.targets)
       (slots : u.slots.items ≡ slice_set t.slots.items at gone) where
     abbrev r : Rules
-    r = rules_of tree limits
+    r = rules_for given
 
     abbrev a : Ask
-    a = outcomes_of (table_entries (rules_of tree limits) limits.targets t)
+    a = outcomes_of (table_entries (rules_for given) given.limits.targets t)
 
     -- a decided number is another than that of the job
     number-still : (n : ℕ) → IsDecidedNumber t n → IsDecidedNumber u n
@@ -119,16 +117,16 @@ module _ (tree : Tree) (limits : LimitsView) (t : Table) (at : ℕ) (slot : Slot
     gain-decided k n get = number-still n (elim (cases_lt k parked.held) [
       | inl before ↦
           let path = numbers-number t.targets.keys parked.operands.items (waited_by r parked.begun.value) k n fed.numbered get in
-          elim (cases_Option (outcomes_of (table_entries (rules_of tree limits) limits.targets t) path.0)) [
+          elim (cases_Option (outcomes_of (table_entries (rules_for given) given.limits.targets t) path.0)) [
             | inl none ↦ absurd (fed.waits.answered k path.0 before path.1 none)
-            | inr some ↦ known-number n path.0 path.2 (known-decided r limits.targets t path.0 some.0 some.1)
+            | inr some ↦ known-number n path.0 path.2 (known-decided r given.limits.targets t path.0 some.0 some.1)
           ]
       | inr after' ↦ fed.rest k n after' (slice_get-below_some parked.operands.items k n get) get
     ])
 
     -- a fact there is that of the number's path, with an outcome that is known
     fact-known : (n : ℕ) (q : List ℕ) (fact : Arc FactView Global) → slice_get t.targets.keys n ≡ Some q → IsFactAt u n fact →
-        ((arc_value fact).target ≡ q) × (outcomes_of (table_entries (rules_of tree limits) limits.targets t) q ≡ Some (arc_value fact).outcome)
+        ((arc_value fact).target ≡ q) × (outcomes_of (table_entries (rules_for given) given.limits.targets t) q ≡ Some (arc_value fact).outcome)
     fact-known n q fact path there =
         let get : slice_get (slice_set t.slots.items at gone) n ≡ Some there.0 = sym (ap (λ xs. slice_get xs n) slots) ∙ there.1 in
         elim (get-set_cases t.slots.items at n gone there.0 get) [
@@ -137,11 +135,11 @@ module _ (tree : Tree) (limits : LimitsView) (t : Table) (at : ℕ) (slot : Slot
               let bad : Out ≡ Decided fact = sym out ∙ decided in
               cc)
           | inr old ↦
-              let F : Stage → Type 0 = Fits r a tree limits (path_at t.targets.keys n) there.0.turn in
-              let fits : Fits r a tree limits (path_at t.targets.keys n) there.0.turn (Decided fact) = subst F there.2 (fed.fits n there.0 old.1) in
+              let F : Stage → Type 0 = Fits r a given (path_at t.targets.keys n) there.0.turn in
+              let fits : Fits r a given (path_at t.targets.keys n) there.0.turn (Decided fact) = subst F there.2 (fed.fits n there.0 old.1) in
               let is : path_at t.targets.keys n ≡ q = rw path refl in (
-                fits.2 ∙ is,
-                ap outcome_of (entry_of-slots r (outcome_at r limits.targets) t.targets.keys t.slots.items n q there.0 fed.distinct path old.1) ∙ ap stage_outcome there.2,
+                fits.1 ∙ is,
+                ap outcome_of (entry_of-slots r (outcome_at r given.limits.targets) t.targets.keys t.slots.items n q there.0 fed.distinct path old.1) ∙ ap stage_outcome there.2,
               )
         ]
 
@@ -150,7 +148,7 @@ module _ (tree : Tree) (limits : LimitsView) (t : Table) (at : ℕ) (slot : Slot
       job = parked.begun.value.job
 
       -- what it holds is known, and asked for
-      told : (q : List ℕ) (o : Outcome) → told_in facts q ≡ Some o → IsAmong (operands (rules_of tree limits) (job_deps parked.begun.value.job)) q × (outcomes_of (table_entries (rules_of tree limits) limits.targets t) q ≡ Some o)
+      told : (q : List ℕ) (o : Outcome) → told_in facts q ≡ Some o → IsAmong (operands (rules_for given) (job_deps parked.begun.value.job)) q × (outcomes_of (table_entries (rules_for given) given.limits.targets t) q ≡ Some o)
       told q o h = elim (g.below.origin q o h) [
         | inl old ↦ fed.waits.told q o old
         | inr new ↦
@@ -159,17 +157,17 @@ module _ (tree : Tree) (limits : LimitsView) (t : Table) (at : ℕ) (slot : Slot
             let same : path.0 ≡ q = sym known.0 ∙ new.target in
             let P : List ℕ → Type 0 = λ x. IsAmong (operands r (job_deps parked.begun.value.job)) x × (a x ≡ Some o) in
             subst P same (
-              asked_of_job tree limits parked.begun.value.job fed.waits.is_job (omega (arith, fed.waits.at_turn, fed.waits.stopped)) path.0
+              asked_of_job given parked.begun.value.job fed.waits.is_job (omega (arith, fed.waits.at_turn, fed.waits.stopped)) path.0
                   (waited-declared r parked.begun.value.job.state.entries parked.begun.value.facts.gained path.0 (slice_get-among (waited_by r parked.begun.value) new.k path.0 path.1)),
               known.1 ∙ ap Some new.outcome,
             )
       ]
 
       -- it holds all that is asked for
-      complete : (q : List ℕ) → IsAmong (operands (rules_of tree limits) (job_deps parked.begun.value.job)) q → told_in facts q ≡ None → ⊥
+      complete : (q : List ℕ) → IsAmong (operands (rules_for given) (job_deps parked.begun.value.job)) q → told_in facts q ≡ None → ⊥
       complete q m none =
           let entries = parked.begun.value.job.state.entries in
-          let found = operand-entry r entries q (asked_by_job tree limits parked.begun.value.job fed.waits.is_job q m) in
+          let found = operand-entry r entries q (asked_by_job given parked.begun.value.job fed.waits.is_job q m) in
           elim (cases_lt found.0 parked.begun.value.facts.gained) [
             | inl before ↦ fed.waits.gained found.0 found.1 q before found.2 found.3 (g.below.kept q none)
             | inr after' ↦
@@ -184,7 +182,7 @@ module _ (tree : Tree) (limits : LimitsView) (t : Table) (at : ℕ) (slot : Slot
                 g.below.known place.0 number.0 fact.0 (slice_get-below_some parked.operands.items place.0 number.0 number.1) number.1 there lost
           ]
 
-      exact : (q : List ℕ) → told_in facts q ≡ only (operands (rules_of tree limits) (job_deps parked.begun.value.job)) (outcome_at (rules_of tree limits) fed.is_work.depth) q
+      exact : (q : List ℕ) → told_in facts q ≡ only (operands (rules_for given) (job_deps parked.begun.value.job)) (outcome_at (rules_for given) fed.is_work.depth) q
       exact q = elim (cases_Option (told_in facts q)) [
         | inl none ↦ elim (cases_Bool (is_among (operands r (job_deps parked.begun.value.job)) q)) [
           | inl t' ↦ absurd (complete q (is_among-true (operands r (job_deps parked.begun.value.job)) q t') none)
@@ -192,16 +190,16 @@ module _ (tree : Tree) (limits : LimitsView) (t : Table) (at : ℕ) (slot : Slot
         ]
         | inr some ↦
             let known = told q some.0 some.1 in
-            some.1 ∙ sym (fed.deep q some.0 (operand-target r (rules_lawful tree limits) (job_deps parked.begun.value.job) q known.0) known.1) ∙
+            some.1 ∙ sym (fed.deep q some.0 (operand-target r (lawful_for given) (job_deps parked.begun.value.job) q known.0) known.1) ∙
             sym (only-among (operands r (job_deps parked.begun.value.job)) (outcome_at r fed.is_work.depth) q known.0)
       ]
 
-      pub fed-work : IsWorkWith tree limits parked.begun.value.job facts
+      pub fed-work : IsWorkWith given parked.begun.value.job facts
       fed-work = record {
         is_job = fed.waits.is_job;
         is_work = fed.is_work;
         exact = exact;
-        declared = λ q m. asked_of_job tree limits parked.begun.value.job fed.waits.is_job (omega (arith, fed.waits.at_turn, fed.waits.stopped)) q m;
+        declared = λ q m. asked_of_job given parked.begun.value.job fed.waits.is_job (omega (arith, fed.waits.at_turn, fed.waits.stopped)) q m;
         goes_on = λ later keeps. fed.waits.goes_on later (record {
           same = λ p o none entered known. elim (cases_Option (told_in facts p)) [
             | inl lost ↦ absurd (let was = g.below.kept p lost in let bad = sym was ∙ known in cc)

@@ -3,11 +3,10 @@ use Rattle.std.proofs.Common.{map, slice_get, ◌≡◌, ℕ, zero, suc, ◌+◌
 use Rattle.std.proofs.Common.{[], ◌∷◌, length, filter, Option, Some, None, refl, sym, ap, subst, ◌∙◌, arith}
 use Rattle.std.specs.List.{list_any}
 use Rattle.std.proofs.lemmas.Bool.{cases_Bool, both_ways, and_from, not_from_false}
-use Rattle.redo_tree.specs.Tree.{Tree}
 use Rattle.redo_record.specs.Paths.{IsAmong, AreDistinct, is_among}
 use Rattle.redo_build.specs.Rules.{Ask, Rules, operands}
 use Rattle.redo_build.specs.Outcomes.{outcome_at}
-use Rattle.redo_core.specs.Build.{rules_of}
+use Rattle.redo_core.specs.Build.{GivenView, rules_for}
 use Rattle.redo_build.specs.Schedule.{Entry, State, outcome_of, outcomes_of, paths_of, is_able_to_go_on, lacks_none}
 use Rattle.redo_core.specs.inside.Slots.{state_from, slot_entries, slot_entry, stage_deps, stage_outcome, path_at}
 use Rattle.redo_core.specs.inside.Slots.{is_stage_out, is_stage_ready, is_stage_waiting, AllWatched, AllAnswered}
@@ -22,7 +21,6 @@ use Rattle.redo_build.proofs.SoundLemmas.{is_able_to_go_on-parts, lacks_none-tru
 use Rattle.redo_core.proofs.SlotLemmas.{entry_of-slots, slice_get-from, slice_get-below_some, ready-job}
 use Rattle.redo_core.proofs.PlaceLemmas.{AscendFrom, filter-places}
 use Rattle.redo_record.specs.declared.deps.Dep.{Dep}
-use Rattle.redo_step.specs.Limits.{LimitsView}
 
 pub distinct-place : (ps : List (List ℕ)) (i j : ℕ) (p : List ℕ) → AreDistinct ps → slice_get ps i ≡ Some p → slice_get ps j ≡ Some p → i ≡ j
 distinct-place [] i j p d h g = cc
@@ -64,17 +62,17 @@ length-slots r a [] (slot ∷ slots) h = absurd (omega arith)
 length-slots r a (p ∷ ps) [] h = refl
 length-slots r a (p ∷ ps) (slot ∷ slots) h = ap suc (length-slots r a ps slots (omega arith))
 
-module _ (tree : Tree) (limits : LimitsView) (t : Table) (newly_ready sorted : List ℕ) (table : IsTableOf tree limits t newly_ready) (distinct : AreDistinct t.targets.keys)
-    (watched : AllWatched (rules_of tree limits) limits.targets t.targets.keys t.slots.items [])
+module _ (given : GivenView) (t : Table) (newly_ready sorted : List ℕ) (table : IsTableOf given t newly_ready) (distinct : AreDistinct t.targets.keys)
+    (watched : AllWatched (rules_for given) given.limits.targets t.targets.keys t.slots.items [])
     (ascends : AscendFrom 0 sorted) (in' : (k : ℕ) → IsPlace sorted k → IsPlace newly_ready k) (out : (k : ℕ) → IsPlace newly_ready k → IsPlace sorted k) where
   abbrev r : Rules
-  r = rules_of tree limits
+  r = rules_for given
 
   abbrev a : Ask
-  a = outcome_at (rules_of tree limits) limits.targets
+  a = outcome_at (rules_for given) given.limits.targets
 
   abbrev s : State
-  s = state_from (rules_of tree limits) limits.targets t.targets.keys t.slots.items t.ready.items
+  s = state_from (rules_for given) given.limits.targets t.targets.keys t.slots.items t.ready.items
 
   key-at : (k : ℕ) → k < length t.slots.items → slice_get t.targets.keys k ≡ Some (path_at t.targets.keys k)
   key-at k h =
@@ -82,13 +80,13 @@ module _ (tree : Tree) (limits : LimitsView) (t : Table) (newly_ready sorted : L
       let is : path_at t.targets.keys k ≡ found.0 = rw found.1 refl in
       found.1 ∙ ap Some (sym is)
 
-  make_ready-there : (i : ℕ) (e : Entry) → slice_get s.entries i ≡ Some e → IsPlace newly_ready i → is_able_to_go_on (rules_of tree limits) s e ≡ true
+  make_ready-there : (i : ℕ) (e : Entry) → slice_get s.entries i ≡ Some e → IsPlace newly_ready i → is_able_to_go_on (rules_for given) s e ≡ true
   make_ready-there i e h m =
       let found = slot-of-entry r a t.targets.keys t.slots.items i e h in
       let slot = found.0 in
       let p = found.1 in
       let ready = table.queue.ready_is i slot (inr m) found.2 in
-      let job = ready-job r (outcomes_of s.entries) tree limits (path_at t.targets.keys i) slot.turn slot.stage (table.fits i slot found.2) ready in
+      let job = ready-job r (outcomes_of s.entries) given (path_at t.targets.keys i) slot.turn slot.stage (table.fits i slot found.2) ready in
       let outcome : e.outcome ≡ None = sym (ap (λ (x : Entry). x.outcome) found.4) ∙ (let O : Stage → Type 0 = λ st. stage_outcome st ≡ None in subst O (sym job.1) refl) in
       let inside : e.is_out ≡ false = sym (ap (λ (x : Entry). x.is_out) found.4) ∙ (let I : Stage → Type 0 = λ st. is_stage_out st ≡ false in subst I (sym job.1) refl) in
       let work = job.0 in
@@ -107,7 +105,7 @@ module _ (tree : Tree) (limits : LimitsView) (t : Table) (newly_ready sorted : L
       ] in
       and_from _ _ (and_from _ _ (and_from _ _ (let o : is_none e.outcome ≡ true = rw outcome refl in o) all) (not_from_false _ inside)) (not_from_false _ away)
 
-  make_ready-alone : (i : ℕ) (e : Entry) → slice_get s.entries i ≡ Some e → is_able_to_go_on (rules_of tree limits) s e ≡ true → IsPlace newly_ready i
+  make_ready-alone : (i : ℕ) (e : Entry) → slice_get s.entries i ≡ Some e → is_able_to_go_on (rules_for given) s e ≡ true → IsPlace newly_ready i
   make_ready-alone i e h free =
       let found = slot-of-entry r a t.targets.keys t.slots.items i e h in
       let slot = found.0 in
@@ -141,7 +139,7 @@ module _ (tree : Tree) (limits : LimitsView) (t : Table) (newly_ready sorted : L
       three Out o i' = cc
       three (Decided fact) o i' = cc
 
-  pub newly_ready-paths : paths_of (filter (is_able_to_go_on (rules_of tree limits) s) s.entries) ≡ map (path_at t.targets.keys) sorted
+  pub newly_ready-paths : paths_of (filter (is_able_to_go_on (rules_for given) s) s.entries) ≡ map (path_at t.targets.keys) sorted
   newly_ready-paths = filter-places (is_able_to_go_on r s) (path_at t.targets.keys) 0 s.entries sorted (record {
     ascending = ascends;
     within = λ k m. omega (arith, table.queue.newly_ready_below k (in' k m), length-slots r a t.targets.keys t.slots.items table.one_each);

@@ -1,14 +1,13 @@
 -- The opening of a build on the table.
 use Rattle.std.proofs.Common.{slice_get, ◌≡◌, ℕ, zero, suc, ◌+◌, ◌<◌, ◌≤◌, Bool, true, false, cond, not, List, [], ◌∷◌}
-use Rattle.std.proofs.Common.{◌++◌, Some, is_some, inl, inr, length, take, drop, take-append-drop, refl, sym, ap, subst}
+use Rattle.std.proofs.Common.{◌++◌, Some, inl, inr, length, take, drop, take-append-drop, refl, sym, ap, subst}
 use Rattle.std.proofs.Common.{◌∙◌, arith}
 use Rattle.std.proofs.lemmas.Bool.{cases_Bool}
 use Rattle.std.proofs.lemmas.List.Elements.{filter-append}
-use Rattle.redo_tree.specs.Tree.{Tree, file_at}
 use Rattle.redo_record.specs.Paths.{IsAmong, is_among, with_new}
 use Rattle.redo_build.specs.Rules.{Rules}
 use Rattle.redo_build.specs.Outcomes.{IsTooMany}
-use Rattle.redo_core.specs.Build.{rules_of}
+use Rattle.redo_core.specs.Build.{GivenView, rules_for}
 use Rattle.redo_build.specs.Schedule.{Entry, State, paths_of, entered, enqueued, opening}
 use Rattle.redo_build.specs.inside.Standing.{AreStanding}
 use Rattle.std.specs.Arc.{arc_value}
@@ -23,38 +22,37 @@ use Rattle.redo_core.specs.inside.Slots.{AreEnteredInto, AreEnqueued, IsFirstTab
 use Rattle.redo_core.specs.declared.table.Table.{Table}
 use Rattle.redo_build.proofs.PathLemmas.{is_among-true, with_new-second}
 use Rattle.redo_build.proofs.SeenLemmas.{paths_of-entered, entered-longer}
-use Rattle.redo_core.proofs.LawfulTreeLemmas.{rules_lawful}
+use Rattle.redo_core.proofs.LawfulTreeLemmas.{lawful_for}
 use Rattle.redo_build.proofs.SoundLemmas.{opening-sound}
 use Rattle.redo_core.proofs.EnterAllLemmas.{entered-append, entered-seen}
 use Rattle.redo_core.proofs.EnqueueLemmas.{enqueued-table, enqueued-watched, enqueued-state}
-use Rattle.redo_step.specs.Limits.{LimitsView}
 
 path-take : (ps : List (List ℕ)) (i : ℕ) (p : List ℕ) → slice_get ps i ≡ Some p → take (i + 1) ps ≡ take i ps ++ p ∷ []
 path-take [] i p h = cc
 path-take (x ∷ ps) zero p h = let same : x ≡ p = cc in ap (λ y. y ∷ []) same
 path-take (x ∷ ps) (suc i) p h = let e : suc i + 1 ≡ suc (i + 1) = omega arith in rw e (ap (λ l. x ∷ l) (path-take ps i p h))
 
-pub targets-more : (tree : Tree) (ps : List (List ℕ)) (i : ℕ) (p : List ℕ) → slice_get ps i ≡ Some p → targets_in tree (take (i + 1) ps) ≡ targets_in tree (take i ps) ++ targets_in tree (p ∷ [])
-targets-more tree ps i p get = ap (targets_in tree) (path-take ps i p get) ∙ filter-append (λ q. not (is_some (file_at tree q))) (take i ps) (p ∷ [])
+pub targets-more : (r : Rules) (ps : List (List ℕ)) (i : ℕ) (p : List ℕ) → slice_get ps i ≡ Some p → targets_in r (take (i + 1) ps) ≡ targets_in r (take i ps) ++ targets_in r (p ∷ [])
+targets-more r ps i p get = ap (targets_in r) (path-take ps i p get) ∙ filter-append (λ q. not (r.is_source q)) (take i ps) (p ∷ [])
 
-pub one-target : (tree : Tree) (p : List ℕ) → not (is_some (file_at tree p)) ≡ true → targets_in tree (p ∷ []) ≡ p ∷ []
-one-target tree p h = rw h refl
+pub one-target : (r : Rules) (p : List ℕ) → not (r.is_source p) ≡ true → targets_in r (p ∷ []) ≡ p ∷ []
+one-target r p h = rw h refl
 
-pub no-target : (tree : Tree) (p : List ℕ) → not (is_some (file_at tree p)) ≡ false → targets_in tree (p ∷ []) ≡ []
-no-target tree p h = rw h refl
+pub no-target : (r : Rules) (p : List ℕ) → not (r.is_source p) ≡ false → targets_in r (p ∷ []) ≡ []
+no-target r p h = rw h refl
 
 -- where one passes the limit, all do
-pub too-many-requested : (r : Rules) (tree : Tree) (es mid : List Entry) (limit : ℕ) (ps : List (List ℕ)) (i : ℕ) (p : List ℕ) → slice_get ps i ≡ Some p → not (is_some (file_at tree p)) ≡ true →
-    mid ≡ entered r es (targets_in tree (take i ps)) → limit < length (entered r mid (p ∷ [])) → limit < length (entered r es (targets_in tree ps))
-too-many-requested r tree es mid limit ps i p get is at many =
-    let test : List ℕ → Bool = λ q. not (is_some (file_at tree q)) in
-    let front = targets-more tree ps i p get ∙ ap (λ xs. targets_in tree (take i ps) ++ xs) (one-target tree p is) in
-    let both = ap (targets_in tree) (sym (take-append-drop (i + 1) ps)) ∙ filter-append test (take (i + 1) ps) (drop (i + 1) ps) in
-    let so_far : entered r mid (p ∷ []) ≡ entered r es (targets_in tree (take (i + 1) ps)) =
-    ap (λ xs. entered r xs (p ∷ [])) at ∙ sym (entered-append r es (targets_in tree (take i ps)) (p ∷ [])) ∙ ap (entered r es) (sym front) in
-    let all : entered r es (targets_in tree ps) ≡ entered r (entered r es (targets_in tree (take (i + 1) ps))) (targets_in tree (drop (i + 1) ps)) =
-    ap (entered r es) both ∙ entered-append r es (targets_in tree (take (i + 1) ps)) (targets_in tree (drop (i + 1) ps)) in
-    omega (arith, many, ap length so_far, ap length all, entered-longer r (entered r es (targets_in tree (take (i + 1) ps))) (targets_in tree (drop (i + 1) ps)))
+pub too-many-requested : (r : Rules) (es mid : List Entry) (limit : ℕ) (ps : List (List ℕ)) (i : ℕ) (p : List ℕ) → slice_get ps i ≡ Some p → not (r.is_source p) ≡ true →
+    mid ≡ entered r es (targets_in r (take i ps)) → limit < length (entered r mid (p ∷ [])) → limit < length (entered r es (targets_in r ps))
+too-many-requested r es mid limit ps i p get is at many =
+    let test : List ℕ → Bool = λ q. not (r.is_source q) in
+    let front = targets-more r ps i p get ∙ ap (λ xs. targets_in r (take i ps) ++ xs) (one-target r p is) in
+    let both = ap (targets_in r) (sym (take-append-drop (i + 1) ps)) ∙ filter-append test (take (i + 1) ps) (drop (i + 1) ps) in
+    let so_far : entered r mid (p ∷ []) ≡ entered r es (targets_in r (take (i + 1) ps)) =
+    ap (λ xs. entered r xs (p ∷ [])) at ∙ sym (entered-append r es (targets_in r (take i ps)) (p ∷ [])) ∙ ap (entered r es) (sym front) in
+    let all : entered r es (targets_in r ps) ≡ entered r (entered r es (targets_in r (take (i + 1) ps))) (targets_in r (drop (i + 1) ps)) =
+    ap (entered r es) both ∙ entered-append r es (targets_in r (take (i + 1) ps)) (targets_in r (drop (i + 1) ps)) in
+    omega (arith, many, ap length so_far, ap length all, entered-longer r (entered r es (targets_in r (take (i + 1) ps))) (targets_in r (drop (i + 1) ps)))
 
 entered-new : (r : Rules) (es : List Entry) (ps qs : List (List ℕ)) → entered r es (with_new ps qs) ≡ entered r (entered r es ps) qs
 entered-new r es ps [] = refl
@@ -70,11 +68,11 @@ entered-new r es ps (q ∷ qs) =
     entered-new r es (cond (is_among ps q) ps (ps ++ q ∷ [])) qs ∙ ap (λ xs. entered r xs qs) one
 
 -- the entries of the opening
-pub opening-entries : (tree : Tree) (limits : LimitsView) (request : List (List ℕ)) → (opening (rules_of tree limits) request).entries ≡ entered (rules_of tree limits) [] (targets_in tree request)
-opening-entries tree limits request = entered-new (rules_of tree limits) [] [] (targets_in tree request)
+pub opening-entries : (given : GivenView) (request : List (List ℕ)) → (opening (rules_for given) request).entries ≡ entered (rules_for given) [] (targets_in (rules_for given) request)
+opening-entries given request = entered-new (rules_for given) [] [] (targets_in (rules_for given) request)
 
-pub empty-table : (tree : Tree) (limits : LimitsView) (t : Table) → t.targets.keys ≡ [] → t.slots.items ≡ [] → t.ready.items ≡ [] → t.out ≡ 0 → limits.targets ≤ 65536 → IsTableOf tree limits t []
-empty-table tree limits t keys slots ready out few = rw (keys, slots, ready, out) (record {
+pub empty-table : (given : GivenView) (t : Table) → t.targets.keys ≡ [] → t.slots.items ≡ [] → t.ready.items ≡ [] → t.out ≡ 0 → given.limits.targets ≤ 65536 → IsTableOf given t []
+empty-table given t keys slots ready out few = rw (keys, slots, ready, out) (record {
   one_each = refl;
   within_limit = omega arith;
   few = few;
@@ -95,42 +93,42 @@ empty-table tree limits t keys slots ready out few = rw (keys, slots, ready, out
     nothing : (k : ℕ) (x : Rattle.redo_core.specs.declared.table.Slot.Slot) → slice_get {X = Rattle.redo_core.specs.declared.table.Slot.Slot} [] k ≡ Some x → ⊥
     nothing k x g = cc
 
-pub empty-watched : (tree : Tree) (limits : LimitsView) (t : Table) → t.targets.keys ≡ [] → t.slots.items ≡ [] → AllWatched (rules_of tree limits) limits.targets t.targets.keys t.slots.items []
-empty-watched tree limits t keys slots = rw (keys, slots) (λ k x g h. absurd (nothing k x g))
+pub empty-watched : (given : GivenView) (t : Table) → t.targets.keys ≡ [] → t.slots.items ≡ [] → AllWatched (rules_for given) given.limits.targets t.targets.keys t.slots.items []
+empty-watched given t keys slots = rw (keys, slots) (λ k x g h. absurd (nothing k x g))
   where
     nothing : (k : ℕ) (x : Rattle.redo_core.specs.declared.table.Slot.Slot) → slice_get {X = Rattle.redo_core.specs.declared.table.Slot.Slot} [] k ≡ Some x → ⊥
     nothing k x g = cc
 
-pub first-is : (tree : Tree) (limits : LimitsView) (request : List (List ℕ)) (t u v : Table) (newly_ready : List ℕ) → t.targets.keys ≡ [] → t.slots.items ≡ [] → t.ready.items ≡ [] →
-    AreEnteredInto tree limits t u newly_ready (targets_in tree request) → AreEnqueued u v newly_ready → IsFirstTable tree limits request v
-first-is tree limits request t u v newly_ready keys slots ready a w =
-    let r = rules_of tree limits in
-    let none : table_entries r limits.targets t ≡ [] = rw keys refl in
-    let entries : table_entries r limits.targets u ≡ (opening r request).entries = a.entries ∙ ap (λ es. entered r es (targets_in tree request)) none ∙ sym (opening-entries tree limits request) in
+pub first-is : (given : GivenView) (request : List (List ℕ)) (t u v : Table) (newly_ready : List ℕ) → t.targets.keys ≡ [] → t.slots.items ≡ [] → t.ready.items ≡ [] →
+    AreEnteredInto given t u newly_ready (targets_in (rules_for given) request) → AreEnqueued u v newly_ready → IsFirstTable given request v
+first-is given request t u v newly_ready keys slots ready a w =
+    let r = rules_for given in
+    let none : table_entries r given.limits.targets t ≡ [] = rw keys refl in
+    let entries : table_entries r given.limits.targets u ≡ (opening r request).entries = a.entries ∙ ap (λ es. entered r es (targets_in (rules_for given) request)) none ∙ sym (opening-entries given request) in
     let S : List Entry → Type 0 = AreStanding r request in
-    let standing = subst S (sym entries) (opening-sound r (rules_lawful tree limits) request).standing in
-    let watched = a.watched [] (empty-watched tree limits t keys slots) in
+    let standing = subst S (sym entries) (opening-sound r (lawful_for given) request).standing in
+    let watched = a.watched [] (empty-watched given t keys slots) in
     let T : List Entry → List (List ℕ) → State = λ xs ps. record { entries = xs; ready = ps } in
-    let before : table_state r limits.targets u ≡ T (opening r request).entries [] = (let numbers : table_state r limits.targets u ≡ T (table_entries r limits.targets u) [] = rw (a.rest.0, ready) refl in numbers ∙ ap (λ xs. T xs []) entries) in
+    let before : table_state r given.limits.targets u ≡ T (opening r request).entries [] = (let numbers : table_state r given.limits.targets u ≡ T (table_entries r given.limits.targets u) [] = rw (a.rest.0, ready) refl in numbers ∙ ap (λ xs. T xs []) entries) in
     record {
-      table = enqueued-table tree limits request u v newly_ready a.table standing watched w;
-      watched = enqueued-watched tree limits request u v newly_ready a.table standing watched w;
-      state = enqueued-state tree limits request u v newly_ready a.table standing watched w ∙ ap (enqueued r) before;
+      table = enqueued-table given request u v newly_ready a.table standing watched w;
+      watched = enqueued-watched given request u v newly_ready a.table standing watched w;
+      state = enqueued-state given request u v newly_ready a.table standing watched w ∙ ap (enqueued r) before;
     }
 
 -- a board with the first table keeps what it shows
-pub first-kept : (b : Inside) → IsFirstTable (arc_value b.tree) b.limits b.request.items b.table → IsKept b
+pub first-kept : (b : Inside) → IsFirstTable (arc_value b.given) b.request.items b.table → IsKept b
 first-kept b first = record {
   reached = record { events = []; all_open = tt; ends = first.state };
   table = first.table;
   watched = first.watched;
 }
 
-pub opening-many : (tree : Tree) (limits : LimitsView) (request : List (List ℕ)) → limits.targets < length (opening (rules_of tree limits) request).entries → IsTooMany (rules_of tree limits) request limits.targets
-opening-many tree limits request many =
-    let r = rules_of tree limits in
-    let lawful = rules_lawful tree limits in
-    (is_part r lawful request (opening r request) (opening-sound r lawful request) limits.targets).too_many many
+pub opening-many : (given : GivenView) (request : List (List ℕ)) → given.limits.targets < length (opening (rules_for given) request).entries → IsTooMany (rules_for given) request given.limits.targets
+opening-many given request many =
+    let r = rules_for given in
+    let lawful = lawful_for given in
+    (is_part r lawful request (opening r request) (opening-sound r lawful request) given.limits.targets).too_many many
 
 pub opened-fault : (stop : Stop) → OpenTooMany ≡ opening_fault_of stop → stop ≡ TooMany
 opened-fault TooMany h = refl

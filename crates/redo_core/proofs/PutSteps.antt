@@ -3,11 +3,10 @@ use Rattle.std.proofs.Common.{slice_get, slice_set, ◌≡◌, ℕ, ◌+◌, ◌
 use Rattle.std.proofs.Common.{◌∷◌, length, length-set, filter, Option, Some, None, refl, sym, ap, subst, ◌∙◌, arith}
 use Rattle.std.proofs.Common.{Global}
 use Rattle.std.proofs.lemmas.Bool.{cases_Bool, both_ways}
-use Rattle.redo_tree.specs.Tree.{Tree}
 use Rattle.redo_record.specs.Paths.{AreDistinct}
 use Rattle.redo_build.specs.Rules.{Ask, Rules, Extends}
 use Rattle.redo_build.specs.Outcomes.{outcome_at}
-use Rattle.redo_core.specs.Build.{rules_of}
+use Rattle.redo_core.specs.Build.{GivenView, rules_for}
 use Rattle.redo_build.specs.Schedule.{outcomes_of, put}
 use Rattle.redo_core.specs.Views.{FactView}
 use Rattle.redo_core.specs.inside.Slots.{table_entries, entries_from, slot_entry, stage_deps, stage_outcome, path_at}
@@ -27,8 +26,7 @@ use Rattle.redo_core.proofs.SlotLemmas.{slot_entries-set, slice_get-from, slice_
 use Rattle.redo_core.proofs.TableLemmas.{Fits-more, get-set_cases, get-set_other, fits-set, outcomes-more, watchers-set}
 use Rattle.redo_core.proofs.TableLemmas.{IsWatched-set, cases_place}
 use Rattle.redo_core.proofs.TableSteps.{queue-same}
-use Rattle.redo_core.proofs.LawfulTreeLemmas.{rules_lawful}
-use Rattle.redo_step.specs.Limits.{LimitsView}
+use Rattle.redo_core.proofs.LawfulTreeLemmas.{lawful_for}
 
 count-back : (xs : List Slot) (at : ℕ) (old new : Slot) → slice_get xs at ≡ Some old → is_stage_out old.stage ≡ true → is_stage_out new.stage ≡ false →
     length (filter (λ slot. is_stage_out slot.stage) (slice_set xs at new)) + 1 ≡ length (filter (λ slot. is_stage_out slot.stage) xs)
@@ -41,10 +39,10 @@ count-back (x ∷ xs) (Rattle.std.proofs.Common.suc at) old new h was now =
     let rest = count-back xs at old new h was now in
     elim (cases_Bool (is_stage_out x.stage)) [ inl t ↦ rw t (omega (arith, rest)) | inr f ↦ rw f rest ]
 
-module _ (tree : Tree) (limits : LimitsView) (t u : Table) (newly_ready : List ℕ) (table : IsTableOf tree limits t newly_ready) (distinct : AreDistinct t.targets.keys)
+module _ (given : GivenView) (t u : Table) (newly_ready : List ℕ) (table : IsTableOf given t newly_ready) (distinct : AreDistinct t.targets.keys)
     (at : ℕ) (old new : Slot) (w : IsPutBack t u at old new) where
   abbrev r : Rules
-  r = rules_of tree limits
+  r = rules_for given
 
   put_path : slice_get t.targets.keys at ≡ Some (path_at t.targets.keys at)
   put_path =
@@ -56,60 +54,60 @@ module _ (tree : Tree) (limits : LimitsView) (t u : Table) (newly_ready : List �
   old_open = rw w.was refl
 
   -- the entries are those before with one replaced
-  pub put-entries : table_entries (rules_of tree limits) limits.targets u ≡
-      put (table_entries (rules_of tree limits) limits.targets t) (slot_entry (rules_of tree limits) (outcome_at (rules_of tree limits) limits.targets) (path_at t.targets.keys at) new)
-  put-entries = rw (w.rest.0, w.slots) (slot_entries-set r (outcome_at r limits.targets) t.targets.keys t.slots.items at (path_at t.targets.keys at) old new distinct put_path w.there)
+  pub put-entries : table_entries (rules_for given) given.limits.targets u ≡
+      put (table_entries (rules_for given) given.limits.targets t) (slot_entry (rules_for given) (outcome_at (rules_for given) given.limits.targets) (path_at t.targets.keys at) new)
+  put-entries = rw (w.rest.0, w.slots) (slot_entries-set r (outcome_at r given.limits.targets) t.targets.keys t.slots.items at (path_at t.targets.keys at) old new distinct put_path w.there)
 
   pub put-table : is_stage_out new.stage ≡ false → is_stage_ready new.stage ≡ false → ((k : ℕ) → IsPlace new.watchers.items k → k < length t.slots.items) →
-      ((a : Ask) → Extends (rules_of tree limits) (outcomes_of (table_entries (rules_of tree limits) limits.targets t)) a →
-      Fits (rules_of tree limits) a tree limits (path_at t.targets.keys at) new.turn new.stage) → IsNumbered (rules_of tree limits) t.targets.keys new.stage → IsTableOf tree limits u newly_ready
+      ((a : Ask) → Extends (rules_for given) (outcomes_of (table_entries (rules_for given) given.limits.targets t)) a →
+      Fits (rules_for given) a given (path_at t.targets.keys at) new.turn new.stage) → IsNumbered (rules_for given) t.targets.keys new.stage → IsTableOf given u newly_ready
   put-table in' still below fit numbers =
       let len = length-set t.slots.items at new in
       let count = count-back t.slots.items at old new w.there (rw w.was refl) in' in
-      let raw : IsTable r tree limits t.targets.keys (slice_set t.slots.items at new) t.ready.items u.out newly_ready = record {
+      let raw : IsTable r given t.targets.keys (slice_set t.slots.items at new) t.ready.items u.out newly_ready = record {
         one_each = len ∙ table.one_each;
         within_limit = omega (arith, len, table.within_limit);
         few = table.few;
         out_counted = omega (arith, table.out_counted, w.out, count);
-        fits = fits-set r (rules_lawful tree limits) limits.targets t.targets.keys t.slots.items at (path_at t.targets.keys at) old new distinct put_path w.there tree limits
-            (outcomes-more r (rules_lawful tree limits) limits.targets t.targets.keys t.slots.items at (path_at t.targets.keys at) old new distinct put_path w.there old_open)
-            table.fits (fit (outcomes_of (entries_from r limits.targets t.targets.keys (slice_set t.slots.items at new)))
-            (outcomes-more r (rules_lawful tree limits) limits.targets t.targets.keys t.slots.items at (path_at t.targets.keys at) old new distinct put_path w.there old_open));
+        fits = fits-set r (lawful_for given) given.limits.targets t.targets.keys t.slots.items at (path_at t.targets.keys at) old new distinct put_path w.there given
+            (outcomes-more r (lawful_for given) given.limits.targets t.targets.keys t.slots.items at (path_at t.targets.keys at) old new distinct put_path w.there old_open)
+            table.fits (fit (outcomes_of (entries_from r given.limits.targets t.targets.keys (slice_set t.slots.items at new)))
+            (outcomes-more r (lawful_for given) given.limits.targets t.targets.keys t.slots.items at (path_at t.targets.keys at) old new distinct put_path w.there old_open));
         numbered = numbered-set r t.targets.keys t.slots.items at new numbers table.numbered;
         queue = queue-same t.slots.items t.ready.items newly_ready at old new w.there table.queue (still ∙ sym (rw w.was refl));
         watchers_below = watchers-set t.slots.items at old new w.there below table.watchers_below;
       } in
-      let S : List Slot → Type 0 = λ xs. IsTable r tree limits t.targets.keys xs t.ready.items u.out newly_ready in
+      let S : List Slot → Type 0 = λ xs. IsTable r given t.targets.keys xs t.ready.items u.out newly_ready in
       rw (w.rest.0, w.rest.1) (subst S (sym w.slots) raw)
 
-decided-stage : (fact : FactView) (tree : Tree) (limits : LimitsView) (p : List ℕ) (turn : ℕ) (stage : Stage) → IsDecidedStage fact stage →
-    (fact.tree ≡ tree) → (fact.limits ≡ limits) → (fact.target ≡ p) →
-    (is_stage_out stage ≡ false) × (is_stage_ready stage ≡ false) × (is_stage_waiting stage ≡ false) × ((a : Ask) → Fits (rules_of tree limits) a tree limits p turn stage)
-decided-stage fact tree limits p turn (Waiting parked) h a b c = absurd h
-decided-stage fact tree limits p turn (Ready work) h a b c = absurd h
-decided-stage fact tree limits p turn Out h a b c = absurd h
-decided-stage fact tree limits p turn (Decided held) h a b c = (
+decided-stage : (fact : FactView) (given : GivenView) (p : List ℕ) (turn : ℕ) (stage : Stage) → IsDecidedStage fact stage →
+    (fact.given ≡ given) → (fact.target ≡ p) →
+    (is_stage_out stage ≡ false) × (is_stage_ready stage ≡ false) × (is_stage_waiting stage ≡ false) × ((a : Ask) → Fits (rules_for given) a given p turn stage)
+decided-stage fact given p turn (Waiting parked) h a b = absurd h
+decided-stage fact given p turn (Ready work) h a b = absurd h
+decided-stage fact given p turn Out h a b = absurd h
+decided-stage fact given p turn (Decided held) h a b = (
   refl,
   refl,
   refl,
-  λ _. (ap (λ (f : FactView). f.tree) h ∙ a, ap (λ (f : FactView). f.limits) h ∙ b, ap (λ (f : FactView). f.target) h ∙ c),
+  λ _. (ap (λ (f : FactView). f.given) h ∙ a, ap (λ (f : FactView). f.target) h ∙ b),
 )
 
-parked-stage : (begun : Box Begun Global) (numbers : Vec ℕ Global) (tree : Tree) (limits : LimitsView) (b : Ask) (p : List ℕ) (turn : ℕ) (stage : Stage) → IsParkedStage begun numbers stage →
-    IsWaitingWith (rules_of tree limits) b tree limits p turn (record { begun = begun; operands = numbers; held = 0 }) →
+parked-stage : (begun : Box Begun Global) (numbers : Vec ℕ Global) (given : GivenView) (b : Ask) (p : List ℕ) (turn : ℕ) (stage : Stage) → IsParkedStage begun numbers stage →
+    IsWaitingWith (rules_for given) b given p turn (record { begun = begun; operands = numbers; held = 0 }) →
     (is_stage_out stage ≡ false) × (is_stage_ready stage ≡ false) × (stage_outcome stage ≡ None) ×
-    ((a : Ask) → Extends (rules_of tree limits) b a → Fits (rules_of tree limits) a tree limits p turn stage)
-parked-stage begun numbers tree limits b p turn (Waiting parked) h waits = (
+    ((a : Ask) → Extends (rules_for given) b a → Fits (rules_for given) a given p turn stage)
+parked-stage begun numbers given b p turn (Waiting parked) h waits = (
   refl,
   refl,
   refl,
   λ a more.
-      let P : Parked → Type 0 = λ q. IsWaitingWith (rules_of tree limits) b tree limits p turn q in
-      Fits-more (rules_of tree limits) (rules_lawful tree limits) b a tree limits p turn (Waiting parked) more (subst P (sym h) waits),
+      let P : Parked → Type 0 = λ q. IsWaitingWith (rules_for given) b given p turn q in
+      Fits-more (rules_for given) (lawful_for given) b a given p turn (Waiting parked) more (subst P (sym h) waits),
 )
-parked-stage begun numbers tree limits b p turn (Ready work) h waits = absurd h
-parked-stage begun numbers tree limits b p turn Out h waits = absurd h
-parked-stage begun numbers tree limits b p turn (Decided held) h waits = absurd h
+parked-stage begun numbers given b p turn (Ready work) h waits = absurd h
+parked-stage begun numbers given b p turn Out h waits = absurd h
+parked-stage begun numbers given b p turn (Decided held) h waits = absurd h
 
 parked-numbers : (begun : Box Begun Global) (numbers : Vec ℕ Global) (r : Rules) (ps : List (List ℕ)) (stage : Stage) → IsParkedStage begun numbers stage →
     AreNumbers ps numbers.items (waited_by r begun.value) → IsNumbered r ps stage
@@ -119,20 +117,20 @@ parked-numbers begun numbers r ps (Ready work) h are = absurd h
 parked-numbers begun numbers r ps Out h are = absurd h
 parked-numbers begun numbers r ps (Decided held) h are = absurd h
 
-module _ (tree : Tree) (limits : LimitsView) (t u : Table) (newly_ready : List ℕ) (table : IsTableOf tree limits t newly_ready) (distinct : AreDistinct t.targets.keys) (at : ℕ) where
+module _ (given : GivenView) (t u : Table) (newly_ready : List ℕ) (table : IsTableOf given t newly_ready) (distinct : AreDistinct t.targets.keys) (at : ℕ) where
   -- a target that is decided
   module _ (fact : FactView) (pending : List ℕ) (d : IsDecidedAt t u at fact pending)
-      (one : fact.tree ≡ tree) (two : fact.limits ≡ limits) (three : fact.target ≡ path_at t.targets.keys at) where
-    pub decided-table : IsTableOf tree limits u newly_ready
+      (one : fact.given ≡ given) (two : fact.target ≡ path_at t.targets.keys at) where
+    pub decided-table : IsTableOf given u newly_ready
     decided-table =
-        let h = decided-stage fact tree limits (path_at t.targets.keys at) d.new.turn d.new.stage d.stage one two three in
-        put-table tree limits t u newly_ready table distinct at d.old d.new d.put_back h.0 h.1
-        (λ k m. absurd (let P : List ℕ → Type 0 = λ xs. IsPlace xs k in subst P d.watchers m)) (λ a more. h.3 a) (numbered-still (rules_of tree limits) t.targets.keys d.new.stage h.2)
+        let h = decided-stage fact given (path_at t.targets.keys at) d.new.turn d.new.stage d.stage one two in
+        put-table given t u newly_ready table distinct at d.old d.new d.put_back h.0 h.1
+        (λ k m. absurd (let P : List ℕ → Type 0 = λ xs. IsPlace xs k in subst P d.watchers m)) (λ a more. h.3 a) (numbered-still (rules_for given) t.targets.keys d.new.stage h.2)
 
-    decided-raw : AllWatched (rules_of tree limits) limits.targets t.targets.keys t.slots.items [] →
-        AllWatched (rules_of tree limits) limits.targets t.targets.keys (slice_set t.slots.items at d.new) pending
+    decided-raw : AllWatched (rules_for given) given.limits.targets t.targets.keys t.slots.items [] →
+        AllWatched (rules_for given) given.limits.targets t.targets.keys (slice_set t.slots.items at d.new) pending
     decided-raw all k x g m =
-        let h = decided-stage fact tree limits (path_at t.targets.keys at) d.new.turn d.new.stage d.stage one two three in
+        let h = decided-stage fact given (path_at t.targets.keys at) d.new.turn d.new.stage d.stage one two in
         elim (get-set_cases t.slots.items at k d.new x g) [
           | inl here ↦ absurd (both_ways _ h.2 (ap (λ (y : Slot). is_stage_waiting y.stage) here.1 ∙ m))
           | inr before ↦ elim (all k x before.1 m) [
@@ -157,37 +155,37 @@ module _ (tree : Tree) (limits : LimitsView) (t u : Table) (newly_ready : List �
           ]
         ]
 
-    pub decided-watched : AllWatched (rules_of tree limits) limits.targets t.targets.keys t.slots.items [] →
-        AllWatched (rules_of tree limits) limits.targets u.targets.keys u.slots.items pending
+    pub decided-watched : AllWatched (rules_for given) given.limits.targets t.targets.keys t.slots.items [] →
+        AllWatched (rules_for given) given.limits.targets u.targets.keys u.slots.items pending
     decided-watched all = rw (d.put_back.rest.0, d.put_back.slots) (decided-raw all)
 
   -- a job that is parked again
   module _ (begun : Box Begun Global) (numbers : Vec ℕ Global) (d : IsParkedAt t u at begun numbers)
-      (waits : IsWaitingWith (rules_of tree limits) (outcomes_of (table_entries (rules_of tree limits) limits.targets t)) tree limits (path_at t.targets.keys at) d.new.turn (record { begun = begun; operands = numbers; held = 0 }))
-      (are : AreNumbers t.targets.keys numbers.items (waited_by (rules_of tree limits) begun.value)) where
+      (waits : IsWaitingWith (rules_for given) (outcomes_of (table_entries (rules_for given) given.limits.targets t)) given (path_at t.targets.keys at) d.new.turn (record { begun = begun; operands = numbers; held = 0 }))
+      (are : AreNumbers t.targets.keys numbers.items (waited_by (rules_for given) begun.value)) where
     same_list : d.new.watchers.items ≡ d.old.watchers.items
     same_list = ap (λ (y : Rattle.std.specs.declared.vec.Vec.Vec ℕ Rattle.std.proofs.Common.Global). y.items) d.watchers
 
-    pub parked-table : IsTableOf tree limits u newly_ready
+    pub parked-table : IsTableOf given u newly_ready
     parked-table =
-        let h = parked-stage begun numbers tree limits (outcomes_of (table_entries (rules_of tree limits) limits.targets t)) (path_at t.targets.keys at) d.new.turn d.new.stage d.stage waits in
-        put-table tree limits t u newly_ready table distinct at d.old d.new d.put_back h.0 h.1
+        let h = parked-stage begun numbers given (outcomes_of (table_entries (rules_for given) given.limits.targets t)) (path_at t.targets.keys at) d.new.turn d.new.stage d.stage waits in
+        put-table given t u newly_ready table distinct at d.old d.new d.put_back h.0 h.1
         (λ k m. table.watchers_below at k d.old d.put_back.there (rw same_list at m)) h.3
-        (parked-numbers begun numbers (rules_of tree limits) t.targets.keys d.new.stage d.stage are)
+        (parked-numbers begun numbers (rules_for given) t.targets.keys d.new.stage d.stage are)
 
-    parked-raw : AllWatched (rules_of tree limits) limits.targets t.targets.keys t.slots.items [] →
-        AllWatched (rules_of tree limits) limits.targets t.targets.keys (slice_set t.slots.items at d.new) (at ∷ [])
+    parked-raw : AllWatched (rules_for given) given.limits.targets t.targets.keys t.slots.items [] →
+        AllWatched (rules_for given) given.limits.targets t.targets.keys (slice_set t.slots.items at d.new) (at ∷ [])
     parked-raw all k x g m =
-        let h = parked-stage begun numbers tree limits (outcomes_of (table_entries (rules_of tree limits) limits.targets t)) (path_at t.targets.keys at) d.new.turn d.new.stage d.stage waits in
+        let h = parked-stage begun numbers given (outcomes_of (table_entries (rules_for given) given.limits.targets t)) (path_at t.targets.keys at) d.new.turn d.new.stage d.stage waits in
         elim (get-set_cases t.slots.items at k d.new x g) [
           | inl here ↦ inl (inl (sym here.0))
           | inr before ↦ elim (all k x before.1 m) [
             | inl none ↦ absurd none
-            | inr v ↦ inr (IsWatched-set t.slots.items at d.old d.new d.put_back.there (rules_of tree limits) t.targets.keys k
-                (stage_deps (rules_of tree limits) (outcome_at (rules_of tree limits) limits.targets) (path_at t.targets.keys k) x.turn x.stage) h.2 (λ j p. rw same_list p) v)
+            | inr v ↦ inr (IsWatched-set t.slots.items at d.old d.new d.put_back.there (rules_for given) t.targets.keys k
+                (stage_deps (rules_for given) (outcome_at (rules_for given) given.limits.targets) (path_at t.targets.keys k) x.turn x.stage) h.2 (λ j p. rw same_list p) v)
           ]
         ]
 
-    pub parked-watched : AllWatched (rules_of tree limits) limits.targets t.targets.keys t.slots.items [] →
-        AllWatched (rules_of tree limits) limits.targets u.targets.keys u.slots.items (at ∷ [])
+    pub parked-watched : AllWatched (rules_for given) given.limits.targets t.targets.keys t.slots.items [] →
+        AllWatched (rules_for given) given.limits.targets u.targets.keys u.slots.items (at ∷ [])
     parked-watched all = rw (d.put_back.rest.0, d.put_back.slots) (parked-raw all)

@@ -16,7 +16,7 @@ use Rattle.redo_step.specs.JobView.{JobView, record_so_far}
 use Rattle.redo_record.specs.declared.deps.Dep.{Dep}
 use Rattle.redo_record.specs.declared.outcome.Outcome.{Outcome}
 use Rattle.redo_record.specs.declared.outcome.Outcome.TheVariants.{Built, Cyclic, Source as Is_source}
-use Rattle.redo_core.specs.Build.{rules_of}
+use Rattle.redo_core.specs.Build.{GivenView, rules_for}
 use Rattle.redo_build.specs.Outcomes.{outcome_at, needed_at, final_outcome, record_of}
 use Rattle.redo_record.specs.Paths.{IsAmong, AreDistinct}
 use Rattle.redo_core.specs.inside.Reported.{reported_paths, placed, sources_among, row_files, row_begun, IsShown}
@@ -45,7 +45,6 @@ use Rattle.redo_core.proofs.RowLemmas.{IsItem, item-contained, contained-item, a
 use Rattle.redo_core.proofs.RowLemmas.{row_path, filter-among, files_sorted, file_row, row_file}
 use Rattle.redo_core.proofs.SlotLemmas.{paths_of-slots, entry_of-slots, out_count-slots}
 use Rattle.redo_core.proofs.TakeLemmas.{distinct-inside, shows-inside, sound-inside, view_of}
-use Rattle.redo_step.specs.Limits.{LimitsView}
 
 -- a source has no rule
 source-unruled : (tree : Tree) (p : List ℕ) → is_rule (found_of tree p) ≡ true → is_some (file_at tree p) ≡ true → ⊥
@@ -76,80 +75,80 @@ later_deps job h = (elim (job.turn) as (λ (n : ℕ). 0 < n → record_so_far jo
 ]) h
 
 -- what a stage comes to is its outcome and record
-stage-shown : (r : Rules) (a : Ask) (tree : Tree) (limits : LimitsView) (p q : List ℕ) (turn : ℕ) (stage : Stage) (o : Outcome) (deps : List Dep) →
-    Fits r a tree limits q turn stage → IsShown stage o deps → (b : Ask) → (o ≡ unwrap_or (stage_outcome stage) Cyclic) × (deps ≡ stage_deps r b p turn stage)
-stage-shown r a tree limits p q turn (Waiting parked) o deps fits shown b =
+stage-shown : (r : Rules) (a : Ask) (given : GivenView) (p q : List ℕ) (turn : ℕ) (stage : Stage) (o : Outcome) (deps : List Dep) →
+    Fits r a given q turn stage → IsShown stage o deps → (b : Ask) → (o ≡ unwrap_or (stage_outcome stage) Cyclic) × (deps ≡ stage_deps r b p turn stage)
+stage-shown r a given p q turn (Waiting parked) o deps fits shown b =
     (shown.0, shown.1 ∙ later_deps parked.begun.value.job (omega (arith, fits.at_turn, fits.stopped)))
-stage-shown r a tree limits p q turn (Ready work) o deps fits shown b = absurd shown
-stage-shown r a tree limits p q turn Out o deps fits shown b = absurd shown
-stage-shown r a tree limits p q turn (Decided fact) o deps fits shown b = (shown.0, shown.1)
+stage-shown r a given p q turn (Ready work) o deps fits shown b = absurd shown
+stage-shown r a given p q turn Out o deps fits shown b = absurd shown
+stage-shown r a given p q turn (Decided fact) o deps fits shown b = (shown.0, shown.1)
 
 source-outcome : (r : Rules) (n : ℕ) (p : List ℕ) → r.is_source p ≡ true → outcome_at r n p ≡ Some Is_source
 source-outcome r zero p s = rw s refl
 source-outcome r (suc n) p s = rw s refl
 
-module _ (tree : Tree) (limits : LimitsView) (request : List (List ℕ)) (t : Table) (s : State)
-    (entries : s.entries ≡ entries_from (rules_of tree limits) limits.targets t.targets.keys t.slots.items)
-    (shows : ShowsBuild (rules_of tree limits) request limits.targets s)
+module _ (given : GivenView) (request : List (List ℕ)) (t : Table) (s : State)
+    (entries : s.entries ≡ entries_from (rules_for given) given.limits.targets t.targets.keys t.slots.items)
+    (shows : ShowsBuild (rules_for given) request given.limits.targets s)
     (one_each : length t.slots.items ≡ length t.targets.keys) (distinct : AreDistinct t.targets.keys)
-    (fits : AllFit (rules_of tree limits) limits.targets tree limits t.targets.keys t.slots.items)
-    (targets : (p : List ℕ) → IsAmong t.targets.keys p → is_some (file_at tree p) ≡ false) where
+    (fits : AllFit (rules_for given) given.limits.targets given t.targets.keys t.slots.items)
+    (targets : (p : List ℕ) → IsAmong t.targets.keys p → is_some (file_at given.tree p) ≡ false) where
   abbrev r : Rules
-  r = rules_of tree limits
+  r = rules_for given
 
   abbrev es : List Entry
-  es = entries_from (rules_of tree limits) limits.targets t.targets.keys t.slots.items
+  es = entries_from (rules_for given) given.limits.targets t.targets.keys t.slots.items
 
   keys : paths_of s.entries ≡ t.targets.keys
-  keys = ap paths_of entries ∙ paths_of-slots r (outcome_at r limits.targets) t.targets.keys t.slots.items one_each
+  keys = ap paths_of entries ∙ paths_of-slots r (outcome_at r given.limits.targets) t.targets.keys t.slots.items one_each
 
-  key-needed : (p : List ℕ) → IsAmong t.targets.keys p → IsAmong (needed_at (rules_of tree limits) request limits.targets) p
+  key-needed : (p : List ℕ) → IsAmong t.targets.keys p → IsAmong (needed_at (rules_for given) request given.limits.targets) p
   key-needed p m = (shows.members p).0 (let P : List (List ℕ) → Type 0 = λ ps. IsAmong ps p in subst P (sym keys) m)
 
-  needed-key : (p : List ℕ) → IsAmong (needed_at (rules_of tree limits) request limits.targets) p → IsAmong t.targets.keys p
+  needed-key : (p : List ℕ) → IsAmong (needed_at (rules_for given) request given.limits.targets) p → IsAmong t.targets.keys p
   needed-key p m = let P : List (List ℕ) → Type 0 = λ ps. IsAmong ps p in subst P keys ((shows.members p).1 m)
 
   -- a reported path is a needed target or a requested source
-  reported-from : (p : List ℕ) → IsAmong (reported_paths tree request t) p → IsAmong t.targets.keys p ⊎ (IsAmong request p × (is_some (file_at tree p) ≡ true))
-  reported-from p m = elim (placed-from (placed [] t.targets.keys) (sources_among tree request) p m) [
+  reported-from : (p : List ℕ) → IsAmong (reported_paths given.tree request t) p → IsAmong t.targets.keys p ⊎ (IsAmong request p × (is_some (file_at given.tree p) ≡ true))
+  reported-from p m = elim (placed-from (placed [] t.targets.keys) (sources_among given.tree request) p m) [
     | inl first ↦ elim (placed-from [] t.targets.keys p first) [ inl none ↦ absurd none | inr key ↦ inl key ]
-    | inr source ↦ inr (filter-from (λ q. is_some (file_at tree q)) request p source, filter-passes (λ q. is_some (file_at tree q)) request p source)
+    | inr source ↦ inr (filter-from (λ q. is_some (file_at given.tree q)) request p source, filter-passes (λ q. is_some (file_at given.tree q)) request p source)
   ]
 
-  reported-key : (p : List ℕ) → IsAmong t.targets.keys p → IsAmong (reported_paths tree request t) p
-  reported-key p m = placed-first (placed [] t.targets.keys) (sources_among tree request) p (placed-second [] t.targets.keys p m)
+  reported-key : (p : List ℕ) → IsAmong t.targets.keys p → IsAmong (reported_paths given.tree request t) p
+  reported-key p m = placed-first (placed [] t.targets.keys) (sources_among given.tree request) p (placed-second [] t.targets.keys p m)
 
-  reported-source : (p : List ℕ) → IsAmong request p → is_some (file_at tree p) ≡ true → IsAmong (reported_paths tree request t) p
-  reported-source p m source = placed-second (placed [] t.targets.keys) (sources_among tree request) p (filter-among (λ q. is_some (file_at tree q)) request p m source)
+  reported-source : (p : List ℕ) → IsAmong request p → is_some (file_at given.tree p) ≡ true → IsAmong (reported_paths given.tree request t) p
+  reported-source p m source = placed-second (placed [] t.targets.keys) (sources_among given.tree request) p (filter-among (λ q. is_some (file_at given.tree q)) request p m source)
 
   abbrev IsRight : Row → Type 0
-  IsRight row = (row.outcome ≡ final_outcome (rules_of tree limits) limits.targets row.path) × (arc_value row.deps ≡ deps_of (rules_of tree limits) limits.targets row.path)
+  IsRight row = (row.outcome ≡ final_outcome (rules_for given) given.limits.targets row.path) × (arc_value row.deps ≡ deps_of (rules_for given) given.limits.targets row.path)
 
   target-right : (row : Row) → IsTargetRow t row → IsRight row
   target-right row is =
       let key = slice_get-among t.targets.keys is.at row.path is.path in
-      let P : List Entry → Type 0 = λ xs. entry_of xs row.path ≡ Some (slot_entry r (outcome_at r limits.targets) row.path is.slot) in
-      let found : entry_of s.entries row.path ≡ Some (slot_entry r (outcome_at r limits.targets) row.path is.slot) = subst P (sym entries)
-      (entry_of-slots r (outcome_at r limits.targets) t.targets.keys t.slots.items is.at row.path is.slot distinct is.path is.there) in
+      let P : List Entry → Type 0 = λ xs. entry_of xs row.path ≡ Some (slot_entry r (outcome_at r given.limits.targets) row.path is.slot) in
+      let found : entry_of s.entries row.path ≡ Some (slot_entry r (outcome_at r given.limits.targets) row.path is.slot) = subst P (sym entries)
+      (entry_of-slots r (outcome_at r given.limits.targets) t.targets.keys t.slots.items is.at row.path is.slot distinct is.path is.there) in
       let among : IsAmong (paths_of s.entries) row.path = let Q : List (List ℕ) → Type 0 = λ ps. IsAmong ps row.path in subst Q (sym keys) key in
-      let outcome : stage_outcome is.slot.stage ≡ outcome_at r limits.targets row.path = sym (ap outcome_of found) ∙ shows.outcomes row.path among in
-      let deps : stage_deps r (outcome_at r limits.targets) row.path is.slot.turn is.slot.stage ≡ record_of r limits.targets row.path = shows.declared row.path (slot_entry r (outcome_at r limits.targets) row.path is.slot) found in
-      let shown = stage-shown r (outcomes_of es) tree limits row.path (path_at t.targets.keys is.at) is.slot.turn is.slot.stage row.outcome (arc_value row.deps) (fits is.at is.slot is.there) is.shown (outcome_at r limits.targets) in
-      let source : is_some (file_at tree row.path) ≡ false = targets row.path key in
+      let outcome : stage_outcome is.slot.stage ≡ outcome_at r given.limits.targets row.path = sym (ap outcome_of found) ∙ shows.outcomes row.path among in
+      let deps : stage_deps r (outcome_at r given.limits.targets) row.path is.slot.turn is.slot.stage ≡ record_of r given.limits.targets row.path = shows.declared row.path (slot_entry r (outcome_at r given.limits.targets) row.path is.slot) found in
+      let shown = stage-shown r (outcomes_of es) given row.path (path_at t.targets.keys is.at) is.slot.turn is.slot.stage row.outcome (arc_value row.deps) (fits is.at is.slot is.there) is.shown (outcome_at r given.limits.targets) in
+      let source : is_some (file_at given.tree row.path) ≡ false = targets row.path key in
       (shown.0 ∙ ap (λ (o : Option Outcome). unwrap_or o Cyclic) outcome, shown.1 ∙ deps ∙ sym (rw source refl))
 
-  source-right : (row : Row) → is_some (file_at tree row.path) ≡ true → IsSourceRow t row → IsRight row
+  source-right : (row : Row) → is_some (file_at given.tree row.path) ≡ true → IsSourceRow t row → IsRight row
   source-right row source is =
-      (is.outcome ∙ sym (ap (λ (o : Option Outcome). unwrap_or o Cyclic) (source-outcome r limits.targets row.path source)), is.deps ∙ sym (rw source refl))
+      (is.outcome ∙ sym (ap (λ (o : Option Outcome). unwrap_or o Cyclic) (source-outcome r given.limits.targets row.path source)), is.deps ∙ sym (rw source refl))
 
-  module _ (report : Report) (made : IsReportOf tree request t report) where
-    row-reported : (row : Row) → IsItem report.rows.items row → IsAmong (reported_paths tree request t) row.path
+  module _ (report : Report) (made : IsReportOf given.tree request t report) where
+    row-reported : (row : Row) → IsItem report.rows.items row → IsAmong (reported_paths given.tree request t) row.path
     row-reported row m = let P : List (List ℕ) → Type 0 = λ ps. IsAmong ps row.path in subst P made.paths (row_path report.rows.items row m)
 
-    reported-row : (p : List ℕ) → IsAmong (reported_paths tree request t) p → IsAmong (row_paths report) p
+    reported-row : (p : List ℕ) → IsAmong (reported_paths given.tree request t) p → IsAmong (row_paths report) p
     reported-row p m = let P : List (List ℕ) → Type 0 = λ ps. IsAmong ps p in subst P (sym made.paths) m
 
-    row-cases : (p : List ℕ) → IsAmong (row_paths report) p → IsAmong t.targets.keys p ⊎ (IsAmong request p × (is_some (file_at tree p) ≡ true))
+    row-cases : (p : List ℕ) → IsAmong (row_paths report) p → IsAmong t.targets.keys p ⊎ (IsAmong request p × (is_some (file_at given.tree p) ≡ true))
     row-cases p m = reported-from p (let P : List (List ℕ) → Type 0 = λ ps. IsAmong ps p in subst P made.paths m)
 
     right : AllByRecursion IsRight report.rows.items
@@ -164,37 +163,37 @@ module _ (tree : Tree) (limits : LimitsView) (request : List (List ℕ)) (t : Ta
     right-row : (row : Row) → IsItem report.rows.items row → IsRight row
     right-row row m = of_item IsRight report.rows.items row right m
 
-    built-needed : (p bytes : List ℕ) → IsAmong (row_paths report) p → final_outcome (rules_of tree limits) limits.targets p ≡ Built (Some bytes) → IsAmong (needed_at (rules_of tree limits) request limits.targets) p
+    built-needed : (p bytes : List ℕ) → IsAmong (row_paths report) p → final_outcome (rules_for given) given.limits.targets p ≡ Built (Some bytes) → IsAmong (needed_at (rules_for given) request given.limits.targets) p
     built-needed p bytes m built = elim (row-cases p m) [
       | inl key ↦ key-needed p key
       | inr source ↦
-          let is : final_outcome r limits.targets p ≡ Is_source = ap (λ (o : Option Outcome). unwrap_or o Cyclic) (source-outcome r limits.targets p source.1) in
+          let is : final_outcome r given.limits.targets p ≡ Is_source = ap (λ (o : Option Outcome). unwrap_or o Cyclic) (source-outcome r given.limits.targets p source.1) in
           let bad : Is_source ≡ Built (Some bytes) = sym is ∙ built in
           cc
     ]
 
     abbrev IsFile : List ℕ × List ℕ → Type 0
-    IsFile f = IsAmong (needed_at (rules_of tree limits) request limits.targets) f.0 × (final_outcome (rules_of tree limits) limits.targets f.0 ≡ Built (Some f.1))
+    IsFile f = IsAmong (needed_at (rules_for given) request given.limits.targets) f.0 × (final_outcome (rules_for given) given.limits.targets f.0 ≡ Built (Some f.1))
 
     file-from : (f : List ℕ × List ℕ) → IsItem (row_files report.rows.items) f → IsFile f
     file-from f m =
         let found = file_row report.rows.items f m in
-        let built : final_outcome r limits.targets found.0.path ≡ Built (Some f.1) = sym (right-row found.0 found.1).0 ∙ found.2 in
+        let built : final_outcome r given.limits.targets found.0.path ≡ Built (Some f.1) = sym (right-row found.0 found.1).0 ∙ found.2 in
         let there = built-needed found.0.path f.1 (row_path report.rows.items found.0 found.1) built in
-        let P : List ℕ → Type 0 = λ p. IsAmong (needed_at r request limits.targets) p × (final_outcome r limits.targets p ≡ Built (Some f.1)) in
+        let P : List ℕ → Type 0 = λ p. IsAmong (needed_at r request given.limits.targets) p × (final_outcome r given.limits.targets p ≡ Built (Some f.1)) in
         subst P found.3 (there, built)
 
-    file-to : (p bytes : List ℕ) → IsAmong (needed_at (rules_of tree limits) request limits.targets) p → final_outcome (rules_of tree limits) limits.targets p ≡ Built (Some bytes) → IsItem (row_files report.rows.items) (p, bytes)
+    file-to : (p bytes : List ℕ) → IsAmong (needed_at (rules_for given) request given.limits.targets) p → final_outcome (rules_for given) given.limits.targets p ≡ Built (Some bytes) → IsItem (row_files report.rows.items) (p, bytes)
     file-to p bytes m built =
         let found = path_row report.rows.items p (reported-row p (reported-key p (needed-key p m))) in
-        let is : found.0.outcome ≡ Built (Some bytes) = (right-row found.0 found.1).0 ∙ ap (final_outcome r limits.targets) found.2 ∙ built in
+        let is : found.0.outcome ≡ Built (Some bytes) = (right-row found.0 found.1).0 ∙ ap (final_outcome r given.limits.targets) found.2 ∙ built in
         let P : List ℕ → Type 0 = λ x. IsItem (row_files report.rows.items) (x, bytes) in
         subst P found.2 (row_file report.rows.items found.0 bytes found.1 is)
 
     sorted : AreSorted (row_paths report)
-    sorted = let P : List (List ℕ) → Type 0 = AreSorted in subst P (sym made.paths) (placed-sorted (placed [] t.targets.keys) (sources_among tree request) (placed-sorted [] t.targets.keys tt))
+    sorted = let P : List (List ℕ) → Type 0 = AreSorted in subst P (sym made.paths) (placed-sorted (placed [] t.targets.keys) (sources_among given.tree request) (placed-sorted [] t.targets.keys tt))
 
-    pub is-report : IsReport (rules_of tree limits) request limits.targets report
+    pub is-report : IsReport (rules_for given) request given.limits.targets report
     is-report =
         let A : List (List ℕ × List ℕ) → Type 0 = λ fs. AreAscending (map (λ file. file.0) fs) in
         let B : List (List ℕ) → Type 0 = AreAscending in
@@ -217,18 +216,18 @@ module _ (tree : Tree) (limits : LimitsView) (request : List (List ℕ)) (t : Ta
             λ m.
                 let G : List (List ℕ) → Type 0 = λ ps. IsAmong ps p in
                 let here = subst G made.begun m in
-                let rule = filter-passes (λ q. is_rule (found_of tree q)) (row_paths report) p here in
-                elim (row-cases p (filter-from (λ q. is_rule (found_of tree q)) (row_paths report) p here)) [
+                let rule = filter-passes (λ q. is_rule (found_of given.tree q)) (row_paths report) p here in
+                elim (row-cases p (filter-from (λ q. is_rule (found_of given.tree q)) (row_paths report) p here)) [
                   | inl key ↦ (key-needed p key, rule, refl)
-                  | inr source ↦ absurd (source-unruled tree p rule source.1)
+                  | inr source ↦ absurd (source-unruled given.tree p rule source.1)
                 ],
             λ m.
                 let G : List (List ℕ) → Type 0 = λ ps. IsAmong ps p in
-                subst G (sym made.begun) (filter-among (λ q. is_rule (found_of tree q)) (row_paths report) p (reported-row p (reported-key p (needed-key p m.0))) m.1),
+                subst G (sym made.begun) (filter-among (λ q. is_rule (found_of given.tree q)) (row_paths report) p (reported-row p (reported-key p (needed-key p m.0))) m.1),
           );
           rows_ordered = sorted-ascending (row_paths report) sorted;
           files_ordered = subst A (sym made.files) (sorted-ascending (map (λ file. file.0) (row_files report.rows.items)) (files_sorted report.rows.items sorted));
-          begun_ordered = subst B (sym made.begun) (sorted-ascending (row_begun tree report.rows.items) (filter-sorted (λ q. is_rule (found_of tree q)) (row_paths report) sorted));
+          begun_ordered = subst B (sym made.begun) (sorted-ascending (row_begun given.tree report.rows.items) (filter-sorted (λ q. is_rule (found_of given.tree q)) (row_paths report) sorted));
         }
 
 -- A quiet board
@@ -263,16 +262,16 @@ module _ (b : Inside) (kept : IsKept b) (quiet : IsQuiet (state_of b)) where
         | inr none ↦ none
       ])
       (λ out. out-counted b.table.slots.items k slot there out
-      (sym (out_count-slots (rules_inside b) (outcome_at (rules_inside b) b.limits.targets) b.table.targets.keys b.table.slots.items kept.table.one_each) ∙ quiet.1))
+      (sym (out_count-slots (rules_inside b) (outcome_at (rules_inside b) (arc_value b.given).limits.targets) b.table.targets.keys b.table.slots.items kept.table.one_each) ∙ quiet.1))
 
-  target-keys : (p : List ℕ) → IsAmong b.table.targets.keys p → is_some (file_at (arc_value b.tree) p) ≡ false
+  target-keys : (p : List ℕ) → IsAmong b.table.targets.keys p → is_some (file_at (arc_value b.given).tree p) ≡ false
   target-keys p m =
       let P : List (List ℕ) → Type 0 = λ ps. IsAmong ps p in
       (sound-inside b kept).standing.targets p
-      (subst P (sym (paths_of-slots (rules_inside b) (outcome_at (rules_inside b) b.limits.targets) b.table.targets.keys b.table.slots.items kept.table.one_each)) m)
+      (subst P (sym (paths_of-slots (rules_inside b) (outcome_at (rules_inside b) (arc_value b.given).limits.targets) b.table.targets.keys b.table.slots.items kept.table.one_each)) m)
 
-  pub report-inside : (report : Report) → IsReportOf (arc_value b.tree) b.request.items b.table report → IsReport (rules_inside b) b.request.items b.limits.targets report
-  report-inside report made = is-report (arc_value b.tree) b.limits b.request.items b.table (state_of b) refl (shows-inside b kept quiet)
+  pub report-inside : (report : Report) → IsReportOf (arc_value b.given).tree b.request.items b.table report → IsReport (rules_inside b) b.request.items (arc_value b.given).limits.targets report
+  report-inside report made = is-report (arc_value b.given) b.request.items b.table (state_of b) refl (shows-inside b kept quiet)
       kept.table.one_each (distinct-inside b kept) kept.table.fits target-keys report made
 
 no_paths : (ps : List (List ℕ)) → length ps ≡ 0 → ps ≡ []
@@ -299,13 +298,13 @@ if_ok-more (Err e) P Q f h = tt
 
 -- the report of a quiet board's table is that of its build
 pub report-view : (b : Inside) (invariant : IsNone b.stopped → IsKept b) (view : BoardView) → view_of b ≡ view → IsQuietBoard view →
-    (tree : Tree) (request : List (List ℕ)) → tree ≡ arc_value b.tree → request ≡ b.request.items →
-    (report : Report) → IsReportOf tree request b.table report → IsReport (rules_on view) view.request view.limits.targets report
+    (tree : Tree) (request : List (List ℕ)) → tree ≡ (arc_value b.given).tree → request ≡ b.request.items →
+    (report : Report) → IsReportOf tree request b.table report → IsReport (rules_on view) view.request view.given.limits.targets report
 report-view b invariant view is quiet tree request of_tree of_request report made =
     let q = quiet-inside b view is quiet in
     let T : Tree → Type 0 = λ x. IsReportOf x request b.table report in
-    let R : List (List ℕ) → Type 0 = λ x. IsReportOf (arc_value b.tree) x b.table report in
-    let V : BoardView → Type 0 = λ v. IsReport (rules_on v) v.request v.limits.targets report in
+    let R : List (List ℕ) → Type 0 = λ x. IsReportOf (arc_value b.given).tree x b.table report in
+    let V : BoardView → Type 0 = λ v. IsReport (rules_on v) v.request v.given.limits.targets report in
     subst V is (report-inside b (invariant q.0) q.1 report (subst R of_request (subst T of_tree made)))
 
 -- whether a script was begun is whether there is a rule
@@ -316,17 +315,17 @@ begun-told tree p Out begun told is = absurd is
 begun-told tree p (Decided fact) begun told is =
     is.1 ∙ ap (λ t. is_rule (found_of t (arc_value fact).target)) told.0 ∙ ap (λ q. is_rule (found_of tree q)) told.1
 
-told-stage : (r : Rules) (a : Ask) (tree : Tree) (limits : LimitsView) (p q : List ℕ) (turn : ℕ) (stage : Stage) → q ≡ p → Fits r a tree limits q turn stage → IsTold tree p stage
-told-stage r a tree limits p q turn (Waiting parked) same fits =
-    ap (λ x. is_rule (found_of tree x)) (sym (fits.of_target ∙ same)) ∙ ap is_rule fits.is_job.found
-told-stage r a tree limits p q turn (Ready work) same fits = tt
-told-stage r a tree limits p q turn Out same fits = tt
-told-stage r a tree limits p q turn (Decided fact) same fits = (fits.0, fits.2 ∙ same)
+told-stage : (r : Rules) (a : Ask) (given : GivenView) (p q : List ℕ) (turn : ℕ) (stage : Stage) → q ≡ p → Fits r a given q turn stage → IsTold given.tree p stage
+told-stage r a given p q turn (Waiting parked) same fits =
+    ap (λ x. is_rule (found_of given.tree x)) (sym (fits.of_target ∙ same)) ∙ ap is_rule fits.is_job.found
+told-stage r a given p q turn (Ready work) same fits = tt
+told-stage r a given p q turn Out same fits = tt
+told-stage r a given p q turn (Decided fact) same fits = (ap (λ (g : GivenView). g.tree) fits.0, fits.1 ∙ same)
 
 -- what a board's table holds is of its paths
-pub told-inside : (b : Inside) → IsKept b → (tree : Tree) → tree ≡ arc_value b.tree → AllTold tree b.table
+pub told-inside : (b : Inside) → IsKept b → (tree : Tree) → tree ≡ (arc_value b.given).tree → AllTold tree b.table
 told-inside b kept tree same =
     let P : Tree → Type 0 = λ t. AllTold t b.table in
     subst P (sym same) (λ k slot p there at.
-    told-stage (rules_inside b) (outcomes_of (state_of b).entries) (arc_value b.tree) b.limits p (path_at b.table.targets.keys k) slot.turn slot.stage
+    told-stage (rules_inside b) (outcomes_of (state_of b).entries) (arc_value b.given) p (path_at b.table.targets.keys k) slot.turn slot.stage
     (rw at refl) (kept.table.fits k slot there))

@@ -3,7 +3,6 @@ use Rattle.std.proofs.Common.{map, remove, slice_get, slice_set, slice_index_or,
 use Rattle.std.proofs.Common.{◌<◌, ◌≤◌, Bool, true, false, inl, inr, List, [], ◌∷◌, length, filter, Option, Some, None}
 use Rattle.std.proofs.Common.{is_some, IsNone, rules, refl, sym, ap, subst, ◌∙◌, arith, bytes_eq}
 use Rattle.std.proofs.lemmas.Bool.{cases_Bool}
-use Rattle.redo_tree.specs.Tree.{Tree}
 use Rattle.redo_build.specs.Rules.{Ask, Rules, AreLawful}
 use Rattle.redo_build.specs.Outcomes.{outcome_at}
 use Rattle.redo_build.proofs.SeenLemmas.{entry_of-path, decided_count-length}
@@ -27,7 +26,7 @@ use Rattle.redo_build.proofs.SoundLemmas.{IsSound}
 use Rattle.redo_record.specs.declared.deps.Dep.{Dep}
 use Rattle.redo_record.specs.declared.outcome.Outcome.{Outcome}
 use Rattle.std.proofs.lemmas.Slice.Eq.{bytes_eq-Decides}
-use Rattle.redo_step.specs.Limits.{LimitsView}
+use Rattle.redo_core.specs.Build.{GivenView}
 
 -- as many entries are out as slots
 pub out_count-slots : (r : Rules) (a : Ask) (ps : List (List ℕ)) (slots : List Slot) → length slots ≡ length ps →
@@ -106,12 +105,12 @@ length-filter_le f (x ∷ xs) = elim (cases_Bool (f x)) [
 ]
 
 -- a ready slot has its job
-pub ready-job : (r : Rules) (a : Ask) (tree : Tree) (limits : LimitsView) (p : List ℕ) (turn : ℕ) (stage : Stage) → Fits r a tree limits p turn stage →
-    is_stage_ready stage ≡ true → (work : Work) × (stage ≡ Ready work) × IsParked tree limits p turn work × AllAnswered r a work.deps
-ready-job r a tree limits p turn (Ready work) h t = (work, refl, h.0, h.1)
-ready-job r a tree limits p turn (Waiting work) h t = cc
-ready-job r a tree limits p turn Out h t = cc
-ready-job r a tree limits p turn (Decided fact) h t = cc
+pub ready-job : (r : Rules) (a : Ask) (given : GivenView) (p : List ℕ) (turn : ℕ) (stage : Stage) → Fits r a given p turn stage →
+    is_stage_ready stage ≡ true → (work : Work) × (stage ≡ Ready work) × IsParked given p turn work × AllAnswered r a work.deps
+ready-job r a given p turn (Ready work) h t = (work, refl, h.0, h.1)
+ready-job r a given p turn (Waiting work) h t = cc
+ready-job r a given p turn Out h t = cc
+ready-job r a given p turn (Decided fact) h t = cc
 
 -- an undecided entry's record is that of its turn under the build at any depth that is no less than the number of entries
 pub deps_deep : (r : Rules) (lawful : AreLawful r) (request : List (List ℕ)) (es : List Entry) (standing : AreStanding r request es) (n : ℕ) →

@@ -2,7 +2,6 @@
 use Rattle.std.proofs.Common.{drop, remove, slice_get, slice_set, ◌≡◌, ℕ, zero, suc, ◌<◌, true, ◌⊎◌, inl, inr, List, []}
 use Rattle.std.proofs.Common.{◌∷◌, ◌++◌, length, length-set, Some, None, refl, sym, ap, subst, ◌∙◌, arith, bytes_eq}
 use Rattle.std.proofs.lemmas.Bool.{cases_Bool, both_ways}
-use Rattle.redo_tree.specs.Tree.{Tree}
 use Rattle.redo_record.specs.Paths.{IsAmong, AreDistinct}
 use Rattle.redo_build.specs.Rules.{Ask, Rules, AreLawful, Extends, operands}
 use Rattle.redo_build.proofs.SeenLemmas.{entry_of-put_other}
@@ -19,7 +18,7 @@ use Rattle.redo_build.proofs.DepthLemmas.{cases_Option, operand-target}
 use Rattle.redo_build.proofs.QueueLemmas.{slice_get-among}
 use Rattle.redo_core.proofs.SlotLemmas.{entry_of-slots, slot_entries-set}
 use Rattle.std.proofs.lemmas.Slice.Eq.{bytes_eq-Decides}
-use Rattle.redo_step.specs.Limits.{LimitsView}
+use Rattle.redo_core.specs.Build.{GivenView}
 
 pub slice_get-place : (xs : List ℕ) (i k : ℕ) → slice_get xs i ≡ Some k → IsPlace xs k
 slice_get-place [] i k h = cc
@@ -91,9 +90,9 @@ cases_place zero (suc at) = inr (λ e. absurd (omega arith))
 cases_place (suc i) zero = inr (λ e. absurd (omega arith))
 cases_place (suc i) (suc at) = elim (cases_place i at) [ inl e ↦ inl (ap suc e) | inr n ↦ inr (λ e. n (let f : i ≡ at = omega arith in f)) ]
 
-pub Fits-more : (r : Rules) (lawful : AreLawful r) (a b : Ask) (tree : Tree) (limits : LimitsView) (p : List ℕ) (turn : ℕ) (stage : Stage) → Extends r a b →
-    Fits r a tree limits p turn stage → Fits r b tree limits p turn stage
-Fits-more r lawful a b tree limits p turn (Waiting parked) more h = record {
+pub Fits-more : (r : Rules) (lawful : AreLawful r) (a b : Ask) (given : GivenView) (p : List ℕ) (turn : ℕ) (stage : Stage) → Extends r a b →
+    Fits r a given p turn stage → Fits r b given p turn stage
+Fits-more r lawful a b given p turn (Waiting parked) more h = record {
   is_job = h.is_job;
   of_target = h.of_target;
   at_turn = h.at_turn;
@@ -109,15 +108,15 @@ Fits-more r lawful a b tree limits p turn (Waiting parked) more h = record {
   gained_within = h.gained_within;
   gained = h.gained;
 }
-Fits-more r lawful a b tree limits p turn (Ready work) more h = (
+Fits-more r lawful a b given p turn (Ready work) more h = (
   h.0,
   λ q m none. elim (cases_Option (a q)) [
     | inl no_answer ↦ h.1 q m no_answer
     | inr some ↦ let also = more q some.0 (operand-target r lawful work.deps q m) some.1 in cc
   ],
 )
-Fits-more r lawful a b tree limits p turn Out more h = h
-Fits-more r lawful a b tree limits p turn (Decided fact) more h = h
+Fits-more r lawful a b given p turn Out more h = h
+Fits-more r lawful a b given p turn (Decided fact) more h = h
 
 module _ (r : Rules) (lawful : AreLawful r) (n : ℕ) (ps : List (List ℕ)) (slots : List Slot) (at : ℕ) (p : List ℕ) (old new : Slot) (distinct : AreDistinct ps)
     (path : slice_get ps at ≡ Some p) (there : slice_get slots at ≡ Some old) where
@@ -151,16 +150,16 @@ module _ (r : Rules) (lawful : AreLawful r) (n : ℕ) (ps : List (List ℕ)) (sl
     | inr f ↦ outcomes-other q (λ is. both_ways _ f ((bytes_eq-Decides p q).1 is)) ∙ h
   ]
 
-  pub fits-set : (tree : Tree) (limits : LimitsView) → Extends r (outcomes_of (entries_from r n ps slots)) (outcomes_of (entries_from r n ps (slice_set slots at new))) →
-      AllFit r n tree limits ps slots →
-      Fits r (outcomes_of (entries_from r n ps (slice_set slots at new))) tree limits (path_at ps at) new.turn new.stage →
-      AllFit r n tree limits ps (slice_set slots at new)
-  fits-set tree limits more fits fit k x g = elim (get-set_cases slots at k new x g) [
+  pub fits-set : (given : GivenView) → Extends r (outcomes_of (entries_from r n ps slots)) (outcomes_of (entries_from r n ps (slice_set slots at new))) →
+      AllFit r n given ps slots →
+      Fits r (outcomes_of (entries_from r n ps (slice_set slots at new))) given (path_at ps at) new.turn new.stage →
+      AllFit r n given ps (slice_set slots at new)
+  fits-set given more fits fit k x g = elim (get-set_cases slots at k new x g) [
     | inl here ↦
-        let P : Slot → Type 0 = λ y. Fits r (outcomes_of (entries_from r n ps (slice_set slots at new))) tree limits (path_at ps k) y.turn y.stage in
-        let Q : ℕ → Type 0 = λ j. Fits r (outcomes_of (entries_from r n ps (slice_set slots at new))) tree limits (path_at ps j) new.turn new.stage in
+        let P : Slot → Type 0 = λ y. Fits r (outcomes_of (entries_from r n ps (slice_set slots at new))) given (path_at ps k) y.turn y.stage in
+        let Q : ℕ → Type 0 = λ j. Fits r (outcomes_of (entries_from r n ps (slice_set slots at new))) given (path_at ps j) new.turn new.stage in
         subst P here.1 (subst Q (sym here.0) fit)
-    | inr before ↦ Fits-more r lawful (outcomes_of (entries_from r n ps slots)) (outcomes_of (entries_from r n ps (slice_set slots at new))) tree limits (path_at ps k) x.turn x.stage more
+    | inr before ↦ Fits-more r lawful (outcomes_of (entries_from r n ps slots)) (outcomes_of (entries_from r n ps (slice_set slots at new))) given (path_at ps k) x.turn x.stage more
         (fits k x before.1)
   ]
 

@@ -3,11 +3,10 @@ use Rattle.std.proofs.Common.{map, remove, slice_get, slice_set, ◌≡◌, ℕ,
 use Rattle.std.proofs.Common.{◌⊎◌, inl, inr, List, [], ◌∷◌, ◌++◌, length, length-set, filter, filter_map, drop, Option}
 use Rattle.std.proofs.Common.{Some, None, not, refl, sym, ap, subst, ◌∙◌, arith, bytes_eq}
 use Rattle.std.proofs.lemmas.Bool.{cases_Bool, both_ways, not-true, not_from_false}
-use Rattle.redo_tree.specs.Tree.{Tree}
 use Rattle.redo_record.specs.Paths.{IsAmong, AreDistinct}
 use Rattle.redo_build.specs.Rules.{Ask, Rules, AreLawful, Extends, operands, changed}
 use Rattle.redo_build.specs.Outcomes.{outcome_at}
-use Rattle.redo_core.specs.Build.{rules_of}
+use Rattle.redo_core.specs.Build.{GivenView, rules_for}
 use Rattle.redo_build.specs.Schedule.{Entry, outcome_of, outcomes_of, entry_of}
 use Rattle.redo_core.specs.inside.Slots.{table_entries, entries_from, slot_entries, slot_entry, stage_deps}
 use Rattle.redo_core.specs.inside.Slots.{stage_outcome, path_at, is_stage_out, is_stage_ready, is_stage_waiting}
@@ -26,7 +25,7 @@ use Rattle.redo_build.proofs.QueueLemmas.{filter-keeps, slice_get-among}
 use Rattle.redo_core.proofs.NumberLemmas.{numbers-number, numbers-path, numbered-set, among-place, drop-place}
 use Rattle.redo_core.proofs.NumberLemmas.{place-drop}
 use Rattle.redo_build.proofs.DepthLemmas.{cases_Option}
-use Rattle.redo_core.proofs.LawfulTreeLemmas.{rules_lawful}
+use Rattle.redo_core.proofs.LawfulTreeLemmas.{lawful_for}
 use Rattle.redo_core.proofs.TableLemmas.{fits-set, place-slice_get, place-append, place-left, place-right}
 use Rattle.redo_core.proofs.TableLemmas.{get-set_cases, get-set_same, IsWatched-set, watchers-set}
 use Rattle.redo_build.proofs.HandoverLemmas.{taken-work, taken-deep}
@@ -37,7 +36,6 @@ use Rattle.redo_record.specs.declared.deps.DepKind.{DepKind}
 use Rattle.redo_record.specs.declared.deps.DepKind.TheVariants.{Change, Create}
 use Rattle.redo_core.proofs.SlotLemmas.{entry_of-slots, paths_of-slots, slice_get-from, slice_get-below_some}
 use Rattle.redo_record.specs.declared.deps.Dep.{Dep}
-use Rattle.redo_step.specs.Limits.{LimitsView}
 
 changed-path : (kind : DepKind) (p q : List ℕ) → changed kind p ≡ Some q → p ≡ q
 changed-path Change p q h = cc
@@ -202,20 +200,20 @@ pub number-decided : (t : Table) (q : List ℕ) (n : ℕ) → slice_get t.target
 number-decided t q n path d = record { at = n; slot = d.0; path = path; there = d.1; decided = d.2 }
 
 -- the table before a step
-module _ (tree : Tree) (limits : LimitsView) (t : Table) (newly_ready : List ℕ) (table : IsTableOf tree limits t newly_ready) (standing : IsStandingTable tree limits t) where
+module _ (given : GivenView) (t : Table) (newly_ready : List ℕ) (table : IsTableOf given t newly_ready) (standing : IsStandingTable given t) where
   abbrev r : Rules
-  r = rules_of tree limits
+  r = rules_for given
 
   abbrev es : List Entry
-  es = table_entries (rules_of tree limits) limits.targets t
+  es = table_entries (rules_for given) given.limits.targets t
 
-  lawful : AreLawful (rules_of tree limits)
-  lawful = rules_lawful tree limits
+  lawful : AreLawful (rules_for given)
+  lawful = lawful_for given
 
   pub distinct_keys : AreDistinct t.targets.keys
   distinct_keys =
       let P : List (List ℕ) → Type 0 = AreDistinct in
-      subst P (paths_of-slots r (outcome_at r limits.targets) t.targets.keys t.slots.items table.one_each) standing.1.distinct
+      subst P (paths_of-slots r (outcome_at r given.limits.targets) t.targets.keys t.slots.items table.one_each) standing.1.distinct
 
   pub path_there : (at : ℕ) (slot : Slot) → slice_get t.slots.items at ≡ Some slot → slice_get t.targets.keys at ≡ Some (path_at t.targets.keys at)
   path_there at slot there =
@@ -224,30 +222,30 @@ module _ (tree : Tree) (limits : LimitsView) (t : Table) (newly_ready : List ℕ
       found.1 ∙ ap Some (sym is)
 
   pub entry_there : (at : ℕ) (slot : Slot) → slice_get t.slots.items at ≡ Some slot →
-      entry_of (table_entries (rules_of tree limits) limits.targets t) (path_at t.targets.keys at) ≡ Some (slot_entry (rules_of tree limits) (outcome_at (rules_of tree limits) limits.targets) (path_at t.targets.keys at) slot)
-  entry_there at slot there = entry_of-slots r (outcome_at r limits.targets) t.targets.keys t.slots.items at (path_at t.targets.keys at) slot distinct_keys (path_there at slot there) there
+      entry_of (table_entries (rules_for given) given.limits.targets t) (path_at t.targets.keys at) ≡ Some (slot_entry (rules_for given) (outcome_at (rules_for given) given.limits.targets) (path_at t.targets.keys at) slot)
+  entry_there at slot there = entry_of-slots r (outcome_at r given.limits.targets) t.targets.keys t.slots.items at (path_at t.targets.keys at) slot distinct_keys (path_there at slot there) there
 
-  pub decided-known : (q : List ℕ) → IsDecidedSlot t q → outcomes_of (table_entries (rules_of tree limits) limits.targets t) q ≡ None → ⊥
+  pub decided-known : (q : List ℕ) → IsDecidedSlot t q → outcomes_of (table_entries (rules_for given) given.limits.targets t) q ≡ None → ⊥
   decided-known q d none =
-      let here = ap outcome_of (entry_of-slots r (outcome_at r limits.targets) t.targets.keys t.slots.items d.at q d.slot distinct_keys d.path d.there) in
+      let here = ap outcome_of (entry_of-slots r (outcome_at r given.limits.targets) t.targets.keys t.slots.items d.at q d.slot distinct_keys d.path d.there) in
       decided-outcome d.slot.stage d.decided (sym here ∙ none)
 
   -- a parked job
   module _ (at : ℕ) (slot : Slot) (parked : Parked) (there : slice_get t.slots.items at ≡ Some slot) (is : slot.stage ≡ Waiting parked) where
-    parked_fits : Fits r (outcomes_of es) tree limits (path_at t.targets.keys at) slot.turn (Waiting parked)
-    parked_fits = let P : Stage → Type 0 = Fits r (outcomes_of es) tree limits (path_at t.targets.keys at) slot.turn in subst P is (table.fits at slot there)
+    parked_fits : Fits r (outcomes_of es) given (path_at t.targets.keys at) slot.turn (Waiting parked)
+    parked_fits = let P : Stage → Type 0 = Fits r (outcomes_of es) given (path_at t.targets.keys at) slot.turn in subst P is (table.fits at slot there)
 
-    pub parked_deps : stage_deps (rules_of tree limits) (outcome_at (rules_of tree limits) limits.targets) (path_at t.targets.keys at) slot.turn slot.stage ≡ job_deps parked.begun.value.job
+    pub parked_deps : stage_deps (rules_for given) (outcome_at (rules_for given) given.limits.targets) (path_at t.targets.keys at) slot.turn slot.stage ≡ job_deps parked.begun.value.job
     parked_deps = rw is refl
 
     -- what the job declared is what its record waits for
-    pub own_asked : (q : List ℕ) → IsAmong (operands (rules_of tree limits) parked.begun.value.job.state.entries) q → IsAmong (operands (rules_of tree limits) (job_deps parked.begun.value.job)) q
-    own_asked q m = asked_of_job tree limits parked.begun.value.job parked_fits.is_job (omega (arith, parked_fits.at_turn, parked_fits.stopped)) q m
+    pub own_asked : (q : List ℕ) → IsAmong (operands (rules_for given) parked.begun.value.job.state.entries) q → IsAmong (operands (rules_for given) (job_deps parked.begun.value.job)) q
+    own_asked q m = asked_of_job given parked.begun.value.job parked_fits.is_job (omega (arith, parked_fits.at_turn, parked_fits.stopped)) q m
 
-    pub own_from : (q : List ℕ) → IsAmong (operands (rules_of tree limits) (job_deps parked.begun.value.job)) q → IsAmong (operands (rules_of tree limits) parked.begun.value.job.state.entries) q
-    own_from q m = asked_by_job tree limits parked.begun.value.job parked_fits.is_job q m
+    pub own_from : (q : List ℕ) → IsAmong (operands (rules_for given) (job_deps parked.begun.value.job)) q → IsAmong (operands (rules_for given) parked.begun.value.job.state.entries) q
+    own_from q m = asked_by_job given parked.begun.value.job parked_fits.is_job q m
 
-    pub parked_numbered : AreNumbers t.targets.keys parked.operands.items (waited_by (rules_of tree limits) parked.begun.value)
+    pub parked_numbered : AreNumbers t.targets.keys parked.operands.items (waited_by (rules_for given) parked.begun.value)
     parked_numbered = let P : Stage → Type 0 = IsNumbered r t.targets.keys in subst P is (table.numbered at slot there)
 
     pub parked_seen : (k : ℕ) → IsPlace parked.operands.items k → k < length t.slots.items
@@ -257,12 +255,12 @@ module _ (tree : Tree) (limits : LimitsView) (t : Table) (newly_ready : List ℕ
         omega (arith, table.one_each, slice_get-below_some t.targets.keys k path.0 path.2)
 
     -- what is waited for is asked for
-    pub waited_asked : (q : List ℕ) → IsAmong (waited_by (rules_of tree limits) parked.begun.value) q → IsAmong (operands (rules_of tree limits) (job_deps parked.begun.value.job)) q
+    pub waited_asked : (q : List ℕ) → IsAmong (waited_by (rules_for given) parked.begun.value) q → IsAmong (operands (rules_for given) (job_deps parked.begun.value.job)) q
     waited_asked q m = own_asked q (waited-declared r parked.begun.value.job.state.entries parked.begun.value.facts.gained q m)
 
     -- nothing from the first operand that was not looked at on is undecided
     module _ (rest : AreDecidedFrom t parked.operands.items parked.held (length parked.operands.items)) where
-      pub parked_answered : AllAnswered (rules_of tree limits) (outcomes_of (table_entries (rules_of tree limits) limits.targets t)) (job_deps parked.begun.value.job)
+      pub parked_answered : AllAnswered (rules_for given) (outcomes_of (table_entries (rules_for given) given.limits.targets t)) (job_deps parked.begun.value.job)
       parked_answered q m none =
           let entries = parked.begun.value.job.state.entries in
           let found = operand-entry r entries q (own_from q m) in
@@ -283,21 +281,21 @@ module _ (tree : Tree) (limits : LimitsView) (t : Table) (newly_ready : List ℕ
           ]
 
       parked_entry : Entry
-      parked_entry = slot_entry (rules_of tree limits) (outcome_at (rules_of tree limits) limits.targets) (path_at t.targets.keys at) slot
+      parked_entry = slot_entry (rules_for given) (outcome_at (rules_for given) given.limits.targets) (path_at t.targets.keys at) slot
 
       parked_open : stage_outcome slot.stage ≡ None
       parked_open = rw is refl
 
-      entry_answered : (q : List ℕ) → IsAmong (operands (rules_of tree limits) (slot_entry (rules_of tree limits) (outcome_at (rules_of tree limits) limits.targets) (path_at t.targets.keys at) slot).deps) q →
-          outcomes_of (table_entries (rules_of tree limits) limits.targets t) q ≡ None → ⊥
+      entry_answered : (q : List ℕ) → IsAmong (operands (rules_for given) (slot_entry (rules_for given) (outcome_at (rules_for given) given.limits.targets) (path_at t.targets.keys at) slot).deps) q →
+          outcomes_of (table_entries (rules_for given) given.limits.targets t) q ≡ None → ⊥
       entry_answered =
           let P : List Dep → Type 0 = λ ds. (q : List ℕ) → IsAmong (operands r ds) q → outcomes_of es q ≡ None → ⊥ in
           subst P (sym parked_deps) parked_answered
 
       -- a parked job with all its answers can be made a work
-      pub parked_fed : IsFed tree limits t at
+      pub parked_fed : IsFed given t at
       parked_fed =
-          let e = slot_entry r (outcome_at r limits.targets) (path_at t.targets.keys at) slot in
+          let e = slot_entry r (outcome_at r given.limits.targets) (path_at t.targets.keys at) slot in
           let work : IsWork r (path_at t.targets.keys at) slot.turn e.deps =
           taken-work r lawful standing.0 es standing.1 (path_at t.targets.keys at) e (entry_there at slot there) parked_open entry_answered in
           let W : Type 0 = (work' : IsWork r parked.begun.value.job.target parked.begun.value.job.turn (job_deps parked.begun.value.job)) × Extends r (outcomes_of es) (outcome_at r work'.depth) in
@@ -307,7 +305,7 @@ module _ (tree : Tree) (limits : LimitsView) (t : Table) (newly_ready : List ℕ
           let deep : W = subst C (sym parked_fits.at_turn) (subst B (sym parked_fits.of_target) (subst A parked_deps
           (taken-deep r lawful standing.0 es standing.1 (path_at t.targets.keys at) e (entry_there at slot there) parked_open entry_answered))) in
           let below = turn-below r lawful standing.0 es standing.1 (path_at t.targets.keys at) e (entry_there at slot there) parked_open entry_answered in
-          let paths = ap length (paths_of-slots r (outcome_at r limits.targets) t.targets.keys t.slots.items table.one_each) in (
+          let paths = ap length (paths_of-slots r (outcome_at r given.limits.targets) t.targets.keys t.slots.items table.one_each) in (
             slot,
             parked,
             record {
@@ -324,7 +322,7 @@ module _ (tree : Tree) (limits : LimitsView) (t : Table) (newly_ready : List ℕ
             },
           )
 
-  pub looked-skip : (at : ℕ) (slot : Slot) → slice_get t.slots.items at ≡ Some slot → is_stage_waiting slot.stage ≡ false → IsLookedAt tree limits t t at
+  pub looked-skip : (at : ℕ) (slot : Slot) → slice_get t.slots.items at ≡ Some slot → is_stage_waiting slot.stage ≡ false → IsLookedAt given t t at
   looked-skip at slot there still = record {
     entries = refl;
     rest = (refl, refl, refl);
@@ -343,31 +341,31 @@ module _ (tree : Tree) (limits : LimitsView) (t : Table) (newly_ready : List ℕ
   }
 
   moved : (u : Table) → u.targets ≡ t.targets → u.ready ≡ t.ready → u.out ≡ t.out → (newly_ready' : List ℕ) →
-      IsTable (rules_of tree limits) tree limits t.targets.keys u.slots.items t.ready.items t.out newly_ready' → IsTableOf tree limits u newly_ready'
+      IsTable (rules_for given) given t.targets.keys u.slots.items t.ready.items t.out newly_ready' → IsTableOf given u newly_ready'
   moved u a b c newly_ready' h = rw (a, b, c) h
 
   -- a slot is replaced by one that stands for the same entry
   module _ (at : ℕ) (old new : Slot) (there : slice_get t.slots.items at ≡ Some old) (open' : stage_outcome old.stage ≡ None) (still : stage_outcome new.stage ≡ None)
-      (same : slot_entry (rules_of tree limits) (outcome_at (rules_of tree limits) limits.targets) (path_at t.targets.keys at) new ≡
-      slot_entry (rules_of tree limits) (outcome_at (rules_of tree limits) limits.targets) (path_at t.targets.keys at) old) where
-    pub entries-same : entries_from (rules_of tree limits) limits.targets t.targets.keys (slice_set t.slots.items at new) ≡ table_entries (rules_of tree limits) limits.targets t
-    entries-same = slot_entries-same r (outcome_at r limits.targets) t.targets.keys t.slots.items at (path_at t.targets.keys at) old new (path_there at old there) there same
+      (same : slot_entry (rules_for given) (outcome_at (rules_for given) given.limits.targets) (path_at t.targets.keys at) new ≡
+      slot_entry (rules_for given) (outcome_at (rules_for given) given.limits.targets) (path_at t.targets.keys at) old) where
+    pub entries-same : entries_from (rules_for given) given.limits.targets t.targets.keys (slice_set t.slots.items at new) ≡ table_entries (rules_for given) given.limits.targets t
+    entries-same = slot_entries-same r (outcome_at r given.limits.targets) t.targets.keys t.slots.items at (path_at t.targets.keys at) old new (path_there at old there) there same
 
     pub table-same : (newly_ready' : List ℕ) → IsQueue (slice_set t.slots.items at new) t.ready.items newly_ready' →
         ((k : ℕ) → IsPlace new.watchers.items k → k < length t.slots.items) →
-        Fits (rules_of tree limits) (outcomes_of (table_entries (rules_of tree limits) limits.targets t)) tree limits (path_at t.targets.keys at) new.turn new.stage →
-        IsNumbered (rules_of tree limits) t.targets.keys new.stage →
-        IsTable (rules_of tree limits) tree limits t.targets.keys (slice_set t.slots.items at new) t.ready.items t.out newly_ready'
+        Fits (rules_for given) (outcomes_of (table_entries (rules_for given) given.limits.targets t)) given (path_at t.targets.keys at) new.turn new.stage →
+        IsNumbered (rules_for given) t.targets.keys new.stage →
+        IsTable (rules_for given) given t.targets.keys (slice_set t.slots.items at new) t.ready.items t.out newly_ready'
     table-same newly_ready' queue below fit numbers =
         let len = length-set t.slots.items at new in
         let P : List Entry → Type 0 = λ xs. Extends r (outcomes_of es) (outcomes_of xs) in
-        let F : List Entry → Type 0 = λ xs. Fits r (outcomes_of xs) tree limits (path_at t.targets.keys at) new.turn new.stage in
+        let F : List Entry → Type 0 = λ xs. Fits r (outcomes_of xs) given (path_at t.targets.keys at) new.turn new.stage in
         record {
           one_each = len ∙ table.one_each;
           within_limit = omega (arith, len, table.within_limit);
           few = table.few;
           out_counted = table.out_counted ∙ sym (count-same t.slots.items at old new there (ap (λ (e : Entry). e.is_out) same));
-          fits = fits-set r lawful limits.targets t.targets.keys t.slots.items at (path_at t.targets.keys at) old new distinct_keys (path_there at old there) there tree limits
+          fits = fits-set r lawful given.limits.targets t.targets.keys t.slots.items at (path_at t.targets.keys at) old new distinct_keys (path_there at old there) there given
               (subst P (sym entries-same) (λ q o s h. h)) table.fits (subst F (sym entries-same) fit);
           numbered = numbered-set r t.targets.keys t.slots.items at new numbers table.numbered;
           queue = queue;
@@ -386,8 +384,8 @@ module _ (tree : Tree) (limits : LimitsView) (t : Table) (newly_ready : List ℕ
       new_open : stage_outcome w.new.stage ≡ None
       new_open = ap stage_outcome w.stage ∙ other_open
 
-      same_entry : slot_entry (rules_of tree limits) (outcome_at (rules_of tree limits) limits.targets) (path_at t.targets.keys place) w.new ≡
-          slot_entry (rules_of tree limits) (outcome_at (rules_of tree limits) limits.targets) (path_at t.targets.keys place) w.other
+      same_entry : slot_entry (rules_for given) (outcome_at (rules_for given) given.limits.targets) (path_at t.targets.keys place) w.new ≡
+          slot_entry (rules_for given) (outcome_at (rules_for given) given.limits.targets) (path_at t.targets.keys place) w.other
       same_entry = rw (w.turn, w.stage) refl
 
       watch_below : (k : ℕ) → IsPlace w.new.watchers.items k → k < length t.slots.items
@@ -399,17 +397,17 @@ module _ (tree : Tree) (limits : LimitsView) (t : Table) (newly_ready : List ℕ
         ]
       ]
 
-      watch_fits : Fits (rules_of tree limits) (outcomes_of (table_entries (rules_of tree limits) limits.targets t)) tree limits (path_at t.targets.keys place) w.new.turn w.new.stage
+      watch_fits : Fits (rules_for given) (outcomes_of (table_entries (rules_for given) given.limits.targets t)) given (path_at t.targets.keys place) w.new.turn w.new.stage
       watch_fits = rw (w.turn, w.stage) (table.fits place w.other w.there)
 
-      watch_numbered : IsNumbered (rules_of tree limits) t.targets.keys w.new.stage
+      watch_numbered : IsNumbered (rules_for given) t.targets.keys w.new.stage
       watch_numbered = rw w.stage (table.numbered place w.other w.there)
 
-      pub watch-table : IsTableOf tree limits u newly_ready
+      pub watch-table : IsTableOf given u newly_ready
       watch-table =
           let new = table-same place w.other w.new w.there other_open new_open same_entry newly_ready
           (queue-same t.slots.items t.ready.items newly_ready place w.other w.new w.there table.queue (ap is_stage_ready w.stage)) watch_below watch_fits watch_numbered in
-          let S : List Slot → Type 0 = λ xs. IsTable r tree limits t.targets.keys xs t.ready.items t.out newly_ready in
+          let S : List Slot → Type 0 = λ xs. IsTable r given t.targets.keys xs t.ready.items t.out newly_ready in
           moved u w.rest.0 w.rest.1 w.rest.2 newly_ready (subst S (sym w.slots) new)
 
       old-slot : (k : ℕ) (x : Slot) → slice_get (slice_set t.slots.items place w.new) k ≡ Some x →
@@ -421,7 +419,7 @@ module _ (tree : Tree) (limits : LimitsView) (t : Table) (newly_ready : List ℕ
         | inr before ↦ (x, before.1, refl, refl)
       ]
 
-      watched_here : IsWatched (rules_of tree limits) t.targets.keys (slice_set t.slots.items place w.new) at (job_deps parked.begun.value.job)
+      watched_here : IsWatched (rules_for given) t.targets.keys (slice_set t.slots.items place w.new) at (job_deps parked.begun.value.job)
       watched_here =
           let number = numbers-number t.targets.keys parked.operands.items (waited_by r parked.begun.value) i place (parked_numbered at slot parked there is) l.number in
           let path : path_at t.targets.keys place ≡ number.0 = rw number.2 refl in
@@ -436,11 +434,11 @@ module _ (tree : Tree) (limits : LimitsView) (t : Table) (newly_ready : List ℕ
             asked = subst P (sym path) (waited_asked at slot parked there is number.0 (slice_get-among (waited_by r parked.begun.value) i number.0 number.1));
           }
 
-      watch-watched : (pending : List ℕ) → AllWatched (rules_of tree limits) limits.targets t.targets.keys t.slots.items (at ∷ pending) →
-          AllWatched (rules_of tree limits) limits.targets t.targets.keys (slice_set t.slots.items place w.new) pending
+      watch-watched : (pending : List ℕ) → AllWatched (rules_for given) given.limits.targets t.targets.keys t.slots.items (at ∷ pending) →
+          AllWatched (rules_for given) given.limits.targets t.targets.keys (slice_set t.slots.items place w.new) pending
       watch-watched pending all k x g m =
           let old = old-slot k x g in
-          let D : Stage → ℕ → List Dep = λ st n. stage_deps r (outcome_at r limits.targets) (path_at t.targets.keys k) n st in
+          let D : Stage → ℕ → List Dep = λ st n. stage_deps r (outcome_at r given.limits.targets) (path_at t.targets.keys k) n st in
           let A : Stage → Type 0 = λ st. D x.stage x.turn ≡ D st x.turn in
           let B : ℕ → Type 0 = λ n. D x.stage x.turn ≡ D old.0.stage n in
           let same : D x.stage x.turn ≡ D old.0.stage old.0.turn = subst B old.3 (subst A old.2 refl) in
@@ -463,7 +461,7 @@ module _ (tree : Tree) (limits : LimitsView) (t : Table) (newly_ready : List ℕ
                 (IsWatched-set t.slots.items place w.other w.new w.there r t.targets.keys k (D old.0.stage old.0.turn) new_open more old_watch))
           ]
 
-      pub watch-looked : IsLookedAt tree limits t u at
+      pub watch-looked : IsLookedAt given t u at
       watch-looked = record {
         entries = rw (w.rest.0, w.slots) (entries-same place w.other w.new w.there other_open new_open same_entry);
         rest = w.rest;
@@ -472,7 +470,7 @@ module _ (tree : Tree) (limits : LimitsView) (t : Table) (newly_ready : List ℕ
       }
 
     -- the job is a work
-    module _ (f : IsMadeReadyAt tree limits t u at) (all_held : AreDecidedFrom t parked.operands.items parked.held (length parked.operands.items)) where
+    module _ (f : IsMadeReadyAt given t u at) (all_held : AreDecidedFrom t parked.operands.items parked.held (length parked.operands.items)) where
       was_parked : (f.old ≡ slot) × (f.parked ≡ parked)
       was_parked =
           let both : Some f.old ≡ Some slot = sym f.there ∙ there in
@@ -481,14 +479,14 @@ module _ (tree : Tree) (limits : LimitsView) (t : Table) (newly_ready : List ℕ
           (same, (cc))
 
       deps_parked : f.work.deps ≡ job_deps parked.begun.value.job
-      deps_parked = f.same.4 ∙ ap (λ (x : Parked). job_deps x.begun.value.job) was_parked.1
+      deps_parked = f.same.3 ∙ ap (λ (x : Parked). job_deps x.begun.value.job) was_parked.1
 
-      newly_ready_entry : slot_entry (rules_of tree limits) (outcome_at (rules_of tree limits) limits.targets) (path_at t.targets.keys at) f.new ≡
-          slot_entry (rules_of tree limits) (outcome_at (rules_of tree limits) limits.targets) (path_at t.targets.keys at) slot
+      newly_ready_entry : slot_entry (rules_for given) (outcome_at (rules_for given) given.limits.targets) (path_at t.targets.keys at) f.new ≡
+          slot_entry (rules_for given) (outcome_at (rules_for given) given.limits.targets) (path_at t.targets.keys at) slot
       newly_ready_entry =
           let E : ℕ → List Dep → Entry = λ n ds. record { path = path_at t.targets.keys at; turn = n; deps = ds; outcome = None; is_out = false } in
-          let one : slot_entry r (outcome_at r limits.targets) (path_at t.targets.keys at) f.new ≡ E f.new.turn f.work.deps = rw f.is refl in
-          let two : slot_entry r (outcome_at r limits.targets) (path_at t.targets.keys at) slot ≡ E slot.turn (job_deps parked.begun.value.job) = rw is refl in
+          let one : slot_entry r (outcome_at r given.limits.targets) (path_at t.targets.keys at) f.new ≡ E f.new.turn f.work.deps = rw f.is refl in
+          let two : slot_entry r (outcome_at r given.limits.targets) (path_at t.targets.keys at) slot ≡ E slot.turn (job_deps parked.begun.value.job) = rw is refl in
           let turn : f.new.turn ≡ slot.turn = f.turn ∙ ap (λ (y : Slot). y.turn) was_parked.0 in
           let mid : E f.new.turn f.work.deps ≡ E slot.turn (job_deps parked.begun.value.job) = rw (turn, deps_parked) refl in
           one ∙ mid ∙ sym two
@@ -502,40 +500,40 @@ module _ (tree : Tree) (limits : LimitsView) (t : Table) (newly_ready : List ℕ
       same_watchers : f.new.watchers.items ≡ slot.watchers.items
       same_watchers = ap (λ (y : Rattle.std.specs.declared.vec.Vec.Vec ℕ Rattle.std.proofs.Common.Global). y.items) f.watchers ∙ ap (λ (y : Slot). y.watchers.items) was_parked.0
 
-      newly_ready_fits : Fits (rules_of tree limits) (outcomes_of (table_entries (rules_of tree limits) limits.targets t)) tree limits (path_at t.targets.keys at) f.new.turn f.new.stage
+      newly_ready_fits : Fits (rules_for given) (outcomes_of (table_entries (rules_for given) given.limits.targets t)) given (path_at t.targets.keys at) f.new.turn f.new.stage
       newly_ready_fits =
-          let fits : Fits r (outcomes_of es) tree limits (path_at t.targets.keys at) slot.turn (Waiting parked) =
-          (let P : Stage → Type 0 = Fits r (outcomes_of es) tree limits (path_at t.targets.keys at) slot.turn in subst P is (table.fits at slot there)) in
+          let fits : Fits r (outcomes_of es) given (path_at t.targets.keys at) slot.turn (Waiting parked) =
+          (let P : Stage → Type 0 = Fits r (outcomes_of es) given (path_at t.targets.keys at) slot.turn in subst P is (table.fits at slot there)) in
           let turn : f.new.turn ≡ slot.turn = f.turn ∙ ap (λ (y : Slot). y.turn) was_parked.0 in
-          let target = f.same.2 ∙ ap (λ (x : Parked). x.begun.value.job.target) was_parked.1 ∙ fits.of_target in
-          let at_turn = f.same.3 ∙ ap (λ (x : Parked). x.begun.value.job.turn) was_parked.1 ∙ fits.at_turn ∙ sym turn in
-          let parts : IsParked tree limits (path_at t.targets.keys at) f.new.turn f.work = (f.same.0, f.same.1, target, at_turn) in
+          let target = f.same.1 ∙ ap (λ (x : Parked). x.begun.value.job.target) was_parked.1 ∙ fits.of_target in
+          let at_turn = f.same.2 ∙ ap (λ (x : Parked). x.begun.value.job.turn) was_parked.1 ∙ fits.at_turn ∙ sym turn in
+          let parts : IsParked given (path_at t.targets.keys at) f.new.turn f.work = (f.same.0, target, at_turn) in
           let A : List Dep → Type 0 = AllAnswered r (outcomes_of es) in
-          let P : Stage → Type 0 = Fits r (outcomes_of es) tree limits (path_at t.targets.keys at) f.new.turn in
+          let P : Stage → Type 0 = Fits r (outcomes_of es) given (path_at t.targets.keys at) f.new.turn in
           subst P (sym f.is) (parts, subst A (sym deps_parked) (parked_answered at slot parked there is all_held))
 
-      pub newly_ready-table : IsTableOf tree limits u (newly_ready ++ at ∷ [])
+      pub newly_ready-table : IsTableOf given u (newly_ready ++ at ∷ [])
       newly_ready-table =
           let new = table-same at slot f.new there slot_open newly_ready_open newly_ready_entry (newly_ready ++ at ∷ [])
           (queue-newly_ready t.slots.items t.ready.items newly_ready at slot f.new there table.queue (rw is refl) (rw f.is refl))
           (λ k m. table.watchers_below at k slot there (rw same_watchers at m)) newly_ready_fits (rw f.is tt) in
-          let S : List Slot → Type 0 = λ xs. IsTable r tree limits t.targets.keys xs t.ready.items t.out (newly_ready ++ at ∷ []) in
+          let S : List Slot → Type 0 = λ xs. IsTable r given t.targets.keys xs t.ready.items t.out (newly_ready ++ at ∷ []) in
           moved u f.rest.0 f.rest.1 f.rest.2 (newly_ready ++ at ∷ []) (subst S (sym f.slots) new)
 
-      newly_ready-watched : (pending : List ℕ) → AllWatched (rules_of tree limits) limits.targets t.targets.keys t.slots.items (at ∷ pending) →
-          AllWatched (rules_of tree limits) limits.targets t.targets.keys (slice_set t.slots.items at f.new) pending
+      newly_ready-watched : (pending : List ℕ) → AllWatched (rules_for given) given.limits.targets t.targets.keys t.slots.items (at ∷ pending) →
+          AllWatched (rules_for given) given.limits.targets t.targets.keys (slice_set t.slots.items at f.new) pending
       newly_ready-watched pending all k x g m = elim (get-set_cases t.slots.items at k f.new x g) [
         | inl here ↦ absurd (
             let no : is_stage_waiting f.new.stage ≡ false = rw f.is refl in
             both_ways _ no (ap (λ (y : Slot). is_stage_waiting y.stage) here.1 ∙ m))
         | inr before ↦ elim (all k x before.1 m) [
           | inl p ↦ elim p [ inl here ↦ absurd (before.0 (sym here)) | inr later ↦ inl later ]
-          | inr w ↦ inr (IsWatched-set t.slots.items at slot f.new there r t.targets.keys k (stage_deps r (outcome_at r limits.targets) (path_at t.targets.keys k) x.turn x.stage)
+          | inr w ↦ inr (IsWatched-set t.slots.items at slot f.new there r t.targets.keys k (stage_deps r (outcome_at r given.limits.targets) (path_at t.targets.keys k) x.turn x.stage)
               newly_ready_open (λ j p. rw same_watchers p) w)
         ]
       ]
 
-      pub newly_ready-looked : IsLookedAt tree limits t u at
+      pub newly_ready-looked : IsLookedAt given t u at
       newly_ready-looked = record {
         entries = rw (f.rest.0, f.slots) (entries-same at slot f.new there slot_open newly_ready_open newly_ready_entry);
         rest = f.rest;

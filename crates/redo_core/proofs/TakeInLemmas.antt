@@ -3,7 +3,6 @@ use Rattle.std.proofs.Common.{map, slice_get, slice_set, ◌≡◌, ℕ, zero, s
 use Rattle.std.proofs.Common.{◌&&◌, ◌⊎◌, inl, inr, List, [], ◌∷◌, ◌++◌, length, take, drop, take-append-drop, filter}
 use Rattle.std.proofs.Common.{Option, Some, None, is_some, refl, sym, ap, subst, ◌∙◌, arith, Global}
 use Rattle.std.proofs.lemmas.Bool.{cases_Bool}
-use Rattle.redo_tree.specs.Tree.{Tree}
 use Rattle.redo_record.specs.declared.deps.Dep.{Dep}
 use Rattle.redo_record.specs.declared.deps.DepKind.TheVariants.{Change}
 use Rattle.redo_record.specs.declared.outcome.Outcome.{Outcome}
@@ -14,7 +13,7 @@ use Rattle.redo_record.specs.Paths.{IsAmong, AreDistinct, is_among}
 use Rattle.redo_record.proofs.Public.{entered_operand, one_entered, operand_entered, sources_alone}
 use Rattle.redo_build.specs.Rules.{Ask, Rules, AreLawful, Extends, operands}
 use Rattle.redo_build.specs.Outcomes.{outcome_at}
-use Rattle.redo_core.specs.Build.{rules_of}
+use Rattle.redo_core.specs.Build.{GivenView, rules_for}
 use Rattle.redo_build.specs.Schedule.{Entry, State, outcomes_of, paths_of, entry_of, entered, put, only, advanced}
 use Rattle.redo_build.specs.Schedule.{moved_on, enqueued, IsOutAt}
 use Rattle.redo_build.specs.Schedule.Event.{Hand_in}
@@ -42,9 +41,8 @@ use Rattle.redo_core.specs.declared.work.End.TheVariants.{Ended, Stopped}
 use Rattle.redo_build.proofs.PathLemmas.{is_among-true, with_new-second, with_new-distinct}
 use Rattle.redo_build.proofs.DepthLemmas.{cases_Option, operand-target, deeper}
 use Rattle.redo_build.proofs.SeenLemmas.{outcomes_of-at, outcomes_of-entry, paths_of-entered, entry_of-entered_old}
-use Rattle.redo_core.proofs.LawfulTreeLemmas.{rules_lawful}
+use Rattle.redo_core.proofs.LawfulTreeLemmas.{lawful_for}
 use Rattle.redo_core.proofs.JobLemmas.{found_sources}
-use Rattle.redo_step.specs.Limits.{LimitsView}
 use Rattle.redo_build.proofs.TurnLemmas.{only-some, deps_at_turn-more, Extends-trans'}
 use Rattle.redo_build.proofs.TurnBoundLemmas.{turn-below, asked-more}
 use Rattle.redo_build.proofs.StandingLemmas.{outcomes_of-deep}
@@ -110,26 +108,26 @@ all-entered r es ds (x ∷ xs) =
       | inr f ↦ rw f (ap (entered r es) (operands-append r ds (x ∷ [])) ∙ entered-append r es (operands r ds) (operands r (x ∷ [])))
     ]
 
-module _ (tree : Tree) (limits : LimitsView) (t : Table) (at : ℕ) (end : End) (may : MayTakeIn tree limits t at end) where
+module _ (given : GivenView) (t : Table) (at : ℕ) (end : End) (may : MayTakeIn given t at end) where
   abbrev r : Rules
-  r = rules_of tree limits
+  r = rules_for given
 
   abbrev es : List Entry
-  es = table_entries (rules_of tree limits) limits.targets t
+  es = table_entries (rules_for given) given.limits.targets t
 
   abbrev s : State
-  s = table_state (rules_of tree limits) limits.targets t
+  s = table_state (rules_for given) given.limits.targets t
 
   abbrev target : List ℕ
   target = path_at t.targets.keys at
 
   abbrev e : Entry
-  e = slot_entry (rules_of tree limits) (outcome_at (rules_of tree limits) limits.targets) (path_at t.targets.keys at) may.slot
+  e = slot_entry (rules_for given) (outcome_at (rules_for given) given.limits.targets) (path_at t.targets.keys at) may.slot
 
-  lawful : AreLawful (rules_of tree limits)
-  lawful = rules_lawful tree limits
+  lawful : AreLawful (rules_for given)
+  lawful = lawful_for given
 
-  sound : IsSound (rules_of tree limits) may.request (table_state (rules_of tree limits) limits.targets t)
+  sound : IsSound (rules_for given) may.request (table_state (rules_for given) given.limits.targets t)
   sound =
       let P : State → Type 0 = IsSound r may.request in
       subst P (sym may.reached.ends) (run-sound r lawful may.request _ may.reached.events (opening-sound r lawful may.request) may.reached.all_open)
@@ -137,7 +135,7 @@ module _ (tree : Tree) (limits : LimitsView) (t : Table) (at : ℕ) (end : End) 
   pub keys_distinct : AreDistinct t.targets.keys
   keys_distinct =
       let P : List (List ℕ) → Type 0 = AreDistinct in
-      subst P (paths_of-slots r (outcome_at r limits.targets) t.targets.keys t.slots.items may.table.one_each) sound.standing.distinct
+      subst P (paths_of-slots r (outcome_at r given.limits.targets) t.targets.keys t.slots.items may.table.one_each) sound.standing.distinct
 
   pub key-there : slice_get t.targets.keys at ≡ Some (path_at t.targets.keys at)
   key-there =
@@ -145,8 +143,8 @@ module _ (tree : Tree) (limits : LimitsView) (t : Table) (at : ℕ) (end : End) 
       let is : path_at t.targets.keys at ≡ found.0 = rw found.1 refl in
       found.1 ∙ ap Some (sym is)
 
-  entry-there : entry_of (table_entries (rules_of tree limits) limits.targets t) (path_at t.targets.keys at) ≡ Some (slot_entry (rules_of tree limits) (outcome_at (rules_of tree limits) limits.targets) (path_at t.targets.keys at) may.slot)
-  entry-there = entry_of-slots r (outcome_at r limits.targets) t.targets.keys t.slots.items at target may.slot keys_distinct key-there may.there
+  entry-there : entry_of (table_entries (rules_for given) given.limits.targets t) (path_at t.targets.keys at) ≡ Some (slot_entry (rules_for given) (outcome_at (rules_for given) given.limits.targets) (path_at t.targets.keys at) may.slot)
+  entry-there = entry_of-slots r (outcome_at r given.limits.targets) t.targets.keys t.slots.items at target may.slot keys_distinct key-there may.there
 
   e-out : is_stage_out may.slot.stage ≡ true
   e-out = ap is_stage_out may.is_out
@@ -154,8 +152,8 @@ module _ (tree : Tree) (limits : LimitsView) (t : Table) (at : ℕ) (end : End) 
   e-open : stage_outcome may.slot.stage ≡ None
   e-open = ap stage_outcome may.is_out
 
-  e-fed : (q : List ℕ) → IsAmong (operands (rules_of tree limits) (stage_deps (rules_of tree limits) (outcome_at (rules_of tree limits) limits.targets) (path_at t.targets.keys at) may.slot.turn may.slot.stage)) q →
-      outcomes_of (table_entries (rules_of tree limits) limits.targets t) q ≡ None → ⊥
+  e-fed : (q : List ℕ) → IsAmong (operands (rules_for given) (stage_deps (rules_for given) (outcome_at (rules_for given) given.limits.targets) (path_at t.targets.keys at) may.slot.turn may.slot.stage)) q →
+      outcomes_of (table_entries (rules_for given) given.limits.targets t) q ≡ None → ⊥
   e-fed q m none =
       let fed = sound.queued.out_fed target e entry-there e-out in
       let both : Some fed.0 ≡ Some e = sym fed.1 ∙ entry-there in
@@ -163,33 +161,33 @@ module _ (tree : Tree) (limits : LimitsView) (t : Table) (at : ℕ) (end : End) 
       let P : Entry → Type 0 = λ x. IsAmong (operands r x.deps) q in
       fed.3 q (subst P (sym same) m) none
 
-  now-is : end_progress end ≡ advanced (rules_of tree limits) (table_entries (rules_of tree limits) limits.targets t) (slot_entry (rules_of tree limits) (outcome_at (rules_of tree limits) limits.targets) (path_at t.targets.keys at) may.slot)
+  now-is : end_progress end ≡ advanced (rules_for given) (table_entries (rules_for given) given.limits.targets t) (slot_entry (rules_for given) (outcome_at (rules_for given) given.limits.targets) (path_at t.targets.keys at) may.slot)
   now-is = piece-advanced r lawful may.request es sound.standing target e entry-there e-open e-fed (end_progress end) may.is_end.is_piece
 
-  open-event : IsOutAt (table_state (rules_of tree limits) limits.targets t) (path_at t.targets.keys at) may.slot.turn
+  open-event : IsOutAt (table_state (rules_for given) given.limits.targets t) (path_at t.targets.keys at) may.slot.turn
   open-event = record { entry = e; at = entry-there; is_out = e-out; at_turn = refl }
 
-  pub after-sound : IsSound (rules_of tree limits) may.request (state_after tree limits t at)
+  pub after-sound : IsSound (rules_for given) may.request (state_after given t at)
   after-sound = happens-sound r lawful may.request s (Hand_in target may.slot.turn) sound open-event
 
   pub moved : List Entry
-  moved = put (entered (rules_of tree limits) (table_entries (rules_of tree limits) limits.targets t) (operands (rules_of tree limits) (end_progress end).deps))
-      (moved_on (slot_entry (rules_of tree limits) (outcome_at (rules_of tree limits) limits.targets) (path_at t.targets.keys at) may.slot) (end_progress end))
+  moved = put (entered (rules_for given) (table_entries (rules_for given) given.limits.targets t) (operands (rules_for given) (end_progress end).deps))
+      (moved_on (slot_entry (rules_for given) (outcome_at (rules_for given) given.limits.targets) (path_at t.targets.keys at) may.slot) (end_progress end))
 
-  pub after-state : state_after tree limits t at ≡ enqueued (rules_of tree limits) (record { entries = moved; ready = map (path_at t.targets.keys) t.ready.items })
+  pub after-state : state_after given t at ≡ enqueued (rules_for given) (record { entries = moved; ready = map (path_at t.targets.keys) t.ready.items })
   unfolding moved
   after-state =
       let N : Progress → State = λ now. enqueued r (record { entries = put (entered r es (operands r now.deps)) (moved_on e now); ready = map (path_at t.targets.keys) t.ready.items }) in
-      let first : state_after tree limits t at ≡ N (advanced r es e) = rw entry-there refl in
+      let first : state_after given t at ≡ N (advanced r es e) = rw entry-there refl in
       first ∙ ap N (sym now-is)
 
-  pub after-entries : (state_after tree limits t at).entries ≡ moved
+  pub after-entries : (state_after given t at).entries ≡ moved
   after-entries = ap (λ (x : State). x.entries) after-state
 
   pub out-there : IsOutThere t at
   out-there =
       let below = turn-below r lawful may.request es sound.standing target e entry-there e-open e-fed in
-      let paths = ap length (paths_of-slots r (outcome_at r limits.targets) t.targets.keys t.slots.items may.table.one_each) in (
+      let paths = ap length (paths_of-slots r (outcome_at r given.limits.targets) t.targets.keys t.slots.items may.table.one_each) in (
         omega (arith, may.table.out_counted, count-some t.slots.items at may.slot may.there e-out),
         (may.slot, may.there, may.is_out, omega (arith, below, paths, may.table.one_each, may.table.within_limit, may.table.few)),
       )
@@ -202,10 +200,10 @@ module _ (tree : Tree) (limits : LimitsView) (t : Table) (at : ℕ) (end : End) 
     old-slot : d.old ≡ may.slot
     old-slot = let both : Some d.old ≡ Some may.slot = sym d.put_back.there ∙ may.there in cc
 
-    fact-now : record { outcome = Some (arc_value {X = FactView} fact).outcome; deps = (arc_value {X = FactView} fact).deps } ≡ advanced (rules_of tree limits) (table_entries (rules_of tree limits) limits.targets t) (slot_entry (rules_of tree limits) (outcome_at (rules_of tree limits) limits.targets) (path_at t.targets.keys at) may.slot)
+    fact-now : record { outcome = Some (arc_value {X = FactView} fact).outcome; deps = (arc_value {X = FactView} fact).deps } ≡ advanced (rules_for given) (table_entries (rules_for given) given.limits.targets t) (slot_entry (rules_for given) (outcome_at (rules_for given) given.limits.targets) (path_at t.targets.keys at) may.slot)
     fact-now = let P : End → Type 0 = λ x. end_progress x ≡ advanced r es e in subst P ended now-is
 
-    asked-seen : (q : List ℕ) → IsAmong (operands (rules_of tree limits) (arc_value {X = FactView} fact).deps) q → IsAmong (paths_of (table_entries (rules_of tree limits) limits.targets t)) q
+    asked-seen : (q : List ℕ) → IsAmong (operands (rules_for given) (arc_value {X = FactView} fact).deps) q → IsAmong (paths_of (table_entries (rules_for given) given.limits.targets t)) q
     asked-seen q m =
         let ask : Ask = only (operands r e.deps) (outcomes_of es) in
         let outcome : (r.progress target ask).outcome ≡ Some (arc_value {X = FactView} fact).outcome = ap (λ (x : Progress). x.outcome) (sym fact-now) in
@@ -216,53 +214,53 @@ module _ (tree : Tree) (limits : LimitsView) (t : Table) (at : ℕ) (end : End) 
           | inr no' ↦ absurd ((lawful.each target).answered q ask (arc_value {X = FactView} fact).outcome outcome asked (rw no' refl))
         ]
 
-    decided-moved : table_entries (rules_of tree limits) limits.targets u ≡ moved
+    decided-moved : table_entries (rules_for given) given.limits.targets u ≡ moved
     unfolding moved
     decided-moved =
-        let put-in = put-entries tree limits t u [] may.table keys_distinct at d.old d.new d.put_back in
+        let put-in = put-entries given t u [] may.table keys_distinct at d.old d.new d.put_back in
         let turn : d.new.turn ≡ may.slot.turn = d.turn ∙ ap (λ (y : Slot). y.turn) old-slot in
-        let shows = decided-shows r (outcome_at r limits.targets) (arc_value {X = FactView} fact) target d.new.turn d.new.stage d.stage in
+        let shows = decided-shows r (outcome_at r given.limits.targets) (arc_value {X = FactView} fact) target d.new.turn d.new.stage d.stage in
         let M : ℕ → Entry = λ n. record { path = target; turn = n; deps = (arc_value {X = FactView} fact).deps; outcome = Some (arc_value {X = FactView} fact).outcome; is_out = false } in
         let E : End → List Entry = λ x. put (entered r es (operands r (end_progress x).deps)) (moved_on e (end_progress x)) in
         let seen = entered-seen r es (operands r (arc_value {X = FactView} fact).deps) asked-seen in
         put-in ∙ ap (put es) (shows ∙ ap M turn) ∙ sym (ap (λ xs. put xs (M may.slot.turn)) seen) ∙ ap E (sym ended)
 
-    pub decided-put : IsPutBackThere tree limits t u at [] pending
+    pub decided-put : IsPutBackThere given t u at [] pending
     decided-put =
-        let P : End → Type 0 = λ x. Rattle.redo_core.specs.inside.Ends.IsEndOf tree limits may.is_end.is_piece.depth target may.slot.turn x in
+        let P : End → Type 0 = λ x. Rattle.redo_core.specs.inside.Ends.IsEndOf given may.is_end.is_piece.depth target may.slot.turn x in
         let of_fact = subst P ended may.is_end.is_end in
         let len = ap length d.put_back.slots ∙ Rattle.std.proofs.Common.length-set t.slots.items at d.new in
         let K : List (List ℕ) → Type 0 = λ xs. (k : ℕ) (p : List ℕ) → slice_get t.targets.keys k ≡ Some p → slice_get xs k ≡ Some p in
         record {
-          table = decided-table tree limits t u [] may.table keys_distinct at (arc_value {X = FactView} fact) pending d of_fact.0 of_fact.1 of_fact.2;
+          table = decided-table given t u [] may.table keys_distinct at (arc_value {X = FactView} fact) pending d of_fact.0 of_fact.1;
           entries = decided-moved ∙ sym after-entries;
           ready = d.put_back.rest.1;
           keys_kept = λ k p h. rw d.put_back.rest.0 h;
           within = λ k m.
               let L : List ℕ → Type 0 = λ xs. IsPlace xs k in
               omega (arith, len, may.table.watchers_below at k d.old d.put_back.there (subst L d.pending_is m));
-          watched = decided-watched tree limits t u [] may.table keys_distinct at (arc_value {X = FactView} fact) pending d of_fact.0 of_fact.1 of_fact.2 may.watched;
+          watched = decided-watched given t u [] may.table keys_distinct at (arc_value {X = FactView} fact) pending d of_fact.0 of_fact.1 may.watched;
         }
 
   -- a script that stopped
   module _ (begun : Box Begun Global) (stopped : end ≡ Stopped begun) where
-    pub is_stopped : IsStopped tree limits may.is_end.is_piece.depth (path_at t.targets.keys at) may.slot.turn begun.value.job begun.value.facts
+    pub is_stopped : IsStopped given may.is_end.is_piece.depth (path_at t.targets.keys at) may.slot.turn begun.value.job begun.value.facts
     is_stopped =
-        let P : End → Type 0 = λ x. Rattle.redo_core.specs.inside.Ends.IsEndOf tree limits may.is_end.is_piece.depth target may.slot.turn x in
+        let P : End → Type 0 = λ x. Rattle.redo_core.specs.inside.Ends.IsEndOf given may.is_end.is_piece.depth target may.slot.turn x in
         subst P stopped may.is_end.is_end
 
-    way : CameTo (rules_of tree limits) (path_at t.targets.keys at) (outcomes_of (table_entries (rules_of tree limits) limits.targets t)) may.slot.turn ×
-        (stage_deps (rules_of tree limits) (outcome_at (rules_of tree limits) limits.targets) (path_at t.targets.keys at) may.slot.turn may.slot.stage ≡
-        deps_at_turn (rules_of tree limits) (path_at t.targets.keys at) (outcomes_of (table_entries (rules_of tree limits) limits.targets t)) may.slot.turn)
+    way : CameTo (rules_for given) (path_at t.targets.keys at) (outcomes_of (table_entries (rules_for given) given.limits.targets t)) may.slot.turn ×
+        (stage_deps (rules_for given) (outcome_at (rules_for given) given.limits.targets) (path_at t.targets.keys at) may.slot.turn may.slot.stage ≡
+        deps_at_turn (rules_for given) (path_at t.targets.keys at) (outcomes_of (table_entries (rules_for given) given.limits.targets t)) may.slot.turn)
     way =
         let w = sound.standing.under_way target e entry-there e-open in (w.came, w.is)
 
-    deep : Extends (rules_of tree limits) (outcomes_of (table_entries (rules_of tree limits) limits.targets t)) (outcome_at (rules_of tree limits) (decided_count (table_entries (rules_of tree limits) limits.targets t)))
+    deep : Extends (rules_for given) (outcomes_of (table_entries (rules_for given) given.limits.targets t)) (outcome_at (rules_for given) (decided_count (table_entries (rules_for given) given.limits.targets t)))
     deep = outcomes_of-deep r lawful may.request es sound.standing
 
     -- the record at its turn is the same under the outcomes that the job held
-    same-deps : stage_deps (rules_of tree limits) (outcome_at (rules_of tree limits) limits.targets) (path_at t.targets.keys at) may.slot.turn may.slot.stage ≡
-        deps_at_turn (rules_of tree limits) (path_at t.targets.keys at) (outcome_at (rules_of tree limits) may.is_end.is_piece.depth) may.slot.turn
+    same-deps : stage_deps (rules_for given) (outcome_at (rules_for given) given.limits.targets) (path_at t.targets.keys at) may.slot.turn may.slot.stage ≡
+        deps_at_turn (rules_for given) (path_at t.targets.keys at) (outcome_at (rules_for given) may.is_end.is_piece.depth) may.slot.turn
     same-deps =
         let n = may.is_end.is_piece.depth in
         let m = max n (decided_count es) in
@@ -273,8 +271,8 @@ module _ (tree : Tree) (limits : LimitsView) (t : Table) (at : ℕ) (end : End) 
 
     -- what it held is known, and it had asked for it
     held-known : (q : List ℕ) (o : Outcome) → told_in begun.value.facts q ≡ Some o →
-        IsAmong (operands (rules_of tree limits) (stage_deps (rules_of tree limits) (outcome_at (rules_of tree limits) limits.targets) (path_at t.targets.keys at) may.slot.turn may.slot.stage)) q ×
-        (outcomes_of (table_entries (rules_of tree limits) limits.targets t) q ≡ Some o)
+        IsAmong (operands (rules_for given) (stage_deps (rules_for given) (outcome_at (rules_for given) given.limits.targets) (path_at t.targets.keys at) may.slot.turn may.slot.stage)) q ×
+        (outcomes_of (table_entries (rules_for given) given.limits.targets t) q ≡ Some o)
     held-known q o h =
         let n = may.is_end.is_piece.depth in
         let m = max n (decided_count es) in
@@ -298,12 +296,12 @@ module _ (tree : Tree) (limits : LimitsView) (t : Table) (at : ℕ) (end : End) 
         ]
 
     -- entering what it declared since is entering all that its record asks for
-    pub enters-same : entered (rules_of tree limits) (table_entries (rules_of tree limits) limits.targets t) (operands (rules_of tree limits) (drop begun.value.facts.gained begun.value.job.state.entries)) ≡
-        entered (rules_of tree limits) (table_entries (rules_of tree limits) limits.targets t) (operands (rules_of tree limits) (end_progress end).deps)
+    pub enters-same : entered (rules_for given) (table_entries (rules_for given) given.limits.targets t) (operands (rules_for given) (drop begun.value.facts.gained begun.value.job.state.entries)) ≡
+        entered (rules_for given) (table_entries (rules_for given) given.limits.targets t) (operands (rules_for given) (end_progress end).deps)
     enters-same =
         let old = take begun.value.facts.gained begun.value.job.state.entries in
         let new = drop begun.value.facts.gained begun.value.job.state.entries in
-        let none = sources_alone (rules_of tree limits).is_source (found_deps begun.value.job) (found_sources tree limits begun.value.job is_stopped.is_job) in
+        let none = sources_alone (rules_for given).is_source (found_deps begun.value.job) (found_sources given begun.value.job is_stopped.is_job) in
         let whole = all-entered r es (found_deps begun.value.job) begun.value.job.state.entries ∙ ap (λ qs. entered r (entered r es qs) (operands r begun.value.job.state.entries)) none in
         let parts = ap (operands r) (sym (take-append-drop begun.value.facts.gained begun.value.job.state.entries)) ∙ operands-append r old new in
         let seen = entered-seen r es (operands r old) (λ q m.
@@ -323,7 +321,7 @@ module _ (tree : Tree) (limits : LimitsView) (t : Table) (at : ℕ) (end : End) 
         take-get (y ∷ xs) (suc n) zero x h = (omega arith, h)
         take-get (y ∷ xs) (suc n) (suc k) x h = let rest = take-get xs n k x h in (omega (arith, rest.0), rest.1)
 
-    pub after-length : length (entered (rules_of tree limits) (table_entries (rules_of tree limits) limits.targets t) (operands (rules_of tree limits) (drop begun.value.facts.gained begun.value.job.state.entries))) ≡ length (state_after tree limits t at).entries
+    pub after-length : length (entered (rules_for given) (table_entries (rules_for given) given.limits.targets t) (operands (rules_for given) (drop begun.value.facts.gained begun.value.job.state.entries))) ≡ length (state_after given t at).entries
     unfolding moved
     after-length =
         let wide = entered r es (operands r (end_progress end).deps) in
@@ -333,7 +331,7 @@ module _ (tree : Tree) (limits : LimitsView) (t : Table) (at : ℕ) (end : End) 
         length-put [] x = refl
         length-put (y ∷ xs) x = elim (cases_Bool (Rattle.std.proofs.Common.bytes_eq y.path x.path)) [ inl t' ↦ rw t' refl | inr f ↦ rw f (ap suc (length-put xs x)) ]
 
-    module _ (v : Table) (newly_ready : List ℕ) (a : AreEnteredInto tree limits t v newly_ready (operands (rules_of tree limits) (drop begun.value.facts.gained begun.value.job.state.entries))) where
+    module _ (v : Table) (newly_ready : List ℕ) (a : AreEnteredInto given t v newly_ready (operands (rules_for given) (drop begun.value.facts.gained begun.value.job.state.entries))) where
       there-still : slice_get v.slots.items at ≡ Some may.slot
       there-still = a.slots_kept at may.slot may.there
 
@@ -351,17 +349,17 @@ module _ (tree : Tree) (limits : LimitsView) (t : Table) (at : ℕ) (end : End) 
       path-still : path_at v.targets.keys at ≡ path_at t.targets.keys at
       path-still = rw (a.keys_kept at target key-there) refl
 
-      wider-entries : table_entries (rules_of tree limits) limits.targets v ≡ entered (rules_of tree limits) (table_entries (rules_of tree limits) limits.targets t) (operands (rules_of tree limits) (end_progress end).deps)
+      wider-entries : table_entries (rules_for given) given.limits.targets v ≡ entered (rules_for given) (table_entries (rules_for given) given.limits.targets t) (operands (rules_for given) (end_progress end).deps)
       wider-entries = a.entries ∙ enters-same
 
       wider-distinct : AreDistinct v.targets.keys
       wider-distinct =
           let P : List (List ℕ) → Type 0 = AreDistinct in
           let paths = ap paths_of a.entries ∙ paths_of-entered r es (operands r (drop begun.value.facts.gained begun.value.job.state.entries)) in
-          let keys = paths_of-slots r (outcome_at r limits.targets) v.targets.keys v.slots.items a.table.one_each in
+          let keys = paths_of-slots r (outcome_at r given.limits.targets) v.targets.keys v.slots.items a.table.one_each in
           subst P keys (subst P (sym paths) (with_new-distinct (paths_of es) (operands r (drop begun.value.facts.gained begun.value.job.state.entries)) sound.standing.distinct))
 
-      wider-known : (q : List ℕ) (o : Outcome) → outcomes_of (table_entries (rules_of tree limits) limits.targets t) q ≡ Some o → outcomes_of (table_entries (rules_of tree limits) limits.targets v) q ≡ Some o
+      wider-known : (q : List ℕ) (o : Outcome) → outcomes_of (table_entries (rules_for given) given.limits.targets t) q ≡ Some o → outcomes_of (table_entries (rules_for given) given.limits.targets v) q ≡ Some o
       wider-known q o h =
           let P : List Entry → Type 0 = λ xs. outcomes_of xs q ≡ Some o in
           let old = outcomes_of-entry es q o h in
@@ -376,7 +374,7 @@ module _ (tree : Tree) (limits : LimitsView) (t : Table) (at : ℕ) (end : End) 
           let P : End → Type 0 = λ x. job_deps begun.value.job ≡ (end_progress x).deps in
           subst P (sym stopped) (job_deps-stopped begun.value.job may.slot.turn one-more)
 
-      asked-still : (q : List ℕ) (o : Outcome) → told_in begun.value.facts q ≡ Some o → IsAmong (operands (rules_of tree limits) (job_deps begun.value.job)) q
+      asked-still : (q : List ℕ) (o : Outcome) → told_in begun.value.facts q ≡ Some o → IsAmong (operands (rules_for given) (job_deps begun.value.job)) q
       asked-still q o h =
           let n = may.is_end.is_piece.depth in
           let D : List Dep → Type 0 = λ ds. IsAmong (operands r ds) q in
@@ -384,14 +382,14 @@ module _ (tree : Tree) (limits : LimitsView) (t : Table) (at : ℕ) (end : End) 
           let more = asked-more r lawful target (outcome_at r n) may.slot.turn may.is_end.is_piece.came q before in
           subst D (sym (job-record ∙ ap (λ (x : Progress). x.deps) may.is_end.is_piece.is)) more
 
-      module _ (u : Table) (numbers : Vec ℕ Global) (are : AreNumbers v.targets.keys numbers.items (waited_by (rules_of tree limits) begun.value)) (d : IsParkedAt v u at begun numbers) where
+      module _ (u : Table) (numbers : Vec ℕ Global) (are : AreNumbers v.targets.keys numbers.items (waited_by (rules_for given) begun.value)) (d : IsParkedAt v u at begun numbers) where
         old-there : d.old ≡ may.slot
         old-there = let both : Some d.old ≡ Some may.slot = sym d.put_back.there ∙ there-still in cc
 
         new-turn : d.new.turn ≡ may.slot.turn + 1
         new-turn = d.turn ∙ ap (λ (y : Slot). y.turn + 1) old-there
 
-        waits : IsWaitingWith (rules_of tree limits) (outcomes_of (table_entries (rules_of tree limits) limits.targets v)) tree limits (path_at v.targets.keys at) d.new.turn
+        waits : IsWaitingWith (rules_for given) (outcomes_of (table_entries (rules_for given) given.limits.targets v)) given (path_at v.targets.keys at) d.new.turn
             (record { begun = begun; operands = numbers; held = 0 })
         waits = record {
           is_job = is_stopped.is_job;
@@ -405,22 +403,22 @@ module _ (tree : Tree) (limits : LimitsView) (t : Table) (at : ℕ) (end : End) 
           gained = is_stopped.gained;
         }
 
-        parked-moved : table_entries (rules_of tree limits) limits.targets u ≡ moved
+        parked-moved : table_entries (rules_for given) given.limits.targets u ≡ moved
         unfolding moved
         parked-moved =
-            let put-in = put-entries tree limits v u newly_ready a.table wider-distinct at d.old d.new d.put_back in
-            let shows = parked-shows r (outcome_at r limits.targets) begun numbers (path_at v.targets.keys at) d.new.turn d.new.stage d.stage in
+            let put-in = put-entries given v u newly_ready a.table wider-distinct at d.old d.new d.put_back in
+            let shows = parked-shows r (outcome_at r given.limits.targets) begun numbers (path_at v.targets.keys at) d.new.turn d.new.stage d.stage in
             let M : List ℕ → ℕ → List Dep → Entry = λ p n ds. record { path = p; turn = n; deps = ds; outcome = None; is_out = false } in
             let entry' = shows ∙ ap (λ p. M p d.new.turn (job_deps begun.value.job)) path-still ∙ ap (λ n. M target n (job_deps begun.value.job)) new-turn ∙ ap (M target (may.slot.turn + 1)) job-record in
             let N : End → Type 0 = λ x. M target (may.slot.turn + 1) (end_progress x).deps ≡ moved_on e (end_progress x) in
             let last : M target (may.slot.turn + 1) (end_progress end).deps ≡ moved_on e (end_progress end) = subst N (sym stopped) refl in
-            put-in ∙ ap (put (table_entries r limits.targets v)) (entry' ∙ last) ∙ ap (λ xs. put xs (moved_on e (end_progress end))) wider-entries
+            put-in ∙ ap (put (table_entries r given.limits.targets v)) (entry' ∙ last) ∙ ap (λ xs. put xs (moved_on e (end_progress end))) wider-entries
 
-        pub parked-put : IsPutBackThere tree limits t u at newly_ready (at ∷ [])
+        pub parked-put : IsPutBackThere given t u at newly_ready (at ∷ [])
         parked-put =
             let len = ap length d.put_back.slots ∙ Rattle.std.proofs.Common.length-set v.slots.items at d.new in
             record {
-              table = parked-table tree limits v u newly_ready a.table wider-distinct at begun numbers d waits are;
+              table = parked-table given v u newly_ready a.table wider-distinct at begun numbers d waits are;
               entries = parked-moved ∙ sym after-entries;
               ready = d.put_back.rest.1 ∙ a.rest.0;
               keys_kept = λ k p h. rw d.put_back.rest.0 (a.keys_kept k p h);
@@ -428,5 +426,5 @@ module _ (tree : Tree) (limits : LimitsView) (t : Table) (at : ℕ) (end : End) 
                 | inl here ↦ omega (arith, here, len, slice_get-below_some v.slots.items at may.slot there-still)
                 | inr none ↦ absurd none
               ];
-              watched = parked-watched tree limits v u newly_ready a.table wider-distinct at begun numbers d waits are (a.watched [] may.watched);
+              watched = parked-watched given v u newly_ready a.table wider-distinct at begun numbers d waits are (a.watched [] may.watched);
             }

@@ -4,7 +4,6 @@ use Rattle.std.proofs.Common.{◌≤◌, true, false, cond, inl, inr, List, [], 
 use Rattle.std.proofs.Common.{is_some, slice_get, slice_set, slice_index_or, remove, refl, sym, ap, subst, ◌∙◌, arith}
 use Rattle.std.specs.Arc.{arc_value}
 use Rattle.std.proofs.lemmas.Bool.{cases_Bool}
-use Rattle.redo_tree.specs.Tree.{Tree}
 use Rattle.redo_build.specs.Rules.{Rules, operands, AreLawful, Ask}
 use Rattle.redo_record.specs.Paths.{IsAmong, AreDistinct}
 use Rattle.redo_core.proofs.NumberLemmas.{numbered-set}
@@ -19,7 +18,7 @@ use Rattle.redo_core.specs.inside.Slots.{IsQueue, IsTable, AllWatched, stage_dep
 use Rattle.redo_build.specs.Outcomes.{outcome_at}
 use Rattle.redo_core.proofs.TableLemmas.{slice_get-place, place-slice_get, remove-place, remove-place_cases}
 use Rattle.redo_core.proofs.TableLemmas.{get-set_cases, fits-set, outcomes-more, watchers-set, watched-set}
-use Rattle.redo_core.specs.Build.{rules_of}
+use Rattle.redo_core.specs.Build.{rules_for}
 use Rattle.redo_core.specs.Views.{jobs_out, ready_count, rules_on, told_by, BoardView, WorkView, IsReached, IsWorkTaken}
 use Rattle.redo_core.specs.inside.Works.{HoldsOutcomes}
 use Rattle.redo_core.specs.declared.board.Board.TheInside.{Inside}
@@ -27,7 +26,7 @@ use Rattle.redo_core.specs.declared.table.Slot.{Slot}
 use Rattle.redo_core.specs.declared.table.Stage.TheVariants.{Ready, Out}
 use Rattle.redo_core.specs.declared.work.Work.{Work}
 use Rattle.redo_core.proofs.HoldingLemmas.{same-answers}
-use Rattle.redo_core.proofs.LawfulTreeLemmas.{rules_lawful}
+use Rattle.redo_core.proofs.LawfulTreeLemmas.{lawful_for}
 use Rattle.redo_build.proofs.QuietLemmas.{is_part, shows}
 use Rattle.redo_build.specs.Theorems.{IsPartOfBuild, ShowsBuild}
 use Rattle.redo_build.proofs.TurnBoundLemmas.{turn-below}
@@ -38,18 +37,18 @@ use Rattle.redo_core.proofs.SlotLemmas.{state_taken, paths_of-slots, length-filt
 pub sound-inside : (b : Inside) → IsKept b → IsSound (rules_inside b) b.request.items (state_of b)
 sound-inside b kept =
     let r = rules_inside b in
-    let lawful = rules_lawful (arc_value b.tree) b.limits in
+    let lawful = lawful_for (arc_value b.given) in
     let P : State → Type 0 = IsSound r b.request.items in
     subst P (sym kept.reached.ends)
     (run-sound r lawful b.request.items (opening r b.request.items) kept.reached.events (opening-sound r lawful b.request.items) kept.reached.all_open)
 
 abbrev lawful_inside : (b : Inside) → AreLawful (rules_inside b)
-lawful_inside b = rules_lawful (arc_value b.tree) b.limits
+lawful_inside b = lawful_for (arc_value b.given)
 
 pub distinct-inside : (b : Inside) → IsKept b → AreDistinct b.table.targets.keys
 distinct-inside b kept =
     let P : List (List ℕ) → Type 0 = AreDistinct in
-    subst P (paths_of-slots (rules_inside b) (outcome_at (rules_inside b) b.limits.targets) b.table.targets.keys b.table.slots.items kept.table.one_each) (sound-inside b kept).standing.distinct
+    subst P (paths_of-slots (rules_inside b) (outcome_at (rules_inside b) (arc_value b.given).limits.targets) b.table.targets.keys b.table.slots.items kept.table.one_each) (sound-inside b kept).standing.distinct
 
 pub fits_one_more : (b : Inside) → IsKept b → b.table.out ≤ 65536
 fits_one_more b kept = omega (arith, kept.table.out_counted, length-filter_le (λ slot. is_stage_out slot.stage) b.table.slots.items, kept.table.within_limit, kept.table.few)
@@ -62,61 +61,60 @@ module _ (b : Inside) (kept : IsKept b) (which at : ℕ) (slot : Slot)
   pub found_path : (p : List ℕ) × (slice_get b.table.targets.keys at ≡ Some p)
   found_path = slice_get-from b.table.targets.keys at here
 
-  pub found_job : (work : Work) × (slot.stage ≡ Ready work) × IsParked (arc_value b.tree) b.limits (path_at b.table.targets.keys at) slot.turn work ×
+  pub found_job : (work : Work) × (slot.stage ≡ Ready work) × IsParked (arc_value b.given) (path_at b.table.targets.keys at) slot.turn work ×
       AllAnswered (rules_inside b) (outcomes_of (state_of b).entries) work.deps
   found_job =
       let first' = slice_get-place b.table.ready.items which at first in
-      let job = ready-job (rules_inside b) (outcomes_of (state_of b).entries) (arc_value b.tree) b.limits (path_at b.table.targets.keys at) slot.turn slot.stage
+      let job = ready-job (rules_inside b) (outcomes_of (state_of b).entries) (arc_value b.given) (path_at b.table.targets.keys at) slot.turn slot.stage
       (kept.table.fits at slot there) (kept.table.queue.ready_is at slot (inl first') there) in
       (job.0, job.1, job.2, job.3)
 
-  pub taken_state : state_from (rules_inside b) b.limits.targets b.table.targets.keys (slice_set b.table.slots.items at (record slot { stage = Out })) (remove b.table.ready.items which) ≡
+  pub taken_state : state_from (rules_inside b) (arc_value b.given).limits.targets b.table.targets.keys (slice_set b.table.slots.items at (record slot { stage = Out })) (remove b.table.ready.items which) ≡
       happens (rules_inside b) (state_of b) (Take which)
-  taken_state = state_taken (rules_inside b) (lawful_inside b) b.limits.targets b.request.items b.table.targets.keys b.table.slots.items b.table.ready.items (sound-inside b kept) kept.table.one_each kept.table.within_limit
+  taken_state = state_taken (rules_inside b) (lawful_inside b) (arc_value b.given).limits.targets b.request.items b.table.targets.keys b.table.slots.items b.table.ready.items (sound-inside b kept) kept.table.one_each kept.table.within_limit
       which at found_path.0 slot found_job.0 first found_path.1 there found_job.1
 
-  pub work_taken : (view : BoardView) → (view.tree ≡ arc_value b.tree) → (view.limits ≡ b.limits) → (view.state ≡ state_of b) →
+  pub work_taken : (view : BoardView) → (view.given ≡ arc_value b.given) → (view.state ≡ state_of b) →
       (work : Work) → slot.stage ≡ Ready work → HoldsOutcomes work → IsWorkTaken view which work
-  work_taken view tree limits state work is holds =
+  work_taken view given state work is holds =
       let job = found_job in
       let same : job.0 ≡ work = let both : Ready job.0 ≡ Ready work = sym job.1 ∙ is in cc in
-      let P : WorkView → Type 0 = λ w. IsParked (arc_value b.tree) b.limits (path_at b.table.targets.keys at) slot.turn w in
+      let P : WorkView → Type 0 = λ w. IsParked (arc_value b.given) (path_at b.table.targets.keys at) slot.turn w in
       let parked = subst P same job.2 in
       let path = found_path in
       let at_path : path_at b.table.targets.keys at ≡ path.0 = rw path.1 refl in
-      let target : work.target ≡ path.0 = parked.2 ∙ at_path in
+      let target : work.target ≡ path.0 = parked.1 ∙ at_path in
       let Q : State → Type 0 = λ s. slice_get s.ready which ≡ Some work.target in
       let spot : slice_get (state_of b).ready which ≡ Some (path_at b.table.targets.keys at) =
       slice_get-map (path_at b.table.targets.keys) b.table.ready.items which at first in
       record {
-        tree = parked.0 ∙ sym tree;
-        limits = parked.1 ∙ sym limits;
-        target = subst Q (sym state) (spot ∙ ap Some (sym parked.2));
+        given = parked.0 ∙ sym given;
+        target = subst Q (sym state) (spot ∙ ap Some (sym parked.1));
         turn = λ e h.
             let R : State → Type 0 = λ s. entry_of s.entries work.target ≡ Some e in
             let S : List ℕ → Type 0 = λ x. entry_of (state_of b).entries x ≡ Some e in
             let now = subst S target (subst R state h) in
-            let known = entry (rules_inside b) (lawful_inside b) b.limits.targets b.request.items b.table.targets.keys b.table.slots.items b.table.ready.items (sound-inside b kept) kept.table.one_each kept.table.within_limit
+            let known = entry (rules_inside b) (lawful_inside b) (arc_value b.given).limits.targets b.request.items b.table.targets.keys b.table.slots.items b.table.ready.items (sound-inside b kept) kept.table.one_each kept.table.within_limit
             which at path.0 slot work first path.1 there is in
-            let e_is : slot_entry (rules_inside b) (outcome_at (rules_inside b) b.limits.targets) path.0 slot ≡ e = let both = sym known ∙ now in cc in (
-              parked.3 ∙ ap (λ (x : Entry). x.turn) e_is,
+            let e_is : slot_entry (rules_inside b) (outcome_at (rules_inside b) (arc_value b.given).limits.targets) path.0 slot ≡ e = let both = sym known ∙ now in cc in (
+              parked.2 ∙ ap (λ (x : Entry). x.turn) e_is,
               sym (deps_parked path.0) ∙ ap (λ (x : Entry). x.deps) e_is,
             );
         known = λ q.
             let r = rules_inside b in
             let es = (state_of b).entries in
-            let own : rules_of work.tree work.limits ≡ r = ap (λ (t : Tree). rules_of t work.limits) parked.0 ∙ ap (rules_of (arc_value b.tree)) parked.1 in
+            let own : rules_for work.given ≡ r = ap rules_for parked.0 in
             let H : Rules → Type 0 = λ x. AllAnswered x (outcome_at x holds.depth) work.deps in
             let K : Rules → Type 0 = λ x. told_by work.known q ≡ only (operands x work.deps) (outcome_at x holds.depth) q in
             let A : WorkView → Type 0 = λ w. AllAnswered r (outcomes_of es) w.deps in
             let same_answers = same-answers r (lawful_inside b) b.request.items es (sound-inside b kept).standing holds.depth work.deps (subst H own holds.fed) (subst A same job.3) q in
-            let shown : rules_on view ≡ r = ap (λ (t : Tree). rules_of t view.limits) tree ∙ ap (rules_of (arc_value b.tree)) limits in
+            let shown : rules_on view ≡ r = ap rules_for given in
             let S : State → Type 0 = λ s. told_by work.known q ≡ only (operands r work.deps) (outcomes_of s.entries) q in
             let R : Rules → Type 0 = λ x. told_by work.known q ≡ only (operands x work.deps) (outcomes_of view.state.entries) q in
             subst R (sym shown) (subst S (sym state) (subst K own (holds.exact q) ∙ same_answers));
       }
     where
-      deps_parked : (p : List ℕ) → stage_deps (rules_inside b) (outcome_at (rules_inside b) b.limits.targets) p slot.turn slot.stage ≡ work.deps
+      deps_parked : (p : List ℕ) → stage_deps (rules_inside b) (outcome_at (rules_inside b) (arc_value b.given).limits.targets) p slot.turn slot.stage ≡ work.deps
       deps_parked p = rw is refl
 
 pub running : {A : Type 0} (stopped : Option A) (n which : ℕ) → which < cond (is_some stopped) 0 n → is_some stopped ≡ false
@@ -204,18 +202,18 @@ module _ (b : Inside) (kept : IsKept b) (which at : ℕ) (slot : Slot)
       let slots' = slice_set b.table.slots.items at new in
       let job = found_job b kept which at slot first there in
       let path = found_path b kept which at slot first there in
-      let state : state_from r b.limits.targets b.table.targets.keys slots.items ready.items ≡ happens r (state_of b) (Take which) =
-      ap (λ x. state_from r b.limits.targets b.table.targets.keys x ready.items) is_slots ∙
-      ap (state_from r b.limits.targets b.table.targets.keys (slice_set b.table.slots.items at (record slot { stage = Out }))) is_ready ∙
+      let state : state_from r (arc_value b.given).limits.targets b.table.targets.keys slots.items ready.items ≡ happens r (state_of b) (Take which) =
+      ap (λ x. state_from r (arc_value b.given).limits.targets b.table.targets.keys x ready.items) is_slots ∙
+      ap (state_from r (arc_value b.given).limits.targets b.table.targets.keys (slice_set b.table.slots.items at (record slot { stage = Out }))) is_ready ∙
       taken_state b kept which at slot first there in
       let more = reached-more r b.request.items (state_of b) (Take which) kept.reached
       (omega (arith, below, length-map (path_at b.table.targets.keys) b.table.ready.items)) in
       let P : State → Type 0 = IsReached r b.request.items in
       let len = length-set b.table.slots.items at new in
       let open_stage : (stage_outcome slot.stage ≡ None) × (is_stage_out slot.stage ≡ false) = (rw job.1 refl, rw job.1 refl) in
-      let S : List Slot → Type 0 = λ xs. IsTable r (arc_value b.tree) b.limits b.table.targets.keys xs ready.items (b.table.out + 1) [] in
-      let Q : List ℕ → Type 0 = λ xs. IsTable r (arc_value b.tree) b.limits b.table.targets.keys slots' xs (b.table.out + 1) [] in
-      let W : List Slot → Type 0 = λ xs. AllWatched r b.limits.targets b.table.targets.keys xs [] in
+      let S : List Slot → Type 0 = λ xs. IsTable r (arc_value b.given) b.table.targets.keys xs ready.items (b.table.out + 1) [] in
+      let Q : List ℕ → Type 0 = λ xs. IsTable r (arc_value b.given) b.table.targets.keys slots' xs (b.table.out + 1) [] in
+      let W : List Slot → Type 0 = λ xs. AllWatched r (arc_value b.given).limits.targets b.table.targets.keys xs [] in
       record {
         reached = subst P (sym state) more;
         table = subst S (sym is_slots) (subst Q (sym is_ready) (record {
@@ -223,14 +221,14 @@ module _ (b : Inside) (kept : IsKept b) (which at : ℕ) (slot : Slot)
           within_limit = omega (arith, len, kept.table.within_limit);
           few = kept.table.few;
           out_counted = ap (λ n. n + 1) kept.table.out_counted ∙ sym (count-set b.table.slots.items at slot new there open_stage.1 refl);
-          fits = fits-set r (lawful_inside b) b.limits.targets b.table.targets.keys b.table.slots.items at path.0 slot new (distinct-inside b kept) path.1 there
-              (arc_value b.tree) b.limits
-              (outcomes-more r (lawful_inside b) b.limits.targets b.table.targets.keys b.table.slots.items at path.0 slot new (distinct-inside b kept) path.1 there open_stage.0) kept.table.fits tt;
+          fits = fits-set r (lawful_inside b) (arc_value b.given).limits.targets b.table.targets.keys b.table.slots.items at path.0 slot new (distinct-inside b kept) path.1 there
+              (arc_value b.given)
+              (outcomes-more r (lawful_inside b) (arc_value b.given).limits.targets b.table.targets.keys b.table.slots.items at path.0 slot new (distinct-inside b kept) path.1 there open_stage.0) kept.table.fits tt;
           numbered = numbered-set r b.table.targets.keys b.table.slots.items at new tt kept.table.numbered;
           queue = queue-taken;
           watchers_below = watchers-set b.table.slots.items at slot new there (λ k m. kept.table.watchers_below at k slot there m) kept.table.watchers_below;
         }));
-        watched = subst W (sym is_slots) (watched-set b.table.slots.items at slot new there r b.limits.targets b.table.targets.keys [] refl (λ k m. m) (λ t. absurd (let is : false ≡ true = t in cc)) (λ k x other. kept.watched k x));
+        watched = subst W (sym is_slots) (watched-set b.table.slots.items at slot new there r (arc_value b.given).limits.targets b.table.targets.keys [] refl (λ k m. m) (λ t. absurd (let is : false ≡ true = t in cc)) (λ k x other. kept.watched k x));
       }
 
 pub slice_get-number : (xs : List ℕ) (i x : ℕ) → i < length xs → x ≡ slice_index_or xs i x → slice_get xs i ≡ Some x
@@ -253,29 +251,29 @@ below_items b which h = below_count b.stopped h
 
 -- the turn of what is taken is below the limit
 pub turn_small : (b : Inside) (kept : IsKept b) (which at : ℕ) (slot : Slot) (first : slice_get b.table.ready.items which ≡ Some at)
-    (there : slice_get b.table.slots.items at ≡ Some slot) (work : Work) → slot.stage ≡ Ready work → work.turn < b.limits.targets
+    (there : slice_get b.table.slots.items at ≡ Some slot) (work : Work) → slot.stage ≡ Ready work → work.turn < (arc_value b.given).limits.targets
 turn_small b kept which at slot first there work is =
     let r = rules_inside b in
     let sound = sound-inside b kept in
     let path = found_path b kept which at slot first there in
     let job = found_job b kept which at slot first there in
     let same : job.0 ≡ work = let both : Ready job.0 ≡ Ready work = sym job.1 ∙ is in cc in
-    let known = entry r (lawful_inside b) b.limits.targets b.request.items b.table.targets.keys b.table.slots.items b.table.ready.items sound kept.table.one_each kept.table.within_limit
+    let known = entry r (lawful_inside b) (arc_value b.given).limits.targets b.request.items b.table.targets.keys b.table.slots.items b.table.ready.items sound kept.table.one_each kept.table.within_limit
     which at path.0 slot work first path.1 there is in
     let at_path : path_at b.table.targets.keys at ≡ path.0 = rw path.1 refl in
     let spot : slice_get (state_of b).ready which ≡ Some path.0 =
     slice_get-map (path_at b.table.targets.keys) b.table.ready.items which at first ∙ ap Some at_path in
     let fed = sound.queued.ready_fed path.0 (slice_get-among (state_of b).ready which path.0 spot) in
-    let entry_is : fed.0 ≡ slot_entry r (outcome_at (rules_inside b) b.limits.targets) path.0 slot = let both = sym fed.1 ∙ known in cc in
-    let below = turn-below r (rules_lawful (arc_value b.tree) b.limits) b.request.items (state_of b).entries sound.standing path.0 fed.0 fed.1 fed.2 fed.3 in
+    let entry_is : fed.0 ≡ slot_entry r (outcome_at (rules_inside b) (arc_value b.given).limits.targets) path.0 slot = let both = sym fed.1 ∙ known in cc in
+    let below = turn-below r (lawful_for (arc_value b.given)) b.request.items (state_of b).entries sound.standing path.0 fed.0 fed.1 fed.2 fed.3 in
     let turn = ap (λ (x : Entry). x.turn) entry_is in
     let work_turn = ap (λ (w : WorkView). w.turn) same in
-    let paths = ap length (paths_of-slots r (outcome_at (rules_inside b) b.limits.targets) b.table.targets.keys b.table.slots.items kept.table.one_each) in
-    omega (arith, below, turn, work_turn, job.2.3, paths, kept.table.one_each, kept.table.within_limit)
+    let paths = ap length (paths_of-slots r (outcome_at (rules_inside b) (arc_value b.given).limits.targets) b.table.targets.keys b.table.slots.items kept.table.one_each) in
+    omega (arith, below, turn, work_turn, job.2.2, paths, kept.table.one_each, kept.table.within_limit)
 
 -- what a running board keeps is a part of its build
-pub part-inside : (b : Inside) → IsKept b → IsPartOfBuild (rules_inside b) b.request.items b.limits.targets (state_of b)
-part-inside b kept = is_part (rules_inside b) (rules_lawful (arc_value b.tree) b.limits) b.request.items (state_of b) (sound-inside b kept) b.limits.targets
+pub part-inside : (b : Inside) → IsKept b → IsPartOfBuild (rules_inside b) b.request.items (arc_value b.given).limits.targets (state_of b)
+part-inside b kept = is_part (rules_inside b) (lawful_for (arc_value b.given)) b.request.items (state_of b) (sound-inside b kept) (arc_value b.given).limits.targets
 
 slots-length : (r : Rules) (a : Ask) (ps : List (List ℕ)) (slots : List Slot) → length slots ≡ length ps → length (slot_entries r a ps slots) ≡ length slots
 slots-length r a [] [] h = refl
@@ -284,26 +282,26 @@ slots-length r a (p ∷ ps) [] h = refl
 slots-length r a (p ∷ ps) (slot ∷ slots) h = ap suc (slots-length r a ps slots (omega arith))
 
 -- a running board has no more entries than the limit allows
-pub length-entries : (b : Inside) → IsKept b → length (state_of b).entries ≤ b.limits.targets
-length-entries b kept = omega (arith, kept.table.within_limit, slots-length (rules_inside b) (outcome_at (rules_inside b) b.limits.targets) b.table.targets.keys b.table.slots.items kept.table.one_each)
+pub length-entries : (b : Inside) → IsKept b → length (state_of b).entries ≤ (arc_value b.given).limits.targets
+length-entries b kept = omega (arith, kept.table.within_limit, slots-length (rules_inside b) (outcome_at (rules_inside b) (arc_value b.given).limits.targets) b.table.targets.keys b.table.slots.items kept.table.one_each)
 
 -- a quiet board shows the build
-pub shows-inside : (b : Inside) → IsKept b → IsQuiet (state_of b) → ShowsBuild (rules_inside b) b.request.items b.limits.targets (state_of b)
+pub shows-inside : (b : Inside) → IsKept b → IsQuiet (state_of b) → ShowsBuild (rules_inside b) b.request.items (arc_value b.given).limits.targets (state_of b)
 shows-inside b kept quiet =
-    shows (rules_inside b) (rules_lawful (arc_value b.tree) b.limits) b.request.items (state_of b) (sound-inside b kept) b.limits.targets quiet
-    (omega (arith, kept.table.within_limit, slots-length (rules_inside b) (outcome_at (rules_inside b) b.limits.targets) b.table.targets.keys b.table.slots.items kept.table.one_each))
+    shows (rules_inside b) (lawful_for (arc_value b.given)) b.request.items (state_of b) (sound-inside b kept) (arc_value b.given).limits.targets quiet
+    (omega (arith, kept.table.within_limit, slots-length (rules_inside b) (outcome_at (rules_inside b) (arc_value b.given).limits.targets) b.table.targets.keys b.table.slots.items kept.table.one_each))
 
 abbrev pub view_of : Inside → BoardView
-view_of b = record { tree = arc_value b.tree; request = b.request.items; limits = b.limits; state = state_of b; stopped = b.stopped }
+view_of b = record { given = arc_value b.given; request = b.request.items; state = state_of b; stopped = b.stopped }
 
 no_paths : (ps : List (List ℕ)) → length ps ≡ 0 → ps ≡ []
 no_paths [] h = refl
 no_paths (p ∷ ps) h = absurd (omega arith)
 
 pub shows-view : (b : Inside) → IsBoard b → (view : BoardView) → view_of b ≡ view → is_some b.stopped ≡ false →
-    ready_count view ≡ 0 → jobs_out view ≡ 0 → ShowsBuild (rules_on view) view.request view.limits.targets view.state
+    ready_count view ≡ 0 → jobs_out view ≡ 0 → ShowsBuild (rules_on view) view.request view.given.limits.targets view.state
 shows-view b invariant view is on none_ready none_out =
-    let P : BoardView → Type 0 = λ v. ShowsBuild (rules_on v) v.request v.limits.targets v.state in
+    let P : BoardView → Type 0 = λ v. ShowsBuild (rules_on v) v.request v.given.limits.targets v.state in
     let Q : BoardView → Type 0 = λ v. ready_count v ≡ 0 in
     let R : BoardView → Type 0 = λ v. jobs_out v ≡ 0 in
     let ready = rw on at (subst Q (sym is) none_ready) in

@@ -1,14 +1,23 @@
--- What a board has taken, one event further.
+-- What a board has taken, one event further, and in the end.
 use Rattle.std.proofs.Common.{◌≡◌, ℕ, ◌<◌, cond, is_some, length, List, [], ◌∷◌, ◌++◌, Option, Some, None, slice_get}
 use Rattle.std.proofs.Common.{option_and_then, append_assoc, append-nil, refl, sym, ap, subst, ◌∙◌, arith}
+use Rattle.std.specs.Prelude.{IsNone}
+use Rattle.redo_record.specs.Paths.{IsAmong}
 use Rattle.redo_build.specs.Rules.{Rules}
-use Rattle.redo_build.specs.Schedule.{Entry, State, Event, IsOpen, entry_of, happens, opening, run}
+use Rattle.redo_build.specs.Schedule.{Entry, State, Event, IsOpen, IsQuiet, entry_of, happens, opening, out_count, paths_of}
+use Rattle.redo_build.specs.Schedule.{run}
 use Rattle.redo_build.specs.Schedule.Event.{Take, Hand_in}
-use Rattle.redo_build.specs.Takes.{takes, place_of, AreOnce}
+use Rattle.redo_build.specs.Takes.{takes, place_of, AreBegun, AreCountedOnce, AreOnce, IsTaken}
+use Rattle.redo_build.specs.Theorems.{ShowsBuild}
+use Rattle.redo_report.specs.Reports.{IsReport}
+use Rattle.redo_report.specs.declared.report.Report.{Report}
 use Rattle.redo_core.specs.Taken.{HasTaken}
-use Rattle.redo_core.specs.Views.{BoardView, WorkView, IsWorkTaken, after, ready_count, rules_on}
+use Rattle.redo_core.specs.Views.{BoardView, WorkView, IsQuietBoard, IsWorkTaken, after, ready_count}
+use Rattle.redo_core.specs.Views.{rules_on}
 use Rattle.redo_build.proofs.SeenLemmas.{entry_of-path}
-use Rattle.redo_core.proofs.LawfulTreeLemmas.{rules_lawful}
+use Rattle.redo_core.proofs.LawfulTreeLemmas.{lawful_for}
+use Rattle.redo_build.proofs.BegunLemmas.{begun-seen}
+use Rattle.redo_build.proofs.CountedLemmas.{once-counted}
 use Rattle.redo_build.proofs.OnceLemmas.{takes-once}
 use Rattle.redo_build.proofs.QueueLemmas.{slice_get-among}
 use Rattle.redo_build.proofs.SoundLemmas.{IsSound, opening-sound, run-sound}
@@ -49,7 +58,7 @@ taken-more b taken more event had open' one =
 pub sound-taken : (b : BoardView) (taken : List ((List ℕ) × ℕ)) → HasTaken b taken → IsSound (rules_on b) b.request b.state
 sound-taken b taken had =
     let r = rules_on b in
-    let lawful = rules_lawful b.tree b.limits in
+    let lawful = lawful_for b.given in
     let first = opening r b.request in
     let P : State → Type 0 = IsSound r b.request in
     subst P (sym had.reached.ends) (run-sound r lawful b.request first had.reached.events (opening-sound r lawful b.request) had.reached.all_open)
@@ -78,6 +87,41 @@ taken-hand_in b taken target turn had open' =
 pub taken-once : (b : BoardView) (taken : List ((List ℕ) × ℕ)) → HasTaken b taken → AreOnce taken
 taken-once b taken had =
     let r = rules_on b in
-    let lawful = rules_lawful b.tree b.limits in
+    let lawful = lawful_for b.given in
     let P : List ((List ℕ) × ℕ) → Type 0 = AreOnce in
     subst P (sym had.is) (takes-once r lawful b.request had.reached.events (opening r b.request) (opening-sound r lawful b.request) had.reached.all_open)
+
+pub taken-counted : (b : BoardView) (taken : List ((List ℕ) × ℕ)) → HasTaken b taken → AreCountedOnce taken
+taken-counted b taken had = once-counted taken (taken-once b taken had)
+
+on-board : {A : Type 0} (stopped : Option A) (n : ℕ) → IsNone stopped → cond (is_some stopped) 0 n ≡ 0 → n ≡ 0
+on-board None n on h = h
+on-board (Some stop) n on h = cc
+
+no-paths : (ps : List (List ℕ)) → length ps ≡ 0 → ps ≡ []
+no-paths [] h = refl
+no-paths (p ∷ ps) h = absurd (omega arith)
+
+-- once a board is quiet, what was taken at turn 0 is what its report says was begun
+pub taken-begun : (b : BoardView) (taken : List ((List ℕ) × ℕ)) (report : Report) → HasTaken b taken → IsQuietBoard b →
+    ShowsBuild (rules_on b) b.request b.given.limits.targets b.state →
+    IsReport (rules_on b) b.request b.given.limits.targets report → AreBegun taken report.begun.items
+taken-begun b taken report had quiet shown told p =
+    let r = rules_on b in
+    let first = opening r b.request in
+    let events = had.reached.events in
+    let Q : State → Type 0 = IsQuiet in
+    let still : IsQuiet b.state = (
+      no-paths b.state.ready (on-board b.stopped (length b.state.ready) quiet.0 quiet.1),
+      on-board b.stopped (out_count b.state) quiet.0 quiet.2,
+    ) in
+    let seen = begun-seen r (lawful_for b.given) b.request events had.reached.all_open (subst Q had.reached.ends still) p in
+    let M : List ((List ℕ) × ℕ) → Type 0 = λ xs. IsTaken xs p 0 in
+    let S : State → Type 0 = λ s. IsAmong (paths_of s.entries) p in (
+      λ m.
+          let both = seen.0 (subst M had.is m) in
+          (told.begun p).1 ((shown.members p).0 (subst S (sym had.reached.ends) both.0), both.1, refl),
+      λ listed.
+          let both = (told.begun p).0 listed in
+          subst M (sym had.is) (seen.1 (subst S had.reached.ends ((shown.members p).1 both.0), both.1)),
+    )

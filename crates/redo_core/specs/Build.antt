@@ -55,6 +55,15 @@ rules_in w = record {
 abbrev pub world_of : Tree → LimitsView → World
 world_of tree limits = record { tree = tree; found = found_of tree; limit = limits.file_bytes }
 
+-- what a build is given: a tree of sources, and limits
+pub record GivenView : Type 0 where
+  pub tree : Tree
+  pub limits : LimitsView
+
 -- the rules of a source tree
 abbrev pub rules_of : Tree → LimitsView → Rules
 rules_of tree limits = rules_in (world_of tree limits)
+
+-- the rules of a build that is given this
+abbrev pub rules_for : GivenView → Rules
+rules_for given = rules_of given.tree given.limits

@@ -5,7 +5,7 @@ use Rattle.std.specs.Map.{lookup}
 use Rattle.redo_record.specs.Progress.{Progress}
 use Rattle.redo_build.specs.Rules.{Ask, Rules, operands}
 use Rattle.redo_tree.specs.Tree.{Tree}
-use Rattle.redo_core.specs.Build.{rules_of}
+use Rattle.redo_core.specs.Build.{GivenView, rules_of, rules_for}
 use Rattle.redo_build.specs.Schedule.{Entry, State, Event, AllOpen, entry_of, outcomes_of, only, opening, run, happens}
 use Rattle.redo_build.specs.Schedule.{out_count}
 use Rattle.redo_record.specs.declared.deps.Dep.{Dep}
@@ -15,8 +15,7 @@ use Rattle.redo_step.specs.Limits.{LimitsView}
 
 -- a decided target of a build with its outcome, its record and whether its script was begun
 pub record FactView : Type 0 where
-  pub tree : Tree
-  pub limits : LimitsView
+  pub given : GivenView
   pub target : List ℕ
   pub outcome : Outcome
   pub deps : List Dep
@@ -24,8 +23,7 @@ pub record FactView : Type 0 where
 
 -- a job with what it knows
 pub record WorkView : Type 0 where
-  pub tree : Tree
-  pub limits : LimitsView
+  pub given : GivenView
   pub target : List ℕ
   pub turn : ℕ
   pub deps : List Dep
@@ -38,21 +36,23 @@ told_by known p = lookup (bytes_eq p) known
 
 -- how far a job came
 pub record PieceView : Type 0 where
-  pub tree : Tree
-  pub limits : LimitsView
+  pub given : GivenView
   pub target : List ℕ
   pub turn : ℕ
   pub progress : Progress
 
 pub record BoardView : Type 0 where
-  pub tree : Tree
+  pub given : GivenView
   pub request : List (List ℕ)
-  pub limits : LimitsView
   pub state : State
   pub stopped : Option Stop
 
 abbrev pub rules_on : BoardView → Rules
-rules_on b = rules_of b.tree b.limits
+rules_on b = rules_for b.given
+
+-- the most targets that a build may need
+abbrev pub limit_on : BoardView → ℕ
+limit_on b = b.given.limits.targets
 
 -- how many may be taken
 abbrev pub ready_count : BoardView → ℕ
@@ -70,9 +70,8 @@ pub record IsReached (r : Rules) (request : List (List ℕ)) (s : State) : Type 
 
 abbrev pub opened : Tree → List (List ℕ) → LimitsView → BoardView
 opened tree request limits = record {
-  tree = tree;
+  given = record { tree = tree; limits = limits };
   request = request;
-  limits = limits;
   state = opening (rules_of tree limits) request;
   stopped = None;
 }
@@ -84,19 +83,18 @@ after b event = record b { state = happens (rules_on b) b.state event }
 abbrev pub IsQuietBoard : BoardView → Type 0
 IsQuietBoard b = IsNone b.stopped × (ready_count b ≡ 0) × (jobs_out b ≡ 0)
 
--- the piece is of the board's tree and limits
+-- the piece is of what the board was given
 abbrev pub Belongs : BoardView → PieceView → Type 0
-Belongs b piece = (piece.tree ≡ b.tree) × (piece.limits ≡ b.limits)
+Belongs b piece = piece.given ≡ b.given
 
 -- the board is that of this tree, request and limits
 abbrev pub IsFor : BoardView → Tree → List (List ℕ) → LimitsView → Type 0
-IsFor b tree request limits = (b.tree ≡ tree) × (b.request ≡ request) × (b.limits ≡ limits)
+IsFor b tree request limits = (b.given ≡ record { tree = tree; limits = limits }) × (b.request ≡ request)
 
 -- the work is of the target at that place, at its turn, and holds the decided outcomes of all that it asked for, and no
 -- others
 pub record IsWorkTaken (b : BoardView) (which : ℕ) (w : WorkView) : Type 0 where
-  pub tree : w.tree ≡ b.tree
-  pub limits : w.limits ≡ b.limits
+  pub given : w.given ≡ b.given
   pub target : slice_get b.state.ready which ≡ Some w.target
   pub turn : (e : Entry) → entry_of b.state.entries w.target ≡ Some e → (w.turn ≡ e.turn) × (w.deps ≡ e.deps)
   pub known : (q : List ℕ) → told_by w.known q ≡ only (operands (rules_on b) w.deps) (outcomes_of b.state.entries) q

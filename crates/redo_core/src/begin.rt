@@ -6,27 +6,21 @@ ghost use Rattle.redo_which.specs.Views.{arguments_view};
 ghost use Rattle.redo_core.specs.inside.Slots.{IsBegun};
 
 use crate::fact::Fact;
+use crate::given::Given;
 use crate::table::Stage;
 use crate::work::Work;
 use redo_path::Path;
 use redo_record::{Outcome, Record, Why};
-use redo_step::Limits;
-use redo_tree::Tree;
 use redo_which::{Found, Rule, lookup};
 use std::alloc::{AllocError, Global};
 use std::sync::Arc;
 
 /// What a path that is seen for the first time is at once: decided where it has no rule, else ready.
-pub(crate) fn begin(
-    alloc: Global,
-    path: &Path,
-    tree: &Arc<Tree>,
-    limits: Limits,
-) -> Result<Stage, AllocError>
-    ensures { IfOk result (IsBegun (arc_value tree.now) limits path.now) }
+pub(crate) fn begin(alloc: Global, path: &Path, given: &Arc<Given>) -> Result<Stage, AllocError>
+    ensures { IfOk result (IsBegun (arc_value given.now) path.now) }
 {
-    let (outcome, deps) = match lookup::find(alloc, tree, path)? {
-        Found::Rule(rule) => return ready(alloc, path, tree, limits, rule),
+    let (outcome, deps) = match lookup::find(alloc, given.tree(), path)? {
+        Found::Rule(rule) => return ready(alloc, path, given, rule),
         Found::Source => (Outcome::Source, Record::none(alloc)),
         Found::Directory => (Outcome::Failed(Why::Directory), Record::none(alloc)),
         Found::NoDirectory => (Outcome::Failed(Why::NoDirectory), Record::none(alloc)),
@@ -36,25 +30,19 @@ pub(crate) fn begin(
         ),
     };
     let target = path.clone()?;
-    let own = Arc::try_clone(tree)?;
+    let own = Arc::try_clone(given)?;
     let deps = Arc::new(alloc, deps)?;
-    let fact = Fact::of(own, limits, target, outcome, deps, false);
+    let fact = Fact::of(own, target, outcome, deps, false);
     Ok(Stage::Decided(Arc::new(alloc, fact)?))
 }
 
 /// A target with a rule: its script is read when it is advanced.
-fn ready(
-    alloc: Global,
-    path: &Path,
-    tree: &Arc<Tree>,
-    limits: Limits,
-    rule: Rule,
-) -> Result<Stage, AllocError>
-    requires { found_of (arc_value tree.now) path.now ≡ IsRule rule.do_file rule.missing (arguments_view rule.args) }
-    ensures { IfOk result (IsBegun (arc_value tree.now) limits path.now) }
+fn ready(alloc: Global, path: &Path, given: &Arc<Given>, rule: Rule) -> Result<Stage, AllocError>
+    requires { found_of (arc_value given.now).tree path.now ≡ IsRule rule.do_file rule.missing (arguments_view rule.args) }
+    ensures { IfOk result (IsBegun (arc_value given.now) path.now) }
 {
-    let own = Arc::try_clone(tree)?;
+    let own = Arc::try_clone(given)?;
     let target = path.clone()?;
-    let work = Work::unread(alloc, own, limits, target, rule)?;
+    let work = Work::unread(alloc, own, target, rule)?;
     Ok(Stage::Ready(work))
 }

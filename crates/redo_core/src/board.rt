@@ -5,7 +5,7 @@
 ghost use Rattle.std.specs.Prelude.{◌≡◌, ◌↔◌, ◌<◌, ◌≤◌, ◌+◌, ◌*◌, IsTrue, IsNone, IfOk, IfErr, OnOk, OnErr, length};
 ghost use Rattle.std.specs.Prelude.{slice_get, Some, None};
 ghost use Rattle.std.specs.Arc.{arc_value};
-ghost use Rattle.redo_core.specs.Views.{ready_count, jobs_out, opened, after, rules_on, IsQuietBoard, Belongs, IsFor};
+ghost use Rattle.redo_core.specs.Views.{ready_count, jobs_out, opened, after, rules_on, limit_on, IsQuietBoard, Belongs, IsFor};
 ghost use Rattle.redo_core.specs.Views.{IsWorkTaken};
 ghost use Rattle.redo_build.specs.Outcomes.{IsTooMany};
 ghost use Rattle.redo_core.specs.Build.{rules_of};
@@ -17,8 +17,9 @@ ghost use Rattle.redo_build.specs.TakesLeft.{takes_left};
 ghost use Rattle.redo_build.specs.Theorems.{IsPartOfBuild, ShowsBuild};
 
 use crate::finish::report_of;
+use crate::given::Given;
 use crate::moves::{copied, first_table, take_in};
-use crate::same::{are_same_paths, is_same_tree};
+use crate::same::are_same_paths;
 use crate::table::{Stage, Table, out_at};
 use crate::work::{Piece, Work};
 use redo_path::Path;
@@ -60,16 +61,15 @@ impl<T: Drop> From<AllocFailed<T>> for Stop {
     }
 }
 
-/// The entries of a build, and what may happen to them next. In a contract it is its tree, request and limits, the
+/// The entries of a build, and what may happen to them next. In a contract it is what it was given, its request, the
 /// state of its entries, and why it has stopped. Of whatever value of this type that hasn't stopped, the state is one
 /// that some run of takes and hand-ins led to, so what is proved of runs holds for it wherever it comes from. Of one
 /// that has stopped only this is known: where it has stopped at the limit, the build needs too many targets.
 #[derive(Drop)]
 pub struct Board {
     alloc: Global,
-    tree: Arc<Tree>,
+    given: Arc<Given>,
     request: Vec<Path>,
-    limits: Limits,
     table: Table,
     stopped: Option<Stop>,
 }
@@ -83,9 +83,8 @@ impl Model for Board {
     ghost use Rattle.redo_core.specs.inside.Slots.{state_of, IsBoard};
 
     ghost view = { λ b. record {
-      tree = arc_value b.tree;
+      given = arc_value b.given;
       request = b.request.items;
-      limits = b.limits;
       state = state_of b;
       stopped = b.stopped;
     } };
@@ -161,19 +160,19 @@ impl Board {
     ) -> Result<Board, OpenFault>
         ensures ok { IfOk result (λ b. b ≡ opened (arc_value tree) request.now limits) }
         ensures within { IfOk result (λ b. length b.state.entries ≤ limits.targets) }
-        ensures part { IfOk result (λ b. IsPartOfBuild (rules_on b) b.request b.limits.targets b.state) }
+        ensures part { IfOk result (λ b. IsPartOfBuild (rules_on b) b.request (limit_on b) b.state) }
         ensures none_out { IfOk result (λ b. jobs_out b ≡ 0) }
-        ensures left { IfOk result (λ b. takes_left b.limits.targets b.state ≤ b.limits.targets * b.limits.targets) }
+        ensures left { IfOk result (λ b. takes_left (limit_on b) b.state ≤ limit_on b * limit_on b) }
         ensures too_many { result ≡ Err OpenFault.TooMany →
             IsTooMany (rules_of (arc_value tree) limits) request.now limits.targets }
     {
         let request = copied(alloc, request)?;
-        let table = first_table(alloc, &request, &tree, limits)?;
+        let given = Given::new(alloc, tree, limits)?;
+        let table = first_table(alloc, &request, &given)?;
         Ok(Board {
             alloc,
-            tree,
+            given,
             request,
-            limits,
             table,
             stopped: None,
         })
@@ -195,7 +194,7 @@ impl Board {
     pub fn stopped(&self) -> Option<Stop>
         ensures value { result ≡ self.now.stopped }
         ensures too_many { result ≡ Some Stop.TooMany →
-            IsTooMany (rules_on self.now) self.now.request self.now.limits.targets }
+            IsTooMany (rules_on self.now) self.now.request (limit_on self.now) }
     {
         self.stopped
     }
@@ -214,11 +213,11 @@ impl Board {
         requires { which < ready_count self.old }
         ensures ok { OnOk result (self.new ≡ after self.old (Take which)) }
         ensures work { IfOk result (IsWorkTaken self.old which) }
-        ensures turn { IfOk result (λ w. w.turn < self.old.limits.targets) }
+        ensures turn { IfOk result (λ w. w.turn < limit_on self.old) }
         ensures is_out { IfOk result (λ w. IsOutAt self.new.state w.target w.turn) }
         ensures one_more { OnOk result (jobs_out self.new ≡ jobs_out self.old + 1) }
-        ensures left { OnOk result (takes_left self.new.limits.targets self.new.state < takes_left self.old.limits.targets self.old.state) }
-        ensures part { OnOk result (IsPartOfBuild (rules_on self.new) self.new.request self.new.limits.targets self.new.state) }
+        ensures left { OnOk result (takes_left (limit_on self.new) self.new.state < takes_left (limit_on self.old) self.old.state) }
+        ensures part { OnOk result (IsPartOfBuild (rules_on self.new) self.new.request (limit_on self.new) self.new.state) }
         ensures err { OnErr result (self.new ≡ self.old) }
     {
         let Some(at) = self.table.ready.remove(which) else {
@@ -238,10 +237,10 @@ impl Board {
         requires { Belongs self.old piece }
         ensures open { OnOk result (IsOpen self.old.state (Hand_in piece.target piece.turn)) }
         ensures ok { OnOk result (self.new ≡ after self.old (Hand_in piece.target piece.turn)) }
-        ensures within { OnOk result (length self.new.state.entries ≤ self.new.limits.targets) }
+        ensures within { OnOk result (length self.new.state.entries ≤ (limit_on self.new)) }
         ensures one_fewer { OnOk result (jobs_out self.new + 1 ≡ jobs_out self.old) }
-        ensures left { OnOk result (takes_left self.new.limits.targets self.new.state ≤ takes_left self.old.limits.targets self.old.state) }
-        ensures part { OnOk result (IsPartOfBuild (rules_on self.new) self.new.request self.new.limits.targets self.new.state) }
+        ensures left { OnOk result (takes_left (limit_on self.new) self.new.state ≤ takes_left (limit_on self.old) self.old.state) }
+        ensures part { OnOk result (IsPartOfBuild (rules_on self.new) self.new.request (limit_on self.new) self.new.state) }
         ensures err { IfErr result (Refused self.old self.new piece) }
     {
         if let Some(stop) = self.stopped {
@@ -255,8 +254,7 @@ impl Board {
             self.alloc,
             at,
             piece.into_end(),
-            &self.tree,
-            self.limits,
+            &self.given,
         ) {
             Ok(()) => Ok(()),
             Err(stop) => {
@@ -283,7 +281,7 @@ impl Board {
     pub fn quiet(&self) -> bool
         ensures quiet { IsTrue result ↔ IsQuietBoard self.now }
         ensures shows { IsTrue result →
-            ShowsBuild (rules_on self.now) self.now.request self.now.limits.targets self.now.state }
+            ShowsBuild (rules_on self.now) self.now.request (limit_on self.now) self.now.state }
     {
         self.stopped.is_none() && self.ready() == 0 && self.out() == 0
     }
@@ -293,9 +291,9 @@ impl Board {
     /// memory the board is lost.
     pub fn finish(self) -> Result<Report, AllocError>
         requires { IsQuietBoard self }
-        ensures { IfOk result (IsReport (rules_on self) self.request self.limits.targets) }
+        ensures { IfOk result (IsReport (rules_on self) self.request (limit_on self)) }
     {
-        report_of(self.alloc, &self.tree, &self.request, &self.table)
+        report_of(self.alloc, self.given.tree(), &self.request, &self.table)
     }
 
     /// Whether a piece is of the board's tree and limits, as `hand_in` asks. It compares by value, in the time of the
@@ -304,7 +302,7 @@ impl Board {
     pub fn belongs(&self, piece: &Piece) -> bool
         ensures { IsTrue result ↔ Belongs self.now piece.now }
     {
-        piece.is_of(&self.tree, self.limits)
+        piece.is_of(&self.given)
     }
 
     /// Whether the board is that of this tree, request and limits, and so its report is theirs. It compares by value,
@@ -313,8 +311,6 @@ impl Board {
     pub fn is_for(&self, tree: &Tree, request: &[Path], limits: Limits) -> bool
         ensures { IsTrue result ↔ IsFor self.now tree.now request.now limits }
     {
-        self.limits == limits
-            && are_same_paths(&self.request, request)
-            && is_same_tree(&self.tree, tree)
+        are_same_paths(&self.request, request) && self.given.is(tree, limits)
     }
 }

@@ -1,22 +1,20 @@
 //! Decided targets, each with what became of it.
 ghost use Rattle.std.specs.Prelude.{◌≡◌};
 ghost use Rattle.std.specs.Arc.{arc_value};
-ghost use Rattle.redo_core.specs.Build.{rules_of};
+ghost use Rattle.redo_core.specs.Build.{rules_for};
 ghost use Rattle.redo_build.specs.inside.Turns.{IsFact};
 
+use crate::given::Given;
 use redo_path::Path;
 use redo_record::{Outcome, Record};
-use redo_step::Limits;
-use redo_tree::Tree;
 use std::marker::Model;
 use std::sync::Arc;
 
-/// A decided target with its outcome, its record and whether its script was begun. It is always the truth for its tree
-/// and limits.
+/// A decided target with its outcome, its record and whether its script was begun. It is always the truth for what its
+/// build is given.
 #[derive(Drop)]
 pub struct Fact {
-    tree: Arc<Tree>,
-    limits: Limits,
+    given: Arc<Given>,
     target: Path,
     outcome: Outcome,
     deps: Arc<Record>,
@@ -31,11 +29,10 @@ impl Model for Fact {
 
     ghost use Rattle.std.specs.Prelude.{◌≡◌};
     ghost use Rattle.redo_build.specs.inside.Turns.{IsFact};
-    ghost use Rattle.redo_core.specs.Build.{rules_of};
+    ghost use Rattle.redo_core.specs.Build.{rules_for};
 
     ghost view = { λ f. record {
-      tree = arc_value f.tree;
-      limits = f.limits;
+      given = arc_value f.given;
       target = f.target;
       outcome = f.outcome;
       deps = arc_value f.deps;
@@ -44,23 +41,21 @@ impl Model for Fact {
 
     // All that it asked for is its record.
     ghost invariant = { λ f.
-        IsFact (rules_of (arc_value f.tree) f.limits) f.target f.outcome (arc_value f.deps) (arc_value f.deps) f.begun };
+        IsFact (rules_for (arc_value f.given)) f.target f.outcome (arc_value f.deps) (arc_value f.deps) f.begun };
 }
 
 impl Fact {
     /// A target that was decided so.
     pub(crate) fn of(
-        tree: Arc<Tree>,
-        limits: Limits,
+        given: Arc<Given>,
         target: Path,
         outcome: Outcome,
         deps: Arc<Record>,
         begun: bool,
     ) -> Fact
-        requires { IsFact (rules_of (arc_value tree) limits) target outcome (arc_value deps) (arc_value deps) begun }
+        requires { IsFact (rules_for (arc_value given)) target outcome (arc_value deps) (arc_value deps) begun }
         ensures { result ≡ record {
-          tree = arc_value tree;
-          limits = limits;
+          given = arc_value given;
           target = target;
           outcome = outcome;
           deps = arc_value deps;
@@ -68,8 +63,7 @@ impl Fact {
         } }
     {
         Fact {
-            tree,
-            limits,
+            given,
             target,
             outcome,
             deps,
@@ -101,7 +95,7 @@ impl Fact {
     /// Whether its script was begun.
     pub fn was_begun(&self) -> bool
         ensures begun { result ≡ self.now.begun }
-        ensures ruled { result ≡ (rules_of self.now.tree self.now.limits).has_rule self.now.target }
+        ensures ruled { result ≡ (rules_for self.now.given).has_rule self.now.target }
     {
         self.begun
     }

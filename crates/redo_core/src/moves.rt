@@ -1,7 +1,7 @@
 //! What the opening and a handed in piece do to the table.
 ghost use Rattle.std.specs.Prelude.{◌≡◌, ◌<◌, ◌≤◌, ℕ, [], drop, not, is_some, length, IfOk, OnOk, Err};
 ghost use Rattle.std.specs.Arc.{arc_value};
-ghost use Rattle.redo_core.specs.Build.{rules_of};
+ghost use Rattle.redo_core.specs.Build.{rules_for};
 ghost use Rattle.redo_build.specs.Rules.{operands};
 ghost use Rattle.redo_core.specs.inside.Slots.{IsPlace, AreNumbers, IsTableOf, IsStandingTable, AreEnteredInto};
 ghost use Rattle.redo_core.specs.inside.Slots.{AreTooMany, AreLookedAt, AreEnqueued, MayTakeIn, IsPutBackThere};
@@ -11,13 +11,12 @@ ghost use Rattle.redo_tree.specs.Tree.{file_at};
 
 use crate::board::Stop;
 use crate::fact::Fact;
+use crate::given::Given;
 use crate::table::{Table, decide, enter, is_operand, park, settle};
 use crate::work::{Begun, End};
 use indexmap::IndexSet;
 use redo_path::Path;
 use redo_record::Dep;
-use redo_step::Limits;
-use redo_tree::Tree;
 use std::alloc::{AllocError, Global};
 use std::collections::VecDeque;
 use std::sync::Arc;
@@ -27,20 +26,19 @@ pub(crate) fn enter_all(
     table: &mut Table,
     alloc: Global,
     deps: &[Dep],
-    tree: &Arc<Tree>,
-    limits: Limits,
+    given: &Arc<Given>,
     newly_ready: &mut Vec<u32>,
 ) -> Result<Vec<u32>, Stop>
-    requires table { IsTableOf (arc_value tree.now) limits table.old newly_ready.old.items }
-    ensures ok { OnOk result (AreEnteredInto (arc_value tree.now) limits table.old table.new newly_ready.new.items (operands (rules_of (arc_value tree.now) limits) deps.now)) }
-    ensures numbers { IfOk result (λ ns. AreNumbers table.new.targets.keys ns.items (operands (rules_of (arc_value tree.now) limits) deps.now)) }
+    requires table { IsTableOf (arc_value given.now) table.old newly_ready.old.items }
+    ensures ok { OnOk result (AreEnteredInto (arc_value given.now) table.old table.new newly_ready.new.items (operands (rules_for (arc_value given.now)) deps.now)) }
+    ensures numbers { IfOk result (λ ns. AreNumbers table.new.targets.keys ns.items (operands (rules_for (arc_value given.now)) deps.now)) }
     ensures too_many { result ≡ Err Stop.TooMany →
-        AreTooMany (rules_of (arc_value tree.now) limits) limits.targets (table_entries (rules_of (arc_value tree.now) limits) limits.targets table.old) (operands (rules_of (arc_value tree.now) limits) deps.now) }
+        AreTooMany (rules_for (arc_value given.now)) (arc_value given.now).limits.targets (table_entries (rules_for (arc_value given.now)) (arc_value given.now).limits.targets table.old) (operands (rules_for (arc_value given.now)) deps.now) }
 {
     let mut numbers = Vec::with_capacity(alloc, deps.len())?;
     for dep in deps {
-        if is_operand(tree, limits, dep) {
-            let at = enter(table, alloc, &dep.path, tree, limits, newly_ready)?;
+        if is_operand(given, dep) {
+            let at = enter(table, alloc, &dep.path, given, newly_ready)?;
             numbers.push(at)?;
         }
     }
@@ -51,18 +49,17 @@ pub(crate) fn enter_all(
 pub(crate) fn settle_all(
     table: &mut Table,
     pending: &[u32],
-    tree: &Arc<Tree>,
-    limits: Limits,
+    given: &Arc<Given>,
     newly_ready: &mut Vec<u32>,
 ) -> Result<(), AllocError>
     requires within { (k : ℕ) → IsPlace pending.now k → k < length table.old.slots.items }
-    requires table { IsTableOf (arc_value tree.now) limits table.old newly_ready.old.items }
-    requires standing { IsStandingTable (arc_value tree.now) limits table.old }
-    ensures table { OnOk result (IsTableOf (arc_value tree.now) limits table.new newly_ready.new.items) }
-    ensures looked { OnOk result (AreLookedAt (arc_value tree.now) limits table.old table.new pending.now) }
+    requires table { IsTableOf (arc_value given.now) table.old newly_ready.old.items }
+    requires standing { IsStandingTable (arc_value given.now) table.old }
+    ensures table { OnOk result (IsTableOf (arc_value given.now) table.new newly_ready.new.items) }
+    ensures looked { OnOk result (AreLookedAt (arc_value given.now) table.old table.new pending.now) }
 {
     for at in pending {
-        settle(table, *at, tree, limits, newly_ready)?;
+        settle(table, *at, given, newly_ready)?;
     }
     Ok(())
 }
@@ -93,16 +90,15 @@ fn conclude(
     alloc: Global,
     at: usize,
     fact: Arc<Fact>,
-    tree: &Arc<Tree>,
-    limits: Limits,
+    given: &Arc<Given>,
     newly_ready: &mut Vec<u32>,
 ) -> Result<(), AllocError>
-    requires may { MayTakeIn (arc_value tree.now) limits table.old at (End.Ended fact) }
+    requires may { MayTakeIn (arc_value given.now) table.old at (End.Ended fact) }
     requires none_newly_ready { newly_ready.old.items ≡ [] }
-    ensures { OnOk result (IsPutBackThere (arc_value tree.now) limits table.old table.new at newly_ready.new.items []) }
+    ensures { OnOk result (IsPutBackThere (arc_value given.now) table.old table.new at newly_ready.new.items []) }
 {
     let watchers = decide(table, alloc, at, fact);
-    settle_all(table, &watchers, tree, limits, newly_ready)
+    settle_all(table, &watchers, given, newly_ready)
 }
 
 /// Parks a job that was out and stopped, with what it asks for entered, and looks at it.
@@ -111,19 +107,18 @@ fn suspend(
     alloc: Global,
     at: usize,
     begun: Box<Begun>,
-    tree: &Arc<Tree>,
-    limits: Limits,
+    given: &Arc<Given>,
     newly_ready: &mut Vec<u32>,
 ) -> Result<(), Stop>
-    requires may { MayTakeIn (arc_value tree.now) limits table.old at (End.Stopped begun) }
+    requires may { MayTakeIn (arc_value given.now) table.old at (End.Stopped begun) }
     requires none_newly_ready { newly_ready.old.items ≡ [] }
-    ensures ok { OnOk result (IsPutBackThere (arc_value tree.now) limits table.old table.new at newly_ready.new.items []) }
+    ensures ok { OnOk result (IsPutBackThere (arc_value given.now) table.old table.new at newly_ready.new.items []) }
     ensures too_many { result ≡ Err Stop.TooMany →
-        limits.targets < length (state_after (arc_value tree.now) limits table.old at).entries }
+        (arc_value given.now).limits.targets < length (state_after (arc_value given.now) table.old at).entries }
 {
-    let operands = enter_all(table, alloc, asked(&begun), tree, limits, newly_ready)?;
+    let operands = enter_all(table, alloc, asked(&begun), given, newly_ready)?;
     park(table, at, begun, operands);
-    settle(table, at as u32, tree, limits, newly_ready)?;
+    settle(table, at as u32, given, newly_ready)?;
     Ok(())
 }
 
@@ -133,18 +128,17 @@ pub(crate) fn take_in(
     alloc: Global,
     at: usize,
     end: End,
-    tree: &Arc<Tree>,
-    limits: Limits,
+    given: &Arc<Given>,
 ) -> Result<(), Stop>
-    requires { MayTakeIn (arc_value tree.now) limits table.old at end }
-    ensures ok { OnOk result (IsTakenIn (arc_value tree.now) limits table.old table.new at) }
+    requires { MayTakeIn (arc_value given.now) table.old at end }
+    ensures ok { OnOk result (IsTakenIn (arc_value given.now) table.old table.new at) }
     ensures too_many { result ≡ Err Stop.TooMany →
-        limits.targets < length (state_after (arc_value tree.now) limits table.old at).entries }
+        (arc_value given.now).limits.targets < length (state_after (arc_value given.now) table.old at).entries }
 {
     let mut newly_ready = Vec::new(alloc);
     match end {
-        End::Ended(fact) => conclude(table, alloc, at, fact, tree, limits, &mut newly_ready)?,
-        End::Stopped(begun) => suspend(table, alloc, at, begun, tree, limits, &mut newly_ready)?,
+        End::Ended(fact) => conclude(table, alloc, at, fact, given, &mut newly_ready)?,
+        End::Stopped(begun) => suspend(table, alloc, at, begun, given, &mut newly_ready)?,
     }
     enqueue(table, newly_ready)?;
     Ok(())
@@ -161,30 +155,22 @@ pub(crate) fn copied(alloc: Global, paths: &[Path]) -> Result<Vec<Path>, AllocEr
     Ok(copies)
 }
 
-/// Whether a path is no source.
-fn is_target(tree: &Tree, path: &Path) -> bool
-    ensures { result ≡ not (is_some (file_at tree.now path.now)) }
-{
-    tree.file(path).is_none()
-}
-
 /// Enters the requested paths that are no sources.
 fn enter_requested(
     table: &mut Table,
     alloc: Global,
     request: &[Path],
-    tree: &Arc<Tree>,
-    limits: Limits,
+    given: &Arc<Given>,
     newly_ready: &mut Vec<u32>,
 ) -> Result<(), Stop>
-    requires table { IsTableOf (arc_value tree.now) limits table.old newly_ready.old.items }
-    ensures ok { OnOk result (AreEnteredInto (arc_value tree.now) limits table.old table.new newly_ready.new.items (targets_in (arc_value tree.now) request.now)) }
+    requires table { IsTableOf (arc_value given.now) table.old newly_ready.old.items }
+    ensures ok { OnOk result (AreEnteredInto (arc_value given.now) table.old table.new newly_ready.new.items (targets_in (rules_for (arc_value given.now)) request.now)) }
     ensures too_many { result ≡ Err Stop.TooMany →
-        AreTooMany (rules_of (arc_value tree.now) limits) limits.targets (table_entries (rules_of (arc_value tree.now) limits) limits.targets table.old) (targets_in (arc_value tree.now) request.now) }
+        AreTooMany (rules_for (arc_value given.now)) (arc_value given.now).limits.targets (table_entries (rules_for (arc_value given.now)) (arc_value given.now).limits.targets table.old) (targets_in (rules_for (arc_value given.now)) request.now) }
 {
     for path in request {
-        if is_target(tree, path) {
-            enter(table, alloc, path, tree, limits, newly_ready)?;
+        if given.is_target(path) {
+            enter(table, alloc, path, given, newly_ready)?;
         }
     }
     Ok(())
@@ -194,14 +180,13 @@ fn enter_requested(
 pub(crate) fn first_table(
     alloc: Global,
     request: &[Path],
-    tree: &Arc<Tree>,
-    limits: Limits,
+    given: &Arc<Given>,
 ) -> Result<Table, Stop>
-    ensures ok { IfOk result (λ t. IsFirstTable (arc_value tree.now) limits request.now t) }
+    ensures ok { IfOk result (λ t. IsFirstTable (arc_value given.now) request.now t) }
     ensures too_many { result ≡ Err Stop.TooMany →
-        limits.targets < length (opening (rules_of (arc_value tree.now) limits) request.now).entries }
+        (arc_value given.now).limits.targets < length (opening (rules_for (arc_value given.now)) request.now).entries }
 {
-    let most = limits.targets();
+    let most = given.limits().targets();
     prove!(most <= 65_536);
     let mut table = Table {
         targets: IndexSet::new(alloc),
@@ -210,7 +195,7 @@ pub(crate) fn first_table(
         out: 0,
     };
     let mut newly_ready = Vec::new(alloc);
-    enter_requested(&mut table, alloc, request, tree, limits, &mut newly_ready)?;
+    enter_requested(&mut table, alloc, request, given, &mut newly_ready)?;
     enqueue(&mut table, newly_ready)?;
     Ok(table)
 }

@@ -3,7 +3,7 @@ ghost use Rattle.std.specs.Prelude.{◌≡◌, ℕ, List, ◌↔◌, ◌<◌, �
 ghost use Rattle.std.specs.Prelude.{IfNone, MatchOption, length, slice_get, Some, None};
 ghost use Rattle.std.specs.Arc.{arc_value};
 ghost use Rattle.redo_record.specs.Paths.{IsAmong, AreDistinct};
-ghost use Rattle.redo_core.specs.Build.{rules_of};
+ghost use Rattle.redo_core.specs.Build.{rules_for};
 ghost use Rattle.redo_core.specs.inside.Slots.{IsOperand, IsPlace, IsDecidedNumber, GainsOne, IsLackingAt};
 ghost use Rattle.redo_core.specs.inside.Slots.{AreDecidedFrom, is_stage_decided, is_stage_ready, is_stage_out};
 ghost use Rattle.redo_core.specs.inside.Slots.{IsOutSlotAt, IsWaitingThere, IsHeldAt, IsTableOf, IsStandingTable};
@@ -15,12 +15,12 @@ use crate::begin::begin;
 use crate::board::Stop;
 use crate::fact::Fact;
 use crate::facts::Facts;
+use crate::given::Given;
 use crate::work::{Begun, Work};
 use indexmap::IndexSet;
 use redo_path::Path;
 use redo_record::{Dep, DepKind};
-use redo_step::{Job, Limits};
-use redo_tree::Tree;
+use redo_step::Job;
 use std::alloc::{AllocError, Global};
 use std::collections::VecDeque;
 use std::mem;
@@ -71,11 +71,10 @@ pub(crate) fn find(targets: &IndexSet<Path>, path: &Path) -> Option<usize>
 }
 
 /// Whether an entry of a record is waited for.
-// `limits` is for the contract, whose rules are those of a tree under its limits.
-pub(crate) fn is_operand(tree: &Tree, limits: Limits, dep: &Dep) -> bool
-    ensures { IsTrue result ↔ IsOperand (rules_of tree.now limits) dep.now dep.now.path }
+pub(crate) fn is_operand(given: &Given, dep: &Dep) -> bool
+    ensures { IsTrue result ↔ IsOperand (rules_for given.now) dep.now dep.now.path }
 {
-    dep.kind == DepKind::Change && tree.file(&dep.path).is_none()
+    dep.kind == DepKind::Change && !given.is_source(&dep.path)
 }
 
 /// Whether the target of a slot is decided.
@@ -189,17 +188,12 @@ fn gain(table: &Table, operands: &[u32], job: &Job, facts: &mut Facts) -> Result
 }
 
 /// Makes a parked job with all its answers a work.
-pub(crate) fn make_ready(
-    table: &mut Table,
-    at: usize,
-    tree: &Arc<Tree>,
-    limits: Limits,
-) -> Result<(), AllocError>
+pub(crate) fn make_ready(table: &mut Table, at: usize, given: &Arc<Given>) -> Result<(), AllocError>
     requires one_each { length table.old.slots.items ≡ length table.old.targets.keys }
-    requires fed { IsFed (arc_value tree.now) limits table.old at }
-    ensures { OnOk result (IsMadeReadyAt (arc_value tree.now) limits table.old table.new at) }
+    requires fed { IsFed (arc_value given.now) table.old at }
+    ensures { OnOk result (IsMadeReadyAt (arc_value given.now) table.old table.new at) }
 {
-    let own = Arc::try_clone(tree)?;
+    let own = Arc::try_clone(given)?;
     let slot = &mut table.slots[at];
     let stage = mem::replace(&mut slot.stage, Stage::Out);
     let Stage::Waiting(parked) = stage else {
@@ -213,7 +207,7 @@ pub(crate) fn make_ready(
     let Begun { job, facts } = &mut *begun;
     gain(table, &operands, job, facts)?;
     let slot = &mut table.slots[at];
-    slot.stage = Stage::Ready(Work::of(own, limits, begun));
+    slot.stage = Stage::Ready(Work::of(own, begun));
     Ok(())
 }
 
@@ -221,15 +215,14 @@ pub(crate) fn make_ready(
 pub(crate) fn settle(
     table: &mut Table,
     at: u32,
-    tree: &Arc<Tree>,
-    limits: Limits,
+    given: &Arc<Given>,
     newly_ready: &mut Vec<u32>,
 ) -> Result<(), AllocError>
     requires within { at < length table.old.slots.items }
-    requires table { IsTableOf (arc_value tree.now) limits table.old newly_ready.old.items }
-    requires standing { IsStandingTable (arc_value tree.now) limits table.old }
-    ensures table { OnOk result (IsTableOf (arc_value tree.now) limits table.new newly_ready.new.items) }
-    ensures looked { OnOk result (IsLookedAt (arc_value tree.now) limits table.old table.new at) }
+    requires table { IsTableOf (arc_value given.now) table.old newly_ready.old.items }
+    requires standing { IsStandingTable (arc_value given.now) table.old }
+    ensures table { OnOk result (IsTableOf (arc_value given.now) table.new newly_ready.new.items) }
+    ensures looked { OnOk result (IsLookedAt (arc_value given.now) table.old table.new at) }
 {
     let slot = &table.slots[at as usize];
     let Stage::Waiting(parked) = &slot.stage else {
@@ -242,7 +235,7 @@ pub(crate) fn settle(
         }
         None => {
             newly_ready.push(at)?;
-            make_ready(table, at as usize, tree, limits)
+            make_ready(table, at as usize, given)
         }
     }
 }
@@ -252,24 +245,23 @@ pub(crate) fn enter(
     table: &mut Table,
     alloc: Global,
     path: &Path,
-    tree: &Arc<Tree>,
-    limits: Limits,
+    given: &Arc<Given>,
     newly_ready: &mut Vec<u32>,
 ) -> Result<u32, Stop>
-    requires table { IsTableOf (arc_value tree.now) limits table.old newly_ready.old.items }
-    ensures ok { OnOk result (IsEnteredInto (arc_value tree.now) limits table.old table.new newly_ready.new.items path.now) }
+    requires table { IsTableOf (arc_value given.now) table.old newly_ready.old.items }
+    ensures ok { OnOk result (IsEnteredInto (arc_value given.now) table.old table.new newly_ready.new.items path.now) }
     ensures number { IfOk result (λ at. slice_get table.new.targets.keys at ≡ Some path.now) }
     ensures too_many { result ≡ Err Stop.TooMany ↔
-        IsFull (rules_of (arc_value tree.now) limits) limits.targets (table_entries (rules_of (arc_value tree.now) limits) limits.targets table.old) path.now }
+        IsFull (rules_for (arc_value given.now)) (arc_value given.now).limits.targets (table_entries (rules_for (arc_value given.now)) (arc_value given.now).limits.targets table.old) path.now }
 {
     if let Some(at) = find(&table.targets, path) {
         return Ok(at as u32);
     }
-    if table.slots.len() >= limits.targets() as usize {
+    if table.slots.len() >= given.limits().targets() as usize {
         return Err(Stop::TooMany);
     }
     let at = table.slots.len() as u32;
-    match enter_new(table, alloc, path, tree, limits, newly_ready) {
+    match enter_new(table, alloc, path, given, newly_ready) {
         Ok(()) => Ok(at),
         Err(_) => Err(Stop::Memory),
     }
@@ -280,16 +272,15 @@ pub(crate) fn enter_new(
     table: &mut Table,
     alloc: Global,
     path: &Path,
-    tree: &Arc<Tree>,
-    limits: Limits,
+    given: &Arc<Given>,
     newly_ready: &mut Vec<u32>,
 ) -> Result<(), AllocError>
     requires new { IsAmong table.old.targets.keys path.now → ⊥ }
-    requires room { length table.old.slots.items < limits.targets }
-    requires table { IsTableOf (arc_value tree.now) limits table.old newly_ready.old.items }
-    ensures { OnOk result (IsPushed (arc_value tree.now) limits table.old table.new newly_ready.old.items newly_ready.new.items path.now) }
+    requires room { length table.old.slots.items < (arc_value given.now).limits.targets }
+    requires table { IsTableOf (arc_value given.now) table.old newly_ready.old.items }
+    ensures { OnOk result (IsPushed (arc_value given.now) table.old table.new newly_ready.old.items newly_ready.new.items path.now) }
 {
-    let stage = begin(alloc, path, tree, limits)?;
+    let stage = begin(alloc, path, given)?;
     if is_ready(&stage) {
         newly_ready.push(table.slots.len() as u32)?;
     }

@@ -2,7 +2,7 @@
 ghost use Rattle.std.specs.Prelude.{◌≡◌, ◌↔◌, [], Some, None, is_some, IfOk, IsTrue};
 ghost use Rattle.std.specs.Arc.{arc_value};
 ghost use Rattle.redo_build.specs.Lacking.{lacking_under};
-ghost use Rattle.redo_core.specs.Build.{rules_of};
+ghost use Rattle.redo_core.specs.Build.{rules_for};
 ghost use Rattle.redo_core.specs.Views.{told_by};
 ghost use Rattle.redo_core.specs.inside.Works.{IsWorkWith, HoldsOutcomes, job_deps, known_in, told_in};
 ghost use Rattle.redo_which.specs.Rule.{Rule as IsRule, found_of};
@@ -11,11 +11,10 @@ ghost use Rattle.redo_core.specs.inside.Ends.{IsEndAt};
 
 use crate::fact::Fact;
 use crate::facts::Facts;
+use crate::given::Given;
 use crate::reading::begun;
-use crate::same::is_same_tree;
 use redo_path::Path;
-use redo_step::{Job, Limits, Step};
-use redo_tree::Tree;
+use redo_step::{Job, Step};
 use redo_which::Rule;
 use std::alloc::{AllocError, Global};
 use std::marker::Model;
@@ -25,8 +24,7 @@ use std::sync::Arc;
 /// once, and it needs no board to be advanced: another thread may do so. The script is read when it is first advanced.
 #[derive(Drop)]
 pub struct Work {
-    tree: Arc<Tree>,
-    limits: Limits,
+    given: Arc<Given>,
     /// The number of the target in the table of the board that gave the work.
     number: u32,
     script: Script,
@@ -63,22 +61,20 @@ impl Model for Work {
     ghost use Rattle.redo_core.specs.inside.Scripts.{IsScriptOf, script_target, script_turn, script_deps, script_known};
 
     ghost view = { λ w. record {
-      tree = arc_value w.tree;
-      limits = w.limits;
+      given = arc_value w.given;
       target = script_target w.script;
       turn = script_turn w.script;
       deps = script_deps w.script;
       known = script_known w.script;
     } };
 
-    ghost invariant = { λ w. IsScriptOf (arc_value w.tree) w.limits w.script };
+    ghost invariant = { λ w. IsScriptOf (arc_value w.given) w.script };
 }
 
 /// How far a job came, for the board to take in. It is made by `Work::advance` alone.
 #[derive(Drop)]
 pub struct Piece {
-    tree: Arc<Tree>,
-    limits: Limits,
+    given: Arc<Given>,
     number: u32,
     target: Path,
     turn: u64,
@@ -100,43 +96,40 @@ impl Model for Piece {
 
     ghost use Rattle.redo_core.specs.inside.Ends.{end_progress, IsEndAt};
 
-    ghost view = { λ p. record { tree = arc_value p.tree; limits = p.limits; target = p.target; turn = p.turn; progress = end_progress p.end } };
+    ghost view = { λ p. record { given = arc_value p.given; target = p.target; turn = p.turn; progress = end_progress p.end } };
 
-    ghost invariant = { λ p. IsEndAt (arc_value p.tree) p.limits p.target p.turn p.end };
+    ghost invariant = { λ p. IsEndAt (arc_value p.given) p.target p.turn p.end };
 }
 
 impl Work {
     /// A target whose script wasn't read yet, with the rule that the search finds for it.
     pub(crate) fn unread(
         alloc: Global,
-        tree: Arc<Tree>,
-        limits: Limits,
+        given: Arc<Given>,
         target: Path,
         rule: Rule,
     ) -> Result<Work, AllocError>
-        requires found { found_of (arc_value tree) target ≡
+        requires found { found_of (arc_value given).tree target ≡
             IsRule rule.do_file rule.missing (arguments_view rule.args) }
         ensures { IfOk result (λ w. w ≡
-            record { tree = arc_value tree; limits = limits; target = target; turn = 0; deps = []; known = [] }) }
+            record { given = arc_value given; target = target; turn = 0; deps = []; known = [] }) }
     {
         let unread = Box::new(alloc, Unread { target, rule })?;
         Ok(Work {
-            tree,
-            limits,
+            given,
             number: 0,
             script: Script::Unread(unread),
         })
     }
 
     /// A job with the facts of all that it asked for.
-    pub(crate) fn of(tree: Arc<Tree>, limits: Limits, begun: Box<Begun>) -> Work
-        requires { IsWorkWith (arc_value tree) limits begun.value.job begun.value.facts }
+    pub(crate) fn of(given: Arc<Given>, begun: Box<Begun>) -> Work
+        requires { IsWorkWith (arc_value given) begun.value.job begun.value.facts }
         ensures { result ≡
-            record { tree = arc_value tree; limits = limits; target = begun.value.job.target; turn = begun.value.job.turn; deps = job_deps begun.value.job; known = known_in begun.value.facts } }
+            record { given = arc_value given; target = begun.value.job.target; turn = begun.value.job.turn; deps = job_deps begun.value.job; known = known_in begun.value.facts } }
     {
         Work {
-            tree,
-            limits,
+            given,
             number: 0,
             script: Script::Begun(begun),
         }
@@ -148,14 +141,12 @@ impl Work {
         ensures holds { HoldsOutcomes self }
     {
         let Work {
-            tree,
-            limits,
+            given,
             number: _,
             script,
         } = self;
         Work {
-            tree,
-            limits,
+            given,
             number,
             script,
         }
@@ -184,16 +175,15 @@ impl Work {
     /// Advances the script as far as the outcomes that the work holds allow: to its end, or to the first statement that
     /// asks for more, as redo-ifchange(1) waits for all of its operands. On want of memory the work is lost.
     pub fn advance(self) -> Result<Piece, AllocError>
-        ensures place { IfOk result (λ p. (p.tree ≡ self.tree) × (p.limits ≡ self.limits) × (p.target ≡ self.target) ×
+        ensures place { IfOk result (λ p. (p.given ≡ self.given) × (p.target ≡ self.target) ×
             (p.turn ≡ self.turn)) }
         ensures progress { IfOk result (λ p. p.progress ≡
-            (rules_of self.tree self.limits).progress self.target (told_by self.known)) }
+            (rules_for self.given).progress self.target (told_by self.known)) }
         ensures ended { IfOk result (λ p. (p.progress.outcome ≡ None → ⊥) ↔
-            (lacking_under (rules_of self.tree self.limits) self.target (told_by self.known) ≡ [])) }
+            (lacking_under (rules_for self.given) self.target (told_by self.known) ≡ [])) }
     {
         let Work {
-            tree,
-            limits,
+            given,
             number,
             script,
         } = self;
@@ -201,49 +191,42 @@ impl Work {
             Script::Unread(unread) => {
                 let alloc = *Box::allocator(&unread);
                 let Unread { target, rule } = Box::into_inner(unread);
-                let job = begun(alloc, &tree, limits, target, rule)?;
-                advance_job(tree, limits, number, job, Facts::new(alloc))
+                let job = begun(alloc, &given, target, rule)?;
+                advance_job(given, number, job, Facts::new(alloc))
             }
             Script::Begun(begun) => {
                 let Begun { job, facts } = Box::into_inner(begun);
-                advance_job(tree, limits, number, job, facts)
+                advance_job(given, number, job, facts)
             }
         }
     }
 }
 
 /// Advances a job with the facts of all that it asked for.
-fn advance_job(
-    tree: Arc<Tree>,
-    limits: Limits,
-    number: u32,
-    job: Job,
-    facts: Facts,
-) -> Result<Piece, AllocError>
-    requires { IsWorkWith (arc_value tree) limits job facts }
-    ensures place { IfOk result (λ p. (p.tree ≡ arc_value tree) × (p.limits ≡ limits) × (p.target ≡ job.target) ×
+fn advance_job(given: Arc<Given>, number: u32, job: Job, facts: Facts) -> Result<Piece, AllocError>
+    requires { IsWorkWith (arc_value given) job facts }
+    ensures place { IfOk result (λ p. (p.given ≡ arc_value given) × (p.target ≡ job.target) ×
         (p.turn ≡ job.turn)) }
     ensures progress { IfOk result (λ p. p.progress ≡
-        (rules_of (arc_value tree) limits).progress job.target (told_in facts)) }
+        (rules_for (arc_value given)).progress job.target (told_in facts)) }
     ensures ended { IfOk result (λ p. (p.progress.outcome ≡ None → ⊥) ↔
-        (lacking_under (rules_of (arc_value tree) limits) job.target (told_in facts) ≡ [])) }
+        (lacking_under (rules_for (arc_value given)) job.target (told_in facts) ≡ [])) }
 {
     let alloc = facts.allocator();
     let turn = job.turn();
     let target = job.target().clone()?;
     let end = match job.advance(&facts)? {
         Step::Ended(done) => {
-            let own = Arc::try_clone(&tree)?;
+            let own = Arc::try_clone(&given)?;
             let path = target.clone()?;
             let deps = Arc::new(alloc, done.deps)?;
-            let fact = Fact::of(own, limits, path, done.outcome, deps, true);
+            let fact = Fact::of(own, path, done.outcome, deps, true);
             End::Ended(Arc::new(alloc, fact)?)
         }
         Step::Asks { job, paths: _paths } => End::Stopped(Box::new(alloc, Begun { job, facts })?),
     };
     Ok(Piece {
-        tree,
-        limits,
+        given,
         number,
         target,
         turn,
@@ -271,16 +254,16 @@ impl Piece {
         self.number as usize
     }
 
-    /// Whether the piece is of this tree and these limits.
-    pub(crate) fn is_of(&self, tree: &Tree, limits: Limits) -> bool
-        ensures { IsTrue result ↔ ((self.now.tree ≡ tree.now) × (self.now.limits ≡ limits)) }
+    /// Whether the piece is of a build that is given this.
+    pub(crate) fn is_of(&self, given: &Given) -> bool
+        ensures { IsTrue result ↔ (self.now.given ≡ given.now) }
     {
-        self.limits == limits && is_same_tree(&self.tree, tree)
+        self.given.is(given.tree(), given.limits())
     }
 
     /// How the script came to stand.
     pub(crate) fn into_end(self) -> End
-        ensures { IsEndAt self.tree self.limits self.target self.turn result }
+        ensures { IsEndAt self.given self.target self.turn result }
     {
         self.end
     }

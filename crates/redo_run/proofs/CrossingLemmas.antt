@@ -20,6 +20,7 @@ use Rattle.redo_step.proofs.machine.Effects.TheSendSync as effects
 use Rattle.redo_step.proofs.place.Place.TheLaws.TheKnot as place
 use Rattle.redo_step.proofs.wait.Waiting.TheSendSync as wait
 use Rattle.redo_core.proofs.fact.Fact.TheSendSync as fact
+use Rattle.redo_core.proofs.given.Given.TheSendSync as given
 use Rattle.redo_core.proofs.facts.Facts.TheSendSync as facts
 use Rattle.redo_core.proofs.board.Stop.TheSendSync as stop
 use Rattle.redo_script.specs.contracts.ast.Script as Script
@@ -64,7 +65,7 @@ pub work_script_send : IsSend (WorkScript.the_field).row
 work_script_send = search (unread_send, begun_send, sendable, heap.crosses) depth 20
 
 pub work_send : IsSend (Work.the_field).row
-work_send = search (work_script_send, tree.the_send, tree.the_sync, limits.the_send, sendable, heap.crosses) depth 20
+work_send = search (work_script_send, given.the_send, given.the_sync, sendable, heap.crosses) depth 20
 
 pub parked_send : IsSend (Parked.the_field).row
 parked_send = search (begun_send, sendable, heap.crosses) depth 20
@@ -79,7 +80,7 @@ pub table_send : IsSend (Table.the_field).row
 table_send = search (slot_send, sets.the_send, path.the_send, sendable, heap.crosses) depth 20
 
 pub board_send : IsSend (Board.the_field).row
-board_send = search (table_send, tree.the_send, tree.the_sync, path.the_send, limits.the_send, stop.the_field_send, sendable, heap.crosses) depth 20
+board_send = search (table_send, given.the_send, given.the_sync, path.the_send, stop.the_field_send, sendable, heap.crosses) depth 20
 
 module _ (B : RattleType) (b : Ghosts B.Denot) where
   desk_fields_send : IsSend (Desk.the_field B b).row

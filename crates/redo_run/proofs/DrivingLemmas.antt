@@ -2,7 +2,7 @@
 use Rattle.std.proofs.Common.{◌≡◌, ℕ, zero, suc, ◌+◌, ◌<◌, ◌≤◌, Bool, true, false, not, List, [], ◌∷◌, Some, None}
 use Rattle.std.proofs.Common.{Option, drop, length, refl, sym, ap, subst, ◌∙◌, arith}
 use Rattle.std.specs.Prelude.{IsNone, slice_index_or}
-use Rattle.redo_core.specs.Build.{rules_of}
+use Rattle.redo_core.specs.Build.{GivenView, rules_for, rules_of}
 use Rattle.redo_build.specs.Rules.{Rules}
 use Rattle.redo_build.specs.Schedule.{State}
 use Rattle.redo_core.specs.Views.{BoardView, WorkView, opened, rules_on}
@@ -44,19 +44,19 @@ module _ (tree : Tree) (request : List (List ℕ)) (limits : LimitsView) (picks 
       subst Q (sym none) (subst P (sym is) whole)
 
   module _ (b : BoardView) (works : List WorkView) (i : ℕ) (on : IsNone b.stopped)
-      (build : (b.tree ≡ tree) × (b.request ≡ request) × (b.limits ≡ limits)) (leads : Leads b works i) where
+      (build : (b.given ≡ record { tree = tree; limits = limits }) × (b.request ≡ request)) (leads : Leads b works i) where
     -- nothing more happens
     at-end : driven (rules_of tree limits) (driven_on b works) (drop i picks) ≡ (driven_on b works, 0) → IsDriven tree request limits picks b i
     at-end still =
         let end : driven (rules_of tree limits) (at_opening tree request limits) picks ≡ (driven_on b works, 0 + i) =
         leads ∙ ap (λ (x : Driven × ℕ). (x.0, x.1 + i)) still in
+        let given : GivenView = record { tree = tree; limits = limits } in
         let state = ap (λ (x : Driven × ℕ). x.0.state) end in
         let count = ap (λ (x : Driven × ℕ). x.1) end in (
-          ap (λ t. record { tree = t; request = b.request; limits = b.limits; state = b.state; stopped = b.stopped }) build.0 ∙
-              ap (λ q. record { tree = tree; request = q; limits = b.limits; state = b.state; stopped = b.stopped }) build.1 ∙
-              ap (λ l. record { tree = tree; request = request; limits = l; state = b.state; stopped = b.stopped }) build.2 ∙
-              ap (λ s. record { tree = tree; request = request; limits = limits; state = s; stopped = b.stopped }) (sym state) ∙
-              ap (λ o. record { tree = tree; request = request; limits = limits; state = (driven (rules_of tree limits) (at_opening tree request limits) picks).0.state; stopped = o }) (running b.stopped on),
+          ap (λ g. record { given = g; request = b.request; state = b.state; stopped = b.stopped }) build.0 ∙
+              ap (λ q. record { given = given; request = q; state = b.state; stopped = b.stopped }) build.1 ∙
+              ap (λ s. record { given = given; request = request; state = s; stopped = b.stopped }) (sym state) ∙
+              ap (λ o. record { given = given; request = request; state = (driven (rules_of tree limits) (at_opening tree request limits) picks).0.state; stopped = o }) (running b.stopped on),
           omega (arith, count),
         )
 
@@ -71,7 +71,7 @@ module _ (tree : Tree) (request : List (List ℕ)) (limits : LimitsView) (picks 
         let P : Bool → Type 0 = IsPicked pick b works c more in
         let now = subst P shut done in
         let R : Rules → Type 0 = λ r. picked r (driven_on b works) pick ≡ None in
-        let rules : rules_on b ≡ rules_of tree limits = ap (λ t. rules_of t b.limits) build.0 ∙ ap (rules_of tree) build.2 in
+        let rules : rules_on b ≡ rules_of tree limits = ap rules_for build.0 in
         let none = subst R rules now.0 in
         let C : BoardView → Type 0 = λ v. IsDriven tree request limits picks v i in
         subst C (sym now.1)

@@ -63,13 +63,13 @@ stays-handed r s target q turn other out = elim (cases_Option (entry_of s.entrie
       })
 ]
 
-module _ (b c : BoardView) (tree : c.tree ≡ b.tree) (limits : c.limits ≡ b.limits) where
+module _ (b c : BoardView) (given : c.given ≡ b.given) where
   -- those that stay out on the same build's board
   pub out-moved : (works : List WorkView) → ((work : WorkView) → IsAmong (targets_of works) work.target → IsOutAt b.state work.target work.turn → IsOutAt c.state work.target work.turn) →
       AreOut b works → AreOut c works
   out-moved [] stays out = tt
   out-moved (x ∷ works) stays out = (
-    record { tree = out.0.tree ∙ sym tree; limits = out.0.limits ∙ sym limits; is_out = stays x (inl refl) out.0.is_out },
+    record { given = out.0.given ∙ sym given; is_out = stays x (inl refl) out.0.is_out },
     out.1,
     out-moved works (λ work m. stays work (inr m)) out.2,
   )
@@ -186,36 +186,35 @@ item-at (x ∷ works) (suc i) w below is = item-at works i w (omega (arith, belo
 pub out-taken : (b c : BoardView) (works more : List WorkView) (which : ℕ) (w : WorkView) → IsNone b.stopped → AreOut b works →
     c ≡ after b (Take which) → IsWorkTaken b which w → IsOutAt c.state w.target w.turn → jobs_out c ≡ jobs_out b + 1 → more ≡ works ++ w ∷ [] → AreOut c more
 out-taken b c works more which w on out next work is_out counted all =
-    let tree = ap (λ (v : BoardView). v.tree) next in
-    let limits = ap (λ (v : BoardView). v.limits) next in
-    let moved : AreOut c works = out-moved b c tree limits works
+    let given = ap (λ (v : BoardView). v.given) next in
+    let moved : AreOut c works = out-moved b c given works
     (λ x m at. let P : BoardView → Type 0 = λ v. IsOutAt v.state x.target x.turn in subst P (sym next) (stays-taken (rules_on b) b.state which x.target x.turn at)) out in
     let new : IsAmong (targets_of works) w.target → ⊥ = λ m.
     let there = out-among b works w.target out m in
     let P : BoardView → Type 0 = λ v. jobs_out v ≡ jobs_out b + 1 in
     taken-new b which w there.0 on work (subst P next counted) there.1 in
     let P : List WorkView → Type 0 = AreOut c in
-    subst P (sym all) (out-push c works w moved (record { tree = work.tree ∙ sym tree; limits = work.limits ∙ sym limits; is_out = is_out }) new)
+    subst P (sym all) (out-push c works w moved (record { given = work.given ∙ sym given; is_out = is_out }) new)
 
 -- the work at a place, advanced to a piece, is handed in
 module _ (b : BoardView) (works : List WorkView) (which : ℕ) (w : WorkView) (out : AreOut b works) (below : which < length works) (is : w ≡ slice_index_or works which w)
-    (piece : PieceView) (same : (piece.tree ≡ w.tree) × (piece.limits ≡ w.limits) × (piece.target ≡ w.target) × (piece.turn ≡ w.turn)) where
+    (piece : PieceView) (same : (piece.given ≡ w.given) × (piece.target ≡ w.target) × (piece.turn ≡ w.turn)) where
   there : slice_get works which ≡ Some w
   there = item-at works which w below is
 
-  pub piece-belongs : (piece.tree ≡ b.tree) × (piece.limits ≡ b.limits)
-  piece-belongs = let on = out-at b works which w out there in (same.0 ∙ on.tree, same.1 ∙ on.limits)
+  pub piece-belongs : piece.given ≡ b.given
+  piece-belongs = let on = out-at b works which w out there in same.0 ∙ on.given
 
   pub piece-out : IsOutAt b.state piece.target piece.turn
   piece-out =
       let on = out-at b works which w out there in
       let P : List ℕ → Type 0 = λ p. IsOutAt b.state p piece.turn in
       let Q : ℕ → Type 0 = λ n. IsOutAt b.state w.target n in
-      subst P (sym same.2) (subst Q (sym same.3) on.is_out)
+      subst P (sym same.1) (subst Q (sym same.2) on.is_out)
 
   module _ (c : BoardView) (rest : List WorkView) (left : rest ≡ remove works which) (next : c ≡ after b (Hand_in piece.target piece.turn)) where
     handed-state : c.state ≡ handed_in (rules_on b) b.state (entry_of b.state.entries w.target)
-    handed-state = ap (λ (v : BoardView). v.state) next ∙ ap (λ p. handed_in (rules_on b) b.state (entry_of b.state.entries p)) same.2
+    handed-state = ap (λ (v : BoardView). v.state) next ∙ ap (λ p. handed_in (rules_on b) b.state (entry_of b.state.entries p)) same.1
 
     pub handed-picked : option_map (with_handed_in (rules_on b) (driven_on b works) which) (slice_get (targets_of works) which) ≡ Some (driven_on c rest)
     handed-picked =
@@ -228,9 +227,8 @@ module _ (b : BoardView) (works : List WorkView) (which : ℕ) (w : WorkView) (o
 
     pub handed-out : AreOut c rest
     handed-out =
-        let tree = ap (λ (v : BoardView). v.tree) next in
-        let limits = ap (λ (v : BoardView). v.limits) next in
-        let moved : AreOut c (remove works which) = out-moved b c tree limits (remove works which)
+        let given = ap (λ (v : BoardView). v.given) next in
+        let moved : AreOut c (remove works which) = out-moved b c given (remove works which)
         (λ x m at.
         let other : w.target ≡ x.target → ⊥ = λ h.
         let P : List ℕ → Type 0 = λ p. IsAmong (targets_of (remove works which)) p in

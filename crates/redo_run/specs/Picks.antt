@@ -47,7 +47,7 @@ at_opening tree request limits = record { state = opening (rules_of tree limits)
 abbrev pub IsDriven : Tree → List (List ℕ) → LimitsView → List Pick → BoardView → ℕ → Type 0
 IsDriven tree request limits picks board done =
     let end = driven (rules_of tree limits) (at_opening tree request limits) picks in
-    (board ≡ record { tree = tree; request = request; limits = limits; state = end.0.state; stopped = None }) ×
+    (board ≡ record { given = record { tree = tree; limits = limits }; request = request; state = end.0.state; stopped = None }) ×
     (done ≡ end.1)
 
 abbrev pub targets_of : List WorkView → List (List ℕ)

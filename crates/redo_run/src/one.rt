@@ -6,7 +6,7 @@ ghost use Rattle.redo_core.specs.Faults.{IsSameBuild};
 ghost use Rattle.redo_build.specs.Outcomes.{IsTooMany};
 ghost use Rattle.redo_report.specs.Reports.{IsReport};
 ghost use Rattle.redo_build.specs.TakesLeft.{takes_left};
-ghost use Rattle.redo_core.specs.Views.{jobs_out, ready_count, rules_on};
+ghost use Rattle.redo_core.specs.Views.{jobs_out, limit_on, ready_count, rules_on};
 
 use crate::RunFault;
 use redo_core::board::{Board, HandFault};
@@ -26,9 +26,9 @@ fn advance_newest(board: &mut Board) -> Result<(), RunFault>
     ensures build { OnOk result (IsSameBuild board.old board.new) }
     ensures none_out { OnOk result (jobs_out board.new ≡ 0) }
     ensures running { OnOk result (IsNone board.new.stopped) }
-    ensures left { OnOk result (takes_left board.new.limits.targets board.new.state < takes_left board.old.limits.targets board.old.state) }
+    ensures left { OnOk result (takes_left (limit_on board.new) board.new.state < takes_left (limit_on board.old) board.old.state) }
     ensures too_many { result ≡ Err RunFault.TooMany →
-        IsTooMany (rules_on board.old) board.old.request board.old.limits.targets }
+        IsTooMany (rules_on board.old) board.old.request (limit_on board.old) }
 {
     let work = board.take(board.ready() - 1)?;
     let piece = work.advance()?;

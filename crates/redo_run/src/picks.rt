@@ -7,7 +7,7 @@ ghost use Rattle.std.specs.Prelude.{◌≡◌, Err, IfOk, IsNone, MatchBool, Non
 ghost use Rattle.redo_core.specs.Build.{rules_of};
 ghost use Rattle.redo_core.specs.Faults.{IsSameBuild};
 ghost use Rattle.redo_build.specs.Outcomes.{IsTooMany};
-ghost use Rattle.redo_core.specs.Views.{rules_on};
+ghost use Rattle.redo_core.specs.Views.{limit_on, rules_on};
 ghost use Rattle.redo_run.specs.Picks.{IsDriven, driven_on, picked};
 ghost use Rattle.redo_run.specs.inside.Driving.{AreOut, IsPicked};
 
@@ -55,7 +55,7 @@ fn hand_in_at(board: &mut Board, out: &mut Vec<Work>, which: usize) -> Result<bo
     ensures running { OnOk result (IsNone board.new.stopped) }
     ensures out { OnOk result (AreOut board.new out.new.items) }
     ensures too_many { result ≡ Err RunFault.TooMany →
-        IsTooMany (rules_on board.old) board.old.request board.old.limits.targets }
+        IsTooMany (rules_on board.old) board.old.request (limit_on board.old) }
 {
     if which >= out.len() {
         return Ok(false);
@@ -78,7 +78,7 @@ fn perform(board: &mut Board, out: &mut Vec<Work>, pick: Pick) -> Result<bool, R
     ensures running { OnOk result (IsNone board.new.stopped) }
     ensures out { OnOk result (AreOut board.new out.new.items) }
     ensures too_many { result ≡ Err RunFault.TooMany →
-        IsTooMany (rules_on board.old) board.old.request board.old.limits.targets }
+        IsTooMany (rules_on board.old) board.old.request (limit_on board.old) }
 {
     match pick {
         Pick::Take(which) => take_at(board, out, which),

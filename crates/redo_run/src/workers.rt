@@ -27,28 +27,23 @@ use std::sync::{Arc, Condvar, Mutex, Wait};
 use std::thread;
 use std::thread::{Scope, Threads};
 
-/// The build that workers are at: its tree, its request and its limits. It has no value when the program runs.
+/// The build that workers are at: what it is given, and its request. It has no value when the program runs.
 pub trait Build {
     ghost use Rattle.std.specs.Prelude.{ℕ, List};
-    ghost use Rattle.redo_step.specs.Limits.{LimitsView};
-    ghost use Rattle.redo_tree.specs.Tree.{Tree as Entries};
+    ghost use Rattle.redo_core.specs.Build.{GivenView};
 
-    ghost tree: { Entries };
+    ghost given: { GivenView };
 
     ghost request: { List (List ℕ) };
-
-    ghost limits: { LimitsView };
 }
 
 impl Build for Brand {
     ghost use Rattle.std.specs.Prelude.{[]};
     ghost use Rattle.redo_tree.specs.Tree.{top};
 
-    ghost tree = { top };
+    ghost given = { record { tree = top; limits = record { targets = 1; file_bytes = 1 } } };
 
     ghost request = { [] };
-
-    ghost limits = { record { targets = 1; file_bytes = 1 } };
 }
 
 /// The board of a build, and whether a growth or a thread was refused beside it.
@@ -57,9 +52,8 @@ struct Desk<B: Build> {
     board: Board,
     refused: bool,
     build: PhantomData<B>,
-    ghost tree: { board.tree ≡ B.tree },
+    ghost given: { board.given ≡ B.given },
     ghost request: { board.request ≡ B.request },
-    ghost limits: { board.limits ≡ B.limits },
 }
 
 /// The desk under its lock, and the bell for those who wait for it to change.
@@ -89,7 +83,7 @@ fn hand_over(board: &mut Board, piece: Piece) -> bool
 
 /// What a board has come to once no worker is at it.
 fn answer_of<R: Wait>(rt: &R, board: Board) -> Result<Report, RunFault>
-    ensures { IsAnswerTo board.tree board.request board.limits result }
+    ensures { IsAnswerTo board.given board.request result }
 {
     if let Some(stop) = board.stopped() {
         return Err(RunFault::from(stop));
@@ -103,7 +97,7 @@ fn answer_of<R: Wait>(rt: &R, board: Board) -> Result<Report, RunFault>
 impl<B: Build> Desk<B> {
     /// The desk of a build that is just opened.
     fn new(board: Board) -> Desk<B>
-        requires { IsBoardOf B.tree B.request B.limits board }
+        requires { IsBoardOf B.given B.request board }
     {
         Desk {
             board,
@@ -122,7 +116,7 @@ impl<B: Build> Desk<B> {
 
     /// The job that became ready last, if there is one and the run hasn't ended.
     fn take(&mut self) -> Result<Option<Work>, AllocError>
-        ensures work { IfOk result (λ found. IfSome found (IsWorkOf B.tree B.limits)) }
+        ensures work { IfOk result (λ found. IfSome found (IsWorkOf B.given)) }
         ensures ended { self.old.refused ≡ true → result ≡ Ok None }
         ensures noted { OnErr result (self.new.refused ≡ true) }
     {
@@ -141,7 +135,7 @@ impl<B: Build> Desk<B> {
 
     /// Hands a piece in. False for one whose target isn't out at its turn.
     fn hand_in(&mut self, piece: Piece) -> bool
-        requires { IsPieceOf B.tree B.limits piece }
+        requires { IsPieceOf B.given piece }
         ensures { IsOutAt self.old.board.state piece.target piece.turn → result ≡ true }
     {
         hand_over(&mut self.board, piece)
@@ -149,7 +143,7 @@ impl<B: Build> Desk<B> {
 
     /// What the run has come to once no worker is at it.
     fn answer<R: Wait>(self, rt: &R) -> Result<Report, RunFault>
-        ensures { IsAnswerTo B.tree B.request B.limits result }
+        ensures { IsAnswerTo B.given B.request result }
     {
         let Desk {
             board,
@@ -166,7 +160,7 @@ impl<B: Build> Desk<B> {
 impl<B: Build> Office<B> {
     /// Waits for a job. None at the end of the run.
     fn next<R: Wait>(&self, rt: &R) -> Option<Work>
-        ensures { IfSome result (IsWorkOf B.tree B.limits) }
+        ensures { IfSome result (IsWorkOf B.given) }
     {
         let mut desk = self
             .moved
@@ -182,7 +176,7 @@ impl<B: Build> Office<B> {
 
     /// Hands a piece in, and wakes all that wait.
     fn hand_in<R: Wait>(&self, rt: &R, piece: Piece)
-        requires { IsPieceOf B.tree B.limits piece }
+        requires { IsPieceOf B.given piece }
     {
         let known = self.desk.lock(rt).hand_in(piece);
         self.moved.notify_all();
@@ -248,9 +242,9 @@ fn run_workers<B: Build + Send + Sync, R: Threads + Wait + Sync, G: Gate>(
     workers: usize,
     gate: &G,
 ) -> Result<Report, RunFault>
-    requires opened { IsBoardOf B.tree B.request B.limits board }
+    requires opened { IsBoardOf B.given B.request board }
     requires some { 1 ≤ workers }
-    ensures { IsAnswerTo B.tree B.request B.limits result }
+    ensures { IsAnswerTo B.given B.request result }
 {
     let office = Office::<B> {
         desk: Mutex::new(Desk::new(board)),

@@ -1,7 +1,6 @@
 -- The script of a work, read or not.
 use Rattle.std.specs.Prelude.{◌≡◌, ℕ, List, []}
 use Rattle.redo_record.specs.declared.outcome.Outcome.{Outcome}
-use Rattle.redo_tree.specs.Tree.{Tree}
 use Rattle.redo_which.specs.Rule.{Rule, found_of}
 use Rattle.redo_which.specs.Views.{arguments_view}
 use Rattle.redo_step.specs.JobView.{JobView}
@@ -10,7 +9,7 @@ use Rattle.redo_core.specs.inside.Works.{IsWorkWith, job_deps, known_in}
 use Rattle.redo_core.specs.declared.facts.Facts.{Facts}
 use Rattle.redo_core.specs.declared.work.Script.{Script}
 use Rattle.redo_core.specs.declared.work.Script.TheVariants.{Unread, Begun}
-use Rattle.redo_step.specs.Limits.{LimitsView}
+use Rattle.redo_core.specs.Build.{GivenView}
 
 abbrev pub script_target : Script → List ℕ
 script_target (Unread unread) = unread.value.target
@@ -31,15 +30,15 @@ script_known (Unread unread) = []
 script_known (Begun begun) = known_in begun.value.facts
 
 -- an unread script has the rule that the search finds; a job has the outcomes of all that it asked for
-abbrev pub IsScriptOf : Tree → LimitsView → Script → Type 0
-IsScriptOf tree limits (Unread unread) =
-    found_of tree unread.value.target ≡
+abbrev pub IsScriptOf : GivenView → Script → Type 0
+IsScriptOf given (Unread unread) =
+    found_of given.tree unread.value.target ≡
     Rule unread.value.rule.do_file unread.value.rule.missing (arguments_view unread.value.rule.args)
-IsScriptOf tree limits (Begun begun) = IsWorkWith tree limits begun.value.job begun.value.facts
+IsScriptOf given (Begun begun) = IsWorkWith given begun.value.job begun.value.facts
 
 -- the job of a target before its first statement: it is a work that knows nothing
-pub record IsBegunJob (tree : Tree) (limits : LimitsView) (target : List ℕ) (job : JobView) : Type 0 where
+pub record IsBegunJob (given : GivenView) (target : List ℕ) (job : JobView) : Type 0 where
   pub of_target : job.target ≡ target
   pub at_first : job.turn ≡ 0
   pub none_recorded : job_deps job ≡ []
-  pub is_work : (facts : Facts) → known_in facts ≡ [] → facts.gained ≡ 0 → IsWorkWith tree limits job facts
+  pub is_work : (facts : Facts) → known_in facts ≡ [] → facts.gained ≡ 0 → IsWorkWith given job facts

@@ -1,13 +1,12 @@
 -- How a board keeps its entries.
 use Rattle.std.specs.Prelude.{◌≡◌, ◌⊎◌, ℕ, ◌+◌, ◌<◌, ◌≤◌, Bool, true, false, not, List, [], ◌∷◌, ◌++◌, Option, Some}
-use Rattle.std.specs.Prelude.{None, is_some, IsNone, if◌then◌else◌, map, length, drop, filter, slice_get, slice_set}
+use Rattle.std.specs.Prelude.{None, IsNone, if◌then◌else◌, map, length, drop, filter, slice_get, slice_set}
 use Rattle.std.specs.Prelude.{unwrap_or, IsSorted, IsPermutation, Box}
 use Rattle.std.specs.Ordering.{nat_cmp}
 use Rattle.std.specs.Arc.{arc_value}
 use Rattle.std.specs.declared.sync.Arc.{Arc}
 use Rattle.std.specs.declared.alloc.Global.{Global}
 use Rattle.std.specs.declared.vec.Vec.{Vec}
-use Rattle.redo_tree.specs.Tree.{Tree, file_at}
 pub use Rattle.redo_core.specs.inside.Works.{IsOperand}
 use Rattle.redo_build.specs.Rules.{Ask, Rules, Extends, operands}
 use Rattle.redo_core.specs.inside.Works.{job_deps, told_in, AddsFact, IsJobOf, GoesOn, AreKnownBelow}
@@ -25,7 +24,7 @@ use Rattle.redo_core.specs.declared.work.Work.{Work}
 use Rattle.redo_core.specs.declared.work.Begun.{Begun}
 use Rattle.redo_build.specs.inside.Standing.{AreStanding}
 use Rattle.redo_build.specs.inside.Turns.{deps_at_turn, IsWork}
-use Rattle.redo_core.specs.Build.{rules_of}
+use Rattle.redo_core.specs.Build.{GivenView, rules_for}
 use Rattle.redo_core.specs.Views.{IsReached, WorkView, FactView}
 use Rattle.redo_core.specs.declared.table.Slot.{Slot}
 use Rattle.redo_core.specs.declared.table.Stage.{Stage}
@@ -33,7 +32,6 @@ use Rattle.redo_core.specs.declared.table.Stage.TheVariants.{Waiting, Ready, Out
 use Rattle.redo_core.specs.declared.board.Board.TheInside.{Inside}
 use Rattle.redo_record.specs.declared.deps.Dep.{Dep}
 use Rattle.redo_record.specs.declared.outcome.Outcome.{Outcome}
-use Rattle.redo_step.specs.Limits.{LimitsView}
 
 abbrev pub stage_outcome : Stage → Option Outcome
 stage_outcome (Waiting work) = None
@@ -87,15 +85,15 @@ state_from r depth ps slots ready = record {
 }
 
 abbrev pub rules_inside : Inside → Rules
-rules_inside b = rules_of (arc_value b.tree) b.limits
+rules_inside b = rules_for (arc_value b.given)
 
 -- the state that a board keeps
 abbrev pub state_of : Inside → State
-state_of b = state_from (rules_inside b) b.limits.targets b.table.targets.keys b.table.slots.items b.table.ready.items
+state_of b = state_from (rules_inside b) (arc_value b.given).limits.targets b.table.targets.keys b.table.slots.items b.table.ready.items
 
 -- a slot whose job is parked has that job at its place
-abbrev pub IsParked : Tree → LimitsView → List ℕ → ℕ → WorkView → Type 0
-IsParked tree limits p turn work = (work.tree ≡ tree) × (work.limits ≡ limits) × (work.target ≡ p) × (work.turn ≡ turn)
+abbrev pub IsParked : GivenView → List ℕ → ℕ → WorkView → Type 0
+IsParked given p turn work = (work.given ≡ given) × (work.target ≡ p) × (work.turn ≡ turn)
 
 -- the first so many paths have answers
 abbrev pub AnsweredBelow : Ask → List (List ℕ) → ℕ → Type 0
@@ -118,8 +116,8 @@ AllAnswered r a deps = (q : List ℕ) → IsAmong (operands r deps) q → a q �
 
 -- a job that waits, with the outcomes that it holds: they are among those known, and those of the first entries that
 -- it declared
-pub record IsWaitingWith (r : Rules) (a : Ask) (tree : Tree) (limits : LimitsView) (p : List ℕ) (turn : ℕ) (parked : Parked) : Type 0 where
-  pub is_job : IsJobOf tree limits parked.begun.value.job
+pub record IsWaitingWith (r : Rules) (a : Ask) (given : GivenView) (p : List ℕ) (turn : ℕ) (parked : Parked) : Type 0 where
+  pub is_job : IsJobOf given parked.begun.value.job
   pub of_target : parked.begun.value.job.target ≡ p
   pub at_turn : parked.begun.value.job.turn ≡ turn
   pub stopped : 0 < turn
@@ -131,12 +129,12 @@ pub record IsWaitingWith (r : Rules) (a : Ask) (tree : Tree) (limits : LimitsVie
   pub gained : AreKnownBelow r parked.begun.value.job (told_in parked.begun.value.facts) parked.begun.value.facts.gained
 
 -- what a slot holds is of its path and turn
-abbrev pub Fits : Rules → Ask → Tree → LimitsView → List ℕ → ℕ → Stage → Type 0
-Fits r a tree limits p turn (Waiting parked) = IsWaitingWith r a tree limits p turn parked
-Fits r a tree limits p turn (Ready work) = IsParked tree limits p turn work × AllAnswered r a work.deps
-Fits r a tree limits p turn Out = Unit {0}
-Fits r a tree limits p turn (Decided fact) =
-    ((arc_value fact).tree ≡ tree) × ((arc_value fact).limits ≡ limits) × ((arc_value fact).target ≡ p)
+abbrev pub Fits : Rules → Ask → GivenView → List ℕ → ℕ → Stage → Type 0
+Fits r a given p turn (Waiting parked) = IsWaitingWith r a given p turn parked
+Fits r a given p turn (Ready work) = IsParked given p turn work × AllAnswered r a work.deps
+Fits r a given p turn Out = Unit {0}
+Fits r a given p turn (Decided fact) =
+    ((arc_value fact).given ≡ given) × ((arc_value fact).target ≡ p)
 
 -- a job that waits has the numbers of what it waits for
 abbrev pub IsNumbered : Rules → List (List ℕ) → Stage → Type 0
@@ -194,39 +192,39 @@ AllWatched r depth ps slots pending =
     (k : ℕ) (slot : Slot) → slice_get slots k ≡ Some slot → is_stage_waiting slot.stage ≡ true →
     IsPlace pending k ⊎ IsWatched r ps slots k (stage_deps r (outcome_at r depth) (path_at ps k) slot.turn slot.stage)
 
-abbrev pub AllFit : Rules → ℕ → Tree → LimitsView → List (List ℕ) → List Slot → Type 0
-AllFit r depth tree limits ps slots = (k : ℕ) (slot : Slot) → slice_get slots k ≡ Some slot →
-    Fits r (outcomes_of (entries_from r depth ps slots)) tree limits (path_at ps k) slot.turn slot.stage
+abbrev pub AllFit : Rules → ℕ → GivenView → List (List ℕ) → List Slot → Type 0
+AllFit r depth given ps slots = (k : ℕ) (slot : Slot) → slice_get slots k ≡ Some slot →
+    Fits r (outcomes_of (entries_from r depth ps slots)) given (path_at ps k) slot.turn slot.stage
 
 abbrev pub AllWatchersBelow : List Slot → Type 0
 AllWatchersBelow slots =
     (i k : ℕ) (slot : Slot) → slice_get slots i ≡ Some slot → IsPlace slot.watchers.items k → k < length slots
 
 -- how a table stands, with the newly ready numbers
-pub record IsTable (r : Rules) (tree : Tree) (limits : LimitsView) (ps : List (List ℕ)) (slots : List Slot) (ready : List ℕ) (out : ℕ) (newly_ready : List ℕ) : Type 0 where
+pub record IsTable (r : Rules) (given : GivenView) (ps : List (List ℕ)) (slots : List Slot) (ready : List ℕ) (out : ℕ) (newly_ready : List ℕ) : Type 0 where
   pub one_each : length slots ≡ length ps
-  pub within_limit : length slots ≤ limits.targets
-  pub few : limits.targets ≤ 65536
+  pub within_limit : length slots ≤ given.limits.targets
+  pub few : given.limits.targets ≤ 65536
   pub out_counted : out ≡ length (filter (λ slot. is_stage_out slot.stage) slots)
-  pub fits : AllFit r limits.targets tree limits ps slots
+  pub fits : AllFit r given.limits.targets given ps slots
   pub numbered : AllNumbered r ps slots
   pub queue : IsQueue slots ready newly_ready
   pub watchers_below : AllWatchersBelow slots
 
-abbrev pub IsTableOf : Tree → LimitsView → Table → List ℕ → Type 0
-IsTableOf tree limits t newly_ready =
-    IsTable (rules_of tree limits) tree limits t.targets.keys t.slots.items t.ready.items t.out newly_ready
+abbrev pub IsTableOf : GivenView → Table → List ℕ → Type 0
+IsTableOf given t newly_ready =
+    IsTable (rules_for given) given t.targets.keys t.slots.items t.ready.items t.out newly_ready
 
 -- what a board keeps: a state that is reached, and a table with nothing left to do
 pub record IsKept (b : Inside) : Type 0 where
   pub reached : IsReached (rules_inside b) b.request.items (state_of b)
-  pub table : IsTableOf (arc_value b.tree) b.limits b.table []
-  pub watched : AllWatched (rules_inside b) b.limits.targets b.table.targets.keys b.table.slots.items []
+  pub table : IsTableOf (arc_value b.given) b.table []
+  pub watched : AllWatched (rules_inside b) (arc_value b.given).limits.targets b.table.targets.keys b.table.slots.items []
 
 -- a board keeps what it shows while it runs, and has stopped at the limit only where the build needs too many
 pub record IsBoard (b : Inside) : Type 0 where
   pub kept : IsNone b.stopped → IsKept b
-  pub too_many : b.stopped ≡ Some TooMany → IsTooMany (rules_inside b) b.request.items b.limits.targets
+  pub too_many : b.stopped ≡ Some TooMany → IsTooMany (rules_inside b) b.request.items (arc_value b.given).limits.targets
 
 abbrev pub is_stage_decided : Stage → Bool
 is_stage_decided (Waiting parked) = false
@@ -260,10 +258,10 @@ pub record IsLackingAt (t : Table) (ns : List ℕ) (from i at : ℕ) : Type 0 wh
   pub is_open : is_stage_decided slot.stage ≡ false
 
 -- the entries of the table stand as those of a build
-abbrev pub IsStandingTable : Tree → LimitsView → Table → Type 0
-IsStandingTable tree limits t =
+abbrev pub IsStandingTable : GivenView → Table → Type 0
+IsStandingTable given t =
     (request : List (List ℕ)) ×
-    AreStanding (rules_of tree limits) request (table_entries (rules_of tree limits) limits.targets t)
+    AreStanding (rules_for given) request (table_entries (rules_for given) given.limits.targets t)
 
 -- the fact of a number whose target is decided
 abbrev pub IsFactAt : Table → ℕ → Arc FactView Global → Type 0
@@ -326,7 +324,7 @@ pub record IsWatchAdded (t u : Table) (at place : ℕ) : Type 0 where
   pub rest : (u.targets ≡ t.targets) × (u.ready ≡ t.ready) × (u.out ≡ t.out)
 
 -- one job is no longer parked, and ready
-pub record IsMadeReadyAt (tree : Tree) (limits : LimitsView) (t u : Table) (at : ℕ) : Type 0 where
+pub record IsMadeReadyAt (given : GivenView) (t u : Table) (at : ℕ) : Type 0 where
   pub old : Slot
   pub new : Slot
   pub parked : Parked
@@ -336,53 +334,53 @@ pub record IsMadeReadyAt (tree : Tree) (limits : LimitsView) (t u : Table) (at :
   pub is : new.stage ≡ Ready work
   pub turn : new.turn ≡ old.turn
   pub watchers : new.watchers ≡ old.watchers
-  pub same : (work.tree ≡ tree) × (work.limits ≡ limits) × (work.target ≡ parked.begun.value.job.target) ×
+  pub same : (work.given ≡ given) × (work.target ≡ parked.begun.value.job.target) ×
       (work.turn ≡ parked.begun.value.job.turn) × (work.deps ≡ job_deps parked.begun.value.job)
   pub slots : u.slots.items ≡ slice_set t.slots.items at new
   pub rest : (u.targets ≡ t.targets) × (u.ready ≡ t.ready) × (u.out ≡ t.out)
 
 -- the job parked in this slot has all that a work has, but for the outcomes that are known and that it doesn't hold yet
-pub record IsFedAs (tree : Tree) (limits : LimitsView) (t : Table) (at : ℕ) (slot : Slot) (parked : Parked) : Type 0 where
+pub record IsFedAs (given : GivenView) (t : Table) (at : ℕ) (slot : Slot) (parked : Parked) : Type 0 where
   pub there : slice_get t.slots.items at ≡ Some slot
   pub was : slot.stage ≡ Waiting parked
   pub distinct : AreDistinct t.targets.keys
-  pub waits : IsWaitingWith (rules_of tree limits) (outcomes_of (table_entries (rules_of tree limits) limits.targets t)) tree limits (path_at t.targets.keys at) slot.turn parked
-  pub fits : AllFit (rules_of tree limits) limits.targets tree limits t.targets.keys t.slots.items
-  pub numbered : AreNumbers t.targets.keys parked.operands.items (waited_by (rules_of tree limits) parked.begun.value)
+  pub waits : IsWaitingWith (rules_for given) (outcomes_of (table_entries (rules_for given) given.limits.targets t)) given (path_at t.targets.keys at) slot.turn parked
+  pub fits : AllFit (rules_for given) given.limits.targets given t.targets.keys t.slots.items
+  pub numbered : AreNumbers t.targets.keys parked.operands.items (waited_by (rules_for given) parked.begun.value)
   pub rest : AreDecidedFrom t parked.operands.items parked.held (length parked.operands.items)
-  pub is_work : IsWork (rules_of tree limits) parked.begun.value.job.target parked.begun.value.job.turn (job_deps parked.begun.value.job)
-  pub deep : Extends (rules_of tree limits) (outcomes_of (table_entries (rules_of tree limits) limits.targets t)) (outcome_at (rules_of tree limits) is_work.depth)
+  pub is_work : IsWork (rules_for given) parked.begun.value.job.target parked.begun.value.job.turn (job_deps parked.begun.value.job)
+  pub deep : Extends (rules_for given) (outcomes_of (table_entries (rules_for given) given.limits.targets t)) (outcome_at (rules_for given) is_work.depth)
   pub few : parked.begun.value.job.turn < 65536
 
-abbrev pub IsFed : Tree → LimitsView → Table → ℕ → Type 0
-IsFed tree limits t at = (slot : Slot) × (parked : Parked) × IsFedAs tree limits t at slot parked
+abbrev pub IsFed : GivenView → Table → ℕ → Type 0
+IsFed given t at = (slot : Slot) × (parked : Parked) × IsFedAs given t at slot parked
 
 -- a number was looked at: the table shows the same entries
-pub record IsLookedAt (tree : Tree) (limits : LimitsView) (t u : Table) (at : ℕ) : Type 0 where
-  pub entries : table_entries (rules_of tree limits) limits.targets u ≡
-      table_entries (rules_of tree limits) limits.targets t
+pub record IsLookedAt (given : GivenView) (t u : Table) (at : ℕ) : Type 0 where
+  pub entries : table_entries (rules_for given) given.limits.targets u ≡
+      table_entries (rules_for given) given.limits.targets t
   pub rest : (u.targets ≡ t.targets) × (u.ready ≡ t.ready) × (u.out ≡ t.out)
   pub slots : length u.slots.items ≡ length t.slots.items
   pub watched : (pending : List ℕ) →
-      AllWatched (rules_of tree limits) limits.targets t.targets.keys t.slots.items (at ∷ pending) →
-      AllWatched (rules_of tree limits) limits.targets u.targets.keys u.slots.items pending
+      AllWatched (rules_for given) given.limits.targets t.targets.keys t.slots.items (at ∷ pending) →
+      AllWatched (rules_for given) given.limits.targets u.targets.keys u.slots.items pending
 
 -- what a path that is seen for the first time is at once
-abbrev pub IsBegun : Tree → LimitsView → List ℕ → Stage → Type 0
-IsBegun tree limits p (Waiting parked) = ⊥
-IsBegun tree limits p (Ready work) =
-    IsParked tree limits p 0 work × (work.deps ≡ []) × ((rules_of tree limits).has_rule p ≡ true)
-IsBegun tree limits p Out = ⊥
-IsBegun tree limits p (Decided fact) =
-    ((arc_value fact).tree ≡ tree) × ((arc_value fact).limits ≡ limits) × ((arc_value fact).target ≡ p) ×
-    ((rules_of tree limits).has_rule p ≡ false) ×
-    ((rules_of tree limits).progress p nothing_known ≡
+abbrev pub IsBegun : GivenView → List ℕ → Stage → Type 0
+IsBegun given p (Waiting parked) = ⊥
+IsBegun given p (Ready work) =
+    IsParked given p 0 work × (work.deps ≡ []) × ((rules_for given).has_rule p ≡ true)
+IsBegun given p Out = ⊥
+IsBegun given p (Decided fact) =
+    ((arc_value fact).given ≡ given) × ((arc_value fact).target ≡ p) ×
+    ((rules_for given).has_rule p ≡ false) ×
+    ((rules_for given).progress p nothing_known ≡
     record { outcome = Some (arc_value fact).outcome; deps = (arc_value fact).deps })
 
 -- a new path has a slot behind the others
-pub record IsPushed (tree : Tree) (limits : LimitsView) (t u : Table) (newly_ready newly_ready' : List ℕ) (p : List ℕ) : Type 0 where
+pub record IsPushed (given : GivenView) (t u : Table) (newly_ready newly_ready' : List ℕ) (p : List ℕ) : Type 0 where
   pub new : Slot
-  pub begun : IsBegun tree limits p new.stage
+  pub begun : IsBegun given p new.stage
   pub turn : new.turn ≡ 0
   pub watchers : new.watchers.items ≡ []
   pub keys : u.targets.keys ≡ t.targets.keys ++ p ∷ []
@@ -392,19 +390,19 @@ pub record IsPushed (tree : Tree) (limits : LimitsView) (t u : Table) (newly_rea
   pub rest : (u.ready ≡ t.ready) × (u.out ≡ t.out)
 
 -- the table shows the entries with these paths entered
-pub record AreEnteredInto (tree : Tree) (limits : LimitsView) (t u : Table) (newly_ready : List ℕ) (ps : List (List ℕ)) : Type 0 where
-  pub table : IsTableOf tree limits u newly_ready
-  pub entries : table_entries (rules_of tree limits) limits.targets u ≡
-      entered (rules_of tree limits) (table_entries (rules_of tree limits) limits.targets t) ps
+pub record AreEnteredInto (given : GivenView) (t u : Table) (newly_ready : List ℕ) (ps : List (List ℕ)) : Type 0 where
+  pub table : IsTableOf given u newly_ready
+  pub entries : table_entries (rules_for given) given.limits.targets u ≡
+      entered (rules_for given) (table_entries (rules_for given) given.limits.targets t) ps
   pub rest : (u.ready ≡ t.ready) × (u.out ≡ t.out)
   pub keys_kept : (k : ℕ) (p : List ℕ) → slice_get t.targets.keys k ≡ Some p → slice_get u.targets.keys k ≡ Some p
   pub slots_kept : (k : ℕ) (slot : Slot) → slice_get t.slots.items k ≡ Some slot → slice_get u.slots.items k ≡ Some slot
   pub watched : (pending : List ℕ) →
-      AllWatched (rules_of tree limits) limits.targets t.targets.keys t.slots.items pending →
-      AllWatched (rules_of tree limits) limits.targets u.targets.keys u.slots.items pending
+      AllWatched (rules_for given) given.limits.targets t.targets.keys t.slots.items pending →
+      AllWatched (rules_for given) given.limits.targets u.targets.keys u.slots.items pending
 
-abbrev pub IsEnteredInto : Tree → LimitsView → Table → Table → List ℕ → List ℕ → Type 0
-IsEnteredInto tree limits t u newly_ready p = AreEnteredInto tree limits t u newly_ready (p ∷ [])
+abbrev pub IsEnteredInto : GivenView → Table → Table → List ℕ → List ℕ → Type 0
+IsEnteredInto given t u newly_ready p = AreEnteredInto given t u newly_ready (p ∷ [])
 
 -- entering the paths passes the limit
 abbrev pub AreTooMany : Rules → ℕ → List Entry → List (List ℕ) → Type 0
@@ -414,17 +412,17 @@ abbrev pub IsFull : Rules → ℕ → List Entry → List ℕ → Type 0
 IsFull r limit es p = AreTooMany r limit es (p ∷ [])
 
 -- of these numbers all but those left were looked at: the table shows the same entries
-pub record AreLookedAtBelow (tree : Tree) (limits : LimitsView) (t u : Table) (pending left : List ℕ) : Type 0 where
-  pub entries : table_entries (rules_of tree limits) limits.targets u ≡
-      table_entries (rules_of tree limits) limits.targets t
+pub record AreLookedAtBelow (given : GivenView) (t u : Table) (pending left : List ℕ) : Type 0 where
+  pub entries : table_entries (rules_for given) given.limits.targets u ≡
+      table_entries (rules_for given) given.limits.targets t
   pub rest : (u.targets ≡ t.targets) × (u.ready ≡ t.ready) × (u.out ≡ t.out)
   pub slots : length u.slots.items ≡ length t.slots.items
   pub watched : (more : List ℕ) →
-      AllWatched (rules_of tree limits) limits.targets t.targets.keys t.slots.items (pending ++ more) →
-      AllWatched (rules_of tree limits) limits.targets u.targets.keys u.slots.items (left ++ more)
+      AllWatched (rules_for given) given.limits.targets t.targets.keys t.slots.items (pending ++ more) →
+      AllWatched (rules_for given) given.limits.targets u.targets.keys u.slots.items (left ++ more)
 
-abbrev pub AreLookedAt : Tree → LimitsView → Table → Table → List ℕ → Type 0
-AreLookedAt tree limits t u pending = AreLookedAtBelow tree limits t u pending []
+abbrev pub AreLookedAt : GivenView → Table → Table → List ℕ → Type 0
+AreLookedAt given t u pending = AreLookedAtBelow given t u pending []
 
 -- the newly ready numbers are in the queue, in ascending order
 pub record AreEnqueued (t u : Table) (newly_ready : List ℕ) : Type 0 where
@@ -484,36 +482,36 @@ abbrev pub table_state : Rules → ℕ → Table → State
 table_state r depth t = state_from r depth t.targets.keys t.slots.items t.ready.items
 
 -- the state after what is out at a number is handed in
-abbrev pub state_after : Tree → LimitsView → Table → ℕ → State
-state_after tree limits t at =
-    handed_in (rules_of tree limits) (table_state (rules_of tree limits) limits.targets t) (entry_of (table_entries (rules_of tree limits) limits.targets t) (path_at t.targets.keys at))
+abbrev pub state_after : GivenView → Table → ℕ → State
+state_after given t at =
+    handed_in (rules_for given) (table_state (rules_for given) given.limits.targets t) (entry_of (table_entries (rules_for given) given.limits.targets t) (path_at t.targets.keys at))
 
 -- the table is that of a state that is reached, with nothing left to do, and the end is that of the job that is out at
 -- the number
-pub record MayTakeIn (tree : Tree) (limits : LimitsView) (t : Table) (at : ℕ) (end : End) : Type 0 where
+pub record MayTakeIn (given : GivenView) (t : Table) (at : ℕ) (end : End) : Type 0 where
   pub request : List (List ℕ)
-  pub reached : IsReached (rules_of tree limits) request (table_state (rules_of tree limits) limits.targets t)
-  pub table : IsTableOf tree limits t []
-  pub watched : AllWatched (rules_of tree limits) limits.targets t.targets.keys t.slots.items []
+  pub reached : IsReached (rules_for given) request (table_state (rules_for given) given.limits.targets t)
+  pub table : IsTableOf given t []
+  pub watched : AllWatched (rules_for given) given.limits.targets t.targets.keys t.slots.items []
   pub slot : Slot
   pub there : slice_get t.slots.items at ≡ Some slot
   pub is_out : slot.stage ≡ Out
-  pub is_end : IsEndAt tree limits (path_at t.targets.keys at) slot.turn end
+  pub is_end : IsEndAt given (path_at t.targets.keys at) slot.turn end
 
 -- the table shows the entries after it, with these numbers newly ready and those to be looked at
-pub record IsPutBackThere (tree : Tree) (limits : LimitsView) (t u : Table) (at : ℕ) (newly_ready pending : List ℕ) : Type 0 where
-  pub table : IsTableOf tree limits u newly_ready
-  pub entries : table_entries (rules_of tree limits) limits.targets u ≡ (state_after tree limits t at).entries
+pub record IsPutBackThere (given : GivenView) (t u : Table) (at : ℕ) (newly_ready pending : List ℕ) : Type 0 where
+  pub table : IsTableOf given u newly_ready
+  pub entries : table_entries (rules_for given) given.limits.targets u ≡ (state_after given t at).entries
   pub ready : u.ready ≡ t.ready
   pub keys_kept : (k : ℕ) (p : List ℕ) → slice_get t.targets.keys k ≡ Some p → slice_get u.targets.keys k ≡ Some p
   pub within : (k : ℕ) → IsPlace pending k → k < length u.slots.items
-  pub watched : AllWatched (rules_of tree limits) limits.targets u.targets.keys u.slots.items pending
+  pub watched : AllWatched (rules_for given) given.limits.targets u.targets.keys u.slots.items pending
 
 -- the table shows the state after it, with nothing left to do
-pub record IsTakenIn (tree : Tree) (limits : LimitsView) (t u : Table) (at : ℕ) : Type 0 where
-  pub table : IsTableOf tree limits u []
-  pub watched : AllWatched (rules_of tree limits) limits.targets u.targets.keys u.slots.items []
-  pub state : table_state (rules_of tree limits) limits.targets u ≡ state_after tree limits t at
+pub record IsTakenIn (given : GivenView) (t u : Table) (at : ℕ) : Type 0 where
+  pub table : IsTableOf given u []
+  pub watched : AllWatched (rules_for given) given.limits.targets u.targets.keys u.slots.items []
+  pub state : table_state (rules_for given) given.limits.targets u ≡ state_after given t at
 
 -- the job of a target is out at this number, at its turn
 pub record IsOutSlotAt (t : Table) (target : List ℕ) (turn at : ℕ) : Type 0 where
@@ -524,11 +522,11 @@ pub record IsOutSlotAt (t : Table) (target : List ℕ) (turn at : ℕ) : Type 0 
   pub at_turn : slot.turn ≡ turn
 
 -- the paths that are no sources
-abbrev pub targets_in : Tree → List (List ℕ) → List (List ℕ)
-targets_in tree paths = filter (λ p. not (is_some (file_at tree p))) paths
+abbrev pub targets_in : Rules → List (List ℕ) → List (List ℕ)
+targets_in r paths = filter (λ p. not (r.is_source p)) paths
 
 -- the table shows the opening, with nothing left to do
-pub record IsFirstTable (tree : Tree) (limits : LimitsView) (request : List (List ℕ)) (t : Table) : Type 0 where
-  pub table : IsTableOf tree limits t []
-  pub watched : AllWatched (rules_of tree limits) limits.targets t.targets.keys t.slots.items []
-  pub state : table_state (rules_of tree limits) limits.targets t ≡ opening (rules_of tree limits) request
+pub record IsFirstTable (given : GivenView) (request : List (List ℕ)) (t : Table) : Type 0 where
+  pub table : IsTableOf given t []
+  pub watched : AllWatched (rules_for given) given.limits.targets t.targets.keys t.slots.items []
+  pub state : table_state (rules_for given) given.limits.targets t ≡ opening (rules_for given) request

@@ -6,7 +6,7 @@ use Rattle.std.specs.declared.sync.Arc.{Arc}
 use Rattle.std.specs.declared.alloc.Global.{Global}
 use Rattle.indexmap.specs.IndexMap.{IndexMap}
 use Rattle.redo_script.specs.Texts.{script_in}
-use Rattle.redo_tree.specs.Tree.{Tree, file_at}
+use Rattle.redo_tree.specs.Tree.{file_at}
 use Rattle.redo_which.specs.Rule.{Rule, found_of}
 use Rattle.redo_record.specs.declared.deps.Dep.{Dep}
 use Rattle.redo_record.specs.declared.outcome.Outcome.{Outcome}
@@ -17,10 +17,9 @@ use Rattle.redo_build.specs.Rules.{Ask, Rules, changed, operands}
 use Rattle.redo_build.specs.Outcomes.{outcome_at}
 use Rattle.redo_build.specs.Schedule.{only}
 use Rattle.redo_build.specs.inside.Turns.{IsWork, deps_at_turn}
-use Rattle.redo_core.specs.Build.{rules_of}
+use Rattle.redo_core.specs.Build.{GivenView, rules_for}
 use Rattle.redo_core.specs.Views.{FactView, WorkView, told_by}
 use Rattle.redo_core.specs.declared.facts.Facts.{Facts}
-use Rattle.redo_step.specs.Limits.{LimitsView}
 
 -- the paths of some facts with their outcomes
 abbrev pub few_known : List (Arc FactView Global) → List (List ℕ × Outcome)
@@ -57,11 +56,11 @@ abbrev pub IsOperand : Rules → Dep → List ℕ → Type 0
 IsOperand r d q = (changed d.kind d.path ≡ Some q) × (r.is_source q ≡ false)
 
 -- the job is that of its target: with the rule that the search finds, on the script that the .do file holds
-pub record IsJobOf (tree : Tree) (limits : LimitsView) (job : JobView) : Type 0 where
-  pub of_tree : job.tree ≡ tree
-  pub of_limits : job.limits ≡ limits
-  pub found : found_of tree job.target ≡ Rule job.do_file job.missing job.arguments
-  pub script : whole_of job ≡ script_in (unwrap_or (file_at tree job.do_file) [])
+pub record IsJobOf (given : GivenView) (job : JobView) : Type 0 where
+  pub of_tree : job.tree ≡ given.tree
+  pub of_limits : job.limits ≡ given.limits
+  pub found : found_of given.tree job.target ≡ Rule job.do_file job.missing job.arguments
+  pub script : whole_of job ≡ script_in (unwrap_or (file_at given.tree job.do_file) [])
 
 -- the job can go on under each ask that keeps these answers to what it declared
 abbrev pub GoesOn : JobView → Ask → Type 0
@@ -74,35 +73,35 @@ AreKnownBelow r job known n =
     known q ≡ None → ⊥
 
 -- a work: a job at its turn, with the build's outcomes for all that it asked for, and for nothing else
-pub record IsWorkWith (tree : Tree) (limits : LimitsView) (job : JobView) (facts : Facts) : Type 0 where
-  pub is_job : IsJobOf tree limits job
-  pub is_work : IsWork (rules_of tree limits) job.target job.turn (job_deps job)
+pub record IsWorkWith (given : GivenView) (job : JobView) (facts : Facts) : Type 0 where
+  pub is_job : IsJobOf given job
+  pub is_work : IsWork (rules_for given) job.target job.turn (job_deps job)
   pub exact : (q : List ℕ) →
       told_in facts q ≡
-      only (operands (rules_of tree limits) (job_deps job)) (outcome_at (rules_of tree limits) is_work.depth) q
-  pub declared : (q : List ℕ) → IsAmong (operands (rules_of tree limits) job.state.entries) q →
-      IsAmong (operands (rules_of tree limits) (job_deps job)) q
+      only (operands (rules_for given) (job_deps job)) (outcome_at (rules_for given) is_work.depth) q
+  pub declared : (q : List ℕ) → IsAmong (operands (rules_for given) job.state.entries) q →
+      IsAmong (operands (rules_for given) (job_deps job)) q
   pub goes_on : GoesOn job (told_in facts)
   pub gained : facts.gained ≡ length job.state.entries
   pub few : job.turn < 65536
 
 -- a job that stopped at a turn: it is at the next, with the outcomes of the build at this depth for all that it had
 -- asked for before
-pub record IsStopped (tree : Tree) (limits : LimitsView) (depth : ℕ) (target : List ℕ) (turn : ℕ) (job : JobView) (facts : Facts) : Type 0 where
-  pub is_job : IsJobOf tree limits job
+pub record IsStopped (given : GivenView) (depth : ℕ) (target : List ℕ) (turn : ℕ) (job : JobView) (facts : Facts) : Type 0 where
+  pub is_job : IsJobOf given job
   pub of_target : job.target ≡ target
   pub at_turn : job.turn ≡ turn + 1
   pub exact : (q : List ℕ) → told_in facts q ≡
-      only (operands (rules_of tree limits) (deps_at_turn (rules_of tree limits) target (outcome_at (rules_of tree limits) depth) turn)) (outcome_at (rules_of tree limits) depth) q
+      only (operands (rules_for given) (deps_at_turn (rules_for given) target (outcome_at (rules_for given) depth) turn)) (outcome_at (rules_for given) depth) q
   pub goes_on : GoesOn job (told_in facts)
   pub within : facts.gained ≤ length job.state.entries
-  pub gained : AreKnownBelow (rules_of tree limits) job (told_in facts) facts.gained
+  pub gained : AreKnownBelow (rules_for given) job (told_in facts) facts.gained
 
 -- a work holds the outcomes of the build at some depth for all that it asked for, and no others
 pub record HoldsOutcomes (w : WorkView) : Type 0 where
   pub depth : ℕ
-  pub fed : (q : List ℕ) → IsAmong (operands (rules_of w.tree w.limits) w.deps) q →
-      outcome_at (rules_of w.tree w.limits) depth q ≡ None → ⊥
+  pub fed : (q : List ℕ) → IsAmong (operands (rules_for w.given) w.deps) q →
+      outcome_at (rules_for w.given) depth q ≡ None → ⊥
   pub exact : (q : List ℕ) →
       told_by w.known q ≡
-      only (operands (rules_of w.tree w.limits) w.deps) (outcome_at (rules_of w.tree w.limits) depth) q
+      only (operands (rules_for w.given) w.deps) (outcome_at (rules_for w.given) depth) q

@@ -8,8 +8,7 @@ use Rattle.redo_run.specs.declared.picks.Pick.{Pick}
 
 -- the work is of the board's build, and its target is out at its turn
 pub record IsOutOn (board : BoardView) (work : WorkView) : Type 0 where
-  pub tree : work.tree ≡ board.tree
-  pub limits : work.limits ≡ board.limits
+  pub given : work.given ≡ board.given
   pub is_out : IsOutAt board.state work.target work.turn
 
 -- all of them are, each of a target of its own

@@ -1,5 +1,5 @@
 use Rattle.std.proofs.Common.{refl, []}
-use Rattle.redo_core.proofs.TakenSteps.{taken-take, taken-hand_in, taken-once}
+use Rattle.redo_core.proofs.TakenSteps.{taken-begun, taken-counted, taken-hand_in, taken-once, taken-take}
 use Rattle.redo_core.proofs.laws.what_was_taken.Goals as goal
 
 pub returns-clause-opened : goal.returns-clause-opened
@@ -13,3 +13,9 @@ returns-clause-hand_in c = λ b taken target turn. taken-hand_in b taken target 
 
 pub returns-clause-once : goal.returns-clause-once
 returns-clause-once c = λ b taken. taken-once b taken
+
+pub returns-clause-counted : goal.returns-clause-counted
+returns-clause-counted c = λ b taken. taken-counted b taken
+
+pub returns-clause-begun : goal.returns-clause-begun
+returns-clause-begun c = λ b taken report. taken-begun b taken report

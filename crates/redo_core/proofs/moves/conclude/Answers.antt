@@ -1,6 +1,6 @@
 use Rattle.std.proofs.Common.{List, ℕ, [], refl, sym, subst}
 use Rattle.std.specs.Arc.{arc_value}
-use Rattle.redo_core.specs.Build.{rules_of}
+use Rattle.redo_core.specs.Build.{rules_for}
 use Rattle.redo_build.specs.Schedule.{Entry}
 use Rattle.redo_build.specs.inside.Standing.{AreStanding}
 use Rattle.redo_core.specs.inside.Slots.{IsPutBackThere, IsTableOf, AreLookedAt}
@@ -11,13 +11,13 @@ use Rattle.indexmap.proofs.SearchLemmas.{on_ok_of}
 use Rattle.redo_core.proofs.moves.conclude.Goals as goal
 use Rattle.redo_core.proofs.moves.conclude.Goals.{After-decide-watchers}
 
-decided : (c : After-decide-watchers) → IsPutBackThere (arc_value c.args.tree.now) c.args.limits c.args.table.now c.decide-watchers.new.table c.args.at c.args.newly_ready.now.items c.decide-watchers.result.items
+decided : (c : After-decide-watchers) → IsPutBackThere (arc_value c.args.given.now) c.args.table.now c.decide-watchers.new.table c.args.at c.args.newly_ready.now.items c.decide-watchers.result.items
 decided c =
-    let P : List ℕ → Type 0 = λ xs. IsPutBackThere (arc_value c.args.tree.now) c.args.limits c.args.table.now c.decide-watchers.new.table c.args.at xs c.decide-watchers.result.items in
-    subst P (sym c.requires.none_newly_ready) (decided-put (arc_value c.args.tree.now) c.args.limits c.args.table.now c.args.at (Ended c.args.fact) c.requires.may c.args.fact refl c.decide-watchers.new.table _ c.decide-watchers.ensures)
+    let P : List ℕ → Type 0 = λ xs. IsPutBackThere (arc_value c.args.given.now) c.args.table.now c.decide-watchers.new.table c.args.at xs c.decide-watchers.result.items in
+    subst P (sym c.requires.none_newly_ready) (decided-put (arc_value c.args.given.now) c.args.table.now c.args.at (Ended c.args.fact) c.requires.may c.args.fact refl c.decide-watchers.new.table _ c.decide-watchers.ensures)
 
 pub decide-watchers-requires : goal.decide-watchers-requires
-decide-watchers-requires c = out-there (arc_value c.args.tree.now) c.args.limits c.args.table.now c.args.at (Ended c.args.fact) c.requires.may
+decide-watchers-requires c = out-there (arc_value c.args.given.now) c.args.table.now c.args.at (Ended c.args.fact) c.requires.may
 
 pub settle_all-requires-clause-table : goal.settle_all-requires-clause-table
 settle_all-requires-clause-table c = (decided (goal.at-settle_all-requires-clause-table c).After-decide-watchers).table
@@ -25,15 +25,15 @@ settle_all-requires-clause-table c = (decided (goal.at-settle_all-requires-claus
 pub settle_all-requires-clause-standing : goal.settle_all-requires-clause-standing
 settle_all-requires-clause-standing c =
     let d = (goal.at-settle_all-requires-clause-standing c).After-decide-watchers in
-    let P : List Entry → Type 0 = AreStanding (rules_of (arc_value c.args.tree.now) c.args.limits) c.requires.may.request in
-    (c.requires.may.request, subst P (sym (decided d).entries) (after-sound (arc_value c.args.tree.now) c.args.limits c.args.table.now c.args.at (Ended c.args.fact) c.requires.may).standing)
+    let P : List Entry → Type 0 = AreStanding (rules_for (arc_value c.args.given.now)) c.requires.may.request in
+    (c.requires.may.request, subst P (sym (decided d).entries) (after-sound (arc_value c.args.given.now) c.args.table.now c.args.at (Ended c.args.fact) c.requires.may).standing)
 
 pub returns : goal.returns
 returns c =
     let d = (goal.at-returns c).After-decide-watchers in
-    let tree = arc_value c.args.tree.now in
-    let P : List ℕ → Type 0 = AreLookedAt tree c.args.limits c.decide-watchers.new.table c.settle_all.new.table in
-    on_ok_of c.settle_all.result (λ _. IsTableOf tree c.args.limits c.settle_all.new.table c.settle_all.new.newly_ready.items) (λ _. P c.deref.result.now)
-    (IsPutBackThere tree c.args.limits c.args.table.now c.settle_all.new.table c.args.at c.settle_all.new.newly_ready.items [])
-    (λ _ table looked. looked-put tree c.args.limits c.args.table.now c.decide-watchers.new.table c.settle_all.new.table c.args.at _ _ _ (decided d) table (subst P c.deref.ensures.value looked))
+    let given = arc_value c.args.given.now in
+    let P : List ℕ → Type 0 = AreLookedAt given c.decide-watchers.new.table c.settle_all.new.table in
+    on_ok_of c.settle_all.result (λ _. IsTableOf given c.settle_all.new.table c.settle_all.new.newly_ready.items) (λ _. P c.deref.result.now)
+    (IsPutBackThere given c.args.table.now c.settle_all.new.table c.args.at c.settle_all.new.newly_ready.items [])
+    (λ _ table looked. looked-put given c.args.table.now c.decide-watchers.new.table c.settle_all.new.table c.args.at _ _ _ (decided d) table (subst P c.deref.ensures.value looked))
     c.settle_all.ensures.table c.settle_all.ensures.looked

@@ -1,8 +1,7 @@
-use Rattle.std.proofs.Common.{◌≡◌, ℕ, List, [], ◌∷◌, ◌++◌, Err, take, not, is_some, sym, ap, subst, ◌∙◌, append-nil}
+use Rattle.std.proofs.Common.{◌≡◌, ℕ, List, [], ◌∷◌, ◌++◌, Err, take, not, sym, ap, subst, ◌∙◌, append-nil}
 use Rattle.std.proofs.Common.{true}
 use Rattle.std.specs.Arc.{arc_value}
-use Rattle.redo_tree.specs.Tree.{Tree, file_at}
-use Rattle.redo_core.specs.Build.{rules_of}
+use Rattle.redo_core.specs.Build.{GivenView, rules_for}
 use Rattle.redo_core.specs.inside.Slots.{AreEnteredInto, table_entries, targets_in}
 use Rattle.redo_core.proofs.SlotLemmas.{slice_get-item}
 use Rattle.redo_core.proofs.EnterAllLemmas.{enter-more}
@@ -13,30 +12,30 @@ use Rattle.redo_core.proofs.moves.enter_requested.Goals.{then-is_target+in_ok-en
 pub returns-in_err-enter-clause-too_many : goal.returns-in_err-enter-clause-too_many
 returns-in_err-enter-clause-too_many c = λ is.
     let made = rw is at c.from_residual.ensures in
-    let tree : Tree = arc_value c.args.tree.now in
+    let given : GivenView = arc_value c.args.given.now in
     let i = c.loop-path.path-index in
     let get = slice_get-item c.args.request.now i c.path-item.result c.loop-path-test.true c.path-item.is in
     let err = c.in_err-enter.was ∙ ap Err (sym made.1) in
-    let target : not (is_some (file_at tree c.path-item.result)) ≡ true = ap (λ t. not (is_some (file_at t c.path-item.result))) (sym c.deref.ensures) ∙ sym c.if-is_target.ensures in
-    too-many-requested (rules_of tree c.args.limits) tree (table_entries (rules_of tree c.args.limits) c.args.limits.targets c.args.table.now) (table_entries (rules_of tree c.args.limits) c.args.limits.targets c.loop-path.table)
-    c.args.limits.targets c.args.request.now i c.path-item.result get target c.loop-path.invariant.entries (c.enter.ensures.too_many.0 err)
+    let target : not ((rules_for given).is_source c.path-item.result) ≡ true = ap (λ (g : GivenView). not ((rules_for g).is_source c.path-item.result)) (sym c.deref.ensures) ∙ sym c.if-is_target.ensures in
+    too-many-requested (rules_for given) (table_entries (rules_for given) (arc_value c.args.given.now).limits.targets c.args.table.now) (table_entries (rules_for given) (arc_value c.args.given.now).limits.targets c.loop-path.table)
+    (arc_value c.args.given.now).limits.targets c.args.request.now i c.path-item.result get target c.loop-path.invariant.entries (c.enter.ensures.too_many.0 err)
 
 pub loop-path-preserved : goal.loop-path-preserved
 loop-path-preserved c =
-    let tree : Tree = arc_value c.args.tree.now in
+    let given : GivenView = arc_value c.args.given.now in
     let i = c.loop-path.path-index in
     let get = slice_get-item c.args.request.now i c.path-item.result c.loop-path-test.true c.path-item.is in
-    let more = targets-more tree c.args.request.now i c.path-item.result get in
-    let P : List (List ℕ) → Type 0 = λ ps. AreEnteredInto tree c.args.limits c.args.table.now c.if-is_target.table c.if-is_target.newly_ready.items ps in
-    let here = ap (λ t. not (is_some (file_at t c.path-item.result))) (sym c.deref.ensures) in
+    let more = targets-more (rules_for given) c.args.request.now i c.path-item.result get in
+    let P : List (List ℕ) → Type 0 = λ ps. AreEnteredInto given c.args.table.now c.if-is_target.table c.if-is_target.newly_ready.items ps in
+    let here = ap (λ (g : GivenView). not ((rules_for g).is_source c.path-item.result)) (sym c.deref.ensures) in
     elim c.if-is_target.branch [
       | then-is_target+in_ok-enter w ↦
-          let one = one-target tree c.path-item.result (here ∙ sym w.if-is_target.ensures) in
-          subst P (sym (more ∙ ap (λ xs. targets_in tree (take i c.args.request.now) ++ xs) one))
-          (rw (w.table-is, w.newly_ready-is) (enter-more tree c.args.limits c.args.table.now c.loop-path.table w.enter.new.table c.loop-path.newly_ready.items w.enter.new.newly_ready.items
-          (targets_in tree (take i c.args.request.now)) (c.path-item.result ∷ []) c.loop-path.invariant w.in_ok-enter.ensures.ok))
+          let one = one-target (rules_for given) c.path-item.result (here ∙ sym w.if-is_target.ensures) in
+          subst P (sym (more ∙ ap (λ xs. targets_in (rules_for given) (take i c.args.request.now) ++ xs) one))
+          (rw (w.table-is, w.newly_ready-is) (enter-more given c.args.table.now c.loop-path.table w.enter.new.table c.loop-path.newly_ready.items w.enter.new.newly_ready.items
+          (targets_in (rules_for given) (take i c.args.request.now)) (c.path-item.result ∷ []) c.loop-path.invariant w.in_ok-enter.ensures.ok))
       | else-is_target w ↦
-          let none = no-target tree c.path-item.result (here ∙ sym w.if-is_target.ensures) in
-          subst P (sym (more ∙ ap (λ xs. targets_in tree (take i c.args.request.now) ++ xs) none ∙ append-nil (targets_in tree (take i c.args.request.now))))
+          let none = no-target (rules_for given) c.path-item.result (here ∙ sym w.if-is_target.ensures) in
+          subst P (sym (more ∙ ap (λ xs. targets_in (rules_for given) (take i c.args.request.now) ++ xs) none ∙ append-nil (targets_in (rules_for given) (take i c.args.request.now))))
           (rw (w.table-is, w.newly_ready-is) c.loop-path.invariant)
     ]

@@ -11,6 +11,6 @@ settle-requires-clause-within c =
 pub loop-at-preserved : goal.loop-at-preserved
 loop-at-preserved c = (
   c.in_ok-settle.ensures.table,
-  looked-more (arc_value c.args.tree.now) c.args.limits c.args.table.now c.loop-at.table c.settle.new.table c.args.pending.now c.loop-at.at-index 0 c.loop-at-test.true
+  looked-more (arc_value c.args.given.now) c.args.table.now c.loop-at.table c.settle.new.table c.args.pending.now c.loop-at.at-index 0 c.loop-at-test.true
       c.loop-at.invariant.1 c.in_ok-settle.ensures.looked,
 )

@@ -27,9 +27,9 @@ gain-requires c =
     let t = c.args.table.now in
     let slot = c.index_mut-slot.result.now in
     let d = (goal.at-gain-requires c).After-replace-stage in
-    let fed : IsFedAs (arc_value c.args.tree.now) c.args.limits t c.args.at slot c.in-Waiting.parked =
-    fed-here (arc_value c.args.tree.now) c.args.limits t c.args.at slot c.in-Waiting.parked c.requires.fed (there d) (sym c.replace-stage.ensures.value ∙ c.in-Waiting.is) in
-    rw c.deref.ensures.value (gain-decided (arc_value c.args.tree.now) c.args.limits t c.args.at slot c.in-Waiting.parked fed
+    let fed : IsFedAs (arc_value c.args.given.now) t c.args.at slot c.in-Waiting.parked =
+    fed-here (arc_value c.args.given.now) t c.args.at slot c.in-Waiting.parked c.requires.fed (there d) (sym c.replace-stage.ensures.value ∙ c.in-Waiting.is) in
+    rw c.deref.ensures.value (gain-decided (arc_value c.args.given.now) t c.args.at slot c.in-Waiting.parked fed
     (record t { slots = with_item t.slots c.args.at (gone d) }) (gone d) c.replace-stage.ensures.after refl refl)
 
 pub index_mut-slot-requires-2 : goal.index_mut-slot-requires-2
@@ -43,14 +43,14 @@ of-requires c =
     let t = c.args.table.now in
     let slot = c.index_mut-slot.result.now in
     let d = (goal.at-of-requires c).After-replace-stage in
-    let fed : IsFedAs (arc_value c.args.tree.now) c.args.limits t c.args.at slot c.in-Waiting.parked =
-    fed-here (arc_value c.args.tree.now) c.args.limits t c.args.at slot c.in-Waiting.parked c.requires.fed (there d) (sym c.replace-stage.ensures.value ∙ c.in-Waiting.is) in
+    let fed : IsFedAs (arc_value c.args.given.now) t c.args.at slot c.in-Waiting.parked =
+    fed-here (arc_value c.args.given.now) t c.args.at slot c.in-Waiting.parked c.requires.fed (there d) (sym c.replace-stage.ensures.value ∙ c.in-Waiting.is) in
     let inside : c.deref_mut.result.now ≡ c.in-Waiting.parked.begun.value = c.deref_mut.ensures.value in
-    let own : arc_value c.in_ok-own.own ≡ arc_value c.args.tree.now = c.in_ok-own.ensures in
+    let own : arc_value c.in_ok-own.own ≡ arc_value c.args.given.now = c.in_ok-own.ensures in
     let u = record t { slots = with_item t.slots c.args.at (gone d) } in
     let P : List ℕ → Type 0 = λ ns. Gains u ns c.in-Waiting.parked.begun.value.job c.in-Waiting.parked.begun.value.facts c.gain.new.facts in
     let Q : Begun → Type 0 = λ b. Gains u c.deref.result.now b.job b.facts c.gain.new.facts in
-    rw (own, inside) (fed-work (arc_value c.args.tree.now) c.args.limits t c.args.at slot c.in-Waiting.parked fed
+    rw (own, inside) (fed-work (arc_value c.args.given.now) t c.args.at slot c.in-Waiting.parked fed
     u (gone d) c.replace-stage.ensures.after refl refl c.gain.new.facts (subst P c.deref.ensures.value (subst Q inside c.in_ok-gain.ensures)))
 
 pub returns : goal.returns
@@ -75,8 +75,7 @@ returns c =
       turn = ap (λ (y : Slot). y.turn) (sym same);
       watchers = ap (λ (y : Slot). y.watchers) (sym same);
       same = (
-        ap (λ (w : WorkView). w.tree) c.of.ensures ∙ c.in_ok-own.ensures,
-        ap (λ (w : WorkView). w.limits) c.of.ensures,
+        ap (λ (w : WorkView). w.given) c.of.ensures ∙ c.in_ok-own.ensures,
         ap (λ (w : WorkView). w.target) c.of.ensures ∙ ap (λ (b : Begun). b.job.target) c.deref_mut.ensures.value,
         ap (λ (w : WorkView). w.turn) c.of.ensures ∙ ap (λ (b : Begun). b.job.turn) c.deref_mut.ensures.value,
         ap (λ (w : WorkView). w.deps) c.of.ensures ∙ ap (λ (b : Begun). job_deps b.job) c.deref_mut.ensures.value,

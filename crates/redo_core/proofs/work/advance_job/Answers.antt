@@ -1,7 +1,7 @@
 use Rattle.std.proofs.Common.{◌≡◌, sym, ap, subst, ◌∙◌}
 use Rattle.std.specs.Arc.{arc_value}
 use Rattle.redo_core.specs.Views.{FactView}
-use Rattle.redo_core.specs.Build.{rules_of}
+use Rattle.redo_core.specs.Build.{rules_for}
 use Rattle.redo_core.specs.inside.Works.{told_in}
 use Rattle.redo_core.specs.inside.Ends.{IsEndAt, end_progress}
 use Rattle.redo_core.specs.declared.work.End.{End}
@@ -12,46 +12,43 @@ use Rattle.redo_core.proofs.work.advance_job.Goals.{in-Ended+in_ok-own-in-Ended+
 use Rattle.redo_core.proofs.work.advance_job.Goals.{in-Asks+in_ok-new-in-Asks}
 
 pub advance-requires-clause-fits : goal.advance-requires-clause-fits
-advance-requires-clause-fits c = work-fits (arc_value c.args.tree) c.args.limits c.args.job c.args.facts c.requires
+advance-requires-clause-fits c = work-fits (arc_value c.args.given) c.args.job c.args.facts c.requires
 
 pub of-fact-requires : goal.of-fact-requires
 of-fact-requires c =
-    fact-parts (arc_value c.args.tree) c.args.limits c.args.job c.args.facts c.requires
+    fact-parts (arc_value c.args.given) c.args.job c.args.facts c.requires
     c.in-Ended.done (rw c.in-Ended.is at c.in_ok-done.ensures)
     (arc_value c.in_ok-own-in-Ended.own) c.in_ok-path-in-Ended.path (arc_value c.in_ok-deps-in-Ended.deps)
     c.in_ok-own-in-Ended.ensures (c.in_ok-path-in-Ended.ensures.cases ∙ c.in_ok-target.ensures.cases ∙ c.target.ensures) c.in_ok-deps-in-Ended.ensures.ok
 
 pub invariant_of-result : goal.invariant_of-result
 invariant_of-result c =
-    let tree = arc_value c.args.tree in
-    let limits = c.args.limits in
+    let given = arc_value c.args.given in
     let job = c.args.job in
     let facts = c.args.facts in
-    let P : End → Type 0 = λ end. IsEndAt tree limits job.target job.turn end in
+    let P : End → Type 0 = λ end. IsEndAt given job.target job.turn end in
     rw (c.in_ok-target.ensures.cases, c.target.ensures, c.turn-turn.ensures) (elim c.match-branch-3.branch [
       | in-Ended+in_ok-own-in-Ended+in_ok-path-in-Ended+in_ok-deps-in-Ended+in_ok-new-in-Ended w ↦
           let path = w.in_ok-path-in-Ended.ensures.cases ∙ c.in_ok-target.ensures.cases ∙ c.target.ensures in
-          subst P (sym w.end-is) (ended-end tree limits job facts c.requires w.in-Ended.done (rw w.in-Ended.is at c.in_ok-done.ensures) w.in_ok-new-in-Ended.field-0
-          (ap (λ (f : FactView). f.tree) (w.in_ok-new-in-Ended.ensures.ok ∙ w.of-fact.ensures) ∙ w.in_ok-own-in-Ended.ensures)
-          (ap (λ (f : FactView). f.limits) (w.in_ok-new-in-Ended.ensures.ok ∙ w.of-fact.ensures))
+          subst P (sym w.end-is) (ended-end given job facts c.requires w.in-Ended.done (rw w.in-Ended.is at c.in_ok-done.ensures) w.in_ok-new-in-Ended.field-0
+          (ap (λ (f : FactView). f.given) (w.in_ok-new-in-Ended.ensures.ok ∙ w.of-fact.ensures) ∙ w.in_ok-own-in-Ended.ensures)
           (ap (λ (f : FactView). f.target) (w.in_ok-new-in-Ended.ensures.ok ∙ w.of-fact.ensures) ∙ path)
           (ap (λ (f : FactView). f.outcome) (w.in_ok-new-in-Ended.ensures.ok ∙ w.of-fact.ensures))
           (ap (λ (f : FactView). f.deps) (w.in_ok-new-in-Ended.ensures.ok ∙ w.of-fact.ensures) ∙ w.in_ok-deps-in-Ended.ensures.ok))
-      | in-Asks+in_ok-new-in-Asks w ↦ subst P (sym w.end-is) (stopped-end tree limits job facts c.requires w.in-Asks.job w.in-Asks._paths.items (rw w.in-Asks.is at c.in_ok-done.ensures) w.in_ok-new-in-Asks.field-0 w.in_ok-new-in-Asks.ensures.ok)
+      | in-Asks+in_ok-new-in-Asks w ↦ subst P (sym w.end-is) (stopped-end given job facts c.requires w.in-Asks.job w.in-Asks._paths.items (rw w.in-Asks.is at c.in_ok-done.ensures) w.in_ok-new-in-Asks.field-0 w.in_ok-new-in-Asks.ensures.ok)
     ])
 
 pub returns-clause-ended : goal.returns-clause-ended
 returns-clause-ended c =
-    let tree = arc_value c.args.tree in
-    let limits = c.args.limits in
+    let given = arc_value c.args.given in
     let job = c.args.job in
     let facts = c.args.facts in
-    let P : End → Type 0 = λ end. end_progress end ≡ (rules_of tree limits).progress job.target (told_in facts) in
+    let P : End → Type 0 = λ end. end_progress end ≡ (rules_for given).progress job.target (told_in facts) in
     let now : P c.match-branch-3.end = elim c.match-branch-3.branch [
       | in-Ended+in_ok-own-in-Ended+in_ok-path-in-Ended+in_ok-deps-in-Ended+in_ok-new-in-Ended w ↦
-          subst P (sym w.end-is) (ended-progress tree limits job facts c.requires w.in-Ended.done (rw w.in-Ended.is at c.in_ok-done.ensures) w.in_ok-new-in-Ended.field-0
+          subst P (sym w.end-is) (ended-progress given job facts c.requires w.in-Ended.done (rw w.in-Ended.is at c.in_ok-done.ensures) w.in_ok-new-in-Ended.field-0
           (ap (λ (f : FactView). f.outcome) (w.in_ok-new-in-Ended.ensures.ok ∙ w.of-fact.ensures))
           (ap (λ (f : FactView). f.deps) (w.in_ok-new-in-Ended.ensures.ok ∙ w.of-fact.ensures) ∙ w.in_ok-deps-in-Ended.ensures.ok))
-      | in-Asks+in_ok-new-in-Asks w ↦ subst P (sym w.end-is) (asks-progress tree limits job facts c.requires w.in-Asks.job w.in-Asks._paths.items (rw w.in-Asks.is at c.in_ok-done.ensures) w.in_ok-new-in-Asks.field-0 w.in_ok-new-in-Asks.ensures.ok)
+      | in-Asks+in_ok-new-in-Asks w ↦ subst P (sym w.end-is) (asks-progress given job facts c.requires w.in-Asks.job w.in-Asks._paths.items (rw w.in-Asks.is at c.in_ok-done.ensures) w.in_ok-new-in-Asks.field-0 w.in_ok-new-in-Asks.ensures.ok)
     ] in
-    end-lacks tree limits job facts c.requires c.match-branch-3.end now
+    end-lacks given job facts c.requires c.match-branch-3.end now

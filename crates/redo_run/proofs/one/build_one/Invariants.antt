@@ -7,8 +7,8 @@ use Rattle.redo_run.proofs.one.build_one.Given as goal
 -- the board of this build runs, and no job is out
 abbrev pub invariant-loop-board : goal.invariant-loop-board
 invariant-loop-board l =
-    IsNone l.board.stopped × (jobs_out l.board ≡ 0) × (l.board.tree ≡ l.fn.tree) × (l.board.request ≡ l.request) × (l.board.limits ≡ l.fn.limits)
+    IsNone l.board.stopped × (jobs_out l.board ≡ 0) × (l.board.given ≡ record { tree = l.fn.tree; limits = l.fn.limits }) × (l.board.request ≡ l.request)
 
 -- each turn leaves fewer jobs to take
 abbrev pub decreases-loop-board : goal.decreases-loop-board
-decreases-loop-board l = takes_left l.board.limits.targets l.board.state
+decreases-loop-board l = takes_left l.board.given.limits.targets l.board.state

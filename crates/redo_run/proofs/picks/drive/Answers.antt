@@ -9,11 +9,11 @@ pub loop-done-init : goal.loop-done-init
 loop-done-init c =
     let is : c.in_ok-board.board ≡ opened c.args.tree c.args.request.now c.args.limits =
     c.in_ok-board.ensures.ok ∙ ap (λ t. opened t c.args.request.now c.args.limits) c.in_ok-new.ensures.ok in
-    let P : BoardView → Type 0 = λ v. IsNone v.stopped × (v.tree ≡ c.args.tree) × (v.request ≡ c.args.request.now) × (v.limits ≡ c.args.limits) in
+    let P : BoardView → Type 0 = λ v. IsNone v.stopped × (v.given ≡ record { tree = c.args.tree; limits = c.args.limits }) × (v.request ≡ c.args.request.now) in
     let all = subst P (sym is) (search rules) in
     record {
       running = all.0;
-      build = (all.1, all.2, all.3);
+      build = (all.1, all.2);
       out = search rules;
       leads = begins c.args.tree c.args.request.now c.args.limits c.args.picks.now c.in_ok-board.board c.new-out.result.items is c.new-out.ensures.items;
     }

@@ -9,7 +9,7 @@ use Rattle.redo_run.proofs.picks.drive.Given as goal
 abbrev pub invariant-loop-done : goal.invariant-loop-done
 invariant-loop-done l = record {
   running : IsNone l.board.stopped;
-  build : (l.board.tree ≡ l.fn.tree) × (l.board.request ≡ l.request) × (l.board.limits ≡ l.fn.limits);
+  build : (l.board.given ≡ record { tree = l.fn.tree; limits = l.fn.limits }) × (l.board.request ≡ l.request);
   out : AreOut l.board l.out.items;
   leads : driven (rules_of l.fn.tree l.fn.limits) (at_opening l.fn.tree l.request l.fn.limits) l.picks ≡
       (let rest = driven (rules_of l.fn.tree l.fn.limits) (driven_on l.board l.out.items) (drop l.done l.picks) in (rest.0, rest.1 + l.done));

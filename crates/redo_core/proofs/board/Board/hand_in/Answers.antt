@@ -1,7 +1,6 @@
 use Rattle.std.proofs.Common.{rules, ◌≡◌, ◌≤◌, ℕ, List, Option, Some, None, Ok, Err, IsNone, MatchOption, length, refl}
 use Rattle.std.proofs.Common.{sym, ap, subst, ◌∙◌, arith}
 use Rattle.std.specs.Arc.{arc_value}
-use Rattle.redo_tree.specs.Tree.{Tree}
 use Rattle.redo_build.specs.Schedule.{IsOutAt}
 use Rattle.redo_core.specs.inside.Ends.{IsEndAt}
 use Rattle.redo_core.specs.Faults.{fault_of, Refused, RefusedRunning}
@@ -18,7 +17,7 @@ use Rattle.redo_core.proofs.HandInLemmas.{taken-state, open-out, may-take, taken
 use Rattle.redo_core.proofs.HandInLemmas.{none-stopped, refused-after}
 use Rattle.redo_core.proofs.board.Board.hand_in.Goals as goal
 use Rattle.redo_core.proofs.board.Board.hand_in.Goals.{In_default, In-Some-out_at}
-use Rattle.redo_step.specs.Limits.{LimitsView}
+use Rattle.redo_core.specs.Build.{GivenView}
 
 on : (c : In_default) → c.self.inside.stopped ≡ None
 on c = none-stopped c.self.inside.stopped c.in_default.not-Some
@@ -55,11 +54,9 @@ take_in-requires c =
     let d = (goal.at-take_in-requires c).In_default in
     let e = (goal.at-take_in-requires c).In-Some-out_at in
     let b = c.self.inside in
-    let tree : c.args.piece.tree ≡ arc_value b.tree = c.requires.0 ∙ ap (λ (v : BoardView). v.tree) (sym c.self.view_is) in
-    let limits : c.args.piece.limits ≡ b.limits = c.requires.1 ∙ ap (λ (v : BoardView). v.limits) (sym c.self.view_is) in
-    let A : Tree → Type 0 = λ t. IsEndAt t c.args.piece.limits c.args.piece.target c.args.piece.turn c.into_end.result in
-    let B : LimitsView → Type 0 = λ l. IsEndAt (arc_value b.tree) l c.args.piece.target c.args.piece.turn c.into_end.result in
-    may-take b (kept d) c.args.piece.target c.args.piece.turn c.in-Some-out_at.at (slot e) c.into_end.result (subst B limits (subst A tree c.into_end.ensures))
+    let given : c.args.piece.given ≡ arc_value b.given = c.requires ∙ ap (λ (v : BoardView). v.given) (sym c.self.view_is) in
+    let A : GivenView → Type 0 = λ g. IsEndAt g c.args.piece.target c.args.piece.turn c.into_end.result in
+    may-take b (kept d) c.args.piece.target c.args.piece.turn c.in-Some-out_at.at (slot e) c.into_end.result (subst A given c.into_end.ensures)
 
 pub invariant_of-self : goal.invariant_of-self
 invariant_of-self c =
@@ -105,7 +102,7 @@ returns-in-Err-clause-err c =
     let b = c.self.inside in
     let new : BoardView = view_of (record b { table = c.take_in.new.table; stopped = Some c.in-Err.stop }) in
     let out = open-out b (kept d) c.args.piece.target c.args.piece.turn c.in-Some-out_at.at (slot e) in
-    let running = refused-after (view_of b) new c.args.piece c.in-Err.stop out (refl, refl, refl) refl (λ is.
+    let running = refused-after (view_of b) new c.args.piece c.in-Err.stop out (refl, refl) refl (λ is.
     too-many-after b (kept d) c.args.piece.target c.args.piece.turn c.in-Some-out_at.at (slot e) (c.in-Err.ensures.too_many (ap Err is))) in
     let F : HandFault → Type 0 = λ f. Refused c.args.self.now new c.args.piece f in
     let P : BoardView → Type 0 = λ v. Refused v new c.args.piece (fault_of c.in-Err.stop) in

@@ -1,7 +1,9 @@
 use Rattle.std.proofs.Common.{◌≡◌, ◌<◌, ◌≤◌, ◌*◌, ℕ, List, Err, None, length, sym, ap, subst, ◌∙◌}
 use Rattle.std.specs.Arc.{arc_value}
-use Rattle.redo_core.specs.Build.{rules_of}
-use Rattle.redo_core.specs.inside.Slots.{IsKept, IsFirstTable}
+use Rattle.redo_core.specs.Build.{GivenView, rules_for}
+use Rattle.redo_core.specs.Views.{BoardView}
+use Rattle.redo_core.specs.inside.Slots.{IsKept, IsFirstTable, state_of}
+use Rattle.redo_build.specs.Outcomes.{IsTooMany}
 use Rattle.redo_build.specs.Schedule.{State, opening, out_count}
 use Rattle.redo_build.specs.TakesLeft.{takes_left}
 use Rattle.redo_build.proofs.CountLemmas.{opening-out, opening-left}
@@ -12,12 +14,12 @@ use Rattle.redo_core.proofs.board.Board.open.Goals as goal
 use Rattle.redo_core.proofs.board.Board.open.Goals.{In_ok-table}
 
 opened-board : (c : In_ok-table) → Inside
-opened-board c = record { alloc = c.args.alloc; tree = c.args.tree; request = c.in_ok-request.request; limits = c.args.limits; table = c.in_ok-table.table; stopped = None }
+opened-board c = record { alloc = c.args.alloc; given = c.in_ok-given.given; request = c.in_ok-request.request; table = c.in_ok-table.table; stopped = None }
 
 kept : (c : In_ok-table) → IsKept (opened-board c)
 unfolding opened-board
 kept c =
-    let P : List (List ℕ) → Type 0 = λ ps. IsFirstTable (arc_value c.args.tree) c.args.limits ps c.in_ok-table.table in
+    let P : List (List ℕ) → Type 0 = λ ps. IsFirstTable (arc_value c.in_ok-given.given) ps c.in_ok-table.table in
     first-kept (opened-board c) (subst P c.deref.ensures.value c.in_ok-table.ensures.ok)
 
 pub returns-in_err-table-clause-too_many : goal.returns-in_err-table-clause-too_many
@@ -25,12 +27,16 @@ returns-in_err-table-clause-too_many c = λ is.
     let made = rw is at c.from_residual-in_err-table.ensures in
     let stop = opened-fault c.in_err-table.field-0.0 made.1 in
     let many = c.first_table.ensures.too_many (c.in_err-table.was ∙ ap Err stop) in
-    let P : List (List ℕ) → Type 0 = λ ps. c.args.limits.targets < length (opening (rules_of (arc_value c.args.tree) c.args.limits) ps).entries in
-    opening-many (arc_value c.args.tree) c.args.limits c.args.request.now (subst P (c.deref.ensures.value ∙ c.in_ok-request.ensures) many)
+    let P : List (List ℕ) → Type 0 = λ ps. (arc_value c.in_ok-given.given).limits.targets < length (opening (rules_for (arc_value c.in_ok-given.given)) ps).entries in
+    let Q : GivenView → Type 0 = λ g. IsTooMany (rules_for g) c.args.request.now g.limits.targets in
+    subst Q c.in_ok-given.ensures (opening-many (arc_value c.in_ok-given.given) c.args.request.now (subst P (c.deref.ensures.value ∙ c.in_ok-request.ensures) many))
 
 pub returns-clause-within : goal.returns-clause-within
 unfolding opened-board
-returns-clause-within c = length-entries (opened-board (goal.at-returns-clause-within c).In_ok-table) (kept (goal.at-returns-clause-within c).In_ok-table)
+returns-clause-within c =
+    let d = (goal.at-returns-clause-within c).In_ok-table in
+    let P : GivenView → Type 0 = λ g. length (state_of (opened-board d)).entries ≤ g.limits.targets in
+    subst P d.in_ok-given.ensures (length-entries (opened-board d) (kept d))
 
 pub returns-clause-part : goal.returns-clause-part
 unfolding opened-board
@@ -40,11 +46,25 @@ pub returns-clause-none_out : goal.returns-clause-none_out
 returns-clause-none_out c =
     let d = (goal.at-returns-clause-none_out c).In_ok-table in
     let P : State → Type 0 = λ s. out_count s ≡ 0 in
-    subst P (sym d.in_ok-table.ensures.ok.state) (opening-out (rules_of (arc_value c.args.tree) c.args.limits) _)
+    subst P (sym d.in_ok-table.ensures.ok.state) (opening-out (rules_for (arc_value c.in_ok-given.given)) _)
 
 pub returns-clause-left : goal.returns-clause-left
 unfolding opened-board
 returns-clause-left c =
     let d = (goal.at-returns-clause-left c).In_ok-table in
-    let P : State → Type 0 = λ s. length s.entries ≤ c.args.limits.targets → takes_left c.args.limits.targets s ≤ c.args.limits.targets * c.args.limits.targets in
-    (subst P (sym d.in_ok-table.ensures.ok.state) (λ few. opening-left (rules_of (arc_value c.args.tree) c.args.limits) _ c.args.limits.targets few)) (length-entries (opened-board d) (kept d))
+    let P : State → Type 0 = λ s. length s.entries ≤ (arc_value c.in_ok-given.given).limits.targets → takes_left (arc_value c.in_ok-given.given).limits.targets s ≤ (arc_value c.in_ok-given.given).limits.targets * (arc_value c.in_ok-given.given).limits.targets in
+    (subst P (sym d.in_ok-table.ensures.ok.state) (λ few. opening-left (rules_for (arc_value c.in_ok-given.given)) _ (arc_value c.in_ok-given.given).limits.targets few)) (length-entries (opened-board d) (kept d))
+
+-- the table's state is the opening, and what is given and asked for is what the caller said
+pub returns-clause-ok : goal.returns-clause-ok
+unfolding opened-board
+returns-clause-ok c =
+    let d = (goal.at-returns-clause-ok c).In_ok-table in
+    let given = arc_value d.in_ok-given.given in
+    let request = d.in_ok-request.request.items in
+    let S : List (List ℕ) → Type 0 = λ ps. IsFirstTable given ps d.in_ok-table.table in
+    let first = subst S d.deref.ensures.value d.in_ok-table.ensures.ok in
+    let V : GivenView → List (List ℕ) → State → BoardView = λ g ps s. record { given = g; request = ps; state = s; stopped = None } in
+    let asked : GivenView = record { tree = arc_value d.args.tree; limits = d.args.limits } in
+    ap (V given request) first.state ∙ ap (λ g. V g request (opening (rules_for g) request)) d.in_ok-given.ensures
+    ∙ ap (λ ps. V asked ps (opening (rules_for asked) ps)) d.in_ok-request.ensures

@@ -42,7 +42,7 @@ returns-clause-work c =
     let P : BoardView → Type 0 = λ v. IsWorkTaken v d.args.which c.in-Ready.work in
     let W : WorkView → Type 0 = IsWorkTaken c.args.self.now c.args.which in
     subst W (sym c.numbered.ensures.same) (subst P c.self.view_is (work_taken b (kept d) d.args.which d.in-Some.at d.index_mut-slot.result.now (first d) (there d)
-    _ refl refl refl c.in-Ready.work (sym c.replace-stage.ensures.value ∙ c.in-Ready.is) c.numbered.ensures.holds))
+    _ refl refl c.in-Ready.work (sym c.replace-stage.ensures.value ∙ c.in-Ready.is) c.numbered.ensures.holds))
 
 pub invariant_of-self : goal.invariant_of-self
 invariant_of-self c =
@@ -60,15 +60,15 @@ returns-clause-ok c =
     let d = (goal.at-returns-clause-ok c).After-replace-stage in
     let b = d.self.inside in
     rw (← c.self.view_is) (rw (c.replace-stage.ensures.after, c.in-Some.ensures.items)
-    (ap (λ s. record { tree = arc_value b.tree; request = b.request.items; limits = b.limits; state = s; stopped = b.stopped })
+    (ap (λ s. record { given = arc_value b.given; request = b.request.items; state = s; stopped = b.stopped })
     (taken_state b (kept d) d.args.which d.in-Some.at d.index_mut-slot.result.now (first d) (there d))))
 
 pub returns-clause-turn : goal.returns-clause-turn
 returns-clause-turn c =
     let d = (goal.at-returns-clause-turn c).After-replace-stage in
     let b = d.self.inside in
-    let P : BoardView → Type 0 = λ v. c.in-Ready.work.turn < v.limits.targets in
-    let W : WorkView → Type 0 = λ w. w.turn < c.args.self.now.limits.targets in
+    let P : BoardView → Type 0 = λ v. c.in-Ready.work.turn < v.given.limits.targets in
+    let W : WorkView → Type 0 = λ w. w.turn < c.args.self.now.given.limits.targets in
     subst W (sym c.numbered.ensures.same) (subst P c.self.view_is (turn_small b (kept d) d.args.which d.in-Some.at d.index_mut-slot.result.now (first d) (there d)
     c.in-Ready.work (sym c.replace-stage.ensures.value ∙ c.in-Ready.is)))
 
@@ -104,5 +104,5 @@ returns-clause-one_more c =
 pub returns-clause-left : goal.returns-clause-left
 returns-clause-left c =
     let d = (goal.at-returns-clause-left c).After-replace-stage in
-    let P : BoardView → Type 0 = λ v. takes_left v.limits.targets v.state < takes_left c.args.self.now.limits.targets c.args.self.now.state in
+    let P : BoardView → Type 0 = λ v. takes_left v.given.limits.targets v.state < takes_left c.args.self.now.given.limits.targets c.args.self.now.state in
     subst P (sym (returns-clause-ok c)) (left_less d.self.inside (kept d) (running d.self.inside.stopped _ d.args.which (count d)) d.args.which (below d) _ d.self.view_is)

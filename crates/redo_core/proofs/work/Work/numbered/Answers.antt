@@ -8,4 +8,4 @@ use Rattle.redo_core.proofs.work.Work.numbered.Goals as goal
 pub returns-clause-holds : goal.returns-clause-holds
 returns-clause-holds c =
     let P : WorkView → Type 0 = HoldsOutcomes in
-    subst P c.self.view_is (script-holds (arc_value c.self.inside.tree) c.self.inside.limits c.self.inside.script c.self.invariant)
+    subst P c.self.view_is (script-holds (arc_value c.self.inside.given) c.self.inside.script c.self.invariant)
