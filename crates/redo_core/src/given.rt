@@ -1,11 +1,13 @@
-//! What a build is given, once for all that takes part in it.
+//! What a build is given, once for all that takes part in it, and the scripts that were read.
 ghost use Rattle.std.specs.Prelude.{◌≡◌, ◌↔◌, IfOk, IsTrue, not};
 ghost use Rattle.std.specs.Arc.{arc_value};
 ghost use Rattle.redo_core.specs.Build.{rules_for};
 
+use crate::reading::Reading;
 use crate::same::is_same_tree;
 use redo_path::Path;
 use redo_step::Limits;
+use redo_sync::{Cells, Known};
 use redo_tree::Tree;
 use std::alloc::{AllocError, Global};
 use std::marker::Model;
@@ -16,6 +18,8 @@ use std::sync::Arc;
 pub(crate) struct Given {
     tree: Arc<Tree>,
     limits: Limits,
+    /// A cell for each entry of the tree, by its number: what reading a script came to that may make several targets.
+    readings: Arc<Cells<Reading>>,
 }
 
 impl Model for Given {
@@ -25,6 +29,10 @@ impl Model for Given {
     ghost Value = { GivenView };
 
     ghost view = { λ g. record { tree = arc_value g.tree; limits = g.limits } };
+
+    ghost use Rattle.std.specs.Prelude.{◌≡◌, length};
+
+    ghost invariant = { λ g. length (arc_value g.readings) ≡ length (arc_value g.tree) };
 }
 
 impl Given {
@@ -36,7 +44,32 @@ impl Given {
     ) -> Result<Arc<Given>, AllocError>
         ensures { IfOk result (λ g. arc_value g ≡ record { tree = arc_value tree; limits = limits }) }
     {
-        Ok(Arc::new(alloc, Given { tree, limits })?)
+        let readings = Cells::new(alloc, tree.len())?;
+        let given = Given {
+            tree,
+            limits,
+            readings,
+        };
+        Ok(Arc::new(alloc, given)?)
+    }
+
+    /// What reading a script came to, if that is kept. It takes no memory.
+    pub(crate) fn reading(&self, do_file: &Path) -> Result<Option<Known<Reading>>, AllocError> {
+        match self.tree.number_of(do_file) {
+            Some(number) => Cells::look(&self.readings, number),
+            None => Ok(None),
+        }
+    }
+
+    /// Keeps what reading a script came to, unless something is kept already.
+    pub(crate) fn keep(&self, do_file: &Path, reading: Reading) -> Result<(), AllocError> {
+        let Some(number) = self.tree.number_of(do_file) else {
+            return Ok(());
+        };
+        match Cells::publish(&self.readings, number, reading) {
+            Ok(_known) => Ok(()),
+            Err((_reading, error)) => Err(error),
+        }
     }
 
     /// The tree of sources.

@@ -1,6 +1,9 @@
 //! A script before its first statement.
-ghost use Rattle.std.specs.Prelude.{◌≡◌, [], IfOk};
+ghost use Rattle.std.specs.Prelude.{◌≡◌, [], IfOk, unwrap_or};
 ghost use Rattle.std.specs.Arc.{arc_value};
+ghost use Rattle.redo_script.specs.Texts.{script_in};
+ghost use Rattle.redo_step.specs.Parsed.{parsed_of};
+ghost use Rattle.redo_tree.specs.Tree.{file_at};
 ghost use Rattle.redo_which.specs.Rule.{Rule as IsRule, found_of};
 ghost use Rattle.redo_which.specs.Views.{arguments_view};
 ghost use Rattle.redo_core.specs.inside.Scripts.{IsBegunJob};
@@ -10,7 +13,70 @@ use redo_path::Path;
 use redo_step::{Job, Parsed};
 use redo_which::Rule;
 use std::alloc::{AllocError, Global};
+use std::marker::Model;
 use std::sync::Arc;
+
+/// A text, and what reading it came to.
+#[derive(Drop)]
+pub(crate) struct Reading {
+    text: Vec<u8>,
+    parsed: Arc<Parsed>,
+}
+
+impl Model for Reading {
+    ghost use Rattle.std.specs.Prelude.{◌≡◌, List, ℕ};
+    ghost use Rattle.std.specs.Arc.{arc_value};
+    ghost use Rattle.redo_script.specs.Texts.{script_in};
+    ghost use Rattle.redo_step.specs.Parsed.{parsed_of};
+
+    ghost Value = { List ℕ };
+
+    ghost view = { λ r. r.text.items };
+
+    ghost invariant = { λ r. parsed_of (arc_value r.parsed) ≡ script_in r.text.items };
+}
+
+impl Reading {
+    /// Reads a text.
+    fn of(alloc: Global, text: &[u8]) -> Result<Reading, AllocError>
+        ensures { IfOk result (λ r. r ≡ text.now) }
+    {
+        let mut own = Vec::with_capacity(alloc, text.len())?;
+        own.extend_from_slice(text)?;
+        let parsed = parsed(alloc, text)?;
+        Ok(Reading { text: own, parsed })
+    }
+
+    /// What reading the text came to.
+    fn parsed(&self) -> Result<Arc<Parsed>, AllocError>
+        ensures { IfOk result (λ parsed. parsed_of (arc_value parsed) ≡ script_in self.now) }
+    {
+        Ok(Arc::try_clone(&self.parsed)?)
+    }
+}
+
+/// Reads a text.
+fn parsed(alloc: Global, text: &[u8]) -> Result<Arc<Parsed>, AllocError>
+    ensures { IfOk result (λ parsed. parsed_of (arc_value parsed) ≡ script_in text.now) }
+{
+    Ok(Arc::new(alloc, Parsed::of(alloc, text)?)?)
+}
+
+/// Reads a script that may make several targets, unless it was read for another one and has the same text.
+fn shared(alloc: Global, given: &Given, do_file: &Path, text: &[u8]) -> Result<Arc<Parsed>, AllocError>
+    ensures { IfOk result (λ parsed. parsed_of (arc_value parsed) ≡ script_in text.now) }
+{
+    match given.reading(do_file)? {
+        Some(known) if known.read().text.as_slice() == text => known.read().parsed(),
+        Some(_) => parsed(alloc, text),
+        None => {
+            let reading = Reading::of(alloc, text)?;
+            let parsed = reading.parsed()?;
+            given.keep(do_file, reading)?;
+            Ok(parsed)
+        }
+    }
+}
 
 /// Reads the script of a target. The .do file that was found is a file of the tree.
 pub(crate) fn begun(
@@ -24,6 +90,10 @@ pub(crate) fn begun(
 {
     let tree = Arc::try_clone(given.tree())?;
     let text = tree.file(&rule.do_file).unwrap_or(b"");
-    let parsed = Arc::new(alloc, Parsed::of(alloc, text)?)?;
+    let parsed = if rule.do_file.name().starts_with(b"default") {
+        shared(alloc, given, &rule.do_file, text)?
+    } else {
+        parsed(alloc, text)?
+    };
     Job::begin(alloc, tree, target, rule, parsed, given.limits())
 }

@@ -4,7 +4,7 @@
 //! [`Tree::files`] alone, so memory may run out there and while a bundle is written.
 
 ghost use Rattle.std.specs.Prelude.{◌≡◌, ◌<◌, ◌^◌, IfOk, IfSome, OnOk, false, length, option_copied, map, nat_eq};
-ghost use Rattle.std.specs.Prelude.{option_map, List, ℕ};
+ghost use Rattle.std.specs.Prelude.{option_map, is_some, List, ℕ};
 ghost use Rattle.std.proofs.Common.{ap};
 ghost use Rattle.std.specs.Cmp.{partial_equiv_from_equiv};
 ghost use Rattle.std.specs.Cmp.Lexicographic.{bytes_decides, nat_list_eq_equiv, pointwise};
@@ -99,6 +99,15 @@ impl Tree {
         ensures small { result < 2 ^ 63 }
     {
         self.entries.len()
+    }
+
+    /// A number for the entry at a path, which no other entry has, for tables beside the tree; none where nothing stands.
+    /// Entries are numbered from 0, in the order in which they were added.
+    pub fn number_of(&self, path: &Path) -> Option<usize>
+        ensures found { is_some result ≡ is_some (node_at self.now path.now) }
+        ensures within { IfSome result (λ n. n < length self.now) }
+    {
+        self.entries.get_index_of(path)
     }
 
     /// What is kept at the path with this text.
