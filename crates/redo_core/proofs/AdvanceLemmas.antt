@@ -20,8 +20,6 @@ use Rattle.redo_build.specs.inside.Turns.{IsFact, IsPiece, progress_at_turn}
 use Rattle.redo_core.specs.inside.Works.{IsWorkWith, IsJobOf, IsStopped, AreKnownBelow, job_deps, told_in}
 use Rattle.redo_build.specs.Lacking.{lacking_under}
 use Rattle.redo_core.specs.inside.Ends.{IsEndAt, end_progress}
-use Rattle.std.specs.Arc.{arc_value}
-use Rattle.std.specs.declared.sync.Arc.{Arc}
 use Rattle.redo_core.specs.Views.{FactView}
 use Rattle.redo_core.specs.declared.work.End.{End}
 use Rattle.redo_core.specs.declared.work.End.TheVariants.{Ended, Stopped}
@@ -159,19 +157,19 @@ module _ (given : GivenView) (job : JobView) (facts : Facts) (work : IsWorkWith 
     asks-progress begun is = rw is (work-progress (record { outcome = None; deps = record_so_far later }) asks.progress)
 
   -- a fact of what it came to is the end of a piece that ended
-  pub ended-end : (done : Done) → EndsAs (told_in facts) job done → (fact : Arc FactView Global) → (arc_value {X = FactView} fact).given ≡ given →
-      (arc_value {X = FactView} fact).target ≡ job.target → (arc_value {X = FactView} fact).outcome ≡ done.outcome → (arc_value {X = FactView} fact).deps ≡ done.deps →
+  pub ended-end : (done : Done) → EndsAs (told_in facts) job done → (fact : FactView) → fact.given ≡ given →
+      fact.target ≡ job.target → fact.outcome ≡ done.outcome → fact.deps ≡ done.deps →
       IsEndAt given job.target job.turn (Ended fact)
   ended-end done ends fact of_given of_target outcome deps = record {
-    is_piece = advanced-piece (record { outcome = Some (arc_value {X = FactView} fact).outcome; deps = (arc_value {X = FactView} fact).deps }) (ends ∙ rw (outcome, deps) refl);
+    is_piece = advanced-piece (record { outcome = Some fact.outcome; deps = fact.deps }) (ends ∙ rw (outcome, deps) refl);
     is_end = (of_given, of_target);
   }
 
   -- what an end says is how far the target comes with what the work holds
-  pub ended-progress : (done : Done) → EndsAs (told_in facts) job done → (fact : Arc FactView Global) → (arc_value {X = FactView} fact).outcome ≡ done.outcome →
-      (arc_value {X = FactView} fact).deps ≡ done.deps → end_progress (Ended fact) ≡ (rules_for given).progress job.target (told_in facts)
+  pub ended-progress : (done : Done) → EndsAs (told_in facts) job done → (fact : FactView) → fact.outcome ≡ done.outcome →
+      fact.deps ≡ done.deps → end_progress (Ended fact) ≡ (rules_for given).progress job.target (told_in facts)
   ended-progress done ends fact outcome deps =
-      work-progress (record { outcome = Some (arc_value {X = FactView} fact).outcome; deps = (arc_value {X = FactView} fact).deps }) (ends ∙ rw (outcome, deps) refl)
+      work-progress (record { outcome = Some fact.outcome; deps = fact.deps }) (ends ∙ rw (outcome, deps) refl)
 
   -- the same, of a fact that is still to be made
   pub fact-parts : (done : Done) → EndsAs (told_in facts) job done → (own : GivenView) (path : List ℕ) (deps : List Dep) → own ≡ given → path ≡ job.target → deps ≡ done.deps →

@@ -1,29 +1,28 @@
 -- What facts tell.
 use Rattle.std.proofs.Common.{◌≡◌, ℕ, List, [], ◌∷◌, ◌++◌, Bool, Option, Some, None, inl, inr, map, cond, refl, sym, ap}
-use Rattle.std.proofs.Common.{◌∙◌, bytes_eq, zero, suc, ◌+◌, ◌<◌, ◌≤◌, length, drop, slice_index_or, arith, Global}
-use Rattle.std.specs.Arc.{arc_value}
+use Rattle.std.proofs.Common.{◌∙◌, bytes_eq, zero, suc, ◌+◌, ◌<◌, ◌≤◌, length, drop, slice_index_or, arith}
 use Rattle.std.specs.Map.{lookup}
 use Rattle.std.specs.Prelude.{option_map}
-use Rattle.std.specs.declared.sync.Arc.{Arc}
 use Rattle.std.proofs.lemmas.Bool.{cases_Bool, both_ways}
 use Rattle.std.proofs.lemmas.Slice.Eq.{bytes_eq-Decides}
 use Rattle.redo_record.specs.declared.outcome.Outcome.{Outcome}
+use Rattle.redo_sync.specs.Shown.{Shown}
 use Rattle.redo_core.specs.inside.Works.{few_known}
 use Rattle.redo_core.specs.Views.{FactView}
 
 -- looking up an outcome is looking up its fact
-pub lookup-known : (es : List (List ℕ × Arc FactView Global)) (p : List ℕ) →
-    lookup (bytes_eq p) (map (λ e. (e.0, (arc_value {X = FactView} e.1).outcome)) es) ≡ option_map (λ f. (arc_value {X = FactView} f).outcome) (lookup (bytes_eq p) es)
+pub lookup-known : (es : List (List ℕ × Shown FactView)) (p : List ℕ) →
+    lookup (bytes_eq p) (map (λ e. (e.0, e.1.value.outcome)) es) ≡ option_map (λ f. f.value.outcome) (lookup (bytes_eq p) es)
 lookup-known [] p = refl
 lookup-known (e ∷ es) p = elim (cases_Bool (bytes_eq p e.0)) [ inl t ↦ rw t refl | inr f ↦ rw f (lookup-known es p) ]
 
 -- facts with one more
-pub insert-told : (old new : List (List ℕ × Arc FactView Global)) (key : List ℕ) (fact : Arc FactView Global) →
+pub insert-told : (old new : List (List ℕ × Shown FactView)) (key : List ℕ) (fact : Shown FactView) →
     ((q : List ℕ) → lookup (bytes_eq q) new ≡ cond (bytes_eq key q) (Some fact) (lookup (bytes_eq q) old)) →
-    (q : List ℕ) → lookup (bytes_eq q) (map (λ e. (e.0, (arc_value {X = FactView} e.1).outcome)) new) ≡
-    cond (bytes_eq key q) (Some (arc_value {X = FactView} fact).outcome) (lookup (bytes_eq q) (map (λ e. (e.0, (arc_value {X = FactView} e.1).outcome)) old))
+    (q : List ℕ) → lookup (bytes_eq q) (map (λ e. (e.0, e.1.value.outcome)) new) ≡
+    cond (bytes_eq key q) (Some fact.value.outcome) (lookup (bytes_eq q) (map (λ e. (e.0, e.1.value.outcome)) old))
 insert-told old new key fact updates q =
-    let now = lookup-known new q ∙ ap (option_map (λ f. (arc_value {X = FactView} f).outcome)) (updates q) in
+    let now = lookup-known new q ∙ ap (option_map (λ f. f.value.outcome)) (updates q) in
     elim (cases_Bool (bytes_eq key q)) [
       | inl t ↦ rw t (rw t at now)
       | inr f ↦ rw f (let there = rw f at now in there ∙ sym (lookup-known old q))
@@ -38,9 +37,9 @@ pub lookup-append : (f : List ℕ → Bool) (ks ms : List (List ℕ × Outcome))
 lookup-append f [] ms = refl
 lookup-append f (k ∷ ks) ms = elim (cases_Bool (f k.0)) [ inl t ↦ rw t refl | inr n ↦ rw n (lookup-append f ks ms) ]
 
-pub map-push : (fs : List (Arc FactView Global)) (fact : Arc FactView Global) → few_known (fs ++ fact ∷ []) ≡ few_known fs ++ ((arc_value {X = FactView} fact).target, (arc_value {X = FactView} fact).outcome) ∷ []
+pub map-push : (fs : List (Shown FactView)) (fact : Shown FactView) → few_known (fs ++ fact ∷ []) ≡ few_known fs ++ (fact.value.target, fact.value.outcome) ∷ []
 map-push [] fact = refl
-map-push (f ∷ fs) fact = ap (λ es. ((arc_value {X = FactView} f).target, (arc_value {X = FactView} f).outcome) ∷ es) (map-push fs fact)
+map-push (f ∷ fs) fact = ap (λ es. (f.value.target, f.value.outcome) ∷ es) (map-push fs fact)
 
 pub either-way : (p q : List ℕ) → bytes_eq q p ≡ bytes_eq p q
 either-way p q = elim (cases_Bool (bytes_eq p q)) [
@@ -57,16 +56,16 @@ drop-item (x ∷ xs) zero d h = refl
 drop-item (x ∷ xs) (suc i) d h = let e : suc i + 1 ≡ suc (i + 1) = omega arith in rw e (drop-item xs i d (omega arith))
 
 -- of the facts that are left, the first answers for its target
-pub left-answers : (fs : List (Arc FactView Global)) (i : ℕ) (x : Arc FactView Global) (p : List ℕ) → i < length fs → x ≡ slice_index_or fs i x →
+pub left-answers : (fs : List (Shown FactView)) (i : ℕ) (x : Shown FactView) (p : List ℕ) → i < length fs → x ≡ slice_index_or fs i x →
     lookup (bytes_eq p) (few_known (drop i fs)) ≡
-    cond (bytes_eq (arc_value {X = FactView} x).target p) (Some (arc_value {X = FactView} x).outcome) (lookup (bytes_eq p) (few_known (drop (i + 1) fs)))
+    cond (bytes_eq x.value.target p) (Some x.value.outcome) (lookup (bytes_eq p) (few_known (drop (i + 1) fs)))
 left-answers fs i x p below is =
-    let target = (arc_value {X = FactView} x).target in
+    let target = x.value.target in
     let rest = lookup (bytes_eq p) (few_known (drop (i + 1) fs)) in
     ap (λ xs. lookup (bytes_eq p) (few_known xs)) (drop-item fs i x below ∙ ap (λ y. y ∷ drop (i + 1) fs) (sym is)) ∙
-    ap (λ b. cond b (Some (arc_value {X = FactView} x).outcome) rest) (either-way target p)
+    ap (λ b. cond b (Some x.value.outcome) rest) (either-way target p)
 
-pub none-left : (fs : List (Arc FactView Global)) (i : ℕ) → length fs ≤ i → drop i fs ≡ []
+pub none-left : (fs : List (Shown FactView)) (i : ℕ) → length fs ≤ i → drop i fs ≡ []
 none-left [] zero h = refl
 none-left [] (suc i) h = refl
 none-left (f ∷ fs) zero h = absurd (omega arith)

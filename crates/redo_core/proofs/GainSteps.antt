@@ -1,12 +1,11 @@
 -- Facts that are taken over from the table.
 use Rattle.std.proofs.Common.{◌≡◌, ℕ, ◌+◌, List, Bool, Some, None, true, false, cond, inl, inr, slice_get, refl, sym}
 use Rattle.std.proofs.Common.{ap, subst, ◌∙◌, arith, bytes_eq, Global, [], ◌∷◌, ◌++◌, Option}
-use Rattle.std.specs.Arc.{arc_value}
 use Rattle.std.specs.Map.{lookup}
-use Rattle.std.specs.declared.sync.Arc.{Arc}
 use Rattle.std.proofs.lemmas.List.{append_assoc}
 use Rattle.std.proofs.lemmas.Bool.{cases_Bool, cases_lt}
 use Rattle.std.proofs.lemmas.Slice.Eq.{bytes_eq-Decides}
+use Rattle.redo_sync.specs.Shown.{Shown}
 use Rattle.redo_core.specs.Views.{FactView}
 use Rattle.redo_record.specs.declared.outcome.Outcome.{Outcome}
 use Rattle.redo_core.specs.inside.Works.{told_in, few_known, entries_known, more_known, AddsFact}
@@ -20,7 +19,7 @@ use Rattle.redo_core.specs.declared.table.Stage.TheVariants.{Waiting, Ready, Out
 use Rattle.redo_core.proofs.FactLemmas.{insert-told, first_of, lookup-append, map-push, either-way}
 use Rattle.redo_build.proofs.DepthLemmas.{cases_Option}
 
-pub decided-fact : (stage : Stage) → is_stage_decided stage ≡ true → (fact : Arc FactView Global) × (stage ≡ Decided fact)
+pub decided-fact : (stage : Stage) → is_stage_decided stage ≡ true → (fact : Shown FactView) × (stage ≡ Decided fact)
 decided-fact (Waiting p) h = cc
 decided-fact (Ready w) h = cc
 decided-fact Out h = cc
@@ -67,42 +66,42 @@ put-first : (b : Bool) (o : Outcome) (x y : Option Outcome) → first_of (cond b
 put-first true o x y = refl
 put-first false o x y = refl
 
-pub adds-few : (fact : Arc FactView Global) (old new : Facts) → new.gained ≡ old.gained → more_known new.more ≡ more_known old.more → new.few.items ≡ old.few.items ++ fact ∷ [] →
-    AddsFact (arc_value fact) old new
+pub adds-few : (fact : Shown FactView) (old new : Facts) → new.gained ≡ old.gained → more_known new.more ≡ more_known old.more → new.few.items ≡ old.few.items ++ fact ∷ [] →
+    AddsFact fact.value old new
 adds-few fact old new same more few =
-    let key = (arc_value {X = FactView} fact).target in
-    let outcome = (arc_value {X = FactView} fact).outcome in
+    let key = fact.value.target in
+    let outcome = fact.value.outcome in
     let ks = few_known old.few.items in
     let ms = more_known old.more in
     let both = ap few_known few ∙ map-push old.few.items fact in
-    adds-fact (arc_value fact) old new (ms ++ ks) [] same
+    adds-fact fact.value old new (ms ++ ks) [] same
     (λ q. sym (first-alone (lookup (bytes_eq q) (ms ++ ks))))
     (λ q. ap (λ xs. lookup (bytes_eq q) (more_known new.more ++ xs)) both ∙ ap (λ xs. lookup (bytes_eq q) (xs ++ (ks ++ (key, outcome) ∷ []))) more ∙
     ap (lookup (bytes_eq q)) (sym (append_assoc ms ks ((key, outcome) ∷ []))) ∙ lookup-append (bytes_eq q) (ms ++ ks) ((key, outcome) ∷ []) ∙
     ap (λ b. first_of (lookup (bytes_eq q) (ms ++ ks)) (cond b (Some outcome) None)) (either-way key q))
 
-pub adds-more : (fact : Arc FactView Global) (old new : Facts) → new.gained ≡ old.gained → new.few ≡ old.few →
-    ((q : List ℕ) → lookup (bytes_eq q) (more_known new.more) ≡ cond (bytes_eq (arc_value {X = FactView} fact).target q) (Some (arc_value {X = FactView} fact).outcome) (lookup (bytes_eq q) (more_known old.more))) →
-    AddsFact (arc_value fact) old new
+pub adds-more : (fact : Shown FactView) (old new : Facts) → new.gained ≡ old.gained → new.few ≡ old.few →
+    ((q : List ℕ) → lookup (bytes_eq q) (more_known new.more) ≡ cond (bytes_eq fact.value.target q) (Some fact.value.outcome) (lookup (bytes_eq q) (more_known old.more))) →
+    AddsFact fact.value old new
 adds-more fact old new same few more =
-    let key = (arc_value {X = FactView} fact).target in
-    let outcome = (arc_value {X = FactView} fact).outcome in
+    let key = fact.value.target in
+    let outcome = fact.value.outcome in
     let ks = few_known old.few.items in
     let ms = more_known old.more in
-    adds-fact (arc_value fact) old new [] (ms ++ ks) same (λ q. refl)
-    (λ q. ap (λ (v : Vec (Arc FactView Global) Global). lookup (bytes_eq q) (more_known new.more ++ few_known v.items)) few ∙ lookup-append (bytes_eq q) (more_known new.more) ks ∙
+    adds-fact fact.value old new [] (ms ++ ks) same (λ q. refl)
+    (λ q. ap (λ (v : Vec (Shown FactView) Global). lookup (bytes_eq q) (more_known new.more ++ few_known v.items)) few ∙ lookup-append (bytes_eq q) (more_known new.more) ks ∙
     ap (λ a. first_of a (lookup (bytes_eq q) ks)) (more q) ∙ put-first (bytes_eq key q) outcome (lookup (bytes_eq q) ms) (lookup (bytes_eq q) ks) ∙
     ap (cond (bytes_eq key q) (Some outcome)) (sym (lookup-append (bytes_eq q) ms ks)))
 
-pub more-told : (fact : Arc FactView Global) (key : List ℕ) → key ≡ (arc_value {X = FactView} fact).target → (ms : List (List ℕ × Outcome)) (old new : List (List ℕ × Arc FactView Global)) →
+pub more-told : (fact : Shown FactView) (key : List ℕ) → key ≡ fact.value.target → (ms : List (List ℕ × Outcome)) (old new : List (List ℕ × Shown FactView)) →
     ms ≡ entries_known old → ((q : List ℕ) → lookup (bytes_eq q) new ≡ cond (bytes_eq key q) (Some fact) (lookup (bytes_eq q) old)) →
-    (q : List ℕ) → lookup (bytes_eq q) (entries_known new) ≡ cond (bytes_eq (arc_value {X = FactView} fact).target q) (Some (arc_value {X = FactView} fact).outcome) (lookup (bytes_eq q) ms)
+    (q : List ℕ) → lookup (bytes_eq q) (entries_known new) ≡ cond (bytes_eq fact.value.target q) (Some fact.value.outcome) (lookup (bytes_eq q) ms)
 more-told fact key same ms old new is updates q =
-    let out : Option Outcome = Some (arc_value {X = FactView} fact).outcome in
+    let out : Option Outcome = Some fact.value.outcome in
     insert-told old new key fact updates q ∙ ap (λ k. cond (bytes_eq k q) out (lookup (bytes_eq q) (entries_known old))) same ∙
-    ap (λ xs. cond (bytes_eq (arc_value {X = FactView} fact).target q) out (lookup (bytes_eq q) xs)) (sym is)
+    ap (λ xs. cond (bytes_eq fact.value.target q) out (lookup (bytes_eq q) xs)) (sym is)
 
-pub same-fact : (t : Table) (n : ℕ) (f g : Arc FactView Global) → IsFactAt t n f → IsFactAt t n g → f ≡ g
+pub same-fact : (t : Table) (n : ℕ) (f g : Shown FactView) → IsFactAt t n f → IsFactAt t n g → f ≡ g
 same-fact t n f g a b =
     let both : Some a.0 ≡ Some b.0 = sym a.1 ∙ b.1 in
     let slot : a.0 ≡ b.0 = cc in
@@ -126,7 +125,7 @@ gains-step t ns old mid new i n get before one = record {
     | inr d ↦ inr (record { k = i; n = n; fact = one.0; number = get; there = one.1; target = d.0; outcome = d.1 })
   ];
   known = λ k m fact below at there none. elim (cases_lt k i) [
-    | inl earlier ↦ before.known k m fact earlier at there (one.2.kept (arc_value {X = FactView} fact).target none)
+    | inl earlier ↦ before.known k m fact earlier at there (one.2.kept fact.value.target none)
     | inr now ↦
         let same : k ≡ i = omega (arith, below, now) in
         let P : ℕ → Type 0 = λ j. slice_get ns j ≡ Some m in
@@ -134,7 +133,7 @@ gains-step t ns old mid new i n get before one = record {
         let is : m ≡ n = cc in
         let Q : ℕ → Type 0 = λ j. IsFactAt t j fact in
         let it = same-fact t n fact one.0 (subst Q is there) one.1 in
-        let N : Arc FactView Global → Type 0 = λ f. told_in new (arc_value {X = FactView} f).target ≡ None in
+        let N : Shown FactView → Type 0 = λ f. told_in new f.value.target ≡ None in
         one.2.known (subst N it none)
   ];
 }

@@ -1,7 +1,6 @@
 -- A piece that is handed in leaves the board in the state that the schedule says.
 use Rattle.std.proofs.Common.{slice_get, ◌≡◌, ℕ, ◌<◌, ◌≤◌, List, [], length, Option, Some, None, refl, sym, ap, subst}
 use Rattle.std.proofs.Common.{◌∙◌, arith}
-use Rattle.std.specs.Arc.{arc_value}
 use Rattle.redo_build.specs.Outcomes.{outcome_at, IsTooMany}
 use Rattle.redo_build.specs.Schedule.{Entry, State, entry_of, happens, IsOutAt}
 use Rattle.redo_build.specs.Schedule.Event.{Hand_in}
@@ -27,21 +26,21 @@ module _ (b : Inside) (kept : IsKept b) (target : List ℕ) (turn at : ℕ) (o :
   path-is : path_at b.table.targets.keys at ≡ target
   path-is = rw o.path refl
 
-  entry-out : entry_of (state_of b).entries target ≡ Some (slot_entry (rules_inside b) (outcome_at (rules_inside b) (arc_value b.given).limits.targets) target o.slot)
-  entry-out = entry_of-slots (rules_inside b) (outcome_at (rules_inside b) (arc_value b.given).limits.targets) b.table.targets.keys b.table.slots.items at target o.slot (distinct-inside b kept) o.path o.there
+  entry-out : entry_of (state_of b).entries target ≡ Some (slot_entry (rules_inside b) (outcome_at (rules_inside b) b.build.limits.targets) target o.slot)
+  entry-out = entry_of-slots (rules_inside b) (outcome_at (rules_inside b) b.build.limits.targets) b.table.targets.keys b.table.slots.items at target o.slot (distinct-inside b kept) o.path o.there
 
   pub open-out : IsOutAt (state_of b) target turn
   open-out = record {
-    entry = slot_entry (rules_inside b) (outcome_at (rules_inside b) (arc_value b.given).limits.targets) target o.slot;
+    entry = slot_entry (rules_inside b) (outcome_at (rules_inside b) b.build.limits.targets) target o.slot;
     at = entry-out;
     is_out = ap is_stage_out o.is_out;
     at_turn = o.at_turn;
   }
 
-  pub may-take : (end : End) → IsEndAt (arc_value b.given) target turn end → MayTakeIn (arc_value b.given) b.table at end
+  pub may-take : (end : End) → IsEndAt b.build target turn end → MayTakeIn b.build b.table at end
   may-take end is =
-      let P : List ℕ → Type 0 = λ p. IsEndAt (arc_value b.given) p o.slot.turn end in
-      let Q : ℕ → Type 0 = λ n. IsEndAt (arc_value b.given) target n end in
+      let P : List ℕ → Type 0 = λ p. IsEndAt b.build p o.slot.turn end in
+      let Q : ℕ → Type 0 = λ n. IsEndAt b.build target n end in
       record {
         request = b.request.items;
         reached = kept.reached;
@@ -53,13 +52,13 @@ module _ (b : Inside) (kept : IsKept b) (target : List ℕ) (turn at : ℕ) (o :
         is_end = subst P (sym path-is) (subst Q (sym o.at_turn) is);
       }
 
-  pub after-is : state_after (arc_value b.given) b.table at ≡ happens (rules_inside b) (state_of b) (Hand_in target turn)
+  pub after-is : state_after b.build b.table at ≡ happens (rules_inside b) (state_of b) (Hand_in target turn)
   after-is = let H : List ℕ → State = λ p. happens (rules_inside b) (state_of b) (Hand_in p turn) in ap H path-is
 
-  pub taken-state : (u : Table) → IsTakenIn (arc_value b.given) b.table u at → state_of (record b { table = u }) ≡ happens (rules_inside b) (state_of b) (Hand_in target turn)
+  pub taken-state : (u : Table) → IsTakenIn b.build b.table u at → state_of (record b { table = u }) ≡ happens (rules_inside b) (state_of b) (Hand_in target turn)
   taken-state u taken = taken.state ∙ after-is
 
-  pub taken-kept : (u : Table) → IsTakenIn (arc_value b.given) b.table u at → IsKept (record b { table = u })
+  pub taken-kept : (u : Table) → IsTakenIn b.build b.table u at → IsKept (record b { table = u })
   taken-kept u taken =
       let P : State → Type 0 = IsReached (rules_inside b) b.request.items in
       record {
@@ -68,18 +67,18 @@ module _ (b : Inside) (kept : IsKept b) (target : List ℕ) (turn at : ℕ) (o :
         watched = taken.watched;
       }
 
-  pub too-many-after : (arc_value b.given).limits.targets < length (state_after (arc_value b.given) b.table at).entries → IsTooMany (rules_inside b) b.request.items (arc_value b.given).limits.targets
+  pub too-many-after : b.build.limits.targets < length (state_after b.build b.table at).entries → IsTooMany (rules_inside b) b.request.items b.build.limits.targets
   too-many-after many =
-      let lawful = lawful_for (arc_value b.given) in
+      let lawful = lawful_for b.build in
       let sound = happens-sound (rules_inside b) lawful b.request.items (state_of b) (Hand_in target turn) (sound-inside b kept) open-out in
-      let part = is_part (rules_inside b) lawful b.request.items (happens (rules_inside b) (state_of b) (Hand_in target turn)) sound (arc_value b.given).limits.targets in
-      let S : State → Type 0 = λ s. (arc_value b.given).limits.targets < length s.entries in
+      let part = is_part (rules_inside b) lawful b.request.items (happens (rules_inside b) (state_of b) (Hand_in target turn)) sound b.build.limits.targets in
+      let S : State → Type 0 = λ s. b.build.limits.targets < length s.entries in
       part.too_many (subst S after-is many)
 
 -- where no slot is out for a piece, its target isn't out
 pub stranger : (b : Inside) (kept : IsKept b) (target : List ℕ) (turn : ℕ) → ((at : ℕ) → IsOutSlotAt b.table target turn at → ⊥) → IsOutAt (state_of b) target turn → ⊥
 stranger b kept target turn none out =
-    let found = slot-of-path (rules_inside b) (outcome_at (rules_inside b) (arc_value b.given).limits.targets) b.table.targets.keys b.table.slots.items target out.entry out.at in
+    let found = slot-of-path (rules_inside b) (outcome_at (rules_inside b) b.build.limits.targets) b.table.targets.keys b.table.slots.items target out.entry out.at in
     none found.0 (record {
       slot = found.1;
       path = found.2;

@@ -1,9 +1,10 @@
 -- A parked job with all its answers takes over their facts and is made a work.
 use Rattle.std.proofs.Common.{slice_get, slice_set, ◌≡◌, ℕ, zero, suc, true, false, inl, inr, List, [], ◌∷◌, Option}
-use Rattle.std.proofs.Common.{Some, None, refl, sym, ap, subst, ◌∙◌, arith, bytes_eq, Global}
+use Rattle.std.proofs.Common.{Some, None, refl, sym, ap, subst, ◌∙◌, arith, bytes_eq}
 use Rattle.std.proofs.lemmas.Bool.{cases_Bool, cases_lt, both_ways}
 use Rattle.std.proofs.lemmas.Slice.Eq.{bytes_eq-Decides}
 use Rattle.redo_record.specs.declared.outcome.Outcome.{Outcome}
+use Rattle.redo_sync.specs.Shown.{Shown}
 use Rattle.redo_step.specs.JobView.{JobView}
 use Rattle.redo_record.specs.Paths.{IsAmong, is_among}
 use Rattle.redo_build.specs.Rules.{Ask, Rules, operands}
@@ -33,8 +34,6 @@ use Rattle.redo_core.proofs.NewlyReadyLemmas.{distinct-place}
 use Rattle.redo_core.proofs.NumberLemmas.{numbers-number, numbers-path}
 use Rattle.redo_build.proofs.QueueLemmas.{slice_get-among}
 use Rattle.redo_core.specs.Views.{FactView}
-use Rattle.std.specs.Arc.{arc_value}
-use Rattle.std.specs.declared.sync.Arc.{Arc}
 
 -- the slot of an entry
 pub slot-of-path : (r : Rules) (a : Ask) (ps : List (List ℕ)) (slots : List Slot) (q : List ℕ) (e : Entry) → entry_of (slot_entries r a ps slots) q ≡ Some e →
@@ -125,8 +124,8 @@ module _ (given : GivenView) (t : Table) (at : ℕ) (slot : Slot) (parked : Park
     ])
 
     -- a fact there is that of the number's path, with an outcome that is known
-    fact-known : (n : ℕ) (q : List ℕ) (fact : Arc FactView Global) → slice_get t.targets.keys n ≡ Some q → IsFactAt u n fact →
-        ((arc_value fact).target ≡ q) × (outcomes_of (table_entries (rules_for given) given.limits.targets t) q ≡ Some (arc_value fact).outcome)
+    fact-known : (n : ℕ) (q : List ℕ) (fact : Shown FactView) → slice_get t.targets.keys n ≡ Some q → IsFactAt u n fact →
+        (fact.value.target ≡ q) × (outcomes_of (table_entries (rules_for given) given.limits.targets t) q ≡ Some fact.value.outcome)
     fact-known n q fact path there =
         let get : slice_get (slice_set t.slots.items at gone) n ≡ Some there.0 = sym (ap (λ xs. slice_get xs n) slots) ∙ there.1 in
         elim (get-set_cases t.slots.items at n gone there.0 get) [
@@ -177,7 +176,7 @@ module _ (given : GivenView) (t : Table) (at : ℕ) (slot : Slot) (parked : Park
                 let fact = decided-fact decided.0.stage decided.2 in
                 let there : IsFactAt u number.0 fact.0 = (decided.0, decided.1, fact.1) in
                 let known = fact-known number.0 q fact.0 number.2 there in
-                let target : List ℕ = (arc_value {X = FactView} fact.0).target in
+                let target : List ℕ = fact.0.value.target in
                 let lost : told_in facts target ≡ None = ap (told_in facts) known.0 ∙ none in
                 g.below.known place.0 number.0 fact.0 (slice_get-below_some parked.operands.items place.0 number.0 number.1) number.1 there lost
           ]

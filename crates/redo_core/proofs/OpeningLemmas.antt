@@ -10,7 +10,6 @@ use Rattle.redo_build.specs.Outcomes.{IsTooMany}
 use Rattle.redo_core.specs.Build.{GivenView, rules_for}
 use Rattle.redo_build.specs.Schedule.{Entry, State, paths_of, entered, enqueued, opening}
 use Rattle.redo_build.specs.inside.Standing.{AreStanding}
-use Rattle.std.specs.Arc.{arc_value}
 use Rattle.redo_core.specs.declared.board.Board.TheInside.{Inside}
 use Rattle.redo_core.specs.declared.board.Stop.{Stop}
 use Rattle.redo_core.specs.declared.board.Stop.TheVariants.{TooMany, Memory}
@@ -117,7 +116,7 @@ first-is given request t u v newly_ready keys slots ready a w =
     }
 
 -- a board with the first table keeps what it shows
-pub first-kept : (b : Inside) → IsFirstTable (arc_value b.given) b.request.items b.table → IsKept b
+pub first-kept : (b : Inside) → IsFirstTable b.build b.request.items b.table → IsKept b
 first-kept b first = record {
   reached = record { events = []; all_open = tt; ends = first.state };
   table = first.table;

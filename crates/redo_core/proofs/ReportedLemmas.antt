@@ -262,16 +262,16 @@ module _ (b : Inside) (kept : IsKept b) (quiet : IsQuiet (state_of b)) where
         | inr none ↦ none
       ])
       (λ out. out-counted b.table.slots.items k slot there out
-      (sym (out_count-slots (rules_inside b) (outcome_at (rules_inside b) (arc_value b.given).limits.targets) b.table.targets.keys b.table.slots.items kept.table.one_each) ∙ quiet.1))
+      (sym (out_count-slots (rules_inside b) (outcome_at (rules_inside b) b.build.limits.targets) b.table.targets.keys b.table.slots.items kept.table.one_each) ∙ quiet.1))
 
-  target-keys : (p : List ℕ) → IsAmong b.table.targets.keys p → is_some (file_at (arc_value b.given).tree p) ≡ false
+  target-keys : (p : List ℕ) → IsAmong b.table.targets.keys p → is_some (file_at b.build.tree p) ≡ false
   target-keys p m =
       let P : List (List ℕ) → Type 0 = λ ps. IsAmong ps p in
       (sound-inside b kept).standing.targets p
-      (subst P (sym (paths_of-slots (rules_inside b) (outcome_at (rules_inside b) (arc_value b.given).limits.targets) b.table.targets.keys b.table.slots.items kept.table.one_each)) m)
+      (subst P (sym (paths_of-slots (rules_inside b) (outcome_at (rules_inside b) b.build.limits.targets) b.table.targets.keys b.table.slots.items kept.table.one_each)) m)
 
-  pub report-inside : (report : Report) → IsReportOf (arc_value b.given).tree b.request.items b.table report → IsReport (rules_inside b) b.request.items (arc_value b.given).limits.targets report
-  report-inside report made = is-report (arc_value b.given) b.request.items b.table (state_of b) refl (shows-inside b kept quiet)
+  pub report-inside : (report : Report) → IsReportOf b.build.tree b.request.items b.table report → IsReport (rules_inside b) b.request.items b.build.limits.targets report
+  report-inside report made = is-report b.build b.request.items b.table (state_of b) refl (shows-inside b kept quiet)
       kept.table.one_each (distinct-inside b kept) kept.table.fits target-keys report made
 
 no_paths : (ps : List (List ℕ)) → length ps ≡ 0 → ps ≡ []
@@ -298,12 +298,12 @@ if_ok-more (Err e) P Q f h = tt
 
 -- the report of a quiet board's table is that of its build
 pub report-view : (b : Inside) (invariant : IsNone b.stopped → IsKept b) (view : BoardView) → view_of b ≡ view → IsQuietBoard view →
-    (tree : Tree) (request : List (List ℕ)) → tree ≡ (arc_value b.given).tree → request ≡ b.request.items →
+    (tree : Tree) (request : List (List ℕ)) → tree ≡ b.build.tree → request ≡ b.request.items →
     (report : Report) → IsReportOf tree request b.table report → IsReport (rules_on view) view.request view.given.limits.targets report
 report-view b invariant view is quiet tree request of_tree of_request report made =
     let q = quiet-inside b view is quiet in
     let T : Tree → Type 0 = λ x. IsReportOf x request b.table report in
-    let R : List (List ℕ) → Type 0 = λ x. IsReportOf (arc_value b.given).tree x b.table report in
+    let R : List (List ℕ) → Type 0 = λ x. IsReportOf b.build.tree x b.table report in
     let V : BoardView → Type 0 = λ v. IsReport (rules_on v) v.request v.given.limits.targets report in
     subst V is (report-inside b (invariant q.0) q.1 report (subst R of_request (subst T of_tree made)))
 
@@ -313,7 +313,7 @@ begun-told tree p (Waiting parked) begun told is = is ∙ sym told
 begun-told tree p (Ready work) begun told is = absurd is
 begun-told tree p Out begun told is = absurd is
 begun-told tree p (Decided fact) begun told is =
-    is.1 ∙ ap (λ t. is_rule (found_of t (arc_value fact).target)) told.0 ∙ ap (λ q. is_rule (found_of tree q)) told.1
+    is.1 ∙ ap (λ t. is_rule (found_of t fact.value.target)) told.0 ∙ ap (λ q. is_rule (found_of tree q)) told.1
 
 told-stage : (r : Rules) (a : Ask) (given : GivenView) (p q : List ℕ) (turn : ℕ) (stage : Stage) → q ≡ p → Fits r a given q turn stage → IsTold given.tree p stage
 told-stage r a given p q turn (Waiting parked) same fits =
@@ -323,9 +323,9 @@ told-stage r a given p q turn Out same fits = tt
 told-stage r a given p q turn (Decided fact) same fits = (ap (λ (g : GivenView). g.tree) fits.0, fits.1 ∙ same)
 
 -- what a board's table holds is of its paths
-pub told-inside : (b : Inside) → IsKept b → (tree : Tree) → tree ≡ (arc_value b.given).tree → AllTold tree b.table
+pub told-inside : (b : Inside) → IsKept b → (tree : Tree) → tree ≡ b.build.tree → AllTold tree b.table
 told-inside b kept tree same =
     let P : Tree → Type 0 = λ t. AllTold t b.table in
     subst P (sym same) (λ k slot p there at.
-    told-stage (rules_inside b) (outcomes_of (state_of b).entries) (arc_value b.given) p (path_at b.table.targets.keys k) slot.turn slot.stage
+    told-stage (rules_inside b) (outcomes_of (state_of b).entries) b.build p (path_at b.table.targets.keys k) slot.turn slot.stage
     (rw at refl) (kept.table.fits k slot there))

@@ -19,8 +19,6 @@ use Rattle.redo_build.specs.Schedule.{moved_on, enqueued, IsOutAt}
 use Rattle.redo_build.specs.Schedule.Event.{Hand_in}
 use Rattle.redo_build.specs.inside.Standing.{decided_count}
 use Rattle.redo_build.specs.inside.Turns.{CameTo, deps_at_turn}
-use Rattle.std.specs.Arc.{arc_value}
-use Rattle.std.specs.declared.sync.Arc.{Arc}
 use Rattle.redo_core.specs.Views.{FactView}
 use Rattle.redo_core.specs.inside.Works.{job_deps, told_in, IsStopped}
 use Rattle.redo_core.specs.inside.Ends.{end_progress}
@@ -196,22 +194,22 @@ module _ (given : GivenView) (t : Table) (at : ℕ) (end : End) (may : MayTakeIn
   small = omega (arith, slice_get-below_some t.slots.items at may.slot may.there, may.table.within_limit, may.table.few)
 
   -- a script that ended asked for what is decided alone
-  module _ (fact : Arc FactView Global) (ended : end ≡ Ended fact) (u : Table) (pending : List ℕ) (d : IsDecidedAt t u at (arc_value {X = FactView} fact) pending) where
+  module _ (fact : FactView) (ended : end ≡ Ended fact) (u : Table) (pending : List ℕ) (d : IsDecidedAt t u at fact pending) where
     old-slot : d.old ≡ may.slot
     old-slot = let both : Some d.old ≡ Some may.slot = sym d.put_back.there ∙ may.there in cc
 
-    fact-now : record { outcome = Some (arc_value {X = FactView} fact).outcome; deps = (arc_value {X = FactView} fact).deps } ≡ advanced (rules_for given) (table_entries (rules_for given) given.limits.targets t) (slot_entry (rules_for given) (outcome_at (rules_for given) given.limits.targets) (path_at t.targets.keys at) may.slot)
+    fact-now : record { outcome = Some fact.outcome; deps = fact.deps } ≡ advanced (rules_for given) (table_entries (rules_for given) given.limits.targets t) (slot_entry (rules_for given) (outcome_at (rules_for given) given.limits.targets) (path_at t.targets.keys at) may.slot)
     fact-now = let P : End → Type 0 = λ x. end_progress x ≡ advanced r es e in subst P ended now-is
 
-    asked-seen : (q : List ℕ) → IsAmong (operands (rules_for given) (arc_value {X = FactView} fact).deps) q → IsAmong (paths_of (table_entries (rules_for given) given.limits.targets t)) q
+    asked-seen : (q : List ℕ) → IsAmong (operands (rules_for given) fact.deps) q → IsAmong (paths_of (table_entries (rules_for given) given.limits.targets t)) q
     asked-seen q m =
         let ask : Ask = only (operands r e.deps) (outcomes_of es) in
-        let outcome : (r.progress target ask).outcome ≡ Some (arc_value {X = FactView} fact).outcome = ap (λ (x : Progress). x.outcome) (sym fact-now) in
+        let outcome : (r.progress target ask).outcome ≡ Some fact.outcome = ap (λ (x : Progress). x.outcome) (sym fact-now) in
         let D : Progress → Type 0 = λ x. IsAmong (operands r x.deps) q in
         let asked = subst D fact-now m in
         elim (cases_Bool (is_among (operands r e.deps) q)) [
           | inl yes' ↦ sound.standing.closed target q e entry-there (is_among-true (operands r e.deps) q yes')
-          | inr no' ↦ absurd ((lawful.each target).answered q ask (arc_value {X = FactView} fact).outcome outcome asked (rw no' refl))
+          | inr no' ↦ absurd ((lawful.each target).answered q ask fact.outcome outcome asked (rw no' refl))
         ]
 
     decided-moved : table_entries (rules_for given) given.limits.targets u ≡ moved
@@ -219,10 +217,10 @@ module _ (given : GivenView) (t : Table) (at : ℕ) (end : End) (may : MayTakeIn
     decided-moved =
         let put-in = put-entries given t u [] may.table keys_distinct at d.old d.new d.put_back in
         let turn : d.new.turn ≡ may.slot.turn = d.turn ∙ ap (λ (y : Slot). y.turn) old-slot in
-        let shows = decided-shows r (outcome_at r given.limits.targets) (arc_value {X = FactView} fact) target d.new.turn d.new.stage d.stage in
-        let M : ℕ → Entry = λ n. record { path = target; turn = n; deps = (arc_value {X = FactView} fact).deps; outcome = Some (arc_value {X = FactView} fact).outcome; is_out = false } in
+        let shows = decided-shows r (outcome_at r given.limits.targets) fact target d.new.turn d.new.stage d.stage in
+        let M : ℕ → Entry = λ n. record { path = target; turn = n; deps = fact.deps; outcome = Some fact.outcome; is_out = false } in
         let E : End → List Entry = λ x. put (entered r es (operands r (end_progress x).deps)) (moved_on e (end_progress x)) in
-        let seen = entered-seen r es (operands r (arc_value {X = FactView} fact).deps) asked-seen in
+        let seen = entered-seen r es (operands r fact.deps) asked-seen in
         put-in ∙ ap (put es) (shows ∙ ap M turn) ∙ sym (ap (λ xs. put xs (M may.slot.turn)) seen) ∙ ap E (sym ended)
 
     pub decided-put : IsPutBackThere given t u at [] pending
@@ -232,14 +230,14 @@ module _ (given : GivenView) (t : Table) (at : ℕ) (end : End) (may : MayTakeIn
         let len = ap length d.put_back.slots ∙ Rattle.std.proofs.Common.length-set t.slots.items at d.new in
         let K : List (List ℕ) → Type 0 = λ xs. (k : ℕ) (p : List ℕ) → slice_get t.targets.keys k ≡ Some p → slice_get xs k ≡ Some p in
         record {
-          table = decided-table given t u [] may.table keys_distinct at (arc_value {X = FactView} fact) pending d of_fact.0 of_fact.1;
+          table = decided-table given t u [] may.table keys_distinct at fact pending d of_fact.0 of_fact.1;
           entries = decided-moved ∙ sym after-entries;
           ready = d.put_back.rest.1;
           keys_kept = λ k p h. rw d.put_back.rest.0 h;
           within = λ k m.
               let L : List ℕ → Type 0 = λ xs. IsPlace xs k in
               omega (arith, len, may.table.watchers_below at k d.old d.put_back.there (subst L d.pending_is m));
-          watched = decided-watched given t u [] may.table keys_distinct at (arc_value {X = FactView} fact) pending d of_fact.0 of_fact.1 may.watched;
+          watched = decided-watched given t u [] may.table keys_distinct at fact pending d of_fact.0 of_fact.1 may.watched;
         }
 
   -- a script that stopped

@@ -2,7 +2,6 @@
 use Rattle.std.proofs.Common.{Bool, true, false, not, zero, suc, ◌++◌, map, Vec, Global, length-set, ◌≡◌, ℕ, ◌+◌, ◌<◌}
 use Rattle.std.proofs.Common.{◌≤◌, true, false, cond, inl, inr, List, [], ◌∷◌, length, filter, Option, Some, None}
 use Rattle.std.proofs.Common.{is_some, slice_get, slice_set, slice_index_or, remove, refl, sym, ap, subst, ◌∙◌, arith}
-use Rattle.std.specs.Arc.{arc_value}
 use Rattle.std.proofs.lemmas.Bool.{cases_Bool}
 use Rattle.redo_build.specs.Rules.{Rules, operands, AreLawful, Ask}
 use Rattle.redo_record.specs.Paths.{IsAmong, AreDistinct}
@@ -37,18 +36,18 @@ use Rattle.redo_core.proofs.SlotLemmas.{state_taken, paths_of-slots, length-filt
 pub sound-inside : (b : Inside) → IsKept b → IsSound (rules_inside b) b.request.items (state_of b)
 sound-inside b kept =
     let r = rules_inside b in
-    let lawful = lawful_for (arc_value b.given) in
+    let lawful = lawful_for b.build in
     let P : State → Type 0 = IsSound r b.request.items in
     subst P (sym kept.reached.ends)
     (run-sound r lawful b.request.items (opening r b.request.items) kept.reached.events (opening-sound r lawful b.request.items) kept.reached.all_open)
 
 abbrev lawful_inside : (b : Inside) → AreLawful (rules_inside b)
-lawful_inside b = lawful_for (arc_value b.given)
+lawful_inside b = lawful_for b.build
 
 pub distinct-inside : (b : Inside) → IsKept b → AreDistinct b.table.targets.keys
 distinct-inside b kept =
     let P : List (List ℕ) → Type 0 = AreDistinct in
-    subst P (paths_of-slots (rules_inside b) (outcome_at (rules_inside b) (arc_value b.given).limits.targets) b.table.targets.keys b.table.slots.items kept.table.one_each) (sound-inside b kept).standing.distinct
+    subst P (paths_of-slots (rules_inside b) (outcome_at (rules_inside b) b.build.limits.targets) b.table.targets.keys b.table.slots.items kept.table.one_each) (sound-inside b kept).standing.distinct
 
 pub fits_one_more : (b : Inside) → IsKept b → b.table.out ≤ 65536
 fits_one_more b kept = omega (arith, kept.table.out_counted, length-filter_le (λ slot. is_stage_out slot.stage) b.table.slots.items, kept.table.within_limit, kept.table.few)
@@ -61,25 +60,25 @@ module _ (b : Inside) (kept : IsKept b) (which at : ℕ) (slot : Slot)
   pub found_path : (p : List ℕ) × (slice_get b.table.targets.keys at ≡ Some p)
   found_path = slice_get-from b.table.targets.keys at here
 
-  pub found_job : (work : Work) × (slot.stage ≡ Ready work) × IsParked (arc_value b.given) (path_at b.table.targets.keys at) slot.turn work ×
+  pub found_job : (work : Work) × (slot.stage ≡ Ready work) × IsParked b.build (path_at b.table.targets.keys at) slot.turn work ×
       AllAnswered (rules_inside b) (outcomes_of (state_of b).entries) work.deps
   found_job =
       let first' = slice_get-place b.table.ready.items which at first in
-      let job = ready-job (rules_inside b) (outcomes_of (state_of b).entries) (arc_value b.given) (path_at b.table.targets.keys at) slot.turn slot.stage
+      let job = ready-job (rules_inside b) (outcomes_of (state_of b).entries) b.build (path_at b.table.targets.keys at) slot.turn slot.stage
       (kept.table.fits at slot there) (kept.table.queue.ready_is at slot (inl first') there) in
       (job.0, job.1, job.2, job.3)
 
-  pub taken_state : state_from (rules_inside b) (arc_value b.given).limits.targets b.table.targets.keys (slice_set b.table.slots.items at (record slot { stage = Out })) (remove b.table.ready.items which) ≡
+  pub taken_state : state_from (rules_inside b) b.build.limits.targets b.table.targets.keys (slice_set b.table.slots.items at (record slot { stage = Out })) (remove b.table.ready.items which) ≡
       happens (rules_inside b) (state_of b) (Take which)
-  taken_state = state_taken (rules_inside b) (lawful_inside b) (arc_value b.given).limits.targets b.request.items b.table.targets.keys b.table.slots.items b.table.ready.items (sound-inside b kept) kept.table.one_each kept.table.within_limit
+  taken_state = state_taken (rules_inside b) (lawful_inside b) b.build.limits.targets b.request.items b.table.targets.keys b.table.slots.items b.table.ready.items (sound-inside b kept) kept.table.one_each kept.table.within_limit
       which at found_path.0 slot found_job.0 first found_path.1 there found_job.1
 
-  pub work_taken : (view : BoardView) → (view.given ≡ arc_value b.given) → (view.state ≡ state_of b) →
+  pub work_taken : (view : BoardView) → (view.given ≡ b.build) → (view.state ≡ state_of b) →
       (work : Work) → slot.stage ≡ Ready work → HoldsOutcomes work → IsWorkTaken view which work
   work_taken view given state work is holds =
       let job = found_job in
       let same : job.0 ≡ work = let both : Ready job.0 ≡ Ready work = sym job.1 ∙ is in cc in
-      let P : WorkView → Type 0 = λ w. IsParked (arc_value b.given) (path_at b.table.targets.keys at) slot.turn w in
+      let P : WorkView → Type 0 = λ w. IsParked b.build (path_at b.table.targets.keys at) slot.turn w in
       let parked = subst P same job.2 in
       let path = found_path in
       let at_path : path_at b.table.targets.keys at ≡ path.0 = rw path.1 refl in
@@ -94,9 +93,9 @@ module _ (b : Inside) (kept : IsKept b) (which at : ℕ) (slot : Slot)
             let R : State → Type 0 = λ s. entry_of s.entries work.target ≡ Some e in
             let S : List ℕ → Type 0 = λ x. entry_of (state_of b).entries x ≡ Some e in
             let now = subst S target (subst R state h) in
-            let known = entry (rules_inside b) (lawful_inside b) (arc_value b.given).limits.targets b.request.items b.table.targets.keys b.table.slots.items b.table.ready.items (sound-inside b kept) kept.table.one_each kept.table.within_limit
+            let known = entry (rules_inside b) (lawful_inside b) b.build.limits.targets b.request.items b.table.targets.keys b.table.slots.items b.table.ready.items (sound-inside b kept) kept.table.one_each kept.table.within_limit
             which at path.0 slot work first path.1 there is in
-            let e_is : slot_entry (rules_inside b) (outcome_at (rules_inside b) (arc_value b.given).limits.targets) path.0 slot ≡ e = let both = sym known ∙ now in cc in (
+            let e_is : slot_entry (rules_inside b) (outcome_at (rules_inside b) b.build.limits.targets) path.0 slot ≡ e = let both = sym known ∙ now in cc in (
               parked.2 ∙ ap (λ (x : Entry). x.turn) e_is,
               sym (deps_parked path.0) ∙ ap (λ (x : Entry). x.deps) e_is,
             );
@@ -114,7 +113,7 @@ module _ (b : Inside) (kept : IsKept b) (which at : ℕ) (slot : Slot)
             subst R (sym shown) (subst S (sym state) (subst K own (holds.exact q) ∙ same_answers));
       }
     where
-      deps_parked : (p : List ℕ) → stage_deps (rules_inside b) (outcome_at (rules_inside b) (arc_value b.given).limits.targets) p slot.turn slot.stage ≡ work.deps
+      deps_parked : (p : List ℕ) → stage_deps (rules_inside b) (outcome_at (rules_inside b) b.build.limits.targets) p slot.turn slot.stage ≡ work.deps
       deps_parked p = rw is refl
 
 pub running : {A : Type 0} (stopped : Option A) (n which : ℕ) → which < cond (is_some stopped) 0 n → is_some stopped ≡ false
@@ -202,18 +201,18 @@ module _ (b : Inside) (kept : IsKept b) (which at : ℕ) (slot : Slot)
       let slots' = slice_set b.table.slots.items at new in
       let job = found_job b kept which at slot first there in
       let path = found_path b kept which at slot first there in
-      let state : state_from r (arc_value b.given).limits.targets b.table.targets.keys slots.items ready.items ≡ happens r (state_of b) (Take which) =
-      ap (λ x. state_from r (arc_value b.given).limits.targets b.table.targets.keys x ready.items) is_slots ∙
-      ap (state_from r (arc_value b.given).limits.targets b.table.targets.keys (slice_set b.table.slots.items at (record slot { stage = Out }))) is_ready ∙
+      let state : state_from r b.build.limits.targets b.table.targets.keys slots.items ready.items ≡ happens r (state_of b) (Take which) =
+      ap (λ x. state_from r b.build.limits.targets b.table.targets.keys x ready.items) is_slots ∙
+      ap (state_from r b.build.limits.targets b.table.targets.keys (slice_set b.table.slots.items at (record slot { stage = Out }))) is_ready ∙
       taken_state b kept which at slot first there in
       let more = reached-more r b.request.items (state_of b) (Take which) kept.reached
       (omega (arith, below, length-map (path_at b.table.targets.keys) b.table.ready.items)) in
       let P : State → Type 0 = IsReached r b.request.items in
       let len = length-set b.table.slots.items at new in
       let open_stage : (stage_outcome slot.stage ≡ None) × (is_stage_out slot.stage ≡ false) = (rw job.1 refl, rw job.1 refl) in
-      let S : List Slot → Type 0 = λ xs. IsTable r (arc_value b.given) b.table.targets.keys xs ready.items (b.table.out + 1) [] in
-      let Q : List ℕ → Type 0 = λ xs. IsTable r (arc_value b.given) b.table.targets.keys slots' xs (b.table.out + 1) [] in
-      let W : List Slot → Type 0 = λ xs. AllWatched r (arc_value b.given).limits.targets b.table.targets.keys xs [] in
+      let S : List Slot → Type 0 = λ xs. IsTable r b.build b.table.targets.keys xs ready.items (b.table.out + 1) [] in
+      let Q : List ℕ → Type 0 = λ xs. IsTable r b.build b.table.targets.keys slots' xs (b.table.out + 1) [] in
+      let W : List Slot → Type 0 = λ xs. AllWatched r b.build.limits.targets b.table.targets.keys xs [] in
       record {
         reached = subst P (sym state) more;
         table = subst S (sym is_slots) (subst Q (sym is_ready) (record {
@@ -221,14 +220,14 @@ module _ (b : Inside) (kept : IsKept b) (which at : ℕ) (slot : Slot)
           within_limit = omega (arith, len, kept.table.within_limit);
           few = kept.table.few;
           out_counted = ap (λ n. n + 1) kept.table.out_counted ∙ sym (count-set b.table.slots.items at slot new there open_stage.1 refl);
-          fits = fits-set r (lawful_inside b) (arc_value b.given).limits.targets b.table.targets.keys b.table.slots.items at path.0 slot new (distinct-inside b kept) path.1 there
-              (arc_value b.given)
-              (outcomes-more r (lawful_inside b) (arc_value b.given).limits.targets b.table.targets.keys b.table.slots.items at path.0 slot new (distinct-inside b kept) path.1 there open_stage.0) kept.table.fits tt;
+          fits = fits-set r (lawful_inside b) b.build.limits.targets b.table.targets.keys b.table.slots.items at path.0 slot new (distinct-inside b kept) path.1 there
+              b.build
+              (outcomes-more r (lawful_inside b) b.build.limits.targets b.table.targets.keys b.table.slots.items at path.0 slot new (distinct-inside b kept) path.1 there open_stage.0) kept.table.fits tt;
           numbered = numbered-set r b.table.targets.keys b.table.slots.items at new tt kept.table.numbered;
           queue = queue-taken;
           watchers_below = watchers-set b.table.slots.items at slot new there (λ k m. kept.table.watchers_below at k slot there m) kept.table.watchers_below;
         }));
-        watched = subst W (sym is_slots) (watched-set b.table.slots.items at slot new there r (arc_value b.given).limits.targets b.table.targets.keys [] refl (λ k m. m) (λ t. absurd (let is : false ≡ true = t in cc)) (λ k x other. kept.watched k x));
+        watched = subst W (sym is_slots) (watched-set b.table.slots.items at slot new there r b.build.limits.targets b.table.targets.keys [] refl (λ k m. m) (λ t. absurd (let is : false ≡ true = t in cc)) (λ k x other. kept.watched k x));
       }
 
 pub slice_get-number : (xs : List ℕ) (i x : ℕ) → i < length xs → x ≡ slice_index_or xs i x → slice_get xs i ≡ Some x
@@ -251,29 +250,29 @@ below_items b which h = below_count b.stopped h
 
 -- the turn of what is taken is below the limit
 pub turn_small : (b : Inside) (kept : IsKept b) (which at : ℕ) (slot : Slot) (first : slice_get b.table.ready.items which ≡ Some at)
-    (there : slice_get b.table.slots.items at ≡ Some slot) (work : Work) → slot.stage ≡ Ready work → work.turn < (arc_value b.given).limits.targets
+    (there : slice_get b.table.slots.items at ≡ Some slot) (work : Work) → slot.stage ≡ Ready work → work.turn < b.build.limits.targets
 turn_small b kept which at slot first there work is =
     let r = rules_inside b in
     let sound = sound-inside b kept in
     let path = found_path b kept which at slot first there in
     let job = found_job b kept which at slot first there in
     let same : job.0 ≡ work = let both : Ready job.0 ≡ Ready work = sym job.1 ∙ is in cc in
-    let known = entry r (lawful_inside b) (arc_value b.given).limits.targets b.request.items b.table.targets.keys b.table.slots.items b.table.ready.items sound kept.table.one_each kept.table.within_limit
+    let known = entry r (lawful_inside b) b.build.limits.targets b.request.items b.table.targets.keys b.table.slots.items b.table.ready.items sound kept.table.one_each kept.table.within_limit
     which at path.0 slot work first path.1 there is in
     let at_path : path_at b.table.targets.keys at ≡ path.0 = rw path.1 refl in
     let spot : slice_get (state_of b).ready which ≡ Some path.0 =
     slice_get-map (path_at b.table.targets.keys) b.table.ready.items which at first ∙ ap Some at_path in
     let fed = sound.queued.ready_fed path.0 (slice_get-among (state_of b).ready which path.0 spot) in
-    let entry_is : fed.0 ≡ slot_entry r (outcome_at (rules_inside b) (arc_value b.given).limits.targets) path.0 slot = let both = sym fed.1 ∙ known in cc in
-    let below = turn-below r (lawful_for (arc_value b.given)) b.request.items (state_of b).entries sound.standing path.0 fed.0 fed.1 fed.2 fed.3 in
+    let entry_is : fed.0 ≡ slot_entry r (outcome_at (rules_inside b) b.build.limits.targets) path.0 slot = let both = sym fed.1 ∙ known in cc in
+    let below = turn-below r (lawful_for b.build) b.request.items (state_of b).entries sound.standing path.0 fed.0 fed.1 fed.2 fed.3 in
     let turn = ap (λ (x : Entry). x.turn) entry_is in
     let work_turn = ap (λ (w : WorkView). w.turn) same in
-    let paths = ap length (paths_of-slots r (outcome_at (rules_inside b) (arc_value b.given).limits.targets) b.table.targets.keys b.table.slots.items kept.table.one_each) in
+    let paths = ap length (paths_of-slots r (outcome_at (rules_inside b) b.build.limits.targets) b.table.targets.keys b.table.slots.items kept.table.one_each) in
     omega (arith, below, turn, work_turn, job.2.2, paths, kept.table.one_each, kept.table.within_limit)
 
 -- what a running board keeps is a part of its build
-pub part-inside : (b : Inside) → IsKept b → IsPartOfBuild (rules_inside b) b.request.items (arc_value b.given).limits.targets (state_of b)
-part-inside b kept = is_part (rules_inside b) (lawful_for (arc_value b.given)) b.request.items (state_of b) (sound-inside b kept) (arc_value b.given).limits.targets
+pub part-inside : (b : Inside) → IsKept b → IsPartOfBuild (rules_inside b) b.request.items b.build.limits.targets (state_of b)
+part-inside b kept = is_part (rules_inside b) (lawful_for b.build) b.request.items (state_of b) (sound-inside b kept) b.build.limits.targets
 
 slots-length : (r : Rules) (a : Ask) (ps : List (List ℕ)) (slots : List Slot) → length slots ≡ length ps → length (slot_entries r a ps slots) ≡ length slots
 slots-length r a [] [] h = refl
@@ -282,17 +281,17 @@ slots-length r a (p ∷ ps) [] h = refl
 slots-length r a (p ∷ ps) (slot ∷ slots) h = ap suc (slots-length r a ps slots (omega arith))
 
 -- a running board has no more entries than the limit allows
-pub length-entries : (b : Inside) → IsKept b → length (state_of b).entries ≤ (arc_value b.given).limits.targets
-length-entries b kept = omega (arith, kept.table.within_limit, slots-length (rules_inside b) (outcome_at (rules_inside b) (arc_value b.given).limits.targets) b.table.targets.keys b.table.slots.items kept.table.one_each)
+pub length-entries : (b : Inside) → IsKept b → length (state_of b).entries ≤ b.build.limits.targets
+length-entries b kept = omega (arith, kept.table.within_limit, slots-length (rules_inside b) (outcome_at (rules_inside b) b.build.limits.targets) b.table.targets.keys b.table.slots.items kept.table.one_each)
 
 -- a quiet board shows the build
-pub shows-inside : (b : Inside) → IsKept b → IsQuiet (state_of b) → ShowsBuild (rules_inside b) b.request.items (arc_value b.given).limits.targets (state_of b)
+pub shows-inside : (b : Inside) → IsKept b → IsQuiet (state_of b) → ShowsBuild (rules_inside b) b.request.items b.build.limits.targets (state_of b)
 shows-inside b kept quiet =
-    shows (rules_inside b) (lawful_for (arc_value b.given)) b.request.items (state_of b) (sound-inside b kept) (arc_value b.given).limits.targets quiet
-    (omega (arith, kept.table.within_limit, slots-length (rules_inside b) (outcome_at (rules_inside b) (arc_value b.given).limits.targets) b.table.targets.keys b.table.slots.items kept.table.one_each))
+    shows (rules_inside b) (lawful_for b.build) b.request.items (state_of b) (sound-inside b kept) b.build.limits.targets quiet
+    (omega (arith, kept.table.within_limit, slots-length (rules_inside b) (outcome_at (rules_inside b) b.build.limits.targets) b.table.targets.keys b.table.slots.items kept.table.one_each))
 
 abbrev pub view_of : Inside → BoardView
-view_of b = record { given = arc_value b.given; request = b.request.items; state = state_of b; stopped = b.stopped }
+view_of b = record { given = b.build; request = b.request.items; state = state_of b; stopped = b.stopped }
 
 no_paths : (ps : List (List ℕ)) → length ps ≡ 0 → ps ≡ []
 no_paths [] h = refl

@@ -1,12 +1,11 @@
 //! What a path is once it is seen for the first time.
-ghost use Rattle.std.specs.Prelude.{◌≡◌, IfOk};
-ghost use Rattle.std.specs.Arc.{arc_value};
+ghost use Rattle.std.specs.Prelude.{◌≡◌, ◌<◌, IfOk};
 ghost use Rattle.redo_which.specs.Rule.{Rule as IsRule, found_of};
 ghost use Rattle.redo_which.specs.Views.{arguments_view};
 ghost use Rattle.redo_core.specs.inside.Slots.{IsBegun};
 
+use crate::build::Build;
 use crate::fact::Fact;
-use crate::given::Given;
 use crate::table::Stage;
 use crate::work::Work;
 use redo_path::Path;
@@ -15,12 +14,14 @@ use redo_which::{Found, Rule, lookup};
 use std::alloc::{AllocError, Global};
 use std::sync::Arc;
 
-/// What a path that is seen for the first time is at once: decided where it has no rule, else ready.
-pub(crate) fn begin(alloc: Global, path: &Path, given: &Arc<Given>) -> Result<Stage, AllocError>
-    ensures { IfOk result (IsBegun (arc_value given.now) path.now) }
+/// What a path that is seen for the first time, as the target of a number, is at once: decided where it has no rule, else
+/// ready.
+pub(crate) fn begin(alloc: Global, path: &Path, build: &Build, number: usize) -> Result<Stage, AllocError>
+    requires { number < build.now.limits.targets }
+    ensures { IfOk result (IsBegun build.now path.now) }
 {
-    let (outcome, deps) = match lookup::find(alloc, given.tree(), path)? {
-        Found::Rule(rule) => return ready(alloc, path, given, rule),
+    let (outcome, deps) = match lookup::find(alloc, build.given().tree(), path)? {
+        Found::Rule(rule) => return ready(alloc, path, build, rule),
         Found::Source => (Outcome::Source, Record::none(alloc)),
         Found::Directory => (Outcome::Failed(Why::Directory), Record::none(alloc)),
         Found::NoDirectory => (Outcome::Failed(Why::NoDirectory), Record::none(alloc)),
@@ -30,18 +31,18 @@ pub(crate) fn begin(alloc: Global, path: &Path, given: &Arc<Given>) -> Result<St
         ),
     };
     let target = path.clone()?;
-    let own = Arc::try_clone(given)?;
+    let own = build.share()?;
     let deps = Arc::new(alloc, deps)?;
     let fact = Fact::of(own, target, outcome, deps, false);
-    Ok(Stage::Decided(Arc::new(alloc, fact)?))
+    Ok(Stage::Decided(build.publish(number, fact)?))
 }
 
 /// A target with a rule: its script is read when it is advanced.
-fn ready(alloc: Global, path: &Path, given: &Arc<Given>, rule: Rule) -> Result<Stage, AllocError>
-    requires { found_of (arc_value given.now).tree path.now ≡ IsRule rule.do_file rule.missing (arguments_view rule.args) }
-    ensures { IfOk result (IsBegun (arc_value given.now) path.now) }
+fn ready(alloc: Global, path: &Path, build: &Build, rule: Rule) -> Result<Stage, AllocError>
+    requires { found_of build.now.tree path.now ≡ IsRule rule.do_file rule.missing (arguments_view rule.args) }
+    ensures { IfOk result (IsBegun build.now path.now) }
 {
-    let own = Arc::try_clone(given)?;
+    let own = build.share()?;
     let target = path.clone()?;
     let work = Work::unread(alloc, own, target, rule)?;
     Ok(Stage::Ready(work))

@@ -16,8 +16,8 @@ ghost use Rattle.redo_report.specs.Reports.{IsReport};
 ghost use Rattle.redo_build.specs.TakesLeft.{takes_left};
 ghost use Rattle.redo_build.specs.Theorems.{IsPartOfBuild, ShowsBuild};
 
+use crate::build::Build;
 use crate::finish::report_of;
-use crate::given::Given;
 use crate::moves::{copied, first_table, take_in};
 use crate::same::are_same_paths;
 use crate::table::{Stage, Table, out_at};
@@ -68,14 +68,13 @@ impl<T: Drop> From<AllocFailed<T>> for Stop {
 #[derive(Drop)]
 pub struct Board {
     alloc: Global,
-    given: Arc<Given>,
+    build: Build,
     request: Vec<Path>,
     table: Table,
     stopped: Option<Stop>,
 }
 
 impl Model for Board {
-    ghost use Rattle.std.specs.Arc.{arc_value};
     ghost use Rattle.redo_core.specs.Views.{BoardView};
 
     ghost Value = { BoardView };
@@ -83,7 +82,7 @@ impl Model for Board {
     ghost use Rattle.redo_core.specs.inside.Slots.{state_of, IsBoard};
 
     ghost view = { λ b. record {
-      given = arc_value b.given;
+      given = b.build;
       request = b.request.items;
       state = state_of b;
       stopped = b.stopped;
@@ -167,11 +166,11 @@ impl Board {
             IsTooMany (rules_of (arc_value tree) limits) request.now limits.targets }
     {
         let request = copied(alloc, request)?;
-        let given = Given::new(alloc, tree, limits)?;
-        let table = first_table(alloc, &request, &given)?;
+        let build = Build::new(alloc, tree, limits)?;
+        let table = first_table(alloc, &request, &build)?;
         Ok(Board {
             alloc,
-            given,
+            build,
             request,
             table,
             stopped: None,
@@ -254,7 +253,7 @@ impl Board {
             self.alloc,
             at,
             piece.into_end(),
-            &self.given,
+            &self.build,
         ) {
             Ok(()) => Ok(()),
             Err(stop) => {
@@ -293,7 +292,7 @@ impl Board {
         requires { IsQuietBoard self }
         ensures { IfOk result (IsReport (rules_on self) self.request (limit_on self)) }
     {
-        report_of(self.alloc, self.given.tree(), &self.request, &self.table)
+        report_of(self.alloc, self.build.given().tree(), &self.request, &self.table)
     }
 
     /// Whether a piece is of the board's tree and limits, as `hand_in` asks. It compares by value, in the time of the
@@ -302,7 +301,7 @@ impl Board {
     pub fn belongs(&self, piece: &Piece) -> bool
         ensures { IsTrue result ↔ Belongs self.now piece.now }
     {
-        piece.is_of(&self.given)
+        piece.is_of(self.build.given())
     }
 
     /// Whether the board is that of this tree, request and limits, and so its report is theirs. It compares by value,
@@ -311,6 +310,6 @@ impl Board {
     pub fn is_for(&self, tree: &Tree, request: &[Path], limits: Limits) -> bool
         ensures { IsTrue result ↔ IsFor self.now tree.now request.now limits }
     {
-        are_same_paths(&self.request, request) && self.given.is(tree, limits)
+        are_same_paths(&self.request, request) && self.build.given().is(tree, limits)
     }
 }

@@ -1,6 +1,5 @@
 //! What is known of the paths that a script asked for.
 ghost use Rattle.std.specs.Prelude.{◌≡◌, [], OnOk, bytes_eq, option_copied};
-ghost use Rattle.std.specs.Arc.{arc_value};
 ghost use Rattle.std.specs.Map.{lookup};
 ghost use Rattle.redo_core.specs.inside.Works.{told_in, known_in, few_known, AddsFact};
 
@@ -9,8 +8,8 @@ use indexmap::IndexMap;
 use redo_path::Path;
 use redo_record::Outcome;
 use redo_step::Answers;
+use redo_sync::Known;
 use std::alloc::{AllocError, Global};
-use std::sync::Arc;
 
 /// Up to how many facts are compared with a path rather than hashed.
 const FEW: usize = 8;
@@ -18,8 +17,8 @@ const FEW: usize = 8;
 /// Facts: the first few, and the others by their targets.
 #[derive(Drop)]
 pub(crate) struct Facts {
-    few: Vec<Arc<Fact>>,
-    more: Option<Box<IndexMap<Path, Arc<Fact>>>>,
+    few: Vec<Known<Fact>>,
+    more: Option<Box<IndexMap<Path, Known<Fact>>>>,
     /// Of so many of the entries that the script declared first, each that is waited for has its fact here.
     pub(crate) gained: usize,
 }
@@ -52,14 +51,14 @@ impl Facts {
     }
 
     /// Adds a fact.
-    pub(crate) fn add(&mut self, fact: Arc<Fact>) -> Result<(), AllocError>
-        ensures { OnOk result (AddsFact (arc_value fact) self.old self.new) }
+    pub(crate) fn add(&mut self, fact: Known<Fact>) -> Result<(), AllocError>
+        ensures { OnOk result (AddsFact fact.value self.old self.new) }
     {
         if self.few.len() < FEW {
             self.few.push(fact)?;
             return Ok(());
         }
-        let target = fact.target().clone()?;
+        let target = fact.read().target().clone()?;
         match &mut self.more {
             Some(more) => {
                 more.insert(target, fact)?;
@@ -76,10 +75,11 @@ impl Facts {
 }
 
 /// What some facts tell of a path.
-fn told_of<'a>(facts: &'a [Arc<Fact>], path: &Path) -> Option<&'a Outcome>
+fn told_of<'a>(facts: &'a [Known<Fact>], path: &Path) -> Option<&'a Outcome>
     ensures { option_copied result ≡ lookup (bytes_eq path.now) (few_known facts.now) }
 {
     for fact in facts {
+        let fact = fact.read();
         if fact.target() == path {
             return Some(fact.outcome());
         }
@@ -95,7 +95,7 @@ impl Answers for Facts {
     fn answer(&self, path: &Path) -> Option<&Outcome> {
         match &self.more {
             Some(more) => match more.get(path) {
-                Some(fact) => Some(fact.outcome()),
+                Some(fact) => Some(fact.read().outcome()),
                 None => told_of(&self.few, path),
             },
             None => told_of(&self.few, path),

@@ -148,7 +148,7 @@ fn was_begun(stage: &Stage) -> bool
     ensures { IsBegunAs stage.now result }
 {
     match stage {
-        Stage::Decided(fact) => fact.was_begun(),
+        Stage::Decided(fact) => fact.read().was_begun(),
         Stage::Waiting(_) => true,
         Stage::Ready(_) | Stage::Out => unreachable!(),
     }
@@ -160,7 +160,10 @@ fn came_to(alloc: Global, stage: &Stage) -> Result<(Outcome, Arc<Record>), Alloc
     ensures { IfOk result (λ shown. IsShown stage.now shown.0 (arc_value shown.1)) }
 {
     match stage {
-        Stage::Decided(fact) => Ok((copied(fact.outcome())?, Arc::try_clone(fact.deps())?)),
+        Stage::Decided(fact) => {
+            let fact = fact.read();
+            Ok((copied(fact.outcome())?, Arc::try_clone(fact.deps())?))
+        }
         Stage::Waiting(parked) => Ok((
             Outcome::Cyclic,
             Arc::new(alloc, parked.begun.job.record()?)?,

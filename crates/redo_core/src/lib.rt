@@ -11,12 +11,13 @@
 //! - `laws`: what the laws of builds say of source trees and of boards, as contracts of functions that do nothing.
 //! - `board`: the board; `table`, `moves` and `begin` are its inside, and `same` compares by value.
 //! - `work`, `facts`, `fact`: a job on its way to a worker and back, and the decided targets that it knows.
-//! - `given`: what a build is given, which all of these share.
+//! - `given`: what a build is given, which all of these share; `build`: the cells of its decided targets.
 //! - `finish`: the report of a quiet board.
 #![tactic(auto)]
 
 mod begin;
 pub mod board;
+mod build;
 pub mod fact;
 mod facts;
 mod finish;

@@ -1,6 +1,5 @@
 //! What the opening and a handed in piece do to the table.
 ghost use Rattle.std.specs.Prelude.{◌≡◌, ◌<◌, ◌≤◌, ℕ, [], drop, not, is_some, length, IfOk, OnOk, Err};
-ghost use Rattle.std.specs.Arc.{arc_value};
 ghost use Rattle.redo_core.specs.Build.{rules_for};
 ghost use Rattle.redo_build.specs.Rules.{operands};
 ghost use Rattle.redo_core.specs.inside.Slots.{IsPlace, AreNumbers, IsTableOf, IsStandingTable, AreEnteredInto};
@@ -10,8 +9,8 @@ ghost use Rattle.redo_build.specs.Schedule.{opening};
 ghost use Rattle.redo_tree.specs.Tree.{file_at};
 
 use crate::board::Stop;
+use crate::build::Build;
 use crate::fact::Fact;
-use crate::given::Given;
 use crate::table::{Table, decide, enter, is_operand, park, settle};
 use crate::work::{Begun, End};
 use indexmap::IndexSet;
@@ -19,26 +18,25 @@ use redo_path::Path;
 use redo_record::Dep;
 use std::alloc::{AllocError, Global};
 use std::collections::VecDeque;
-use std::sync::Arc;
 
 /// Enters what some entries of a record wait for, as far as it is new, and gives the numbers.
 pub(crate) fn enter_all(
     table: &mut Table,
     alloc: Global,
     deps: &[Dep],
-    given: &Arc<Given>,
+    build: &Build,
     newly_ready: &mut Vec<u32>,
 ) -> Result<Vec<u32>, Stop>
-    requires table { IsTableOf (arc_value given.now) table.old newly_ready.old.items }
-    ensures ok { OnOk result (AreEnteredInto (arc_value given.now) table.old table.new newly_ready.new.items (operands (rules_for (arc_value given.now)) deps.now)) }
-    ensures numbers { IfOk result (λ ns. AreNumbers table.new.targets.keys ns.items (operands (rules_for (arc_value given.now)) deps.now)) }
+    requires table { IsTableOf build.now table.old newly_ready.old.items }
+    ensures ok { OnOk result (AreEnteredInto build.now table.old table.new newly_ready.new.items (operands (rules_for build.now) deps.now)) }
+    ensures numbers { IfOk result (λ ns. AreNumbers table.new.targets.keys ns.items (operands (rules_for build.now) deps.now)) }
     ensures too_many { result ≡ Err Stop.TooMany →
-        AreTooMany (rules_for (arc_value given.now)) (arc_value given.now).limits.targets (table_entries (rules_for (arc_value given.now)) (arc_value given.now).limits.targets table.old) (operands (rules_for (arc_value given.now)) deps.now) }
+        AreTooMany (rules_for build.now) build.now.limits.targets (table_entries (rules_for build.now) build.now.limits.targets table.old) (operands (rules_for build.now) deps.now) }
 {
     let mut numbers = Vec::with_capacity(alloc, deps.len())?;
     for dep in deps {
-        if is_operand(given, dep) {
-            let at = enter(table, alloc, &dep.path, given, newly_ready)?;
+        if is_operand(build, dep) {
+            let at = enter(table, alloc, &dep.path, build, newly_ready)?;
             numbers.push(at)?;
         }
     }
@@ -49,17 +47,17 @@ pub(crate) fn enter_all(
 pub(crate) fn settle_all(
     table: &mut Table,
     pending: &[u32],
-    given: &Arc<Given>,
+    build: &Build,
     newly_ready: &mut Vec<u32>,
 ) -> Result<(), AllocError>
     requires within { (k : ℕ) → IsPlace pending.now k → k < length table.old.slots.items }
-    requires table { IsTableOf (arc_value given.now) table.old newly_ready.old.items }
-    requires standing { IsStandingTable (arc_value given.now) table.old }
-    ensures table { OnOk result (IsTableOf (arc_value given.now) table.new newly_ready.new.items) }
-    ensures looked { OnOk result (AreLookedAt (arc_value given.now) table.old table.new pending.now) }
+    requires table { IsTableOf build.now table.old newly_ready.old.items }
+    requires standing { IsStandingTable build.now table.old }
+    ensures table { OnOk result (IsTableOf build.now table.new newly_ready.new.items) }
+    ensures looked { OnOk result (AreLookedAt build.now table.old table.new pending.now) }
 {
     for at in pending {
-        settle(table, *at, given, newly_ready)?;
+        settle(table, *at, build, newly_ready)?;
     }
     Ok(())
 }
@@ -89,16 +87,17 @@ fn conclude(
     table: &mut Table,
     alloc: Global,
     at: usize,
-    fact: Arc<Fact>,
-    given: &Arc<Given>,
+    fact: Fact,
+    build: &Build,
     newly_ready: &mut Vec<u32>,
 ) -> Result<(), AllocError>
-    requires may { MayTakeIn (arc_value given.now) table.old at (End.Ended fact) }
+    requires may { MayTakeIn build.now table.old at (End.Ended fact) }
     requires none_newly_ready { newly_ready.old.items ≡ [] }
-    ensures { OnOk result (IsPutBackThere (arc_value given.now) table.old table.new at newly_ready.new.items []) }
+    ensures { OnOk result (IsPutBackThere build.now table.old table.new at newly_ready.new.items []) }
 {
-    let watchers = decide(table, alloc, at, fact);
-    settle_all(table, &watchers, given, newly_ready)
+    let known = build.publish(at, fact)?;
+    let watchers = decide(table, alloc, at, known);
+    settle_all(table, &watchers, build, newly_ready)
 }
 
 /// Parks a job that was out and stopped, with what it asks for entered, and looks at it.
@@ -107,18 +106,18 @@ fn suspend(
     alloc: Global,
     at: usize,
     begun: Box<Begun>,
-    given: &Arc<Given>,
+    build: &Build,
     newly_ready: &mut Vec<u32>,
 ) -> Result<(), Stop>
-    requires may { MayTakeIn (arc_value given.now) table.old at (End.Stopped begun) }
+    requires may { MayTakeIn build.now table.old at (End.Stopped begun) }
     requires none_newly_ready { newly_ready.old.items ≡ [] }
-    ensures ok { OnOk result (IsPutBackThere (arc_value given.now) table.old table.new at newly_ready.new.items []) }
+    ensures ok { OnOk result (IsPutBackThere build.now table.old table.new at newly_ready.new.items []) }
     ensures too_many { result ≡ Err Stop.TooMany →
-        (arc_value given.now).limits.targets < length (state_after (arc_value given.now) table.old at).entries }
+        build.now.limits.targets < length (state_after build.now table.old at).entries }
 {
-    let operands = enter_all(table, alloc, asked(&begun), given, newly_ready)?;
+    let operands = enter_all(table, alloc, asked(&begun), build, newly_ready)?;
     park(table, at, begun, operands);
-    settle(table, at as u32, given, newly_ready)?;
+    settle(table, at as u32, build, newly_ready)?;
     Ok(())
 }
 
@@ -128,17 +127,17 @@ pub(crate) fn take_in(
     alloc: Global,
     at: usize,
     end: End,
-    given: &Arc<Given>,
+    build: &Build,
 ) -> Result<(), Stop>
-    requires { MayTakeIn (arc_value given.now) table.old at end }
-    ensures ok { OnOk result (IsTakenIn (arc_value given.now) table.old table.new at) }
+    requires { MayTakeIn build.now table.old at end }
+    ensures ok { OnOk result (IsTakenIn build.now table.old table.new at) }
     ensures too_many { result ≡ Err Stop.TooMany →
-        (arc_value given.now).limits.targets < length (state_after (arc_value given.now) table.old at).entries }
+        build.now.limits.targets < length (state_after build.now table.old at).entries }
 {
     let mut newly_ready = Vec::new(alloc);
     match end {
-        End::Ended(fact) => conclude(table, alloc, at, fact, given, &mut newly_ready)?,
-        End::Stopped(begun) => suspend(table, alloc, at, begun, given, &mut newly_ready)?,
+        End::Ended(fact) => conclude(table, alloc, at, fact, build, &mut newly_ready)?,
+        End::Stopped(begun) => suspend(table, alloc, at, begun, build, &mut newly_ready)?,
     }
     enqueue(table, newly_ready)?;
     Ok(())
@@ -160,17 +159,17 @@ fn enter_requested(
     table: &mut Table,
     alloc: Global,
     request: &[Path],
-    given: &Arc<Given>,
+    build: &Build,
     newly_ready: &mut Vec<u32>,
 ) -> Result<(), Stop>
-    requires table { IsTableOf (arc_value given.now) table.old newly_ready.old.items }
-    ensures ok { OnOk result (AreEnteredInto (arc_value given.now) table.old table.new newly_ready.new.items (targets_in (rules_for (arc_value given.now)) request.now)) }
+    requires table { IsTableOf build.now table.old newly_ready.old.items }
+    ensures ok { OnOk result (AreEnteredInto build.now table.old table.new newly_ready.new.items (targets_in (rules_for build.now) request.now)) }
     ensures too_many { result ≡ Err Stop.TooMany →
-        AreTooMany (rules_for (arc_value given.now)) (arc_value given.now).limits.targets (table_entries (rules_for (arc_value given.now)) (arc_value given.now).limits.targets table.old) (targets_in (rules_for (arc_value given.now)) request.now) }
+        AreTooMany (rules_for build.now) build.now.limits.targets (table_entries (rules_for build.now) build.now.limits.targets table.old) (targets_in (rules_for build.now) request.now) }
 {
     for path in request {
-        if given.is_target(path) {
-            enter(table, alloc, path, given, newly_ready)?;
+        if build.given().is_target(path) {
+            enter(table, alloc, path, build, newly_ready)?;
         }
     }
     Ok(())
@@ -180,13 +179,13 @@ fn enter_requested(
 pub(crate) fn first_table(
     alloc: Global,
     request: &[Path],
-    given: &Arc<Given>,
+    build: &Build,
 ) -> Result<Table, Stop>
-    ensures ok { IfOk result (λ t. IsFirstTable (arc_value given.now) request.now t) }
+    ensures ok { IfOk result (λ t. IsFirstTable build.now request.now t) }
     ensures too_many { result ≡ Err Stop.TooMany →
-        (arc_value given.now).limits.targets < length (opening (rules_for (arc_value given.now)) request.now).entries }
+        build.now.limits.targets < length (opening (rules_for build.now) request.now).entries }
 {
-    let most = given.limits().targets();
+    let most = build.given().limits().targets();
     prove!(most <= 65_536);
     let mut table = Table {
         targets: IndexSet::new(alloc),
@@ -195,7 +194,7 @@ pub(crate) fn first_table(
         out: 0,
     };
     let mut newly_ready = Vec::new(alloc);
-    enter_requested(&mut table, alloc, request, given, &mut newly_ready)?;
+    enter_requested(&mut table, alloc, request, build, &mut newly_ready)?;
     enqueue(&mut table, newly_ready)?;
     Ok(table)
 }

@@ -62,10 +62,19 @@ fn parsed(alloc: Global, text: &[u8]) -> Result<Arc<Parsed>, AllocError>
     Ok(Arc::new(alloc, Parsed::of(alloc, text)?)?)
 }
 
-/// Reads a script that may make several targets, unless it was read for another one and has the same text.
-fn shared(alloc: Global, given: &Given, do_file: &Path, text: &[u8]) -> Result<Arc<Parsed>, AllocError>
+/// Reads a script. One that may make several targets, whose name begins with `default`, is kept, and is not read again for
+/// the same text.
+fn script(
+    alloc: Global,
+    given: &Given,
+    do_file: &Path,
+    text: &[u8],
+) -> Result<Arc<Parsed>, AllocError>
     ensures { IfOk result (λ parsed. parsed_of (arc_value parsed) ≡ script_in text.now) }
 {
+    if !do_file.name().starts_with(b"default") {
+        return parsed(alloc, text);
+    }
     match given.reading(do_file)? {
         Some(known) if known.read().text.as_slice() == text => known.read().parsed(),
         Some(_) => parsed(alloc, text),
@@ -90,10 +99,6 @@ pub(crate) fn begun(
 {
     let tree = Arc::try_clone(given.tree())?;
     let text = tree.file(&rule.do_file).unwrap_or(b"");
-    let parsed = if rule.do_file.name().starts_with(b"default") {
-        shared(alloc, given, &rule.do_file, text)?
-    } else {
-        parsed(alloc, text)?
-    };
+    let parsed = script(alloc, given, &rule.do_file, text)?;
     Job::begin(alloc, tree, target, rule, parsed, given.limits())
 }

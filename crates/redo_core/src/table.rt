@@ -1,7 +1,6 @@
 //! The numbered table of the targets that were seen.
 ghost use Rattle.std.specs.Prelude.{◌≡◌, ℕ, List, ◌↔◌, ◌<◌, ◌≤◌, ◌+◌, ◌++◌, ◌∷◌, [], IsTrue, OnOk, IfOk, IfSome};
 ghost use Rattle.std.specs.Prelude.{IfNone, MatchOption, length, slice_get, Some, None};
-ghost use Rattle.std.specs.Arc.{arc_value};
 ghost use Rattle.redo_record.specs.Paths.{IsAmong, AreDistinct};
 ghost use Rattle.redo_core.specs.Build.{rules_for};
 ghost use Rattle.redo_core.specs.inside.Slots.{IsOperand, IsPlace, IsDecidedNumber, GainsOne, IsLackingAt};
@@ -13,18 +12,18 @@ ghost use Rattle.redo_core.specs.inside.Slots.{IsOutThere, Gains};
 
 use crate::begin::begin;
 use crate::board::Stop;
+use crate::build::Build;
 use crate::fact::Fact;
 use crate::facts::Facts;
-use crate::given::Given;
 use crate::work::{Begun, Work};
 use indexmap::IndexSet;
 use redo_path::Path;
 use redo_record::{Dep, DepKind};
 use redo_step::Job;
+use redo_sync::Known;
 use std::alloc::{AllocError, Global};
 use std::collections::VecDeque;
 use std::mem;
-use std::sync::Arc;
 
 /// How far a target has come.
 #[derive(Drop)]
@@ -32,7 +31,7 @@ pub enum Stage {
     Waiting(Parked),
     Ready(Work),
     Out,
-    Decided(Arc<Fact>),
+    Decided(Known<Fact>),
 }
 
 /// A job that waits.
@@ -71,10 +70,10 @@ pub(crate) fn find(targets: &IndexSet<Path>, path: &Path) -> Option<usize>
 }
 
 /// Whether an entry of a record is waited for.
-pub(crate) fn is_operand(given: &Given, dep: &Dep) -> bool
-    ensures { IsTrue result ↔ IsOperand (rules_for given.now) dep.now dep.now.path }
+pub(crate) fn is_operand(build: &Build, dep: &Dep) -> bool
+    ensures { IsTrue result ↔ IsOperand (rules_for build.now) dep.now dep.now.path }
 {
-    dep.kind == DepKind::Change && !given.is_source(&dep.path)
+    dep.kind == DepKind::Change && !build.given().is_source(&dep.path)
 }
 
 /// Whether the target of a slot is decided.
@@ -171,7 +170,7 @@ fn gain_one(table: &Table, at: u32, facts: &mut Facts) -> Result<(), AllocError>
     let Stage::Decided(fact) = &slot.stage else {
         unreachable!()
     };
-    facts.add(Arc::try_clone(fact)?)
+    facts.add(fact.again()?)
 }
 
 /// Takes over the facts of the decided targets that a job waited for, which are all that it lacked.
@@ -188,12 +187,12 @@ fn gain(table: &Table, operands: &[u32], job: &Job, facts: &mut Facts) -> Result
 }
 
 /// Makes a parked job with all its answers a work.
-pub(crate) fn make_ready(table: &mut Table, at: usize, given: &Arc<Given>) -> Result<(), AllocError>
+pub(crate) fn make_ready(table: &mut Table, at: usize, build: &Build) -> Result<(), AllocError>
     requires one_each { length table.old.slots.items ≡ length table.old.targets.keys }
-    requires fed { IsFed (arc_value given.now) table.old at }
-    ensures { OnOk result (IsMadeReadyAt (arc_value given.now) table.old table.new at) }
+    requires fed { IsFed build.now table.old at }
+    ensures { OnOk result (IsMadeReadyAt build.now table.old table.new at) }
 {
-    let own = Arc::try_clone(given)?;
+    let own = build.share()?;
     let slot = &mut table.slots[at];
     let stage = mem::replace(&mut slot.stage, Stage::Out);
     let Stage::Waiting(parked) = stage else {
@@ -215,14 +214,14 @@ pub(crate) fn make_ready(table: &mut Table, at: usize, given: &Arc<Given>) -> Re
 pub(crate) fn settle(
     table: &mut Table,
     at: u32,
-    given: &Arc<Given>,
+    build: &Build,
     newly_ready: &mut Vec<u32>,
 ) -> Result<(), AllocError>
     requires within { at < length table.old.slots.items }
-    requires table { IsTableOf (arc_value given.now) table.old newly_ready.old.items }
-    requires standing { IsStandingTable (arc_value given.now) table.old }
-    ensures table { OnOk result (IsTableOf (arc_value given.now) table.new newly_ready.new.items) }
-    ensures looked { OnOk result (IsLookedAt (arc_value given.now) table.old table.new at) }
+    requires table { IsTableOf build.now table.old newly_ready.old.items }
+    requires standing { IsStandingTable build.now table.old }
+    ensures table { OnOk result (IsTableOf build.now table.new newly_ready.new.items) }
+    ensures looked { OnOk result (IsLookedAt build.now table.old table.new at) }
 {
     let slot = &table.slots[at as usize];
     let Stage::Waiting(parked) = &slot.stage else {
@@ -235,7 +234,7 @@ pub(crate) fn settle(
         }
         None => {
             newly_ready.push(at)?;
-            make_ready(table, at as usize, given)
+            make_ready(table, at as usize, build)
         }
     }
 }
@@ -245,23 +244,23 @@ pub(crate) fn enter(
     table: &mut Table,
     alloc: Global,
     path: &Path,
-    given: &Arc<Given>,
+    build: &Build,
     newly_ready: &mut Vec<u32>,
 ) -> Result<u32, Stop>
-    requires table { IsTableOf (arc_value given.now) table.old newly_ready.old.items }
-    ensures ok { OnOk result (IsEnteredInto (arc_value given.now) table.old table.new newly_ready.new.items path.now) }
+    requires table { IsTableOf build.now table.old newly_ready.old.items }
+    ensures ok { OnOk result (IsEnteredInto build.now table.old table.new newly_ready.new.items path.now) }
     ensures number { IfOk result (λ at. slice_get table.new.targets.keys at ≡ Some path.now) }
     ensures too_many { result ≡ Err Stop.TooMany ↔
-        IsFull (rules_for (arc_value given.now)) (arc_value given.now).limits.targets (table_entries (rules_for (arc_value given.now)) (arc_value given.now).limits.targets table.old) path.now }
+        IsFull (rules_for build.now) build.now.limits.targets (table_entries (rules_for build.now) build.now.limits.targets table.old) path.now }
 {
     if let Some(at) = find(&table.targets, path) {
         return Ok(at as u32);
     }
-    if table.slots.len() >= given.limits().targets() as usize {
+    if table.slots.len() >= build.given().limits().targets() as usize {
         return Err(Stop::TooMany);
     }
     let at = table.slots.len() as u32;
-    match enter_new(table, alloc, path, given, newly_ready) {
+    match enter_new(table, alloc, path, build, newly_ready) {
         Ok(()) => Ok(at),
         Err(_) => Err(Stop::Memory),
     }
@@ -272,15 +271,15 @@ pub(crate) fn enter_new(
     table: &mut Table,
     alloc: Global,
     path: &Path,
-    given: &Arc<Given>,
+    build: &Build,
     newly_ready: &mut Vec<u32>,
 ) -> Result<(), AllocError>
     requires new { IsAmong table.old.targets.keys path.now → ⊥ }
-    requires room { length table.old.slots.items < (arc_value given.now).limits.targets }
-    requires table { IsTableOf (arc_value given.now) table.old newly_ready.old.items }
-    ensures { OnOk result (IsPushed (arc_value given.now) table.old table.new newly_ready.old.items newly_ready.new.items path.now) }
+    requires room { length table.old.slots.items < build.now.limits.targets }
+    requires table { IsTableOf build.now table.old newly_ready.old.items }
+    ensures { OnOk result (IsPushed build.now table.old table.new newly_ready.old.items newly_ready.new.items path.now) }
 {
-    let stage = begin(alloc, path, given)?;
+    let stage = begin(alloc, path, build, table.slots.len())?;
     if is_ready(&stage) {
         newly_ready.push(table.slots.len() as u32)?;
     }
@@ -295,9 +294,9 @@ pub(crate) fn enter_new(
 }
 
 /// Notes what a target that was out came to, and gives the numbers to look at again.
-pub(crate) fn decide(table: &mut Table, alloc: Global, at: usize, fact: Arc<Fact>) -> Vec<u32>
+pub(crate) fn decide(table: &mut Table, alloc: Global, at: usize, fact: Known<Fact>) -> Vec<u32>
     requires { IsOutThere table.old at }
-    ensures { IsDecidedAt table.old table.new at (arc_value fact) result.items }
+    ensures { IsDecidedAt table.old table.new at fact.value result.items }
 {
     let slot = &mut table.slots[at];
     slot.stage = Stage::Decided(fact);

@@ -84,7 +84,7 @@ pub struct Piece {
 /// How a script came to stand: it ended, or it stopped with what is left of it.
 #[derive(Drop)]
 pub(crate) enum End {
-    Ended(Arc<Fact>),
+    Ended(Fact),
     Stopped(Box<Begun>),
 }
 
@@ -221,7 +221,7 @@ fn advance_job(given: Arc<Given>, number: u32, job: Job, facts: Facts) -> Result
             let path = target.clone()?;
             let deps = Arc::new(alloc, done.deps)?;
             let fact = Fact::of(own, path, done.outcome, deps, true);
-            End::Ended(Arc::new(alloc, fact)?)
+            End::Ended(fact)
         }
         Step::Asks { job, paths: _paths } => End::Stopped(Box::new(alloc, Begun { job, facts })?),
     };

@@ -1,6 +1,5 @@
 -- How far a piece says that its job came.
 use Rattle.std.specs.Prelude.{◌≡◌, ℕ, List, Some, None}
-use Rattle.std.specs.Arc.{arc_value}
 use Rattle.redo_step.specs.JobView.{record_so_far}
 use Rattle.redo_record.specs.Progress.{Progress}
 use Rattle.redo_core.specs.Build.{GivenView, rules_for}
@@ -10,13 +9,13 @@ use Rattle.redo_core.specs.declared.work.End.{End}
 use Rattle.redo_core.specs.declared.work.End.TheVariants.{Ended, Stopped}
 
 abbrev pub end_progress : End → Progress
-end_progress (Ended fact) = record { outcome = Some (arc_value fact).outcome; deps = (arc_value fact).deps }
+end_progress (Ended fact) = record { outcome = Some fact.outcome; deps = fact.deps }
 end_progress (Stopped begun) = record { outcome = None; deps = record_so_far begun.value.job }
 
 -- what an end holds is of its target
 abbrev pub IsEndOf : GivenView → ℕ → List ℕ → ℕ → End → Type 0
 IsEndOf given depth target turn (Ended fact) =
-    ((arc_value fact).given ≡ given) × ((arc_value fact).target ≡ target)
+    (fact.given ≡ given) × (fact.target ≡ target)
 IsEndOf given depth target turn (Stopped begun) =
     IsStopped given depth target turn begun.value.job begun.value.facts
 

@@ -46,7 +46,7 @@ abbrev pub IsShown : Stage → Outcome → List Dep → Type 0
 IsShown (Waiting parked) outcome deps = (outcome ≡ Cyclic) × (deps ≡ record_so_far parked.begun.value.job)
 IsShown (Ready work) outcome deps = ⊥
 IsShown Out outcome deps = ⊥
-IsShown (Decided fact) outcome deps = (outcome ≡ (arc_value fact).outcome) × (deps ≡ (arc_value fact).deps)
+IsShown (Decided fact) outcome deps = (outcome ≡ fact.value.outcome) × (deps ≡ fact.value.deps)
 
 abbrev pub is_settled : Stage → Bool
 is_settled (Waiting parked) = true
@@ -63,7 +63,7 @@ abbrev pub IsTold : Tree → List ℕ → Stage → Type 0
 IsTold tree p (Waiting parked) = is_rule (found_of tree p) ≡ true
 IsTold tree p (Ready work) = Unit {0}
 IsTold tree p Out = Unit {0}
-IsTold tree p (Decided fact) = ((arc_value fact).given.tree ≡ tree) × ((arc_value fact).target ≡ p)
+IsTold tree p (Decided fact) = (fact.value.given.tree ≡ tree) × (fact.value.target ≡ p)
 
 abbrev pub AllTold : Tree → Table → Type 0
 AllTold tree t =
@@ -77,7 +77,7 @@ IsBegunAs (Waiting parked) begun = begun ≡ true
 IsBegunAs (Ready work) begun = ⊥
 IsBegunAs Out begun = ⊥
 IsBegunAs (Decided fact) begun =
-    (begun ≡ (arc_value fact).begun) × (begun ≡ is_rule (found_of (arc_value fact).given.tree (arc_value fact).target))
+    (begun ≡ fact.value.begun) × (begun ≡ is_rule (found_of fact.value.given.tree fact.value.target))
 
 -- the row is that of a target of the table
 pub record IsTargetRow (t : Table) (row : Row) : Type 0 where

@@ -3,14 +3,13 @@ use Rattle.std.specs.Prelude.{◌≡◌, ◌⊎◌, ℕ, ◌+◌, ◌<◌, ◌�
 use Rattle.std.specs.Prelude.{None, IsNone, if◌then◌else◌, map, length, drop, filter, slice_get, slice_set}
 use Rattle.std.specs.Prelude.{unwrap_or, IsSorted, IsPermutation, Box}
 use Rattle.std.specs.Ordering.{nat_cmp}
-use Rattle.std.specs.Arc.{arc_value}
-use Rattle.std.specs.declared.sync.Arc.{Arc}
 use Rattle.std.specs.declared.alloc.Global.{Global}
 use Rattle.std.specs.declared.vec.Vec.{Vec}
 pub use Rattle.redo_core.specs.inside.Works.{IsOperand}
 use Rattle.redo_build.specs.Rules.{Ask, Rules, Extends, operands}
 use Rattle.redo_core.specs.inside.Works.{job_deps, told_in, AddsFact, IsJobOf, GoesOn, AreKnownBelow}
 use Rattle.redo_core.specs.declared.facts.Facts.{Facts}
+use Rattle.redo_sync.specs.Shown.{Shown}
 use Rattle.redo_step.specs.JobView.{JobView}
 use Rattle.redo_record.specs.Paths.{IsAmong, AreDistinct}
 use Rattle.redo_core.specs.declared.board.Stop.TheVariants.{TooMany}
@@ -37,7 +36,7 @@ abbrev pub stage_outcome : Stage → Option Outcome
 stage_outcome (Waiting work) = None
 stage_outcome (Ready work) = None
 stage_outcome Out = None
-stage_outcome (Decided fact) = Some (arc_value fact).outcome
+stage_outcome (Decided fact) = Some fact.value.outcome
 
 abbrev pub is_stage_out : Stage → Bool
 is_stage_out (Waiting work) = false
@@ -50,7 +49,7 @@ abbrev pub stage_deps : Rules → Ask → List ℕ → ℕ → Stage → List De
 stage_deps r a p turn (Waiting parked) = job_deps parked.begun.value.job
 stage_deps r a p turn (Ready work) = work.deps
 stage_deps r a p turn Out = deps_at_turn r p a turn
-stage_deps r a p turn (Decided fact) = (arc_value fact).deps
+stage_deps r a p turn (Decided fact) = fact.value.deps
 
 -- the entry that the slot of a path stands for, under the outcomes known
 abbrev pub slot_entry : Rules → Ask → List ℕ → Slot → Entry
@@ -85,11 +84,11 @@ state_from r depth ps slots ready = record {
 }
 
 abbrev pub rules_inside : Inside → Rules
-rules_inside b = rules_for (arc_value b.given)
+rules_inside b = rules_for b.build
 
 -- the state that a board keeps
 abbrev pub state_of : Inside → State
-state_of b = state_from (rules_inside b) (arc_value b.given).limits.targets b.table.targets.keys b.table.slots.items b.table.ready.items
+state_of b = state_from (rules_inside b) b.build.limits.targets b.table.targets.keys b.table.slots.items b.table.ready.items
 
 -- a slot whose job is parked has that job at its place
 abbrev pub IsParked : GivenView → List ℕ → ℕ → WorkView → Type 0
@@ -134,7 +133,7 @@ Fits r a given p turn (Waiting parked) = IsWaitingWith r a given p turn parked
 Fits r a given p turn (Ready work) = IsParked given p turn work × AllAnswered r a work.deps
 Fits r a given p turn Out = Unit {0}
 Fits r a given p turn (Decided fact) =
-    ((arc_value fact).given ≡ given) × ((arc_value fact).target ≡ p)
+    (fact.value.given ≡ given) × (fact.value.target ≡ p)
 
 -- a job that waits has the numbers of what it waits for
 abbrev pub IsNumbered : Rules → List (List ℕ) → Stage → Type 0
@@ -218,13 +217,13 @@ IsTableOf given t newly_ready =
 -- what a board keeps: a state that is reached, and a table with nothing left to do
 pub record IsKept (b : Inside) : Type 0 where
   pub reached : IsReached (rules_inside b) b.request.items (state_of b)
-  pub table : IsTableOf (arc_value b.given) b.table []
-  pub watched : AllWatched (rules_inside b) (arc_value b.given).limits.targets b.table.targets.keys b.table.slots.items []
+  pub table : IsTableOf b.build b.table []
+  pub watched : AllWatched (rules_inside b) b.build.limits.targets b.table.targets.keys b.table.slots.items []
 
 -- a board keeps what it shows while it runs, and has stopped at the limit only where the build needs too many
 pub record IsBoard (b : Inside) : Type 0 where
   pub kept : IsNone b.stopped → IsKept b
-  pub too_many : b.stopped ≡ Some TooMany → IsTooMany (rules_inside b) b.request.items (arc_value b.given).limits.targets
+  pub too_many : b.stopped ≡ Some TooMany → IsTooMany (rules_inside b) b.request.items b.build.limits.targets
 
 abbrev pub is_stage_decided : Stage → Bool
 is_stage_decided (Waiting parked) = false
@@ -264,29 +263,29 @@ IsStandingTable given t =
     AreStanding (rules_for given) request (table_entries (rules_for given) given.limits.targets t)
 
 -- the fact of a number whose target is decided
-abbrev pub IsFactAt : Table → ℕ → Arc FactView Global → Type 0
+abbrev pub IsFactAt : Table → ℕ → Shown FactView → Type 0
 IsFactAt t n fact = (slot : Slot) × (slice_get t.slots.items n ≡ Some slot) × (slot.stage ≡ Decided fact)
 
 -- one of these numbers is that of a target with a fact that tells this
 pub record IsToldBy (t : Table) (ns : List ℕ) (q : List ℕ) (o : Outcome) : Type 0 where
   pub k : ℕ
   pub n : ℕ
-  pub fact : Arc FactView Global
+  pub fact : Shown FactView
   pub number : slice_get ns k ≡ Some n
   pub there : IsFactAt t n fact
-  pub target : (arc_value fact).target ≡ q
-  pub outcome : (arc_value fact).outcome ≡ o
+  pub target : fact.value.target ≡ q
+  pub outcome : fact.value.outcome ≡ o
 
 -- the facts hold that of one number too
 abbrev pub GainsOne : Table → ℕ → Facts → Facts → Type 0
-GainsOne t n old new = (fact : Arc FactView Global) × IsFactAt t n fact × AddsFact (arc_value fact) old new
+GainsOne t n old new = (fact : Shown FactView) × IsFactAt t n fact × AddsFact fact.value old new
 
 -- the facts hold those of the numbers before a place, and hold nothing else that is new
 pub record GainsBelow (t : Table) (ns : List ℕ) (old new : Facts) (i : ℕ) : Type 0 where
   pub kept : (q : List ℕ) → told_in new q ≡ None → told_in old q ≡ None
   pub origin : (q : List ℕ) (o : Outcome) → told_in new q ≡ Some o → (told_in old q ≡ Some o) ⊎ IsToldBy t ns q o
-  pub known : (k n : ℕ) (fact : Arc FactView Global) → k < i → slice_get ns k ≡ Some n → IsFactAt t n fact →
-      told_in new (arc_value fact).target ≡ None → ⊥
+  pub known : (k n : ℕ) (fact : Shown FactView) → k < i → slice_get ns k ≡ Some n → IsFactAt t n fact →
+      told_in new fact.value.target ≡ None → ⊥
 
 -- the facts hold those of all the numbers, and hold nothing else that is new: so they have those of all the job's
 -- entries
@@ -372,10 +371,10 @@ IsBegun given p (Ready work) =
     IsParked given p 0 work × (work.deps ≡ []) × ((rules_for given).has_rule p ≡ true)
 IsBegun given p Out = ⊥
 IsBegun given p (Decided fact) =
-    ((arc_value fact).given ≡ given) × ((arc_value fact).target ≡ p) ×
+    (fact.value.given ≡ given) × (fact.value.target ≡ p) ×
     ((rules_for given).has_rule p ≡ false) ×
     ((rules_for given).progress p nothing_known ≡
-    record { outcome = Some (arc_value fact).outcome; deps = (arc_value fact).deps })
+    record { outcome = Some fact.value.outcome; deps = fact.value.deps })
 
 -- a new path has a slot behind the others
 pub record IsPushed (given : GivenView) (t u : Table) (newly_ready newly_ready' : List ℕ) (p : List ℕ) : Type 0 where
@@ -437,7 +436,7 @@ abbrev pub IsDecidedStage : FactView → Stage → Type 0
 IsDecidedStage fact (Waiting parked) = ⊥
 IsDecidedStage fact (Ready work) = ⊥
 IsDecidedStage fact Out = ⊥
-IsDecidedStage fact (Decided held) = arc_value held ≡ fact
+IsDecidedStage fact (Decided held) = held.value ≡ fact
 
 abbrev pub IsParkedStage : Box Begun Global → Vec ℕ Global → Stage → Type 0
 IsParkedStage begun operands (Waiting parked) = parked ≡ record { begun = begun; operands = operands; held = 0 }

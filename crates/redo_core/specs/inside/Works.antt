@@ -1,8 +1,6 @@
 -- Jobs as the board keeps them, with the outcomes that they hold.
 use Rattle.std.specs.Prelude.{◌≡◌, ◌⊎◌, ℕ, zero, suc, false, ◌+◌, ◌<◌, ◌≤◌, List, [], Some, None, map, length}
 use Rattle.std.specs.Prelude.{slice_get, unwrap_or, Box, Option, ◌++◌}
-use Rattle.std.specs.Arc.{arc_value}
-use Rattle.std.specs.declared.sync.Arc.{Arc}
 use Rattle.std.specs.declared.alloc.Global.{Global}
 use Rattle.indexmap.specs.IndexMap.{IndexMap}
 use Rattle.redo_script.specs.Texts.{script_in}
@@ -10,6 +8,7 @@ use Rattle.redo_tree.specs.Tree.{file_at}
 use Rattle.redo_which.specs.Rule.{Rule, found_of}
 use Rattle.redo_record.specs.declared.deps.Dep.{Dep}
 use Rattle.redo_record.specs.declared.outcome.Outcome.{Outcome}
+use Rattle.redo_sync.specs.Shown.{Shown}
 use Rattle.redo_step.specs.JobView.{JobView, job_setting, whole_of, IsFit, record_so_far}
 use Rattle.redo_step.specs.Reach.{Keeps}
 use Rattle.redo_record.specs.Paths.{IsAmong}
@@ -22,13 +21,13 @@ use Rattle.redo_core.specs.Views.{FactView, WorkView, told_by}
 use Rattle.redo_core.specs.declared.facts.Facts.{Facts}
 
 -- the paths of some facts with their outcomes
-abbrev pub few_known : List (Arc FactView Global) → List (List ℕ × Outcome)
-few_known facts = map (λ f. ((arc_value {X = FactView} f).target, (arc_value {X = FactView} f).outcome)) facts
+abbrev pub few_known : List (Shown FactView) → List (List ℕ × Outcome)
+few_known facts = map (λ f. (f.value.target, f.value.outcome)) facts
 
-abbrev pub entries_known : List (List ℕ × Arc FactView Global) → List (List ℕ × Outcome)
-entries_known es = map (λ e. (e.0, (arc_value {X = FactView} e.1).outcome)) es
+abbrev pub entries_known : List (List ℕ × Shown FactView) → List (List ℕ × Outcome)
+entries_known es = map (λ e. (e.0, e.1.value.outcome)) es
 
-abbrev pub more_known : {S : Type 0} → Option (Box (IndexMap (List ℕ) (Arc FactView Global) S) Global) →
+abbrev pub more_known : {S : Type 0} → Option (Box (IndexMap (List ℕ) (Shown FactView) S) Global) →
     List (List ℕ × Outcome)
 more_known None = []
 more_known (Some more) = entries_known more.value.entries

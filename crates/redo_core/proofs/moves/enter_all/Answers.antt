@@ -1,6 +1,5 @@
 use Rattle.std.proofs.Common.{◌≡◌, ℕ, List, [], ◌∷◌, ◌++◌, Err, take, refl, sym, ap, subst, ◌∙◌, append-nil, true}
 use Rattle.std.proofs.Common.{false}
-use Rattle.std.specs.Arc.{arc_value}
 use Rattle.redo_core.specs.Build.{GivenView, rules_for}
 use Rattle.redo_build.specs.Rules.{operands}
 use Rattle.redo_core.specs.inside.Slots.{IsOperand, AreEnteredInto, AreNumbers, table_entries}
@@ -13,27 +12,25 @@ use Rattle.redo_core.proofs.moves.enter_all.Goals.{then-is_operand+in_ok-at+in_o
 pub returns-in_err-at-clause-too_many : goal.returns-in_err-at-clause-too_many
 returns-in_err-at-clause-too_many c = λ is.
     let made = rw is at c.from_residual-in_err-at.ensures in
-    let given : GivenView = arc_value c.args.given.now in
+    let given : GivenView = c.args.build.now in
     let i = c.loop-dep.dep-index in
     let get = slice_get-item c.args.deps.now i c.dep-item.result c.loop-dep-test.true c.dep-item.is in
-    let T : GivenView → Type 0 = λ x. IsOperand (rules_for x) c.dep-item.result c.dep-item.result.path in
     let err = c.in_err-at.was ∙ ap Err (sym made.1) in
-    too-many (rules_for given) (table_entries (rules_for given) (arc_value c.args.given.now).limits.targets c.args.table.now) (table_entries (rules_for given) (arc_value c.args.given.now).limits.targets c.loop-dep.table)
-    (arc_value c.args.given.now).limits.targets c.args.deps.now i c.dep-item.result get (subst T c.deref.ensures (c.if-is_operand.ensures.0 refl)) c.loop-dep.invariant.0.entries (c.enter.ensures.too_many.0 err)
+    too-many (rules_for given) (table_entries (rules_for given) c.args.build.now.limits.targets c.args.table.now) (table_entries (rules_for given) c.args.build.now.limits.targets c.loop-dep.table)
+    c.args.build.now.limits.targets c.args.deps.now i c.dep-item.result get (c.if-is_operand.ensures.0 refl) c.loop-dep.invariant.0.entries (c.enter.ensures.too_many.0 err)
 
 pub loop-dep-preserved : goal.loop-dep-preserved
 loop-dep-preserved c =
-    let given : GivenView = arc_value c.args.given.now in
+    let given : GivenView = c.args.build.now in
     let i = c.loop-dep.dep-index in
     let get = slice_get-item c.args.deps.now i c.dep-item.result c.loop-dep-test.true c.dep-item.is in
     let more = operands-more (rules_for given) c.args.deps.now i c.dep-item.result get in
     let so_far = operands (rules_for given) (take i c.args.deps.now) in
     let P : List (List ℕ) → Type 0 = λ ps. AreEnteredInto given c.args.table.now c.if-is_operand.table c.if-is_operand.newly_ready.items ps ×
     AreNumbers c.if-is_operand.table.targets.keys c.if-is_operand.numbers.items ps in
-    let T : GivenView → Type 0 = λ x. IsOperand (rules_for x) c.dep-item.result c.dep-item.result.path in
     elim c.if-is_operand.branch [
       | then-is_operand+in_ok-at+in_ok-push w ↦
-          let one = one-operand (rules_for given) c.dep-item.result (subst T c.deref.ensures (w.if-is_operand.ensures.0 refl)) in
+          let one = one-operand (rules_for given) c.dep-item.result (w.if-is_operand.ensures.0 refl) in
           let kept = numbers-kept c.loop-dep.table.targets.keys w.enter.new.table.targets.keys w.in_ok-at.ensures.ok.keys_kept c.loop-dep.numbers.items so_far c.loop-dep.invariant.1 in
           let N : List ℕ → Type 0 = λ ns. AreNumbers w.enter.new.table.targets.keys ns (so_far ++ c.dep-item.result.path ∷ []) in
           subst P (sym (more ∙ ap (λ xs. so_far ++ xs) one))
@@ -44,7 +41,7 @@ loop-dep-preserved c =
           ))
       | else-is_operand w ↦
           let un : IsOperand (rules_for given) c.dep-item.result c.dep-item.result.path → ⊥ = λ is.
-          (let h : false ≡ true = w.if-is_operand.ensures.1 (subst T (sym c.deref.ensures) is) in cc) in
+          (let h : false ≡ true = w.if-is_operand.ensures.1 is in cc) in
           let none = no-operand (rules_for given) c.dep-item.result un in
           subst P (sym (more ∙ ap (λ xs. so_far ++ xs) none ∙ append-nil so_far)) (rw (w.table-is, w.newly_ready-is, w.numbers-is) c.loop-dep.invariant)
     ]

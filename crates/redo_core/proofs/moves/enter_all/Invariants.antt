@@ -1,10 +1,9 @@
 use Rattle.std.proofs.Common.{take}
-use Rattle.std.specs.Arc.{arc_value}
 use Rattle.redo_core.specs.Build.{rules_for}
 use Rattle.redo_build.specs.Rules.{operands}
 use Rattle.redo_core.specs.inside.Slots.{AreEnteredInto, AreNumbers}
 use Rattle.redo_core.proofs.moves.enter_all.Given as goal
 
 abbrev pub invariant-loop-dep : goal.invariant-loop-dep
-invariant-loop-dep l = AreEnteredInto (arc_value l.given) l.initial.table l.table l.newly_ready.items (operands (rules_for (arc_value l.given)) (take l.dep-index l.deps)) ×
-    AreNumbers l.table.targets.keys l.numbers.items (operands (rules_for (arc_value l.given)) (take l.dep-index l.deps))
+invariant-loop-dep l = AreEnteredInto l.build l.initial.table l.table l.newly_ready.items (operands (rules_for l.build) (take l.dep-index l.deps)) ×
+    AreNumbers l.table.targets.keys l.numbers.items (operands (rules_for l.build) (take l.dep-index l.deps))

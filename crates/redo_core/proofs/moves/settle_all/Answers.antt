@@ -1,5 +1,4 @@
 use Rattle.std.proofs.Common.{arith}
-use Rattle.std.specs.Arc.{arc_value}
 use Rattle.redo_core.proofs.SettleAllLemmas.{place-index, looked-more}
 use Rattle.redo_core.proofs.moves.settle_all.Goals as goal
 
@@ -11,6 +10,6 @@ settle-requires-clause-within c =
 pub loop-at-preserved : goal.loop-at-preserved
 loop-at-preserved c = (
   c.in_ok-settle.ensures.table,
-  looked-more (arc_value c.args.given.now) c.args.table.now c.loop-at.table c.settle.new.table c.args.pending.now c.loop-at.at-index 0 c.loop-at-test.true
+  looked-more c.args.build.now c.args.table.now c.loop-at.table c.settle.new.table c.args.pending.now c.loop-at.at-index 0 c.loop-at-test.true
       c.loop-at.invariant.1 c.in_ok-settle.ensures.looked,
 )

@@ -1,5 +1,4 @@
 use Rattle.std.proofs.Common.{rules, ◌≡◌, ◌<◌, ℕ, List, [], ◌∷◌, Err, length, drop, inl, refl, sym, ap, subst, ◌∙◌}
-use Rattle.std.specs.Arc.{arc_value}
 use Rattle.redo_record.specs.declared.deps.Dep.{Dep}
 use Rattle.redo_core.specs.Build.{GivenView, rules_for}
 use Rattle.redo_core.specs.declared.work.Begun.{Begun}
@@ -15,26 +14,26 @@ use Rattle.redo_core.proofs.moves.suspend.Goals.{In_ok-operands, After-park}
 
 pub asked-requires : goal.asked-requires
 asked-requires c =
-    let stopped = is_stopped (arc_value c.args.given.now) c.args.table.now c.args.at (Stopped c.args.begun) c.requires.may c.args.begun refl in
+    let stopped = is_stopped c.args.build.now c.args.table.now c.args.at (Stopped c.args.begun) c.requires.may c.args.begun refl in
     rw c.deref.ensures stopped.within
 
 pub returns-in_err-operands-clause-too_many : goal.returns-in_err-operands-clause-too_many
 returns-in_err-operands-clause-too_many c = λ is.
     let made = rw is at c.from_residual.ensures in
     let err = c.in_err-operands.was ∙ ap Err (sym made.1) in
-    let given : GivenView = arc_value c.args.given.now in
+    let given : GivenView = c.args.build.now in
     let whole : c.asked.result.now ≡ drop c.args.begun.value.facts.gained c.args.begun.value.job.state.entries =
     c.asked.ensures ∙ ap (λ (b : Begun). drop b.facts.gained b.job.state.entries) c.deref.ensures in
-    let P : List Dep → Type 0 = λ ds. (arc_value c.args.given.now).limits.targets < length (entered (rules_for given) (table_entries (rules_for given) (arc_value c.args.given.now).limits.targets c.args.table.now) (operands (rules_for given) ds)) in
+    let P : List Dep → Type 0 = λ ds. c.args.build.now.limits.targets < length (entered (rules_for given) (table_entries (rules_for given) c.args.build.now.limits.targets c.args.table.now) (operands (rules_for given) ds)) in
     let many : P c.asked.result.now = c.enter_all.ensures.too_many err in
     let same = after-length given c.args.table.now c.args.at (Stopped c.args.begun) c.requires.may c.args.begun refl in
-    let S : ℕ → Type 0 = λ n. (arc_value c.args.given.now).limits.targets < n in
+    let S : ℕ → Type 0 = λ n. c.args.build.now.limits.targets < n in
     subst S same (subst P whole many)
 
-enters : (c : In_ok-operands) → AreEnteredInto (arc_value c.args.given.now) c.args.table.now c.enter_all.new.table c.enter_all.new.newly_ready.items
-    (operands (rules_for (arc_value c.args.given.now)) (drop c.args.begun.value.facts.gained c.args.begun.value.job.state.entries))
+enters : (c : In_ok-operands) → AreEnteredInto c.args.build.now c.args.table.now c.enter_all.new.table c.enter_all.new.newly_ready.items
+    (operands (rules_for c.args.build.now) (drop c.args.begun.value.facts.gained c.args.begun.value.job.state.entries))
 enters c =
-    let given : GivenView = arc_value c.args.given.now in
+    let given : GivenView = c.args.build.now in
     let whole : c.asked.result.now ≡ drop c.args.begun.value.facts.gained c.args.begun.value.job.state.entries =
     c.asked.ensures ∙ ap (λ (b : Begun). drop b.facts.gained b.job.state.entries) c.deref.ensures in
     let E : List Dep → Type 0 = λ ds. AreEnteredInto given c.args.table.now c.enter_all.new.table c.enter_all.new.newly_ready.items (operands (rules_for given) ds) in
@@ -42,9 +41,9 @@ enters c =
     subst E whole ok
 
 numbers : (c : In_ok-operands) → AreNumbers c.enter_all.new.table.targets.keys c.in_ok-operands.operands.items
-    (operands (rules_for (arc_value c.args.given.now)) (drop c.args.begun.value.facts.gained c.args.begun.value.job.state.entries))
+    (operands (rules_for c.args.build.now) (drop c.args.begun.value.facts.gained c.args.begun.value.job.state.entries))
 numbers c =
-    let given : GivenView = arc_value c.args.given.now in
+    let given : GivenView = c.args.build.now in
     let whole : c.asked.result.now ≡ drop c.args.begun.value.facts.gained c.args.begun.value.job.state.entries =
     c.asked.ensures ∙ ap (λ (b : Begun). drop b.facts.gained b.job.state.entries) c.deref.ensures in
     let E : List Dep → Type 0 = λ ds. AreNumbers c.enter_all.new.table.targets.keys c.in_ok-operands.operands.items (operands (rules_for given) ds) in
@@ -54,17 +53,17 @@ numbers c =
 pub park-requires : goal.park-requires
 park-requires c =
     let d = (goal.at-park-requires c).In_ok-operands in
-    out-still (arc_value c.args.given.now) c.args.table.now c.args.at (Stopped c.args.begun) c.requires.may c.args.begun refl c.enter_all.new.table _ (enters d)
+    out-still c.args.build.now c.args.table.now c.args.at (Stopped c.args.begun) c.requires.may c.args.begun refl c.enter_all.new.table _ (enters d)
 
 -- the table once the job is parked, with its own number to be looked at
-parked : (c : After-park) → IsPutBackThere (arc_value c.args.given.now) c.args.table.now c.park.new.table c.args.at c.enter_all.new.newly_ready.items (c.args.at ∷ [])
+parked : (c : After-park) → IsPutBackThere c.args.build.now c.args.table.now c.park.new.table c.args.at c.enter_all.new.newly_ready.items (c.args.at ∷ [])
 parked c =
     let d = (goal.at-After-park c).In_ok-operands in
-    parked-put (arc_value c.args.given.now) c.args.table.now c.args.at (Stopped c.args.begun) c.requires.may c.args.begun refl c.enter_all.new.table c.enter_all.new.newly_ready.items (enters d)
+    parked-put c.args.build.now c.args.table.now c.args.at (Stopped c.args.begun) c.requires.may c.args.begun refl c.enter_all.new.table c.enter_all.new.newly_ready.items (enters d)
     c.park.new.table c.in_ok-operands.operands (numbers d) c.park.ensures
 
 pub overflow_cast-at : goal.overflow_cast-at
-overflow_cast-at c = let h = small (arc_value c.args.given.now) c.args.table.now c.args.at (Stopped c.args.begun) c.requires.may in search rules
+overflow_cast-at c = let h = small c.args.build.now c.args.table.now c.args.at (Stopped c.args.begun) c.requires.may in search rules
 
 pub settle-requires-clause-within : goal.settle-requires-clause-within
 settle-requires-clause-within c = (parked (goal.at-settle-requires-clause-within c).After-park).within c.args.at (inl refl)
@@ -74,11 +73,11 @@ settle-requires-clause-table c = (parked (goal.at-settle-requires-clause-table c
 
 pub settle-requires-clause-standing : goal.settle-requires-clause-standing
 settle-requires-clause-standing c =
-    let P : List Entry → Type 0 = AreStanding (rules_for (arc_value c.args.given.now)) c.requires.may.request in
-    (c.requires.may.request, subst P (sym (parked (goal.at-settle-requires-clause-standing c).After-park).entries) (after-sound (arc_value c.args.given.now) c.args.table.now c.args.at (Stopped c.args.begun) c.requires.may).standing)
+    let P : List Entry → Type 0 = AreStanding (rules_for c.args.build.now) c.requires.may.request in
+    (c.requires.may.request, subst P (sym (parked (goal.at-settle-requires-clause-standing c).After-park).entries) (after-sound c.args.build.now c.args.table.now c.args.at (Stopped c.args.begun) c.requires.may).standing)
 
 pub returns-clause-ok : goal.returns-clause-ok
 returns-clause-ok c =
-    let given : GivenView = arc_value c.args.given.now in
+    let given : GivenView = c.args.build.now in
     looked-put given c.args.table.now c.park.new.table c.settle.new.table c.args.at _ c.settle.new.newly_ready.items _ (parked (goal.at-returns-clause-ok c).After-park)
     c.in_ok-settle.ensures.table (looked-one given c.park.new.table c.settle.new.table c.args.at c.in_ok-settle.ensures.looked)

@@ -1,5 +1,4 @@
 use Rattle.std.proofs.Common.{[]}
-use Rattle.std.specs.Arc.{arc_value}
 use Rattle.redo_core.specs.inside.Slots.{IsPutBackThere}
 use Rattle.redo_core.proofs.EnqueueLemmas.{taken-in}
 use Rattle.redo_core.proofs.moves.take_in.Goals as goal
@@ -7,9 +6,9 @@ use Rattle.redo_core.proofs.moves.take_in.Goals.{in-Ended+in_ok-conclude-in-Ende
 
 pub returns-clause-ok : goal.returns-clause-ok
 returns-clause-ok c =
-    let put : IsPutBackThere (arc_value c.args.given.now) c.args.table.now c.match-end.table c.args.at c.match-end.newly_ready.items [] =
+    let put : IsPutBackThere c.args.build.now c.args.table.now c.match-end.table c.args.at c.match-end.newly_ready.items [] =
     elim c.match-end.branch [
       | in-Ended+in_ok-conclude-in-Ended w ↦ rw (w.table-is, w.newly_ready-is) w.in_ok-conclude-in-Ended.ensures
       | in-Stopped+in_ok-suspend-in-Stopped w ↦ rw (w.table-is, w.newly_ready-is) w.in_ok-suspend-in-Stopped.ensures.ok
     ] in
-    taken-in (arc_value c.args.given.now) c.args.table.now c.match-end.table c.enqueue.new.table c.args.at c.args.end c.match-end.newly_ready.items c.requires put c.in_ok-enqueue.ensures
+    taken-in c.args.build.now c.args.table.now c.match-end.table c.enqueue.new.table c.args.at c.args.end c.match-end.newly_ready.items c.requires put c.in_ok-enqueue.ensures

@@ -16,7 +16,7 @@ returns c =
       slots = c.in_ok-push-2.ensures.items;
       newly_ready_is = elim c.if-is_ready.branch [
         | then-is_ready+in_ok-push w ↦
-            let l : w.len.result ≡ length c.args.table.now.slots.items = search rules in
+            let l : w.len-then-is_ready.result ≡ length c.args.table.now.slots.items = search rules in
             rw (← w.if-is_ready.ensures) (rw w.newly_ready-is (w.in_ok-push.ensures.items ∙ ap (λ (n : ℕ). c.args.newly_ready.now.items ++ n ∷ []) l))
         | else-is_ready w ↦ rw (← w.if-is_ready.ensures) (rw w.newly_ready-is (sym (append-nil c.args.newly_ready.now.items)))
       ];

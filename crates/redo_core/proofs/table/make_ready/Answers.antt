@@ -27,9 +27,9 @@ gain-requires c =
     let t = c.args.table.now in
     let slot = c.index_mut-slot.result.now in
     let d = (goal.at-gain-requires c).After-replace-stage in
-    let fed : IsFedAs (arc_value c.args.given.now) t c.args.at slot c.in-Waiting.parked =
-    fed-here (arc_value c.args.given.now) t c.args.at slot c.in-Waiting.parked c.requires.fed (there d) (sym c.replace-stage.ensures.value ∙ c.in-Waiting.is) in
-    rw c.deref.ensures.value (gain-decided (arc_value c.args.given.now) t c.args.at slot c.in-Waiting.parked fed
+    let fed : IsFedAs c.args.build.now t c.args.at slot c.in-Waiting.parked =
+    fed-here c.args.build.now t c.args.at slot c.in-Waiting.parked c.requires.fed (there d) (sym c.replace-stage.ensures.value ∙ c.in-Waiting.is) in
+    rw c.deref.ensures.value (gain-decided c.args.build.now t c.args.at slot c.in-Waiting.parked fed
     (record t { slots = with_item t.slots c.args.at (gone d) }) (gone d) c.replace-stage.ensures.after refl refl)
 
 pub index_mut-slot-requires-2 : goal.index_mut-slot-requires-2
@@ -43,14 +43,14 @@ of-requires c =
     let t = c.args.table.now in
     let slot = c.index_mut-slot.result.now in
     let d = (goal.at-of-requires c).After-replace-stage in
-    let fed : IsFedAs (arc_value c.args.given.now) t c.args.at slot c.in-Waiting.parked =
-    fed-here (arc_value c.args.given.now) t c.args.at slot c.in-Waiting.parked c.requires.fed (there d) (sym c.replace-stage.ensures.value ∙ c.in-Waiting.is) in
+    let fed : IsFedAs c.args.build.now t c.args.at slot c.in-Waiting.parked =
+    fed-here c.args.build.now t c.args.at slot c.in-Waiting.parked c.requires.fed (there d) (sym c.replace-stage.ensures.value ∙ c.in-Waiting.is) in
     let inside : c.deref_mut.result.now ≡ c.in-Waiting.parked.begun.value = c.deref_mut.ensures.value in
-    let own : arc_value c.in_ok-own.own ≡ arc_value c.args.given.now = c.in_ok-own.ensures in
+    let own : arc_value c.in_ok-own.own ≡ c.args.build.now = c.in_ok-own.ensures in
     let u = record t { slots = with_item t.slots c.args.at (gone d) } in
     let P : List ℕ → Type 0 = λ ns. Gains u ns c.in-Waiting.parked.begun.value.job c.in-Waiting.parked.begun.value.facts c.gain.new.facts in
     let Q : Begun → Type 0 = λ b. Gains u c.deref.result.now b.job b.facts c.gain.new.facts in
-    rw (own, inside) (fed-work (arc_value c.args.given.now) t c.args.at slot c.in-Waiting.parked fed
+    rw (own, inside) (fed-work c.args.build.now t c.args.at slot c.in-Waiting.parked fed
     u (gone d) c.replace-stage.ensures.after refl refl c.gain.new.facts (subst P c.deref.ensures.value (subst Q inside c.in_ok-gain.ensures)))
 
 pub returns : goal.returns

@@ -1,5 +1,4 @@
 use Rattle.std.proofs.Common.{◌<◌, ℕ, List, ◌≡◌, List, length, length-set, slice_get, Some, sym, ap, subst, ◌∙◌, arith}
-use Rattle.std.specs.Arc.{arc_value}
 use Rattle.std.proofs.lemmas.Result.{on_ok_weaker}
 use Rattle.redo_core.specs.inside.Slots.{IsPlace, AreDecidedFrom, IsLackingAt}
 use Rattle.redo_core.proofs.SlotLemmas.{slice_get-item, slice_get-below_some}
@@ -15,7 +14,7 @@ pub next_lacking-requires : goal.next_lacking-requires
 next_lacking-requires c =
     let P : List ℕ → Type 0 = λ ns. (k : ℕ) → IsPlace ns k → k < length c.args.table.now.slots.items in
     record {
-      seen = subst P (sym c.deref.ensures.value) (parked_seen (arc_value c.args.given.now) c.args.table.now c.args.newly_ready.now.items c.requires.table c.requires.standing
+      seen = subst P (sym c.deref.ensures.value) (parked_seen c.args.build.now c.args.table.now c.args.newly_ready.now.items c.requires.table c.requires.standing
           c.args.at c.index-slot.result.now c.in-Waiting.parked (there c) c.in-Waiting.is);
     }
 
@@ -44,21 +43,21 @@ pub returns-in-Some-clause-table : goal.returns-in-Some-clause-table
 returns-in-Some-clause-table c =
     let d = (goal.at-returns-in-Some-clause-table c).After-deref in
     let e = (goal.at-returns-in-Some-clause-table c).In-Some in
-    on_ok_weaker c.watch.result (λ w. held-watch-table (arc_value c.args.given.now) c.args.table.now c.args.newly_ready.now.items c.requires.table c.requires.standing
+    on_ok_weaker c.watch.result (λ w. held-watch-table c.args.build.now c.args.table.now c.args.newly_ready.now.items c.requires.table c.requires.standing
     c.args.at c.index-slot.result.now c.in-Waiting.parked (there d) c.in-Waiting.is c.hold.new.table c.in-Some.held c.in-Some.place c.hold.ensures (found e) c.watch.new.table w) c.watch.ensures
 
 pub returns-in-Some-clause-looked : goal.returns-in-Some-clause-looked
 returns-in-Some-clause-looked c =
     let d = (goal.at-returns-in-Some-clause-looked c).After-deref in
     let e = (goal.at-returns-in-Some-clause-looked c).In-Some in
-    on_ok_weaker c.watch.result (λ w. held-watch-looked (arc_value c.args.given.now) c.args.table.now c.args.newly_ready.now.items c.requires.table c.requires.standing
+    on_ok_weaker c.watch.result (λ w. held-watch-looked c.args.build.now c.args.table.now c.args.newly_ready.now.items c.requires.table c.requires.standing
     c.args.at c.index-slot.result.now c.in-Waiting.parked (there d) c.in-Waiting.is c.hold.new.table c.in-Some.held c.in-Some.place c.hold.ensures (found e) c.watch.new.table w) c.watch.ensures
 
 pub make_ready-requires-clause-fed : goal.make_ready-requires-clause-fed
 make_ready-requires-clause-fed c =
     let d = (goal.at-make_ready-requires-clause-fed c).After-deref in
     let e = (goal.at-make_ready-requires-clause-fed c).In-None in
-    parked_fed (arc_value c.args.given.now) c.args.table.now c.args.newly_ready.now.items c.requires.table c.requires.standing
+    parked_fed c.args.build.now c.args.table.now c.args.newly_ready.now.items c.requires.table c.requires.standing
     c.args.at c.index-slot.result.now c.in-Waiting.parked (there d) c.in-Waiting.is (rest e)
 
 pub returns-in_ok-push-in-None-clause-table : goal.returns-in_ok-push-in-None-clause-table
@@ -66,12 +65,12 @@ returns-in_ok-push-in-None-clause-table c =
     let d = (goal.at-returns-in_ok-push-in-None-clause-table c).After-deref in
     let e = (goal.at-returns-in_ok-push-in-None-clause-table c).In-None in
     rw c.in_ok-push-in-None.ensures.items (
-    on_ok_weaker c.make_ready.result (λ f. newly_ready-table (arc_value c.args.given.now) c.args.table.now c.args.newly_ready.now.items c.requires.table c.requires.standing
+    on_ok_weaker c.make_ready.result (λ f. newly_ready-table c.args.build.now c.args.table.now c.args.newly_ready.now.items c.requires.table c.requires.standing
     c.args.at c.index-slot.result.now c.in-Waiting.parked (there d) c.in-Waiting.is c.make_ready.new.table f (rest e)) c.make_ready.ensures)
 
 pub returns-in_ok-push-in-None-clause-looked : goal.returns-in_ok-push-in-None-clause-looked
 returns-in_ok-push-in-None-clause-looked c =
     let d = (goal.at-returns-in_ok-push-in-None-clause-looked c).After-deref in
     let e = (goal.at-returns-in_ok-push-in-None-clause-looked c).In-None in
-    on_ok_weaker c.make_ready.result (λ f. newly_ready-looked (arc_value c.args.given.now) c.args.table.now c.args.newly_ready.now.items c.requires.table c.requires.standing
+    on_ok_weaker c.make_ready.result (λ f. newly_ready-looked c.args.build.now c.args.table.now c.args.newly_ready.now.items c.requires.table c.requires.standing
     c.args.at c.index-slot.result.now c.in-Waiting.parked (there d) c.in-Waiting.is c.make_ready.new.table f (rest e)) c.make_ready.ensures

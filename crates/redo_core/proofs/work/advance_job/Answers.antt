@@ -8,7 +8,7 @@ use Rattle.redo_core.specs.declared.work.End.{End}
 use Rattle.redo_core.proofs.AdvanceLemmas.{work-fits, fact-parts, stopped-end, ended-end, ended-progress, asks-progress}
 use Rattle.redo_core.proofs.AdvanceLemmas.{end-lacks}
 use Rattle.redo_core.proofs.work.advance_job.Goals as goal
-use Rattle.redo_core.proofs.work.advance_job.Goals.{in-Ended+in_ok-own-in-Ended+in_ok-path-in-Ended+in_ok-deps-in-Ended+in_ok-new-in-Ended}
+use Rattle.redo_core.proofs.work.advance_job.Goals.{in-Ended+in_ok-own-in-Ended+in_ok-path-in-Ended+in_ok-deps-in-Ended}
 use Rattle.redo_core.proofs.work.advance_job.Goals.{in-Asks+in_ok-new-in-Asks}
 
 pub advance-requires-clause-fits : goal.advance-requires-clause-fits
@@ -28,13 +28,13 @@ invariant_of-result c =
     let facts = c.args.facts in
     let P : End → Type 0 = λ end. IsEndAt given job.target job.turn end in
     rw (c.in_ok-target.ensures.cases, c.target.ensures, c.turn-turn.ensures) (elim c.match-branch-3.branch [
-      | in-Ended+in_ok-own-in-Ended+in_ok-path-in-Ended+in_ok-deps-in-Ended+in_ok-new-in-Ended w ↦
+      | in-Ended+in_ok-own-in-Ended+in_ok-path-in-Ended+in_ok-deps-in-Ended w ↦
           let path = w.in_ok-path-in-Ended.ensures.cases ∙ c.in_ok-target.ensures.cases ∙ c.target.ensures in
-          subst P (sym w.end-is) (ended-end given job facts c.requires w.in-Ended.done (rw w.in-Ended.is at c.in_ok-done.ensures) w.in_ok-new-in-Ended.field-0
-          (ap (λ (f : FactView). f.given) (w.in_ok-new-in-Ended.ensures.ok ∙ w.of-fact.ensures) ∙ w.in_ok-own-in-Ended.ensures)
-          (ap (λ (f : FactView). f.target) (w.in_ok-new-in-Ended.ensures.ok ∙ w.of-fact.ensures) ∙ path)
-          (ap (λ (f : FactView). f.outcome) (w.in_ok-new-in-Ended.ensures.ok ∙ w.of-fact.ensures))
-          (ap (λ (f : FactView). f.deps) (w.in_ok-new-in-Ended.ensures.ok ∙ w.of-fact.ensures) ∙ w.in_ok-deps-in-Ended.ensures.ok))
+          subst P (sym w.end-is) (ended-end given job facts c.requires w.in-Ended.done (rw w.in-Ended.is at c.in_ok-done.ensures) w.of-fact.result
+          (ap (λ (f : FactView). f.given) w.of-fact.ensures ∙ w.in_ok-own-in-Ended.ensures)
+          (ap (λ (f : FactView). f.target) w.of-fact.ensures ∙ path)
+          (ap (λ (f : FactView). f.outcome) w.of-fact.ensures)
+          (ap (λ (f : FactView). f.deps) w.of-fact.ensures ∙ w.in_ok-deps-in-Ended.ensures.ok))
       | in-Asks+in_ok-new-in-Asks w ↦ subst P (sym w.end-is) (stopped-end given job facts c.requires w.in-Asks.job w.in-Asks._paths.items (rw w.in-Asks.is at c.in_ok-done.ensures) w.in_ok-new-in-Asks.field-0 w.in_ok-new-in-Asks.ensures.ok)
     ])
 
@@ -45,10 +45,10 @@ returns-clause-ended c =
     let facts = c.args.facts in
     let P : End → Type 0 = λ end. end_progress end ≡ (rules_for given).progress job.target (told_in facts) in
     let now : P c.match-branch-3.end = elim c.match-branch-3.branch [
-      | in-Ended+in_ok-own-in-Ended+in_ok-path-in-Ended+in_ok-deps-in-Ended+in_ok-new-in-Ended w ↦
-          subst P (sym w.end-is) (ended-progress given job facts c.requires w.in-Ended.done (rw w.in-Ended.is at c.in_ok-done.ensures) w.in_ok-new-in-Ended.field-0
-          (ap (λ (f : FactView). f.outcome) (w.in_ok-new-in-Ended.ensures.ok ∙ w.of-fact.ensures))
-          (ap (λ (f : FactView). f.deps) (w.in_ok-new-in-Ended.ensures.ok ∙ w.of-fact.ensures) ∙ w.in_ok-deps-in-Ended.ensures.ok))
+      | in-Ended+in_ok-own-in-Ended+in_ok-path-in-Ended+in_ok-deps-in-Ended w ↦
+          subst P (sym w.end-is) (ended-progress given job facts c.requires w.in-Ended.done (rw w.in-Ended.is at c.in_ok-done.ensures) w.of-fact.result
+          (ap (λ (f : FactView). f.outcome) w.of-fact.ensures)
+          (ap (λ (f : FactView). f.deps) w.of-fact.ensures ∙ w.in_ok-deps-in-Ended.ensures.ok))
       | in-Asks+in_ok-new-in-Asks w ↦ subst P (sym w.end-is) (asks-progress given job facts c.requires w.in-Asks.job w.in-Asks._paths.items (rw w.in-Asks.is at c.in_ok-done.ensures) w.in_ok-new-in-Asks.field-0 w.in_ok-new-in-Asks.ensures.ok)
     ] in
     end-lacks given job facts c.requires c.match-branch-3.end now

@@ -17,11 +17,11 @@ report_of-requires-clause-one_each c =
     (c.self.invariant.kept quiet.0).table.one_each
 
 pub returns : goal.returns
-returns c = if_ok-more c.report_of.result (IsReportOf c.deref-2.result.now c.deref-3.result.now c.self.inside.table) (IsReport (rules_on c.args.self) c.args.self.request c.args.self.given.limits.targets)
-    (λ report made. report-view c.self.inside c.self.invariant.kept c.args.self c.self.view_is c.requires c.deref-2.result.now c.deref-3.result.now (c.deref-2.ensures ∙ c.tree.ensures ∙ ap (λ (g : GivenView). g.tree) c.deref.ensures) c.deref-3.ensures.value report made)
+returns c = if_ok-more c.report_of.result (IsReportOf c.deref.result.now c.deref-2.result.now c.self.inside.table) (IsReport (rules_on c.args.self) c.args.self.request c.args.self.given.limits.targets)
+    (λ report made. report-view c.self.inside c.self.invariant.kept c.args.self c.self.view_is c.requires c.deref.result.now c.deref-2.result.now (c.deref.ensures ∙ c.tree.ensures ∙ ap (λ (g : GivenView). g.tree) c.given.ensures) c.deref-2.ensures.value report made)
     c.report_of.ensures
 
 pub report_of-requires-clause-told : goal.report_of-requires-clause-told
 report_of-requires-clause-told c =
     let quiet = quiet-inside c.self.inside c.args.self c.self.view_is c.requires in
-    told-inside c.self.inside (c.self.invariant.kept quiet.0) c.deref-2.result.now (c.deref-2.ensures ∙ c.tree.ensures ∙ ap (λ (g : GivenView). g.tree) c.deref.ensures)
+    told-inside c.self.inside (c.self.invariant.kept quiet.0) c.deref.result.now (c.deref.ensures ∙ c.tree.ensures ∙ ap (λ (g : GivenView). g.tree) c.given.ensures)

@@ -54,7 +54,7 @@ take_in-requires c =
     let d = (goal.at-take_in-requires c).In_default in
     let e = (goal.at-take_in-requires c).In-Some-out_at in
     let b = c.self.inside in
-    let given : c.args.piece.given ≡ arc_value b.given = c.requires ∙ ap (λ (v : BoardView). v.given) (sym c.self.view_is) in
+    let given : c.args.piece.given ≡ b.build = c.requires ∙ ap (λ (v : BoardView). v.given) (sym c.self.view_is) in
     let A : GivenView → Type 0 = λ g. IsEndAt g c.args.piece.target c.args.piece.turn c.into_end.result in
     may-take b (kept d) c.args.piece.target c.args.piece.turn c.in-Some-out_at.at (slot e) c.into_end.result (subst A given c.into_end.ensures)
 

@@ -1,5 +1,4 @@
 use Rattle.std.proofs.Common.{◌≡◌, sym, ◌∙◌, is_some, false}
-use Rattle.std.specs.Arc.{arc_value}
 use Rattle.redo_core.specs.inside.Slots.{rules_inside}
 use Rattle.redo_build.specs.Outcomes.{outcome_at}
 use Rattle.redo_core.proofs.SlotLemmas.{out_count-slots, IsNone-from}
@@ -11,4 +10,4 @@ returns-else-is_some c =
     let on : is_some b.stopped ≡ false = sym c.is_some.ensures ∙ c.if-is_some.false in
     let kept = c.self.invariant.kept (IsNone-from b.stopped on) in
     rw (← c.self.view_is) (rw on (kept.table.out_counted ∙
-    sym (out_count-slots (rules_inside b) (outcome_at (rules_inside b) (arc_value b.given).limits.targets) b.table.targets.keys b.table.slots.items kept.table.one_each)))
+    sym (out_count-slots (rules_inside b) (outcome_at (rules_inside b) b.build.limits.targets) b.table.targets.keys b.table.slots.items kept.table.one_each)))

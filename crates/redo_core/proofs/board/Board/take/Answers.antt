@@ -8,7 +8,6 @@ use Rattle.redo_core.specs.Views.{BoardView, WorkView, IsWorkTaken, jobs_out}
 use Rattle.redo_build.specs.Schedule.{IsOutAt}
 use Rattle.redo_build.specs.TakesLeft.{takes_left}
 use Rattle.redo_core.proofs.BoardCountLemmas.{work_out, one_more, left_less}
-use Rattle.std.specs.Arc.{arc_value}
 use Rattle.redo_core.proofs.board.Board.take.Goals as goal
 use Rattle.redo_core.proofs.board.Board.take.Goals.{After-replace-stage}
 
@@ -60,7 +59,7 @@ returns-clause-ok c =
     let d = (goal.at-returns-clause-ok c).After-replace-stage in
     let b = d.self.inside in
     rw (← c.self.view_is) (rw (c.replace-stage.ensures.after, c.in-Some.ensures.items)
-    (ap (λ s. record { given = arc_value b.given; request = b.request.items; state = s; stopped = b.stopped })
+    (ap (λ s. record { given = b.build; request = b.request.items; state = s; stopped = b.stopped })
     (taken_state b (kept d) d.args.which d.in-Some.at d.index_mut-slot.result.now (first d) (there d))))
 
 pub returns-clause-turn : goal.returns-clause-turn

@@ -1,6 +1,5 @@
 use Rattle.std.proofs.Common.{◌≡◌, bytes_eq, Option, Some, refl, sym, ap, ◌∙◌}
 use Rattle.std.specs.Prelude.{option_map}
-use Rattle.std.specs.Arc.{arc_value}
 use Rattle.std.specs.Map.{lookup}
 use Rattle.redo_record.specs.declared.outcome.Outcome.{Outcome}
 use Rattle.redo_core.specs.Views.{FactView}
@@ -11,7 +10,7 @@ use Rattle.redo_core.proofs.facts.FactsAnswers.answer.Goals.{After-get}
 
 -- the hashed facts answer, and then the few
 past : (c : After-get) → told_in c.args.self.now c.args.path.now ≡
-    first_of (option_map (λ f. (arc_value {X = FactView} f).outcome) (lookup (bytes_eq c.args.path.now) c.deref.result.now.entries)) (lookup (bytes_eq c.args.path.now) (few_known c.args.self.now.few.items))
+    first_of (option_map (λ f. f.value.outcome) (lookup (bytes_eq c.args.path.now) c.deref.result.now.entries)) (lookup (bytes_eq c.args.path.now) (few_known c.args.self.now.few.items))
 past c =
     let few = few_known c.args.self.now.few.items in
     let known : more_known c.args.self.now.more ≡ entries_known c.deref.result.now.entries = rw c.in-Some.is (rw c.deref.ensures refl) in
@@ -24,12 +23,12 @@ returns-in-Some-get c =
     let d = (goal.at-returns-in-Some-get c).After-get in
     let S : Outcome → Option Outcome = λ o. Some o in
     let rest = lookup (bytes_eq c.args.path.now) (few_known c.args.self.now.few.items) in
-    ap S (c.outcome.ensures ∙ ap (λ (f : FactView). f.outcome) c.deref-in-Some-get.ensures) ∙
-    ap (λ o. first_of o rest) (ap (option_map (λ f. (arc_value {X = FactView} f).outcome)) c.in-Some-get.ensures.value) ∙ sym (past d)
+    ap S (c.outcome.ensures ∙ ap (λ (f : FactView). f.outcome) c.read.ensures) ∙
+    ap (λ o. first_of o rest) (ap (option_map (λ f. f.value.outcome)) c.in-Some-get.ensures.value) ∙ sym (past d)
 
 pub returns-in-None-get : goal.returns-in-None-get
 returns-in-None-get c =
     let d = (goal.at-returns-in-None-get c).After-get in
     let rest = lookup (bytes_eq c.args.path.now) (few_known c.args.self.now.few.items) in
     c.told_of.ensures ∙ ap (λ xs. lookup (bytes_eq c.args.path.now) (few_known xs)) c.deref-in-None-get.ensures.value ∙
-    ap (λ o. first_of o rest) (ap (option_map (λ f. (arc_value {X = FactView} f).outcome)) c.in-None-get.ensures.value) ∙ sym (past d)
+    ap (λ o. first_of o rest) (ap (option_map (λ f. f.value.outcome)) c.in-None-get.ensures.value) ∙ sym (past d)
