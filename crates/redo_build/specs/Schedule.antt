@@ -53,7 +53,13 @@ abbrev pub new_entry : Rules → List ℕ → Entry
 new_entry r p =
     if r.has_rule p
     then record { path = p; turn = 0; deps = []; outcome = None; is_out = false }
-    else record { path = p; turn = 0; deps = (r.progress p nothing_known).deps; outcome = (r.progress p nothing_known).outcome; is_out = false }
+    else record {
+      path = p;
+      turn = 0;
+      deps = (r.progress p nothing_known).deps;
+      outcome = (r.progress p nothing_known).outcome;
+      is_out = false;
+    }
 
 -- the entries, and behind them those of the paths that are new
 abbrev pub entered : Rules → List Entry → List (List ℕ) → List Entry
@@ -100,7 +106,13 @@ advanced r es e = r.progress e.path (only (operands r e.deps) (outcomes_of es))
 -- the entry after its script was advanced so far
 abbrev pub moved_on : Entry → Progress → Entry
 moved_on e now =
-    record { path = e.path; turn = if is_some now.outcome then e.turn else e.turn + 1; deps = now.deps; outcome = now.outcome; is_out = false }
+    record {
+      path = e.path;
+      turn = if is_some now.outcome then e.turn else e.turn + 1;
+      deps = now.deps;
+      outcome = now.outcome;
+      is_out = false;
+    }
 
 abbrev pub handed_in : Rules → State → Option Entry → State
 handed_in r s None = s

@@ -61,7 +61,8 @@ impl Held {
         requires { R.has_failed reader.old ≡ false }
         ensures more { result ≡ Ok true → 0 < length self.new }
         ensures end { result ≡ Ok false → (self.new ≡ []) × IsAtEnd (R.left reader.new) }
-        ensures bytes { OnOk result (Consumes (prepend_known self.old (R.left reader.old)) (prepend_known self.new (R.left reader.new)) []) }
+        ensures bytes { OnOk result (Consumes (prepend_known self.old (R.left reader.old))
+            (prepend_known self.new (R.left reader.new)) []) }
         ensures failed { R.has_failed reader.new ≡ is_err result }
     {
         if self.from < self.to {

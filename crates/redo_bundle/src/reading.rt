@@ -53,7 +53,8 @@ fn read_line<R: ByteIn>(
 ) -> Result<(), BundleFault>
     requires { R.has_failed reader.old ≡ false }
     ensures line { OnOk result (IsLine line.new.items) }
-    ensures bytes { OnOk result (Consumes (prepend_known held.old (R.left reader.old)) (prepend_known held.new (R.left reader.new)) (line.new.items ++ 10 ∷ [])) }
+    ensures bytes { OnOk result (Consumes (prepend_known held.old (R.left reader.old))
+        (prepend_known held.new (R.left reader.new)) (line.new.items ++ 10 ∷ [])) }
     ensures fault { Refuses result (prepend_known held.old (R.left reader.old)) (line_fault number) }
     ensures failed { R.has_failed reader.new ≡ is_read result }
 {
@@ -86,7 +87,8 @@ fn read_bytes<R: ByteIn>(
 ) -> Result<Vec<u8>, BundleFault>
     requires { R.has_failed reader.old ≡ false }
     ensures size { IfOk result (λ bytes. length bytes.items ≡ size) }
-    ensures bytes { IfOk result (λ bytes. Consumes (prepend_known held.old (R.left reader.old)) (prepend_known held.new (R.left reader.new)) bytes.items) }
+    ensures bytes { IfOk result (λ bytes. Consumes (prepend_known held.old (R.left reader.old))
+        (prepend_known held.new (R.left reader.new)) bytes.items) }
     ensures fault { Refuses result (prepend_known held.old (R.left reader.old)) (size_fault size) }
     ensures failed { R.has_failed reader.new ≡ is_read result }
 {
@@ -106,7 +108,8 @@ fn read_bytes<R: ByteIn>(
 /// Reads the newline behind a file's bytes.
 fn read_newline<R: ByteIn>(held: &mut Held, reader: &mut R, number: u64) -> Result<(), BundleFault>
     requires { R.has_failed reader.old ≡ false }
-    ensures bytes { OnOk result (Consumes (prepend_known held.old (R.left reader.old)) (prepend_known held.new (R.left reader.new)) (10 ∷ [])) }
+    ensures bytes { OnOk result (Consumes (prepend_known held.old (R.left reader.old))
+        (prepend_known held.new (R.left reader.new)) (10 ∷ [])) }
     ensures fault { Refuses result (prepend_known held.old (R.left reader.old)) (newline_fault number) }
     ensures failed { R.has_failed reader.new ≡ is_read result }
 {
@@ -130,7 +133,8 @@ fn read_body<R: ByteIn>(
 ) -> Result<Vec<u8>, BundleFault>
     requires { R.has_failed reader.old ≡ false }
     ensures size { IfOk result (λ bytes. length bytes.items ≡ size) }
-    ensures bytes { IfOk result (λ bytes. Consumes (prepend_known held.old (R.left reader.old)) (prepend_known held.new (R.left reader.new)) (bytes.items ++ 10 ∷ [])) }
+    ensures bytes { IfOk result (λ bytes. Consumes (prepend_known held.old (R.left reader.old))
+        (prepend_known held.new (R.left reader.new)) (bytes.items ++ 10 ∷ [])) }
     ensures fault { Refuses result (prepend_known held.old (R.left reader.old)) (file_fault number size) }
     ensures failed { R.has_failed reader.new ≡ is_read result }
 {
@@ -224,7 +228,8 @@ fn read_directory(
 ) -> Result<(), BundleFault>
     ensures place { OnOk result (IsPlace word.now) }
     ensures adds { OnOk result (added tree.old word.now Directory ≡ Ok tree.new) }
-    ensures fault { Finds result (option_or (path_fault number word.now) (tree_fault number tree.old word.now Directory)) }
+    ensures fault { Finds result (option_or (path_fault number word.now)
+        (tree_fault number tree.old word.now Directory)) }
     ensures quiet { is_read result ≡ false }
 {
     let path = read_path(alloc, number, word)?;
@@ -243,8 +248,10 @@ fn add_file<R: ByteIn>(
     path: &Path,
 ) -> Result<(), BundleFault>
     requires { R.has_failed reader.old ≡ false }
-    ensures adds { OnOk result (AddsFile tree.old tree.new path.now size (prepend_known held.old (R.left reader.old)) (prepend_known held.new (R.left reader.new))) }
-    ensures fault { Refuses result (prepend_known held.old (R.left reader.old)) (body_fault number tree.old (Some size) path.now) }
+    ensures adds { OnOk result (AddsFile tree.old tree.new path.now size
+        (prepend_known held.old (R.left reader.old)) (prepend_known held.new (R.left reader.new))) }
+    ensures fault { Refuses result (prepend_known held.old (R.left reader.old))
+        (body_fault number tree.old (Some size) path.now) }
     ensures failed { R.has_failed reader.new ≡ is_read result }
 {
     let bytes = read_body(alloc, held, reader, number, size)?;
@@ -264,8 +271,10 @@ fn read_file<R: ByteIn>(
 ) -> Result<(), BundleFault>
     requires { R.has_failed reader.old ≡ false }
     ensures place { OnOk result (IsPlace word.now) }
-    ensures adds { OnOk result (AddsFile tree.old tree.new word.now size (prepend_known held.old (R.left reader.old)) (prepend_known held.new (R.left reader.new))) }
-    ensures fault { Refuses result (prepend_known held.old (R.left reader.old)) (λ text. option_or (path_fault number word.now) (body_fault number tree.old (Some size) word.now text)) }
+    ensures adds { OnOk result (AddsFile tree.old tree.new word.now size
+        (prepend_known held.old (R.left reader.old)) (prepend_known held.new (R.left reader.new))) }
+    ensures fault { Refuses result (prepend_known held.old (R.left reader.old))
+        (λ text. option_or (path_fault number word.now) (body_fault number tree.old (Some size) word.now text)) }
     ensures failed { R.has_failed reader.new ≡ is_read result }
 {
     let path = read_path(alloc, number, word)?;
@@ -282,7 +291,8 @@ fn read_entry<R: ByteIn>(
     line: &[u8],
 ) -> Result<(), BundleFault>
     requires { R.has_failed reader.old ≡ false }
-    ensures adds { OnOk result (AddsEntry tree.old tree.new line.now (prepend_known held.old (R.left reader.old)) (prepend_known held.new (R.left reader.new))) }
+    ensures adds { OnOk result (AddsEntry tree.old tree.new line.now (prepend_known held.old (R.left reader.old))
+        (prepend_known held.new (R.left reader.new))) }
     ensures fault { Refuses result (prepend_known held.old (R.left reader.old)) (entry_fault number tree.old line.now) }
     ensures failed { R.has_failed reader.new ≡ is_read result }
 {
@@ -305,10 +315,12 @@ fn read_next<R: ByteIn>(
     requires works { R.has_failed reader.old ≡ false }
     requires more { number < 2 ^ 64 - 1 }
     ensures entry { result ≡ Ok true →
-        AddsNext tree.old tree.new (prepend_known held.old (R.left reader.old)) (prepend_known held.new (R.left reader.new)) }
+        AddsNext tree.old tree.new (prepend_known held.old (R.left reader.old))
+        (prepend_known held.new (R.left reader.new)) }
     ensures end { result ≡ Ok false →
         (tree.new ≡ tree.old) ×
-        Consumes (prepend_known held.old (R.left reader.old)) (prepend_known held.new (R.left reader.new)) (codes "end\n") × (held.new ≡ []) × IsAtEnd (R.left reader.new) }
+        Consumes (prepend_known held.old (R.left reader.old)) (prepend_known held.new (R.left reader.new))
+        (codes "end\n") × (held.new ≡ []) × IsAtEnd (R.left reader.new) }
     ensures fault { Refuses result (prepend_known held.old (R.left reader.old)) (fault_at number tree.old) }
     ensures failed { R.has_failed reader.new ≡ is_read result }
 {

@@ -38,7 +38,8 @@ progress_by w target Directory ask = at_once (Failed why.Directory) []
 progress_by w target NoDirectory ask = at_once (Failed why.NoDirectory) []
 progress_by w target (NoRule missing) ask = at_once (Failed why.NoRule) (with_entries [] Create missing)
 progress_by w target (Rule do_file missing a) ask =
-    by_script (setting_by w.tree w.found w.limit target a) (search_deps missing do_file) (script_in (unwrap_or (file_at w.tree do_file) [])) ask
+    by_script (setting_by w.tree w.found w.limit target a) (search_deps missing do_file)
+    (script_in (unwrap_or (file_at w.tree do_file) [])) ask
 
 -- the rules of a tree where the search finds this
 abbrev pub rules_in : World → Rules

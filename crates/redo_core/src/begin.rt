@@ -14,9 +14,14 @@ use redo_which::{Found, Rule, lookup};
 use std::alloc::{AllocError, Global};
 use std::sync::Arc;
 
-/// What a path that is seen for the first time, as the target of a number, is at once: decided where it has no rule, else
-/// ready.
-pub(crate) fn begin(alloc: Global, path: &Path, build: &Build, number: usize) -> Result<Stage, AllocError>
+/// What a path that is seen for the first time, as the target of a number, is at once: decided where it has no rule,
+/// else ready.
+pub(crate) fn begin(
+    alloc: Global,
+    path: &Path,
+    build: &Build,
+    number: usize,
+) -> Result<Stage, AllocError>
     requires { number < build.now.limits.targets }
     ensures { IfOk result (IsBegun build.now path.now) }
 {

@@ -215,8 +215,10 @@ impl Board {
         ensures turn { IfOk result (λ w. w.turn < limit_on self.old) }
         ensures is_out { IfOk result (λ w. IsOutAt self.new.state w.target w.turn) }
         ensures one_more { OnOk result (jobs_out self.new ≡ jobs_out self.old + 1) }
-        ensures left { OnOk result (takes_left (limit_on self.new) self.new.state < takes_left (limit_on self.old) self.old.state) }
-        ensures part { OnOk result (IsPartOfBuild (rules_on self.new) self.new.request (limit_on self.new) self.new.state) }
+        ensures left { OnOk result (
+            takes_left (limit_on self.new) self.new.state < takes_left (limit_on self.old) self.old.state) }
+        ensures part { OnOk result (IsPartOfBuild (rules_on self.new) self.new.request (limit_on self.new)
+            self.new.state) }
         ensures err { OnErr result (self.new ≡ self.old) }
     {
         let Some(at) = self.table.ready.remove(which) else {
@@ -238,8 +240,10 @@ impl Board {
         ensures ok { OnOk result (self.new ≡ after self.old (Hand_in piece.target piece.turn)) }
         ensures within { OnOk result (length self.new.state.entries ≤ (limit_on self.new)) }
         ensures one_fewer { OnOk result (jobs_out self.new + 1 ≡ jobs_out self.old) }
-        ensures left { OnOk result (takes_left (limit_on self.new) self.new.state ≤ takes_left (limit_on self.old) self.old.state) }
-        ensures part { OnOk result (IsPartOfBuild (rules_on self.new) self.new.request (limit_on self.new) self.new.state) }
+        ensures left { OnOk result (
+            takes_left (limit_on self.new) self.new.state ≤ takes_left (limit_on self.old) self.old.state) }
+        ensures part { OnOk result (IsPartOfBuild (rules_on self.new) self.new.request (limit_on self.new)
+            self.new.state) }
         ensures err { IfErr result (Refused self.old self.new piece) }
     {
         if let Some(stop) = self.stopped {
@@ -292,7 +296,12 @@ impl Board {
         requires { IsQuietBoard self }
         ensures { IfOk result (IsReport (rules_on self) self.request (limit_on self)) }
     {
-        report_of(self.alloc, self.build.given().tree(), &self.request, &self.table)
+        report_of(
+            self.alloc,
+            self.build.given().tree(),
+            &self.request,
+            &self.table,
+        )
     }
 
     /// Whether a piece is of the board's tree and limits, as `hand_in` asks. It compares by value, in the time of the

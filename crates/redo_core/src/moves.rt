@@ -28,10 +28,14 @@ pub(crate) fn enter_all(
     newly_ready: &mut Vec<u32>,
 ) -> Result<Vec<u32>, Stop>
     requires table { IsTableOf build.now table.old newly_ready.old.items }
-    ensures ok { OnOk result (AreEnteredInto build.now table.old table.new newly_ready.new.items (operands (rules_for build.now) deps.now)) }
-    ensures numbers { IfOk result (λ ns. AreNumbers table.new.targets.keys ns.items (operands (rules_for build.now) deps.now)) }
+    ensures ok { OnOk result (AreEnteredInto build.now table.old table.new newly_ready.new.items
+        (operands (rules_for build.now) deps.now)) }
+    ensures numbers { IfOk result (λ ns. AreNumbers table.new.targets.keys ns.items
+        (operands (rules_for build.now) deps.now)) }
     ensures too_many { result ≡ Err Stop.TooMany →
-        AreTooMany (rules_for build.now) build.now.limits.targets (table_entries (rules_for build.now) build.now.limits.targets table.old) (operands (rules_for build.now) deps.now) }
+        AreTooMany (rules_for build.now) build.now.limits.targets
+        (table_entries (rules_for build.now) build.now.limits.targets table.old)
+        (operands (rules_for build.now) deps.now) }
 {
     let mut numbers = Vec::with_capacity(alloc, deps.len())?;
     for dep in deps {
@@ -163,9 +167,12 @@ fn enter_requested(
     newly_ready: &mut Vec<u32>,
 ) -> Result<(), Stop>
     requires table { IsTableOf build.now table.old newly_ready.old.items }
-    ensures ok { OnOk result (AreEnteredInto build.now table.old table.new newly_ready.new.items (targets_in (rules_for build.now) request.now)) }
+    ensures ok { OnOk result (AreEnteredInto build.now table.old table.new newly_ready.new.items
+        (targets_in (rules_for build.now) request.now)) }
     ensures too_many { result ≡ Err Stop.TooMany →
-        AreTooMany (rules_for build.now) build.now.limits.targets (table_entries (rules_for build.now) build.now.limits.targets table.old) (targets_in (rules_for build.now) request.now) }
+        AreTooMany (rules_for build.now) build.now.limits.targets
+        (table_entries (rules_for build.now) build.now.limits.targets table.old)
+        (targets_in (rules_for build.now) request.now) }
 {
     for path in request {
         if build.given().is_target(path) {
@@ -176,11 +183,7 @@ fn enter_requested(
 }
 
 /// The table at the opening.
-pub(crate) fn first_table(
-    alloc: Global,
-    request: &[Path],
-    build: &Build,
-) -> Result<Table, Stop>
+pub(crate) fn first_table(alloc: Global, request: &[Path], build: &Build) -> Result<Table, Stop>
     ensures ok { IfOk result (λ t. IsFirstTable build.now request.now t) }
     ensures too_many { result ≡ Err Stop.TooMany →
         build.now.limits.targets < length (opening (rules_for build.now) request.now).entries }

@@ -62,9 +62,9 @@ fn parsed(alloc: Global, text: &[u8]) -> Result<Arc<Parsed>, AllocError>
     Ok(Arc::new(alloc, Parsed::of(alloc, text)?)?)
 }
 
-/// Reads a script. One that may make several targets, whose name begins with `default`, is kept, and is not read again for
-/// the same text.
-fn script(
+/// Reads a script. One that may make several targets, whose name begins with `default`, is kept, and is not read
+/// again for the same text.
+pub(crate) fn script(
     alloc: Global,
     given: &Given,
     do_file: &Path,
@@ -94,7 +94,8 @@ pub(crate) fn begun(
     target: Path,
     rule: Rule,
 ) -> Result<Job, AllocError>
-    requires { found_of (arc_value given.now).tree target ≡ IsRule rule.do_file rule.missing (arguments_view rule.args) }
+    requires { found_of (arc_value given.now).tree target ≡
+        IsRule rule.do_file rule.missing (arguments_view rule.args) }
     ensures { IfOk result (IsBegunJob (arc_value given.now) target) }
 {
     let tree = Arc::try_clone(given.tree())?;

@@ -251,7 +251,8 @@ pub(crate) fn enter(
     ensures ok { OnOk result (IsEnteredInto build.now table.old table.new newly_ready.new.items path.now) }
     ensures number { IfOk result (λ at. slice_get table.new.targets.keys at ≡ Some path.now) }
     ensures too_many { result ≡ Err Stop.TooMany ↔
-        IsFull (rules_for build.now) build.now.limits.targets (table_entries (rules_for build.now) build.now.limits.targets table.old) path.now }
+        IsFull (rules_for build.now) build.now.limits.targets
+        (table_entries (rules_for build.now) build.now.limits.targets table.old) path.now }
 {
     if let Some(at) = find(&table.targets, path) {
         return Ok(at as u32);
@@ -277,7 +278,8 @@ pub(crate) fn enter_new(
     requires new { IsAmong table.old.targets.keys path.now → ⊥ }
     requires room { length table.old.slots.items < build.now.limits.targets }
     requires table { IsTableOf build.now table.old newly_ready.old.items }
-    ensures { OnOk result (IsPushed build.now table.old table.new newly_ready.old.items newly_ready.new.items path.now) }
+    ensures { OnOk result (IsPushed build.now table.old table.new newly_ready.old.items newly_ready.new.items
+        path.now) }
 {
     let stage = begin(alloc, path, build, table.slots.len())?;
     if is_ready(&stage) {

@@ -1,3 +1,4 @@
-//! Small builds.
+//! Small builds, and scripts.
 
 mod board;
+mod reading;

@@ -96,7 +96,12 @@ impl Model for Piece {
 
     ghost use Rattle.redo_core.specs.inside.Ends.{end_progress, IsEndAt};
 
-    ghost view = { λ p. record { given = arc_value p.given; target = p.target; turn = p.turn; progress = end_progress p.end } };
+    ghost view = { λ p. record {
+      given = arc_value p.given;
+      target = p.target;
+      turn = p.turn;
+      progress = end_progress p.end;
+    } };
 
     ghost invariant = { λ p. IsEndAt (arc_value p.given) p.target p.turn p.end };
 }
@@ -126,7 +131,13 @@ impl Work {
     pub(crate) fn of(given: Arc<Given>, begun: Box<Begun>) -> Work
         requires { IsWorkWith (arc_value given) begun.value.job begun.value.facts }
         ensures { result ≡
-            record { given = arc_value given; target = begun.value.job.target; turn = begun.value.job.turn; deps = job_deps begun.value.job; known = known_in begun.value.facts } }
+            record {
+              given = arc_value given;
+              target = begun.value.job.target;
+              turn = begun.value.job.turn;
+              deps = job_deps begun.value.job;
+              known = known_in begun.value.facts;
+            } }
     {
         Work {
             given,

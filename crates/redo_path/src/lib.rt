@@ -18,7 +18,6 @@ ghost use Rattle.std.specs.Cmp.{partial_equiv_from_equiv};
 ghost use Rattle.std.specs.Cmp.Lexicographic.{nat_list_cmp_total, nat_list_eq_equiv, pointwise, slice_cmp, texts_po};
 ghost use Rattle.std.specs.Cmp.Lexicographic.{texts_ties};
 ghost use Rattle.std.specs.Cmp.Rules.{hashing};
-ghost use Rattle.std.specs.Hash as fed;
 ghost use Rattle.std.specs.Ordering.{nat_cmp};
 ghost use Rattle.std.proofs.Common.{rules};
 ghost use Rattle.redo_path.specs.declared.PathFault.TheVariants.{Memory};
@@ -233,12 +232,13 @@ impl Ord for Path {
 }
 
 impl Hash for Path {
-    ghost hash_input = { fed.slice fed.u8 };
+    // The text as a whole, which is fed many bytes at a time.
+    ghost hash_input = { λ path. path ∷ [] };
 
     ghost respects_eq = { Prim.search (hashing, rules) };
 
     fn hash<H: Hasher>(&self, state: &mut H) {
-        self.text().hash(state);
+        state.write(self.text());
     }
 }
 

@@ -127,7 +127,8 @@ fn write_record<'a, W: ByteOut>(
 /// Writes the line of a record's .do file, if it has one.
 fn write_do_file<W: ByteOut>(out: &mut W, do_file: Option<&Path>) -> Result<(), Broken>
     requires { W.has_failed out.old ≡ false }
-    ensures writes { Writes (W.held out.old) (W.held out.new) result (flat_map dep_line (change_of (option_copied do_file.entry))) }
+    ensures writes { Writes (W.held out.old) (W.held out.new) result
+        (flat_map dep_line (change_of (option_copied do_file.entry))) }
     ensures failed { W.has_failed out.new ≡ is_err result }
 {
     match do_file {

@@ -78,7 +78,8 @@ tree_eq = pointwise entry_eq
 -- being the same is an equivalence
 abbrev pub trees_alike : IsEquivalence tree_eq
 trees_alike =
-    lists_equiv (and_equiv (on_equiv (λ e. e.0) nat_list_eq_equiv) (on_equiv (λ e. bytes_of e.1) (options_equiv nat_list_eq_equiv)))
+    lists_equiv (and_equiv (on_equiv (λ e. e.0) nat_list_eq_equiv)
+    (on_equiv (λ e. bytes_of e.1) (options_equiv nat_list_eq_equiv)))
 
 -- the path of an entry that is a file
 abbrev pub file_path : List ℕ × Node → Option (List ℕ)
@@ -105,7 +106,8 @@ place_refusal (Some (File bytes)) (File others) = Some Twice
 -- why a node can't be added at a path: the parent is looked at first, and the root has none
 abbrev pub refusal : Tree → List ℕ → Node → Option TreeFault
 refusal tree path node =
-    option_or (option_and_then (λ dir. parent_refusal (node_at tree dir)) (parent_of path)) (place_refusal (node_at tree path) node)
+    option_or (option_and_then (λ dir. parent_refusal (node_at tree dir)) (parent_of path))
+    (place_refusal (node_at tree path) node)
 
 -- the tree with one more node, or why it can't be added
 abbrev pub added : Tree → List ℕ → Node → Result Tree TreeFault
@@ -130,7 +132,8 @@ node_of (entries.File content) = File content
 
 abbrev pub node_code : Coded Node
 node_code =
-    code_by (Option (List ℕ)) (coded_option (coded_list coded_ℕ)) bytes_of (λ o. elim o [ None ↦ Directory | Some bytes ↦ File bytes ]) (elim [ Directory ↦ refl | File bytes ↦ refl ])
+    code_by (Option (List ℕ)) (coded_option (coded_list coded_ℕ)) bytes_of
+    (λ o. elim o [ None ↦ Directory | Some bytes ↦ File bytes ]) (elim [ Directory ↦ refl | File bytes ↦ refl ])
 
 -- the keys are paths and rise, the root is a directory, and so is the parent of all that stands in the tree
 pub record IsTree (tree : Tree) : Type 0 where

@@ -4,11 +4,11 @@
 //! [`Tree::files`] alone, so memory may run out there and while a bundle is written.
 
 ghost use Rattle.std.specs.Prelude.{◌≡◌, ◌<◌, ◌^◌, IfOk, IfSome, OnOk, false, length, option_copied, map, nat_eq};
-ghost use Rattle.std.specs.Prelude.{option_map, is_some, List, ℕ};
-ghost use Rattle.std.proofs.Common.{ap};
+ghost use Rattle.std.specs.Prelude.{option_map, is_some, List, ℕ, ◌∷◌, []};
+ghost use Rattle.std.proofs.Common.{ap, rules};
 ghost use Rattle.std.specs.Cmp.{partial_equiv_from_equiv};
+ghost use Rattle.std.specs.Cmp.Rules.{hashing};
 ghost use Rattle.std.specs.Cmp.Lexicographic.{bytes_decides, nat_list_eq_equiv, pointwise};
-ghost use Rattle.std.specs.Hash as fed;
 ghost use Rattle.redo_path.specs.Names.{IsPath};
 ghost use Rattle.redo_tree.specs.Tree.{Directory, File, top, node_at, kind_of, file_at, files_of, node_of, refusal};
 ghost use Rattle.redo_tree.specs.Tree.{added, tree_eq, trees_alike, default_dir as dir_of_default};
@@ -19,6 +19,7 @@ use indexmap::{Equivalent, IndexMap, IndexSet};
 use redo_path::Path;
 use std::alloc::{AllocError, Global};
 use std::collections::BTreeMap;
+use std::hash::{Hash, Hasher};
 use std::marker::Model;
 
 /// What stands at a path.
@@ -64,13 +65,23 @@ impl Model for Tree {
 }
 
 /// The text of a path, by which its entry is looked up.
-#[derive(Clone, Copy, PartialEq, Eq, Hash)]
+#[derive(Clone, Copy, PartialEq, Eq)]
 struct PathText<'a>(&'a [u8]);
+
+impl<'a> Hash for PathText<'a> {
+    ghost hash_input = { λ text. text.0.now ∷ [] };
+
+    ghost respects_eq = { Prim.search (hashing, rules) };
+
+    fn hash<H: Hasher>(&self, state: &mut H) {
+        state.write(self.0);
+    }
+}
 
 impl<'a> Equivalent<Path> for PathText<'a> {
     ghost equivalent = { λ text path. pointwise nat_eq text.0.now path };
 
-    ghost respects_hash = { λ text path h. ap (fed.slice fed.u8) ((bytes_decides text.0.now path).0 h) };
+    ghost respects_hash = { λ text path h. ap (λ bytes. bytes ∷ []) ((bytes_decides text.0.now path).0 h) };
 
     ghost respects_eq = { λ text x y. nat_list_eq_equiv.congr text.0.now x y };
 
@@ -101,7 +112,8 @@ impl Tree {
         self.entries.len()
     }
 
-    /// A number for the entry at a path, which no other entry has, for tables beside the tree; none where nothing stands.
+    /// A number for the entry at a path, which no other entry has, for tables beside the tree; none where nothing
+    /// stands.
     /// Entries are numbered from 0, in the order in which they were added.
     pub fn number_of(&self, path: &Path) -> Option<usize>
         ensures found { is_some result ≡ is_some (node_at self.now path.now) }

@@ -136,26 +136,29 @@ impl<'a> Candidates<'a> {
         ensures { Passes tree.now result self.old self.new }
     {
         let mut count = 0;
+        let name = self.name;
+        let dots = dots(name);
         while let Next::Suffix(dir, end) = self.next
-            && end.len() == self.name.len()
+            && end == name
             && !tree.holds_defaults(dir)
         {
-            count += count_by(dir, end);
+            count += count_by(dir, end, dots);
             self.next = above(self.name, dir);
         }
         count
     }
 }
 
-/// How many candidates there are in a directory by the suffixes of this end of a name. Where the end
-/// itself isn't too long, no suffix of it is.
-fn count_by(dir: &[u8], end: &[u8]) -> usize
+/// How many candidates there are in a directory by the suffixes of this end of a name, which has so many dots. Where the
+/// end itself isn't too long, no suffix of it is.
+fn count_by(dir: &[u8], end: &[u8], dots: usize) -> usize
     requires path { IsPath dir.now }
     requires part { IsPart end.now }
+    requires dots { dots ≡ length (filter is_dot end.now) }
     ensures { result ≡ length (flat_map (λ places. places) (slots_by (suffixes end.now) dir.now)) }
 {
     if fits(dir, b"default", end) {
-        dots(end) + 1
+        dots + 1
     } else {
         count_each(dir, end)
     }

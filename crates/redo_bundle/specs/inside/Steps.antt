@@ -63,7 +63,9 @@ file_fault n size text =
 -- the size and the path behind the first word of a file's header
 abbrev pub words_of : List ℕ → Option (ℕ × List ℕ)
 words_of words =
-    if list_any is_space words then option_map (λ size. (size, after_first is_space words)) (size_of (before_first is_space words)) else None
+    if list_any is_space words
+    then option_map (λ size. (size, after_first is_space words)) (size_of (before_first is_space words))
+    else None
 
 -- a path below the root
 abbrev pub IsPlace : List ℕ → Type 0

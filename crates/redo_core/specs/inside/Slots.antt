@@ -88,7 +88,8 @@ rules_inside b = rules_for b.build
 
 -- the state that a board keeps
 abbrev pub state_of : Inside → State
-state_of b = state_from (rules_inside b) b.build.limits.targets b.table.targets.keys b.table.slots.items b.table.ready.items
+state_of b = state_from (rules_inside b) b.build.limits.targets b.table.targets.keys b.table.slots.items
+    b.table.ready.items
 
 -- a slot whose job is parked has that job at its place
 abbrev pub IsParked : GivenView → List ℕ → ℕ → WorkView → Type 0
@@ -115,7 +116,8 @@ AllAnswered r a deps = (q : List ℕ) → IsAmong (operands r deps) q → a q �
 
 -- a job that waits, with the outcomes that it holds: they are among those known, and those of the first entries that
 -- it declared
-pub record IsWaitingWith (r : Rules) (a : Ask) (given : GivenView) (p : List ℕ) (turn : ℕ) (parked : Parked) : Type 0 where
+pub record IsWaitingWith (r : Rules) (a : Ask) (given : GivenView) (p : List ℕ) (turn : ℕ) (parked : Parked)
+    : Type 0 where
   pub is_job : IsJobOf given parked.begun.value.job
   pub of_target : parked.begun.value.job.target ≡ p
   pub at_turn : parked.begun.value.job.turn ≡ turn
@@ -200,7 +202,8 @@ AllWatchersBelow slots =
     (i k : ℕ) (slot : Slot) → slice_get slots i ≡ Some slot → IsPlace slot.watchers.items k → k < length slots
 
 -- how a table stands, with the newly ready numbers
-pub record IsTable (r : Rules) (given : GivenView) (ps : List (List ℕ)) (slots : List Slot) (ready : List ℕ) (out : ℕ) (newly_ready : List ℕ) : Type 0 where
+pub record IsTable (r : Rules) (given : GivenView) (ps : List (List ℕ)) (slots : List Slot) (ready : List ℕ)
+    (out : ℕ) (newly_ready : List ℕ) : Type 0 where
   pub one_each : length slots ≡ length ps
   pub within_limit : length slots ≤ given.limits.targets
   pub few : given.limits.targets ≤ 65536
@@ -343,12 +346,15 @@ pub record IsFedAs (given : GivenView) (t : Table) (at : ℕ) (slot : Slot) (par
   pub there : slice_get t.slots.items at ≡ Some slot
   pub was : slot.stage ≡ Waiting parked
   pub distinct : AreDistinct t.targets.keys
-  pub waits : IsWaitingWith (rules_for given) (outcomes_of (table_entries (rules_for given) given.limits.targets t)) given (path_at t.targets.keys at) slot.turn parked
+  pub waits : IsWaitingWith (rules_for given) (outcomes_of (table_entries (rules_for given) given.limits.targets t))
+      given (path_at t.targets.keys at) slot.turn parked
   pub fits : AllFit (rules_for given) given.limits.targets given t.targets.keys t.slots.items
   pub numbered : AreNumbers t.targets.keys parked.operands.items (waited_by (rules_for given) parked.begun.value)
   pub rest : AreDecidedFrom t parked.operands.items parked.held (length parked.operands.items)
-  pub is_work : IsWork (rules_for given) parked.begun.value.job.target parked.begun.value.job.turn (job_deps parked.begun.value.job)
-  pub deep : Extends (rules_for given) (outcomes_of (table_entries (rules_for given) given.limits.targets t)) (outcome_at (rules_for given) is_work.depth)
+  pub is_work : IsWork (rules_for given) parked.begun.value.job.target parked.begun.value.job.turn
+      (job_deps parked.begun.value.job)
+  pub deep : Extends (rules_for given) (outcomes_of (table_entries (rules_for given) given.limits.targets t))
+      (outcome_at (rules_for given) is_work.depth)
   pub few : parked.begun.value.job.turn < 65536
 
 abbrev pub IsFed : GivenView → Table → ℕ → Type 0
@@ -483,7 +489,8 @@ table_state r depth t = state_from r depth t.targets.keys t.slots.items t.ready.
 -- the state after what is out at a number is handed in
 abbrev pub state_after : GivenView → Table → ℕ → State
 state_after given t at =
-    handed_in (rules_for given) (table_state (rules_for given) given.limits.targets t) (entry_of (table_entries (rules_for given) given.limits.targets t) (path_at t.targets.keys at))
+    handed_in (rules_for given) (table_state (rules_for given) given.limits.targets t)
+    (entry_of (table_entries (rules_for given) given.limits.targets t) (path_at t.targets.keys at))
 
 -- the table is that of a state that is reached, with nothing left to do, and the end is that of the job that is out at
 -- the number

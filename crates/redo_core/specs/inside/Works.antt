@@ -86,12 +86,14 @@ pub record IsWorkWith (given : GivenView) (job : JobView) (facts : Facts) : Type
 
 -- a job that stopped at a turn: it is at the next, with the outcomes of the build at this depth for all that it had
 -- asked for before
-pub record IsStopped (given : GivenView) (depth : ℕ) (target : List ℕ) (turn : ℕ) (job : JobView) (facts : Facts) : Type 0 where
+pub record IsStopped (given : GivenView) (depth : ℕ) (target : List ℕ) (turn : ℕ) (job : JobView) (facts : Facts)
+    : Type 0 where
   pub is_job : IsJobOf given job
   pub of_target : job.target ≡ target
   pub at_turn : job.turn ≡ turn + 1
   pub exact : (q : List ℕ) → told_in facts q ≡
-      only (operands (rules_for given) (deps_at_turn (rules_for given) target (outcome_at (rules_for given) depth) turn)) (outcome_at (rules_for given) depth) q
+      only (operands (rules_for given) (deps_at_turn (rules_for given) target (outcome_at (rules_for given) depth) turn))
+      (outcome_at (rules_for given) depth) q
   pub goes_on : GoesOn job (told_in facts)
   pub within : facts.gained ≤ length job.state.entries
   pub gained : AreKnownBelow (rules_for given) job (told_in facts) facts.gained

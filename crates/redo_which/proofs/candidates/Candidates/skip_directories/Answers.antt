@@ -1,6 +1,8 @@
-use Rattle.std.proofs.Common.{◌≡◌, ◌∙◌, ◌++◌, ap, refl, subst, sym}
+use Rattle.std.proofs.Common.{◌≡◌, ◌∙◌, ◌++◌, ap, refl, subst, sym, length}
+use Rattle.std.specs.Prelude.{filter}
+use Rattle.std.specs.Cmp.Lexicographic.{bytes_decides}
 use Rattle.redo_path.specs.Names.{IsPart}
-use Rattle.redo_which.specs.Candidates.{suffixes}
+use Rattle.redo_which.specs.Candidates.{is_dot, suffixes}
 use Rattle.redo_which.specs.inside.Passed.{Passes, places_left}
 use Rattle.redo_which.specs.inside.Slots.{IsNext, slots_by, slots_left}
 use Rattle.redo_which.proofs.PassedLemmas.{fewer-by, passes-by, passes-more}
@@ -30,3 +32,9 @@ loop-self-smaller c =
     let end = c.in-Suffix.end.now in
     let split : slots_left name c.loop-self.self-inside.next ≡ slots_by (suffixes end) dir ++ slots_left name c.above-self-inside.result = ap (slots_left name) c.in-Suffix.is ∙ ap (λ l. slots_by (suffixes end) dir ++ l) (sym c.above-self-inside.ensures.left) in
     fewer-by end dir _ _ split
+
+-- The end is the whole name.
+pub count_by-count-requires-clause-dots : goal.count_by-count-requires-clause-dots
+count_by-count-requires-clause-dots c =
+    let same = (bytes_decides c.in-Suffix.end.now c.self.inside.name.now).0 (sym c.if-eq.ensures) in
+    c.dots-dots.ensures ∙ ap (λ text. length (filter is_dot text)) (sym same)
