@@ -108,6 +108,18 @@ def put(place, tree):
                 file.write(as_bytes(content))
 
 
+def standing(place):
+    """All that stands in a directory: paths with their contents, or None for a directory."""
+    found = {}
+    for above, dirs, files in os.walk(place):
+        for name in dirs:
+            found[os.path.relpath(f"{above}/{name}", place)] = None
+        for name in files:
+            with open(f"{above}/{name}", "rb") as file:
+                found[os.path.relpath(f"{above}/{name}", place)] = file.read()
+    return found
+
+
 def room():
     """A new directory, for `with`: it is removed at the end."""
     return tempfile.TemporaryDirectory()

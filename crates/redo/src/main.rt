@@ -7,6 +7,7 @@ mod causes;
 mod options;
 mod status;
 
+use clap::error::ErrorKind;
 use clap::{ArgMatches, Error};
 use options::{Action, Call, Input, Refusal};
 use redo_bundle::Plain;
@@ -48,7 +49,7 @@ fn main(rt: HostRuntime) -> ExitCode {
 /// which is shown.
 fn read_call(rt: &HostRuntime, alloc: Global) -> Result<Call, u8> {
     let words = words(rt, alloc).map_err(|refusal| refuse(rt, refusal))?;
-    let command = options::command(alloc).map_err(|_| status::MEMORY)?;
+    let command = options::command(alloc).map_err(|_| refuse(rt, Refusal::Memory))?;
     let matches = match command.try_get_matches_from(words.as_slice()) {
         Ok(matches) => matches,
         Err(error) => return Err(show_parse(rt, &error)),
@@ -59,6 +60,9 @@ fn read_call(rt: &HostRuntime, alloc: Global) -> Result<Call, u8> {
 /// Shows what the parse ended in: help or the version on standard output, a refusal on standard error. Answers the exit
 /// status.
 fn show_parse(rt: &HostRuntime, error: &Error) -> u8 {
+    if error.kind() == ErrorKind::OutOfMemory {
+        return refuse(rt, Refusal::Memory);
+    }
     if error.print(rt).is_err() && !error.use_stderr() {
         let fault = Fault::Output;
         let _shown = eprintln!(rt; "redo: {fault}");
