@@ -3,6 +3,8 @@
 //! This crate holds the command line, the words on standard error and the exit statuses; all else is `redo_run`'s.
 #![tactic(auto)]
 
+ghost use Rattle.std.specs.Prelude.{◌≡◌, false};
+
 mod causes;
 mod options;
 mod status;
@@ -123,20 +125,38 @@ fn build<H: Runtime + Threads + Wait + Sync>(
     cause: &mut Cause,
 ) -> Result<bool, Fault> {
     let mut writer = Plain::new(buffered(alloc, io::writer(rt))?);
-    let (exit, passed) = match input {
+    let outcome = build_to(rt, alloc, options, input, &mut writer, cause);
+    // What is left after a failed write isn't tried again, as it would be where the buffer is let go with it.
+    let (_out, _unwritten) = writer.stream.into_parts();
+    let (exit, passed) = outcome?;
+    note_passed(rt, passed);
+    Ok(exit == Exit::Good)
+}
+
+/// Builds targets, and writes the report to its end. Answers how they ended, and how many names were passed over.
+fn build_to<H: Runtime + Threads + Wait + Sync, W: Write + Drop>(
+    rt: &H,
+    alloc: Global,
+    options: &Options,
+    input: &Input,
+    writer: &mut Plain<BufWriter<W>>,
+    cause: &mut Cause,
+) -> Result<(Exit, u64), Fault>
+    requires { writer.old.broken ≡ false }
+{
+    let ended = match input {
         Input::Bundle => {
             let mut reader = Plain::new(rt.reader());
-            let exit = run_bundle(rt, alloc, &mut reader, &mut writer, options, &NoGate, cause)?;
+            let exit = run_bundle(rt, alloc, &mut reader, writer, options, &NoGate, cause)?;
             (exit, 0)
         }
         Input::Directory(dir) => {
-            let run = run_dir(rt, alloc, dir, &mut writer, options, &NoGate, cause)?;
+            let run = run_dir(rt, alloc, dir, writer, options, &NoGate, cause)?;
             (run.exit, run.passed)
         }
     };
     flush(&mut writer.stream)?;
-    note_passed(rt, passed);
-    Ok(exit == Exit::Good)
+    Ok(ended)
 }
 
 /// A writer with a buffer, since a report comes in many small pieces.
