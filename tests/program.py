@@ -40,12 +40,12 @@ def find():
 REDO = find()
 
 
-def run(words, text=b"", **more):
+def run(words, text=b"", program=REDO, **more):
     """Runs the program on the words of a command line, with a text on its standard input."""
     if "stdin" not in more:
         more["input"] = text
     more = {"stdout": subprocess.PIPE, "stderr": subprocess.PIPE, "timeout": 60, **more}
-    done = subprocess.run([REDO, *words], check=False, **more)
+    done = subprocess.run([program, *words], check=False, **more)
     return Run(done.returncode, done.stdout, done.stderr)
 
 
