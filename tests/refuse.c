@@ -1,8 +1,8 @@
-/* A library that is loaded into the program before the C library. It counts the program's calls by their kind, and refuses
-   those of one kind from one call to another, counted from 1, with an error number, or with the answer 0 where that is 0; and
-   it lets a read or a write move so many bytes at most: REFUSE is "kind first last error most". The counts stand in the file
-   that COUNTS names, however the program ends: the calls of each kind, and then the refused ones. It takes in no header, since
-   the kit's compiler comes without. */
+/* A library that is loaded into the program before the C library. It counts the program's calls by their kind, and
+   refuses those of one kind from one call to another, counted from 1, with an error number, or with the answer 0 where
+   that is 0; and it lets a read or a write move so many bytes at most: REFUSE is "kind first last error most". The counts
+   stand in the file that COUNTS names, however the program ends: the calls of each kind, and then the refused ones. It
+   takes in no header, since the kit's compiler comes without. */
 
 typedef unsigned long size_t;
 typedef long ssize_t;

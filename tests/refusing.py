@@ -1,5 +1,5 @@
-"""Runs of the program in which calls of the system are refused, one after another. Its calls are counted by a library that is
-loaded into it (`refuse.c`), which the kit's own compiler makes."""
+"""Runs of the program in which calls of the system are refused, one after another. Its calls are counted by a library
+that is loaded into it (`refuse.c`), which the kit's own compiler makes."""
 
 import os
 import struct
@@ -48,8 +48,8 @@ class Refusing:
         self.room.cleanup()
 
     def run(self, words, text, kind, first, last=None, error=None, most=WITHOUT_END, **more):
-        """Runs the program, with the calls of a kind refused from the first to the last, or the first alone, and with reads and
-        writes of so many bytes at most. Answers what it came to, and the counts."""
+        """Runs the program, with the calls of a kind refused from the first to the last, or the first alone, and with reads
+        and writes of so many bytes at most. Answers what it came to, and the counts."""
         counts = f"{self.room.name}/{threading.get_ident()}"
         with open(counts, "wb") as file:
             file.write(bytes(8 * len(Counts._fields)))
