@@ -1,13 +1,30 @@
 """What the scripts beside this file share: the program under test, bundles, and what a run came to."""
 
 import os
+import re
+import signal
 import subprocess
 import sys
 import tempfile
 from collections import namedtuple
+from threading import Timer
 
 # What a run came to: its exit status, and what it wrote on standard output and on standard error.
 Run = namedtuple("Run", "status out said")
+
+# What a run took: its processor time in seconds, of all threads, and the most memory that it held, in MiB.
+Took = namedtuple("Took", "seconds mib")
+
+# The words behind `failed` in a row of a report.
+WHY = (
+    rb"norule|directory|nodirectory|both"
+    rb"|(?:exit|depends|unquoted|outside|undeclared|exists|buildable|direct|elsewhere|toolarge|format) [0-9]+"
+    rb"|script [0-9]+ (?:nul|interpreter|openquote|unsupported|unknowncommand|shape|ifshape|toodeep)"
+)
+ROW = rb"(?:source|built none|built [0-9]+|cyclic|failed (?:%s)) [^\n]*\n(?:dep (?:create|change) [^\n]*\n)*" % WHY
+# The line before a file of a report, and a report without its files.
+FILE = re.compile(rb"file (0|[1-9][0-9]*) ([^\n]*)\n")
+HEAD = re.compile(rb"(?:%s)*(?:begun [^\n]*\n)*end\n" % ROW)
 
 
 def find():
@@ -23,13 +40,46 @@ def find():
 REDO = find()
 
 
-def run(words, text=b"", **more):
+def run(words, text=b"", program=REDO, **more):
     """Runs the program on the words of a command line, with a text on its standard input."""
     if "stdin" not in more:
         more["input"] = text
     more = {"stdout": subprocess.PIPE, "stderr": subprocess.PIPE, "timeout": 60, **more}
-    done = subprocess.run([REDO, *words], check=False, **more)
+    done = subprocess.run([program, *words], check=False, **more)
     return Run(done.returncode, done.stdout, done.stderr)
+
+
+def measured(words, text, seconds):
+    """Runs the program as `run` does, on a text or its pieces. Answers what it came to, and what it took. It is killed
+    after so many seconds of wall time. The memory that it held is never less than what this process held before."""
+    file = tempfile.TemporaryFile
+    with file() as input, file() as out, file() as said:
+        for piece in [text] if isinstance(text, bytes) else text:
+            input.write(piece)
+        input.seek(0)
+        child = subprocess.Popen([REDO, *words], stdin=input, stdout=out, stderr=said)
+        late = Timer(seconds, os.kill, (child.pid, signal.SIGKILL))
+        late.start()
+        _, ended, used = os.wait4(child.pid, 0)
+        late.cancel()
+        child.returncode = os.waitstatus_to_exitcode(ended)
+        out.seek(0)
+        said.seek(0)
+        took = Took(used.ru_utime + used.ru_stime, used.ru_maxrss // 1024)
+        return Run(child.returncode, out.read(), said.read()), took
+
+
+def parts(report):
+    """A report over a bundle: its text without the files, and the files. None where it isn't one."""
+    at = report.find(b"\nfile ") + 1 or len(report) - len(b"end\n")
+    head, files = report[:at] + b"end\n", {}
+    while found := FILE.match(report, at):
+        end = found.end() + int(found[1])
+        if report[end : end + 1] != b"\n":
+            return None
+        files[os.fsdecode(found[2])] = report[found.end() : end]
+        at = end + 1
+    return (head, files) if HEAD.fullmatch(head) and report[at:] == b"end\n" else None
 
 
 def as_bytes(content):
@@ -56,6 +106,18 @@ def put(place, tree):
         else:
             with open(f"{place}/{path}", "wb") as file:
                 file.write(as_bytes(content))
+
+
+def standing(place):
+    """All that stands in a directory: paths with their contents, or None for a directory."""
+    found = {}
+    for above, dirs, files in os.walk(place):
+        for name in dirs:
+            found[os.path.relpath(f"{above}/{name}", place)] = None
+        for name in files:
+            with open(f"{above}/{name}", "rb") as file:
+                found[os.path.relpath(f"{above}/{name}", place)] = file.read()
+    return found
 
 
 def room():

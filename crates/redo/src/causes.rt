@@ -12,11 +12,11 @@ use std::fmt::Display;
 /// A cause in words, or none where no more is known than the message says.
 pub(crate) type Words = Result<Option<String>, AllocError>;
 
-/// The target word that is refused, and why.
+/// The target word that is refused, and why. Where memory runs out while it is looked for, nothing is known of it.
 pub(crate) fn of_target(alloc: Global, bad: Option<(&str, PathFault)>) -> Words {
     match bad {
+        Some((_, PathFault::Memory)) | None => Ok(None),
         Some((word, why)) => of_path(alloc, word.as_bytes(), why),
-        None => Ok(None),
     }
 }
 

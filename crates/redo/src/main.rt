@@ -3,10 +3,13 @@
 //! This crate holds the command line, the words on standard error and the exit statuses; all else is `redo_run`'s.
 #![tactic(auto)]
 
+ghost use Rattle.std.specs.Prelude.{◌≡◌, false};
+
 mod causes;
 mod options;
 mod status;
 
+use clap::error::ErrorKind;
 use clap::{ArgMatches, Error};
 use options::{Action, Call, Input, Refusal};
 use redo_bundle::Plain;
@@ -48,7 +51,7 @@ fn main(rt: HostRuntime) -> ExitCode {
 /// which is shown.
 fn read_call(rt: &HostRuntime, alloc: Global) -> Result<Call, u8> {
     let words = words(rt, alloc).map_err(|refusal| refuse(rt, refusal))?;
-    let command = options::command(alloc).map_err(|_| status::MEMORY)?;
+    let command = options::command(alloc).map_err(|_| refuse(rt, Refusal::Memory))?;
     let matches = match command.try_get_matches_from(words.as_slice()) {
         Ok(matches) => matches,
         Err(error) => return Err(show_parse(rt, &error)),
@@ -59,6 +62,9 @@ fn read_call(rt: &HostRuntime, alloc: Global) -> Result<Call, u8> {
 /// Shows what the parse ended in: help or the version on standard output, a refusal on standard error. Answers the exit
 /// status.
 fn show_parse(rt: &HostRuntime, error: &Error) -> u8 {
+    if error.kind() == ErrorKind::OutOfMemory {
+        return refuse(rt, Refusal::Memory);
+    }
     if error.print(rt).is_err() && !error.use_stderr() {
         let fault = Fault::Output;
         let _shown = eprintln!(rt; "redo: {fault}");
@@ -119,20 +125,38 @@ fn build<H: Runtime + Threads + Wait + Sync>(
     cause: &mut Cause,
 ) -> Result<bool, Fault> {
     let mut writer = Plain::new(buffered(alloc, io::writer(rt))?);
-    let (exit, passed) = match input {
+    let outcome = build_to(rt, alloc, options, input, &mut writer, cause);
+    // What is left after a failed write isn't tried again, as it would be where the buffer is let go with it.
+    let (_out, _unwritten) = writer.stream.into_parts();
+    let (exit, passed) = outcome?;
+    note_passed(rt, passed);
+    Ok(exit == Exit::Good)
+}
+
+/// Builds targets, and writes the report to its end. Answers how they ended, and how many names were passed over.
+fn build_to<H: Runtime + Threads + Wait + Sync, W: Write + Drop>(
+    rt: &H,
+    alloc: Global,
+    options: &Options,
+    input: &Input,
+    writer: &mut Plain<BufWriter<W>>,
+    cause: &mut Cause,
+) -> Result<(Exit, u64), Fault>
+    requires { writer.old.broken ≡ false }
+{
+    let ended = match input {
         Input::Bundle => {
             let mut reader = Plain::new(rt.reader());
-            let exit = run_bundle(rt, alloc, &mut reader, &mut writer, options, &NoGate, cause)?;
+            let exit = run_bundle(rt, alloc, &mut reader, writer, options, &NoGate, cause)?;
             (exit, 0)
         }
         Input::Directory(dir) => {
-            let run = run_dir(rt, alloc, dir, &mut writer, options, &NoGate, cause)?;
+            let run = run_dir(rt, alloc, dir, writer, options, &NoGate, cause)?;
             (run.exit, run.passed)
         }
     };
     flush(&mut writer.stream)?;
-    note_passed(rt, passed);
-    Ok(exit == Exit::Good)
+    Ok(ended)
 }
 
 /// A writer with a buffer, since a report comes in many small pieces.

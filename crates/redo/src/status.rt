@@ -2,7 +2,6 @@
 
 use crate::options::Refusal;
 use clap::Error;
-use clap::error::ErrorKind;
 use redo_bundle::BundleFault;
 use redo_run::{RunDirFault, RunIoFault};
 use std::fmt;
@@ -22,11 +21,8 @@ pub(crate) const OUTPUT: u8 = 5;
 /// Memory ran out.
 pub(crate) const MEMORY: u8 = 6;
 
-/// The status after a parse that ended in help or a refusal.
+/// The status after a parse that ended in help or a refusal of the words.
 pub(crate) fn of_parse(error: &Error) -> u8 {
-    if error.kind() == ErrorKind::OutOfMemory {
-        return MEMORY;
-    }
     if error.use_stderr() { USAGE } else { GOOD }
 }
 

@@ -13,6 +13,7 @@ use std::thread::Threads;
 
 mod directories;
 mod ends;
+mod memory;
 mod one;
 mod picks;
 mod refusals;

@@ -1,0 +1,115 @@
+/* A library that is loaded into the program before the C library. It counts the program's calls by their kind, and
+   refuses those of one kind from one call to another, counted from 1, with an error number, or with the answer 0 where
+   that is 0; and it lets a read or a write move so many bytes at most: REFUSE is "kind first last error most". The counts
+   stand in the file that COUNTS names, however the program ends: the calls of each kind, and then the refused ones. It
+   takes in no header, since the kit's compiler comes without. */
+
+typedef unsigned long size_t;
+typedef long ssize_t;
+
+enum { MEMORY, THREAD, OPEN, LOOK, LIST, READ, WRITE, SAY, RENAME, REMOVE, KINDS };
+
+/* Of the C library. */
+extern void *__libc_malloc(size_t), *__libc_calloc(size_t, size_t), *__libc_realloc(void *, size_t);
+extern void *__libc_memalign(size_t, size_t);
+extern void *dlsym(void *, const char *), *mmap(void *, size_t, int, int, int, long);
+extern char *getenv(const char *);
+extern unsigned long strtoul(const char *, char **, int);
+extern int *__errno_location(void);
+#define NEXT ((void *)-1l)
+#define READ_AND_WRITE 3
+#define SHARED 1
+#define FOR_BOTH 2
+
+static unsigned long *counts, kind, first, last, error, most;
+static int (*next_open)(const char *, int, int), (*next_openat)(int, const char *, int, int);
+static int (*next_statx)(int, const char *, int, unsigned, void *), (*next_rename)(const char *, const char *);
+static int (*next_unlink)(const char *), (*next_pthread_create)(void *, const void *, void *(*)(void *), void *);
+static ssize_t (*next_getdents64)(int, void *, size_t), (*next_read)(int, void *, size_t);
+static ssize_t (*next_write)(int, const void *, size_t);
+
+__attribute__((constructor)) static void begin(void) {
+    char *told = getenv("REFUSE"), *file = getenv("COUNTS");
+    next_open = dlsym(NEXT, "open");
+    next_openat = dlsym(NEXT, "openat");
+    next_statx = dlsym(NEXT, "statx");
+    next_rename = dlsym(NEXT, "rename");
+    next_unlink = dlsym(NEXT, "unlink");
+    next_pthread_create = dlsym(NEXT, "pthread_create");
+    next_getdents64 = dlsym(NEXT, "getdents64");
+    next_read = dlsym(NEXT, "read");
+    next_write = dlsym(NEXT, "write");
+    if (told == 0 || file == 0)
+        return;
+    kind = strtoul(told, &told, 10);
+    first = strtoul(told, &told, 10);
+    last = strtoul(told, &told, 10);
+    error = strtoul(told, &told, 10);
+    most = strtoul(told, &told, 10);
+    counts = mmap(0, 8 * (KINDS + 1), READ_AND_WRITE, SHARED, next_open(file, FOR_BOTH, 0), 0);
+}
+
+/* Counts a call, and tells whether it is to be refused. */
+static int refused(unsigned long this) {
+    unsigned long call;
+    if (counts == 0)
+        return 0;
+    call = __atomic_add_fetch(&counts[this], 1, __ATOMIC_SEQ_CST);
+    if (this != kind || call < first || last < call)
+        return 0;
+    __atomic_add_fetch(&counts[KINDS], 1, __ATOMIC_SEQ_CST);
+    *__errno_location() = error;
+    return 1;
+}
+
+void *malloc(size_t size) { return refused(MEMORY) ? 0 : __libc_malloc(size); }
+
+void *calloc(size_t count, size_t size) { return refused(MEMORY) ? 0 : __libc_calloc(count, size); }
+
+void *realloc(void *old, size_t size) { return refused(MEMORY) ? 0 : __libc_realloc(old, size); }
+
+void *memalign(size_t align, size_t size) { return refused(MEMORY) ? 0 : __libc_memalign(align, size); }
+
+void *aligned_alloc(size_t align, size_t size) { return memalign(align, size); }
+
+int posix_memalign(void **place, size_t align, size_t size) {
+    void *made = memalign(align, size);
+    if (made != 0)
+        *place = made;
+    return made == 0 ? error : 0;
+}
+
+int pthread_create(void *thread, const void *with, void *(*body)(void *), void *given) {
+    return refused(THREAD) ? error : next_pthread_create(thread, with, body, given);
+}
+
+int open(const char *path, int flags, int mode) { return refused(OPEN) ? -1 : next_open(path, flags, mode); }
+
+int openat(int dir, const char *path, int flags, int mode) {
+    return refused(OPEN) ? -1 : next_openat(dir, path, flags, mode);
+}
+
+int statx(int dir, const char *path, int flags, unsigned what, void *about) {
+    return refused(LOOK) ? -1 : next_statx(dir, path, flags, what, about);
+}
+
+ssize_t getdents64(int dir, void *names, size_t size) { return refused(LIST) ? -1 : next_getdents64(dir, names, size); }
+
+static ssize_t answer(void) { return error == 0 ? 0 : -1; }
+
+static size_t least(size_t count) { return count < most ? count : most; }
+
+ssize_t read(int file, void *bytes, size_t count) {
+    return refused(READ) ? answer() : next_read(file, bytes, least(count));
+}
+
+/* Standard error is a kind of its own, and gets its lines whole. */
+ssize_t write(int file, const void *bytes, size_t count) {
+    if (file == 2)
+        return refused(SAY) ? answer() : next_write(file, bytes, count);
+    return refused(WRITE) ? answer() : next_write(file, bytes, least(count));
+}
+
+int rename(const char *from, const char *to) { return refused(RENAME) ? -1 : next_rename(from, to); }
+
+int unlink(const char *path) { return refused(REMOVE) ? -1 : next_unlink(path); }
