@@ -5,11 +5,12 @@ use Rattle.redo_script.specs.declared.fault.ScriptFault.{ScriptFault}
 use Rattle.redo_script.specs.Syntax.{Script}
 use Rattle.redo_record.specs.declared.deps.Dep.{Dep}
 use Rattle.redo_record.specs.Entries.{IsBeginning}
-use Rattle.redo_step.proofs.Public.{run_declares_behind}
+use Rattle.redo_step.proofs.Public.{rest_declares_behind}
 use Rattle.redo_record.specs.Paths.{Path}
 use Rattle.redo_step.specs.Setting.{Setting}
 use Rattle.redo_step.specs.Runs.{stopped, Run, ends, end_state}
-use Rattle.redo_step.specs.Statements.{run, meaning}
+use Rattle.redo_step.specs.Statements.{meaning}
+use Rattle.redo_step.specs.Place.{left_at}
 use Rattle.redo_record.specs.Answers.{Ask}
 use Rattle.redo_step.specs.Reach.{Keeps}
 use Rattle.redo_step.specs.Job.{AsksFor}
@@ -38,6 +39,6 @@ asks-begins ask job later paths fit asks =
     let P : Result Script ScriptFault → Type 0 = λ w. FitsWhole (job_setting job) ask w job.place job.state in
     let fits = subst P asks.whole fit in
     let same = fits.same ask (keeps-itself (job_setting job) job.state.entries ask) in
-    let there : run (job_setting job) ask _ job.state ≡ ends (stopped paths) later.state = sym same ∙ asks.lacks in
+    let there : left_at job.place (job_setting job) asks.script ask job.state ≡ ends (stopped paths) later.state = sym same ∙ asks.lacks in
     let Q : Run → Type 0 = λ r. IsBeginning job.state.entries (end_state r).entries in
-    subst Q there (run_declares_behind (job_setting job) ask _ job.state)
+    subst Q there (rest_declares_behind (job_setting job) ask job.place asks.script job.state)

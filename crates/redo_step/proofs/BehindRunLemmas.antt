@@ -15,6 +15,10 @@ use Rattle.redo_step.specs.Declaring.{free_paths, declaring, lacking, any_failed
 use Rattle.redo_step.specs.Outputs.{written}
 use Rattle.redo_step.specs.Reading.{tested}
 use Rattle.redo_step.specs.Statements.{with_status, with_state, command_run, condition_result, then_run, chosen, run}
+use Rattle.redo_step.specs.declared.place.Branch.{Branch}
+use Rattle.redo_step.specs.declared.place.Branch.TheVariants.{First, Second}
+use Rattle.redo_step.specs.declared.place.Place.{Place, Before, Within'}
+use Rattle.redo_step.specs.Place.{Rest, skip, inside, left_at}
 use Rattle.redo_record.specs.Answers.{Ask}
 use Rattle.redo_step.proofs.StepLemmas.{written_entries}
 use Rattle.redo_record.proofs.BehindLemmas.{beginning-refl, beginning-trans, entries-begin}
@@ -74,3 +78,18 @@ module _ (setting : Setting) (ask : Ask) where
       then-begins s.entries (chosen (condition_result setting ask line c s) (run setting ask first) (run setting ask second) s) (run setting ask rest)
       (chosen-begins (condition_result setting ask line c s) (run setting ask first) (run setting ask second) s (run-begins first s) (run-begins second s))
       (run-begins rest)
+
+  inside-begins : (branch : Branch) (left : Setting → Script → Rest) (c : Script) → ((c : Script) (s : State) → IsBeginning s.entries (end_state (left setting c ask s)).entries) → (s : State) →
+      IsBeginning s.entries (end_state (inside branch left setting c ask s)).entries
+  inside-begins First left finish part s = run-begins finish s
+  inside-begins Second left finish part s = run-begins finish s
+  inside-begins First left (simple line c rest) part s = run-begins finish s
+  inside-begins Second left (simple line c rest) part s = run-begins finish s
+  inside-begins First left (choice line c first second rest) part s = then-begins s.entries (left setting first ask s) (run setting ask rest) (part first s) (run-begins rest)
+  inside-begins Second left (choice line c first second rest) part s = then-begins s.entries (left setting second ask s) (run setting ask rest) (part second s) (run-begins rest)
+
+  -- so does what is left of one
+  pub left-begins : (place : Place) (c : Script) (s : State) → IsBeginning s.entries (end_state (left_at place setting c ask s)).entries
+  unfolding left_at
+  left-begins (Before n) c s = run-begins (skip n c) s
+  left-begins (Within' n branch p place) c s = inside-begins branch (left_at place) (skip n c) (left-begins place) s

@@ -16,7 +16,7 @@ use Rattle.redo_step.specs.declared.wait.Waiting.{Waiting}
 use Rattle.redo_step.specs.Setting.{Setting}
 use Rattle.redo_step.specs.Runs.{State, goes}
 use Rattle.redo_record.specs.Answers.{Ask}
-use Rattle.redo_step.specs.Place.{behind_first, skip, branch_of, stands_at, left_at}
+use Rattle.redo_step.specs.Place.{all_of, behind_first, skip, branch_of, stands_at, left_at}
 use Rattle.redo_step.specs.inside.Waiting.{waited_on, unanswered}
 use Rattle.redo_step.specs.inside.Machine.{WaitsBy, Comes, IsStopBefore, HasBranch}
 use Rattle.redo_step.specs.inside.Kept.{IsFirst, IsKept}
@@ -71,20 +71,20 @@ module _ (setting : Setting) (ask : Ask) (whole : List Stmt) (place : Place) (s 
     kept_within = within_here whole n first.rest first.line first.command at
 
     -- it goes on
-    pub kept_goes : (t : State) (p : RunEnd) → waited_on ask w.line w.targets.items (unanswered ask [] w.targets.items) s ≡ goes s → Comes setting ask (script_of whole) (skip (n + 1) (script_of whole)) finish s p t → Comes setting ask (script_of whole) (left_at place (script_of whole)) finish s p t
+    pub kept_goes : (t : State) (p : RunEnd) → waited_on ask w.line w.targets.items (unanswered ask [] w.targets.items) s ≡ goes s → Comes setting ask (script_of whole) (all_of setting (skip (n + 1) (script_of whole))) (all_of setting finish) s p t → Comes setting ask (script_of whole) (left_at place setting (script_of whole)) (all_of setting finish) s p t
     kept_goes t p g c =
         let runs = first_is setting ask first.line first.command w s first.has ∙ g in
         let reaches = reaches_simple setting ask first.line first.command first.rest s s runs in
         let behind = behind_here n (script_of whole) first.rest first.line first.command at in
-        let all = comes_after setting ask (script_of whole) (simple first.line first.command first.rest) first.rest finish s s t p reaches (subst (λ (y : Script). Comes setting ask (script_of whole) y finish s p t) behind c) in
-        comes_before setting ask whole place s n t p is (subst (λ (y : Script). Comes setting ask (script_of whole) y finish s p t) (sym at) all)
+        let all = comes_after setting ask (script_of whole) (all_of setting (simple first.line first.command first.rest)) (all_of setting first.rest) (all_of setting finish) s s t p reaches (subst (λ (y : Script). Comes setting ask (script_of whole) (all_of setting y) (all_of setting finish) s p t) behind c) in
+        comes_before setting ask whole place s n t p is (subst (λ (y : Script). Comes setting ask (script_of whole) (all_of setting y) (all_of setting finish) s p t) (sym at) all)
 
     -- it stops again
-    pub kept_stops : (stop : Halt) (p : RunEnd) → WaitsBy w stop (waited_on ask w.line w.targets.items (unanswered ask [] w.targets.items) s) s → IsStopBefore stop n p → Comes setting ask (script_of whole) (left_at place (script_of whole)) finish s p s
+    pub kept_stops : (stop : Halt) (p : RunEnd) → WaitsBy w stop (waited_on ask w.line w.targets.items (unanswered ask [] w.targets.items) s) s → IsStopBefore stop n p → Comes setting ask (script_of whole) (left_at place setting (script_of whole)) (all_of setting finish) s p s
     kept_stops stop p h before =
         let ends = ends_waiting setting ask first.line first.command w stop _ s first.has (rw (← first_is setting ask first.line first.command w s first.has) at h) in
-        let stopped = stop_comes setting ask first.line first.command n s s stop p (script_of whole) first.rest finish ends before at in
-        comes_before setting ask whole place s n s p is (subst (λ (y : Script). Comes setting ask (script_of whole) y finish s p s) (sym at) stopped)
+        let stopped = stop_comes setting ask first.line first.command n s s stop p (script_of whole) first.rest (all_of setting finish) ends before at in
+        comes_before setting ask whole place s n s p is (subst (λ (y : Script). Comes setting ask (script_of whole) (all_of setting y) (all_of setting finish) s p s) (sym at) stopped)
 
 ok_same : (x : Result Script ScriptFault) (a b : Script) → x ≡ Ok a → x ≡ Ok b → a ≡ b
 ok_same x a b e f = cc

@@ -6,7 +6,8 @@ use Rattle.redo_step.specs.Setting.{is_source, Setting}
 use Rattle.redo_record.specs.Progress.{IsLawful}
 use Rattle.redo_record.specs.Entries.{IsBeginning, search_deps}
 use Rattle.redo_step.specs.Runs.{State, end_state}
-use Rattle.redo_step.specs.Statements.{run}
+use Rattle.redo_step.specs.Place.{left_at}
+use Rattle.redo_step.specs.declared.place.Place.{Place}
 use Rattle.redo_record.specs.Answers.{Ask}
 use Rattle.redo_record.specs.Paths.{Path}
 use Rattle.redo_step.specs.Results.{by_script}
@@ -18,6 +19,6 @@ pub progress_is_lawful : (setting : Setting) (missing : List Path) (do_file : Pa
     IsLawful (is_source setting) (by_script setting (search_deps missing do_file) parsed)
 progress_is_lawful = lawful.script-lawful
 
--- a run declares behind what was declared before
-pub run_declares_behind : (setting : Setting) (ask : Ask) (script : Script) (s : State) → IsBeginning s.entries (end_state (run setting ask script s)).entries
-run_declares_behind = behind.run-begins
+-- what is left of a script declares behind what was declared before
+pub rest_declares_behind : (setting : Setting) (ask : Ask) (place : Place) (script : Script) (s : State) → IsBeginning s.entries (end_state (left_at place setting script ask s)).entries
+rest_declares_behind = behind.left-begins

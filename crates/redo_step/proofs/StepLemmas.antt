@@ -14,9 +14,8 @@ use Rattle.redo_step.specs.Statements.{with_status, with_state, command_run, con
 use Rattle.redo_record.specs.Answers.{Ask}
 use Rattle.redo_step.specs.Reach.{Keeps, Reaches}
 use Rattle.redo_record.specs.Entries.{Extends}
-use Rattle.redo_step.specs.Place.{followed_by}
+use Rattle.redo_step.specs.Place.{all_of, and_then}
 use Rattle.redo_record.proofs.EntryLemmas.{Extends-refl, Extends-with_entries}
-use Rattle.redo_step.proofs.RunLemmas.{run-followed_by}
 use Rattle.redo_step.proofs.StableLemmas.{Stable, written_stable, tested_stable, condition_stable, changed_goes}
 use Rattle.redo_step.proofs.StableLemmas.{changed_stays}
 
@@ -116,13 +115,13 @@ command_stays setting ask line (exit n) s t w e = same_stays setting _ s t cc
 
 -- Statements
 
-pub reaches_simple : (setting : Setting) (ask : Ask) (line : ℕ) (c : Command) (rest : Script) (s t : State) → command_run setting ask line c s ≡ goes t → Reaches setting ask (simple line c rest) s rest t
+pub reaches_simple : (setting : Setting) (ask : Ask) (line : ℕ) (c : Command) (rest : Script) (s t : State) → command_run setting ask line c s ≡ goes t → Reaches setting ask (all_of setting (simple line c rest)) s (all_of setting rest) t
 unfolding run
 reaches_simple setting ask line c rest s t e =
     let g = command_goes setting ask line c s t e in
     record { extends = g.extends; same = λ later k. ap (λ r. then_run r (run setting later rest)) (g.so later k) }
 
-pub stops_simple : (setting : Setting) (ask : Ask) (line : ℕ) (c : Command) (rest : Script) (s t : State) (w : End) → command_run setting ask line c s ≡ ends w t → Reaches setting ask (simple line c rest) s (simple line c rest) t
+pub stops_simple : (setting : Setting) (ask : Ask) (line : ℕ) (c : Command) (rest : Script) (s t : State) (w : End) → command_run setting ask line c s ≡ ends w t → Reaches setting ask (all_of setting (simple line c rest)) s (all_of setting (simple line c rest)) t
 unfolding run
 stops_simple setting ask line c rest s t w e =
     let g = command_stays setting ask line c s t w e in
@@ -133,13 +132,13 @@ abbrev pub branch_when : Bool → Script → Script → Script
 branch_when true first second = first
 branch_when false first second = second
 
-pub reaches_branch : (setting : Setting) (ask : Ask) (line : ℕ) (c : Condition) (first second rest : Script) (s : State) (b : Bool) → condition_result setting ask line c s ≡ Ok b → Reaches setting ask (choice line c first second rest) s (followed_by (branch_when b first second) rest) s
+pub reaches_branch : (setting : Setting) (ask : Ask) (line : ℕ) (c : Condition) (first second rest : Script) (s : State) (b : Bool) → condition_result setting ask line c s ≡ Ok b → Reaches setting ask (all_of setting (choice line c first second rest)) s (and_then (all_of setting (branch_when b first second)) (all_of setting rest)) s
 unfolding run
 reaches_branch setting ask line c first second rest s true e = record {
   extends = Extends-refl s.entries;
-  same = λ later k. rw ((condition_stable setting ask later s.entries k line c s refl).by true e) (sym (run-followed_by setting later first rest s));
+  same = λ later k. rw ((condition_stable setting ask later s.entries k line c s refl).by true e) refl;
 }
 reaches_branch setting ask line c first second rest s false e = record {
   extends = Extends-refl s.entries;
-  same = λ later k. rw ((condition_stable setting ask later s.entries k line c s refl).by false e) (sym (run-followed_by setting later second rest s));
+  same = λ later k. rw ((condition_stable setting ask later s.entries k line c s refl).by false e) refl;
 }

@@ -51,7 +51,7 @@ progress_of job ask = by_script (job_setting job) (found_deps job) (whole_of job
 -- A script fits where the run of the whole comes to what is left.
 abbrev pub FitsWhole : Setting → Ask → Result Script ScriptFault → Place → State → Type 0
 FitsWhole setting ask (Err fault) place state = Unit {0}
-FitsWhole setting ask (Ok script) place state = Fits setting ask script (left_at place script) state
+FitsWhole setting ask (Ok script) place state = Fits setting ask script (left_at place setting script) state
 
 -- a job that fits an ask
 abbrev pub IsFit : JobView → Ask → Type 0

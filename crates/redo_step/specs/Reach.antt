@@ -6,7 +6,7 @@ use Rattle.redo_record.specs.declared.outcome.Outcome.{Outcome}
 use Rattle.redo_record.specs.Paths.{Path}
 use Rattle.redo_step.specs.Setting.{Setting}
 use Rattle.redo_step.specs.Runs.{State, start}
-use Rattle.redo_step.specs.Statements.{run}
+use Rattle.redo_step.specs.Place.{Rest, all_of}
 use Rattle.redo_record.specs.Answers.{Ask}
 use Rattle.redo_record.specs.Entries.{is_entered, Extends}
 use Rattle.redo_record.specs.declared.deps.Dep.{Dep}
@@ -17,13 +17,12 @@ pub record Keeps (setting : Setting) (entries : List Dep) (ask later : Ask) : Ty
   pub same : (p : Path) (a : Outcome) → setting.source p ≡ None → is_entered entries kinds.Change p ≡ true →
       ask p ≡ Some a → later p ≡ Some a
 
--- The run of these statements from this state comes to those statements and that state: under this ask,
--- and under each that keeps its answers to what is then declared.
-pub record Reaches (setting : Setting) (ask : Ask) (script : Script) (old : State) (rest : Script) (new : State) : Type 0 where
+-- What is to be done from this state comes to that rest and that state: under this ask, and under each that keeps its
+-- answers to what is then declared.
+pub record Reaches (setting : Setting) (ask : Ask) (all : Rest) (old : State) (rest : Rest) (new : State) : Type 0 where
   pub extends : Extends old.entries new.entries
-  pub same : (later : Ask) → Keeps setting new.entries ask later →
-      run setting later script old ≡ run setting later rest new
+  pub same : (later : Ask) → Keeps setting new.entries ask later → all later old ≡ rest later new
 
 -- A job fits an ask where the run of the whole script comes to what the job has left.
-abbrev pub Fits : Setting → Ask → Script → Script → State → Type 0
-Fits setting ask whole rest state = Reaches setting ask whole start rest state
+abbrev pub Fits : Setting → Ask → Script → Rest → State → Type 0
+Fits setting ask whole rest state = Reaches setting ask (all_of setting whole) start rest state

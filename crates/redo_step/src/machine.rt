@@ -3,7 +3,7 @@
 ghost use Rattle.std.specs.Prelude.{◌≡◌, ◌+◌, ◌<◌, IfOk, IfSome, IfNone, length};
 ghost use Rattle.redo_script.specs.View.{script_of};
 ghost use Rattle.redo_script.specs.Syntax.{finish};
-ghost use Rattle.redo_step.specs.Place.{skip, left_at, stands_at};
+ghost use Rattle.redo_step.specs.Place.{all_of, skip, left_at, stands_at};
 ghost use Rattle.redo_step.specs.inside.Kept.{IsKept};
 ghost use Rattle.redo_step.specs.inside.Machine.{state_of, Comes, IsStopBefore, IsWithin, IsPassed, HasBranch};
 ghost use Rattle.redo_step.specs.inside.Machine.{HasNoBranch};
@@ -47,7 +47,7 @@ fn run_from<A: Answers>(
     stmts: &[Stmt],
     first: usize,
 ) -> Result<RunEnd, AllocError>
-    ensures { IfOk result (λ progress. Comes (scene_setting scene.now) (A.ask answers.now) (script_of stmts.now) (skip first (script_of stmts.now)) finish (state_of effects.old) progress (state_of effects.new)) }
+    ensures { IfOk result (λ progress. Comes (scene_setting scene.now) (A.ask answers.now) (script_of stmts.now) (all_of (scene_setting scene.now) (skip first (script_of stmts.now))) (all_of (scene_setting scene.now) finish) (state_of effects.old) progress (state_of effects.new)) }
 {
     for index in first..stmts.len() {
         match run_stmt(scene, answers, effects, &stmts[index], index)? {
@@ -100,7 +100,7 @@ pub(crate) fn resume<A: Answers>(
     kept: Option<Waiting>,
 ) -> Result<RunEnd, AllocError>
     requires { IsKept (scene_setting scene.now) (stands_at place.now (script_of stmts.now)) (state_of effects.old) kept }
-    ensures { IfOk result (λ progress. Comes (scene_setting scene.now) (A.ask answers.now) (script_of stmts.now) (left_at place.now (script_of stmts.now)) finish (state_of effects.old) progress (state_of effects.new)) }
+    ensures { IfOk result (λ progress. Comes (scene_setting scene.now) (A.ask answers.now) (script_of stmts.now) (left_at place.now (scene_setting scene.now) (script_of stmts.now)) (all_of (scene_setting scene.now) finish) (state_of effects.old) progress (state_of effects.new)) }
 {
     match place {
         Place::Before(first) => {

@@ -11,14 +11,13 @@ use Rattle.redo_step.specs.declared.machine.RunEnd.{RunEnd}
 use Rattle.redo_step.specs.declared.machine.RunEnd.TheVariants as progress
 use Rattle.redo_step.specs.Setting.{Setting}
 use Rattle.redo_step.specs.Runs.{State, End, exited, faulted, stopped, Run, goes, ends}
-use Rattle.redo_step.specs.Statements.{run}
 use Rattle.redo_record.specs.Answers.{Ask}
 use Rattle.redo_step.specs.declared.place.Branch.{Branch}
 use Rattle.redo_step.specs.declared.place.Branch.TheVariants.{First, Second}
 use Rattle.redo_step.specs.declared.place.Place.{Before, Within'}
 use Rattle.redo_script.specs.declared.ast.Stmt.{Stmt}
 use Rattle.redo_script.specs.View.{before, script_of}
-use Rattle.redo_step.specs.Place.{skip, inside, stands_at, left_at}
+use Rattle.redo_step.specs.Place.{Rest, all_of, skip, inside, stands_at, left_at}
 use Rattle.redo_step.specs.Reach.{Reaches}
 use Rattle.redo_step.specs.inside.Kept.{HasOperands, IsKept}
 
@@ -80,14 +79,14 @@ abbrev pub Passes : {X : Type 0} → Setting → ℕ → Command → Result X Ha
 Passes setting line command (Ok x) run new = run ≡ goes new
 Passes setting line command (Err stop) run new = EndsAt setting line command stop run new
 
--- Running a part of these statements from this state comes to the rest, or to an end, or stops at a place
--- of the statements.
-abbrev pub Comes : Setting → Ask → (whole part rest : Script) → State → RunEnd → State → Type 0
+-- Doing a part of these statements from this state comes to the rest, or to an end, or stops at a place of the
+-- statements.
+abbrev pub Comes : Setting → Ask → (whole : Script) → (part rest : Rest) → State → RunEnd → State → Type 0
 Comes setting ask whole part rest old progress.Finished new = Reaches setting ask part old rest new
-Comes setting ask whole part rest old (progress.Ended e) new = run setting ask part old ≡ ends (end_of e) new
+Comes setting ask whole part rest old (progress.Ended e) new = part ask old ≡ ends (end_of e) new
 Comes setting ask whole part rest old (progress.Stopped ps place kept) new =
-    Reaches setting ask part old (left_at place whole) new ×
-    (run setting ask (left_at place whole) new ≡ ends (stopped ps.items) new) ×
+    Reaches setting ask part old (left_at place setting whole) new ×
+    (left_at place setting whole ask new ≡ ends (stopped ps.items) new) ×
     IsKept setting (stands_at place whole) new kept
 
 -- why the statement with this number stopped, as progress
@@ -107,7 +106,7 @@ IsWithin (progress.Stopped ps place kept) index branch outer =
 -- Running a statement, wherever it stands at this number.
 pub record IsPassed (setting : Setting) (ask : Ask) (stmt : Stmt) (index : ℕ) (old : State) (progress : RunEnd) (new : State) : Type 0 where
   pub comes : (whole rest : Script) → skip index whole ≡ before stmt rest →
-      Comes setting ask whole (before stmt rest) rest old progress new
+      Comes setting ask whole (all_of setting (before stmt rest)) (all_of setting rest) old progress new
 
 -- the branch, of these two
 abbrev pub picked : Branch → Script → Script → Script
@@ -126,4 +125,5 @@ pub record HasBranch (stmts : List Stmt) (index : ℕ) (branch : Branch) (part :
 
 -- nothing is left inside the statement with this number
 pub record HasNoBranch (stmts : List Stmt) (index : ℕ) : Type 0 where
-  pub nothing : (branch : Branch) (left : Script → Script) → inside branch left (skip index (script_of stmts)) ≡ finish
+  pub nothing : (branch : Branch) (left : Setting → Script → Rest) (setting : Setting) →
+      inside branch left setting (skip index (script_of stmts)) ≡ all_of setting finish

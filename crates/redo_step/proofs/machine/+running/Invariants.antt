@@ -2,7 +2,7 @@ use Rattle.std.proofs.Common.{◌+◌, ◌*◌}
 use Rattle.redo_script.specs.Syntax.{finish}
 use Rattle.redo_script.specs.View.{script_of, before}
 use Rattle.redo_step.proofs.WeightLemmas.{weight}
-use Rattle.redo_step.specs.Place.{skip}
+use Rattle.redo_step.specs.Place.{all_of, skip}
 use Rattle.redo_step.specs.Reach.{Reaches}
 use Rattle.redo_step.specs.inside.Machine.{state_of}
 use Rattle.redo_step.specs.inside.Scene.{scene_setting}
@@ -10,7 +10,7 @@ use Rattle.redo_step.proofs.machine.+running.Given as goal
 
 abbrev pub invariant-run_from-loop-index : goal.invariant-run_from-loop-index
 invariant-run_from-loop-index g l =
-    Reaches (scene_setting l.scene) (g.A.Answers.ask l.answers) (skip l.first (script_of l.stmts)) (state_of l.initial.effects) (skip l.index (script_of l.stmts)) (state_of l.effects)
+    Reaches (scene_setting l.scene) (g.A.Answers.ask l.answers) (all_of (scene_setting l.scene) (skip l.first (script_of l.stmts))) (state_of l.initial.effects) (all_of (scene_setting l.scene) (skip l.index (script_of l.stmts))) (state_of l.effects)
 
 abbrev pub decreases-run_from : goal.decreases-run_from
 decreases-run_from g l = 2 * weight (script_of l.stmts.now) + 1
