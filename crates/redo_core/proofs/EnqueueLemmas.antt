@@ -41,18 +41,18 @@ queue-enqueued slots ready newly_ready sorted to from queue = record {
 
 module _ (given : GivenView) (request : List (List ℕ)) (t u : Table) (newly_ready : List ℕ) (table : IsTableOf given t newly_ready)
     (standing : AreStanding (rules_for given) request (table_entries (rules_for given) given.limits.targets t))
-    (watched : AllWatched (rules_for given) given.limits.targets t.targets.keys t.slots.items []) (w : AreEnqueued t u newly_ready) where
+    (watched : AllWatched (rules_for given) given.limits.targets t.targets t.slots.items []) (w : AreEnqueued t u newly_ready) where
   abbrev r : Rules
   r = rules_for given
 
-  distinct : AreDistinct t.targets.keys
+  distinct : AreDistinct t.targets
   distinct =
       let P : List (List ℕ) → Type 0 = AreDistinct in
-      subst P (paths_of-slots r (outcome_at r given.limits.targets) t.targets.keys t.slots.items table.one_each) standing.distinct
+      subst P (paths_of-slots r (outcome_at r given.limits.targets) t.targets t.slots.items table.one_each) standing.distinct
 
   pub enqueued-table : IsTableOf given u []
   enqueued-table =
-      let raw : IsTable r given t.targets.keys t.slots.items (t.ready.items ++ w.sorted) t.out [] = record {
+      let raw : IsTable r given t.targets t.slots.items (t.ready.items ++ w.sorted) t.out [] = record {
         one_each = table.one_each;
         within_limit = table.within_limit;
         few = table.few;
@@ -64,7 +64,7 @@ module _ (given : GivenView) (request : List (List ℕ)) (t u : Table) (newly_re
       } in
       rw (w.rest.0, w.rest.1, w.rest.2, w.queue) raw
 
-  pub enqueued-watched : AllWatched (rules_for given) given.limits.targets u.targets.keys u.slots.items []
+  pub enqueued-watched : AllWatched (rules_for given) given.limits.targets u.targets u.slots.items []
   enqueued-watched = rw (w.rest.0, w.rest.1) watched
 
   pub enqueued-state : table_state (rules_for given) given.limits.targets u ≡ enqueued (rules_for given) (table_state (rules_for given) given.limits.targets t)
@@ -72,8 +72,8 @@ module _ (given : GivenView) (request : List (List ℕ)) (t u : Table) (newly_re
       let paths = newly_ready-paths given t newly_ready w.sorted table distinct watched (sorted-ascend w.sorted w.ordered (shuffled-once newly_ready w.sorted w.shuffled table.queue.once))
       (shuffled-from newly_ready w.sorted w.shuffled) (shuffled-to newly_ready w.sorted w.shuffled) in
       let S : List (List ℕ) → State = λ qs. record { entries = table_entries r given.limits.targets t; ready = qs } in
-      let first : table_state r given.limits.targets u ≡ S (map (path_at t.targets.keys) (t.ready.items ++ w.sorted)) = rw (w.rest.0, w.rest.1, w.queue) refl in
-      first ∙ ap S (map-append (path_at t.targets.keys) t.ready.items w.sorted ∙ ap (λ qs. map (path_at t.targets.keys) t.ready.items ++ qs) (sym paths))
+      let first : table_state r given.limits.targets u ≡ S (map (path_at t.targets) (t.ready.items ++ w.sorted)) = rw (w.rest.0, w.rest.1, w.queue) refl in
+      first ∙ ap S (map-append (path_at t.targets) t.ready.items w.sorted ∙ ap (λ qs. map (path_at t.targets) t.ready.items ++ qs) (sym paths))
 
 take-whole : (xs : List Dep) (n : ℕ) → length xs ≤ n → take n xs ≡ xs
 take-whole [] zero h = refl
@@ -95,7 +95,7 @@ map-same f g (x ∷ xs) h =
 pub looked-put : (given : GivenView) (t u v : Table) (at : ℕ) (newly_ready newly_ready' pending : List ℕ) →
     IsPutBackThere given t u at newly_ready pending → IsTableOf given v newly_ready' → AreLookedAt given u v pending → IsPutBackThere given t v at newly_ready' []
 looked-put given t u v at newly_ready newly_ready' pending put table looked =
-    let P : List ℕ → Type 0 = λ xs. AllWatched (rules_for given) given.limits.targets u.targets.keys u.slots.items xs in
+    let P : List ℕ → Type 0 = λ xs. AllWatched (rules_for given) given.limits.targets u.targets u.slots.items xs in
     record {
       table = table;
       entries = looked.entries ∙ put.entries;
@@ -117,13 +117,13 @@ taken-in given t u v at end newly_ready may put released' =
     let S : List Entry → Type 0 = AreStanding r may.request in
     let standing = subst S (sym put.entries) (after-sound given t at end may).standing in
     let T : List Entry → List (List ℕ) → State = λ xs ps. record { entries = xs; ready = ps } in
-    let names : map (path_at u.targets.keys) u.ready.items ≡ map (path_at t.targets.keys) t.ready.items =
-    (let one : map (path_at u.targets.keys) u.ready.items ≡ map (path_at u.targets.keys) t.ready.items = rw put.ready refl in
-    one ∙ map-same (path_at u.targets.keys) (path_at t.targets.keys) t.ready.items (λ k m.
-    let found = slice_get-from t.targets.keys k (omega (arith, may.table.one_each, may.table.queue.ready_below k m)) in
+    let names : map (path_at u.targets) u.ready.items ≡ map (path_at t.targets) t.ready.items =
+    (let one : map (path_at u.targets) u.ready.items ≡ map (path_at u.targets) t.ready.items = rw put.ready refl in
+    one ∙ map-same (path_at u.targets) (path_at t.targets) t.ready.items (λ k m.
+    let found = slice_get-from t.targets k (omega (arith, may.table.one_each, may.table.queue.ready_below k m)) in
     rw (put.keys_kept k found.0 found.1, found.1) refl)) in
-    let before : table_state r given.limits.targets u ≡ T (moved given t at end may) (map (path_at t.targets.keys) t.ready.items) =
-    ap (λ xs. T xs (map (path_at u.targets.keys) u.ready.items)) (put.entries ∙ after-entries given t at end may) ∙ ap (T (moved given t at end may)) names in
+    let before : table_state r given.limits.targets u ≡ T (moved given t at end may) (map (path_at t.targets) t.ready.items) =
+    ap (λ xs. T xs (map (path_at u.targets) u.ready.items)) (put.entries ∙ after-entries given t at end may) ∙ ap (T (moved given t at end may)) names in
     record {
       table = enqueued-table given may.request u v newly_ready put.table standing put.watched released';
       watched = enqueued-watched given may.request u v newly_ready put.table standing put.watched released';

@@ -151,7 +151,7 @@ slots-length r a (p ∷ ps) [] h = refl
 slots-length r a (p ∷ ps) (slot ∷ slots) h = ap suc (slots-length r a ps slots (omega arith))
 
 module _ (given : GivenView) (t u : Table) (newly_ready newly_ready' : List ℕ) (p : List ℕ) (table : IsTableOf given t newly_ready)
-    (room : length t.slots.items < given.limits.targets) (out : IsAmong t.targets.keys p → ⊥) (w : IsPushed given t u newly_ready newly_ready' p) where
+    (room : length t.slots.items < given.limits.targets) (out : IsAmong t.targets p → ⊥) (w : IsPushed given t u newly_ready newly_ready' p) where
   abbrev r : Rules
   r = rules_for given
 
@@ -169,43 +169,43 @@ module _ (given : GivenView) (t u : Table) (newly_ready newly_ready' : List ℕ)
       let P : ℕ → Type 0 = λ n. record { path = p; turn = n; deps = stage_deps r a p n w.new.stage; outcome = stage_outcome w.new.stage; is_out = is_stage_out w.new.stage } ≡ new_entry r p in
       subst P (sym w.turn) (begun-entry given a p w.new.stage w.begun)
 
-  pushed : entries_from (rules_for given) given.limits.targets (t.targets.keys ++ p ∷ []) (t.slots.items ++ w.new ∷ []) ≡ entered (rules_for given) (table_entries (rules_for given) given.limits.targets t) (p ∷ [])
+  pushed : entries_from (rules_for given) given.limits.targets (t.targets ++ p ∷ []) (t.slots.items ++ w.new ∷ []) ≡ entered (rules_for given) (table_entries (rules_for given) given.limits.targets t) (p ∷ [])
   pushed =
-      let raw = slot_entries-push r a t.targets.keys t.slots.items p w.new table.one_each in
+      let raw = slot_entries-push r a t.targets t.slots.items p w.new table.one_each in
       let no : is_among (paths_of es) p ≡ false = (let P : List (List ℕ) → Type 0 = λ xs. is_among xs p ≡ false in
-      subst P (sym (paths_of-slots r a t.targets.keys t.slots.items table.one_each)) (not-among t.targets.keys p out)) in
+      subst P (sym (paths_of-slots r a t.targets t.slots.items table.one_each)) (not-among t.targets p out)) in
       raw ∙ ap (λ e. es ++ e ∷ []) new-entry ∙ sym (rw no refl)
 
   more : Extends (rules_for given) (outcomes_of (table_entries (rules_for given) given.limits.targets t))
-      (outcomes_of (entries_from (rules_for given) given.limits.targets (t.targets.keys ++ p ∷ []) (t.slots.items ++ w.new ∷ [])))
+      (outcomes_of (entries_from (rules_for given) given.limits.targets (t.targets ++ p ∷ []) (t.slots.items ++ w.new ∷ [])))
   more =
       let P : List Entry → Type 0 = λ xs. Extends r (outcomes_of es) (outcomes_of xs) in
       subst P (sym pushed) (λ q o s h.
       let at = outcomes_of-entry es q o h in
       outcomes_of-at (entered r es (p ∷ [])) q at.0 (entry_of-entered_old r es (p ∷ []) q at.0 at.1) ∙ at.2)
 
-  fits-push : AllFit (rules_for given) given.limits.targets given (t.targets.keys ++ p ∷ []) (t.slots.items ++ w.new ∷ [])
+  fits-push : AllFit (rules_for given) given.limits.targets given (t.targets ++ p ∷ []) (t.slots.items ++ w.new ∷ [])
   fits-push k x g =
-      let b = outcomes_of (entries_from (rules_for given) given.limits.targets (t.targets.keys ++ p ∷ []) (t.slots.items ++ w.new ∷ [])) in
+      let b = outcomes_of (entries_from (rules_for given) given.limits.targets (t.targets ++ p ∷ []) (t.slots.items ++ w.new ∷ [])) in
       elim (get-push_cases t.slots.items w.new x k g) [
         | inl here ↦
-            let path : path_at (t.targets.keys ++ p ∷ []) k ≡ p = ap (path_at (t.targets.keys ++ p ∷ [])) (here.0 ∙ table.one_each) ∙ path_at-end t.targets.keys p in
+            let path : path_at (t.targets ++ p ∷ []) k ≡ p = ap (path_at (t.targets ++ p ∷ [])) (here.0 ∙ table.one_each) ∙ path_at-end t.targets p in
             let P : List ℕ → Type 0 = λ q. Fits r b given q x.turn x.stage in
             let Q : Slot → Type 0 = λ y. Fits r b given p y.turn y.stage in
             let R : ℕ → Type 0 = λ n. Fits r b given p n w.new.stage in
             subst P (sym path) (subst Q here.1 (subst R (sym w.turn) (begun-fits given r b p w.new.stage w.begun)))
         | inr old ↦
-            let path = path_at-old t.targets.keys p k (omega (arith, slice_get-below_some t.slots.items k x old, table.one_each)) in
+            let path = path_at-old t.targets p k (omega (arith, slice_get-below_some t.slots.items k x old, table.one_each)) in
             let P : List ℕ → Type 0 = λ q. Fits r b given q x.turn x.stage in
-            subst P (sym path) (Fits-more r (lawful_for given) (outcomes_of es) b given (path_at t.targets.keys k) x.turn x.stage more (table.fits k x old))
+            subst P (sym path) (Fits-more r (lawful_for given) (outcomes_of es) b given (path_at t.targets k) x.turn x.stage more (table.fits k x old))
       ]
 
-  numbered-push : AllNumbered (rules_for given) (t.targets.keys ++ p ∷ []) (t.slots.items ++ w.new ∷ [])
+  numbered-push : AllNumbered (rules_for given) (t.targets ++ p ∷ []) (t.slots.items ++ w.new ∷ [])
   numbered-push k x g = elim (get-push_cases t.slots.items w.new x k g) [
     | inl here ↦
-        let P : Slot → Type 0 = λ y. IsNumbered r (t.targets.keys ++ p ∷ []) y.stage in
-        subst P here.1 (numbered-still r (t.targets.keys ++ p ∷ []) w.new.stage (begun-inside given p w.new.stage w.begun).1)
-    | inr old ↦ numbered-kept t.targets.keys (t.targets.keys ++ p ∷ []) (λ j q h. get-push_old t.targets.keys p q j h) r x.stage (table.numbered k x old)
+        let P : Slot → Type 0 = λ y. IsNumbered r (t.targets ++ p ∷ []) y.stage in
+        subst P here.1 (numbered-still r (t.targets ++ p ∷ []) w.new.stage (begun-inside given p w.new.stage w.begun).1)
+    | inr old ↦ numbered-kept t.targets (t.targets ++ p ∷ []) (λ j q h. get-push_old t.targets p q j h) r x.stage (table.numbered k x old)
   ]
 
   below-push : AllWatchersBelow (t.slots.items ++ w.new ∷ [])
@@ -218,11 +218,11 @@ module _ (given : GivenView) (t u : Table) (newly_ready newly_ready' : List ℕ)
         | inr old ↦ omega (arith, table.watchers_below i k x old m, len)
       ]
 
-  table-push : IsTable (rules_for given) given (t.targets.keys ++ p ∷ []) (t.slots.items ++ w.new ∷ []) t.ready.items t.out
+  table-push : IsTable (rules_for given) given (t.targets ++ p ∷ []) (t.slots.items ++ w.new ∷ []) t.ready.items t.out
       (newly_ready ++ cond (is_stage_ready w.new.stage) (length t.slots.items ∷ []) [])
   table-push =
       let len : length (t.slots.items ++ w.new ∷ []) ≡ length t.slots.items + 1 = length-append t.slots.items (w.new ∷ []) in
-      let keys : length (t.targets.keys ++ p ∷ []) ≡ length t.targets.keys + 1 = length-append t.targets.keys (p ∷ []) in
+      let keys : length (t.targets ++ p ∷ []) ≡ length t.targets + 1 = length-append t.targets (p ∷ []) in
       record {
         one_each = omega (arith, len, keys, table.one_each);
         within_limit = omega (arith, len, room);
@@ -234,18 +234,18 @@ module _ (given : GivenView) (t u : Table) (newly_ready newly_ready' : List ℕ)
         watchers_below = below-push;
       }
 
-  watched-push : (pending : List ℕ) → AllWatched (rules_for given) given.limits.targets t.targets.keys t.slots.items pending →
-      AllWatched (rules_for given) given.limits.targets (t.targets.keys ++ p ∷ []) (t.slots.items ++ w.new ∷ []) pending
+  watched-push : (pending : List ℕ) → AllWatched (rules_for given) given.limits.targets t.targets t.slots.items pending →
+      AllWatched (rules_for given) given.limits.targets (t.targets ++ p ∷ []) (t.slots.items ++ w.new ∷ []) pending
   watched-push pending all k x g m = elim (get-push_cases t.slots.items w.new x k g) [
     | inl here ↦ absurd (both_ways _ (begun-inside given p w.new.stage w.begun).1 (ap (λ (y : Slot). is_stage_waiting y.stage) here.1 ∙ m))
     | inr old ↦
-        let path = path_at-old t.targets.keys p k (omega (arith, slice_get-below_some t.slots.items k x old, table.one_each)) in
+        let path = path_at-old t.targets p k (omega (arith, slice_get-below_some t.slots.items k x old, table.one_each)) in
         elim (all k x old m) [
           | inl l ↦ inl l
           | inr v ↦
-              let there = path_at-old t.targets.keys p v.at (omega (arith, slice_get-below_some t.slots.items v.at v.other v.there, table.one_each)) in
-              let P : List ℕ → Type 0 = λ q. IsWatched r (t.targets.keys ++ p ∷ []) (t.slots.items ++ w.new ∷ []) k (stage_deps r a q x.turn x.stage) in
-              let Q : List ℕ → Type 0 = λ q. IsAmong (operands r (stage_deps r a (path_at t.targets.keys k) x.turn x.stage)) q in
+              let there = path_at-old t.targets p v.at (omega (arith, slice_get-below_some t.slots.items v.at v.other v.there, table.one_each)) in
+              let P : List ℕ → Type 0 = λ q. IsWatched r (t.targets ++ p ∷ []) (t.slots.items ++ w.new ∷ []) k (stage_deps r a q x.turn x.stage) in
+              let Q : List ℕ → Type 0 = λ q. IsAmong (operands r (stage_deps r a (path_at t.targets k) x.turn x.stage)) q in
               inr (subst P (sym path) (record {
                 at = v.at;
                 other = v.other;
@@ -262,26 +262,26 @@ module _ (given : GivenView) (t u : Table) (newly_ready newly_ready' : List ℕ)
     table = rw (w.keys, w.slots, w.rest.0, w.rest.1, w.newly_ready_is) table-push;
     entries = rw (w.keys, w.slots) pushed;
     rest = w.rest;
-    keys_kept = λ k q h. rw w.keys (get-push_old t.targets.keys p q k h);
+    keys_kept = λ k q h. rw w.keys (get-push_old t.targets p q k h);
     slots_kept = λ k x h. rw w.slots (get-push_old t.slots.items w.new x k h);
     watched = λ pending all. rw (w.keys, w.slots) (watched-push pending all);
   }
 
   -- its number is the next
-  pub number-new : (n : ℕ) → n ≡ length t.slots.items → slice_get u.targets.keys n ≡ Some p
+  pub number-new : (n : ℕ) → n ≡ length t.slots.items → slice_get u.targets n ≡ Some p
   number-new n end =
-      let P : ℕ → Type 0 = λ k. slice_get (t.targets.keys ++ p ∷ []) k ≡ Some p in
-      rw w.keys (subst P (sym (end ∙ table.one_each)) (get-push_end t.targets.keys p))
+      let P : ℕ → Type 0 = λ k. slice_get (t.targets ++ p ∷ []) k ≡ Some p in
+      rw w.keys (subst P (sym (end ∙ table.one_each)) (get-push_end t.targets p))
 
 -- a path that is there already
-pub entered-old : (given : GivenView) (t : Table) (newly_ready : List ℕ) (p : List ℕ) → IsTableOf given t newly_ready → IsAmong t.targets.keys p →
+pub entered-old : (given : GivenView) (t : Table) (newly_ready : List ℕ) (p : List ℕ) → IsTableOf given t newly_ready → IsAmong t.targets p →
     IsEnteredInto given t t newly_ready p
 entered-old given t newly_ready p table m = record {
   table = table;
   entries =
       let P : List (List ℕ) → Type 0 = λ xs. is_among xs p ≡ true in
       let yes' : is_among (paths_of (table_entries (rules_for given) given.limits.targets t)) p ≡ true =
-      subst P (sym (paths_of-slots (rules_for given) (outcome_at (rules_for given) given.limits.targets) t.targets.keys t.slots.items table.one_each)) (is_among-from t.targets.keys p m) in
+      subst P (sym (paths_of-slots (rules_for given) (outcome_at (rules_for given) given.limits.targets) t.targets t.slots.items table.one_each)) (is_among-from t.targets p m) in
       sym (rw yes' refl);
   rest = (refl, refl);
   keys_kept = λ k q h. h;
@@ -289,18 +289,18 @@ entered-old given t newly_ready p table m = record {
   watched = λ pending all. all;
 }
 
-pub full : (given : GivenView) (t : Table) (newly_ready : List ℕ) (p : List ℕ) → IsTableOf given t newly_ready → (IsAmong t.targets.keys p → ⊥) →
+pub full : (given : GivenView) (t : Table) (newly_ready : List ℕ) (p : List ℕ) → IsTableOf given t newly_ready → (IsAmong t.targets p → ⊥) →
     given.limits.targets ≤ length t.slots.items → IsFull (rules_for given) given.limits.targets (table_entries (rules_for given) given.limits.targets t) p
 full given t newly_ready p table out h =
     let a = outcome_at (rules_for given) given.limits.targets in
     let es = table_entries (rules_for given) given.limits.targets t in
     let P : List (List ℕ) → Type 0 = λ xs. is_among xs p ≡ false in
-    let no : is_among (paths_of es) p ≡ false = subst P (sym (paths_of-slots (rules_for given) a t.targets.keys t.slots.items table.one_each)) (not-among t.targets.keys p out) in
+    let no : is_among (paths_of es) p ≡ false = subst P (sym (paths_of-slots (rules_for given) a t.targets t.slots.items table.one_each)) (not-among t.targets p out) in
     rw no (omega (
       arith,
       h,
       length-append es (new_entry (rules_for given) p ∷ []),
-      slots-length (rules_for given) a t.targets.keys t.slots.items table.one_each,
+      slots-length (rules_for given) a t.targets t.slots.items table.one_each,
     ))
 
 -- what was entered is within the limit
@@ -312,7 +312,7 @@ entered-room given t u newly_ready p entered many =
       arith,
       many,
       ap length entered.entries,
-      slots-length r (outcome_at r given.limits.targets) u.targets.keys u.slots.items entered.table.one_each,
+      slots-length r (outcome_at r given.limits.targets) u.targets u.slots.items entered.table.one_each,
       entered.table.within_limit,
     )
 
@@ -322,7 +322,7 @@ pub room-left : (given : GivenView) (t : Table) (newly_ready : List ℕ) (p : Li
 room-left given t newly_ready p table room many =
     let r = rules_for given in
     let es = table_entries (rules_for given) given.limits.targets t in
-    let len = slots-length r (outcome_at r given.limits.targets) t.targets.keys t.slots.items table.one_each in
+    let len = slots-length r (outcome_at r given.limits.targets) t.targets t.slots.items table.one_each in
     elim (cases_Bool (is_among (paths_of es) p)) [
       | inl old ↦ let few = rw old at many in omega (arith, few, len, room)
       | inr new ↦ let few = rw new at many in omega (arith, few, len, room, length-append es (new_entry r p ∷ []))

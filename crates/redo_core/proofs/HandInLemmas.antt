@@ -23,11 +23,11 @@ use Rattle.redo_core.proofs.MakeReadySteps.{slot-of-path}
 use Rattle.redo_core.proofs.TakeLemmas.{sound-inside, distinct-inside, reached-more}
 
 module _ (b : Inside) (kept : IsKept b) (target : List ℕ) (turn at : ℕ) (o : IsOutSlotAt b.table target turn at) where
-  path-is : path_at b.table.targets.keys at ≡ target
+  path-is : path_at b.table.targets at ≡ target
   path-is = rw o.path refl
 
   entry-out : entry_of (state_of b).entries target ≡ Some (slot_entry (rules_inside b) (outcome_at (rules_inside b) b.build.limits.targets) target o.slot)
-  entry-out = entry_of-slots (rules_inside b) (outcome_at (rules_inside b) b.build.limits.targets) b.table.targets.keys b.table.slots.items at target o.slot (distinct-inside b kept) o.path o.there
+  entry-out = entry_of-slots (rules_inside b) (outcome_at (rules_inside b) b.build.limits.targets) b.table.targets b.table.slots.items at target o.slot (distinct-inside b kept) o.path o.there
 
   pub open-out : IsOutAt (state_of b) target turn
   open-out = record {
@@ -78,7 +78,7 @@ module _ (b : Inside) (kept : IsKept b) (target : List ℕ) (turn at : ℕ) (o :
 -- where no slot is out for a piece, its target isn't out
 pub stranger : (b : Inside) (kept : IsKept b) (target : List ℕ) (turn : ℕ) → ((at : ℕ) → IsOutSlotAt b.table target turn at → ⊥) → IsOutAt (state_of b) target turn → ⊥
 stranger b kept target turn none out =
-    let found = slot-of-path (rules_inside b) (outcome_at (rules_inside b) b.build.limits.targets) b.table.targets.keys b.table.slots.items target out.entry out.at in
+    let found = slot-of-path (rules_inside b) (outcome_at (rules_inside b) b.build.limits.targets) b.table.targets b.table.slots.items target out.entry out.at in
     none found.0 (record {
       slot = found.1;
       path = found.2;

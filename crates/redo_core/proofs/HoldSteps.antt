@@ -60,30 +60,30 @@ module _ (given : GivenView) (t : Table) (newly_ready : List ℕ) (table : IsTab
       let two = subst E (sym is) refl in
       one ∙ sym two
 
-  same-entry : slot_entry (rules_for given) (outcome_at (rules_for given) given.limits.targets) (path_at t.targets.keys at) h.new ≡
-      slot_entry (rules_for given) (outcome_at (rules_for given) given.limits.targets) (path_at t.targets.keys at) slot
+  same-entry : slot_entry (rules_for given) (outcome_at (rules_for given) given.limits.targets) (path_at t.targets at) h.new ≡
+      slot_entry (rules_for given) (outcome_at (rules_for given) given.limits.targets) (path_at t.targets at) slot
   same-entry =
-      let E : ℕ → List Dep → Entry = λ n ds. record { path = path_at t.targets.keys at; turn = n; deps = ds; outcome = None; is_out = false } in
-      let D : ℕ → Stage → List Dep = λ n st. stage_deps r (outcome_at r given.limits.targets) (path_at t.targets.keys at) n st in
-      let one : slot_entry r (outcome_at r given.limits.targets) (path_at t.targets.keys at) h.new ≡ E h.new.turn (D h.new.turn h.new.stage) = rw held-is refl in
-      let two : slot_entry r (outcome_at r given.limits.targets) (path_at t.targets.keys at) slot ≡ E slot.turn (D slot.turn slot.stage) = rw is refl in
-      one ∙ ap (λ n. E n (D h.new.turn h.new.stage)) turn-same ∙ ap (E slot.turn) (deps-same (path_at t.targets.keys at)) ∙ sym two
+      let E : ℕ → List Dep → Entry = λ n ds. record { path = path_at t.targets at; turn = n; deps = ds; outcome = None; is_out = false } in
+      let D : ℕ → Stage → List Dep = λ n st. stage_deps r (outcome_at r given.limits.targets) (path_at t.targets at) n st in
+      let one : slot_entry r (outcome_at r given.limits.targets) (path_at t.targets at) h.new ≡ E h.new.turn (D h.new.turn h.new.stage) = rw held-is refl in
+      let two : slot_entry r (outcome_at r given.limits.targets) (path_at t.targets at) slot ≡ E slot.turn (D slot.turn slot.stage) = rw is refl in
+      one ∙ ap (λ n. E n (D h.new.turn h.new.stage)) turn-same ∙ ap (E slot.turn) (deps-same (path_at t.targets at)) ∙ sym two
 
-  numbers : AreNumbers t.targets.keys parked.operands.items (waited_by (rules_for given) parked.begun.value)
+  numbers : AreNumbers t.targets parked.operands.items (waited_by (rules_for given) parked.begun.value)
   numbers = parked_numbered given t newly_ready table standing at slot parked there is
 
-  held-numbered : IsNumbered (rules_for given) t.targets.keys h.new.stage
+  held-numbered : IsNumbered (rules_for given) t.targets h.new.stage
   unfolding held
-  held-numbered = let P : Stage → Type 0 = IsNumbered r t.targets.keys in subst P (sym held-is) numbers
+  held-numbered = let P : Stage → Type 0 = IsNumbered r t.targets in subst P (sym held-is) numbers
 
-  held-fits : Fits (rules_for given) (outcomes_of (table_entries (rules_for given) given.limits.targets t)) given (path_at t.targets.keys at) h.new.turn h.new.stage
+  held-fits : Fits (rules_for given) (outcomes_of (table_entries (rules_for given) given.limits.targets t)) given (path_at t.targets at) h.new.turn h.new.stage
   unfolding held
   held-fits =
       let a = outcomes_of (table_entries r given.limits.targets t) in
-      let P : Stage → Type 0 = Fits r a given (path_at t.targets.keys at) slot.turn in
-      let w : IsWaitingWith r a given (path_at t.targets.keys at) slot.turn parked = subst P is (table.fits at slot there) in
-      let Q : Stage → Type 0 = Fits r a given (path_at t.targets.keys at) h.new.turn in
-      let R : ℕ → Type 0 = λ n. IsWaitingWith r a given (path_at t.targets.keys at) n held in
+      let P : Stage → Type 0 = Fits r a given (path_at t.targets at) slot.turn in
+      let w : IsWaitingWith r a given (path_at t.targets at) slot.turn parked = subst P is (table.fits at slot there) in
+      let Q : Stage → Type 0 = Fits r a given (path_at t.targets at) h.new.turn in
+      let R : ℕ → Type 0 = λ n. IsWaitingWith r a given (path_at t.targets at) n held in
       subst Q (sym held-is) (subst R (sym turn-same) (record {
         is_job = w.is_job;
         of_target = w.of_target;
@@ -92,7 +92,7 @@ module _ (given : GivenView) (t : Table) (newly_ready : List ℕ) (table : IsTab
         answered = λ k q below get none. elim (cases_lt k parked.held) [
           | inl before ↦ w.answered k q before get none
           | inr after' ↦
-              let number = numbers-path t.targets.keys parked.operands.items (waited_by r parked.begun.value) k q numbers get in
+              let number = numbers-path t.targets parked.operands.items (waited_by r parked.begun.value) k q numbers get in
               decided-known given t newly_ready table standing q (number-decided t q number.0 number.2 (l.before k number.0 after' below number.1)) none
         ];
         told = w.told;
@@ -108,7 +108,7 @@ module _ (given : GivenView) (t : Table) (newly_ready : List ℕ) (table : IsTab
       let raw = table-same given t newly_ready table standing at slot h.new there old-open new-open same-entry newly_ready
       (queue-same t.slots.items t.ready.items newly_ready at slot h.new there table.queue ready)
       (λ k m. let L : List ℕ → Type 0 = λ xs. IsPlace xs k in table.watchers_below at k slot there (subst L list m)) held-fits held-numbered in
-      let S : List Slot → Type 0 = λ xs. IsTable r given t.targets.keys xs t.ready.items t.out newly_ready in
+      let S : List Slot → Type 0 = λ xs. IsTable r given t.targets xs t.ready.items t.out newly_ready in
       rw (h.rest.0, h.rest.1, h.rest.2) (subst S (sym h.slots) raw)
 
   pub held-entries : table_entries (rules_for given) given.limits.targets v ≡ table_entries (rules_for given) given.limits.targets t
@@ -117,16 +117,16 @@ module _ (given : GivenView) (t : Table) (newly_ready : List ℕ) (table : IsTab
   pub held-standing : IsStandingTable given v
   held-standing = let S : List Entry → Type 0 = AreStanding r standing.0 in (standing.0, subst S (sym held-entries) standing.1)
 
-  held-watched : (pending : List ℕ) → AllWatched (rules_for given) given.limits.targets t.targets.keys t.slots.items pending → AllWatched (rules_for given) given.limits.targets v.targets.keys v.slots.items pending
+  held-watched : (pending : List ℕ) → AllWatched (rules_for given) given.limits.targets t.targets t.slots.items pending → AllWatched (rules_for given) given.limits.targets v.targets v.slots.items pending
   held-watched pending all =
       let list = ap (λ (y : Rattle.std.specs.declared.vec.Vec.Vec ℕ Rattle.std.proofs.Common.Global). y.items) (h.watchers ∙ ap (λ (y : Slot). y.watchers) same-slot) in
       let more : (j : ℕ) → IsPlace slot.watchers.items j → IsPlace h.new.watchers.items j = λ j m. (let L : List ℕ → Type 0 = λ xs. IsPlace xs j in subst L (sym list) m) in
-      rw (h.rest.0, h.slots) (watched-set t.slots.items at slot h.new there r given.limits.targets t.targets.keys pending new-open more
+      rw (h.rest.0, h.slots) (watched-set t.slots.items at slot h.new there r given.limits.targets t.targets pending new-open more
       (λ _. elim (all at slot there (rw is refl)) [
         | inl m ↦ inl m
         | inr w ↦
-            let W : List Dep → Type 0 = λ ds. Rattle.redo_core.specs.inside.Slots.IsWatched r t.targets.keys (slice_set t.slots.items at h.new) at ds in
-            inr (subst W (sym (deps-same (path_at t.targets.keys at))) (IsWatched-set t.slots.items at slot h.new there r t.targets.keys at _ new-open more w))
+            let W : List Dep → Type 0 = λ ds. Rattle.redo_core.specs.inside.Slots.IsWatched r t.targets (slice_set t.slots.items at h.new) at ds in
+            inr (subst W (sym (deps-same (path_at t.targets at))) (IsWatched-set t.slots.items at slot h.new there r t.targets at _ new-open more w))
       ])
       (λ k x other g m. all k x g m))
 

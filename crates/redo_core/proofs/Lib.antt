@@ -26,7 +26,6 @@ pub mod NewlyReadyLemmas
 pub mod EnqueueLemmas
 pub mod HandInLemmas
 pub mod OpeningLemmas
-pub mod FindLemmas
 pub mod AdvanceLemmas
 pub mod OrderLemmas
 pub mod RowLemmas

@@ -65,7 +65,7 @@ some-outcome (Some x) o h = (x, refl, h)
 pub known-decided : (r : Rules) (n : ℕ) (t : Table) (q : List ℕ) (o : Outcome) → outcomes_of (table_entries r n t) q ≡ Some o → IsDecidedSlot t q
 known-decided r n t q o h =
     let e = some-outcome (entry_of (table_entries r n t) q) o h in
-    let found = slot-of-path r (outcome_at r n) t.targets.keys t.slots.items q e.0 e.1 in
+    let found = slot-of-path r (outcome_at r n) t.targets t.slots.items q e.0 e.1 in
     record {
       at = found.0;
       slot = found.1;
@@ -106,16 +106,16 @@ module _ (given : GivenView) (t : Table) (at : ℕ) (slot : Slot) (parked : Park
         (d.0, rw slots (get-set_other t.slots.items at n gone other ∙ d.1), d.2)
 
     -- a path that is known is decided at its number
-    known-number : (n : ℕ) (q : List ℕ) → slice_get t.targets.keys n ≡ Some q → IsDecidedSlot t q → IsDecidedNumber t n
+    known-number : (n : ℕ) (q : List ℕ) → slice_get t.targets n ≡ Some q → IsDecidedSlot t q → IsDecidedNumber t n
     known-number n q path d =
-        let same : d.at ≡ n = distinct-place t.targets.keys d.at n q fed.distinct d.path path in
+        let same : d.at ≡ n = distinct-place t.targets d.at n q fed.distinct d.path path in
         let P : ℕ → Type 0 = λ j. slice_get t.slots.items j ≡ Some d.slot in
         (d.slot, subst P same d.there, d.decided)
 
     pub gain-decided : (k n : ℕ) → slice_get parked.operands.items k ≡ Some n → IsDecidedNumber u n
     gain-decided k n get = number-still n (elim (cases_lt k parked.held) [
       | inl before ↦
-          let path = numbers-number t.targets.keys parked.operands.items (waited_by r parked.begun.value) k n fed.numbered get in
+          let path = numbers-number t.targets parked.operands.items (waited_by r parked.begun.value) k n fed.numbered get in
           elim (cases_Option (outcomes_of (table_entries (rules_for given) given.limits.targets t) path.0)) [
             | inl none ↦ absurd (fed.waits.answered k path.0 before path.1 none)
             | inr some ↦ known-number n path.0 path.2 (known-decided r given.limits.targets t path.0 some.0 some.1)
@@ -124,7 +124,7 @@ module _ (given : GivenView) (t : Table) (at : ℕ) (slot : Slot) (parked : Park
     ])
 
     -- a fact there is that of the number's path, with an outcome that is known
-    fact-known : (n : ℕ) (q : List ℕ) (fact : Shown FactView) → slice_get t.targets.keys n ≡ Some q → IsFactAt u n fact →
+    fact-known : (n : ℕ) (q : List ℕ) (fact : Shown FactView) → slice_get t.targets n ≡ Some q → IsFactAt u n fact →
         (fact.value.target ≡ q) × (outcomes_of (table_entries (rules_for given) given.limits.targets t) q ≡ Some fact.value.outcome)
     fact-known n q fact path there =
         let get : slice_get (slice_set t.slots.items at gone) n ≡ Some there.0 = sym (ap (λ xs. slice_get xs n) slots) ∙ there.1 in
@@ -134,11 +134,11 @@ module _ (given : GivenView) (t : Table) (at : ℕ) (slot : Slot) (parked : Park
               let bad : Out ≡ Decided fact = sym out ∙ decided in
               cc)
           | inr old ↦
-              let F : Stage → Type 0 = Fits r a given (path_at t.targets.keys n) there.0.turn in
-              let fits : Fits r a given (path_at t.targets.keys n) there.0.turn (Decided fact) = subst F there.2 (fed.fits n there.0 old.1) in
-              let is : path_at t.targets.keys n ≡ q = rw path refl in (
+              let F : Stage → Type 0 = Fits r a given (path_at t.targets n) there.0.turn in
+              let fits : Fits r a given (path_at t.targets n) there.0.turn (Decided fact) = subst F there.2 (fed.fits n there.0 old.1) in
+              let is : path_at t.targets n ≡ q = rw path refl in (
                 fits.1 ∙ is,
-                ap outcome_of (entry_of-slots r (outcome_at r given.limits.targets) t.targets.keys t.slots.items n q there.0 fed.distinct path old.1) ∙ ap stage_outcome there.2,
+                ap outcome_of (entry_of-slots r (outcome_at r given.limits.targets) t.targets t.slots.items n q there.0 fed.distinct path old.1) ∙ ap stage_outcome there.2,
               )
         ]
 
@@ -151,7 +151,7 @@ module _ (given : GivenView) (t : Table) (at : ℕ) (slot : Slot) (parked : Park
       told q o h = elim (g.below.origin q o h) [
         | inl old ↦ fed.waits.told q o old
         | inr new ↦
-            let path = numbers-number t.targets.keys parked.operands.items (waited_by r parked.begun.value) new.k new.n fed.numbered new.number in
+            let path = numbers-number t.targets parked.operands.items (waited_by r parked.begun.value) new.k new.n fed.numbered new.number in
             let known = fact-known new.n path.0 new.fact path.2 new.there in
             let same : path.0 ≡ q = sym known.0 ∙ new.target in
             let P : List ℕ → Type 0 = λ x. IsAmong (operands r (job_deps parked.begun.value.job)) x × (a x ≡ Some o) in
@@ -171,7 +171,7 @@ module _ (given : GivenView) (t : Table) (at : ℕ) (slot : Slot) (parked : Park
             | inl before ↦ fed.waits.gained found.0 found.1 q before found.2 found.3 (g.below.kept q none)
             | inr after' ↦
                 let place = waited-place r entries parked.begun.value.facts.gained found.0 found.1 q after' found.2 found.3 in
-                let number = numbers-path t.targets.keys parked.operands.items (waited_by r parked.begun.value) place.0 q fed.numbered place.1 in
+                let number = numbers-path t.targets parked.operands.items (waited_by r parked.begun.value) place.0 q fed.numbered place.1 in
                 let decided = gain-decided place.0 number.0 number.1 in
                 let fact = decided-fact decided.0.stage decided.2 in
                 let there : IsFactAt u number.0 fact.0 = (decided.0, decided.1, fact.1) in

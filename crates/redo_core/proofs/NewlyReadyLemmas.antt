@@ -62,8 +62,8 @@ length-slots r a [] (slot ∷ slots) h = absurd (omega arith)
 length-slots r a (p ∷ ps) [] h = refl
 length-slots r a (p ∷ ps) (slot ∷ slots) h = ap suc (length-slots r a ps slots (omega arith))
 
-module _ (given : GivenView) (t : Table) (newly_ready sorted : List ℕ) (table : IsTableOf given t newly_ready) (distinct : AreDistinct t.targets.keys)
-    (watched : AllWatched (rules_for given) given.limits.targets t.targets.keys t.slots.items [])
+module _ (given : GivenView) (t : Table) (newly_ready sorted : List ℕ) (table : IsTableOf given t newly_ready) (distinct : AreDistinct t.targets)
+    (watched : AllWatched (rules_for given) given.limits.targets t.targets t.slots.items [])
     (ascends : AscendFrom 0 sorted) (in' : (k : ℕ) → IsPlace sorted k → IsPlace newly_ready k) (out : (k : ℕ) → IsPlace newly_ready k → IsPlace sorted k) where
   abbrev r : Rules
   r = rules_for given
@@ -72,21 +72,21 @@ module _ (given : GivenView) (t : Table) (newly_ready sorted : List ℕ) (table 
   a = outcome_at (rules_for given) given.limits.targets
 
   abbrev s : State
-  s = state_from (rules_for given) given.limits.targets t.targets.keys t.slots.items t.ready.items
+  s = state_from (rules_for given) given.limits.targets t.targets t.slots.items t.ready.items
 
-  key-at : (k : ℕ) → k < length t.slots.items → slice_get t.targets.keys k ≡ Some (path_at t.targets.keys k)
+  key-at : (k : ℕ) → k < length t.slots.items → slice_get t.targets k ≡ Some (path_at t.targets k)
   key-at k h =
-      let found = slice_get-from t.targets.keys k (omega (arith, table.one_each, h)) in
-      let is : path_at t.targets.keys k ≡ found.0 = rw found.1 refl in
+      let found = slice_get-from t.targets k (omega (arith, table.one_each, h)) in
+      let is : path_at t.targets k ≡ found.0 = rw found.1 refl in
       found.1 ∙ ap Some (sym is)
 
   make_ready-there : (i : ℕ) (e : Entry) → slice_get s.entries i ≡ Some e → IsPlace newly_ready i → is_able_to_go_on (rules_for given) s e ≡ true
   make_ready-there i e h m =
-      let found = slot-of-entry r a t.targets.keys t.slots.items i e h in
+      let found = slot-of-entry r a t.targets t.slots.items i e h in
       let slot = found.0 in
       let p = found.1 in
       let ready = table.queue.ready_is i slot (inr m) found.2 in
-      let job = ready-job r (outcomes_of s.entries) given (path_at t.targets.keys i) slot.turn slot.stage (table.fits i slot found.2) ready in
+      let job = ready-job r (outcomes_of s.entries) given (path_at t.targets i) slot.turn slot.stage (table.fits i slot found.2) ready in
       let outcome : e.outcome ≡ None = sym (ap (λ (x : Entry). x.outcome) found.4) ∙ (let O : Stage → Type 0 = λ st. stage_outcome st ≡ None in subst O (sym job.1) refl) in
       let inside : e.is_out ≡ false = sym (ap (λ (x : Entry). x.is_out) found.4) ∙ (let I : Stage → Type 0 = λ st. is_stage_out st ≡ false in subst I (sym job.1) refl) in
       let work = job.0 in
@@ -97,8 +97,8 @@ module _ (given : GivenView) (t : Table) (newly_ready sorted : List ℕ) (table 
       let all : lacks_none r s.entries e ≡ true = not_from_false _ (none-lacks (outcomes_of s.entries) (operands r e.deps) (subst P (sym deps) job.3)) in
       let away : is_among s.ready e.path ≡ false = elim (cases_Bool (is_among s.ready e.path)) [
         | inl yes' ↦ absurd (
-            let at = among-map (path_at t.targets.keys) t.ready.items e.path (is_among-true s.ready e.path yes') in
-            let same : at.0 ≡ i = distinct-place t.targets.keys at.0 i p distinct
+            let at = among-map (path_at t.targets) t.ready.items e.path (is_among-true s.ready e.path yes') in
+            let same : at.0 ≡ i = distinct-place t.targets at.0 i p distinct
             (key-at at.0 (table.queue.ready_below at.0 at.1) ∙ ap Some (at.2 ∙ path)) found.3 in
             table.queue.apart at.0 at.1 (let Q : ℕ → Type 0 = IsPlace newly_ready in subst Q (sym same) m))
         | inr f ↦ f
@@ -107,20 +107,20 @@ module _ (given : GivenView) (t : Table) (newly_ready sorted : List ℕ) (table 
 
   make_ready-alone : (i : ℕ) (e : Entry) → slice_get s.entries i ≡ Some e → is_able_to_go_on (rules_for given) s e ≡ true → IsPlace newly_ready i
   make_ready-alone i e h free =
-      let found = slot-of-entry r a t.targets.keys t.slots.items i e h in
+      let found = slot-of-entry r a t.targets t.slots.items i e h in
       let slot = found.0 in
       let p = found.1 in
       let parts = is_able_to_go_on-parts r s e free in
       let path : e.path ≡ p = sym (ap (λ (x : Entry). x.path) found.4) in
-      let here : path_at t.targets.keys i ≡ p = rw found.3 refl in
+      let here : path_at t.targets i ≡ p = rw found.3 refl in
       let outcome : stage_outcome slot.stage ≡ None = ap (λ (x : Entry). x.outcome) found.4 ∙ parts.0 in
       let inside : is_stage_out slot.stage ≡ false = ap (λ (x : Entry). x.is_out) found.4 ∙ parts.2 in
       elim (three slot.stage outcome inside) [
         | inl waits ↦ absurd (elim (watched i slot found.2 waits) [
           | inl none ↦ none
           | inr v ↦
-              let q = path_at t.targets.keys v.at in
-              let known = ap outcome_of (entry_of-slots r a t.targets.keys t.slots.items v.at q v.other distinct
+              let q = path_at t.targets v.at in
+              let known = ap outcome_of (entry_of-slots r a t.targets t.slots.items v.at q v.other distinct
               (key-at v.at (slice_get-below_some t.slots.items v.at v.other v.there)) v.there) in
               let D : List ℕ → Type 0 = λ x. IsAmong (operands r (stage_deps r a x slot.turn slot.stage)) q in
               let E : Entry → Type 0 = λ x. IsAmong (operands r x.deps) q in
@@ -128,7 +128,7 @@ module _ (given : GivenView) (t : Table) (newly_ready sorted : List ℕ) (table 
         ])
         | inr ready ↦ elim (table.queue.ready_in i slot found.2 ready) [
           | inl queued ↦ absurd (both_ways _ parts.3 (is_among-from s.ready e.path
-              (IsAmong-same s.ready (path_at t.targets.keys i) e.path (here ∙ sym path) (map-among (path_at t.targets.keys) t.ready.items i queued))))
+              (IsAmong-same s.ready (path_at t.targets i) e.path (here ∙ sym path) (map-among (path_at t.targets) t.ready.items i queued))))
           | inr f ↦ f
         ]
       ]
@@ -139,15 +139,15 @@ module _ (given : GivenView) (t : Table) (newly_ready sorted : List ℕ) (table 
       three Out o i' = cc
       three (Decided fact) o i' = cc
 
-  pub newly_ready-paths : paths_of (filter (is_able_to_go_on (rules_for given) s) s.entries) ≡ map (path_at t.targets.keys) sorted
-  newly_ready-paths = filter-places (is_able_to_go_on r s) (path_at t.targets.keys) 0 s.entries sorted (record {
+  pub newly_ready-paths : paths_of (filter (is_able_to_go_on (rules_for given) s) s.entries) ≡ map (path_at t.targets) sorted
+  newly_ready-paths = filter-places (is_able_to_go_on r s) (path_at t.targets) 0 s.entries sorted (record {
     ascending = ascends;
-    within = λ k m. omega (arith, table.queue.newly_ready_below k (in' k m), length-slots r a t.targets.keys t.slots.items table.one_each);
+    within = λ k m. omega (arith, table.queue.newly_ready_below k (in' k m), length-slots r a t.targets t.slots.items table.one_each);
     passes = λ i e h m. let P : ℕ → Type 0 = IsPlace sorted in let same : 0 + i ≡ i = omega arith in make_ready-there i e h (in' i (subst P same m));
     alone = λ i e h t'. let P : ℕ → Type 0 = IsPlace sorted in let same : i ≡ 0 + i = omega arith in subst P same (out i (make_ready-alone i e h t'));
     named = λ i e h.
-        let found = slot-of-entry r a t.targets.keys t.slots.items i e h in
+        let found = slot-of-entry r a t.targets t.slots.items i e h in
         let same : 0 + i ≡ i = omega arith in
-        let here : path_at t.targets.keys i ≡ found.1 = rw found.3 refl in
-        ap (path_at t.targets.keys) same ∙ here ∙ ap (λ (x : Entry). x.path) found.4;
+        let here : path_at t.targets i ≡ found.1 = rw found.3 refl in
+        ap (path_at t.targets) same ∙ here ∙ ap (λ (x : Entry). x.path) found.4;
   })

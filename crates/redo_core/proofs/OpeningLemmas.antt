@@ -70,7 +70,7 @@ entered-new r es ps (q ∷ qs) =
 pub opening-entries : (given : GivenView) (request : List (List ℕ)) → (opening (rules_for given) request).entries ≡ entered (rules_for given) [] (targets_in (rules_for given) request)
 opening-entries given request = entered-new (rules_for given) [] [] (targets_in (rules_for given) request)
 
-pub empty-table : (given : GivenView) (t : Table) → t.targets.keys ≡ [] → t.slots.items ≡ [] → t.ready.items ≡ [] → t.out ≡ 0 → given.limits.targets ≤ 65536 → IsTableOf given t []
+pub empty-table : (given : GivenView) (t : Table) → t.targets ≡ [] → t.slots.items ≡ [] → t.ready.items ≡ [] → t.out ≡ 0 → given.limits.targets ≤ 65536 → IsTableOf given t []
 empty-table given t keys slots ready out few = rw (keys, slots, ready, out) (record {
   one_each = refl;
   within_limit = omega arith;
@@ -92,13 +92,13 @@ empty-table given t keys slots ready out few = rw (keys, slots, ready, out) (rec
     nothing : (k : ℕ) (x : Rattle.redo_core.specs.declared.table.Slot.Slot) → slice_get {X = Rattle.redo_core.specs.declared.table.Slot.Slot} [] k ≡ Some x → ⊥
     nothing k x g = cc
 
-pub empty-watched : (given : GivenView) (t : Table) → t.targets.keys ≡ [] → t.slots.items ≡ [] → AllWatched (rules_for given) given.limits.targets t.targets.keys t.slots.items []
+pub empty-watched : (given : GivenView) (t : Table) → t.targets ≡ [] → t.slots.items ≡ [] → AllWatched (rules_for given) given.limits.targets t.targets t.slots.items []
 empty-watched given t keys slots = rw (keys, slots) (λ k x g h. absurd (nothing k x g))
   where
     nothing : (k : ℕ) (x : Rattle.redo_core.specs.declared.table.Slot.Slot) → slice_get {X = Rattle.redo_core.specs.declared.table.Slot.Slot} [] k ≡ Some x → ⊥
     nothing k x g = cc
 
-pub first-is : (given : GivenView) (request : List (List ℕ)) (t u v : Table) (newly_ready : List ℕ) → t.targets.keys ≡ [] → t.slots.items ≡ [] → t.ready.items ≡ [] →
+pub first-is : (given : GivenView) (request : List (List ℕ)) (t u v : Table) (newly_ready : List ℕ) → t.targets ≡ [] → t.slots.items ≡ [] → t.ready.items ≡ [] →
     AreEnteredInto given t u newly_ready (targets_in (rules_for given) request) → AreEnqueued u v newly_ready → IsFirstTable given request v
 first-is given request t u v newly_ready keys slots ready a w =
     let r = rules_for given in

@@ -39,15 +39,15 @@ count-back (x ∷ xs) (Rattle.std.proofs.Common.suc at) old new h was now =
     let rest = count-back xs at old new h was now in
     elim (cases_Bool (is_stage_out x.stage)) [ inl t ↦ rw t (omega (arith, rest)) | inr f ↦ rw f rest ]
 
-module _ (given : GivenView) (t u : Table) (newly_ready : List ℕ) (table : IsTableOf given t newly_ready) (distinct : AreDistinct t.targets.keys)
+module _ (given : GivenView) (t u : Table) (newly_ready : List ℕ) (table : IsTableOf given t newly_ready) (distinct : AreDistinct t.targets)
     (at : ℕ) (old new : Slot) (w : IsPutBack t u at old new) where
   abbrev r : Rules
   r = rules_for given
 
-  put_path : slice_get t.targets.keys at ≡ Some (path_at t.targets.keys at)
+  put_path : slice_get t.targets at ≡ Some (path_at t.targets at)
   put_path =
-      let found = slice_get-from t.targets.keys at (omega (arith, table.one_each, slice_get-below_some t.slots.items at old w.there)) in
-      let is : path_at t.targets.keys at ≡ found.0 = rw found.1 refl in
+      let found = slice_get-from t.targets at (omega (arith, table.one_each, slice_get-below_some t.slots.items at old w.there)) in
+      let is : path_at t.targets at ≡ found.0 = rw found.1 refl in
       found.1 ∙ ap Some (sym is)
 
   old_open : stage_outcome old.stage ≡ None
@@ -55,29 +55,29 @@ module _ (given : GivenView) (t u : Table) (newly_ready : List ℕ) (table : IsT
 
   -- the entries are those before with one replaced
   pub put-entries : table_entries (rules_for given) given.limits.targets u ≡
-      put (table_entries (rules_for given) given.limits.targets t) (slot_entry (rules_for given) (outcome_at (rules_for given) given.limits.targets) (path_at t.targets.keys at) new)
-  put-entries = rw (w.rest.0, w.slots) (slot_entries-set r (outcome_at r given.limits.targets) t.targets.keys t.slots.items at (path_at t.targets.keys at) old new distinct put_path w.there)
+      put (table_entries (rules_for given) given.limits.targets t) (slot_entry (rules_for given) (outcome_at (rules_for given) given.limits.targets) (path_at t.targets at) new)
+  put-entries = rw (w.rest.0, w.slots) (slot_entries-set r (outcome_at r given.limits.targets) t.targets t.slots.items at (path_at t.targets at) old new distinct put_path w.there)
 
   pub put-table : is_stage_out new.stage ≡ false → is_stage_ready new.stage ≡ false → ((k : ℕ) → IsPlace new.watchers.items k → k < length t.slots.items) →
       ((a : Ask) → Extends (rules_for given) (outcomes_of (table_entries (rules_for given) given.limits.targets t)) a →
-      Fits (rules_for given) a given (path_at t.targets.keys at) new.turn new.stage) → IsNumbered (rules_for given) t.targets.keys new.stage → IsTableOf given u newly_ready
+      Fits (rules_for given) a given (path_at t.targets at) new.turn new.stage) → IsNumbered (rules_for given) t.targets new.stage → IsTableOf given u newly_ready
   put-table in' still below fit numbers =
       let len = length-set t.slots.items at new in
       let count = count-back t.slots.items at old new w.there (rw w.was refl) in' in
-      let raw : IsTable r given t.targets.keys (slice_set t.slots.items at new) t.ready.items u.out newly_ready = record {
+      let raw : IsTable r given t.targets (slice_set t.slots.items at new) t.ready.items u.out newly_ready = record {
         one_each = len ∙ table.one_each;
         within_limit = omega (arith, len, table.within_limit);
         few = table.few;
         out_counted = omega (arith, table.out_counted, w.out, count);
-        fits = fits-set r (lawful_for given) given.limits.targets t.targets.keys t.slots.items at (path_at t.targets.keys at) old new distinct put_path w.there given
-            (outcomes-more r (lawful_for given) given.limits.targets t.targets.keys t.slots.items at (path_at t.targets.keys at) old new distinct put_path w.there old_open)
-            table.fits (fit (outcomes_of (entries_from r given.limits.targets t.targets.keys (slice_set t.slots.items at new)))
-            (outcomes-more r (lawful_for given) given.limits.targets t.targets.keys t.slots.items at (path_at t.targets.keys at) old new distinct put_path w.there old_open));
-        numbered = numbered-set r t.targets.keys t.slots.items at new numbers table.numbered;
+        fits = fits-set r (lawful_for given) given.limits.targets t.targets t.slots.items at (path_at t.targets at) old new distinct put_path w.there given
+            (outcomes-more r (lawful_for given) given.limits.targets t.targets t.slots.items at (path_at t.targets at) old new distinct put_path w.there old_open)
+            table.fits (fit (outcomes_of (entries_from r given.limits.targets t.targets (slice_set t.slots.items at new)))
+            (outcomes-more r (lawful_for given) given.limits.targets t.targets t.slots.items at (path_at t.targets at) old new distinct put_path w.there old_open));
+        numbered = numbered-set r t.targets t.slots.items at new numbers table.numbered;
         queue = queue-same t.slots.items t.ready.items newly_ready at old new w.there table.queue (still ∙ sym (rw w.was refl));
         watchers_below = watchers-set t.slots.items at old new w.there below table.watchers_below;
       } in
-      let S : List Slot → Type 0 = λ xs. IsTable r given t.targets.keys xs t.ready.items u.out newly_ready in
+      let S : List Slot → Type 0 = λ xs. IsTable r given t.targets xs t.ready.items u.out newly_ready in
       rw (w.rest.0, w.rest.1) (subst S (sym w.slots) raw)
 
 decided-stage : (fact : FactView) (given : GivenView) (p : List ℕ) (turn : ℕ) (stage : Stage) → IsDecidedStage fact stage →
@@ -117,20 +117,20 @@ parked-numbers begun numbers r ps (Ready work) h are = absurd h
 parked-numbers begun numbers r ps Out h are = absurd h
 parked-numbers begun numbers r ps (Decided held) h are = absurd h
 
-module _ (given : GivenView) (t u : Table) (newly_ready : List ℕ) (table : IsTableOf given t newly_ready) (distinct : AreDistinct t.targets.keys) (at : ℕ) where
+module _ (given : GivenView) (t u : Table) (newly_ready : List ℕ) (table : IsTableOf given t newly_ready) (distinct : AreDistinct t.targets) (at : ℕ) where
   -- a target that is decided
   module _ (fact : FactView) (pending : List ℕ) (d : IsDecidedAt t u at fact pending)
-      (one : fact.given ≡ given) (two : fact.target ≡ path_at t.targets.keys at) where
+      (one : fact.given ≡ given) (two : fact.target ≡ path_at t.targets at) where
     pub decided-table : IsTableOf given u newly_ready
     decided-table =
-        let h = decided-stage fact given (path_at t.targets.keys at) d.new.turn d.new.stage d.stage one two in
+        let h = decided-stage fact given (path_at t.targets at) d.new.turn d.new.stage d.stage one two in
         put-table given t u newly_ready table distinct at d.old d.new d.put_back h.0 h.1
-        (λ k m. absurd (let P : List ℕ → Type 0 = λ xs. IsPlace xs k in subst P d.watchers m)) (λ a more. h.3 a) (numbered-still (rules_for given) t.targets.keys d.new.stage h.2)
+        (λ k m. absurd (let P : List ℕ → Type 0 = λ xs. IsPlace xs k in subst P d.watchers m)) (λ a more. h.3 a) (numbered-still (rules_for given) t.targets d.new.stage h.2)
 
-    decided-raw : AllWatched (rules_for given) given.limits.targets t.targets.keys t.slots.items [] →
-        AllWatched (rules_for given) given.limits.targets t.targets.keys (slice_set t.slots.items at d.new) pending
+    decided-raw : AllWatched (rules_for given) given.limits.targets t.targets t.slots.items [] →
+        AllWatched (rules_for given) given.limits.targets t.targets (slice_set t.slots.items at d.new) pending
     decided-raw all k x g m =
-        let h = decided-stage fact given (path_at t.targets.keys at) d.new.turn d.new.stage d.stage one two in
+        let h = decided-stage fact given (path_at t.targets at) d.new.turn d.new.stage d.stage one two in
         elim (get-set_cases t.slots.items at k d.new x g) [
           | inl here ↦ absurd (both_ways _ h.2 (ap (λ (y : Slot). is_stage_waiting y.stage) here.1 ∙ m))
           | inr before ↦ elim (all k x before.1 m) [
@@ -155,37 +155,37 @@ module _ (given : GivenView) (t u : Table) (newly_ready : List ℕ) (table : IsT
           ]
         ]
 
-    pub decided-watched : AllWatched (rules_for given) given.limits.targets t.targets.keys t.slots.items [] →
-        AllWatched (rules_for given) given.limits.targets u.targets.keys u.slots.items pending
+    pub decided-watched : AllWatched (rules_for given) given.limits.targets t.targets t.slots.items [] →
+        AllWatched (rules_for given) given.limits.targets u.targets u.slots.items pending
     decided-watched all = rw (d.put_back.rest.0, d.put_back.slots) (decided-raw all)
 
   -- a job that is parked again
   module _ (begun : Box Begun Global) (numbers : Vec ℕ Global) (d : IsParkedAt t u at begun numbers)
-      (waits : IsWaitingWith (rules_for given) (outcomes_of (table_entries (rules_for given) given.limits.targets t)) given (path_at t.targets.keys at) d.new.turn (record { begun = begun; operands = numbers; held = 0 }))
-      (are : AreNumbers t.targets.keys numbers.items (waited_by (rules_for given) begun.value)) where
+      (waits : IsWaitingWith (rules_for given) (outcomes_of (table_entries (rules_for given) given.limits.targets t)) given (path_at t.targets at) d.new.turn (record { begun = begun; operands = numbers; held = 0 }))
+      (are : AreNumbers t.targets numbers.items (waited_by (rules_for given) begun.value)) where
     same_list : d.new.watchers.items ≡ d.old.watchers.items
     same_list = ap (λ (y : Rattle.std.specs.declared.vec.Vec.Vec ℕ Rattle.std.proofs.Common.Global). y.items) d.watchers
 
     pub parked-table : IsTableOf given u newly_ready
     parked-table =
-        let h = parked-stage begun numbers given (outcomes_of (table_entries (rules_for given) given.limits.targets t)) (path_at t.targets.keys at) d.new.turn d.new.stage d.stage waits in
+        let h = parked-stage begun numbers given (outcomes_of (table_entries (rules_for given) given.limits.targets t)) (path_at t.targets at) d.new.turn d.new.stage d.stage waits in
         put-table given t u newly_ready table distinct at d.old d.new d.put_back h.0 h.1
         (λ k m. table.watchers_below at k d.old d.put_back.there (rw same_list at m)) h.3
-        (parked-numbers begun numbers (rules_for given) t.targets.keys d.new.stage d.stage are)
+        (parked-numbers begun numbers (rules_for given) t.targets d.new.stage d.stage are)
 
-    parked-raw : AllWatched (rules_for given) given.limits.targets t.targets.keys t.slots.items [] →
-        AllWatched (rules_for given) given.limits.targets t.targets.keys (slice_set t.slots.items at d.new) (at ∷ [])
+    parked-raw : AllWatched (rules_for given) given.limits.targets t.targets t.slots.items [] →
+        AllWatched (rules_for given) given.limits.targets t.targets (slice_set t.slots.items at d.new) (at ∷ [])
     parked-raw all k x g m =
-        let h = parked-stage begun numbers given (outcomes_of (table_entries (rules_for given) given.limits.targets t)) (path_at t.targets.keys at) d.new.turn d.new.stage d.stage waits in
+        let h = parked-stage begun numbers given (outcomes_of (table_entries (rules_for given) given.limits.targets t)) (path_at t.targets at) d.new.turn d.new.stage d.stage waits in
         elim (get-set_cases t.slots.items at k d.new x g) [
           | inl here ↦ inl (inl (sym here.0))
           | inr before ↦ elim (all k x before.1 m) [
             | inl none ↦ absurd none
-            | inr v ↦ inr (IsWatched-set t.slots.items at d.old d.new d.put_back.there (rules_for given) t.targets.keys k
-                (stage_deps (rules_for given) (outcome_at (rules_for given) given.limits.targets) (path_at t.targets.keys k) x.turn x.stage) h.2 (λ j p. rw same_list p) v)
+            | inr v ↦ inr (IsWatched-set t.slots.items at d.old d.new d.put_back.there (rules_for given) t.targets k
+                (stage_deps (rules_for given) (outcome_at (rules_for given) given.limits.targets) (path_at t.targets k) x.turn x.stage) h.2 (λ j p. rw same_list p) v)
           ]
         ]
 
-    pub parked-watched : AllWatched (rules_for given) given.limits.targets t.targets.keys t.slots.items [] →
-        AllWatched (rules_for given) given.limits.targets u.targets.keys u.slots.items (at ∷ [])
+    pub parked-watched : AllWatched (rules_for given) given.limits.targets t.targets t.slots.items [] →
+        AllWatched (rules_for given) given.limits.targets u.targets u.slots.items (at ∷ [])
     parked-watched all = rw (d.put_back.rest.0, d.put_back.slots) (parked-raw all)

@@ -88,52 +88,52 @@ source-outcome r zero p s = rw s refl
 source-outcome r (suc n) p s = rw s refl
 
 module _ (given : GivenView) (request : List (List ℕ)) (t : Table) (s : State)
-    (entries : s.entries ≡ entries_from (rules_for given) given.limits.targets t.targets.keys t.slots.items)
+    (entries : s.entries ≡ entries_from (rules_for given) given.limits.targets t.targets t.slots.items)
     (shows : ShowsBuild (rules_for given) request given.limits.targets s)
-    (one_each : length t.slots.items ≡ length t.targets.keys) (distinct : AreDistinct t.targets.keys)
-    (fits : AllFit (rules_for given) given.limits.targets given t.targets.keys t.slots.items)
-    (targets : (p : List ℕ) → IsAmong t.targets.keys p → is_some (file_at given.tree p) ≡ false) where
+    (one_each : length t.slots.items ≡ length t.targets) (distinct : AreDistinct t.targets)
+    (fits : AllFit (rules_for given) given.limits.targets given t.targets t.slots.items)
+    (targets : (p : List ℕ) → IsAmong t.targets p → is_some (file_at given.tree p) ≡ false) where
   abbrev r : Rules
   r = rules_for given
 
   abbrev es : List Entry
-  es = entries_from (rules_for given) given.limits.targets t.targets.keys t.slots.items
+  es = entries_from (rules_for given) given.limits.targets t.targets t.slots.items
 
-  keys : paths_of s.entries ≡ t.targets.keys
-  keys = ap paths_of entries ∙ paths_of-slots r (outcome_at r given.limits.targets) t.targets.keys t.slots.items one_each
+  keys : paths_of s.entries ≡ t.targets
+  keys = ap paths_of entries ∙ paths_of-slots r (outcome_at r given.limits.targets) t.targets t.slots.items one_each
 
-  key-needed : (p : List ℕ) → IsAmong t.targets.keys p → IsAmong (needed_at (rules_for given) request given.limits.targets) p
+  key-needed : (p : List ℕ) → IsAmong t.targets p → IsAmong (needed_at (rules_for given) request given.limits.targets) p
   key-needed p m = (shows.members p).0 (let P : List (List ℕ) → Type 0 = λ ps. IsAmong ps p in subst P (sym keys) m)
 
-  needed-key : (p : List ℕ) → IsAmong (needed_at (rules_for given) request given.limits.targets) p → IsAmong t.targets.keys p
+  needed-key : (p : List ℕ) → IsAmong (needed_at (rules_for given) request given.limits.targets) p → IsAmong t.targets p
   needed-key p m = let P : List (List ℕ) → Type 0 = λ ps. IsAmong ps p in subst P keys ((shows.members p).1 m)
 
   -- a reported path is a needed target or a requested source
-  reported-from : (p : List ℕ) → IsAmong (reported_paths given.tree request t) p → IsAmong t.targets.keys p ⊎ (IsAmong request p × (is_some (file_at given.tree p) ≡ true))
-  reported-from p m = elim (placed-from (placed [] t.targets.keys) (sources_among given.tree request) p m) [
-    | inl first ↦ elim (placed-from [] t.targets.keys p first) [ inl none ↦ absurd none | inr key ↦ inl key ]
+  reported-from : (p : List ℕ) → IsAmong (reported_paths given.tree request t) p → IsAmong t.targets p ⊎ (IsAmong request p × (is_some (file_at given.tree p) ≡ true))
+  reported-from p m = elim (placed-from (placed [] t.targets) (sources_among given.tree request) p m) [
+    | inl first ↦ elim (placed-from [] t.targets p first) [ inl none ↦ absurd none | inr key ↦ inl key ]
     | inr source ↦ inr (filter-from (λ q. is_some (file_at given.tree q)) request p source, filter-passes (λ q. is_some (file_at given.tree q)) request p source)
   ]
 
-  reported-key : (p : List ℕ) → IsAmong t.targets.keys p → IsAmong (reported_paths given.tree request t) p
-  reported-key p m = placed-first (placed [] t.targets.keys) (sources_among given.tree request) p (placed-second [] t.targets.keys p m)
+  reported-key : (p : List ℕ) → IsAmong t.targets p → IsAmong (reported_paths given.tree request t) p
+  reported-key p m = placed-first (placed [] t.targets) (sources_among given.tree request) p (placed-second [] t.targets p m)
 
   reported-source : (p : List ℕ) → IsAmong request p → is_some (file_at given.tree p) ≡ true → IsAmong (reported_paths given.tree request t) p
-  reported-source p m source = placed-second (placed [] t.targets.keys) (sources_among given.tree request) p (filter-among (λ q. is_some (file_at given.tree q)) request p m source)
+  reported-source p m source = placed-second (placed [] t.targets) (sources_among given.tree request) p (filter-among (λ q. is_some (file_at given.tree q)) request p m source)
 
   abbrev IsRight : Row → Type 0
   IsRight row = (row.outcome ≡ final_outcome (rules_for given) given.limits.targets row.path) × (arc_value row.deps ≡ deps_of (rules_for given) given.limits.targets row.path)
 
   target-right : (row : Row) → IsTargetRow t row → IsRight row
   target-right row is =
-      let key = slice_get-among t.targets.keys is.at row.path is.path in
+      let key = slice_get-among t.targets is.at row.path is.path in
       let P : List Entry → Type 0 = λ xs. entry_of xs row.path ≡ Some (slot_entry r (outcome_at r given.limits.targets) row.path is.slot) in
       let found : entry_of s.entries row.path ≡ Some (slot_entry r (outcome_at r given.limits.targets) row.path is.slot) = subst P (sym entries)
-      (entry_of-slots r (outcome_at r given.limits.targets) t.targets.keys t.slots.items is.at row.path is.slot distinct is.path is.there) in
+      (entry_of-slots r (outcome_at r given.limits.targets) t.targets t.slots.items is.at row.path is.slot distinct is.path is.there) in
       let among : IsAmong (paths_of s.entries) row.path = let Q : List (List ℕ) → Type 0 = λ ps. IsAmong ps row.path in subst Q (sym keys) key in
       let outcome : stage_outcome is.slot.stage ≡ outcome_at r given.limits.targets row.path = sym (ap outcome_of found) ∙ shows.outcomes row.path among in
       let deps : stage_deps r (outcome_at r given.limits.targets) row.path is.slot.turn is.slot.stage ≡ record_of r given.limits.targets row.path = shows.declared row.path (slot_entry r (outcome_at r given.limits.targets) row.path is.slot) found in
-      let shown = stage-shown r (outcomes_of es) given row.path (path_at t.targets.keys is.at) is.slot.turn is.slot.stage row.outcome (arc_value row.deps) (fits is.at is.slot is.there) is.shown (outcome_at r given.limits.targets) in
+      let shown = stage-shown r (outcomes_of es) given row.path (path_at t.targets is.at) is.slot.turn is.slot.stage row.outcome (arc_value row.deps) (fits is.at is.slot is.there) is.shown (outcome_at r given.limits.targets) in
       let source : is_some (file_at given.tree row.path) ≡ false = targets row.path key in
       (shown.0 ∙ ap (λ (o : Option Outcome). unwrap_or o Cyclic) outcome, shown.1 ∙ deps ∙ sym (rw source refl))
 
@@ -148,7 +148,7 @@ module _ (given : GivenView) (request : List (List ℕ)) (t : Table) (s : State)
     reported-row : (p : List ℕ) → IsAmong (reported_paths given.tree request t) p → IsAmong (row_paths report) p
     reported-row p m = let P : List (List ℕ) → Type 0 = λ ps. IsAmong ps p in subst P (sym made.paths) m
 
-    row-cases : (p : List ℕ) → IsAmong (row_paths report) p → IsAmong t.targets.keys p ⊎ (IsAmong request p × (is_some (file_at given.tree p) ≡ true))
+    row-cases : (p : List ℕ) → IsAmong (row_paths report) p → IsAmong t.targets p ⊎ (IsAmong request p × (is_some (file_at given.tree p) ≡ true))
     row-cases p m = reported-from p (let P : List (List ℕ) → Type 0 = λ ps. IsAmong ps p in subst P made.paths m)
 
     right : AllByRecursion IsRight report.rows.items
@@ -191,7 +191,7 @@ module _ (given : GivenView) (request : List (List ℕ)) (t : Table) (s : State)
         subst P found.2 (row_file report.rows.items found.0 bytes found.1 is)
 
     sorted : AreSorted (row_paths report)
-    sorted = let P : List (List ℕ) → Type 0 = AreSorted in subst P (sym made.paths) (placed-sorted (placed [] t.targets.keys) (sources_among given.tree request) (placed-sorted [] t.targets.keys tt))
+    sorted = let P : List (List ℕ) → Type 0 = AreSorted in subst P (sym made.paths) (placed-sorted (placed [] t.targets) (sources_among given.tree request) (placed-sorted [] t.targets tt))
 
     pub is-report : IsReport (rules_for given) request given.limits.targets report
     is-report =
@@ -258,17 +258,17 @@ module _ (b : Inside) (kept : IsKept b) (quiet : IsQuiet (state_of b)) where
   pub settled-inside : AllSettled b.table
   settled-inside k slot there = settled-stage slot.stage
       (λ ready. elim (kept.table.queue.ready_in k slot there ready) [
-        | inl placed ↦ none-placed (path_at b.table.targets.keys) b.table.ready.items k quiet.0 placed
+        | inl placed ↦ none-placed (path_at b.table.targets) b.table.ready.items k quiet.0 placed
         | inr none ↦ none
       ])
       (λ out. out-counted b.table.slots.items k slot there out
-      (sym (out_count-slots (rules_inside b) (outcome_at (rules_inside b) b.build.limits.targets) b.table.targets.keys b.table.slots.items kept.table.one_each) ∙ quiet.1))
+      (sym (out_count-slots (rules_inside b) (outcome_at (rules_inside b) b.build.limits.targets) b.table.targets b.table.slots.items kept.table.one_each) ∙ quiet.1))
 
-  target-keys : (p : List ℕ) → IsAmong b.table.targets.keys p → is_some (file_at b.build.tree p) ≡ false
+  target-keys : (p : List ℕ) → IsAmong b.table.targets p → is_some (file_at b.build.tree p) ≡ false
   target-keys p m =
       let P : List (List ℕ) → Type 0 = λ ps. IsAmong ps p in
       (sound-inside b kept).standing.targets p
-      (subst P (sym (paths_of-slots (rules_inside b) (outcome_at (rules_inside b) b.build.limits.targets) b.table.targets.keys b.table.slots.items kept.table.one_each)) m)
+      (subst P (sym (paths_of-slots (rules_inside b) (outcome_at (rules_inside b) b.build.limits.targets) b.table.targets b.table.slots.items kept.table.one_each)) m)
 
   pub report-inside : (report : Report) → IsReportOf b.build.tree b.request.items b.table report → IsReport (rules_inside b) b.request.items b.build.limits.targets report
   report-inside report made = is-report b.build b.request.items b.table (state_of b) refl (shows-inside b kept quiet)
@@ -290,7 +290,7 @@ quiet-inside b view is quiet =
     let on : is_some b.stopped ≡ false = none_stopped b.stopped here.0 in
     let ready = rw on at here.1 in
     let out = rw on at here.2 in
-    (here.0, (no_paths (map (path_at b.table.targets.keys) b.table.ready.items) ready, out))
+    (here.0, (no_paths (map (path_at b.table.targets) b.table.ready.items) ready, out))
 
 pub if_ok-more : {X E : Type 0} (r : Result X E) (P Q : X → Type 0) → ((x : X) → P x → Q x) → IfOk r P → IfOk r Q
 if_ok-more (Ok x) P Q f h = f x h
@@ -327,5 +327,5 @@ pub told-inside : (b : Inside) → IsKept b → (tree : Tree) → tree ≡ b.bui
 told-inside b kept tree same =
     let P : Tree → Type 0 = λ t. AllTold t b.table in
     subst P (sym same) (λ k slot p there at.
-    told-stage (rules_inside b) (outcomes_of (state_of b).entries) b.build p (path_at b.table.targets.keys k) slot.turn slot.stage
+    told-stage (rules_inside b) (outcomes_of (state_of b).entries) b.build p (path_at b.table.targets k) slot.turn slot.stage
     (rw at refl) (kept.table.fits k slot there))

@@ -26,6 +26,6 @@ looked-more given t u v pending i d below before one = record {
   rest = (one.rest.0 ∙ before.rest.0, one.rest.1 ∙ before.rest.1, one.rest.2 ∙ before.rest.2);
   slots = one.slots ∙ before.slots;
   watched = λ more all.
-      let P : List ℕ → Type 0 = λ xs. AllWatched (rules_for given) given.limits.targets u.targets.keys u.slots.items (xs ++ more) in
+      let P : List ℕ → Type 0 = λ xs. AllWatched (rules_for given) given.limits.targets u.targets u.slots.items (xs ++ more) in
       one.watched (drop (i + 1) pending ++ more) (subst P (drop-index pending i d below) (before.watched more all));
 }

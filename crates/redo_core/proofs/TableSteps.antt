@@ -196,7 +196,7 @@ waited-place r ds n k d q h g is =
     let place = drop-place ds n k d h g in
     among-place (operands r (drop n ds)) q (entry-operand r (drop n ds) place.0 d q place.1 is)
 
-pub number-decided : (t : Table) (q : List ℕ) (n : ℕ) → slice_get t.targets.keys n ≡ Some q → IsDecidedNumber t n → IsDecidedSlot t q
+pub number-decided : (t : Table) (q : List ℕ) (n : ℕ) → slice_get t.targets n ≡ Some q → IsDecidedNumber t n → IsDecidedSlot t q
 number-decided t q n path d = record { at = n; slot = d.0; path = path; there = d.1; decided = d.2 }
 
 -- the table before a step
@@ -210,32 +210,32 @@ module _ (given : GivenView) (t : Table) (newly_ready : List ℕ) (table : IsTab
   lawful : AreLawful (rules_for given)
   lawful = lawful_for given
 
-  pub distinct_keys : AreDistinct t.targets.keys
+  pub distinct_keys : AreDistinct t.targets
   distinct_keys =
       let P : List (List ℕ) → Type 0 = AreDistinct in
-      subst P (paths_of-slots r (outcome_at r given.limits.targets) t.targets.keys t.slots.items table.one_each) standing.1.distinct
+      subst P (paths_of-slots r (outcome_at r given.limits.targets) t.targets t.slots.items table.one_each) standing.1.distinct
 
-  pub path_there : (at : ℕ) (slot : Slot) → slice_get t.slots.items at ≡ Some slot → slice_get t.targets.keys at ≡ Some (path_at t.targets.keys at)
+  pub path_there : (at : ℕ) (slot : Slot) → slice_get t.slots.items at ≡ Some slot → slice_get t.targets at ≡ Some (path_at t.targets at)
   path_there at slot there =
-      let found = slice_get-from t.targets.keys at (omega (arith, table.one_each, slice_get-below_some t.slots.items at slot there)) in
-      let is : path_at t.targets.keys at ≡ found.0 = rw found.1 refl in
+      let found = slice_get-from t.targets at (omega (arith, table.one_each, slice_get-below_some t.slots.items at slot there)) in
+      let is : path_at t.targets at ≡ found.0 = rw found.1 refl in
       found.1 ∙ ap Some (sym is)
 
   pub entry_there : (at : ℕ) (slot : Slot) → slice_get t.slots.items at ≡ Some slot →
-      entry_of (table_entries (rules_for given) given.limits.targets t) (path_at t.targets.keys at) ≡ Some (slot_entry (rules_for given) (outcome_at (rules_for given) given.limits.targets) (path_at t.targets.keys at) slot)
-  entry_there at slot there = entry_of-slots r (outcome_at r given.limits.targets) t.targets.keys t.slots.items at (path_at t.targets.keys at) slot distinct_keys (path_there at slot there) there
+      entry_of (table_entries (rules_for given) given.limits.targets t) (path_at t.targets at) ≡ Some (slot_entry (rules_for given) (outcome_at (rules_for given) given.limits.targets) (path_at t.targets at) slot)
+  entry_there at slot there = entry_of-slots r (outcome_at r given.limits.targets) t.targets t.slots.items at (path_at t.targets at) slot distinct_keys (path_there at slot there) there
 
   pub decided-known : (q : List ℕ) → IsDecidedSlot t q → outcomes_of (table_entries (rules_for given) given.limits.targets t) q ≡ None → ⊥
   decided-known q d none =
-      let here = ap outcome_of (entry_of-slots r (outcome_at r given.limits.targets) t.targets.keys t.slots.items d.at q d.slot distinct_keys d.path d.there) in
+      let here = ap outcome_of (entry_of-slots r (outcome_at r given.limits.targets) t.targets t.slots.items d.at q d.slot distinct_keys d.path d.there) in
       decided-outcome d.slot.stage d.decided (sym here ∙ none)
 
   -- a parked job
   module _ (at : ℕ) (slot : Slot) (parked : Parked) (there : slice_get t.slots.items at ≡ Some slot) (is : slot.stage ≡ Waiting parked) where
-    parked_fits : Fits r (outcomes_of es) given (path_at t.targets.keys at) slot.turn (Waiting parked)
-    parked_fits = let P : Stage → Type 0 = Fits r (outcomes_of es) given (path_at t.targets.keys at) slot.turn in subst P is (table.fits at slot there)
+    parked_fits : Fits r (outcomes_of es) given (path_at t.targets at) slot.turn (Waiting parked)
+    parked_fits = let P : Stage → Type 0 = Fits r (outcomes_of es) given (path_at t.targets at) slot.turn in subst P is (table.fits at slot there)
 
-    pub parked_deps : stage_deps (rules_for given) (outcome_at (rules_for given) given.limits.targets) (path_at t.targets.keys at) slot.turn slot.stage ≡ job_deps parked.begun.value.job
+    pub parked_deps : stage_deps (rules_for given) (outcome_at (rules_for given) given.limits.targets) (path_at t.targets at) slot.turn slot.stage ≡ job_deps parked.begun.value.job
     parked_deps = rw is refl
 
     -- what the job declared is what its record waits for
@@ -245,14 +245,14 @@ module _ (given : GivenView) (t : Table) (newly_ready : List ℕ) (table : IsTab
     pub own_from : (q : List ℕ) → IsAmong (operands (rules_for given) (job_deps parked.begun.value.job)) q → IsAmong (operands (rules_for given) parked.begun.value.job.state.entries) q
     own_from q m = asked_by_job given parked.begun.value.job parked_fits.is_job q m
 
-    pub parked_numbered : AreNumbers t.targets.keys parked.operands.items (waited_by (rules_for given) parked.begun.value)
-    parked_numbered = let P : Stage → Type 0 = IsNumbered r t.targets.keys in subst P is (table.numbered at slot there)
+    pub parked_numbered : AreNumbers t.targets parked.operands.items (waited_by (rules_for given) parked.begun.value)
+    parked_numbered = let P : Stage → Type 0 = IsNumbered r t.targets in subst P is (table.numbered at slot there)
 
     pub parked_seen : (k : ℕ) → IsPlace parked.operands.items k → k < length t.slots.items
     parked_seen k m =
         let found = place-slice_get parked.operands.items k m in
-        let path = numbers-number t.targets.keys parked.operands.items (waited_by r parked.begun.value) found.0 k parked_numbered found.1 in
-        omega (arith, table.one_each, slice_get-below_some t.targets.keys k path.0 path.2)
+        let path = numbers-number t.targets parked.operands.items (waited_by r parked.begun.value) found.0 k parked_numbered found.1 in
+        omega (arith, table.one_each, slice_get-below_some t.targets k path.0 path.2)
 
     -- what is waited for is asked for
     pub waited_asked : (q : List ℕ) → IsAmong (waited_by (rules_for given) parked.begun.value) q → IsAmong (operands (rules_for given) (job_deps parked.begun.value.job)) q
@@ -274,19 +274,19 @@ module _ (given : GivenView) (t : Table) (newly_ready : List ℕ) (table : IsTab
                 elim (Rattle.std.proofs.lemmas.Bool.cases_lt place.0 parked.held) [
                   | inl before ↦ parked_fits.answered place.0 q before place.1 none
                   | inr later ↦
-                      let number = numbers-path t.targets.keys parked.operands.items (waited_by r parked.begun.value) place.0 q parked_numbered place.1 in
+                      let number = numbers-path t.targets parked.operands.items (waited_by r parked.begun.value) place.0 q parked_numbered place.1 in
                       decided-known q (number-decided t q number.0 number.2
                       (rest place.0 number.0 later (slice_get-below_some parked.operands.items place.0 number.0 number.1) number.1)) none
                 ]
           ]
 
       parked_entry : Entry
-      parked_entry = slot_entry (rules_for given) (outcome_at (rules_for given) given.limits.targets) (path_at t.targets.keys at) slot
+      parked_entry = slot_entry (rules_for given) (outcome_at (rules_for given) given.limits.targets) (path_at t.targets at) slot
 
       parked_open : stage_outcome slot.stage ≡ None
       parked_open = rw is refl
 
-      entry_answered : (q : List ℕ) → IsAmong (operands (rules_for given) (slot_entry (rules_for given) (outcome_at (rules_for given) given.limits.targets) (path_at t.targets.keys at) slot).deps) q →
+      entry_answered : (q : List ℕ) → IsAmong (operands (rules_for given) (slot_entry (rules_for given) (outcome_at (rules_for given) given.limits.targets) (path_at t.targets at) slot).deps) q →
           outcomes_of (table_entries (rules_for given) given.limits.targets t) q ≡ None → ⊥
       entry_answered =
           let P : List Dep → Type 0 = λ ds. (q : List ℕ) → IsAmong (operands r ds) q → outcomes_of es q ≡ None → ⊥ in
@@ -295,17 +295,17 @@ module _ (given : GivenView) (t : Table) (newly_ready : List ℕ) (table : IsTab
       -- a parked job with all its answers can be made a work
       pub parked_fed : IsFed given t at
       parked_fed =
-          let e = slot_entry r (outcome_at r given.limits.targets) (path_at t.targets.keys at) slot in
-          let work : IsWork r (path_at t.targets.keys at) slot.turn e.deps =
-          taken-work r lawful standing.0 es standing.1 (path_at t.targets.keys at) e (entry_there at slot there) parked_open entry_answered in
+          let e = slot_entry r (outcome_at r given.limits.targets) (path_at t.targets at) slot in
+          let work : IsWork r (path_at t.targets at) slot.turn e.deps =
+          taken-work r lawful standing.0 es standing.1 (path_at t.targets at) e (entry_there at slot there) parked_open entry_answered in
           let W : Type 0 = (work' : IsWork r parked.begun.value.job.target parked.begun.value.job.turn (job_deps parked.begun.value.job)) × Extends r (outcomes_of es) (outcome_at r work'.depth) in
-          let A : List Dep → Type 0 = λ ds. (work' : IsWork r (path_at t.targets.keys at) slot.turn ds) × Extends r (outcomes_of es) (outcome_at r work'.depth) in
+          let A : List Dep → Type 0 = λ ds. (work' : IsWork r (path_at t.targets at) slot.turn ds) × Extends r (outcomes_of es) (outcome_at r work'.depth) in
           let B : List ℕ → Type 0 = λ p. (work' : IsWork r p slot.turn (job_deps parked.begun.value.job)) × Extends r (outcomes_of es) (outcome_at r work'.depth) in
           let C : ℕ → Type 0 = λ k. (work' : IsWork r parked.begun.value.job.target k (job_deps parked.begun.value.job)) × Extends r (outcomes_of es) (outcome_at r work'.depth) in
           let deep : W = subst C (sym parked_fits.at_turn) (subst B (sym parked_fits.of_target) (subst A parked_deps
-          (taken-deep r lawful standing.0 es standing.1 (path_at t.targets.keys at) e (entry_there at slot there) parked_open entry_answered))) in
-          let below = turn-below r lawful standing.0 es standing.1 (path_at t.targets.keys at) e (entry_there at slot there) parked_open entry_answered in
-          let paths = ap length (paths_of-slots r (outcome_at r given.limits.targets) t.targets.keys t.slots.items table.one_each) in (
+          (taken-deep r lawful standing.0 es standing.1 (path_at t.targets at) e (entry_there at slot there) parked_open entry_answered))) in
+          let below = turn-below r lawful standing.0 es standing.1 (path_at t.targets at) e (entry_there at slot there) parked_open entry_answered in
+          let paths = ap length (paths_of-slots r (outcome_at r given.limits.targets) t.targets t.slots.items table.one_each) in (
             slot,
             parked,
             record {
@@ -341,33 +341,33 @@ module _ (given : GivenView) (t : Table) (newly_ready : List ℕ) (table : IsTab
   }
 
   moved : (u : Table) → u.targets ≡ t.targets → u.ready ≡ t.ready → u.out ≡ t.out → (newly_ready' : List ℕ) →
-      IsTable (rules_for given) given t.targets.keys u.slots.items t.ready.items t.out newly_ready' → IsTableOf given u newly_ready'
+      IsTable (rules_for given) given t.targets u.slots.items t.ready.items t.out newly_ready' → IsTableOf given u newly_ready'
   moved u a b c newly_ready' h = rw (a, b, c) h
 
   -- a slot is replaced by one that stands for the same entry
   module _ (at : ℕ) (old new : Slot) (there : slice_get t.slots.items at ≡ Some old) (open' : stage_outcome old.stage ≡ None) (still : stage_outcome new.stage ≡ None)
-      (same : slot_entry (rules_for given) (outcome_at (rules_for given) given.limits.targets) (path_at t.targets.keys at) new ≡
-      slot_entry (rules_for given) (outcome_at (rules_for given) given.limits.targets) (path_at t.targets.keys at) old) where
-    pub entries-same : entries_from (rules_for given) given.limits.targets t.targets.keys (slice_set t.slots.items at new) ≡ table_entries (rules_for given) given.limits.targets t
-    entries-same = slot_entries-same r (outcome_at r given.limits.targets) t.targets.keys t.slots.items at (path_at t.targets.keys at) old new (path_there at old there) there same
+      (same : slot_entry (rules_for given) (outcome_at (rules_for given) given.limits.targets) (path_at t.targets at) new ≡
+      slot_entry (rules_for given) (outcome_at (rules_for given) given.limits.targets) (path_at t.targets at) old) where
+    pub entries-same : entries_from (rules_for given) given.limits.targets t.targets (slice_set t.slots.items at new) ≡ table_entries (rules_for given) given.limits.targets t
+    entries-same = slot_entries-same r (outcome_at r given.limits.targets) t.targets t.slots.items at (path_at t.targets at) old new (path_there at old there) there same
 
     pub table-same : (newly_ready' : List ℕ) → IsQueue (slice_set t.slots.items at new) t.ready.items newly_ready' →
         ((k : ℕ) → IsPlace new.watchers.items k → k < length t.slots.items) →
-        Fits (rules_for given) (outcomes_of (table_entries (rules_for given) given.limits.targets t)) given (path_at t.targets.keys at) new.turn new.stage →
-        IsNumbered (rules_for given) t.targets.keys new.stage →
-        IsTable (rules_for given) given t.targets.keys (slice_set t.slots.items at new) t.ready.items t.out newly_ready'
+        Fits (rules_for given) (outcomes_of (table_entries (rules_for given) given.limits.targets t)) given (path_at t.targets at) new.turn new.stage →
+        IsNumbered (rules_for given) t.targets new.stage →
+        IsTable (rules_for given) given t.targets (slice_set t.slots.items at new) t.ready.items t.out newly_ready'
     table-same newly_ready' queue below fit numbers =
         let len = length-set t.slots.items at new in
         let P : List Entry → Type 0 = λ xs. Extends r (outcomes_of es) (outcomes_of xs) in
-        let F : List Entry → Type 0 = λ xs. Fits r (outcomes_of xs) given (path_at t.targets.keys at) new.turn new.stage in
+        let F : List Entry → Type 0 = λ xs. Fits r (outcomes_of xs) given (path_at t.targets at) new.turn new.stage in
         record {
           one_each = len ∙ table.one_each;
           within_limit = omega (arith, len, table.within_limit);
           few = table.few;
           out_counted = table.out_counted ∙ sym (count-same t.slots.items at old new there (ap (λ (e : Entry). e.is_out) same));
-          fits = fits-set r lawful given.limits.targets t.targets.keys t.slots.items at (path_at t.targets.keys at) old new distinct_keys (path_there at old there) there given
+          fits = fits-set r lawful given.limits.targets t.targets t.slots.items at (path_at t.targets at) old new distinct_keys (path_there at old there) there given
               (subst P (sym entries-same) (λ q o s h. h)) table.fits (subst F (sym entries-same) fit);
-          numbered = numbered-set r t.targets.keys t.slots.items at new numbers table.numbered;
+          numbered = numbered-set r t.targets t.slots.items at new numbers table.numbered;
           queue = queue;
           watchers_below = watchers-set t.slots.items at old new there below table.watchers_below;
         }
@@ -384,8 +384,8 @@ module _ (given : GivenView) (t : Table) (newly_ready : List ℕ) (table : IsTab
       new_open : stage_outcome w.new.stage ≡ None
       new_open = ap stage_outcome w.stage ∙ other_open
 
-      same_entry : slot_entry (rules_for given) (outcome_at (rules_for given) given.limits.targets) (path_at t.targets.keys place) w.new ≡
-          slot_entry (rules_for given) (outcome_at (rules_for given) given.limits.targets) (path_at t.targets.keys place) w.other
+      same_entry : slot_entry (rules_for given) (outcome_at (rules_for given) given.limits.targets) (path_at t.targets place) w.new ≡
+          slot_entry (rules_for given) (outcome_at (rules_for given) given.limits.targets) (path_at t.targets place) w.other
       same_entry = rw (w.turn, w.stage) refl
 
       watch_below : (k : ℕ) → IsPlace w.new.watchers.items k → k < length t.slots.items
@@ -397,17 +397,17 @@ module _ (given : GivenView) (t : Table) (newly_ready : List ℕ) (table : IsTab
         ]
       ]
 
-      watch_fits : Fits (rules_for given) (outcomes_of (table_entries (rules_for given) given.limits.targets t)) given (path_at t.targets.keys place) w.new.turn w.new.stage
+      watch_fits : Fits (rules_for given) (outcomes_of (table_entries (rules_for given) given.limits.targets t)) given (path_at t.targets place) w.new.turn w.new.stage
       watch_fits = rw (w.turn, w.stage) (table.fits place w.other w.there)
 
-      watch_numbered : IsNumbered (rules_for given) t.targets.keys w.new.stage
+      watch_numbered : IsNumbered (rules_for given) t.targets w.new.stage
       watch_numbered = rw w.stage (table.numbered place w.other w.there)
 
       pub watch-table : IsTableOf given u newly_ready
       watch-table =
           let new = table-same place w.other w.new w.there other_open new_open same_entry newly_ready
           (queue-same t.slots.items t.ready.items newly_ready place w.other w.new w.there table.queue (ap is_stage_ready w.stage)) watch_below watch_fits watch_numbered in
-          let S : List Slot → Type 0 = λ xs. IsTable r given t.targets.keys xs t.ready.items t.out newly_ready in
+          let S : List Slot → Type 0 = λ xs. IsTable r given t.targets xs t.ready.items t.out newly_ready in
           moved u w.rest.0 w.rest.1 w.rest.2 newly_ready (subst S (sym w.slots) new)
 
       old-slot : (k : ℕ) (x : Slot) → slice_get (slice_set t.slots.items place w.new) k ≡ Some x →
@@ -419,10 +419,10 @@ module _ (given : GivenView) (t : Table) (newly_ready : List ℕ) (table : IsTab
         | inr before ↦ (x, before.1, refl, refl)
       ]
 
-      watched_here : IsWatched (rules_for given) t.targets.keys (slice_set t.slots.items place w.new) at (job_deps parked.begun.value.job)
+      watched_here : IsWatched (rules_for given) t.targets (slice_set t.slots.items place w.new) at (job_deps parked.begun.value.job)
       watched_here =
-          let number = numbers-number t.targets.keys parked.operands.items (waited_by r parked.begun.value) i place (parked_numbered at slot parked there is) l.number in
-          let path : path_at t.targets.keys place ≡ number.0 = rw number.2 refl in
+          let number = numbers-number t.targets parked.operands.items (waited_by r parked.begun.value) i place (parked_numbered at slot parked there is) l.number in
+          let path : path_at t.targets place ≡ number.0 = rw number.2 refl in
           let P : List ℕ → Type 0 = λ x. IsAmong (operands r (job_deps parked.begun.value.job)) x in
           let Q : List ℕ → Type 0 = λ xs. IsPlace xs at in
           record {
@@ -434,15 +434,15 @@ module _ (given : GivenView) (t : Table) (newly_ready : List ℕ) (table : IsTab
             asked = subst P (sym path) (waited_asked at slot parked there is number.0 (slice_get-among (waited_by r parked.begun.value) i number.0 number.1));
           }
 
-      watch-watched : (pending : List ℕ) → AllWatched (rules_for given) given.limits.targets t.targets.keys t.slots.items (at ∷ pending) →
-          AllWatched (rules_for given) given.limits.targets t.targets.keys (slice_set t.slots.items place w.new) pending
+      watch-watched : (pending : List ℕ) → AllWatched (rules_for given) given.limits.targets t.targets t.slots.items (at ∷ pending) →
+          AllWatched (rules_for given) given.limits.targets t.targets (slice_set t.slots.items place w.new) pending
       watch-watched pending all k x g m =
           let old = old-slot k x g in
-          let D : Stage → ℕ → List Dep = λ st n. stage_deps r (outcome_at r given.limits.targets) (path_at t.targets.keys k) n st in
+          let D : Stage → ℕ → List Dep = λ st n. stage_deps r (outcome_at r given.limits.targets) (path_at t.targets k) n st in
           let A : Stage → Type 0 = λ st. D x.stage x.turn ≡ D st x.turn in
           let B : ℕ → Type 0 = λ n. D x.stage x.turn ≡ D old.0.stage n in
           let same : D x.stage x.turn ≡ D old.0.stage old.0.turn = subst B old.3 (subst A old.2 refl) in
-          let W : List Dep → Type 0 = λ ds. IsWatched r t.targets.keys (slice_set t.slots.items place w.new) k ds in
+          let W : List Dep → Type 0 = λ ds. IsWatched r t.targets (slice_set t.slots.items place w.new) k ds in
           let more : (j : ℕ) → IsPlace w.other.watchers.items j → IsPlace w.new.watchers.items j = λ j p.
           rw w.listed (place-left w.other.watchers.items (at ∷ []) j p) in
           elim (all k old.0 old.1 (ap is_stage_waiting (sym old.2) ∙ m)) [
@@ -453,12 +453,12 @@ module _ (given : GivenView) (t : Table) (newly_ready : List ℕ) (table : IsTab
                   let is_slot : old.0 ≡ slot = cc in
                   let C : Stage → Type 0 = λ st. D st old.0.turn ≡ job_deps parked.begun.value.job in
                   let deps : D old.0.stage old.0.turn ≡ job_deps parked.begun.value.job = subst C (sym (ap (λ (y : Slot). y.stage) is_slot ∙ is)) refl in
-                  let V : ℕ → Type 0 = λ j. IsWatched r t.targets.keys (slice_set t.slots.items place w.new) j (job_deps parked.begun.value.job) in
+                  let V : ℕ → Type 0 = λ j. IsWatched r t.targets (slice_set t.slots.items place w.new) j (job_deps parked.begun.value.job) in
                   inr (subst W (sym (same ∙ deps)) (subst V here watched_here))
               | inr later ↦ inl later
             ]
             | inr old_watch ↦ inr (subst W (sym same)
-                (IsWatched-set t.slots.items place w.other w.new w.there r t.targets.keys k (D old.0.stage old.0.turn) new_open more old_watch))
+                (IsWatched-set t.slots.items place w.other w.new w.there r t.targets k (D old.0.stage old.0.turn) new_open more old_watch))
           ]
 
       pub watch-looked : IsLookedAt given t u at
@@ -481,12 +481,12 @@ module _ (given : GivenView) (t : Table) (newly_ready : List ℕ) (table : IsTab
       deps_parked : f.work.deps ≡ job_deps parked.begun.value.job
       deps_parked = f.same.3 ∙ ap (λ (x : Parked). job_deps x.begun.value.job) was_parked.1
 
-      newly_ready_entry : slot_entry (rules_for given) (outcome_at (rules_for given) given.limits.targets) (path_at t.targets.keys at) f.new ≡
-          slot_entry (rules_for given) (outcome_at (rules_for given) given.limits.targets) (path_at t.targets.keys at) slot
+      newly_ready_entry : slot_entry (rules_for given) (outcome_at (rules_for given) given.limits.targets) (path_at t.targets at) f.new ≡
+          slot_entry (rules_for given) (outcome_at (rules_for given) given.limits.targets) (path_at t.targets at) slot
       newly_ready_entry =
-          let E : ℕ → List Dep → Entry = λ n ds. record { path = path_at t.targets.keys at; turn = n; deps = ds; outcome = None; is_out = false } in
-          let one : slot_entry r (outcome_at r given.limits.targets) (path_at t.targets.keys at) f.new ≡ E f.new.turn f.work.deps = rw f.is refl in
-          let two : slot_entry r (outcome_at r given.limits.targets) (path_at t.targets.keys at) slot ≡ E slot.turn (job_deps parked.begun.value.job) = rw is refl in
+          let E : ℕ → List Dep → Entry = λ n ds. record { path = path_at t.targets at; turn = n; deps = ds; outcome = None; is_out = false } in
+          let one : slot_entry r (outcome_at r given.limits.targets) (path_at t.targets at) f.new ≡ E f.new.turn f.work.deps = rw f.is refl in
+          let two : slot_entry r (outcome_at r given.limits.targets) (path_at t.targets at) slot ≡ E slot.turn (job_deps parked.begun.value.job) = rw is refl in
           let turn : f.new.turn ≡ slot.turn = f.turn ∙ ap (λ (y : Slot). y.turn) was_parked.0 in
           let mid : E f.new.turn f.work.deps ≡ E slot.turn (job_deps parked.begun.value.job) = rw (turn, deps_parked) refl in
           one ∙ mid ∙ sym two
@@ -500,16 +500,16 @@ module _ (given : GivenView) (t : Table) (newly_ready : List ℕ) (table : IsTab
       same_watchers : f.new.watchers.items ≡ slot.watchers.items
       same_watchers = ap (λ (y : Rattle.std.specs.declared.vec.Vec.Vec ℕ Rattle.std.proofs.Common.Global). y.items) f.watchers ∙ ap (λ (y : Slot). y.watchers.items) was_parked.0
 
-      newly_ready_fits : Fits (rules_for given) (outcomes_of (table_entries (rules_for given) given.limits.targets t)) given (path_at t.targets.keys at) f.new.turn f.new.stage
+      newly_ready_fits : Fits (rules_for given) (outcomes_of (table_entries (rules_for given) given.limits.targets t)) given (path_at t.targets at) f.new.turn f.new.stage
       newly_ready_fits =
-          let fits : Fits r (outcomes_of es) given (path_at t.targets.keys at) slot.turn (Waiting parked) =
-          (let P : Stage → Type 0 = Fits r (outcomes_of es) given (path_at t.targets.keys at) slot.turn in subst P is (table.fits at slot there)) in
+          let fits : Fits r (outcomes_of es) given (path_at t.targets at) slot.turn (Waiting parked) =
+          (let P : Stage → Type 0 = Fits r (outcomes_of es) given (path_at t.targets at) slot.turn in subst P is (table.fits at slot there)) in
           let turn : f.new.turn ≡ slot.turn = f.turn ∙ ap (λ (y : Slot). y.turn) was_parked.0 in
           let target = f.same.1 ∙ ap (λ (x : Parked). x.begun.value.job.target) was_parked.1 ∙ fits.of_target in
           let at_turn = f.same.2 ∙ ap (λ (x : Parked). x.begun.value.job.turn) was_parked.1 ∙ fits.at_turn ∙ sym turn in
-          let parts : IsParked given (path_at t.targets.keys at) f.new.turn f.work = (f.same.0, target, at_turn) in
+          let parts : IsParked given (path_at t.targets at) f.new.turn f.work = (f.same.0, target, at_turn) in
           let A : List Dep → Type 0 = AllAnswered r (outcomes_of es) in
-          let P : Stage → Type 0 = Fits r (outcomes_of es) given (path_at t.targets.keys at) f.new.turn in
+          let P : Stage → Type 0 = Fits r (outcomes_of es) given (path_at t.targets at) f.new.turn in
           subst P (sym f.is) (parts, subst A (sym deps_parked) (parked_answered at slot parked there is all_held))
 
       pub newly_ready-table : IsTableOf given u (newly_ready ++ at ∷ [])
@@ -517,18 +517,18 @@ module _ (given : GivenView) (t : Table) (newly_ready : List ℕ) (table : IsTab
           let new = table-same at slot f.new there slot_open newly_ready_open newly_ready_entry (newly_ready ++ at ∷ [])
           (queue-newly_ready t.slots.items t.ready.items newly_ready at slot f.new there table.queue (rw is refl) (rw f.is refl))
           (λ k m. table.watchers_below at k slot there (rw same_watchers at m)) newly_ready_fits (rw f.is tt) in
-          let S : List Slot → Type 0 = λ xs. IsTable r given t.targets.keys xs t.ready.items t.out (newly_ready ++ at ∷ []) in
+          let S : List Slot → Type 0 = λ xs. IsTable r given t.targets xs t.ready.items t.out (newly_ready ++ at ∷ []) in
           moved u f.rest.0 f.rest.1 f.rest.2 (newly_ready ++ at ∷ []) (subst S (sym f.slots) new)
 
-      newly_ready-watched : (pending : List ℕ) → AllWatched (rules_for given) given.limits.targets t.targets.keys t.slots.items (at ∷ pending) →
-          AllWatched (rules_for given) given.limits.targets t.targets.keys (slice_set t.slots.items at f.new) pending
+      newly_ready-watched : (pending : List ℕ) → AllWatched (rules_for given) given.limits.targets t.targets t.slots.items (at ∷ pending) →
+          AllWatched (rules_for given) given.limits.targets t.targets (slice_set t.slots.items at f.new) pending
       newly_ready-watched pending all k x g m = elim (get-set_cases t.slots.items at k f.new x g) [
         | inl here ↦ absurd (
             let no : is_stage_waiting f.new.stage ≡ false = rw f.is refl in
             both_ways _ no (ap (λ (y : Slot). is_stage_waiting y.stage) here.1 ∙ m))
         | inr before ↦ elim (all k x before.1 m) [
           | inl p ↦ elim p [ inl here ↦ absurd (before.0 (sym here)) | inr later ↦ inl later ]
-          | inr w ↦ inr (IsWatched-set t.slots.items at slot f.new there r t.targets.keys k (stage_deps r (outcome_at r given.limits.targets) (path_at t.targets.keys k) x.turn x.stage)
+          | inr w ↦ inr (IsWatched-set t.slots.items at slot f.new there r t.targets k (stage_deps r (outcome_at r given.limits.targets) (path_at t.targets k) x.turn x.stage)
               newly_ready_open (λ j p. rw same_watchers p) w)
         ]
       ]

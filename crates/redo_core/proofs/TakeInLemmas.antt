@@ -117,10 +117,10 @@ module _ (given : GivenView) (t : Table) (at : ℕ) (end : End) (may : MayTakeIn
   s = table_state (rules_for given) given.limits.targets t
 
   abbrev target : List ℕ
-  target = path_at t.targets.keys at
+  target = path_at t.targets at
 
   abbrev e : Entry
-  e = slot_entry (rules_for given) (outcome_at (rules_for given) given.limits.targets) (path_at t.targets.keys at) may.slot
+  e = slot_entry (rules_for given) (outcome_at (rules_for given) given.limits.targets) (path_at t.targets at) may.slot
 
   lawful : AreLawful (rules_for given)
   lawful = lawful_for given
@@ -130,19 +130,19 @@ module _ (given : GivenView) (t : Table) (at : ℕ) (end : End) (may : MayTakeIn
       let P : State → Type 0 = IsSound r may.request in
       subst P (sym may.reached.ends) (run-sound r lawful may.request _ may.reached.events (opening-sound r lawful may.request) may.reached.all_open)
 
-  pub keys_distinct : AreDistinct t.targets.keys
+  pub keys_distinct : AreDistinct t.targets
   keys_distinct =
       let P : List (List ℕ) → Type 0 = AreDistinct in
-      subst P (paths_of-slots r (outcome_at r given.limits.targets) t.targets.keys t.slots.items may.table.one_each) sound.standing.distinct
+      subst P (paths_of-slots r (outcome_at r given.limits.targets) t.targets t.slots.items may.table.one_each) sound.standing.distinct
 
-  pub key-there : slice_get t.targets.keys at ≡ Some (path_at t.targets.keys at)
+  pub key-there : slice_get t.targets at ≡ Some (path_at t.targets at)
   key-there =
-      let found = slice_get-from t.targets.keys at (omega (arith, may.table.one_each, slice_get-below_some t.slots.items at may.slot may.there)) in
-      let is : path_at t.targets.keys at ≡ found.0 = rw found.1 refl in
+      let found = slice_get-from t.targets at (omega (arith, may.table.one_each, slice_get-below_some t.slots.items at may.slot may.there)) in
+      let is : path_at t.targets at ≡ found.0 = rw found.1 refl in
       found.1 ∙ ap Some (sym is)
 
-  entry-there : entry_of (table_entries (rules_for given) given.limits.targets t) (path_at t.targets.keys at) ≡ Some (slot_entry (rules_for given) (outcome_at (rules_for given) given.limits.targets) (path_at t.targets.keys at) may.slot)
-  entry-there = entry_of-slots r (outcome_at r given.limits.targets) t.targets.keys t.slots.items at target may.slot keys_distinct key-there may.there
+  entry-there : entry_of (table_entries (rules_for given) given.limits.targets t) (path_at t.targets at) ≡ Some (slot_entry (rules_for given) (outcome_at (rules_for given) given.limits.targets) (path_at t.targets at) may.slot)
+  entry-there = entry_of-slots r (outcome_at r given.limits.targets) t.targets t.slots.items at target may.slot keys_distinct key-there may.there
 
   e-out : is_stage_out may.slot.stage ≡ true
   e-out = ap is_stage_out may.is_out
@@ -150,7 +150,7 @@ module _ (given : GivenView) (t : Table) (at : ℕ) (end : End) (may : MayTakeIn
   e-open : stage_outcome may.slot.stage ≡ None
   e-open = ap stage_outcome may.is_out
 
-  e-fed : (q : List ℕ) → IsAmong (operands (rules_for given) (stage_deps (rules_for given) (outcome_at (rules_for given) given.limits.targets) (path_at t.targets.keys at) may.slot.turn may.slot.stage)) q →
+  e-fed : (q : List ℕ) → IsAmong (operands (rules_for given) (stage_deps (rules_for given) (outcome_at (rules_for given) given.limits.targets) (path_at t.targets at) may.slot.turn may.slot.stage)) q →
       outcomes_of (table_entries (rules_for given) given.limits.targets t) q ≡ None → ⊥
   e-fed q m none =
       let fed = sound.queued.out_fed target e entry-there e-out in
@@ -159,10 +159,10 @@ module _ (given : GivenView) (t : Table) (at : ℕ) (end : End) (may : MayTakeIn
       let P : Entry → Type 0 = λ x. IsAmong (operands r x.deps) q in
       fed.3 q (subst P (sym same) m) none
 
-  now-is : end_progress end ≡ advanced (rules_for given) (table_entries (rules_for given) given.limits.targets t) (slot_entry (rules_for given) (outcome_at (rules_for given) given.limits.targets) (path_at t.targets.keys at) may.slot)
+  now-is : end_progress end ≡ advanced (rules_for given) (table_entries (rules_for given) given.limits.targets t) (slot_entry (rules_for given) (outcome_at (rules_for given) given.limits.targets) (path_at t.targets at) may.slot)
   now-is = piece-advanced r lawful may.request es sound.standing target e entry-there e-open e-fed (end_progress end) may.is_end.is_piece
 
-  open-event : IsOutAt (table_state (rules_for given) given.limits.targets t) (path_at t.targets.keys at) may.slot.turn
+  open-event : IsOutAt (table_state (rules_for given) given.limits.targets t) (path_at t.targets at) may.slot.turn
   open-event = record { entry = e; at = entry-there; is_out = e-out; at_turn = refl }
 
   pub after-sound : IsSound (rules_for given) may.request (state_after given t at)
@@ -170,12 +170,12 @@ module _ (given : GivenView) (t : Table) (at : ℕ) (end : End) (may : MayTakeIn
 
   pub moved : List Entry
   moved = put (entered (rules_for given) (table_entries (rules_for given) given.limits.targets t) (operands (rules_for given) (end_progress end).deps))
-      (moved_on (slot_entry (rules_for given) (outcome_at (rules_for given) given.limits.targets) (path_at t.targets.keys at) may.slot) (end_progress end))
+      (moved_on (slot_entry (rules_for given) (outcome_at (rules_for given) given.limits.targets) (path_at t.targets at) may.slot) (end_progress end))
 
-  pub after-state : state_after given t at ≡ enqueued (rules_for given) (record { entries = moved; ready = map (path_at t.targets.keys) t.ready.items })
+  pub after-state : state_after given t at ≡ enqueued (rules_for given) (record { entries = moved; ready = map (path_at t.targets) t.ready.items })
   unfolding moved
   after-state =
-      let N : Progress → State = λ now. enqueued r (record { entries = put (entered r es (operands r now.deps)) (moved_on e now); ready = map (path_at t.targets.keys) t.ready.items }) in
+      let N : Progress → State = λ now. enqueued r (record { entries = put (entered r es (operands r now.deps)) (moved_on e now); ready = map (path_at t.targets) t.ready.items }) in
       let first : state_after given t at ≡ N (advanced r es e) = rw entry-there refl in
       first ∙ ap N (sym now-is)
 
@@ -185,7 +185,7 @@ module _ (given : GivenView) (t : Table) (at : ℕ) (end : End) (may : MayTakeIn
   pub out-there : IsOutThere t at
   out-there =
       let below = turn-below r lawful may.request es sound.standing target e entry-there e-open e-fed in
-      let paths = ap length (paths_of-slots r (outcome_at r given.limits.targets) t.targets.keys t.slots.items may.table.one_each) in (
+      let paths = ap length (paths_of-slots r (outcome_at r given.limits.targets) t.targets t.slots.items may.table.one_each) in (
         omega (arith, may.table.out_counted, count-some t.slots.items at may.slot may.there e-out),
         (may.slot, may.there, may.is_out, omega (arith, below, paths, may.table.one_each, may.table.within_limit, may.table.few)),
       )
@@ -198,7 +198,7 @@ module _ (given : GivenView) (t : Table) (at : ℕ) (end : End) (may : MayTakeIn
     old-slot : d.old ≡ may.slot
     old-slot = let both : Some d.old ≡ Some may.slot = sym d.put_back.there ∙ may.there in cc
 
-    fact-now : record { outcome = Some fact.outcome; deps = fact.deps } ≡ advanced (rules_for given) (table_entries (rules_for given) given.limits.targets t) (slot_entry (rules_for given) (outcome_at (rules_for given) given.limits.targets) (path_at t.targets.keys at) may.slot)
+    fact-now : record { outcome = Some fact.outcome; deps = fact.deps } ≡ advanced (rules_for given) (table_entries (rules_for given) given.limits.targets t) (slot_entry (rules_for given) (outcome_at (rules_for given) given.limits.targets) (path_at t.targets at) may.slot)
     fact-now = let P : End → Type 0 = λ x. end_progress x ≡ advanced r es e in subst P ended now-is
 
     asked-seen : (q : List ℕ) → IsAmong (operands (rules_for given) fact.deps) q → IsAmong (paths_of (table_entries (rules_for given) given.limits.targets t)) q
@@ -228,7 +228,7 @@ module _ (given : GivenView) (t : Table) (at : ℕ) (end : End) (may : MayTakeIn
         let P : End → Type 0 = λ x. Rattle.redo_core.specs.inside.Ends.IsEndOf given may.is_end.is_piece.depth target may.slot.turn x in
         let of_fact = subst P ended may.is_end.is_end in
         let len = ap length d.put_back.slots ∙ Rattle.std.proofs.Common.length-set t.slots.items at d.new in
-        let K : List (List ℕ) → Type 0 = λ xs. (k : ℕ) (p : List ℕ) → slice_get t.targets.keys k ≡ Some p → slice_get xs k ≡ Some p in
+        let K : List (List ℕ) → Type 0 = λ xs. (k : ℕ) (p : List ℕ) → slice_get t.targets k ≡ Some p → slice_get xs k ≡ Some p in
         record {
           table = decided-table given t u [] may.table keys_distinct at fact pending d of_fact.0 of_fact.1;
           entries = decided-moved ∙ sym after-entries;
@@ -242,14 +242,14 @@ module _ (given : GivenView) (t : Table) (at : ℕ) (end : End) (may : MayTakeIn
 
   -- a script that stopped
   module _ (begun : Box Begun Global) (stopped : end ≡ Stopped begun) where
-    pub is_stopped : IsStopped given may.is_end.is_piece.depth (path_at t.targets.keys at) may.slot.turn begun.value.job begun.value.facts
+    pub is_stopped : IsStopped given may.is_end.is_piece.depth (path_at t.targets at) may.slot.turn begun.value.job begun.value.facts
     is_stopped =
         let P : End → Type 0 = λ x. Rattle.redo_core.specs.inside.Ends.IsEndOf given may.is_end.is_piece.depth target may.slot.turn x in
         subst P stopped may.is_end.is_end
 
-    way : CameTo (rules_for given) (path_at t.targets.keys at) (outcomes_of (table_entries (rules_for given) given.limits.targets t)) may.slot.turn ×
-        (stage_deps (rules_for given) (outcome_at (rules_for given) given.limits.targets) (path_at t.targets.keys at) may.slot.turn may.slot.stage ≡
-        deps_at_turn (rules_for given) (path_at t.targets.keys at) (outcomes_of (table_entries (rules_for given) given.limits.targets t)) may.slot.turn)
+    way : CameTo (rules_for given) (path_at t.targets at) (outcomes_of (table_entries (rules_for given) given.limits.targets t)) may.slot.turn ×
+        (stage_deps (rules_for given) (outcome_at (rules_for given) given.limits.targets) (path_at t.targets at) may.slot.turn may.slot.stage ≡
+        deps_at_turn (rules_for given) (path_at t.targets at) (outcomes_of (table_entries (rules_for given) given.limits.targets t)) may.slot.turn)
     way =
         let w = sound.standing.under_way target e entry-there e-open in (w.came, w.is)
 
@@ -257,8 +257,8 @@ module _ (given : GivenView) (t : Table) (at : ℕ) (end : End) (may : MayTakeIn
     deep = outcomes_of-deep r lawful may.request es sound.standing
 
     -- the record at its turn is the same under the outcomes that the job held
-    same-deps : stage_deps (rules_for given) (outcome_at (rules_for given) given.limits.targets) (path_at t.targets.keys at) may.slot.turn may.slot.stage ≡
-        deps_at_turn (rules_for given) (path_at t.targets.keys at) (outcome_at (rules_for given) may.is_end.is_piece.depth) may.slot.turn
+    same-deps : stage_deps (rules_for given) (outcome_at (rules_for given) given.limits.targets) (path_at t.targets at) may.slot.turn may.slot.stage ≡
+        deps_at_turn (rules_for given) (path_at t.targets at) (outcome_at (rules_for given) may.is_end.is_piece.depth) may.slot.turn
     same-deps =
         let n = may.is_end.is_piece.depth in
         let m = max n (decided_count es) in
@@ -269,7 +269,7 @@ module _ (given : GivenView) (t : Table) (at : ℕ) (end : End) (may : MayTakeIn
 
     -- what it held is known, and it had asked for it
     held-known : (q : List ℕ) (o : Outcome) → told_in begun.value.facts q ≡ Some o →
-        IsAmong (operands (rules_for given) (stage_deps (rules_for given) (outcome_at (rules_for given) given.limits.targets) (path_at t.targets.keys at) may.slot.turn may.slot.stage)) q ×
+        IsAmong (operands (rules_for given) (stage_deps (rules_for given) (outcome_at (rules_for given) given.limits.targets) (path_at t.targets at) may.slot.turn may.slot.stage)) q ×
         (outcomes_of (table_entries (rules_for given) given.limits.targets t) q ≡ Some o)
     held-known q o h =
         let n = may.is_end.is_piece.depth in
@@ -344,17 +344,17 @@ module _ (given : GivenView) (t : Table) (at : ℕ) (end : End) (may : MayTakeIn
               let P : Slot → Type 0 = λ y. y.turn < 65536 in
               subst P same was.3
 
-      path-still : path_at v.targets.keys at ≡ path_at t.targets.keys at
+      path-still : path_at v.targets at ≡ path_at t.targets at
       path-still = rw (a.keys_kept at target key-there) refl
 
       wider-entries : table_entries (rules_for given) given.limits.targets v ≡ entered (rules_for given) (table_entries (rules_for given) given.limits.targets t) (operands (rules_for given) (end_progress end).deps)
       wider-entries = a.entries ∙ enters-same
 
-      wider-distinct : AreDistinct v.targets.keys
+      wider-distinct : AreDistinct v.targets
       wider-distinct =
           let P : List (List ℕ) → Type 0 = AreDistinct in
           let paths = ap paths_of a.entries ∙ paths_of-entered r es (operands r (drop begun.value.facts.gained begun.value.job.state.entries)) in
-          let keys = paths_of-slots r (outcome_at r given.limits.targets) v.targets.keys v.slots.items a.table.one_each in
+          let keys = paths_of-slots r (outcome_at r given.limits.targets) v.targets v.slots.items a.table.one_each in
           subst P keys (subst P (sym paths) (with_new-distinct (paths_of es) (operands r (drop begun.value.facts.gained begun.value.job.state.entries)) sound.standing.distinct))
 
       wider-known : (q : List ℕ) (o : Outcome) → outcomes_of (table_entries (rules_for given) given.limits.targets t) q ≡ Some o → outcomes_of (table_entries (rules_for given) given.limits.targets v) q ≡ Some o
@@ -380,14 +380,14 @@ module _ (given : GivenView) (t : Table) (at : ℕ) (end : End) (may : MayTakeIn
           let more = asked-more r lawful target (outcome_at r n) may.slot.turn may.is_end.is_piece.came q before in
           subst D (sym (job-record ∙ ap (λ (x : Progress). x.deps) may.is_end.is_piece.is)) more
 
-      module _ (u : Table) (numbers : Vec ℕ Global) (are : AreNumbers v.targets.keys numbers.items (waited_by (rules_for given) begun.value)) (d : IsParkedAt v u at begun numbers) where
+      module _ (u : Table) (numbers : Vec ℕ Global) (are : AreNumbers v.targets numbers.items (waited_by (rules_for given) begun.value)) (d : IsParkedAt v u at begun numbers) where
         old-there : d.old ≡ may.slot
         old-there = let both : Some d.old ≡ Some may.slot = sym d.put_back.there ∙ there-still in cc
 
         new-turn : d.new.turn ≡ may.slot.turn + 1
         new-turn = d.turn ∙ ap (λ (y : Slot). y.turn + 1) old-there
 
-        waits : IsWaitingWith (rules_for given) (outcomes_of (table_entries (rules_for given) given.limits.targets v)) given (path_at v.targets.keys at) d.new.turn
+        waits : IsWaitingWith (rules_for given) (outcomes_of (table_entries (rules_for given) given.limits.targets v)) given (path_at v.targets at) d.new.turn
             (record { begun = begun; operands = numbers; held = 0 })
         waits = record {
           is_job = is_stopped.is_job;
@@ -405,7 +405,7 @@ module _ (given : GivenView) (t : Table) (at : ℕ) (end : End) (may : MayTakeIn
         unfolding moved
         parked-moved =
             let put-in = put-entries given v u newly_ready a.table wider-distinct at d.old d.new d.put_back in
-            let shows = parked-shows r (outcome_at r given.limits.targets) begun numbers (path_at v.targets.keys at) d.new.turn d.new.stage d.stage in
+            let shows = parked-shows r (outcome_at r given.limits.targets) begun numbers (path_at v.targets at) d.new.turn d.new.stage d.stage in
             let M : List ℕ → ℕ → List Dep → Entry = λ p n ds. record { path = p; turn = n; deps = ds; outcome = None; is_out = false } in
             let entry' = shows ∙ ap (λ p. M p d.new.turn (job_deps begun.value.job)) path-still ∙ ap (λ n. M target n (job_deps begun.value.job)) new-turn ∙ ap (M target (may.slot.turn + 1)) job-record in
             let N : End → Type 0 = λ x. M target (may.slot.turn + 1) (end_progress x).deps ≡ moved_on e (end_progress x) in

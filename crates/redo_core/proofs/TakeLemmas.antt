@@ -44,33 +44,33 @@ sound-inside b kept =
 abbrev lawful_inside : (b : Inside) → AreLawful (rules_inside b)
 lawful_inside b = lawful_for b.build
 
-pub distinct-inside : (b : Inside) → IsKept b → AreDistinct b.table.targets.keys
+pub distinct-inside : (b : Inside) → IsKept b → AreDistinct b.table.targets
 distinct-inside b kept =
     let P : List (List ℕ) → Type 0 = AreDistinct in
-    subst P (paths_of-slots (rules_inside b) (outcome_at (rules_inside b) b.build.limits.targets) b.table.targets.keys b.table.slots.items kept.table.one_each) (sound-inside b kept).standing.distinct
+    subst P (paths_of-slots (rules_inside b) (outcome_at (rules_inside b) b.build.limits.targets) b.table.targets b.table.slots.items kept.table.one_each) (sound-inside b kept).standing.distinct
 
 pub fits_one_more : (b : Inside) → IsKept b → b.table.out ≤ 65536
 fits_one_more b kept = omega (arith, kept.table.out_counted, length-filter_le (λ slot. is_stage_out slot.stage) b.table.slots.items, kept.table.within_limit, kept.table.few)
 
 module _ (b : Inside) (kept : IsKept b) (which at : ℕ) (slot : Slot)
     (first : slice_get b.table.ready.items which ≡ Some at) (there : slice_get b.table.slots.items at ≡ Some slot) where
-  here : at < length b.table.targets.keys
+  here : at < length b.table.targets
   here = omega (arith, kept.table.queue.ready_below at (slice_get-place b.table.ready.items which at first), kept.table.one_each)
 
-  pub found_path : (p : List ℕ) × (slice_get b.table.targets.keys at ≡ Some p)
-  found_path = slice_get-from b.table.targets.keys at here
+  pub found_path : (p : List ℕ) × (slice_get b.table.targets at ≡ Some p)
+  found_path = slice_get-from b.table.targets at here
 
-  pub found_job : (work : Work) × (slot.stage ≡ Ready work) × IsParked b.build (path_at b.table.targets.keys at) slot.turn work ×
+  pub found_job : (work : Work) × (slot.stage ≡ Ready work) × IsParked b.build (path_at b.table.targets at) slot.turn work ×
       AllAnswered (rules_inside b) (outcomes_of (state_of b).entries) work.deps
   found_job =
       let first' = slice_get-place b.table.ready.items which at first in
-      let job = ready-job (rules_inside b) (outcomes_of (state_of b).entries) b.build (path_at b.table.targets.keys at) slot.turn slot.stage
+      let job = ready-job (rules_inside b) (outcomes_of (state_of b).entries) b.build (path_at b.table.targets at) slot.turn slot.stage
       (kept.table.fits at slot there) (kept.table.queue.ready_is at slot (inl first') there) in
       (job.0, job.1, job.2, job.3)
 
-  pub taken_state : state_from (rules_inside b) b.build.limits.targets b.table.targets.keys (slice_set b.table.slots.items at (record slot { stage = Out })) (remove b.table.ready.items which) ≡
+  pub taken_state : state_from (rules_inside b) b.build.limits.targets b.table.targets (slice_set b.table.slots.items at (record slot { stage = Out })) (remove b.table.ready.items which) ≡
       happens (rules_inside b) (state_of b) (Take which)
-  taken_state = state_taken (rules_inside b) (lawful_inside b) b.build.limits.targets b.request.items b.table.targets.keys b.table.slots.items b.table.ready.items (sound-inside b kept) kept.table.one_each kept.table.within_limit
+  taken_state = state_taken (rules_inside b) (lawful_inside b) b.build.limits.targets b.request.items b.table.targets b.table.slots.items b.table.ready.items (sound-inside b kept) kept.table.one_each kept.table.within_limit
       which at found_path.0 slot found_job.0 first found_path.1 there found_job.1
 
   pub work_taken : (view : BoardView) → (view.given ≡ b.build) → (view.state ≡ state_of b) →
@@ -78,14 +78,14 @@ module _ (b : Inside) (kept : IsKept b) (which at : ℕ) (slot : Slot)
   work_taken view given state work is holds =
       let job = found_job in
       let same : job.0 ≡ work = let both : Ready job.0 ≡ Ready work = sym job.1 ∙ is in cc in
-      let P : WorkView → Type 0 = λ w. IsParked b.build (path_at b.table.targets.keys at) slot.turn w in
+      let P : WorkView → Type 0 = λ w. IsParked b.build (path_at b.table.targets at) slot.turn w in
       let parked = subst P same job.2 in
       let path = found_path in
-      let at_path : path_at b.table.targets.keys at ≡ path.0 = rw path.1 refl in
+      let at_path : path_at b.table.targets at ≡ path.0 = rw path.1 refl in
       let target : work.target ≡ path.0 = parked.1 ∙ at_path in
       let Q : State → Type 0 = λ s. slice_get s.ready which ≡ Some work.target in
-      let spot : slice_get (state_of b).ready which ≡ Some (path_at b.table.targets.keys at) =
-      slice_get-map (path_at b.table.targets.keys) b.table.ready.items which at first in
+      let spot : slice_get (state_of b).ready which ≡ Some (path_at b.table.targets at) =
+      slice_get-map (path_at b.table.targets) b.table.ready.items which at first in
       record {
         given = parked.0 ∙ sym given;
         target = subst Q (sym state) (spot ∙ ap Some (sym parked.1));
@@ -93,7 +93,7 @@ module _ (b : Inside) (kept : IsKept b) (which at : ℕ) (slot : Slot)
             let R : State → Type 0 = λ s. entry_of s.entries work.target ≡ Some e in
             let S : List ℕ → Type 0 = λ x. entry_of (state_of b).entries x ≡ Some e in
             let now = subst S target (subst R state h) in
-            let known = entry (rules_inside b) (lawful_inside b) b.build.limits.targets b.request.items b.table.targets.keys b.table.slots.items b.table.ready.items (sound-inside b kept) kept.table.one_each kept.table.within_limit
+            let known = entry (rules_inside b) (lawful_inside b) b.build.limits.targets b.request.items b.table.targets b.table.slots.items b.table.ready.items (sound-inside b kept) kept.table.one_each kept.table.within_limit
             which at path.0 slot work first path.1 there is in
             let e_is : slot_entry (rules_inside b) (outcome_at (rules_inside b) b.build.limits.targets) path.0 slot ≡ e = let both = sym known ∙ now in cc in (
               parked.2 ∙ ap (λ (x : Entry). x.turn) e_is,
@@ -160,13 +160,13 @@ module _ (b : Inside) (kept : IsKept b) (which at : ℕ) (slot : Slot)
   gone : (k : ℕ) → slice_get (remove b.table.ready.items which) k ≡ Some at → ⊥
   gone k h =
       let sound = sound-inside b kept in
-      let path = path_at b.table.targets.keys at in
-      let spot = slice_get-map (path_at b.table.targets.keys) b.table.ready.items which at first in
+      let path = path_at b.table.targets at in
+      let spot = slice_get-map (path_at b.table.targets) b.table.ready.items which at first in
       let P : List (List ℕ) → Type 0 = λ xs. IsAmong xs path in
-      remove-gone (map (path_at b.table.targets.keys) b.table.ready.items) which path sound.queued.ready_distinct spot
-      (subst P (map-remove (path_at b.table.targets.keys) b.table.ready.items which)
-      (slice_get-among (map (path_at b.table.targets.keys) (remove b.table.ready.items which)) k path
-      (slice_get-map (path_at b.table.targets.keys) (remove b.table.ready.items which) k at h)))
+      remove-gone (map (path_at b.table.targets) b.table.ready.items) which path sound.queued.ready_distinct spot
+      (subst P (map-remove (path_at b.table.targets) b.table.ready.items which)
+      (slice_get-among (map (path_at b.table.targets) (remove b.table.ready.items which)) k path
+      (slice_get-map (path_at b.table.targets) (remove b.table.ready.items which) k at h)))
 
   queue-taken : IsQueue (slice_set b.table.slots.items at (record slot { stage = Out })) (remove b.table.ready.items which) []
   queue-taken =
@@ -201,18 +201,18 @@ module _ (b : Inside) (kept : IsKept b) (which at : ℕ) (slot : Slot)
       let slots' = slice_set b.table.slots.items at new in
       let job = found_job b kept which at slot first there in
       let path = found_path b kept which at slot first there in
-      let state : state_from r b.build.limits.targets b.table.targets.keys slots.items ready.items ≡ happens r (state_of b) (Take which) =
-      ap (λ x. state_from r b.build.limits.targets b.table.targets.keys x ready.items) is_slots ∙
-      ap (state_from r b.build.limits.targets b.table.targets.keys (slice_set b.table.slots.items at (record slot { stage = Out }))) is_ready ∙
+      let state : state_from r b.build.limits.targets b.table.targets slots.items ready.items ≡ happens r (state_of b) (Take which) =
+      ap (λ x. state_from r b.build.limits.targets b.table.targets x ready.items) is_slots ∙
+      ap (state_from r b.build.limits.targets b.table.targets (slice_set b.table.slots.items at (record slot { stage = Out }))) is_ready ∙
       taken_state b kept which at slot first there in
       let more = reached-more r b.request.items (state_of b) (Take which) kept.reached
-      (omega (arith, below, length-map (path_at b.table.targets.keys) b.table.ready.items)) in
+      (omega (arith, below, length-map (path_at b.table.targets) b.table.ready.items)) in
       let P : State → Type 0 = IsReached r b.request.items in
       let len = length-set b.table.slots.items at new in
       let open_stage : (stage_outcome slot.stage ≡ None) × (is_stage_out slot.stage ≡ false) = (rw job.1 refl, rw job.1 refl) in
-      let S : List Slot → Type 0 = λ xs. IsTable r b.build b.table.targets.keys xs ready.items (b.table.out + 1) [] in
-      let Q : List ℕ → Type 0 = λ xs. IsTable r b.build b.table.targets.keys slots' xs (b.table.out + 1) [] in
-      let W : List Slot → Type 0 = λ xs. AllWatched r b.build.limits.targets b.table.targets.keys xs [] in
+      let S : List Slot → Type 0 = λ xs. IsTable r b.build b.table.targets xs ready.items (b.table.out + 1) [] in
+      let Q : List ℕ → Type 0 = λ xs. IsTable r b.build b.table.targets slots' xs (b.table.out + 1) [] in
+      let W : List Slot → Type 0 = λ xs. AllWatched r b.build.limits.targets b.table.targets xs [] in
       record {
         reached = subst P (sym state) more;
         table = subst S (sym is_slots) (subst Q (sym is_ready) (record {
@@ -220,32 +220,32 @@ module _ (b : Inside) (kept : IsKept b) (which at : ℕ) (slot : Slot)
           within_limit = omega (arith, len, kept.table.within_limit);
           few = kept.table.few;
           out_counted = ap (λ n. n + 1) kept.table.out_counted ∙ sym (count-set b.table.slots.items at slot new there open_stage.1 refl);
-          fits = fits-set r (lawful_inside b) b.build.limits.targets b.table.targets.keys b.table.slots.items at path.0 slot new (distinct-inside b kept) path.1 there
+          fits = fits-set r (lawful_inside b) b.build.limits.targets b.table.targets b.table.slots.items at path.0 slot new (distinct-inside b kept) path.1 there
               b.build
-              (outcomes-more r (lawful_inside b) b.build.limits.targets b.table.targets.keys b.table.slots.items at path.0 slot new (distinct-inside b kept) path.1 there open_stage.0) kept.table.fits tt;
-          numbered = numbered-set r b.table.targets.keys b.table.slots.items at new tt kept.table.numbered;
+              (outcomes-more r (lawful_inside b) b.build.limits.targets b.table.targets b.table.slots.items at path.0 slot new (distinct-inside b kept) path.1 there open_stage.0) kept.table.fits tt;
+          numbered = numbered-set r b.table.targets b.table.slots.items at new tt kept.table.numbered;
           queue = queue-taken;
           watchers_below = watchers-set b.table.slots.items at slot new there (λ k m. kept.table.watchers_below at k slot there m) kept.table.watchers_below;
         }));
-        watched = subst W (sym is_slots) (watched-set b.table.slots.items at slot new there r b.build.limits.targets b.table.targets.keys [] refl (λ k m. m) (λ t. absurd (let is : false ≡ true = t in cc)) (λ k x other. kept.watched k x));
+        watched = subst W (sym is_slots) (watched-set b.table.slots.items at slot new there r b.build.limits.targets b.table.targets [] refl (λ k m. m) (λ t. absurd (let is : false ≡ true = t in cc)) (λ k x other. kept.watched k x));
       }
 
 pub slice_get-number : (xs : List ℕ) (i x : ℕ) → i < length xs → x ≡ slice_index_or xs i x → slice_get xs i ≡ Some x
 slice_get-number = slice_get-item
 
-pub first_item : (b : Inside) (which at : ℕ) → which < cond (is_some b.stopped) 0 (length (map (path_at b.table.targets.keys) b.table.ready.items)) →
+pub first_item : (b : Inside) (which at : ℕ) → which < cond (is_some b.stopped) 0 (length (map (path_at b.table.targets) b.table.ready.items)) →
     at ≡ slice_index_or b.table.ready.items which at → slice_get b.table.ready.items which ≡ Some at
 first_item b which at h is = slice_get-number b.table.ready.items which at (below_count b.stopped h) is
   where
-    below_count : {A : Type 0} (o : Option A) → which < cond (is_some o) 0 (length (map (path_at b.table.targets.keys) b.table.ready.items)) → which < length b.table.ready.items
-    below_count None k = omega (arith, k, length-map (path_at b.table.targets.keys) b.table.ready.items)
+    below_count : {A : Type 0} (o : Option A) → which < cond (is_some o) 0 (length (map (path_at b.table.targets) b.table.ready.items)) → which < length b.table.ready.items
+    below_count None k = omega (arith, k, length-map (path_at b.table.targets) b.table.ready.items)
     below_count (Some x) k = absurd (omega arith)
 
-pub below_items : (b : Inside) (which : ℕ) → which < cond (is_some b.stopped) 0 (length (map (path_at b.table.targets.keys) b.table.ready.items)) → which < length b.table.ready.items
+pub below_items : (b : Inside) (which : ℕ) → which < cond (is_some b.stopped) 0 (length (map (path_at b.table.targets) b.table.ready.items)) → which < length b.table.ready.items
 below_items b which h = below_count b.stopped h
   where
-    below_count : {A : Type 0} (o : Option A) → which < cond (is_some o) 0 (length (map (path_at b.table.targets.keys) b.table.ready.items)) → which < length b.table.ready.items
-    below_count None k = omega (arith, k, length-map (path_at b.table.targets.keys) b.table.ready.items)
+    below_count : {A : Type 0} (o : Option A) → which < cond (is_some o) 0 (length (map (path_at b.table.targets) b.table.ready.items)) → which < length b.table.ready.items
+    below_count None k = omega (arith, k, length-map (path_at b.table.targets) b.table.ready.items)
     below_count (Some x) k = absurd (omega arith)
 
 -- the turn of what is taken is below the limit
@@ -257,17 +257,17 @@ turn_small b kept which at slot first there work is =
     let path = found_path b kept which at slot first there in
     let job = found_job b kept which at slot first there in
     let same : job.0 ≡ work = let both : Ready job.0 ≡ Ready work = sym job.1 ∙ is in cc in
-    let known = entry r (lawful_inside b) b.build.limits.targets b.request.items b.table.targets.keys b.table.slots.items b.table.ready.items sound kept.table.one_each kept.table.within_limit
+    let known = entry r (lawful_inside b) b.build.limits.targets b.request.items b.table.targets b.table.slots.items b.table.ready.items sound kept.table.one_each kept.table.within_limit
     which at path.0 slot work first path.1 there is in
-    let at_path : path_at b.table.targets.keys at ≡ path.0 = rw path.1 refl in
+    let at_path : path_at b.table.targets at ≡ path.0 = rw path.1 refl in
     let spot : slice_get (state_of b).ready which ≡ Some path.0 =
-    slice_get-map (path_at b.table.targets.keys) b.table.ready.items which at first ∙ ap Some at_path in
+    slice_get-map (path_at b.table.targets) b.table.ready.items which at first ∙ ap Some at_path in
     let fed = sound.queued.ready_fed path.0 (slice_get-among (state_of b).ready which path.0 spot) in
     let entry_is : fed.0 ≡ slot_entry r (outcome_at (rules_inside b) b.build.limits.targets) path.0 slot = let both = sym fed.1 ∙ known in cc in
     let below = turn-below r (lawful_for b.build) b.request.items (state_of b).entries sound.standing path.0 fed.0 fed.1 fed.2 fed.3 in
     let turn = ap (λ (x : Entry). x.turn) entry_is in
     let work_turn = ap (λ (w : WorkView). w.turn) same in
-    let paths = ap length (paths_of-slots r (outcome_at (rules_inside b) b.build.limits.targets) b.table.targets.keys b.table.slots.items kept.table.one_each) in
+    let paths = ap length (paths_of-slots r (outcome_at (rules_inside b) b.build.limits.targets) b.table.targets b.table.slots.items kept.table.one_each) in
     omega (arith, below, turn, work_turn, job.2.2, paths, kept.table.one_each, kept.table.within_limit)
 
 -- what a running board keeps is a part of its build
@@ -282,13 +282,13 @@ slots-length r a (p ∷ ps) (slot ∷ slots) h = ap suc (slots-length r a ps slo
 
 -- a running board has no more entries than the limit allows
 pub length-entries : (b : Inside) → IsKept b → length (state_of b).entries ≤ b.build.limits.targets
-length-entries b kept = omega (arith, kept.table.within_limit, slots-length (rules_inside b) (outcome_at (rules_inside b) b.build.limits.targets) b.table.targets.keys b.table.slots.items kept.table.one_each)
+length-entries b kept = omega (arith, kept.table.within_limit, slots-length (rules_inside b) (outcome_at (rules_inside b) b.build.limits.targets) b.table.targets b.table.slots.items kept.table.one_each)
 
 -- a quiet board shows the build
 pub shows-inside : (b : Inside) → IsKept b → IsQuiet (state_of b) → ShowsBuild (rules_inside b) b.request.items b.build.limits.targets (state_of b)
 shows-inside b kept quiet =
     shows (rules_inside b) (lawful_for b.build) b.request.items (state_of b) (sound-inside b kept) b.build.limits.targets quiet
-    (omega (arith, kept.table.within_limit, slots-length (rules_inside b) (outcome_at (rules_inside b) b.build.limits.targets) b.table.targets.keys b.table.slots.items kept.table.one_each))
+    (omega (arith, kept.table.within_limit, slots-length (rules_inside b) (outcome_at (rules_inside b) b.build.limits.targets) b.table.targets b.table.slots.items kept.table.one_each))
 
 abbrev pub view_of : Inside → BoardView
 view_of b = record { given = b.build; request = b.request.items; state = state_of b; stopped = b.stopped }
@@ -305,7 +305,7 @@ shows-view b invariant view is on none_ready none_out =
     let R : BoardView → Type 0 = λ v. jobs_out v ≡ 0 in
     let ready = rw on at (subst Q (sym is) none_ready) in
     let out = rw on at (subst R (sym is) none_out) in
-    subst P is (shows-inside b (invariant.kept on) (no_paths (map (path_at b.table.targets.keys) b.table.ready.items) ready, out))
+    subst P is (shows-inside b (invariant.kept on) (no_paths (map (path_at b.table.targets) b.table.ready.items) ready, out))
 
 pub on_board : (s n : Bool) → s ≡ not n → n ≡ true → s ≡ false
 on_board s n is on = is ∙ (rw on refl)

@@ -204,7 +204,7 @@ impl Board {
         ensures { slice_get self.now.state.ready which ≡ Some result.now }
     {
         let at = self.table.ready[which];
-        &self.table.targets[at as usize]
+        self.table.targets.at(at as usize)
     }
 
     /// Takes a target that is ready. The others close up.

@@ -4,21 +4,21 @@ ghost use Rattle.std.specs.Map.{lookup};
 ghost use Rattle.redo_core.specs.inside.Works.{told_in, known_in, few_known, AddsFact};
 
 use crate::fact::Fact;
-use indexmap::IndexMap;
+use redo_names::PathMap;
 use redo_path::Path;
 use redo_record::Outcome;
 use redo_step::Answers;
 use redo_sync::Known;
 use std::alloc::{AllocError, Global};
 
-/// Up to how many facts are compared with a path rather than hashed.
+/// Up to how many facts are compared with a path rather than looked up.
 const FEW: usize = 8;
 
 /// Facts: the first few, and the others by their targets.
 #[derive(Drop)]
 pub(crate) struct Facts {
     few: Vec<Known<Fact>>,
-    more: Option<Box<IndexMap<Path, Known<Fact>>>>,
+    more: Option<Box<PathMap<Known<Fact>>>>,
     /// Of so many of the entries that the script declared first, each that is waited for has its fact here.
     pub(crate) gained: usize,
 }
@@ -65,7 +65,7 @@ impl Facts {
             }
             None => {
                 let alloc = *self.few.allocator();
-                let mut more = Box::new(alloc, IndexMap::new(alloc))?;
+                let mut more = Box::new(alloc, PathMap::new(alloc))?;
                 more.insert(target, fact)?;
                 self.more = Some(more);
             }

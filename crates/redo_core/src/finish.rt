@@ -8,7 +8,7 @@ ghost use Rattle.redo_core.specs.inside.Reported.{placed, sources_among, listed_
 ghost use Rattle.redo_core.specs.inside.Reported.{IsBegunAs, IsRowOf, AllSettled, AllTold, AddsRow, IsReportOf};
 
 use crate::table::{Stage, Table, find};
-use indexmap::IndexSet;
+use redo_names::PathSet;
 use redo_path::Path;
 use redo_record::{Outcome, Record};
 use redo_report::{Report, Row};
@@ -24,7 +24,7 @@ pub(crate) fn report_of(
     request: &[Path],
     table: &Table,
 ) -> Result<Report, AllocError>
-    requires one_each { length table.now.slots.items ≡ length table.now.targets.keys }
+    requires one_each { length table.now.slots.items ≡ length table.now.targets }
     requires settled { AllSettled table.now }
     requires told { AllTold tree.now table.now }
     ensures { IfOk result (IsReportOf tree.now request.now table.now) }
@@ -47,11 +47,11 @@ fn in_order<'a>(
     alloc: Global,
     tree: &Tree,
     request: &'a [Path],
-    targets: &'a IndexSet<Path>,
+    targets: &'a PathSet,
 ) -> Result<Vec<(&'a Path, Option<usize>)>, AllocError>
     ensures paths { IfOk result (λ listed. listed_paths listed.items ≡
-        placed (placed [] targets.now.keys) (sources_among tree.now request.now)) }
-    ensures numbers { IfOk result (λ listed. All (λ e. IsNumberOf targets.now.keys e.0.now e.1) listed.items) }
+        placed (placed [] targets.now) (sources_among tree.now request.now)) }
+    ensures numbers { IfOk result (λ listed. All (λ e. IsNumberOf targets.now e.0.now e.1) listed.items) }
 {
     let mut listed = numbered(alloc, targets.as_slice())?;
     add_sources(tree, request, targets, &mut listed)?;
@@ -77,13 +77,13 @@ fn numbered(alloc: Global, targets: &[Path]) -> Result<Vec<(&Path, Option<usize>
 fn add_sources<'a>(
     tree: &Tree,
     request: &'a [Path],
-    targets: &IndexSet<Path>,
+    targets: &PathSet,
     listed: &mut Vec<(&'a Path, Option<usize>)>,
 ) -> Result<(), AllocError>
-    requires { All (λ e. IsNumberOf targets.now.keys e.0.now e.1) listed.old.items }
+    requires { All (λ e. IsNumberOf targets.now e.0.now e.1) listed.old.items }
     ensures paths { OnOk result (listed_paths listed.new.items ≡
         listed_paths listed.old.items ++ sources_among tree.now request.now) }
-    ensures numbers { OnOk result (All (λ e. IsNumberOf targets.now.keys e.0.now e.1) listed.new.items) }
+    ensures numbers { OnOk result (All (λ e. IsNumberOf targets.now e.0.now e.1) listed.new.items) }
 {
     for path in request {
         if tree.file(path).is_some() {
@@ -101,10 +101,10 @@ fn row_of(
     path: &Path,
     at: Option<usize>,
 ) -> Result<(Row, bool), AllocError>
-    requires one_each { length table.now.slots.items ≡ length table.now.targets.keys }
+    requires one_each { length table.now.slots.items ≡ length table.now.targets }
     requires settled { AllSettled table.now }
     requires told { AllTold tree.now table.now }
-    requires number { IsNumberOf table.now.targets.keys path.now at }
+    requires number { IsNumberOf table.now.targets path.now at }
     ensures row { IfOk result (λ told. IsRowOf table.now told.0) }
     ensures path { IfOk result (λ told. told.0.path ≡ path.now) }
     ensures begun { IfOk result (λ told. told.1 ≡ is_rule (found_of tree.now path.now)) }

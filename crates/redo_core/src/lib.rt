@@ -5,7 +5,7 @@
 //! wait then are cyclic. The rules of that build are a source tree's scripts. The crate stands on `redo_build` for
 //! what a build is, on `redo_step` for what a script does, on `redo_record` for outcomes and records, on `redo_which`
 //! and `redo_tree` for rules and sources, on `redo_report` for what a build came to, on `redo_script` and `redo_path`,
-//! and on `indexmap`, which numbers targets by first sight. It starts no thread and runs nothing by itself: a layer
+//! and on `redo_names`, which numbers targets by first sight. It starts no thread and runs nothing by itself: a layer
 //! above takes, advances and hands in.
 //!
 //! - `laws`: what the laws of builds say of source trees and of boards, as contracts of functions that do nothing.

@@ -13,7 +13,7 @@ use crate::build::Build;
 use crate::fact::Fact;
 use crate::table::{Table, decide, enter, is_operand, park, settle};
 use crate::work::{Begun, End};
-use indexmap::IndexSet;
+use redo_names::PathSet;
 use redo_path::Path;
 use redo_record::Dep;
 use std::alloc::{AllocError, Global};
@@ -30,7 +30,7 @@ pub(crate) fn enter_all(
     requires table { IsTableOf build.now table.old newly_ready.old.items }
     ensures ok { OnOk result (AreEnteredInto build.now table.old table.new newly_ready.new.items
         (operands (rules_for build.now) deps.now)) }
-    ensures numbers { IfOk result (λ ns. AreNumbers table.new.targets.keys ns.items
+    ensures numbers { IfOk result (λ ns. AreNumbers table.new.targets ns.items
         (operands (rules_for build.now) deps.now)) }
     ensures too_many { result ≡ Err Stop.TooMany →
         AreTooMany (rules_for build.now) build.now.limits.targets
@@ -191,7 +191,7 @@ pub(crate) fn first_table(alloc: Global, request: &[Path], build: &Build) -> Res
     let most = build.given().limits().targets();
     prove!(most <= 65_536);
     let mut table = Table {
-        targets: IndexSet::new(alloc),
+        targets: PathSet::new(alloc),
         slots: Vec::new(alloc),
         ready: VecDeque::new(alloc),
         out: 0,

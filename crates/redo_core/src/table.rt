@@ -16,7 +16,7 @@ use crate::build::Build;
 use crate::fact::Fact;
 use crate::facts::Facts;
 use crate::work::{Begun, Work};
-use indexmap::IndexSet;
+use redo_names::PathSet;
 use redo_path::Path;
 use redo_record::{Dep, DepKind};
 use redo_step::Job;
@@ -55,18 +55,18 @@ pub struct Slot {
 /// The targets that were seen, in order of first sight, with the numbers of those ready.
 #[derive(Drop)]
 pub struct Table {
-    pub targets: IndexSet<Path>,
+    pub targets: PathSet,
     pub slots: Vec<Slot>,
     pub ready: VecDeque<u32>,
     pub out: usize,
 }
 
 /// The number of a path.
-pub(crate) fn find(targets: &IndexSet<Path>, path: &Path) -> Option<usize>
-    ensures { MatchOption result (IsAmong targets.now.keys path.now →
-        ⊥) (λ at. slice_get targets.now.keys at ≡ Some path.now) }
+pub(crate) fn find(targets: &PathSet, path: &Path) -> Option<usize>
+    ensures { MatchOption result (IsAmong targets.now path.now →
+        ⊥) (λ at. slice_get targets.now at ≡ Some path.now) }
 {
-    targets.get_index_of(path)
+    targets.number_of(path)
 }
 
 /// Whether an entry of a record is waited for.
@@ -98,11 +98,11 @@ fn is_out(stage: &Stage) -> bool
 }
 
 /// The number of a path, which may be the one that is guessed.
-fn find_near(targets: &IndexSet<Path>, guess: usize, path: &Path) -> Option<usize>
-    ensures { MatchOption result (IsAmong targets.now.keys path.now →
-        ⊥) (λ at. slice_get targets.now.keys at ≡ Some path.now) }
+fn find_near(targets: &PathSet, guess: usize, path: &Path) -> Option<usize>
+    ensures { MatchOption result (IsAmong targets.now path.now →
+        ⊥) (λ at. slice_get targets.now at ≡ Some path.now) }
 {
-    if guess < targets.len() && targets[guess] == *path {
+    if guess < targets.len() && targets.at(guess) == path {
         return Some(guess);
     }
     find(targets, path)
@@ -110,8 +110,8 @@ fn find_near(targets: &IndexSet<Path>, guess: usize, path: &Path) -> Option<usiz
 
 /// The number of a target, if its job is out at this turn. It may be the one that is guessed, which spares a search.
 pub(crate) fn out_at(table: &Table, guess: usize, target: &Path, turn: u64) -> Option<usize>
-    requires one_each { length table.now.slots.items ≡ length table.now.targets.keys }
-    requires distinct { AreDistinct table.now.targets.keys }
+    requires one_each { length table.now.slots.items ≡ length table.now.targets }
+    requires distinct { AreDistinct table.now.targets }
     ensures { MatchOption result ((at : ℕ) → IsOutSlotAt table.now target.now turn at →
         ⊥) (λ at. IsOutSlotAt table.now target.now turn at) }
 {
@@ -188,7 +188,7 @@ fn gain(table: &Table, operands: &[u32], job: &Job, facts: &mut Facts) -> Result
 
 /// Makes a parked job with all its answers a work.
 pub(crate) fn make_ready(table: &mut Table, at: usize, build: &Build) -> Result<(), AllocError>
-    requires one_each { length table.old.slots.items ≡ length table.old.targets.keys }
+    requires one_each { length table.old.slots.items ≡ length table.old.targets }
     requires fed { IsFed build.now table.old at }
     ensures { OnOk result (IsMadeReadyAt build.now table.old table.new at) }
 {
@@ -249,7 +249,7 @@ pub(crate) fn enter(
 ) -> Result<u32, Stop>
     requires table { IsTableOf build.now table.old newly_ready.old.items }
     ensures ok { OnOk result (IsEnteredInto build.now table.old table.new newly_ready.new.items path.now) }
-    ensures number { IfOk result (λ at. slice_get table.new.targets.keys at ≡ Some path.now) }
+    ensures number { IfOk result (λ at. slice_get table.new.targets at ≡ Some path.now) }
     ensures too_many { result ≡ Err Stop.TooMany ↔
         IsFull (rules_for build.now) build.now.limits.targets
         (table_entries (rules_for build.now) build.now.limits.targets table.old) path.now }
@@ -275,7 +275,7 @@ pub(crate) fn enter_new(
     build: &Build,
     newly_ready: &mut Vec<u32>,
 ) -> Result<(), AllocError>
-    requires new { IsAmong table.old.targets.keys path.now → ⊥ }
+    requires new { IsAmong table.old.targets path.now → ⊥ }
     requires room { length table.old.slots.items < build.now.limits.targets }
     requires table { IsTableOf build.now table.old newly_ready.old.items }
     ensures { OnOk result (IsPushed build.now table.old table.new newly_ready.old.items newly_ready.new.items

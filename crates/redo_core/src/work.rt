@@ -15,6 +15,7 @@ use crate::given::Given;
 use crate::reading::begun;
 use redo_path::Path;
 use redo_step::{Job, Step};
+use redo_sync::Numbered;
 use redo_which::Rule;
 use std::alloc::{AllocError, Global};
 use std::marker::Model;
@@ -210,6 +211,19 @@ impl Work {
                 advance_job(given, number, job, facts)
             }
         }
+    }
+}
+
+/// The job of a target at a turn, as a relay tells jobs apart.
+impl Numbered for Work {
+    ghost number = { λ w. (w.target, w.turn) };
+
+    fn target(&self) -> &Path {
+        Work::target(self)
+    }
+
+    fn turn(&self) -> u64 {
+        Work::turn(self)
     }
 }
 

@@ -5,5 +5,5 @@ pub mod LawfulLemmas
 pub mod OperandLemmas
 pub mod Public
 pub mod SearchLemmas
-pub mod SetLemmas
+pub mod KindLemmas
 pub mod StoredLemmas

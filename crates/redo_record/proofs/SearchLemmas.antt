@@ -1,21 +1,18 @@
 -- The entries of a record as the search and the script made them.
 use Rattle.std.proofs.Common.{◌≡◌, Bool, true, false, cond, ◌&&◌, ◌||◌, List, [], ◌∷◌, ◌++◌, refl, sym, ap, ◌∙◌, Some}
 use Rattle.std.proofs.Common.{None, append_assoc, append-nil}
-use Rattle.std.specs.List.{AllByRecursion, IsDistinct, list_any}
+use Rattle.std.specs.List.{list_any}
 use Rattle.std.specs.Prelude.{bytes_eq}
 use Rattle.std.proofs.lemmas.List.{map-append}
-use Rattle.std.proofs.lemmas.Map.Keys.{IsDistinct-head, IsDistinct-tail}
 use lib.Pointwise.{bytes_decides}
 use Rattle.redo_path.proofs.ApartLemmas.{apart}
 use Rattle.redo_which.specs.Missing.{AreDistinct, AreNewAfter}
 use Rattle.redo_record.specs.declared.deps.Dep.{Dep}
 use Rattle.redo_record.specs.declared.deps.DepKind.{DepKind}
 use Rattle.redo_record.specs.declared.deps.DepKind.TheVariants as kinds
-use Rattle.redo_record.specs.contracts.deps.DepPartialEq.TheImpl.{eq-value}
 use Rattle.redo_record.specs.Entries.{AreOnce, change_of, creates, entries_of, search_entries, is_entered, same_kind}
 use Rattle.redo_record.specs.Entries.{with_entry, with_entries, search_deps, with_all}
 use Rattle.redo_record.specs.Paths.{Path}
-use Rattle.redo_record.proofs.SetLemmas.{any_entered}
 
 or_assoc : (a b c : Bool) → (a || (b || c)) ≡ ((a || b) || c)
 or_assoc true b c = refl
@@ -139,14 +136,3 @@ search-alone missing own once none =
 pub by-script : (missing : List Path) (do_file : Path) (own declared : List Dep) → AreDistinct missing
     → entries_of missing (Some do_file) own ≡ with_all (search_entries missing (Some do_file)) declared → entries_of missing (Some do_file) own ≡ with_all (search_deps missing do_file) declared
 by-script missing do_file own declared once h = h ∙ ap (λ es. with_all es declared) (sym (search-entries missing do_file once))
-
--- ---- the entries of a set
-
-none_equal : (d : Dep) (es : List Dep) → AllByRecursion (λ e. (eq-value).it d e ≡ false) es → list_any ((eq-value).it d) es ≡ false
-none_equal d [] h = refl
-none_equal d (e ∷ es) h = λ i. h.0 i || none_equal d es h.1 i
-
-pub once-distinct : (es : List Dep) → IsDistinct ((eq-value).it) es → AreOnce es
-once-distinct [] h = tt
-once-distinct (d ∷ ds) h =
-    (sym (any_entered d ds) ∙ none_equal d ds (IsDistinct-head ((eq-value).it) d ds h), once-distinct ds (IsDistinct-tail ((eq-value).it) d ds h))

@@ -1,24 +1,6 @@
 -- Lists of paths, in the order of first sight. A path is its text.
-use Rattle.std.specs.Prelude.{ℕ, List, [], ◌≡◌, Bool, false, ◌⊎◌, ◌∷◌, ◌||◌, ◌++◌, if◌then◌else◌, bytes_eq}
-
--- a path's text
-abbrev pub Path : Type 0
-Path = List ℕ
-
--- the path is one of these
-abbrev pub IsAmong : List Path → Path → Type 0
-IsAmong [] p = ⊥
-IsAmong (q ∷ qs) p = (q ≡ p) ⊎ IsAmong qs p
-
--- no path stands twice
-abbrev pub AreDistinct : List Path → Type 0
-AreDistinct [] = Unit {0}
-AreDistinct (q ∷ qs) = (IsAmong qs q → ⊥) × AreDistinct qs
-
--- whether the path is one of these
-abbrev pub is_among : List (List ℕ) → List ℕ → Bool
-is_among [] p = false
-is_among (q ∷ qs) p = bytes_eq q p || is_among qs p
+pub use Rattle.redo_names.specs.Paths.{Path, IsAmong, AreDistinct, is_among}
+use Rattle.std.specs.Prelude.{ℕ, List, [], ◌∷◌, ◌++◌, if◌then◌else◌}
 
 -- the paths, and behind them those of the others that are new, each once
 abbrev pub with_new : List (List ℕ) → List (List ℕ) → List (List ℕ)

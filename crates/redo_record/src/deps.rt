@@ -1,9 +1,10 @@
 //! What a script declares, in order.
 
-ghost use Rattle.std.specs.Prelude.{◌≡◌, ◌<◌, ◌^◌, ◌==◌, [], length, IfOk, OnOk, OnErr};
+ghost use Rattle.std.specs.Prelude.{◌≡◌, ◌==◌, [], length, IfOk, OnOk, OnErr};
 ghost use Rattle.redo_record.specs.Entries.{AreOnce, is_entered, with_entry};
+ghost use Rattle.redo_record.specs.inside.Kinds.{paths_with};
 
-use indexmap::IndexSet;
+use redo_names::PathSet;
 use redo_path::Path;
 use std::alloc::{AllocError, Global};
 use std::marker::Model;
@@ -22,14 +23,85 @@ pub struct Dep {
     pub path: Path,
 }
 
-/// Up to how many entries are compared with each other rather than hashed.
+/// Up to how many entries are compared with each other rather than looked up.
 const FEW: usize = 8;
 
-/// Where entries are kept. A set is boxed, since most records have a few entries and each target has one.
+/// Where entries are kept. Many are boxed, since most records have a few entries and each target has one.
 #[derive(Drop)]
 enum Store {
     Few(Vec<Dep>),
-    Many(Box<IndexSet<Dep>>),
+    Many(Box<Many>),
+}
+
+/// Entries, with their paths by kind, in which they are looked up. In a contract it is the list of the entries.
+#[derive(Drop)]
+struct Many {
+    entries: Vec<Dep>,
+    changed: PathSet,
+    created: PathSet,
+}
+
+impl Model for Many {
+    ghost use Rattle.std.specs.Prelude.{List};
+    ghost use Rattle.redo_record.specs.declared.deps.Dep.{Dep};
+    ghost use Rattle.redo_record.specs.inside.Kinds.{AreByKind};
+
+    ghost Value = { List Dep };
+
+    ghost view = { λ m. m.entries.items };
+
+    ghost invariant = { λ m. AreByKind m.entries.items m.changed m.created };
+}
+
+impl Many {
+    fn new(alloc: Global) -> Many
+        ensures { result ≡ [] }
+    {
+        Many {
+            entries: Vec::new(alloc),
+            changed: PathSet::new(alloc),
+            created: PathSet::new(alloc),
+        }
+    }
+
+    /// The paths of the entries of a kind.
+    fn of_kind(&self, kind: DepKind) -> &PathSet
+        ensures { result.now ≡ paths_with kind self.now }
+    {
+        match kind {
+            DepKind::Change => &self.changed,
+            DepKind::Create => &self.created,
+        }
+    }
+
+    fn contains(&self, dep: &Dep) -> bool
+        ensures { result ≡ is_entered self.now dep.now.kind dep.now.path }
+    {
+        self.of_kind(dep.kind).number_of(&dep.path).is_some()
+    }
+
+    /// Puts an entry last, unless it is there.
+    fn put(&mut self, dep: Dep) -> Result<(), AllocError>
+        ensures ok { OnOk result (self.new ≡ with_entry self.old dep.kind dep.path) }
+        ensures err { OnErr result (self.new ≡ self.old) }
+    {
+        self.entries.reserve(1)?;
+        let path = dep.path.clone()?;
+        let (_, new) = match dep.kind {
+            DepKind::Change => self.changed.insert(path)?,
+            DepKind::Create => self.created.insert(path)?,
+        };
+        if new {
+            self.entries.push_reserved(dep);
+        }
+        Ok(())
+    }
+
+    fn as_slice(&self) -> &[Dep]
+        ensures { result.now ≡ self.now }
+    {
+        &self.entries
+    }
 }
 
 /// Entries in the order of their first mention, each once. In a contract it is the list of them.
@@ -82,10 +154,10 @@ impl Deps {
                 if entries.len() < FEW {
                     return add(entries, dep);
                 }
-                let set = Box::new(*entries.allocator(), hashed(entries, dep)?)?;
-                self.store = Store::Many(set);
+                let many = Box::new(*entries.allocator(), copied_with(entries, dep)?)?;
+                self.store = Store::Many(many);
             }
-            Store::Many(entries) => put(entries, dep)?,
+            Store::Many(entries) => entries.put(dep)?,
         }
         Ok(())
     }
@@ -153,36 +225,24 @@ fn add(entries: &mut Vec<Dep>, dep: Dep) -> Result<(), AllocError>
     Ok(())
 }
 
-/// Puts an entry last in a set, unless it is there.
-fn put(set: &mut IndexSet<Dep>, dep: Dep) -> Result<(), AllocError>
-    requires { AreOnce set.old.keys }
-    ensures ok { OnOk result (set.new.keys ≡ with_entry set.old.keys dep.kind dep.path) }
-    ensures err { OnErr result (set.new.keys ≡ set.old.keys) }
-    ensures once { AreOnce set.new.keys }
-{
-    set.insert(dep)?;
-    Ok(())
-}
-
-/// A set of copies of some entries, with one more put last unless it is there.
-fn hashed(entries: &Vec<Dep>, dep: Dep) -> Result<IndexSet<Dep>, AllocError>
+/// Copies of some entries, with one more put last unless it is there.
+fn copied_with(entries: &Vec<Dep>, dep: Dep) -> Result<Many, AllocError>
     requires { AreOnce entries.now.items }
-    ensures entries { IfOk result (λ set. set.keys ≡ with_entry entries.now.items dep.kind dep.path) }
-    ensures once { IfOk result (λ set. AreOnce set.keys) }
+    ensures { IfOk result (λ many. many ≡ with_entry entries.now.items dep.kind dep.path) }
 {
-    let mut set = copied(*entries.allocator(), entries)?;
-    put(&mut set, dep)?;
-    Ok(set)
+    let mut many = copied(*entries.allocator(), entries)?;
+    many.put(dep)?;
+    Ok(many)
 }
 
-/// A set of copies of some entries, with room for as many again.
-fn copied(alloc: Global, entries: &[Dep]) -> Result<IndexSet<Dep>, AllocError>
+/// Copies of some entries.
+fn copied(alloc: Global, entries: &[Dep]) -> Result<Many, AllocError>
     requires { AreOnce entries.now }
-    ensures { IfOk result (λ set. set.keys ≡ entries.now) }
+    ensures { IfOk result (λ many. many ≡ entries.now) }
 {
-    let mut set = IndexSet::with_capacity(alloc, 2 * FEW)?;
+    let mut many = Many::new(alloc);
     for entry in entries {
-        put(&mut set, entry.clone()?)?;
+        many.put(entry.clone()?)?;
     }
-    Ok(set)
+    Ok(many)
 }

@@ -1,2 +1,3 @@
+pub mod CandidateLineLemmas
 pub mod LineLemmas
 pub mod WritingLemmas

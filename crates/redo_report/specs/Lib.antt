@@ -1,2 +1,3 @@
 pub mod ReportText
 pub mod Reports
+pub mod inside

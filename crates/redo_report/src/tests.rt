@@ -1,5 +1,7 @@
 //! The text of reports.
 
+mod lines;
+
 use crate::{Report, Row, report_text, write_report};
 use redo_bundle::Plain;
 use redo_path::{Path, resolve};

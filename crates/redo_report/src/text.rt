@@ -6,6 +6,7 @@ ghost use Rattle.redo_bundle.specs.Bundle.{Writes};
 ghost use Rattle.redo_report.specs.ReportText.{begun_line, dep_line, file_text, outcome_words, path_line, reason_word};
 ghost use Rattle.redo_report.specs.ReportText.{report_text, row_text, why_words, word_at};
 
+use crate::lines::Lines;
 use crate::report::{Report, Row};
 use itoa::Buffer;
 use redo_bundle::{Broken, ByteOut, Plain, write_all, write_parts};
@@ -13,7 +14,6 @@ use redo_path::Path;
 use redo_record::{Dep, DepKind, Outcome, Record, Why};
 use redo_script::{Reason, ScriptFault};
 use redo_tree::Content;
-use redo_which::Lines;
 use std::alloc::{AllocError, Global};
 
 /// The report's text: the rows with their records, the scripts that were begun, the files that were built, each as it

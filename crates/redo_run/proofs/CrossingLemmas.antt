@@ -1,55 +1,55 @@
--- A board may cross threads. Its parts hold syntax trees, so this is shown from the smallest up, in steps that `search` can take.
+-- Jobs and pieces may cross threads, and so may the ends of a relay of them. Their parts hold syntax trees, so this is
+-- shown from the smallest up, in steps that `search` can take.
 use denote.RattleType.{RattleType}
 use denote.Param.SendFields.{as_row_send}
 use denote.Param.Send.{IsSend, IsSync, sendable}
 use Rattle.std.proofs.Crossing as heap
 use Rattle.std.proofs.marker.PhantomData.TheSendSync as phantom
-use Rattle.redo_run.specs.declared.workers.Build.{Ghosts}
-use Rattle.redo_run.specs.contracts.workers.Desk as Desk
-use Rattle.redo_run.specs.contracts.workers.Office as Office
-use Rattle.indexmap.proofs.map.IndexMap.TheSendSync as maps
-use Rattle.indexmap.proofs.set.IndexSet.TheSendSync as sets
+use Rattle.std.specs.contracts.alloc.AllocError as Refusal
+use Rattle.std.specs.contracts.result.Result as Results
+use Rattle.redo_names.proofs.map.PathMap.TheSendSync as maps
+use Rattle.redo_bytes.proofs.Bytes.TheSendSync as bytes
 use Rattle.redo_path.proofs.Path.TheSendSync as path
 use Rattle.redo_tree.proofs.entries.Tree.TheSendSync as tree
 use Rattle.redo_which.proofs.Rule.TheSendSync as rule
 use Rattle.redo_script.proofs.ast.Stmt.TheLaws.TheKnot as stmt
+use Rattle.redo_script.proofs.ast.Word.TheSendSync as word
 use Rattle.redo_script.proofs.ast.Command.TheSendSync as command
 use Rattle.redo_script.proofs.ast.Condition.TheSendSync as condition
 use Rattle.redo_script.proofs.fault.ScriptFault.TheSendSync as fault
 use Rattle.redo_step.proofs.limits.Limits.TheSendSync as limits
 use Rattle.redo_step.proofs.machine.Effects.TheSendSync as effects
 use Rattle.redo_step.proofs.place.Place.TheLaws.TheKnot as place
+use Rattle.redo_step.proofs.scope.Values.TheSendSync as values
 use Rattle.redo_step.proofs.wait.Waiting.TheSendSync as wait
 use Rattle.redo_record.proofs.outcome.Outcome.TheSendSync as outcome
 use Rattle.redo_record.proofs.record.Record.TheSendSync as records
 use Rattle.redo_sync.proofs.cells.Cells.TheSendSync as cells
 use Rattle.redo_sync.proofs.cells.Known.TheSendSync as known
-use Rattle.redo_core.proofs.board.Stop.TheSendSync as stop
 use Rattle.redo_script.specs.contracts.ast.Script as Script
 use Rattle.redo_step.specs.contracts.parsed.Parsed as Parsed
+use Rattle.redo_step.specs.contracts.place.Place as Place
 use Rattle.redo_step.specs.contracts.job.Task as Task
 use Rattle.redo_step.specs.contracts.job.Job as Job
 use Rattle.redo_core.specs.contracts.reading.Reading as Reading
 use Rattle.redo_core.specs.contracts.given.Given as Given
 use Rattle.redo_core.specs.contracts.fact.Fact as Fact
 use Rattle.redo_core.specs.contracts.facts.Facts as Facts
-use Rattle.redo_core.specs.contracts.build.Block as Block
-use Rattle.redo_core.specs.contracts.build.Build as BuildCells
 use Rattle.redo_core.specs.contracts.work.Unread as Unread
 use Rattle.redo_core.specs.contracts.work.Begun as Begun
 use Rattle.redo_core.specs.contracts.work.Script as WorkScript
 use Rattle.redo_core.specs.contracts.work.Work as Work
-use Rattle.redo_core.specs.contracts.table.Parked as Parked
-use Rattle.redo_core.specs.contracts.table.Stage as Stage
-use Rattle.redo_core.specs.contracts.table.Slot as Slot
-use Rattle.redo_core.specs.contracts.table.Table as Table
-use Rattle.redo_core.specs.contracts.board.Board as Board
+use Rattle.redo_core.specs.contracts.work.End as End
+use Rattle.redo_core.specs.contracts.work.Piece as Piece
+use Rattle.redo_run.specs.declared.of_build.Build.{Ghosts}
+use Rattle.redo_run.specs.contracts.of_build.JobOf as JobOf
+use Rattle.redo_run.specs.contracts.of_build.PieceOf as PieceOf
 
 pub script_send : IsSend (Script.the_field).row
-script_send = search (stmt.crosses, command.the_field_send, condition.the_field_send, sendable, heap.crosses) depth 20
+script_send = search (stmt.crosses, bytes.the_send, word.the_field_send, command.the_field_send, condition.the_field_send, sendable, heap.crosses) depth 20
 
 pub script_sync : IsSync (Script.the_field).row
-script_sync = search (stmt.crosses, command.the_field_sync, condition.the_field_sync, sendable, heap.crosses) depth 20
+script_sync = search (stmt.crosses, bytes.the_sync, word.the_field_sync, command.the_field_sync, condition.the_field_sync, sendable, heap.crosses) depth 20
 
 pub parsed_send : IsSend (Parsed.the_field).row
 parsed_send = search (script_send, fault.the_field_send, sendable, heap.crosses) depth 20
@@ -78,20 +78,14 @@ fact_sync = search (given_send, given_sync, path.the_sync, outcome.the_field_syn
 pub facts_send : IsSend (Facts.the_field).row
 facts_send = search (fact_send, fact_sync, known.the_send, maps.the_send, path.the_send, sendable, heap.crosses) depth 20
 
-pub block_send : IsSend (Block.the_field).row
-block_send = search (fact_send, fact_sync, cells.the_send, cells.the_sync, sendable, heap.crosses) depth 20
-
-pub block_sync : IsSync (Block.the_field).row
-block_sync = search (fact_send, fact_sync, cells.the_send, cells.the_sync, sendable, heap.crosses) depth 20
-
-pub cells_send : IsSend (BuildCells.the_field).row
-cells_send = search (block_send, block_sync, given_send, given_sync, cells.the_send, cells.the_sync, sendable, heap.crosses) depth 20
-
 pub task_send : IsSend (Task.the_field).row
 task_send = search (parsed_send, parsed_sync, tree.the_send, tree.the_sync, path.the_send, rule.the_field_send, limits.the_send, sendable, heap.crosses) depth 20
 
+pub place_send : IsSend (Place.the_field).row
+place_send = search (values.the_send, place.send-Place, sendable, heap.crosses) depth 20
+
 pub job_send : IsSend (Job.the_field).row
-job_send = search (task_send, path.the_send, place.send-Place, wait.the_field_send, effects.the_field_send, sendable, heap.crosses) depth 20
+job_send = search (task_send, place_send, wait.the_field_send, effects.the_field_send, sendable, heap.crosses) depth 20
 
 pub unread_send : IsSend (Unread.the_field).row
 unread_send = search (path.the_send, rule.the_field_send, sendable, heap.crosses) depth 20
@@ -105,27 +99,24 @@ work_script_send = search (unread_send, begun_send, sendable, heap.crosses) dept
 pub work_send : IsSend (Work.the_field).row
 work_send = search (work_script_send, given_send, given_sync, sendable, heap.crosses) depth 20
 
-pub parked_send : IsSend (Parked.the_field).row
-parked_send = search (begun_send, sendable, heap.crosses) depth 20
+pub end_send : IsSend (End.the_field).row
+end_send = search (fact_send, begun_send, sendable, heap.crosses) depth 20
 
-pub stage_send : IsSend (Stage.the_field).row
-stage_send = search (work_send, parked_send, fact_send, fact_sync, known.the_send, sendable, heap.crosses) depth 20
-
-pub slot_send : IsSend (Slot.the_field).row
-slot_send = search (stage_send, sendable, heap.crosses) depth 20
-
-pub table_send : IsSend (Table.the_field).row
-table_send = search (slot_send, sets.the_send, path.the_send, sendable, heap.crosses) depth 20
-
-pub board_send : IsSend (Board.the_field).row
-board_send = search (table_send, cells_send, path.the_send, stop.the_field_send, sendable, heap.crosses) depth 20
+pub piece_send : IsSend (Piece.the_field).row
+piece_send = search (end_send, given_send, given_sync, path.the_send, sendable, heap.crosses) depth 20
 
 module _ (B : RattleType) (b : Ghosts B.Denot) where
-  desk_fields_send : IsSend (Desk.the_field B b).row
-  desk_fields_send = search (board_send, phantom.the_field_send, sendable, heap.crosses) depth 20
+  job_fields_send : IsSend (JobOf.the_field B b).row
+  job_fields_send = search (work_send, phantom.the_field_send, sendable, heap.crosses) depth 20
 
-  desk_send : IsSend (Desk.the_row B b)
-  desk_send = as_row_send (Desk.the_field B b) desk_fields_send
+  pub job_of_send : IsSend (JobOf.the_row B b)
+  job_of_send = as_row_send (JobOf.the_field B b) job_fields_send
 
-  pub office_sync : IsSync (Office.the_row B b)
-  office_sync = search (desk_send, sendable, heap.crosses) depth 20
+  piece_fields_send : IsSend (PieceOf.the_field B b).row
+  piece_fields_send = search (piece_send, phantom.the_field_send, sendable, heap.crosses) depth 20
+
+  pub piece_of_send : IsSend (PieceOf.the_row B b)
+  piece_of_send = as_row_send (PieceOf.the_field B b) piece_fields_send
+
+  pub message_send : IsSend (Results.the_row (PieceOf.the_row B b) Refusal.the_row)
+  message_send = search (piece_of_send, sendable, heap.crosses) depth 20

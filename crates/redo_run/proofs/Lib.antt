@@ -1,5 +1,6 @@
 pub mod DrivingLemmas
 pub mod ExitLemmas
+pub mod LedgerLemmas
 pub mod RefusalLemmas
 pub mod StaysOutLemmas
 pub mod ToldLemmas

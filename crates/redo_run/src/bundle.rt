@@ -44,7 +44,7 @@ pub fn run_bundle<H: Threads + Wait + Sync, R: ByteIn, W: ByteOut, G: Gate>(
 {
     let tree = read_bundle_by_line(alloc, reader, &mut cause.header)?;
     let request = requested(alloc, &options.targets)?;
-    let report = build_many(
+    let (report, _ledger) = build_many(
         rt,
         alloc,
         tree,

@@ -94,7 +94,7 @@ pub fn run_dir<H: Threads + Wait + Sync + Files, W: ByteOut, G: Gate>(
 {
     let (tree, passed) = load(rt, alloc, dir, cause)?;
     let request = requested(alloc, &options.targets)?;
-    let report = build_many(
+    let (report, _ledger) = build_many(
         rt,
         alloc,
         tree,

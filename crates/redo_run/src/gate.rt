@@ -3,7 +3,7 @@
 use redo_path::Path;
 
 /// Is told of each job that a worker took, before the script is advanced. It serves tests, and whoever shows how far a
-/// build has come. Workers call it side by side, and hold no lock meanwhile: a call that takes long keeps its own
+/// build has come. Workers call it side by side, and have nothing of the board: a call that takes long keeps its own
 /// worker alone.
 pub trait Gate: Sync {
     /// The script of this target is taken up, after it stopped so many times.

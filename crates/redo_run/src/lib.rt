@@ -3,11 +3,13 @@
 //! [`run_bundle`] reads a bundle to its end, builds the requested targets by as many workers as the options say, and
 //! writes the report; [`whichdo_bundle`] writes where the rule of a target is looked for. [`run_dir`] and
 //! [`whichdo_dir`] do the same over a directory, into which the files that were built are stored. [`build_many`] is the
-//! build alone, and [`build_one`] the same in one thread, without a lock. The crate stands on `redo_build` for what a
-//! build is, on `redo_core` for the board that holds it, on `redo_report` for the report and its text, on `redo_tree`,
-//! `redo_bundle` and `redo_dir` for trees and where they come from, and on `redo_which` for the search.
+//! build alone, with the ledger of its jobs, and [`build_one`] the same in one thread, without a relay. The crate stands
+//! on `redo_build` for what a build is, on `redo_core` for the board that holds it, on `redo_sync` for the relay through
+//! which jobs go to workers, on `crossbeam_channel` for their way back, on `redo_report` for the report and its text, on
+//! `redo_tree`, `redo_bundle` and `redo_dir` for trees and where they come from, and on `redo_which` for the search.
 //!
-//! - `one`: a build by one thread; `workers`: by many, round one board under a lock; `gate`: who is told of each job;
+//! - `one`: a build by one thread; `workers`: by many, or by one through a relay; `owner`: what the one does that has
+//!   the board; `crew`: what the workers do; `of_build`: what they send each other; `gate`: who is told of each job;
 //!   `picks`: a build in an order that is given beforehand;
 //! - `run_fault`: why a build has no report; `exit`: whether all that was requested is there;
 //! - `bundle`: the two calls over bundles; `options` and `fault`: what they take and refuse; `directory` and
@@ -17,13 +19,16 @@
 mod bundle;
 mod candidates;
 mod cause;
+mod crew;
 mod dir_fault;
 mod directory;
 mod exit;
 mod fault;
 mod gate;
+mod of_build;
 mod one;
 mod options;
+mod owner;
 mod picks;
 mod request;
 mod run_fault;

@@ -1,263 +1,254 @@
-//! Workers round one board.
+//! A build by many workers, and by one.
 //!
-//! The board stands under a lock. A worker takes a job, lets the lock go, advances the script, and hands in how far it
-//! came; one that finds nothing ready sleeps until another has handed in. What a lock keeps is known by its type alone,
-//! so that type names the build, which contracts alone see: no piece is compared with the board when the program runs.
+//! The thread that asked for the build owns the board, and no lock stands round it. It gives each job that is ready to
+//! a relay, out of which the workers take, and hands in the pieces that they send back through a channel. Once all
+//! workers are in, the ledger of the relay shows that each job was taken once.
 
-ghost use Rattle.std.specs.Prelude.{◌≡◌, ◌↔◌, ◌<◌, ◌≤◌, true, false, Ok, Err, None, IfOk, IfSome, IsTrue, OnErr};
+ghost use Rattle.std.specs.Prelude.{◌≡◌, ◌≤◌, Err, [], IfOk, IsNone, IsTrue};
+ghost use Rattle.redo_build.specs.Outcomes.{IsTooMany};
+ghost use Rattle.redo_build.specs.Takes.{AreBegun, AreCountedOnce};
 ghost use Rattle.redo_core.specs.Build.{rules_of};
 ghost use Rattle.redo_core.specs.Faults.{IsSameBuild};
-ghost use Rattle.redo_build.specs.Outcomes.{IsTooMany};
+ghost use Rattle.redo_core.specs.Taken.{HasTaken};
+ghost use Rattle.redo_core.specs.Views.{limit_on, rules_on};
 ghost use Rattle.redo_report.specs.Reports.{IsReport};
-ghost use Rattle.redo_build.specs.Schedule.{IsOutAt};
-ghost use Rattle.redo_core.specs.Views.{Belongs, jobs_out, ready_count};
-ghost use Rattle.redo_run.specs.inside.Workers.{IsAnswerTo, IsBoardOf, IsPieceOf, IsWorkOf};
+ghost use Rattle.redo_sync.specs.Relay.{SharesOut, taken_by};
+ghost use Rattle.redo_run.specs.inside.Workers.{IsAnswerTo, IsStaffed};
 
+use crate::crew::{Signals, drain, join_all, start_all};
 use crate::gate::Gate;
+use crate::of_build::{Build, JobOf};
+use crate::owner::{never, own, own_alone};
 use crate::run_fault::RunFault;
-use redo_core::board::{Board, HandFault};
-use redo_core::work::{Piece, Work};
+use redo_build::laws::counts_tell;
+use redo_core::board::Board;
+use redo_core::laws::what_was_taken;
+use redo_core::work::Work;
 use redo_path::Path;
 use redo_report::Report;
 use redo_step::Limits;
+use redo_sync::{JobSource, JobTaker, Ledger, gather, relay};
 use redo_tree::Tree;
-use std::alloc::{AllocError, Global};
-use std::marker::{Brand, PhantomData};
-use std::sync::{Arc, Condvar, Mutex, Wait};
+use std::alloc::Global;
+use std::marker::Brand;
+use std::sync::{Arc, Wait};
 use std::thread;
 use std::thread::{Scope, Threads};
 
-/// The build that workers are at: what it is given, and its request. It has no value when the program runs.
-pub trait Build {
-    ghost use Rattle.std.specs.Prelude.{ℕ, List};
-    ghost use Rattle.redo_core.specs.Build.{GivenView};
+/// How many messages may wait for the owner.
+const MOST_MESSAGES: usize = 64;
 
-    ghost given: { GivenView };
+/// How many jobs may be out for each worker: one that it is at, and one that waits for it.
+const OUT_FOR_EACH: usize = 2;
 
-    ghost request: { List (List ℕ) };
-}
-
-impl Build for Brand {
-    ghost use Rattle.std.specs.Prelude.{[]};
-    ghost use Rattle.redo_tree.specs.Tree.{top};
-
-    ghost given = { record { tree = top; limits = record { targets = 1; file_bytes = 1 } } };
-
-    ghost request = { [] };
-}
-
-/// The board of a build, and whether a growth or a thread was refused beside it.
+/// The board of a build, with both ends of its relay.
 #[derive(Drop)]
 struct Desk<B: Build> {
     board: Board,
-    refused: bool,
-    build: PhantomData<B>,
-    ghost given: { board.given ≡ B.given },
-    ghost request: { board.request ≡ B.request },
+    source: JobSource<JobOf<B>>,
+    takers: Vec<JobTaker<JobOf<B>>>,
 }
 
-/// The desk under its lock, and the bell for those who wait for it to change.
-struct Office<B: Build> {
-    desk: Mutex<Desk<B>>,
-    moved: Condvar,
-}
-
-/// Doesn't return. No run comes here: each piece that a worker hands in is of a job that it took from the same board,
-/// and workers end only at the end of a run. But no type of what a lock keeps says so.
-fn never<R: Wait>(rt: &R) -> ! {
-    for _ in rt.forever() {}
-    unreachable!()
-}
-
-/// Hands a piece in. False for one whose target isn't out at its turn.
-fn hand_over(board: &mut Board, piece: Piece) -> bool
-    requires { Belongs board.old piece }
-    ensures same { IsSameBuild board.old board.new }
-    ensures known { IsOutAt board.old.state piece.target piece.turn → result ≡ true }
+/// Whether no job is left.
+fn is_all_taken<B: Build>(ledger: &Ledger<JobOf<B>>) -> bool
+    ensures { IsTrue result → (ledger.now.left ≡ []) × SharesOut ledger.now.given ledger.now.taken [] }
 {
-    match board.hand_in(piece) {
-        Ok(()) | Err(HandFault::TooMany) | Err(HandFault::Memory) => true,
-        Err(HandFault::Stranger(_piece)) => false,
-    }
+    ledger.left().is_empty()
 }
 
-/// What a board has come to once no worker is at it.
-fn answer_of<R: Wait>(rt: &R, board: Board) -> Result<Report, RunFault>
-    ensures { IsAnswerTo board.given board.request result }
+/// What a run came to once all workers are in. No run comes here while jobs are ready, out or left.
+fn answer_of<B: Build, R: Wait>(
+    rt: &R,
+    alloc: Global,
+    desk: Desk<B>,
+) -> Result<(Report, Ledger<Work>), RunFault>
+    requires staffed { IsStaffed desk.source desk.takers.items }
+    requires taken { HasTaken desk.board desk.source.given }
+    ensures { IsAnswerTo desk.board.given desk.board.request result }
 {
-    if let Some(stop) = board.stopped() {
-        return Err(RunFault::from(stop));
-    }
+    what_was_taken();
+    counts_tell();
+    let Desk {
+        board,
+        source,
+        takers,
+    } = desk;
     if !board.quiet() {
         never(rt)
     }
-    Ok(board.finish()?)
+    let ledger = gather(source, takers)?;
+    if !is_all_taken(&ledger) {
+        never(rt)
+    }
+    let ledger = Ledger::of(alloc, &ledger)?;
+    Ok((board.finish()?, ledger))
 }
 
-impl<B: Build> Desk<B> {
-    /// The desk of a build that is just opened.
-    fn new(board: Board) -> Desk<B>
-        requires { IsBoardOf B.given B.request board }
-    {
-        Desk {
-            board,
-            refused: false,
-            build: PhantomData,
-        }
-    }
-
-    /// Whether one who has no job is to wait for a change: nothing is ready, but a job is out.
-    fn is_waiting(&self) -> bool
-        ensures { IsTrue result ↔
-            ((self.now.refused ≡ false) × (ready_count self.now.board ≡ 0) × (0 < jobs_out self.now.board)) }
-    {
-        !self.refused && self.board.ready() == 0 && self.board.out() > 0
-    }
-
-    /// The job that became ready last, if there is one and the run hasn't ended.
-    fn take(&mut self) -> Result<Option<Work>, AllocError>
-        ensures work { IfOk result (λ found. IfSome found (IsWorkOf B.given)) }
-        ensures ended { self.old.refused ≡ true → result ≡ Ok None }
-        ensures noted { OnErr result (self.new.refused ≡ true) }
-    {
-        let ready = self.board.ready();
-        if self.refused || ready == 0 {
-            return Ok(None);
-        }
-        match self.board.take(ready - 1) {
-            Ok(work) => Ok(Some(work)),
-            Err(error) => {
-                self.refused = true;
-                Err(error)
-            }
-        }
-    }
-
-    /// Hands a piece in. False for one whose target isn't out at its turn.
-    fn hand_in(&mut self, piece: Piece) -> bool
-        requires { IsPieceOf B.given piece }
-        ensures { IsOutAt self.old.board.state piece.target piece.turn → result ≡ true }
-    {
-        hand_over(&mut self.board, piece)
-    }
-
-    /// What the run has come to once no worker is at it.
-    fn answer<R: Wait>(self, rt: &R) -> Result<Report, RunFault>
-        ensures { IsAnswerTo B.given B.request result }
-    {
-        let Desk {
-            board,
-            refused,
-            build: _,
-        } = self;
-        if refused {
-            return Err(RunFault::Memory);
-        }
-        answer_of(rt, board)
-    }
-}
-
-impl<B: Build> Office<B> {
-    /// Waits for a job. None at the end of the run.
-    fn next<R: Wait>(&self, rt: &R) -> Option<Work>
-        ensures { IfSome result (IsWorkOf B.given) }
-    {
-        let mut desk = self
-            .moved
-            .wait_while(rt, self.desk.lock(rt), |desk| desk.is_waiting());
-        match desk.take() {
-            Ok(found) => found,
-            Err(_) => {
-                self.moved.notify_all();
-                None
-            }
-        }
-    }
-
-    /// Hands a piece in, and wakes all that wait.
-    fn hand_in<R: Wait>(&self, rt: &R, piece: Piece)
-        requires { IsPieceOf B.given piece }
-    {
-        let known = self.desk.lock(rt).hand_in(piece);
-        self.moved.notify_all();
-        if !known {
-            never(rt)
-        }
-    }
-
-    /// Notes that a growth or a thread was refused, and wakes all that wait: the run ends.
-    fn refuse<R: Wait>(&self, rt: &R) {
-        self.desk.lock(rt).refused = true;
-        self.moved.notify_all();
-    }
-
-    /// Works until the run ends.
-    fn work<R: Wait, G: Gate>(&self, rt: &R, gate: &G) {
-        for _ in rt.forever() {
-            let Some(work) = self.next(rt) else {
-                break;
-            };
-            gate.enter(work.target(), work.turn());
-            match work.advance() {
-                Ok(piece) => self.hand_in(rt, piece),
-                Err(_) => self.refuse(rt),
-            }
-        }
-    }
-}
-
-/// Starts so many workers. Where a thread can't be started, the run ends.
-fn start_workers<'s, E, B: Build + Send + Sync, R: Wait + Sync, G: Gate>(
+/// Runs a build to its end by as many workers as there are takers, each in a thread of its own.
+#[tactic(auto, using(crate::proofs::LedgerLemmas::same_relays))]
+fn run_crew<'s, E, B: Build + Send + Sync + 's, R: Threads + Wait + Sync, G: Gate>(
     scope: &Scope<'s, E>,
     rt: &'s R,
-    office: &'s Office<B>,
-    workers: usize,
+    signals: &'s Signals,
     gate: &'s G,
-) {
-    'workers: for _ in 0..workers {
-        if scope.spawn(move || office.work(rt, gate)).is_err() {
-            office.refuse(rt);
-            break;
-        }
+    alloc: Global,
+    desk: Desk<B>,
+) -> Result<Desk<B>, RunFault>
+    requires of_build { desk.board.given ≡ B.given }
+    requires running { IsNone desk.board.stopped }
+    requires staffed { IsStaffed desk.source desk.takers.items }
+    requires taken { HasTaken desk.board desk.source.given }
+    ensures staffed { IfOk result (λ d. IsStaffed d.source d.takers.items) }
+    ensures taken { IfOk result (λ d. HasTaken d.board d.source.given) }
+    ensures build { IfOk result (λ d. IsSameBuild desk.board d.board) }
+    ensures too_many { result ≡ Err RunFault.TooMany →
+        IsTooMany (rules_on desk.board) desk.board.request (limit_on desk.board) }
+{
+    let Desk {
+        mut board,
+        mut source,
+        takers,
+    } = desk;
+    let most = takers.len().saturating_mul(OUT_FOR_EACH);
+    let (sender, receiver) = crossbeam_channel::bounded(alloc, MOST_MESSAGES)?;
+    let back = Vec::with_capacity(alloc, takers.len())?;
+    let mut hands = Vec::new(alloc);
+    let ended = match start_all(scope, rt, signals, gate, takers, sender, &mut hands) {
+        Ok(()) => own(rt, &mut board, &mut source, &receiver, most),
+        Err(_) => Err(RunFault::Memory),
+    };
+    signals.stop();
+    drain(rt, receiver);
+    let takers = join_all(rt, hands, back);
+    ended?;
+    Ok(Desk {
+        board,
+        source,
+        takers,
+    })
+}
+
+/// The same in a scope of threads: all have ended when it returns.
+fn run_in_scope<B: Build + Send + Sync, R: Threads + Wait + Sync, G: Gate>(
+    rt: &R,
+    signals: &Signals,
+    gate: &G,
+    alloc: Global,
+    desk: Desk<B>,
+) -> Result<Desk<B>, RunFault>
+    requires of_build { desk.board.given ≡ B.given }
+    requires running { IsNone desk.board.stopped }
+    requires staffed { IsStaffed desk.source desk.takers.items }
+    requires taken { HasTaken desk.board desk.source.given }
+    ensures staffed { IfOk result (λ d. IsStaffed d.source d.takers.items) }
+    ensures taken { IfOk result (λ d. HasTaken d.board d.source.given) }
+    ensures build { IfOk result (λ d. IsSameBuild desk.board d.board) }
+    ensures too_many { result ≡ Err RunFault.TooMany →
+        IsTooMany (rules_on desk.board) desk.board.request (limit_on desk.board) }
+{
+    thread::scope(
+        thread::scope_env(),
+        rt,
+        move |scope| -> Result<Desk<B>, RunFault>
+            requires { (desk.board.given ≡ B.given) × IsNone desk.board.stopped ×
+                IsStaffed desk.source desk.takers.items × HasTaken desk.board desk.source.given }
+            ensures { IfOk result (λ d. IsStaffed d.source d.takers.items × HasTaken d.board d.source.given ×
+                IsSameBuild desk.board d.board) ×
+                (result ≡ Err RunFault.TooMany →
+                IsTooMany (rules_on desk.board) desk.board.request (limit_on desk.board)) }
+        { run_crew(scope, rt, signals, gate, alloc, desk) },
+    )
+}
+
+/// Runs a build to its end by the caller alone, through a relay of one taker.
+fn run_alone<B: Build, R: Wait, G: Gate>(
+    rt: &R,
+    gate: &G,
+    desk: Desk<B>,
+) -> Result<Desk<B>, RunFault>
+    requires alone { desk.source.workers ≡ 1 }
+    requires of_build { desk.board.given ≡ B.given }
+    requires running { IsNone desk.board.stopped }
+    requires staffed { IsStaffed desk.source desk.takers.items }
+    requires taken { HasTaken desk.board desk.source.given }
+    ensures staffed { IfOk result (λ d. IsStaffed d.source d.takers.items) }
+    ensures taken { IfOk result (λ d. HasTaken d.board d.source.given) }
+    ensures build { IfOk result (λ d. IsSameBuild desk.board d.board) }
+    ensures too_many { result ≡ Err RunFault.TooMany →
+        IsTooMany (rules_on desk.board) desk.board.request (limit_on desk.board) }
+{
+    let Desk {
+        mut board,
+        mut source,
+        mut takers,
+    } = desk;
+    let Some(mut taker) = takers.pop() else {
+        unreachable!()
+    };
+    own_alone(rt, &mut board, &mut source, &mut taker, gate)?;
+    takers.push_reserved(taker);
+    Ok(Desk {
+        board,
+        source,
+        takers,
+    })
+}
+
+/// Runs a build to its end, by the caller alone where there is one worker.
+fn run_desk<B: Build + Send + Sync, R: Threads + Wait + Sync, G: Gate>(
+    rt: &R,
+    alloc: Global,
+    desk: Desk<B>,
+    gate: &G,
+) -> Result<Desk<B>, RunFault>
+    requires of_build { desk.board.given ≡ B.given }
+    requires running { IsNone desk.board.stopped }
+    requires some { 1 ≤ desk.source.workers }
+    requires staffed { IsStaffed desk.source desk.takers.items }
+    requires taken { HasTaken desk.board desk.source.given }
+    ensures staffed { IfOk result (λ d. IsStaffed d.source d.takers.items) }
+    ensures taken { IfOk result (λ d. HasTaken d.board d.source.given) }
+    ensures build { IfOk result (λ d. IsSameBuild desk.board d.board) }
+    ensures too_many { result ≡ Err RunFault.TooMany →
+        IsTooMany (rules_on desk.board) desk.board.request (limit_on desk.board) }
+{
+    if desk.takers.len() == 1 {
+        run_alone(rt, gate, desk)
+    } else {
+        run_in_scope(rt, &Signals::new(), gate, alloc, desk)
     }
 }
 
-/// Runs a build to its end, by the caller and so many helpers. All threads have ended when it returns.
-fn run_to_end<'s, B: Build + Send + Sync, R: Threads + Wait + Sync, G: Gate>(
-    rt: &'s R,
-    office: &'s Office<B>,
-    helpers: usize,
-    gate: &'s G,
-) {
-    thread::scope(thread::scope_env(), rt, |scope| {
-        start_workers(scope, rt, office, helpers, gate);
-        office.work(rt, gate);
-    });
-}
-
-/// Runs a build that was opened, by so many workers.
-fn run_workers<B: Build + Send + Sync, R: Threads + Wait + Sync, G: Gate>(
+/// Runs a build that was opened.
+fn run_build<B: Build + Send + Sync, R: Threads + Wait + Sync, G: Gate>(
     rt: &R,
+    alloc: Global,
     board: Board,
     workers: usize,
     gate: &G,
-) -> Result<Report, RunFault>
-    requires opened { IsBoardOf B.given B.request board }
+) -> Result<(Report, Ledger<Work>), RunFault>
+    requires of_build { board.given ≡ B.given }
+    requires running { IsNone board.stopped }
+    requires opened { HasTaken board [] }
     requires some { 1 ≤ workers }
-    ensures { IsAnswerTo B.given B.request result }
+    requires few { workers ≤ 64 }
+    ensures { IsAnswerTo board.given board.request result }
 {
-    let office = Office::<B> {
-        desk: Mutex::new(Desk::new(board)),
-        moved: Condvar::new(),
+    let (source, takers) = relay(alloc, workers)?;
+    let desk = Desk::<B> {
+        board,
+        source,
+        takers,
     };
-    run_to_end(rt, &office, workers - 1, gate);
-    let Office { desk, moved: _ } = office;
-    desk.into_inner().answer(rt)
+    let ended = run_desk(rt, alloc, desk, gate)?;
+    answer_of(rt, alloc, ended)
 }
 
-/// Builds the requested targets by so many workers side by side, each in a thread of its own; the caller's thread is
-/// one of them. The report is that of the recursive build in one thread, whatever the workers do when. All threads have
-/// ended when it answers. It answers `Memory` too where a thread could not be started.
+/// Builds the requested targets by so many workers side by side, each in a thread of its own; the caller's thread has
+/// the board meanwhile, and hands out the jobs. With one worker no thread is started: the caller does it all. The
+/// report is that of the recursive build in one thread, whatever the workers do when, and the ledger shows that each
+/// job was taken by one worker, once. All threads have ended when it answers. It answers `Memory` too where a thread
+/// could not be started.
 pub fn build_many<R: Threads + Wait + Sync, G: Gate>(
     rt: &R,
     alloc: Global,
@@ -266,13 +257,17 @@ pub fn build_many<R: Threads + Wait + Sync, G: Gate>(
     limits: Limits,
     workers: usize,
     gate: &G,
-) -> Result<Report, RunFault>
+) -> Result<(Report, Ledger<Work>), RunFault>
     requires some { 1 ≤ workers }
     requires few { workers ≤ 64 }
-    ensures report { IfOk result (IsReport (rules_of tree limits) request.now limits.targets) }
+    ensures report { IfOk result (λ r. IsReport (rules_of tree limits) request.now limits.targets r.0) }
+    ensures none_left { IfOk result (λ r. r.1.left ≡ []) }
+    ensures once { IfOk result (λ r. AreCountedOnce r.1.taken) }
+    ensures begun { IfOk result (λ r. AreBegun r.1.taken r.0.begun.items) }
     ensures too_many { result ≡ Err RunFault.TooMany → IsTooMany (rules_of tree limits) request.now limits.targets }
 {
+    what_was_taken();
     let tree = Arc::new(alloc, tree)?;
     let board = Board::open(alloc, tree, request, limits)?;
-    run_workers::<Brand, R, G>(rt, board, workers, gate)
+    run_build::<Brand, R, G>(rt, alloc, board, workers, gate)
 }

@@ -1,19 +1,19 @@
 -- Commands as far as they were read, and what is left of them.
-use Rattle.std.proofs.Common.{◌≡◌, ℕ, Bool, true, false, ◌||◌, List, [], ◌∷◌, ◌++◌, Option, Some, None, Result, Ok, Err}
-use Rattle.std.proofs.Common.{refl, sym, ap, ◌∙◌, subst, append_assoc}
+use Rattle.std.proofs.Common.{◌≡◌, ◌⊎◌, ℕ, Bool, true, false, ◌||◌, List, [], ◌∷◌, ◌++◌, Option, Some, None, Result, Ok, Err}
+use Rattle.std.proofs.Common.{refl, sym, ap, ◌∙◌, subst, append_assoc, inl, inr}
+use Rattle.redo_script.specs.Faults.{◌>>=◌}
 use Rattle.std.proofs.lemmas.List.{append-nil}
 use Rattle.redo_script.specs.declared.fault.ScriptFault.{ScriptFault}
 use Rattle.redo_script.specs.declared.fault.Reason.TheVariants as reasons
 use Rattle.redo_script.specs.Syntax.{Word, Redirection, Command, Condition}
 use Rattle.redo_script.specs.Tokens.{Token, word, redirect}
 use Rattle.redo_script.specs.Grammar.{Item, command_form, condition_form, AtSeparator, IsItems, none_left, one_item}
-use Rattle.redo_script.specs.Grammar.{redirected}
-use Rattle.redo_script.specs.Parsing.{Begun, begun, or_shape, is_unfinished, with_word, with_redirect, no_redirection}
-use Rattle.redo_script.specs.Parsing.{ended_command, ended_condition}
+use Rattle.redo_script.specs.Grammar.{redirected, knows}
+use Rattle.redo_script.specs.Parsing.{Begun, begun, or_shape, if_known, is_unfinished, with_word, with_redirect}
+use Rattle.redo_script.specs.Parsing.{no_redirection, ended_command, ended_condition}
 use Rattle.redo_script.specs.Refusals.{in_line, HasNoForm, HasNoTest}
-use Rattle.redo_script.proofs.BitLemmas.{never}
 use Rattle.redo_script.proofs.NameLemmas.{item, none_some}
-use Rattle.redo_script.proofs.FoundScriptLemmas.{Takes, TakesOf, state, word_continues, redirect_continues, shape_ok}
+use Rattle.redo_script.proofs.FoundScriptLemmas.{Takes, TakesOf, state, word_continues, redirect_continues, formed_ok}
 use Rattle.redo_script.proofs.FoundScriptLemmas.{takes_end}
 
 items_word : {us rest : List Token} {others : List Item} {r : Option Redirection} (k : ℕ) (p : Bool) (w : Word) (ts : List Token) → IsItems us others r rest → us ≡ word k p w ∷ ts → (more : List Item) × (others ≡ item p w ∷ more) × IsItems ts more r rest
@@ -114,69 +114,108 @@ goes_redirect {b} {ts} {rest} k a g =
       gives = λ items r end x. d items r end (g.gives items r end x);
     }
 
--- the command ends well
-pub record EndsWell (b : Begun) (ts rest : List Token) (name : Item) (c : Command) : Type 0 where
+-- the command ends well, where these names are bound
+pub record EndsWell (names : List (List ℕ)) (ts rest : List Token) (name : Item) (c : Command) : Type 0 where
   pub items : List Item
   pub r : Option Redirection
   pub is : IsItems ts items r rest
   pub form : command_form name items r ≡ Some c
+  pub known : knows names items r ≡ true
 
-pub ends_well : {b : Begun} {ts rest : List Token} {name : Item} {line : ℕ} (c : Command) → IsBegun b ts rest name line → AtSeparator rest → ended_command b ≡ Ok c → EndsWell b ts rest name c
-ends_well {b} {ts} {rest} {name} c g a h =
-    let form = shape_ok b.line (is_unfinished b) (command_form b.name b.items b.redirection) c h in
+pub ends_well : {names : List (List ℕ)} {b : Begun} {ts rest : List Token} {name : Item} {line : ℕ} (c : Command) → IsBegun b ts rest name line → AtSeparator rest → ended_command names b ≡ Ok c → EndsWell names ts rest name c
+ends_well {names} {b} {ts} {rest} {name} c g a h =
+    let form = formed_ok b.line (is_unfinished b) (command_form b.name b.items b.redirection) (knows names b.items b.redirection) c h in
     record {
       items = b.items;
       r = b.redirection;
       is = g.takes b.items b.redirection rest (takes_end b.is_ill b.awaits b.redirection b.items rest a form.0);
       form = subst (λ (x : Item). command_form x b.items b.redirection ≡ Some c) g.name_is form.1;
+      known = form.2;
     }
 
-pub record EndsTest (b : Begun) (ts rest : List Token) (name : Item) (c : Condition) : Type 0 where
+pub record EndsTest (names : List (List ℕ)) (ts rest : List Token) (name : Item) (c : Condition) : Type 0 where
   pub items : List Item
   pub is : IsItems ts items None rest
   pub form : condition_form name items ≡ Some c
+  pub known : knows names items None ≡ true
 
 pub no_redirection_is : (r : Option Redirection) (o : Option Condition) (c : Condition) → no_redirection r o ≡ Some c → (r ≡ None) × (o ≡ Some c)
 no_redirection_is None o c h = (refl, h)
 no_redirection_is (Some r) o c h = none_some h
 
-pub ends_test : {b : Begun} {ts rest : List Token} {name : Item} {line : ℕ} (c : Condition) → IsBegun b ts rest name line → AtSeparator rest → ended_condition b ≡ Ok c → EndsTest b ts rest name c
-ends_test {b} {ts} {rest} {name} c g a h =
-    let form = shape_ok b.line (is_unfinished b) (no_redirection b.redirection (condition_form b.name b.items)) c h in
+pub ends_test : {names : List (List ℕ)} {b : Begun} {ts rest : List Token} {name : Item} {line : ℕ} (c : Condition) → IsBegun b ts rest name line → AtSeparator rest → ended_condition names b ≡ Ok c → EndsTest names ts rest name c
+ends_test {names} {b} {ts} {rest} {name} c g a h =
+    let form = formed_ok b.line (is_unfinished b) (no_redirection b.redirection (condition_form b.name b.items)) (knows names b.items b.redirection) c h in
     let n = no_redirection_is b.redirection (condition_form b.name b.items) c form.1 in
     record {
       items = b.items;
       is = subst (λ (x : Option Redirection). IsItems ts b.items x rest) n.0 (g.takes b.items b.redirection rest (takes_end b.is_ill b.awaits b.redirection b.items rest a form.0));
       form = subst (λ (x : Item). condition_form x b.items ≡ Some c) g.name_is n.1;
+      known = subst (λ (x : Option Redirection). knows names b.items x ≡ true) n.0 form.2;
     }
 
--- the command ends ill
-abbrev pub IsShape : {A : Type 0} → ℕ → Result A ScriptFault → Type 0
-IsShape line (Ok x) = Unit {0}
-IsShape line (Err f) = f ≡ in_line line reasons.Shape
+-- what ends ill has no form, or a name in it isn't bound
+pub formed_err : {A : Type 0} (l : ℕ) (ill : Bool) (o : Option A) (known : Bool) (f : ScriptFault) → (or_shape l ill o >>= if_known l known) ≡ Err f → ((f ≡ in_line l reasons.Shape) × (ill ≡ false → (x : A) → o ≡ Some x → ⊥)) ⊎ ((f ≡ in_line l reasons.Unsupported) × (ill ≡ false) × ((x : A) × (o ≡ Some x)) × (known ≡ false))
+formed_err l true o known f h = inl (cc h, λ e x n. cc e)
+formed_err l false None known f h = inl (cc h, λ e x n. none_some n)
+formed_err l false (Some y) true f h = absurd (cc h)
+formed_err l false (Some y) false f h = inr (cc h, refl, (y, refl), refl)
 
-pub shape_is : {A : Type 0} (line : ℕ) (ill : Bool) (o : Option A) → IsShape line (or_shape line ill o)
-shape_is line true o = refl
-shape_is line false None = refl
-shape_is line false (Some x) = tt
+-- a command in which a name isn't bound
+pub record EndsUnbound (names : List (List ℕ)) (ts rest : List Token) (name : Item) : Type 0 where
+  pub items : List Item
+  pub r : Option Redirection
+  pub c : Command
+  pub is : IsItems ts items r rest
+  pub form : command_form name items r ≡ Some c
+  pub unknown : knows names items r ≡ false
 
-shape_never : {A : Type 0} (line : ℕ) (ill : Bool) (o : Option A) (x : A) (f : ScriptFault) → or_shape line ill o ≡ Err f → ill ≡ false → o ≡ Some x → ⊥
-shape_never line ill o x f h i s = never (sym (rw (i, s) at h))
+pub ends_ill : {names : List (List ℕ)} {b : Begun} {ts rest : List Token} {name : Item} {line : ℕ} (f : ScriptFault) → IsBegun b ts rest name line → AtSeparator rest → ended_command names b ≡ Err f → ((f ≡ in_line line reasons.Shape) × HasNoForm name ts) ⊎ ((f ≡ in_line line reasons.Unsupported) × EndsUnbound names ts rest name)
+ends_ill {names} {b} {ts} {rest} {name} {line} f g a h = elim (formed_err b.line (is_unfinished b) (command_form b.name b.items b.redirection) (knows names b.items b.redirection) f h) [
+  | inl i ↦ inl (
+    rw g.line_is at i.0,
+    λ items r end c is form.
+        let t = takes_at b.is_ill b.awaits b.redirection b.items rest items r end (g.gives items r end is) a in
+        i.1 t.0 c (rw (g.name_is, sym t.1, sym t.2) form),
+  )
+  | inr u ↦ inr (
+    rw g.line_is at u.0,
+    record {
+      items = b.items;
+      r = b.redirection;
+      c = u.2.0;
+      is = g.takes b.items b.redirection rest (takes_end b.is_ill b.awaits b.redirection b.items rest a u.1);
+      form = subst (λ (x : Item). command_form x b.items b.redirection ≡ Some u.2.0) g.name_is u.2.1;
+      unknown = u.3;
+    },
+  )
+]
 
-pub ends_ill : {b : Begun} {ts rest : List Token} {name : Item} {line : ℕ} (f : ScriptFault) → IsBegun b ts rest name line → AtSeparator rest → ended_command b ≡ Err f → (f ≡ in_line line reasons.Shape) × HasNoForm name ts
-ends_ill {b} {ts} {rest} {name} {line} f g a h =
-    let shape : f ≡ in_line b.line reasons.Shape = rw h at (shape_is b.line (is_unfinished b) (command_form b.name b.items b.redirection)) in (
-      rw g.line_is at shape,
-      λ items r end c is form.
-          let t = takes_at b.is_ill b.awaits b.redirection b.items rest items r end (g.gives items r end is) a in
-          shape_never b.line (is_unfinished b) (command_form b.name b.items b.redirection) c f h t.0 (rw (g.name_is, sym t.1, sym t.2) form),
-    )
+pub record TestUnbound (names : List (List ℕ)) (ts rest : List Token) (name : Item) : Type 0 where
+  pub items : List Item
+  pub c : Condition
+  pub is : IsItems ts items None rest
+  pub form : condition_form name items ≡ Some c
+  pub unknown : knows names items None ≡ false
 
-pub test_ill : {b : Begun} {ts rest : List Token} {name : Item} {line : ℕ} (f : ScriptFault) → IsBegun b ts rest name line → AtSeparator rest → ended_condition b ≡ Err f → (f ≡ in_line line reasons.Shape) × HasNoTest name ts
-test_ill {b} {ts} {rest} {name} {line} f g a h =
-    let shape : f ≡ in_line b.line reasons.Shape = rw h at (shape_is b.line (is_unfinished b) (no_redirection b.redirection (condition_form b.name b.items))) in (
-      rw g.line_is at shape,
-      λ items end c is form.
-          let t = takes_at b.is_ill b.awaits b.redirection b.items rest items None end (g.gives items None end is) a in
-          shape_never b.line (is_unfinished b) (no_redirection b.redirection (condition_form b.name b.items)) c f h t.0 (rw (sym t.2, g.name_is, sym t.1) form),
-    )
+pub test_ill : {names : List (List ℕ)} {b : Begun} {ts rest : List Token} {name : Item} {line : ℕ} (f : ScriptFault) → IsBegun b ts rest name line → AtSeparator rest → ended_condition names b ≡ Err f → ((f ≡ in_line line reasons.Shape) × HasNoTest name ts) ⊎ ((f ≡ in_line line reasons.Unsupported) × TestUnbound names ts rest name)
+test_ill {names} {b} {ts} {rest} {name} {line} f g a h = elim (formed_err b.line (is_unfinished b) (no_redirection b.redirection (condition_form b.name b.items)) (knows names b.items b.redirection) f h) [
+  | inl i ↦ inl (
+    rw g.line_is at i.0,
+    λ items end c is form.
+        let t = takes_at b.is_ill b.awaits b.redirection b.items rest items None end (g.gives items None end is) a in
+        i.1 t.0 c (rw (sym t.2, g.name_is, sym t.1) form),
+  )
+  | inr u ↦
+      let n = no_redirection_is b.redirection (condition_form b.name b.items) u.2.0 u.2.1 in
+      inr (
+        rw g.line_is at u.0,
+        record {
+          items = b.items;
+          c = u.2.0;
+          is = subst (λ (x : Option Redirection). IsItems ts b.items x rest) n.0 (g.takes b.items b.redirection rest (takes_end b.is_ill b.awaits b.redirection b.items rest a u.1));
+          form = subst (λ (x : Item). condition_form x b.items ≡ Some u.2.0) g.name_is n.1;
+          unknown = subst (λ (x : Option Redirection). knows names b.items x ≡ false) n.0 u.3;
+        },
+      )
+]

@@ -7,19 +7,20 @@ use Rattle.redo_script.specs.declared.lexer.Mode.{Mode}
 use Rattle.redo_script.specs.declared.lexer.Mode.TheVariants as modes
 use Rattle.redo_script.specs.declared.ast.Parameter.{Parameter}
 use Rattle.redo_script.specs.declared.ast.Parameter.TheVariants.{One, Two, Three}
-use Rattle.redo_script.specs.Bytes.{is_digit, is_plain, is_blank}
-use Rattle.redo_script.specs.Syntax.{byte, quoted, bare, Word}
+use Rattle.redo_script.specs.Bytes.{is_digit, is_plain, is_blank, begins_name, continues_name}
+use Rattle.redo_script.specs.Syntax.{byte, quoted, bare, named_quoted, named_bare, Word}
 use Rattle.redo_script.specs.Tokens.{Token, word, semicolon, newline, redirect, Names, one, two, three, IsGap}
 use Rattle.redo_script.specs.Tokens.{IsComment, IsWord, IsSingle, IsDouble, AreTokens, IsNotBefore, begins_word}
 use Rattle.redo_script.specs.Tokens.{ends_word, is_escaped, line_after, numbers_redirection, digits_then, nothing}
 use Rattle.redo_script.specs.Tokens.{blank, line_end, comment, separator, truncates, appends, a_word, at_end, goes_on}
 use Rattle.redo_script.specs.Tokens.{at_newline, ends, plain, opens_single, opens_double, parameter, closes, stands}
-use Rattle.redo_script.specs.Tokens.{closes_double, stands_double, in_double, escapes, backslash}
+use Rattle.redo_script.specs.Tokens.{closes_double, stands_double, in_double, escapes, backslash, by_name}
+use Rattle.redo_script.specs.Tokens.{by_name_in_double, EndsName, ends_here, one_more}
 use Rattle.redo_script.specs.Reading.{Reader, read_on, tokens_of, at_start, at_end as text_end}
 use Rattle.redo_script.proofs.BitLemmas.{never, injected, not_same, and_true, and_false, number_back}
 use Rattle.redo_script.proofs.OneByteLemmas
 use Rattle.redo_script.proofs.OneByteLemmas.{at, ill, token_more, word_more, symbol_more, byte_more, word_begun}
-use Rattle.redo_script.proofs.OneByteLemmas.{opened_at}
+use Rattle.redo_script.proofs.OneByteLemmas.{opened_at, name_begun, name_more, name_ended, quoted_name_ended}
 
 -- From this place on the bytes have tokens by the grammar, and behind those so far they are ts.
 record InGap (l : ℕ) (r : Reader) (bs : List ℕ) (ts : List Token) : Type 0 where
@@ -59,6 +60,26 @@ record InDouble (l : ℕ) (r : Reader) (bs : List ℕ) (ts : List Token) : Type 
   is : IsDouble l bs w more
   all : r.tokens ++ word r.word_line false (r.word ++ w) ∷ more ≡ ts
 
+-- the same in a name
+record InName (l : ℕ) (r : Reader) (bs : List ℕ) (ts : List Token) : Type 0 where
+  name : List ℕ
+  rest : List ℕ
+  w : Word
+  p : Bool
+  more : List Token
+  is_name : EndsName bs name rest
+  is : IsWord l rest w p more
+  all : r.tokens ++ word r.word_line false (r.word ++ named_bare (r.name ++ name) ∷ w) ∷ more ≡ ts
+
+record InQuotedName (l : ℕ) (r : Reader) (bs : List ℕ) (ts : List Token) : Type 0 where
+  name : List ℕ
+  rest : List ℕ
+  w : Word
+  more : List Token
+  is_name : EndsName bs name rest
+  is : IsDouble l rest w more
+  all : r.tokens ++ word r.word_line false (r.word ++ named_quoted (r.name ++ name) ∷ w) ∷ more ≡ ts
+
 abbrev After : Mode → ℕ → Reader → List ℕ → List Token → Type 0
 After modes.Gap l r bs ts = InGap l r bs ts
 After modes.Semicolon l r bs ts = IsNotBefore 59 bs × InGap l r bs ts
@@ -66,9 +87,11 @@ After modes.Redirect l r bs ts = InGap l r (62 ∷ bs) ts
 After modes.Comment l r bs ts = InComment l r bs ts
 After modes.Word l r bs ts = InWord l r bs ts
 After modes.Dollar l r bs ts = InDollar l r bs ts
+After modes.Name l r bs ts = InName l r bs ts
 After modes.Single l r bs ts = InSingle l r bs ts
 After modes.Double l r bs ts = InDouble l r bs ts
 After modes.QuotedDollar l r bs ts = InDouble l r (36 ∷ bs) ts
+After modes.QuotedName l r bs ts = InQuotedName l r bs ts
 After modes.Escape l r bs ts = InDouble l r (92 ∷ bs) ts
 
 -- within quotes and behind $ the word isn't plain bytes alone
@@ -79,9 +102,11 @@ seen modes.Redirect r = r
 seen modes.Comment r = r
 seen modes.Word r = r
 seen modes.Dollar r = ill r
+seen modes.Name r = ill r
 seen modes.Single r = ill r
 seen modes.Double r = ill r
 seen modes.QuotedDollar r = ill r
+seen modes.QuotedName r = ill r
 seen modes.Escape r = ill r
 
 abbrev Found : List ℕ → Type 0
@@ -105,9 +130,11 @@ at_once modes.Redirect l r ts h = record { more = redirect l false ∷ []; is = 
 at_once modes.Comment l r ts h = record { more = []; is = at_end; all = append-nil r.tokens ∙ injected h }
 at_once modes.Word l r ts h = record { w = []; p = true; more = []; is = ends tt nothing; number = and_false r.is_number; all = rw (and_true r.is_plain, append-nil r.word) (injected h) }
 at_once modes.Dollar l r ts h = never h
+at_once modes.Name l r ts h = record { name = []; rest = []; w = []; p = true; more = []; is_name = ends_here tt; is = ends tt nothing; all = rw (append-nil r.name) (injected h) }
 at_once modes.Single l r ts h = never h
 at_once modes.Double l r ts h = never h
 at_once modes.QuotedDollar l r ts h = never h
+at_once modes.QuotedName l r ts h = never h
 at_once modes.Escape l r ts h = never h
 
 -- a byte that a word goes on with
@@ -212,6 +239,30 @@ word_in b bs f l r ts h = elim (cases_Bool (ends_word b)) [
   ]
 ]
 
+-- one more byte of a name
+name_in : {r : Reader} {bs : List ℕ} (b : ℕ) {l : ℕ} {ts : List Token} → continues_name b ≡ true → InName l (name_more r (b ∷ [])) bs ts → InName l r (b ∷ bs) ts
+name_in {r} b e g = record {
+  name = b ∷ g.name;
+  rest = g.rest;
+  w = g.w;
+  p = g.p;
+  more = g.more;
+  is_name = one_more e g.is_name;
+  is = g.is;
+  all = ap (λ (n : List ℕ). r.tokens ++ word r.word_line false (r.word ++ named_bare n ∷ g.w) ∷ g.more) (sym (append_assoc r.name (b ∷ []) g.name)) ∙ g.all;
+}
+
+quoted_name_in : {r : Reader} {bs : List ℕ} (b : ℕ) {l : ℕ} {ts : List Token} → continues_name b ≡ true → InQuotedName l (name_more r (b ∷ [])) bs ts → InQuotedName l r (b ∷ bs) ts
+quoted_name_in {r} b e g = record {
+  name = b ∷ g.name;
+  rest = g.rest;
+  w = g.w;
+  more = g.more;
+  is_name = one_more e g.is_name;
+  is = g.is;
+  all = ap (λ (n : List ℕ). r.tokens ++ word r.word_line false (r.word ++ named_quoted n ∷ g.w) ∷ g.more) (sym (append_assoc r.name (b ∷ []) g.name)) ∙ g.all;
+}
+
 -- which parameter a byte names
 named : (b : ℕ) → ((k : Parameter) × Names b k) ⊎ ((b ≢ 49) × (b ≢ 50) × (b ≢ 51))
 named b = elim (cases_eq b 49) [
@@ -291,7 +342,28 @@ dollar_in b bs f l r ts h = elim (named b) [
   | inl k ↦
       let g = f modes.Word l (symbol_more (ill r) (bare k.0)) ts (sym (OneByteLemmas.dollar_named l (ill r) b k.0 bs k.1) ∙ h) in
       record { w = bare k.0 ∷ g.w; more = g.more; is = parameter refl k.1 g.is; all = symbols_in r false (bare k.0 ∷ []) g.w g.more ts g.all }
-  | inr n ↦ never (sym (OneByteLemmas.dollar_other l (ill r) b bs n.0 n.1 n.2) ∙ h)
+  | inr n ↦ elim (cases_Bool (begins_name b)) [
+    | inl e ↦
+        let g = f modes.Name l (name_begun r b) ts (sym (OneByteLemmas.dollar_name l (ill r) b bs e) ∙ h) in
+        record { w = named_bare (b ∷ g.name) ∷ g.w; more = g.more; is = by_name refl e g.is_name g.is; all = g.all }
+    | inr e ↦ never (sym (OneByteLemmas.dollar_other l (ill r) b bs e n.0 n.1 n.2) ∙ h)
+  ]
+]
+
+name_goes : (b : ℕ) (bs : List ℕ) → Found bs → (l : ℕ) (r : Reader) (ts : List Token) → read_on (at modes.Name l (ill r)) (b ∷ bs) ≡ Ok ts → InName l r (b ∷ bs) ts
+name_goes b bs f l r ts h = elim (cases_Bool (continues_name b)) [
+  | inl e ↦ name_in b e (f modes.Name l (name_more r (b ∷ [])) ts (sym (OneByteLemmas.name_byte l (ill r) b bs e) ∙ h))
+  | inr e ↦
+      let g = word_in b bs f l (name_ended (ill r)) ts (sym (OneByteLemmas.name_ends l (ill r) (b ∷ bs) e) ∙ h) in
+      record { name = []; rest = b ∷ bs; w = g.w; p = g.p; more = g.more; is_name = ends_here e; is = g.is; all = rw (append-nil r.name) (symbols_in r false (named_bare r.name ∷ []) g.w g.more ts g.all) }
+]
+
+quoted_name_goes : (b : ℕ) (bs : List ℕ) → Found bs → (l : ℕ) (r : Reader) (ts : List Token) → read_on (at modes.QuotedName l (ill r)) (b ∷ bs) ≡ Ok ts → InQuotedName l r (b ∷ bs) ts
+quoted_name_goes b bs f l r ts h = elim (cases_Bool (continues_name b)) [
+  | inl e ↦ quoted_name_in b e (f modes.QuotedName l (name_more r (b ∷ [])) ts (sym (OneByteLemmas.quoted_name_byte l (ill r) b bs e) ∙ h))
+  | inr e ↦
+      let g = double_in b bs f l (quoted_name_ended r) ts (sym (OneByteLemmas.quoted_name_ends l (ill r) (b ∷ bs) e) ∙ h) in
+      record { name = []; rest = b ∷ bs; w = g.w; more = g.more; is_name = ends_here e; is = g.is; all = rw (append-nil r.name) (symbols_in r false (named_quoted r.name ∷ []) g.w g.more ts g.all) }
 ]
 
 quoted_dollar_in : (b : ℕ) (bs : List ℕ) → Found bs → (l : ℕ) (r : Reader) (ts : List Token) → read_on (at modes.QuotedDollar l (ill r)) (b ∷ bs) ≡ Ok ts → InDouble l r (36 ∷ b ∷ bs) ts
@@ -299,7 +371,12 @@ quoted_dollar_in b bs f l r ts h = elim (named b) [
   | inl k ↦
       let g = f modes.Double l (symbol_more r (quoted k.0)) ts (sym (OneByteLemmas.quoted_dollar_named l (ill r) b k.0 bs k.1) ∙ h) in
       record { w = quoted k.0 ∷ g.w; more = g.more; is = in_double refl k.1 g.is; all = symbols_in r false (quoted k.0 ∷ []) g.w g.more ts g.all }
-  | inr n ↦ never (sym (OneByteLemmas.quoted_dollar_other l (ill r) b bs n.0 n.1 n.2) ∙ h)
+  | inr n ↦ elim (cases_Bool (begins_name b)) [
+    | inl e ↦
+        let g = f modes.QuotedName l (name_begun r b) ts (sym (OneByteLemmas.quoted_dollar_name l (ill r) b bs e) ∙ h) in
+        record { w = named_quoted (b ∷ g.name) ∷ g.w; more = g.more; is = by_name_in_double refl e g.is_name g.is; all = g.all }
+    | inr e ↦ never (sym (OneByteLemmas.quoted_dollar_other l (ill r) b bs e n.0 n.1 n.2) ∙ h)
+  ]
 ]
 
 semicolon_in : (b : ℕ) (bs : List ℕ) → Found bs → (l : ℕ) (r : Reader) (ts : List Token) → read_on (at modes.Semicolon l r) (b ∷ bs) ≡ Ok ts → (b ≢ 59) × InGap l r (b ∷ bs) ts
@@ -315,9 +392,11 @@ one_byte b bs f modes.Redirect = redirect_in b bs f
 one_byte b bs f modes.Comment = comment_in b bs f
 one_byte b bs f modes.Word = word_in b bs f
 one_byte b bs f modes.Dollar = dollar_in b bs f
+one_byte b bs f modes.Name = name_goes b bs f
 one_byte b bs f modes.Single = single_in b bs f
 one_byte b bs f modes.Double = double_in b bs f
 one_byte b bs f modes.QuotedDollar = quoted_dollar_in b bs f
+one_byte b bs f modes.QuotedName = quoted_name_goes b bs f
 one_byte b bs f modes.Escape = escape_in b bs f
 
 found : (bs : List ℕ) → Found bs

@@ -7,15 +7,16 @@ use Rattle.redo_script.specs.declared.ast.Parameter.{Parameter}
 use Rattle.redo_script.specs.declared.lexer.Mode.{Mode}
 use Rattle.redo_script.specs.declared.lexer.Mode.TheVariants as modes
 use Rattle.redo_script.specs.Faults.{◌>>=◌, Fails}
-use Rattle.redo_script.specs.Syntax.{Script, Symbol, bare, quoted}
+use Rattle.redo_script.specs.Syntax.{Script, Symbol, bare, quoted, named_bare, named_quoted}
 use Rattle.redo_script.specs.Tokens.{Token, word, semicolon, newline, redirect, ends_word, is_escaped}
-use Rattle.redo_script.specs.Bytes.{is_plain, is_blank}
+use Rattle.redo_script.specs.Bytes.{is_plain, is_blank, begins_name, continues_name}
 use Rattle.redo_script.specs.declared.parser.Statements.{Statements}
 use Rattle.redo_script.specs.inside.Passes.{IsOn, Follows}
 use Rattle.redo_script.specs.inside.Lexer.{with_no_tokens}
 use Rattle.redo_script.specs.Parsing.{statements_of}
 use Rattle.std.proofs.lemmas.List.{append-nil}
 use Rattle.redo_script.specs.Reading.{tokens_of, Reader, with_token, unsupported, with_begun_word, word_byte, gap_byte}
+use Rattle.redo_script.specs.Reading.{in_double, with_symbol, with_name, with_name_byte}
 use Rattle.redo_script.specs.Reading.{with_word, in_word, with_parameter, parameter_named, by_mode, next_byte}
 use Rattle.redo_script.specs.Reading.{end_by_mode, at_end, read_on}
 
@@ -82,6 +83,22 @@ module _ (ts : List Token) where
   parameter_over r m symbol None = refl
   parameter_over r m symbol (Some p) = refl
 
+  double_over : (r : Reader) (b : ℕ) → in_double (over ts r) b ≡ over_any ts (in_double r b)
+  double_over r b = elim (cases_Bool (b == 34)) [
+    | inl e ↦ rw e refl
+    | inr e ↦ elim (cases_Bool (b == 36)) [
+      | inl f ↦ rw (e, f) refl
+      | inr f ↦ elim (cases_Bool (b == 92)) [
+        | inl g ↦ rw (e, f, g) refl
+        | inr g ↦ elim (cases_Bool (b == 96)) [ inl h ↦ rw (e, f, g, h) refl | inr h ↦ rw (e, f, g, h) refl ]
+      ]
+    ]
+  ]
+
+  -- a byte behind `$`, which begins a name or is a parameter's digit
+  dollar_over : (r : Reader) (n m : Mode) (symbol : Parameter → Symbol) (b : ℕ) → cond (begins_name b) (Ok (with_name (over ts r) n b)) (with_parameter (over ts r) m symbol (parameter_named b)) ≡ over_any ts (cond (begins_name b) (Ok (with_name r n b)) (with_parameter r m symbol (parameter_named b)))
+  dollar_over r n m symbol b = choose (begins_name b) (Ok (with_name r n b)) (Ok (with_name (over ts r) n b)) (with_parameter r m symbol (parameter_named b)) (with_parameter (over ts r) m symbol (parameter_named b)) refl (parameter_over r m symbol (parameter_named b))
+
   mode_over : (m : Mode) (r : Reader) (b : ℕ) → by_mode m (over ts r) b ≡ over_any ts (by_mode m r b)
   mode_over modes.Gap r b = gap_over r b
   mode_over modes.Semicolon r b = choose (b == 59) (unsupported r) (unsupported (over ts r)) (gap_byte r b) (gap_byte (over ts r) b) refl (gap_over r b)
@@ -92,19 +109,16 @@ module _ (ts : List Token) where
       choose (b == 62) appends appends' (gap_byte (with_token r truncated) b) (gap_byte (with_token (over ts r) truncated) b) (ap (λ q. Ok q) (token_over r (redirect r.line true))) (ap (λ q. gap_byte q b) (token_over r truncated) ∙ gap_over (with_token r truncated) b)
   mode_over modes.Comment r b = choose (b == 10) (gap_byte r b) (gap_byte (over ts r) b) (Ok r) (Ok (over ts r)) (gap_over r b) refl
   mode_over modes.Word r b = in_word_over r b
-  mode_over modes.Dollar r b = parameter_over r modes.Word bare (parameter_named b)
+  mode_over modes.Dollar r b = dollar_over r modes.Name modes.Word bare b
+  mode_over modes.Name r b =
+      let ended : Reader = with_symbol r modes.Word (named_bare r.name) in
+      choose (continues_name b) (Ok (with_name_byte r b)) (Ok (with_name_byte (over ts r) b)) (in_word ended b) (in_word (over ts ended) b) refl (in_word_over ended b)
   mode_over modes.Single r b = elim (cases_Bool (b == 39)) [ inl e ↦ rw e refl | inr e ↦ rw e refl ]
-  mode_over modes.Double r b = elim (cases_Bool (b == 34)) [
-    | inl e ↦ rw e refl
-    | inr e ↦ elim (cases_Bool (b == 36)) [
-      | inl f ↦ rw (e, f) refl
-      | inr f ↦ elim (cases_Bool (b == 92)) [
-        | inl g ↦ rw (e, f, g) refl
-        | inr g ↦ elim (cases_Bool (b == 96)) [ inl h ↦ rw (e, f, g, h) refl | inr h ↦ rw (e, f, g, h) refl ]
-      ]
-    ]
-  ]
-  mode_over modes.QuotedDollar r b = parameter_over r modes.Double quoted (parameter_named b)
+  mode_over modes.Double r b = double_over r b
+  mode_over modes.QuotedDollar r b = dollar_over r modes.QuotedName modes.Double quoted b
+  mode_over modes.QuotedName r b =
+      let ended : Reader = with_symbol r modes.Double (named_quoted r.name) in
+      choose (continues_name b) (Ok (with_name_byte r b)) (Ok (with_name_byte (over ts r) b)) (in_double ended b) (in_double (over ts ended) b) refl (double_over ended b)
   mode_over modes.Escape r b = elim (cases_Bool (b == 10)) [
     | inl e ↦ rw e refl
     | inr e ↦ elim (cases_Bool (is_escaped b)) [ inl f ↦ rw (e, f) refl | inr f ↦ rw (e, f) refl ]
@@ -116,8 +130,10 @@ module _ (ts : List Token) where
   end_over modes.Comment r = refl
   end_over modes.Redirect r = ap (λ us. Ok us) (append_assoc ts r.tokens (redirect r.line false ∷ []))
   end_over modes.Word r = ap (λ us. Ok us) (append_assoc ts r.tokens (word r.word_line r.is_plain r.word ∷ []))
+  end_over modes.Name r = ap (λ us. Ok us) (append_assoc ts r.tokens (word r.word_line r.is_plain (r.word ++ named_bare r.name ∷ []) ∷ []))
   end_over modes.Dollar r = refl
   end_over modes.QuotedDollar r = refl
+  end_over modes.QuotedName r = refl
   end_over modes.Single r = refl
   end_over modes.Double r = refl
   end_over modes.Escape r = refl

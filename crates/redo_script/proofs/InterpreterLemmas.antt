@@ -2,7 +2,8 @@
 use Rattle.std.proofs.Common.{◌≡◌, ◌≢◌, ℕ, true, false, ◌&&◌, ◌==◌, List, [], ◌∷◌, ◌++◌, refl, inl, inr}
 use Rattle.std.specs.Prelude.{codes}
 use Rattle.std.proofs.lemmas.Bool.{cases_Bool, eqb-true, and_parts, both_ways}
-use Rattle.redo_script.specs.Texts.{same_bytes, first_line, interpreter_is_fit}
+use Rattle.redo_script.specs.Bytes.{same_bytes}
+use Rattle.redo_script.specs.Texts.{first_line, interpreter_is_fit}
 
 pub no_interpreter : (text : List ℕ) → ((rest : List ℕ) → text ≢ codes "#!" ++ rest) → interpreter_is_fit text ≡ true
 no_interpreter [] h = refl

@@ -15,6 +15,7 @@ pub mod OneFaultLemmas
 pub mod OneTokenLemmas
 pub mod OnlyScriptLemmas
 pub mod OnlyTokenLemmas
+pub mod OpenLemmas
 pub mod OpenQuoteLemmas
 pub mod QuotedRunLemmas
 pub mod ReadTextLemmas

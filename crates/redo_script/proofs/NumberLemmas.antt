@@ -5,7 +5,7 @@ use Rattle.std.specs.Prelude.{nat_le}
 use Rattle.std.proofs.lemmas.Bool.{cases_Bool}
 use Rattle.std.proofs.lemmas.Bool.Decides.{nat_tests}
 use Rattle.redo_script.specs.Bytes.{is_digit}
-use Rattle.redo_script.specs.Syntax.{byte, quoted, bare, Word}
+use Rattle.redo_script.specs.Syntax.{byte, quoted, bare, named_quoted, named_bare, Word}
 use Rattle.redo_script.specs.Grammar.{at_most, digits_value}
 use Rattle.redo_script.specs.inside.Parser.{status_on}
 
@@ -20,6 +20,8 @@ stays_large n (byte b ∷ w) h = elim (cases_Bool (is_digit b)) [
 ]
 stays_large n (quoted p ∷ w) h = refl
 stays_large n (bare p ∷ w) h = refl
+stays_large n (named_quoted k ∷ w) h = refl
+stays_large n (named_bare k ∷ w) h = refl
 
 either_none : (b : Bool) (o : Option ℕ) → o ≡ None → (if b then o else None) ≡ None
 either_none true o e = e

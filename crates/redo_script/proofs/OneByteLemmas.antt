@@ -1,18 +1,19 @@
 -- What one byte does to reading, by the place where it stands.
 use Rattle.std.proofs.Common.{◌≡◌, ◌≢◌, ℕ, suc, Bool, true, false, ◌&&◌, ◌||◌, ◌==◌, List, [], ◌∷◌, ◌++◌, Ok, Some}
-use Rattle.std.proofs.Common.{refl, sym, ap, add-one}
+use Rattle.std.proofs.Common.{refl, sym, ap, add-one, ◌∙◌, append_assoc, inl, inr}
 use Rattle.std.specs.Prelude.{codes}
 use Rattle.std.proofs.lemmas.List.{append-nil}
-use Rattle.std.proofs.lemmas.Bool.{ne_eqb, or_parts}
+use Rattle.std.proofs.lemmas.Bool.{ne_eqb, or_parts, cases_eq}
 use Rattle.redo_script.specs.declared.fault.Reason.TheVariants as reasons
 use Rattle.redo_script.specs.declared.lexer.Mode.{Mode}
 use Rattle.redo_script.specs.declared.lexer.Mode.TheVariants as modes
 use Rattle.redo_script.specs.declared.ast.Parameter.{Parameter}
-use Rattle.redo_script.specs.Bytes.{is_digit, is_letter, is_among, is_plain, is_blank}
+use Rattle.redo_script.specs.Bytes.{is_digit, is_letter, is_among, is_plain, is_blank, begins_name, continues_name}
 use Rattle.redo_script.specs.Faults.{fault_at}
-use Rattle.redo_script.specs.Syntax.{Symbol, byte, quoted, bare}
+use Rattle.redo_script.specs.Syntax.{Symbol, byte, quoted, bare, named_quoted, named_bare}
 use Rattle.redo_script.specs.Tokens.{Token, word, semicolon, newline, redirect, Names, one, two, three, begins_word}
 use Rattle.redo_script.specs.Tokens.{ends_word, is_escaped, line_after, digits_then, AtWordEnd, IsNotBefore}
+use Rattle.redo_script.specs.Tokens.{AtNameEnd, EndsName, ends_here, one_more}
 use Rattle.redo_script.specs.Reading.{Reader, next_byte, at_end, read_on, parameter_named}
 use Rattle.redo_script.proofs.BitLemmas.{not_same, not_in, no_number}
 
@@ -167,9 +168,67 @@ quoted_dollar_named l r c k bs one = refl
 quoted_dollar_named l r c k bs two = refl
 quoted_dollar_named l r c k bs three = refl
 
+-- a digit that names a parameter begins no name
+digit_named : (c : ℕ) (k : Parameter) → parameter_named c ≡ Some k → begins_name c ≡ false
+digit_named c k e = elim (cases_eq c 49) [
+  | inl e1 ↦ rw e1 refl
+  | inr n1 ↦ elim (cases_eq c 50) [
+    | inl e2 ↦ rw e2 refl
+    | inr n2 ↦ elim (cases_eq c 51) [ inl e3 ↦ rw e3 refl | inr n3 ↦ absurd (cc (rw (ne_eqb c 49 n1, ne_eqb c 50 n2, ne_eqb c 51 n3) at e)) ]
+  ]
+]
+
 pub quoted_dollar_read : (l : ℕ) (r : Reader) (c : ℕ) (k : Parameter) (bs : List ℕ) → parameter_named c ≡ Some k → read_on (at modes.QuotedDollar l r) (c ∷ bs) ≡ read_on (at modes.Double l (symbol_more r (quoted k))) bs
 unfolding read_on next_byte
-quoted_dollar_read l r c k bs e = rw e refl
+quoted_dollar_read l r c k bs e = rw (digit_named c k e, e) refl
+
+-- a name behind `$`
+abbrev pub name_begun : Reader → ℕ → Reader
+name_begun r b = record r { name = b ∷ [] }
+
+abbrev pub name_more : Reader → List ℕ → Reader
+name_more r name = record r { name = r.name ++ name }
+
+-- a name ends
+abbrev pub name_ended : Reader → Reader
+name_ended r = symbol_more r (named_bare r.name)
+
+abbrev pub quoted_name_ended : Reader → Reader
+quoted_name_ended r = symbol_more r (named_quoted r.name)
+
+pub dollar_name : (l : ℕ) (r : Reader) (c : ℕ) (bs : List ℕ) → begins_name c ≡ true → read_on (at modes.Dollar l r) (c ∷ bs) ≡ read_on (at modes.Name l (name_begun r c)) bs
+unfolding read_on next_byte
+dollar_name l r c bs e = rw e refl
+
+pub quoted_dollar_name : (l : ℕ) (r : Reader) (c : ℕ) (bs : List ℕ) → begins_name c ≡ true → read_on (at modes.QuotedDollar l r) (c ∷ bs) ≡ read_on (at modes.QuotedName l (name_begun r c)) bs
+unfolding read_on next_byte
+quoted_dollar_name l r c bs e = rw e refl
+
+pub name_byte : (l : ℕ) (r : Reader) (b : ℕ) (bs : List ℕ) → continues_name b ≡ true → read_on (at modes.Name l r) (b ∷ bs) ≡ read_on (at modes.Name l (name_more r (b ∷ []))) bs
+unfolding read_on next_byte
+name_byte l r b bs e = rw e refl
+
+pub quoted_name_byte : (l : ℕ) (r : Reader) (b : ℕ) (bs : List ℕ) → continues_name b ≡ true → read_on (at modes.QuotedName l r) (b ∷ bs) ≡ read_on (at modes.QuotedName l (name_more r (b ∷ []))) bs
+unfolding read_on next_byte
+quoted_name_byte l r b bs e = rw e refl
+
+pub name_ends : (l : ℕ) (r : Reader) (bs : List ℕ) → AtNameEnd bs → read_on (at modes.Name l r) bs ≡ read_on (at modes.Word l (name_ended r)) bs
+unfolding read_on next_byte at_end
+name_ends l r [] e = refl
+name_ends l r (b ∷ bs) e = rw e refl
+
+pub quoted_name_ends : (l : ℕ) (r : Reader) (bs : List ℕ) → AtNameEnd bs → read_on (at modes.QuotedName l r) bs ≡ read_on (at modes.Double l (quoted_name_ended r)) bs
+unfolding read_on next_byte at_end
+quoted_name_ends l r [] e = refl
+quoted_name_ends l r (b ∷ bs) e = rw e refl
+
+pub name_read : {bs name rest : List ℕ} → EndsName bs name rest → (l : ℕ) (r : Reader) → read_on (at modes.Name l r) bs ≡ read_on (at modes.Word l (name_ended (name_more r name))) rest
+name_read (ends_here {bs} e) l r = name_ends l r bs e ∙ ap (λ (n : List ℕ). read_on (at modes.Word l (name_ended (record r { name = n }))) bs) (sym (append-nil r.name))
+name_read (one_more {b} {bs} {name} {rest} e g) l r = name_byte l r b bs e ∙ (name_read g l (name_more r (b ∷ [])) ∙ ap (λ (n : List ℕ). read_on (at modes.Word l (name_ended (record r { name = n }))) rest) (append_assoc r.name (b ∷ []) name))
+
+pub quoted_name_read : {bs name rest : List ℕ} → EndsName bs name rest → (l : ℕ) (r : Reader) → read_on (at modes.QuotedName l r) bs ≡ read_on (at modes.Double l (quoted_name_ended (name_more r name))) rest
+quoted_name_read (ends_here {bs} e) l r = quoted_name_ends l r bs e ∙ ap (λ (n : List ℕ). read_on (at modes.Double l (quoted_name_ended (record r { name = n }))) bs) (sym (append-nil r.name))
+quoted_name_read (one_more {b} {bs} {name} {rest} e g) l r = quoted_name_byte l r b bs e ∙ (quoted_name_read g l (name_more r (b ∷ [])) ∙ ap (λ (n : List ℕ). read_on (at modes.Double l (quoted_name_ended (record r { name = n }))) rest) (append_assoc r.name (b ∷ []) name))
 
 pub single_closes : (l : ℕ) (r : Reader) (b : ℕ) (bs : List ℕ) → b ≡ 39 → read_on (at modes.Single l r) (b ∷ bs) ≡ read_on (at modes.Word l r) bs
 unfolding read_on next_byte
@@ -217,10 +276,10 @@ pub semicolon_again : (l : ℕ) (r : Reader) (b : ℕ) (bs : List ℕ) → b ≡
 unfolding read_on next_byte
 semicolon_again l r b bs e = rw e refl
 
-pub dollar_other : (l : ℕ) (r : Reader) (b : ℕ) (bs : List ℕ) → b ≢ 49 → b ≢ 50 → b ≢ 51 → read_on (at modes.Dollar l r) (b ∷ bs) ≡ fault_at l reasons.Unsupported
+pub dollar_other : (l : ℕ) (r : Reader) (b : ℕ) (bs : List ℕ) → begins_name b ≡ false → b ≢ 49 → b ≢ 50 → b ≢ 51 → read_on (at modes.Dollar l r) (b ∷ bs) ≡ fault_at l reasons.Unsupported
 unfolding read_on next_byte
-dollar_other l r b bs n1 n2 n3 = rw (ne_eqb b 49 n1, ne_eqb b 50 n2, ne_eqb b 51 n3) refl
+dollar_other l r b bs n0 n1 n2 n3 = rw (n0, ne_eqb b 49 n1, ne_eqb b 50 n2, ne_eqb b 51 n3) refl
 
-pub quoted_dollar_other : (l : ℕ) (r : Reader) (b : ℕ) (bs : List ℕ) → b ≢ 49 → b ≢ 50 → b ≢ 51 → read_on (at modes.QuotedDollar l r) (b ∷ bs) ≡ fault_at l reasons.Unsupported
+pub quoted_dollar_other : (l : ℕ) (r : Reader) (b : ℕ) (bs : List ℕ) → begins_name b ≡ false → b ≢ 49 → b ≢ 50 → b ≢ 51 → read_on (at modes.QuotedDollar l r) (b ∷ bs) ≡ fault_at l reasons.Unsupported
 unfolding read_on next_byte
-quoted_dollar_other l r b bs n1 n2 n3 = rw (ne_eqb b 49 n1, ne_eqb b 50 n2, ne_eqb b 51 n3) refl
+quoted_dollar_other l r b bs n0 n1 n2 n3 = rw (n0, ne_eqb b 49 n1, ne_eqb b 50 n2, ne_eqb b 51 n3) refl

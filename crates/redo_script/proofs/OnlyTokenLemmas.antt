@@ -4,13 +4,13 @@ use Rattle.std.proofs.Common.{refl, ap, ◌∙◌, append_assoc}
 use Rattle.std.proofs.lemmas.List.{append-nil}
 use Rattle.redo_script.specs.declared.fault.ScriptFault.{ScriptFault}
 use Rattle.redo_script.specs.declared.lexer.Mode.TheVariants as modes
-use Rattle.redo_script.specs.Syntax.{byte, quoted, bare, Word}
+use Rattle.redo_script.specs.Syntax.{byte, quoted, bare, named_quoted, named_bare, Word}
 use Rattle.redo_script.specs.Tokens
 use Rattle.redo_script.specs.Tokens.{Token, word, semicolon, newline, redirect, IsGap, IsComment, IsWord, IsSingle}
 use Rattle.redo_script.specs.Tokens.{IsDouble, AreTokens, digits_then, nothing, blank, line_end, comment, separator}
 use Rattle.redo_script.specs.Tokens.{truncates, appends, a_word, at_end, goes_on, at_newline, ends, plain, opens_single}
 use Rattle.redo_script.specs.Tokens.{opens_double, parameter, closes, stands, closes_double, stands_double, in_double}
-use Rattle.redo_script.specs.Tokens.{escapes, backslash}
+use Rattle.redo_script.specs.Tokens.{escapes, backslash, by_name, by_name_in_double}
 use Rattle.redo_script.specs.Reading.{Reader, read_on, tokens_of, at_end as text_end}
 use Rattle.redo_script.proofs.BitLemmas.{and_true, and_false, number_on, not_same}
 use Rattle.redo_script.specs.Bytes.{is_digit, is_plain}
@@ -69,6 +69,7 @@ mutual
   in_word (opens_single {l} {b} {bs} {w} {ts} e g) r n = OneByteLemmas.word_single l r b bs e ∙ not_plain r w ts (in_single g (record r { opened = l }))
   in_word (opens_double {l} {b} {bs} {w} {ts} e g) r n = OneByteLemmas.word_double l r b bs e ∙ not_plain r w ts (in_double_quotes g (record r { opened = l }))
   in_word (parameter {l} {b} {c} {k} {bs} {w} {p} {ts} e names g) r n = OneByteLemmas.word_dollar l r b (c ∷ bs) e ∙ (OneByteLemmas.dollar_named l (OneByteLemmas.opened_at l r) c k bs names ∙ not_plain r (bare k ∷ w) ts (more_symbols r false (bare k ∷ []) w ts (in_word g (OneByteLemmas.symbol_more (OneByteLemmas.opened_at l r) (bare k)) refl)))
+  in_word (by_name {l} {b} {c} {bs} {name} {rest} {w} {p} {ts} e begins run g) r n = OneByteLemmas.word_dollar l r b (c ∷ bs) e ∙ (OneByteLemmas.dollar_name l (OneByteLemmas.opened_at l r) c bs begins ∙ (OneByteLemmas.name_read run l (OneByteLemmas.name_begun (OneByteLemmas.opened_at l r) c) ∙ not_plain r (named_bare (c ∷ name) ∷ w) ts (more_symbols r false (named_bare (c ∷ name) ∷ []) w ts (in_word g (OneByteLemmas.name_ended (record (OneByteLemmas.opened_at l r) { name = c ∷ name })) refl))))
 
   in_single : {l : ℕ} {bs : List ℕ} {w : Word} {ts : List Token} → IsSingle l bs w ts → (r : Reader) → Gives (at modes.Single l (ill r)) bs (spelled (ill r) false w ts)
   in_single (closes {l} {b} {bs} {w} {p} {ts} e g) r = OneByteLemmas.single_closes l (ill r) b bs e ∙ in_word g (ill r) refl
@@ -78,6 +79,7 @@ mutual
   in_double_quotes (closes_double {l} {b} {bs} {w} {p} {ts} e g) r = OneByteLemmas.double_closes l (ill r) b bs e ∙ in_word g (ill r) refl
   in_double_quotes (stands_double {l} {b} {bs} {w} {ts} n g) r = OneByteLemmas.double_byte l (ill r) b bs n ∙ more_symbols r false (byte b ∷ []) w ts (in_double_quotes g (OneByteLemmas.symbol_more r (byte b)))
   in_double_quotes (in_double {l} {b} {c} {k} {bs} {w} {ts} e names g) r = OneByteLemmas.double_dollar l (ill r) b (c ∷ bs) e ∙ (OneByteLemmas.quoted_dollar_named l (ill r) c k bs names ∙ more_symbols r false (quoted k ∷ []) w ts (in_double_quotes g (OneByteLemmas.symbol_more r (quoted k))))
+  in_double_quotes (by_name_in_double {l} {b} {c} {bs} {name} {rest} {w} {ts} e begins run g) r = OneByteLemmas.double_dollar l (ill r) b (c ∷ bs) e ∙ (OneByteLemmas.quoted_dollar_name l (ill r) c bs begins ∙ (OneByteLemmas.quoted_name_read run l (OneByteLemmas.name_begun (ill r) c) ∙ more_symbols r false (named_quoted (c ∷ name) ∷ []) w ts (in_double_quotes g (OneByteLemmas.quoted_name_ended (record r { name = c ∷ name })))))
   in_double_quotes (escapes {l} {b} {c} {bs} {w} {ts} e t g) r = OneByteLemmas.double_backslash l (ill r) b (c ∷ bs) e ∙ (OneByteLemmas.escape_taken l (ill r) c bs t ∙ more_symbols r false (byte c ∷ []) w ts (in_double_quotes g (OneByteLemmas.symbol_more r (byte c))))
   in_double_quotes (backslash {l} {b} {c} {bs} {w} {ts} e t n g) r = OneByteLemmas.double_backslash l (ill r) b (c ∷ bs) e ∙ (OneByteLemmas.escape_stands l (ill r) c bs t n ∙ backslash_is r b c w ts e (in_double_quotes g (OneByteLemmas.symbol_more (OneByteLemmas.symbol_more r (byte 92)) (byte c))))
 

@@ -1,16 +1,16 @@
 -- Quotes that are open at the end of a text.
 use Rattle.std.proofs.Common.{◌≡◌, ◌⊎◌, ℕ, Bool, true, false, ◌&&◌, ◌==◌, if◌then◌else◌, List, Option, Some, None}
 use Rattle.std.proofs.Common.{Result, Ok, Err, refl, sym, ◌∙◌, ap, inl, inr}
-use Rattle.std.proofs.lemmas.Bool.{eqb-true}
+use Rattle.std.proofs.lemmas.Bool.{eqb-true, cases_Bool}
 use Rattle.redo_script.specs.declared.ast.Parameter.{Parameter}
 use Rattle.redo_script.specs.declared.fault.ScriptFault.{ScriptFault}
 use Rattle.redo_script.specs.declared.lexer.Mode.{Mode}
 use Rattle.redo_script.specs.declared.lexer.Mode.TheVariants as modes
-use Rattle.redo_script.specs.Bytes.{is_plain, is_blank}
-use Rattle.redo_script.specs.Syntax.{bare, quoted}
+use Rattle.redo_script.specs.Bytes.{is_plain, is_blank, begins_name, continues_name}
+use Rattle.redo_script.specs.Syntax.{bare, quoted, named_bare, named_quoted}
 use Rattle.redo_script.specs.Tokens.{Token, redirect, ends_word, is_escaped}
 use Rattle.redo_script.specs.Reading.{Reader, with_token, with_begun_word, with_word, word_byte, gap_byte, in_word}
-use Rattle.redo_script.specs.Reading.{parameter_named, with_parameter, with_symbol, next_byte, at_end}
+use Rattle.redo_script.specs.Reading.{parameter_named, with_parameter, with_symbol, with_name, after_dollar, in_double, next_byte, at_end}
 use Rattle.redo_script.proofs.BitLemmas.{never, injected}
 use Rattle.redo_script.proofs.OneByteLemmas.{at}
 
@@ -21,9 +21,11 @@ is_inside modes.Redirect = false
 is_inside modes.Comment = false
 is_inside modes.Word = false
 is_inside modes.Dollar = false
+is_inside modes.Name = false
 is_inside modes.Single = true
 is_inside modes.Double = true
 is_inside modes.QuotedDollar = true
+is_inside modes.QuotedName = true
 is_inside modes.Escape = true
 
 -- a byte outside quotes opens them, in its line, if anything does
@@ -92,6 +94,19 @@ named_out r r' (Some p) e i =
     let no : false ≡ true = ap (λ (x : Reader). is_inside x.mode) same ∙ i in
     out no
 
+dollar_out : {C : Type 0} (r r' : Reader) (b : ℕ) → after_dollar r b ≡ Ok r' → is_inside r'.mode ≡ true → C
+dollar_out {C} r r' b e i = elim (cases_Bool (begins_name b)) [
+  | inl t ↦
+      let same : with_name r modes.Name b ≡ r' = injected (rw t at e) in
+      let no : false ≡ true = ap (λ (x : Reader). is_inside x.mode) same ∙ i in
+      out no
+  | inr f ↦ named_out r r' (parameter_named b) (rw f at e) i
+]
+
+name_opens : (b : ℕ) (r : Reader) → Opens r.line b (next_byte (at modes.Name r.line r) b)
+unfolding next_byte
+name_opens b r = by_if (Opens r.line b) (continues_name b) _ _ (λ e h. out h) (λ e. in_word_opens (with_symbol (at modes.Name r.line r) modes.Word (named_bare r.name)) b)
+
 pub opens_from : (m : Mode) (r r' : Reader) (b : ℕ) → is_inside m ≡ false → next_byte (at m r.line r) b ≡ Ok r' → is_inside r'.mode ≡ true → QuoteOpens (at m r.line r) b r'
 unfolding next_byte at_end
 opens_from modes.Gap r r' b o e i = quote_opens (at modes.Gap r.line r) r' b _ e (gap_opens (at modes.Gap r.line r) b) i (record { tokens = _; ends = refl })
@@ -103,15 +118,24 @@ opens_from modes.Redirect r r' b o e i =
     quote_opens (at modes.Redirect r.line r) r' b _ e opens i (record { tokens = _; ends = refl })
 opens_from modes.Comment r r' b o e i = quote_opens (at modes.Comment r.line r) r' b _ e (comment_opens r.line b r) i (record { tokens = _; ends = refl })
 opens_from modes.Word r r' b o e i = quote_opens (at modes.Word r.line r) r' b _ e (in_word_opens (at modes.Word r.line r) b) i (record { tokens = _; ends = refl })
-opens_from modes.Dollar r r' b o e i = named_out (at modes.Dollar r.line r) r' (parameter_named b) e i
+opens_from modes.Dollar r r' b o e i = dollar_out (at modes.Dollar r.line r) r' b e i
+opens_from modes.Name r r' b o e i = quote_opens (at modes.Name r.line r) r' b _ e (name_opens b r) i (record { tokens = _; ends = refl })
 opens_from modes.Single r r' b o e i = out (sym o)
 opens_from modes.Double r r' b o e i = out (sym o)
 opens_from modes.QuotedDollar r r' b o e i = out (sym o)
+opens_from modes.QuotedName r r' b o e i = out (sym o)
 opens_from modes.Escape r r' b o e i = out (sym o)
 
 named_remains : (r : Reader) (o : Option Parameter) → Remains r.opened (with_parameter r modes.Double quoted o)
 named_remains r None = tt
 named_remains r (Some p) = λ h. refl
+
+double_remains : (r : Reader) (b : ℕ) → Remains r.opened (in_double r b)
+double_remains r b =
+    by_if (Remains r.opened) (b == 34) _ _ (λ e h. out h) (λ e.
+    by_if (Remains r.opened) (b == 36) _ _ (λ e h. refl) (λ e.
+    by_if (Remains r.opened) (b == 92) _ _ (λ e h. refl) (λ e.
+    by_if (Remains r.opened) (b == 96) _ _ (λ e. tt) (λ e h. refl))))
 
 remains : (m : Mode) (r : Reader) (b : ℕ) → is_inside m ≡ true → Remains r.opened (next_byte (at m r.line r) b)
 unfolding next_byte
@@ -121,13 +145,11 @@ remains modes.Redirect r b i = out i
 remains modes.Comment r b i = out i
 remains modes.Word r b i = out i
 remains modes.Dollar r b i = out i
+remains modes.Name r b i = out i
 remains modes.Single r b i = by_if (Remains r.opened) (b == 39) _ _ (λ e h. out h) (λ e h. refl)
-remains modes.Double r b i =
-    by_if (Remains r.opened) (b == 34) _ _ (λ e h. out h) (λ e.
-    by_if (Remains r.opened) (b == 36) _ _ (λ e h. refl) (λ e.
-    by_if (Remains r.opened) (b == 92) _ _ (λ e h. refl) (λ e.
-    by_if (Remains r.opened) (b == 96) _ _ (λ e. tt) (λ e h. refl))))
-remains modes.QuotedDollar r b i = named_remains (at modes.QuotedDollar r.line r) (parameter_named b)
+remains modes.Double r b i = double_remains (at modes.Double r.line r) b
+remains modes.QuotedDollar r b i = by_if (Remains r.opened) (begins_name b) _ _ (λ e h. refl) (λ e. named_remains (at modes.QuotedDollar r.line r) (parameter_named b))
+remains modes.QuotedName r b i = by_if (Remains r.opened) (continues_name b) _ _ (λ e h. refl) (λ e. double_remains (with_symbol (at modes.QuotedName r.line r) modes.Double (named_quoted r.name)) b)
 remains modes.Escape r b i =
     by_if (Remains r.opened) (b == 10) _ _ (λ e. tt) (λ e.
     by_if (Remains r.opened) (is_escaped b) _ _ (λ e h. refl) (λ e h. refl))
@@ -144,7 +166,9 @@ inside_ends modes.Redirect r i = out i
 inside_ends modes.Comment r i = out i
 inside_ends modes.Word r i = out i
 inside_ends modes.Dollar r i = out i
+inside_ends modes.Name r i = out i
 inside_ends modes.Single r i = (_, refl)
 inside_ends modes.Double r i = (_, refl)
 inside_ends modes.QuotedDollar r i = (_, refl)
+inside_ends modes.QuotedName r i = (_, refl)
 inside_ends modes.Escape r i = (_, refl)

@@ -5,16 +5,16 @@ use Rattle.std.proofs.lemmas.Bool.{ne_eqb}
 use Rattle.redo_script.specs.declared.ast.Stmt.{Stmt}
 use Rattle.redo_script.specs.declared.ast.Stmt.TheOpen.{Stmt-F}
 use Rattle.redo_script.specs.declared.ast.Stmt.TheOpen as stmts
-use Rattle.redo_script.specs.declared.ast.Stmt.TheViews.{out-Stmt, outs-If, outs-Simple}
+use Rattle.redo_script.specs.declared.ast.Stmt.TheViews.{out-Stmt, outs-If, outs-Loop, outs-Simple}
 use Rattle.redo_script.specs.declared.ast.Stmt.TheVariants as stmt
 use Rattle.redo_script.specs.declared.ast.Command.{Command as CommandTree}
 use Rattle.redo_script.specs.declared.ast.Condition.{Condition as ConditionTree}
 use Rattle.std.specs.declared.vec.Vec.{Vec}
 use Rattle.std.specs.declared.alloc.Global.{Global}
 use Rattle.redo_script.specs.declared.ast.Stmt.TheFolds.{fold_out-Stmt, map-Stmt}
-use Rattle.redo_script.specs.declared.parser.Open.{Open as OpenTree}
-use Rattle.redo_script.specs.Syntax.{Script, finish, simple, choice}
-use Rattle.redo_script.specs.Parsing.{Open, is_empty, with_last, length_of}
+use Rattle.redo_script.specs.declared.open.Open.{Open as OpenTree}
+use Rattle.redo_script.specs.Syntax.{Script, finish, simple, choice, loop}
+use Rattle.redo_script.specs.Parsing.{Open, is_empty, with_last}
 use Rattle.redo_script.specs.View.{stmt_step, before, script_of, command_of, condition_of, word_of, words_of}
 use Rattle.redo_script.specs.declared.ast.Word.{Word as WordTree}
 use Rattle.redo_script.specs.declared.item.Item.{Item as ItemTree}
@@ -26,10 +26,12 @@ use Rattle.redo_script.specs.inside.Parser.{item_of, open_of, stack_onto}
 abbrev opened : Stmt-F Stmt → Script → Script
 opened (stmts.Simple line c) rest = simple line (command_of c) rest
 opened (stmts.If line c a b) rest = choice line (condition_of c) (script_of a.items) (script_of b.items) rest
+opened (stmts.Loop line n ws b) rest = loop line n (words_of ws.items) (script_of b.items) rest
 
 opened_step : (x : Stmt-F Stmt) (rest : Script) → stmt_step (map-Stmt Stmt (Script → Script) before x) rest ≡ opened x rest
 opened_step (stmts.Simple line c) rest = refl
 opened_step (stmts.If line c a b) rest = refl
+opened_step (stmts.Loop line n ws b) rest = refl
 
 before-opened : (x : Stmt) (rest : Script) → before x rest ≡ opened (out-Stmt x) rest
 before-opened x rest = ap (λ (f : Script → Script). f rest) (fold_out-Stmt (Script → Script) stmt_step x) ∙ opened_step (out-Stmt x) rest
@@ -37,6 +39,7 @@ before-opened x rest = ap (λ (f : Script → Script). f rest) (fold_out-Stmt (S
 opened-last : (x : Stmt-F Stmt) (rest more : Script) → with_last (opened x rest) more ≡ opened x (with_last rest more)
 opened-last (stmts.Simple line c) rest more = refl
 opened-last (stmts.If line c a b) rest more = refl
+opened-last (stmts.Loop line n ws b) rest more = refl
 
 pub script_push : (ss : List Stmt) (s : Stmt) → script_of (ss ++ s ∷ []) ≡ with_last (script_of ss) (before s finish)
 script_push [] s = refl
@@ -55,13 +58,15 @@ if_push ss line c a b =
     let o : before (stmt.If line c a b) finish ≡ choice line (condition_of c) (script_of a.items) (script_of b.items) finish = before-opened (stmt.If line c a b) finish ∙ ap (λ o. opened o finish) (outs-If line c a b) in
     script_push ss (stmt.If line c a b) ∙ ap (λ r. with_last (script_of ss) r) o
 
+-- a loop more
+pub loop_push : (ss : List Stmt) (line : ℕ) (name : List ℕ) (ws : Vec WordTree Global) (b : Vec Stmt Global) → script_of (ss ++ stmt.Loop line name ws b ∷ []) ≡ with_last (script_of ss) (loop line name (words_of ws.items) (script_of b.items) finish)
+loop_push ss line name ws b =
+    let o : before (stmt.Loop line name ws b) finish ≡ loop line name (words_of ws.items) (script_of b.items) finish = before-opened (stmt.Loop line name ws b) finish ∙ ap (λ o. opened o finish) (outs-Loop line name ws b) in
+    script_push ss (stmt.Loop line name ws b) ∙ ap (λ r. with_last (script_of ss) r) o
+
 pub stack_push : (os : List Open) (xs : List OpenTree) (x : OpenTree) → stack_onto os (xs ++ x ∷ []) ≡ open_of x ∷ stack_onto os xs
 stack_push os [] x = refl
 stack_push os (y ∷ ys) x = stack_push (open_of y ∷ os) ys x
-
-pub stack_length : (os : List Open) (xs : List OpenTree) → length_of (stack_onto os xs) ≡ length xs + length_of os
-stack_length os [] = omega arith
-stack_length os (y ∷ ys) = let e : length_of (stack_onto (open_of y ∷ os) ys) ≡ length ys + length_of (open_of y ∷ os) = stack_length (open_of y ∷ os) ys in omega arith
 
 pub script_empty : (ss : List Stmt) → is_empty (script_of ss) ≡ (length ss == 0)
 script_empty [] = refl
@@ -70,6 +75,7 @@ script_empty (x ∷ xs) = ap is_empty (before-opened x (script_of xs)) ∙ opene
     opened_empty : (x : Stmt-F Stmt) (rest : Script) → is_empty (opened x rest) ≡ false
     opened_empty (stmts.Simple line c) rest = refl
     opened_empty (stmts.If line c a b) rest = refl
+    opened_empty (stmts.Loop line n ws b) rest = refl
 
     not_zero : (n : ℕ) → (suc n == 0) ≡ false
     not_zero n = ne_eqb (suc n) 0 (λ e. absurd (omega arith))

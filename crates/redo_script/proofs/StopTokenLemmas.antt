@@ -9,13 +9,14 @@ use Rattle.redo_script.specs.declared.fault.ScriptFault.{ScriptFault}
 use Rattle.redo_script.specs.declared.fault.Reason.TheVariants as reasons
 use Rattle.redo_script.specs.declared.lexer.Mode.{Mode}
 use Rattle.redo_script.specs.declared.lexer.Mode.TheVariants as modes
-use Rattle.redo_script.specs.Bytes.{is_plain, is_blank}
-use Rattle.redo_script.specs.Syntax.{Symbol, bare, quoted}
+use Rattle.redo_script.specs.Bytes.{is_plain, is_blank, begins_name, continues_name}
+use Rattle.redo_script.specs.Syntax.{Symbol, bare, quoted, named_bare, named_quoted}
 use Rattle.redo_script.specs.Tokens.{Token, redirect, Names, one, two, three, line_after, ends_word, is_escaped}
 use Rattle.redo_script.specs.Reading.{Reader, at_start, with_token, with_begun_word, with_word, word_byte, gap_byte}
+use Rattle.redo_script.specs.Reading.{with_name, with_symbol, after_dollar, after_quoted_dollar}
 use Rattle.redo_script.specs.Reading.{in_word, in_single, in_double, after_backslash, parameter_named, with_parameter}
 use Rattle.redo_script.specs.Reading.{next_byte, at_end, read_on, tokens_of}
-use Rattle.redo_script.specs.Places.{line_from, CanGoOn, NeedsDigit, QuoteIsOpen, StopsAtByte, StopsAtEnd}
+use Rattle.redo_script.specs.Places.{line_from, CanGoOn, NeedsParameter, QuoteIsOpen, StopsAtByte, StopsAtEnd}
 use Rattle.redo_script.proofs.BitLemmas.{never, bind_ok, not_same, not_in}
 use Rattle.redo_script.proofs.OneByteLemmas.{at}
 use Rattle.redo_script.proofs.OpenQuoteLemmas.{is_inside, out, QuoteOpens, opens_from, remains_from, inside_ends}
@@ -70,6 +71,12 @@ named_keeps r m symbol b = elim (cases_Bool (b == 49)) [
   ]
 ]
 
+dollar_keeps : (r : Reader) (b : ℕ) → KeepsLine r.line b (after_dollar r b)
+dollar_keeps r b = by_if r.line b (begins_name b) _ _ (λ e. stays r.line b (not_same begins_name b 10 refl e)) (λ e. named_keeps r modes.Word bare b)
+
+quoted_dollar_keeps : (r : Reader) (b : ℕ) → KeepsLine r.line b (after_quoted_dollar r b)
+quoted_dollar_keeps r b = by_if r.line b (begins_name b) _ _ (λ e. stays r.line b (not_same begins_name b 10 refl e)) (λ e. named_keeps r modes.Double quoted b)
+
 single_keeps : (r : Reader) (b : ℕ) → KeepsLine r.line b (in_single r b)
 single_keeps r b = by_if r.line b (b == 39) _ _ (λ e. stays r.line b (other b 39 refl e)) (λ e. refl)
 
@@ -95,10 +102,12 @@ mode_keeps modes.Redirect r b =
 mode_keeps modes.Comment r b =
     by_if r.line b (b == 10) _ _ (λ e. gap_keeps (at modes.Comment r.line r) b) (λ n. stays r.line b n)
 mode_keeps modes.Word r b = in_word_keeps (at modes.Word r.line r) b
-mode_keeps modes.Dollar r b = named_keeps (at modes.Dollar r.line r) modes.Word bare b
+mode_keeps modes.Dollar r b = dollar_keeps (at modes.Dollar r.line r) b
+mode_keeps modes.Name r b = by_if r.line b (continues_name b) _ _ (λ e. stays r.line b (not_same continues_name b 10 refl e)) (λ e. in_word_keeps (with_symbol (at modes.Name r.line r) modes.Word (named_bare r.name)) b)
 mode_keeps modes.Single r b = single_keeps (at modes.Single r.line r) b
 mode_keeps modes.Double r b = double_keeps (at modes.Double r.line r) b
-mode_keeps modes.QuotedDollar r b = named_keeps (at modes.QuotedDollar r.line r) modes.Double quoted b
+mode_keeps modes.QuotedDollar r b = quoted_dollar_keeps (at modes.QuotedDollar r.line r) b
+mode_keeps modes.QuotedName r b = by_if r.line b (continues_name b) _ _ (λ e. stays r.line b (not_same continues_name b 10 refl e)) (λ e. double_keeps (with_symbol (at modes.QuotedName r.line r) modes.Double (named_quoted r.name)) b)
 mode_keeps modes.Escape r b = escape_keeps (at modes.Escape r.line r) b
 
 keeps : (r : Reader) (b : ℕ) → KeepsLine r.line b (next_byte r b)
@@ -138,9 +147,11 @@ mode_closes modes.Redirect r = record { more = []; tokens = _; reads = refl }
 mode_closes modes.Comment r = record { more = []; tokens = _; reads = refl }
 mode_closes modes.Word r = record { more = []; tokens = _; reads = refl }
 mode_closes modes.Dollar r = record { more = 49 ∷ []; tokens = _; reads = refl }
+mode_closes modes.Name r = record { more = []; tokens = _; reads = refl }
 mode_closes modes.Single r = record { more = 39 ∷ []; tokens = _; reads = refl }
 mode_closes modes.Double r = record { more = 34 ∷ []; tokens = _; reads = refl }
 mode_closes modes.QuotedDollar r = record { more = 49 ∷ 34 ∷ []; tokens = _; reads = refl }
+mode_closes modes.QuotedName r = record { more = 34 ∷ []; tokens = _; reads = refl }
 mode_closes modes.Escape r = record { more = 92 ∷ 34 ∷ []; tokens = _; reads = refl }
 
 closes : (r : Reader) → Closes r
@@ -291,21 +302,24 @@ leads_one b (further k i) e = further k (leads_one b i e)
 goes_on : (text : List ℕ) (last next : Reader) (b : ℕ) → Leads at_start text last → next_byte last b ≡ Ok next → CanGoOn (text ++ b ∷ [])
 goes_on text last next b k e = can_go_on (text ++ b ∷ []) next (leads_one b k e)
 
--- behind a `$` only a digit can come
-digit_next : (text : List ℕ) (last : Reader) (m : Mode) (symbol : Parameter → Symbol) → Leads at_start text last → ((b : ℕ) → next_byte last b ≡ with_parameter last m symbol (parameter_named b)) → NeedsDigit text
-digit_next text last m symbol k e b g = elim (named b) [
-  | inl n ↦ n
-  | inr none ↦ absurd (can_not text b last (record { line = last.line; why = reasons.Unsupported }) k (rw (e b, none) refl) g)
+-- behind a `$` only a digit or a name can come
+digit_next : (text : List ℕ) (last : Reader) (m n : Mode) (symbol : Parameter → Symbol) → Leads at_start text last → ((b : ℕ) → next_byte last b ≡ (if begins_name b then Ok (with_name last n b) else with_parameter last m symbol (parameter_named b))) → NeedsParameter text
+digit_next text last m n symbol k e b g = elim (named b) [
+  | inl n ↦ inl n
+  | inr none ↦ elim (cases_Bool (begins_name b)) [
+    | inl t ↦ inr t
+    | inr f ↦ absurd (can_not text b last (record { line = last.line; why = reasons.Unsupported }) k (rw (e b, f, none) refl) g)
+  ]
 ]
 
 -- a blank in quotes stands for itself
-no_digit : (text : List ℕ) (last next : Reader) → Leads at_start text last → next_byte last 32 ≡ Ok next → NeedsDigit text → ⊥
-no_digit text last next k e g = let n = g 32 (goes_on text last next 32 k e) in blank_names n.0 n.1
+no_digit : (text : List ℕ) (last next : Reader) → Leads at_start text last → next_byte last 32 ≡ Ok next → NeedsParameter text → ⊥
+no_digit text last next k e g = elim (g 32 (goes_on text last next 32 k e)) [ inl n ↦ blank_names n.0 n.1 | inr b ↦ cc b ]
 
 abbrev EndsAs : List ℕ → Reader → ScriptFault → Type 0
 EndsAs text r fault =
-    (NeedsDigit text × (fault ≡ record { line = r.line; why = reasons.Unsupported }))
-    ⊎ ((NeedsDigit text → ⊥) × (is_inside r.mode ≡ true) × (fault ≡ record { line = r.opened; why = reasons.OpenQuote }))
+    (NeedsParameter text × (fault ≡ record { line = r.line; why = reasons.Unsupported }))
+    ⊎ ((NeedsParameter text → ⊥) × (is_inside r.mode ≡ true) × (fault ≡ record { line = r.opened; why = reasons.OpenQuote }))
 
 end_fault : (text : List ℕ) (m : Mode) (r : Reader) (fault : ScriptFault) → Leads at_start text (at m r.line r) → at_end (at m r.line r) ≡ Err fault → EndsAs text (at m r.line r) fault
 unfolding at_end next_byte
@@ -314,13 +328,15 @@ end_fault text modes.Semicolon r fault k h = absurd (cc h)
 end_fault text modes.Redirect r fault k h = absurd (cc h)
 end_fault text modes.Comment r fault k h = absurd (cc h)
 end_fault text modes.Word r fault k h = absurd (cc h)
-end_fault text modes.Dollar r fault k h = inl (digit_next text (at modes.Dollar r.line r) modes.Word bare k (λ b. refl), cc h)
-end_fault text modes.QuotedDollar r fault k h = inl (digit_next text (at modes.QuotedDollar r.line r) modes.Double quoted k (λ b. refl), cc h)
+end_fault text modes.Dollar r fault k h = inl (digit_next text (at modes.Dollar r.line r) modes.Word modes.Name bare k (λ b. refl), cc h)
+end_fault text modes.Name r fault k h = absurd (cc h)
+end_fault text modes.QuotedDollar r fault k h = inl (digit_next text (at modes.QuotedDollar r.line r) modes.Double modes.QuotedName quoted k (λ b. refl), cc h)
+end_fault text modes.QuotedName r fault k h = inr (no_digit text (at modes.QuotedName r.line r) _ k refl, refl, cc h)
 end_fault text modes.Single r fault k h = inr (no_digit text (at modes.Single r.line r) _ k refl, refl, cc h)
 end_fault text modes.Double r fault k h = inr (no_digit text (at modes.Double r.line r) _ k refl, refl, cc h)
 end_fault text modes.Escape r fault k h = inr (no_digit text (at modes.Escape r.line r) _ k refl, refl, cc h)
 
-at_the_end : (text : List ℕ) (last : Reader) (fault : ScriptFault) → Leads at_start text last → at_end last ≡ Err fault → (NeedsDigit text × (fault ≡ record { line = line_from 1 text; why = reasons.Unsupported })) ⊎ ((NeedsDigit text → ⊥) × QuoteIsOpen text fault)
+at_the_end : (text : List ℕ) (last : Reader) (fault : ScriptFault) → Leads at_start text last → at_end last ≡ Err fault → (NeedsParameter text × (fault ≡ record { line = line_from 1 text; why = reasons.Unsupported })) ⊎ ((NeedsParameter text → ⊥) × QuoteIsOpen text fault)
 at_the_end text last fault k h = elim (end_fault text last.mode last fault k h) [
   | inl e ↦ inl (e.0, rw (leads_line k) at e.1)
   | inr q ↦ inr (q.0, elim (quote_of k q.1) [ inl w ↦ out (is_within w) | inr i ↦ quote_is_open text last fault i q.2 ])
@@ -365,17 +381,20 @@ line_ends modes.Redirect r ts h = (_, refl)
 line_ends modes.Comment r ts h = (_, refl)
 line_ends modes.Word r ts h = (_, refl)
 line_ends modes.Dollar r ts h = never h
+line_ends modes.Name r ts h = (_, refl)
 line_ends modes.Single r ts h = never h
 line_ends modes.Double r ts h = never h
 line_ends modes.QuotedDollar r ts h = never h
+line_ends modes.QuotedName r ts h = never h
 line_ends modes.Escape r ts h = never h
 
 -- a text that has tokens lacks no digit
-pub lacks_none : (text : List ℕ) (ts : List Token) → tokens_of text ≡ Ok ts → NeedsDigit text → ⊥
+pub lacks_none : (text : List ℕ) (ts : List Token) → tokens_of text ≡ Ok ts → NeedsParameter text → ⊥
 unfolding tokens_of
 lacks_none text ts h needs =
     let k = lead_of text at_start ts h in
     let next = line_ends k.last.mode k.last ts k.ends in
-    let n = needs 10 (goes_on text k.last next.0 10 k.leads next.1) in
-    let e : None ≡ Some n.0 = taken n.1 in
-    cc e
+    elim (needs 10 (goes_on text k.last next.0 10 k.leads next.1)) [
+      | inl n ↦ let e : None ≡ Some n.0 = taken n.1 in cc e
+      | inr b ↦ cc b
+    ]

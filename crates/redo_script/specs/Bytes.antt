@@ -1,5 +1,5 @@
 -- The bytes of a script by name, and their classes.
-use Rattle.std.specs.Prelude.{ℕ, Bool, false, ◌&&◌, ◌||◌, ◌==◌, nat_le, List, [], ◌∷◌, codes}
+use Rattle.std.specs.Prelude.{ℕ, Bool, true, false, ◌&&◌, ◌||◌, ◌==◌, nat_le, List, [], ◌∷◌, codes}
 
 -- the bytes that mean something, each by its name
 abbrev pub tab : ℕ
@@ -35,6 +35,9 @@ greater = 62
 abbrev pub backslash : ℕ
 backslash = 92
 
+abbrev pub underscore : ℕ
+underscore = 95
+
 abbrev pub backquote : ℕ
 backquote = 96
 
@@ -45,6 +48,14 @@ is_digit b = nat_le 48 b && nat_le b 57
 -- a letter of ASCII
 abbrev pub is_letter : ℕ → Bool
 is_letter b = (nat_le 97 b && nat_le b 122) || (nat_le 65 b && nat_le b 90)
+
+-- a byte that a name begins with
+abbrev pub begins_name : ℕ → Bool
+begins_name b = is_letter b || (b == underscore)
+
+-- a byte that a name goes on with
+abbrev pub continues_name : ℕ → Bool
+continues_name b = begins_name b || is_digit b
 
 -- one of these bytes
 abbrev pub is_among : List ℕ → ℕ → Bool
@@ -58,3 +69,20 @@ is_plain b = is_letter b || is_digit b || is_among (codes "_-./+,:=@%!") b
 -- a byte that only separates words
 abbrev pub is_blank : ℕ → Bool
 is_blank b = (b == space) || (b == tab)
+
+-- the two are the same bytes
+abbrev pub same_bytes : List ℕ → List ℕ → Bool
+same_bytes [] [] = true
+same_bytes [] (b ∷ bs) = false
+same_bytes (a ∷ x) [] = false
+same_bytes (a ∷ x) (b ∷ bs) = (a == b) && same_bytes x bs
+
+-- every byte is one that a name goes on with
+abbrev pub all_continue : List ℕ → Bool
+all_continue [] = true
+all_continue (b ∷ bs) = continues_name b && all_continue bs
+
+-- a name: a letter or `_`, and then letters, digits and `_`
+abbrev pub is_name : List ℕ → Bool
+is_name [] = false
+is_name (b ∷ bs) = begins_name b && all_continue bs

@@ -1,10 +1,11 @@
 -- The statements of a list of tokens, as a relation by cases.
-use Rattle.std.specs.Prelude.{◌≡◌, ℕ, suc, ◌+◌, ◌-◌, ◌*◌, ◌<◌, Bool, true, false, ◌&&◌, ◌==◌, nat_le, if◌then◌else◌}
-use Rattle.std.specs.Prelude.{List, [], ◌∷◌, length, map, Option, Some, None, is_none, codes}
-use Rattle.redo_script.specs.Bytes.{is_digit}
-use Rattle.redo_script.specs.Syntax.{byte, quoted, bare, Word, Redirection, Test, is_file, equal, differ, echo, printf}
-use Rattle.redo_script.specs.Syntax.{cat, Command, write, test, change, create, always_true, always_false, exit}
-use Rattle.redo_script.specs.Syntax.{Condition, if_test, if_true, if_false, Script, finish, simple, choice}
+use Rattle.std.specs.Prelude.{◌≡◌, ℕ, suc, ◌+◌, ◌-◌, ◌*◌, ◌<◌, Bool, true, false, ◌&&◌, ◌||◌, ◌==◌, nat_le}
+use Rattle.std.specs.Prelude.{if◌then◌else◌, List, [], ◌∷◌, ◌++◌, length, map, Option, Some, None, is_none, codes}
+use Rattle.redo_script.specs.Bytes.{is_digit, same_bytes, is_name}
+use Rattle.redo_script.specs.Syntax.{byte, quoted, bare, named_quoted, named_bare, Word, Redirection}
+use Rattle.redo_script.specs.Syntax.{Test, is_file, equal, differ, echo, printf, cat, Command, write, test, change}
+use Rattle.redo_script.specs.Syntax.{create, always_true, always_false, exit}
+use Rattle.redo_script.specs.Syntax.{Condition, if_test, if_true, if_false, Script, finish, simple, choice, loop}
 use Rattle.redo_script.specs.Tokens.{Token, word, semicolon, newline, redirect}
 
 -- a word of a command, and whether it is written with plain bytes alone
@@ -24,10 +25,58 @@ spells (byte a ∷ w) [] = false
 spells (byte a ∷ w) (b ∷ bs) = (a == b) && spells w bs
 spells (quoted p ∷ w) bs = false
 spells (bare p ∷ w) bs = false
+spells (named_quoted n ∷ w) bs = false
+spells (named_bare n ∷ w) bs = false
 
 -- the word is this name, written with plain bytes alone
 abbrev pub is_named : List ℕ → Item → Bool
 is_named name item = item.is_plain && spells item.word name
+
+-- these bytes and then those of a word, where it has no parameter
+abbrev pub literal_on : List ℕ → Word → Option (List ℕ)
+literal_on bs [] = Some bs
+literal_on bs (byte b ∷ w) = literal_on (bs ++ b ∷ []) w
+literal_on bs (quoted p ∷ w) = None
+literal_on bs (bare p ∷ w) = None
+literal_on bs (named_quoted n ∷ w) = None
+literal_on bs (named_bare n ∷ w) = None
+
+-- these bytes, where they are a name
+abbrev pub as_name : Option (List ℕ) → Option (List ℕ)
+as_name None = None
+as_name (Some bs) = if is_name bs then Some bs else None
+
+-- the name that a word is, where it is one, written with plain bytes alone
+abbrev pub name_of : Item → Option (List ℕ)
+name_of item = if item.is_plain then as_name (literal_on [] item.word) else None
+
+-- one of these names
+abbrev pub is_bound : List (List ℕ) → List ℕ → Bool
+is_bound [] name = false
+is_bound (n ∷ names) name = same_bytes n name || is_bound names name
+
+-- each name in the word is one of these
+abbrev pub knows_word : List (List ℕ) → Word → Bool
+knows_word names [] = true
+knows_word names (byte b ∷ w) = knows_word names w
+knows_word names (quoted p ∷ w) = knows_word names w
+knows_word names (bare p ∷ w) = knows_word names w
+knows_word names (named_quoted n ∷ w) = is_bound names n && knows_word names w
+knows_word names (named_bare n ∷ w) = is_bound names n && knows_word names w
+
+-- each name in these operands is one of these
+abbrev pub knows_items : List (List ℕ) → List Item → Bool
+knows_items names [] = true
+knows_items names (i ∷ items) = knows_word names i.word && knows_items names items
+
+-- the same of a redirection's word
+abbrev pub knows_redirection : List (List ℕ) → Option Redirection → Bool
+knows_redirection names None = true
+knows_redirection names (Some r) = knows_word names r.word
+
+-- each name in these operands and this redirection is one of these
+abbrev pub knows : List (List ℕ) → List Item → Option Redirection → Bool
+knows names items r = knows_items names items && knows_redirection names r
 
 -- the number that n and then these digits spell
 abbrev pub digits_value : ℕ → Word → Option ℕ
@@ -35,6 +84,8 @@ digits_value n [] = Some n
 digits_value n (byte b ∷ w) = if is_digit b then digits_value (10 * n + (b - 48)) w else None
 digits_value n (quoted p ∷ w) = None
 digits_value n (bare p ∷ w) = None
+digits_value n (named_quoted name ∷ w) = None
+digits_value n (named_bare name ∷ w) = None
 
 -- a number that isn't larger than this
 abbrev pub at_most : ℕ → Option ℕ → Option ℕ
@@ -164,48 +215,100 @@ pub data IsKeyword : List ℕ → List Token → List Token → Type 0 where
   keyword : {name : List ℕ} {l : ℕ} {w : Word} {ts : List Token} →
       spells w name ≡ true → IsKeyword name (word l true w ∷ ts) ts
 
--- The tokens begin with `if` in this line, this condition, a separator and `then`; then come the last.
-pub data OpensIf : ℕ → Condition → List Token → List Token → Type 0 where
-  opens_if : {l k : ℕ} {p : Bool} {v w : Word} {t1 t2 t3 rest : List Token} {items : List Item} {c : Condition} →
+-- What is open: an if, with its line, and whether its else was read; or a loop, with its line and its name.
+pub data Opening : Type 0 where
+  an_if : (line : ℕ) → (has_else : Bool) → Opening
+  a_loop : (line : ℕ) → (name : List ℕ) → Opening
+
+-- how many ifs are open round a command, and the names that loops bind there, the innermost first
+pub record Nest : Type 0 where
+  pub ifs : ℕ
+  pub names : List (List ℕ)
+
+-- inside one more if
+abbrev pub in_if : Nest → Nest
+in_if n = record n { ifs = suc n.ifs }
+
+-- inside one more loop
+abbrev pub in_loop : List ℕ → Nest → Nest
+in_loop name n = record n { names = name ∷ n.names }
+
+-- outside each if and loop
+abbrev pub outermost : Nest
+outermost = record { ifs = 0; names = [] }
+
+-- inside these, the innermost first
+abbrev pub nest_in : List Opening → Nest
+nest_in [] = outermost
+nest_in (an_if line has_else ∷ os) = in_if (nest_in os)
+nest_in (a_loop line name ∷ os) = in_loop name (nest_in os)
+
+-- The tokens begin with `if` in this line, this condition, in which names are bound, a separator and `then`; then come
+-- the last.
+pub data OpensIf : List (List ℕ) → ℕ → Condition → List Token → List Token → Type 0 where
+  opens_if : {names : List (List ℕ)} {l k : ℕ} {p : Bool} {v w : Word} {t1 t2 t3 rest : List Token} {items : List Item}
+      {c : Condition} →
       spells v (codes "if") ≡ true → IsItems t1 items None t2 →
-      condition_form (record { is_plain = p; word = w }) items ≡ Some c →
-      Separates t2 t3 → IsKeyword (codes "then") t3 rest → OpensIf l c (word l true v ∷ word k p w ∷ t1) rest
+      condition_form (record { is_plain = p; word = w }) items ≡ Some c → knows names items None ≡ true →
+      Separates t2 t3 → IsKeyword (codes "then") t3 rest → OpensIf names l c (word l true v ∷ word k p w ∷ t1) rest
+
+-- The tokens begin with words, in which names are bound; then come the last.
+pub data TakesWords : List (List ℕ) → List Token → List Word → List Token → Type 0 where
+  no_word : {names : List (List ℕ)} {ts : List Token} → TakesWords names ts [] ts
+  one_word : {names : List (List ℕ)} {l : ℕ} {p : Bool} {w : Word} {ts rest : List Token} {ws : List Word} →
+      knows_word names w ≡ true → TakesWords names ts ws rest → TakesWords names (word l p w ∷ ts) (w ∷ ws) rest
+
+-- The tokens begin with `for` in this line, a name that isn't bound yet, `in` and these words; then come the last.
+pub data ListsWords : List (List ℕ) → ℕ → List ℕ → List Word → List Token → List Token → Type 0 where
+  lists_words : {names : List (List ℕ)} {l k : ℕ} {p : Bool} {v w : Word} {name : List ℕ} {t1 t2 rest : List Token}
+      {ws : List Word} →
+      spells v (codes "for") ≡ true → name_of (record { is_plain = p; word = w }) ≡ Some name →
+      is_bound names name ≡ false → IsKeyword (codes "in") t1 t2 → TakesWords names t2 ws rest →
+      ListsWords names l name ws (word l true v ∷ word k p w ∷ t1) rest
+
+-- the same with a separator and `do` behind the words
+pub data OpensLoop : List (List ℕ) → ℕ → List ℕ → List Word → List Token → List Token → Type 0 where
+  opens_loop : {names : List (List ℕ)} {l : ℕ} {name : List ℕ} {ws : List Word} {ts t1 t2 rest : List Token} →
+      ListsWords names l name ws ts t1 → Separates t1 t2 → IsKeyword (codes "do") t2 rest →
+      OpensLoop names l name ws ts rest
 
 mutual
-  -- The tokens begin with a command, in so many open ifs, of which there are at most 16; then come the rest. Put before
-  -- one script it makes the other.
-  pub data IsCommand : ℕ → List Token → List Token → Script → Script → Type 0 where
-    a_command : {depth l : ℕ} {p : Bool} {w : Word} {ts rest : List Token} {items : List Item} {r : Option Redirection}
-        {c : Command} {after : Script} →
+  -- The tokens begin with a command, inside at most 16 ifs and 2 loops; then come the rest. Put before one script it
+  -- makes the other.
+  pub data IsCommand : Nest → List Token → List Token → Script → Script → Type 0 where
+    a_command : {n : Nest} {l : ℕ} {p : Bool} {w : Word} {ts rest : List Token} {items : List Item}
+        {r : Option Redirection} {c : Command} {after : Script} →
         IsItems ts items r rest → command_form (record { is_plain = p; word = w }) items r ≡ Some c →
-        IsCommand depth (word l p w ∷ ts) rest after (simple l c after)
-    if_then : {depth l : ℕ} {c : Condition} {ts t1 t2 rest : List Token} {first after : Script} →
-        depth < 16 → OpensIf l c ts t1 → IsBlock (suc depth) t1 first t2 → IsKeyword (codes "fi") t2 rest →
-        IsCommand depth ts rest after (choice l c first finish after)
-    if_else : {depth l : ℕ} {c : Condition} {ts t1 t2 t3 t4 rest : List Token} {first second after : Script} →
-        depth < 16 → OpensIf l c ts t1 → IsBlock (suc depth) t1 first t2 → IsKeyword (codes "else") t2 t3 →
-        IsBlock (suc depth) t3 second t4 → IsKeyword (codes "fi") t4 rest →
-        IsCommand depth ts rest after (choice l c first second after)
+        knows n.names items r ≡ true → IsCommand n (word l p w ∷ ts) rest after (simple l c after)
+    if_then : {n : Nest} {l : ℕ} {c : Condition} {ts t1 t2 rest : List Token} {first after : Script} →
+        n.ifs < 16 → OpensIf n.names l c ts t1 → IsBlock (in_if n) t1 first t2 → IsKeyword (codes "fi") t2 rest →
+        IsCommand n ts rest after (choice l c first finish after)
+    if_else : {n : Nest} {l : ℕ} {c : Condition} {ts t1 t2 t3 t4 rest : List Token} {first second after : Script} →
+        n.ifs < 16 → OpensIf n.names l c ts t1 → IsBlock (in_if n) t1 first t2 → IsKeyword (codes "else") t2 t3 →
+        IsBlock (in_if n) t3 second t4 → IsKeyword (codes "fi") t4 rest →
+        IsCommand n ts rest after (choice l c first second after)
+    for_done : {n : Nest} {l : ℕ} {name : List ℕ} {ws : List Word} {ts t1 t2 rest : List Token} {body after : Script} →
+        length n.names < 2 → OpensLoop n.names l name ws ts t1 → IsBlock (in_loop name n) t1 body t2 →
+        IsKeyword (codes "done") t2 rest → IsCommand n ts rest after (loop l name ws body after)
 
   -- The tokens begin with newlines, if any, and then commands, each with a separator behind it; then come the last.
-  pub data IsBlock : ℕ → List Token → Script → List Token → Type 0 where
-    after_newlines : {depth : ℕ} {ts rest more : List Token} {script : Script} →
-        SkipsNewlines ts rest → IsList depth rest script more → IsBlock depth ts script more
+  pub data IsBlock : Nest → List Token → Script → List Token → Type 0 where
+    after_newlines : {n : Nest} {ts rest more : List Token} {script : Script} →
+        SkipsNewlines ts rest → IsList n rest script more → IsBlock n ts script more
 
   -- The tokens begin with one or more commands, each with a separator behind it; then come the last.
-  pub data IsList : ℕ → List Token → Script → List Token → Type 0 where
-    last : {depth : ℕ} {ts mid rest : List Token} {whole : Script} →
-        IsCommand depth ts mid finish whole → Separates mid rest → IsList depth ts whole rest
-    more : {depth : ℕ} {ts mid next rest : List Token} {whole script : Script} →
-        IsCommand depth ts mid script whole → Separates mid next → IsList depth next script rest →
-        IsList depth ts whole rest
+  pub data IsList : Nest → List Token → Script → List Token → Type 0 where
+    last : {n : Nest} {ts mid rest : List Token} {whole : Script} →
+        IsCommand n ts mid finish whole → Separates mid rest → IsList n ts whole rest
+    more : {n : Nest} {ts mid next rest : List Token} {whole script : Script} →
+        IsCommand n ts mid script whole → Separates mid next → IsList n next script rest → IsList n ts whole rest
 
 -- the tokens are commands, each with a separator behind it, which the last may lack
 pub data IsWhole : List Token → Script → Type 0 where
   empty : IsWhole [] finish
-  unended : {ts : List Token} {whole : Script} → IsCommand 0 ts [] finish whole → IsWhole ts whole
+  unended : {ts : List Token} {whole : Script} → IsCommand outermost ts [] finish whole → IsWhole ts whole
   continues : {ts mid rest : List Token} {whole script : Script} →
-      IsCommand 0 ts mid script whole → Separates mid rest → IsWhole rest script → IsWhole ts whole
+      IsCommand outermost ts mid script whole → Separates mid rest → IsWhole rest script → IsWhole ts whole
 
 -- the tokens are a whole script: newlines, if any, and then its commands
 abbrev pub IsProgram : List Token → Script → Type 0

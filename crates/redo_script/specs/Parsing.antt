@@ -1,13 +1,15 @@
 -- The script of a list of tokens, token by token, or the first fault that is met: what may come next, and which fault
 -- anything else is.
-use Rattle.std.specs.Prelude.{ℕ, suc, Bool, true, false, ◌||◌, nat_lt, if◌then◌else◌, List, [], ◌∷◌, ◌++◌, Option, Some}
-use Rattle.std.specs.Prelude.{None, Result, Ok, codes}
+use Rattle.std.specs.Prelude.{ℕ, Bool, true, false, ◌||◌, nat_lt, if◌then◌else◌, List, [], ◌∷◌, ◌++◌, length, Option}
+use Rattle.std.specs.Prelude.{Some, None, Result, Ok, codes}
+use Rattle.std.specs.Option.{is_some}
 use Rattle.redo_script.specs.declared.fault.ScriptFault.{ScriptFault}
 use Rattle.redo_script.specs.declared.fault.Reason.TheVariants as reasons
 use Rattle.redo_script.specs.Faults.{◌>>=◌, fault_at}
-use Rattle.redo_script.specs.Syntax.{Redirection, Command, Condition, Script, finish, simple, choice}
+use Rattle.redo_script.specs.Syntax.{Word, Redirection, Command, Condition, Script, finish, simple, choice, loop}
 use Rattle.redo_script.specs.Tokens.{Token, word, semicolon, newline, redirect}
-use Rattle.redo_script.specs.Grammar.{Item, is_named, command_form, condition_form}
+use Rattle.redo_script.specs.Grammar.{Item, is_named, command_form, condition_form, name_of, is_bound, knows_word}
+use Rattle.redo_script.specs.Grammar.{knows, Opening, an_if, a_loop, nest_in}
 
 -- what was read of a command: its line, its name, its operands, and its redirection
 pub record Begun : Type 0 where
@@ -28,15 +30,19 @@ pub data Phase : Type 0 where
   in_condition : Begun → Phase
   before_then : (line : ℕ) → Condition → Phase
   behind_fi : (line : ℕ) → Phase
+  behind_for : (line : ℕ) → Phase
+  behind_name : (line : ℕ) → (name : List ℕ) → Phase
+  in_words : (line : ℕ) → (name : List ℕ) → List Word → Phase
+  before_do : (line : ℕ) → (name : List ℕ) → List Word → Phase
+  behind_done : (line : ℕ) → Phase
 
--- an open if: its line, its condition, the first branch once else was read, and the statements before it
-pub record Open : Type 0 where
-  pub line : ℕ
-  pub condition : Condition
-  pub first : Option Script
-  pub before : Script
+-- What is open, with the statements before it: an if, with its line, its condition, and the first branch once else was
+-- read; or a loop, with its line, its name and its words.
+pub data Open : Type 0 where
+  open_if : (line : ℕ) → Condition → (first : Option Script) → (before : Script) → Open
+  open_loop : (line : ℕ) → (name : List ℕ) → List Word → (before : Script) → Open
 
--- what is expected, the open ifs, the innermost first, and the statements so far of the innermost part
+-- what is expected, what is open, the innermost first, and the statements so far of the innermost part
 pub record Parser : Type 0 where
   pub phase : Phase
   pub opens : List Open
@@ -47,12 +53,31 @@ abbrev pub is_empty : Script → Bool
 is_empty finish = true
 is_empty (simple l c rest) = false
 is_empty (choice l c a b rest) = false
+is_empty (loop l name ws body rest) = false
 
 -- the second script behind the first
 abbrev pub with_last : Script → Script → Script
 with_last finish s = s
 with_last (simple l c rest) s = simple l c (with_last rest s)
 with_last (choice l c a b rest) s = choice l c a b (with_last rest s)
+with_last (loop l name ws body rest) s = loop l name ws body (with_last rest s)
+
+-- the same without what was read of it
+abbrev pub opening_of : Open → Opening
+opening_of (open_if line c first before) = an_if line (is_some first)
+opening_of (open_loop line name ws before) = a_loop line name
+
+abbrev pub openings : List Open → List Opening
+openings [] = []
+openings (o ∷ os) = opening_of o ∷ openings os
+
+-- how many ifs are open
+abbrev pub ifs_in : List Open → ℕ
+ifs_in os = (nest_in (openings os)).ifs
+
+-- the names that the open loops bind
+abbrev pub names_in : List Open → List (List ℕ)
+names_in os = (nest_in (openings os)).names
 
 -- the word is one of these names
 abbrev pub is_one_of : List (List ℕ) → Item → Bool
@@ -68,8 +93,15 @@ commands =
 -- the words of the shell that the subset leaves out
 abbrev pub words_outside : List (List ℕ)
 words_outside =
-    codes "!" ∷ codes "elif" ∷ codes "while" ∷ codes "until" ∷ codes "for" ∷ codes "do" ∷ codes "done" ∷ codes "case"
-    ∷ codes "esac" ∷ []
+    codes "!" ∷ codes "elif" ∷ codes "while" ∷ codes "until" ∷ codes "case" ∷ codes "esac" ∷ []
+
+-- the words of a loop
+abbrev pub loop_words : List (List ℕ)
+loop_words = codes "for" ∷ codes "do" ∷ codes "done" ∷ []
+
+-- the words of an if behind its condition
+abbrev pub if_words : List (List ℕ)
+if_words = codes "then" ∷ codes "else" ∷ codes "fi" ∷ []
 
 -- which fault a name is that no command of the subset has
 abbrev pub name_fault : ℕ → Item → Result (List Item) ScriptFault
@@ -106,64 +138,81 @@ with_redirect b appends = elim b.awaits [
 abbrev pub is_unfinished : Begun → Bool
 is_unfinished b = b.is_ill || elim b.awaits [ Some a ↦ true | None ↦ false ]
 
--- the command that ends here
-abbrev pub ended_command : Begun → Result Command ScriptFault
-ended_command b = or_shape b.line (is_unfinished b) (command_form b.name b.items b.redirection)
+-- what a command is, where each name in it is bound
+abbrev pub if_known : {A : Type 0} → ℕ → Bool → A → Result A ScriptFault
+if_known line true x = Ok x
+if_known line false x = fault_at line reasons.Unsupported
+
+-- the command that ends here, where these names are bound
+abbrev pub ended_command : List (List ℕ) → Begun → Result Command ScriptFault
+ended_command names b =
+    or_shape b.line (is_unfinished b) (command_form b.name b.items b.redirection)
+    >>= if_known b.line (knows names b.items b.redirection)
 
 -- a condition has none
 abbrev pub no_redirection : Option Redirection → Option Condition → Option Condition
 no_redirection None c = c
 no_redirection (Some r) c = None
 
--- the condition that ends here
-abbrev pub ended_condition : Begun → Result Condition ScriptFault
-ended_condition b = or_shape b.line (is_unfinished b) (no_redirection b.redirection (condition_form b.name b.items))
+-- the condition that ends here, where these names are bound
+abbrev pub ended_condition : List (List ℕ) → Begun → Result Condition ScriptFault
+ended_condition names b =
+    or_shape b.line (is_unfinished b) (no_redirection b.redirection (condition_form b.name b.items))
+    >>= if_known b.line (knows names b.items b.redirection)
 
 -- one more statement
 abbrev pub with_command : Parser → Begun → Result Parser ScriptFault
 with_command p b = do
-  c ← ended_command b
+  c ← ended_command (names_in p.opens) b
   Ok (record p { phase = at_command; so_far = with_last p.so_far (simple b.line c finish) })
 
 -- then must come
 abbrev pub with_condition : Parser → Begun → Result Parser ScriptFault
 with_condition p b = do
-  c ← ended_condition b
+  c ← ended_condition (names_in p.opens) b
   Ok (record p { phase = before_then b.line c })
-
--- how many ifs are open
-abbrev pub length_of : List Open → ℕ
-length_of [] = 0
-length_of (o ∷ os) = suc (length_of os)
 
 -- else, with commands before it in a first branch
 abbrev pub at_else : Parser → ℕ → List Open → Result Parser ScriptFault
 at_else p line [] = fault_at line reasons.IfShape
-at_else p line (o ∷ os) = elim o.first [
-  | Some first ↦ fault_at line reasons.IfShape
-  | None ↦
-      if is_empty p.so_far then fault_at line reasons.IfShape
-      else Ok (record { phase = at_command; opens = record o { first = Some p.so_far } ∷ os; so_far = finish })
-]
+at_else p line (open_loop l name ws before ∷ os) = fault_at line reasons.IfShape
+at_else p line (open_if l c (Some first) before ∷ os) = fault_at line reasons.IfShape
+at_else p line (open_if l c None before ∷ os) =
+    if is_empty p.so_far then fault_at line reasons.IfShape
+    else Ok (record { phase = at_command; opens = open_if l c (Some p.so_far) before ∷ os; so_far = finish })
 
--- what stands before an if, and then the if with this last branch
+-- what stands before an if or a loop, and then the one or the other with this last part
 abbrev pub closed : Open → Script → Script
-closed o branch = with_last o.before (elim o.first [
-  | None ↦ choice o.line o.condition branch finish finish
-  | Some first ↦ choice o.line o.condition first branch finish
-])
+closed (open_if l c None before) branch = with_last before (choice l c branch finish finish)
+closed (open_if l c (Some first) before) branch = with_last before (choice l c first branch finish)
+closed (open_loop l name ws before) body = with_last before (loop l name ws body finish)
 
 -- fi, with commands before it in its branch
 abbrev pub at_fi : Parser → ℕ → List Open → Result Parser ScriptFault
 at_fi p line [] = fault_at line reasons.IfShape
-at_fi p line (o ∷ os) =
+at_fi p line (open_loop l name ws before ∷ os) = fault_at line reasons.IfShape
+at_fi p line (open_if l c first before ∷ os) =
     if is_empty p.so_far then fault_at line reasons.IfShape
-    else Ok (record { phase = behind_fi line; opens = os; so_far = closed o p.so_far })
+    else Ok (record { phase = behind_fi line; opens = os; so_far = closed (open_if l c first before) p.so_far })
+
+-- done, with commands before it in its loop
+abbrev pub at_done : Parser → ℕ → List Open → Result Parser ScriptFault
+at_done p line [] = fault_at line reasons.Shape
+at_done p line (open_if l c first before ∷ os) = fault_at line reasons.Shape
+at_done p line (open_loop l name ws before ∷ os) =
+    if is_empty p.so_far then fault_at line reasons.Shape
+    else Ok (record { phase = behind_done line; opens = os; so_far = closed (open_loop l name ws before) p.so_far })
 
 -- if, inside at most 15 others
 abbrev pub if_opened : Parser → ℕ → Result Parser ScriptFault
 if_opened p line =
-    if nat_lt (length_of p.opens) 16 then Ok (record p { phase = behind_if line }) else fault_at line reasons.TooDeep
+    if nat_lt (ifs_in p.opens) 16 then Ok (record p { phase = behind_if line }) else fault_at line reasons.TooDeep
+
+-- for, inside at most one other
+abbrev pub for_opened : Parser → ℕ → Result Parser ScriptFault
+for_opened p line =
+    if nat_lt (length (names_in p.opens)) 2 then Ok (record p { phase = behind_for line })
+    else fault_at line reasons.TooDeep
 
 -- a word in a command's place
 abbrev pub first_word : Parser → ℕ → Item → Result Parser ScriptFault
@@ -172,14 +221,22 @@ first_word p line item =
     else if is_named (codes "then") item then fault_at line reasons.IfShape
     else if is_named (codes "else") item then at_else p line p.opens
     else if is_named (codes "fi") item then at_fi p line p.opens
+    else if is_named (codes "for") item then for_opened p line
+    else if is_named (codes "do") item then fault_at line reasons.Shape
+    else if is_named (codes "done") item then at_done p line p.opens
     else (name_fault line item >>= λ none. Ok (record p { phase = in_command (begun line item) }))
 
+-- a word where none may stand but those of a loop are told apart: these are Shape in their own line
+abbrev pub misplaced : {A : Type 0} → (line at : ℕ) → Item → Result A ScriptFault
+misplaced line at item =
+    if is_one_of loop_words item then fault_at at reasons.Shape else fault_at line reasons.IfShape
+
 -- a word behind if
-abbrev pub condition_word : Parser → ℕ → Item → Result Parser ScriptFault
-condition_word p line item =
+abbrev pub condition_word : Parser → ℕ → ℕ → Item → Result Parser ScriptFault
+condition_word p line at item =
     if is_one_of (codes "test" ∷ codes "true" ∷ codes "false" ∷ []) item
     then Ok (record p { phase = in_condition (begun line item) })
-    else fault_at line reasons.IfShape
+    else misplaced line at item
 
 -- a word where then must stand
 abbrev pub then_word : Parser → ℕ → Condition → ℕ → Item → Result Parser ScriptFault
@@ -187,19 +244,55 @@ then_word p line c at item =
     if is_named (codes "then") item
     then Ok (record {
       phase = at_command;
-      opens = record { line = line; condition = c; first = None; before = p.so_far } ∷ p.opens;
+      opens = open_if line c None p.so_far ∷ p.opens;
       so_far = finish;
     })
-    else fault_at at reasons.IfShape
+    else misplaced at at item
+
+-- a loop's name, which isn't bound yet
+abbrev pub loop_named : Parser → (line at : ℕ) → Option (List ℕ) → Result Parser ScriptFault
+loop_named p line at None = fault_at at reasons.Shape
+loop_named p line at (Some name) =
+    if is_bound (names_in p.opens) name then fault_at at reasons.Shape
+    else Ok (record p { phase = behind_name line name })
+
+-- a word where in must stand
+abbrev pub words_begun : Parser → ℕ → List ℕ → Item → Result Parser ScriptFault
+words_begun p line name item =
+    if is_named (codes "in") item then Ok (record p { phase = in_words line name [] })
+    else fault_at line reasons.Shape
+
+-- one more word of a loop
+abbrev pub loop_word : Parser → ℕ → List ℕ → List Word → Item → Result Parser ScriptFault
+loop_word p line name ws item =
+    if knows_word (names_in p.opens) item.word then Ok (record p { phase = in_words line name (ws ++ item.word ∷ []) })
+    else fault_at line reasons.Unsupported
+
+-- a word where do must stand
+abbrev pub do_word : Parser → ℕ → List ℕ → List Word → ℕ → Item → Result Parser ScriptFault
+do_word p line name ws at item =
+    if is_named (codes "do") item
+    then Ok (record {
+      phase = at_command;
+      opens = open_loop line name ws p.so_far ∷ p.opens;
+      so_far = finish;
+    })
+    else if is_one_of if_words item then fault_at at reasons.IfShape
+    else fault_at at reasons.Shape
 
 -- a word, by what is expected
 abbrev pub a_word : Phase → Parser → ℕ → Item → Result Parser ScriptFault
 a_word at_command p l item = first_word p l item
 a_word (in_command b) p l item = Ok (record p { phase = in_command (with_word b item) })
-a_word (behind_if line) p l item = condition_word p line item
+a_word (behind_if line) p l item = condition_word p line l item
 a_word (in_condition b) p l item = Ok (record p { phase = in_condition (with_word b item) })
 a_word (before_then line c) p l item = then_word p line c l item
-a_word (behind_fi line) p l item = fault_at line reasons.IfShape
+a_word (behind_fi line) p l item = misplaced line l item
+a_word (behind_for line) p l item = loop_named p line l (name_of item)
+a_word (behind_name line name) p l item = words_begun p line name item
+a_word (in_words line name ws) p l item = loop_word p line name ws item
+a_word (before_do line name ws) p l item = do_word p line name ws l item
+a_word (behind_done line) p l item = fault_at line reasons.Shape
 
 -- a redirection, by what is expected
 abbrev pub a_redirect : Phase → Parser → ℕ → Bool → Result Parser ScriptFault
@@ -209,6 +302,11 @@ a_redirect (behind_if line) p l a = fault_at line reasons.IfShape
 a_redirect (in_condition b) p l a = Ok (record p { phase = in_condition (with_redirect b a) })
 a_redirect (before_then line c) p l a = fault_at l reasons.IfShape
 a_redirect (behind_fi line) p l a = fault_at line reasons.IfShape
+a_redirect (behind_for line) p l a = fault_at l reasons.Shape
+a_redirect (behind_name line name) p l a = fault_at line reasons.Shape
+a_redirect (in_words line name ws) p l a = fault_at l reasons.Shape
+a_redirect (before_do line name ws) p l a = fault_at l reasons.Shape
+a_redirect (behind_done line) p l a = fault_at line reasons.Shape
 
 -- a separator; a newline may also stand where no command is
 abbrev pub a_separator : Phase → Parser → ℕ → Bool → Result Parser ScriptFault
@@ -220,6 +318,12 @@ a_separator (in_condition b) p l is_newline = with_condition p b
 a_separator (before_then line c) p l true = Ok p
 a_separator (before_then line c) p l false = fault_at l reasons.IfShape
 a_separator (behind_fi line) p l is_newline = Ok (record p { phase = at_command })
+a_separator (behind_for line) p l is_newline = fault_at l reasons.Shape
+a_separator (behind_name line name) p l is_newline = fault_at line reasons.Shape
+a_separator (in_words line name ws) p l is_newline = Ok (record p { phase = before_do line name ws })
+a_separator (before_do line name ws) p l true = Ok p
+a_separator (before_do line name ws) p l false = fault_at l reasons.Shape
+a_separator (behind_done line) p l is_newline = Ok (record p { phase = at_command })
 
 -- one token more
 abbrev pub next_token : Parser → Token → Result Parser ScriptFault
@@ -228,10 +332,11 @@ next_token p (semicolon l) = a_separator p.phase p l false
 next_token p (newline l) = a_separator p.phase p l true
 next_token p (redirect l appends) = a_redirect p.phase p l appends
 
--- the script, where no if is open
+-- the script, where no if or loop is open
 abbrev pub unless_open : List Open → Script → Result Script ScriptFault
 unless_open [] script = Ok script
-unless_open (o ∷ os) script = fault_at o.line reasons.IfShape
+unless_open (open_if line c first before ∷ os) script = fault_at line reasons.IfShape
+unless_open (open_loop line name ws before ∷ os) script = fault_at line reasons.Shape
 
 -- the end of the tokens, by what is expected
 abbrev pub end_by_phase : Phase → Parser → Result Script ScriptFault
@@ -241,6 +346,11 @@ end_by_phase (behind_if line) p = fault_at line reasons.IfShape
 end_by_phase (in_condition b) p = with_condition p b >>= λ q. fault_at b.line reasons.IfShape
 end_by_phase (before_then line c) p = fault_at line reasons.IfShape
 end_by_phase (behind_fi line) p = unless_open p.opens p.so_far
+end_by_phase (behind_for line) p = fault_at line reasons.Shape
+end_by_phase (behind_name line name) p = fault_at line reasons.Shape
+end_by_phase (in_words line name ws) p = fault_at line reasons.Shape
+end_by_phase (before_do line name ws) p = fault_at line reasons.Shape
+end_by_phase (behind_done line) p = unless_open p.opens p.so_far
 
 -- reading goes on to the last token
 unfoldable pub parse_on : Parser → List Token → Result Script ScriptFault

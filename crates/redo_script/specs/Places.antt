@@ -1,8 +1,9 @@
 -- Where the tokens of a text stop.
-use Rattle.std.specs.Prelude.{◌≡◌, ℕ, List, [], ◌∷◌, ◌++◌, ◌⊎◌}
+use Rattle.std.specs.Prelude.{◌≡◌, ℕ, true, List, [], ◌∷◌, ◌++◌, ◌⊎◌}
 use Rattle.redo_script.specs.declared.fault.ScriptFault.{ScriptFault}
 use Rattle.redo_script.specs.declared.fault.Reason.TheVariants as reasons
 use Rattle.redo_script.specs.Bytes as bytes
+use Rattle.redo_script.specs.Bytes.{begins_name}
 use Rattle.redo_script.specs.declared.ast.Parameter.{Parameter}
 use Rattle.redo_script.specs.Tokens.{Token, Names, AreTokens, line_after}
 
@@ -40,14 +41,14 @@ pub record QuoteIsOpen (text : List ℕ) (fault : ScriptFault) : Type 0 where
   pub is_longest : (x y : List ℕ) (ts : List Token) → inside ≡ x ++ y → AreTokens (before ++ quote ∷ x) ts → ⊥
   pub fault_is : fault ≡ record { line = line_from 1 before; why = reasons.OpenQuote }
 
--- the bytes end behind a `$` that lacks its digit: only that digit can come next
-abbrev pub NeedsDigit : List ℕ → Type 0
-NeedsDigit bs = (b : ℕ) → CanGoOn (bs ++ b ∷ []) → (p : Parameter) × Names b p
+-- the bytes end behind a `$` that lacks its digit or name: only that digit or the first byte of a name can come next
+abbrev pub NeedsParameter : List ℕ → Type 0
+NeedsParameter bs = (b : ℕ) → CanGoOn (bs ++ b ∷ []) → ((p : Parameter) × Names b p) ⊎ (begins_name b ≡ true)
 
--- The text can still go on, but ends behind a `$` that lacks its digit, which is Unsupported in the line of the end, or
--- else in a quote.
+-- The text can still go on, but ends behind a `$` that lacks its digit or name, which is Unsupported in the line of the
+-- end, or else in a quote.
 pub record StopsAtEnd (text : List ℕ) (fault : ScriptFault) : Type 0 where
   pub can_go_on : CanGoOn text
   pub fault_is :
-      (NeedsDigit text × (fault ≡ record { line = line_from 1 text; why = reasons.Unsupported }))
-      ⊎ ((NeedsDigit text → ⊥) × QuoteIsOpen text fault)
+      (NeedsParameter text × (fault ≡ record { line = line_from 1 text; why = reasons.Unsupported }))
+      ⊎ ((NeedsParameter text → ⊥) × QuoteIsOpen text fault)

@@ -8,13 +8,13 @@ use Rattle.redo_script.specs.declared.fault.Reason.TheVariants as reasons
 use Rattle.redo_script.specs.declared.lexer.Mode.{Mode}
 use Rattle.redo_script.specs.declared.lexer.Mode.TheVariants as modes
 use Rattle.redo_script.specs.Faults.{◌>>=◌, fault_at}
-use Rattle.redo_script.specs.Syntax.{Symbol, byte, quoted, bare, Word}
+use Rattle.redo_script.specs.Syntax.{Symbol, byte, quoted, bare, named_quoted, named_bare, Word}
 use Rattle.redo_script.specs.Bytes as bytes
-use Rattle.redo_script.specs.Bytes.{is_digit, is_plain, is_blank}
+use Rattle.redo_script.specs.Bytes.{is_digit, is_plain, is_blank, begins_name, continues_name}
 use Rattle.redo_script.specs.Tokens.{Token, word, semicolon, newline, redirect, ends_word, is_escaped, line_after}
 
 -- Where reading stands: between which bytes, the line, the line of the quote that was opened last, the word
--- that was begun, and the tokens so far.
+-- that was begun, the name that was begun last, and the tokens so far.
 pub record Reader : Type 0 where
   pub mode : Mode
   pub line : ℕ
@@ -23,6 +23,7 @@ pub record Reader : Type 0 where
   pub is_plain : Bool
   pub is_number : Bool
   pub word : Word
+  pub name : List ℕ
   pub tokens : List Token
 
 -- before the first byte
@@ -35,6 +36,7 @@ at_start = record {
   is_plain = true;
   is_number = true;
   word = [];
+  name = [];
   tokens = [];
 }
 
@@ -146,13 +148,35 @@ abbrev pub with_parameter : Reader → Mode → (Parameter → Symbol) → Optio
 with_parameter r m symbol None = unsupported r
 with_parameter r m symbol (Some p) = Ok (with_symbol r m (symbol p))
 
+-- a name begins with this byte
+abbrev pub with_name : Reader → Mode → ℕ → Reader
+with_name r m b = record r { mode = m; name = b ∷ [] }
+
 -- a byte behind `$`
 abbrev pub after_dollar : Reader → ℕ → Result Reader ScriptFault
-after_dollar r b = with_parameter r modes.Word bare (parameter_named b)
+after_dollar r b =
+    if begins_name b then Ok (with_name r modes.Name b) else with_parameter r modes.Word bare (parameter_named b)
 
 -- a byte behind `$` in double quotes
 abbrev pub after_quoted_dollar : Reader → ℕ → Result Reader ScriptFault
-after_quoted_dollar r b = with_parameter r modes.Double quoted (parameter_named b)
+after_quoted_dollar r b =
+    if begins_name b then Ok (with_name r modes.QuotedName b)
+    else with_parameter r modes.Double quoted (parameter_named b)
+
+-- one more byte of a name
+abbrev pub with_name_byte : Reader → ℕ → Reader
+with_name_byte r b = record r { name = r.name ++ b ∷ [] }
+
+-- a byte directly behind one of a name
+abbrev pub in_name : Reader → ℕ → Result Reader ScriptFault
+in_name r b =
+    if continues_name b then Ok (with_name_byte r b) else in_word (with_symbol r modes.Word (named_bare r.name)) b
+
+-- a byte directly behind one of a name in double quotes
+abbrev pub in_quoted_name : Reader → ℕ → Result Reader ScriptFault
+in_quoted_name r b =
+    if continues_name b then Ok (with_name_byte r b)
+    else in_double (with_symbol r modes.Double (named_quoted r.name)) b
 
 -- one byte more, by what it belongs to
 abbrev pub by_mode : Mode → Reader → ℕ → Result Reader ScriptFault
@@ -162,9 +186,11 @@ by_mode modes.Redirect r b = after_redirect r b
 by_mode modes.Comment r b = in_comment r b
 by_mode modes.Word r b = in_word r b
 by_mode modes.Dollar r b = after_dollar r b
+by_mode modes.Name r b = in_name r b
 by_mode modes.Single r b = in_single r b
 by_mode modes.Double r b = in_double r b
 by_mode modes.QuotedDollar r b = after_quoted_dollar r b
+by_mode modes.QuotedName r b = in_quoted_name r b
 by_mode modes.Escape r b = after_backslash r b
 
 -- one byte more
@@ -178,10 +204,12 @@ end_by_mode modes.Semicolon r = Ok r.tokens
 end_by_mode modes.Comment r = Ok r.tokens
 end_by_mode modes.Redirect r = Ok (with_token r (redirect r.line false)).tokens
 end_by_mode modes.Word r = Ok (with_word r).tokens
+end_by_mode modes.Name r = Ok (with_word (with_symbol r modes.Word (named_bare r.name))).tokens
 end_by_mode modes.Dollar r = fault_at r.line reasons.Unsupported
 end_by_mode modes.QuotedDollar r = fault_at r.line reasons.Unsupported
 end_by_mode modes.Single r = fault_at r.opened reasons.OpenQuote
 end_by_mode modes.Double r = fault_at r.opened reasons.OpenQuote
+end_by_mode modes.QuotedName r = fault_at r.opened reasons.OpenQuote
 end_by_mode modes.Escape r = fault_at r.opened reasons.OpenQuote
 
 -- the end of the text

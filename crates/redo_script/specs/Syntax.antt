@@ -2,11 +2,14 @@
 use Rattle.std.specs.Prelude.{ℕ, Bool, List, Option}
 use Rattle.redo_script.specs.declared.ast.Parameter.{Parameter}
 
--- One symbol of a word: a byte that stands for itself, or a parameter in double quotes or outside quotes.
+-- One symbol of a word: a byte that stands for itself, or a parameter in double quotes or outside quotes, which is an
+-- argument of the script or the value that a loop gives a name.
 pub data Symbol : Type 0 where
   byte : ℕ → Symbol
   quoted : Parameter → Symbol
   bare : Parameter → Symbol
+  named_quoted : (name : List ℕ) → Symbol
+  named_bare : (name : List ℕ) → Symbol
 
 -- a word, symbol by symbol
 abbrev pub Word : Type 0
@@ -50,3 +53,4 @@ pub data Script : Type 0 where
   finish : Script
   simple : (line : ℕ) → Command → (rest : Script) → Script
   choice : (line : ℕ) → Condition → (first second : Script) → (rest : Script) → Script
+  loop : (line : ℕ) → (name : List ℕ) → List Word → (body : Script) → (rest : Script) → Script

@@ -3,19 +3,13 @@ use Rattle.std.specs.Prelude.{◌≡◌, ℕ, Bool, true, false, ◌&&◌, ◌==
 use Rattle.redo_script.specs.declared.fault.ScriptFault.{ScriptFault}
 use Rattle.redo_script.specs.declared.fault.Reason.TheVariants as reasons
 use Rattle.redo_script.specs.Bytes as bytes
+use Rattle.redo_script.specs.Bytes.{same_bytes}
 use Rattle.redo_script.specs.Faults.{◌>>=◌, fault_at}
 use Rattle.redo_script.specs.Syntax.{Script}
 use Rattle.redo_script.specs.Tokens.{Token, AreTokens, line_after}
 use Rattle.redo_script.specs.Grammar.{IsProgram}
 use Rattle.redo_script.specs.Reading.{tokens_of}
 use Rattle.redo_script.specs.Parsing.{statements_of}
-
--- the two are the same bytes
-abbrev pub same_bytes : List ℕ → List ℕ → Bool
-same_bytes [] [] = true
-same_bytes [] (b ∷ bs) = false
-same_bytes (a ∷ x) [] = false
-same_bytes (a ∷ x) (b ∷ bs) = (a == b) && same_bytes x bs
 
 -- the bytes before the first newline
 abbrev pub first_line : List ℕ → List ℕ

@@ -3,8 +3,8 @@ use Rattle.std.specs.Prelude.{◌≡◌, ◌≢◌, ℕ, suc, Bool, true, false,
 use Rattle.redo_script.specs.declared.ast.Parameter.{Parameter}
 use Rattle.redo_script.specs.declared.ast.Parameter.TheVariants.{One, Two, Three}
 use Rattle.redo_script.specs.Bytes as bytes
-use Rattle.redo_script.specs.Bytes.{is_digit, is_plain, is_blank}
-use Rattle.redo_script.specs.Syntax.{byte, quoted, bare, Word}
+use Rattle.redo_script.specs.Bytes.{is_digit, is_plain, is_blank, begins_name, continues_name}
+use Rattle.redo_script.specs.Syntax.{byte, quoted, bare, named_quoted, named_bare, Word}
 
 -- A token, with the line that it begins on: a word, and whether it is written with plain bytes alone; `;`; the end of a
 -- line; and `>` or `>>`.
@@ -19,6 +19,17 @@ pub data Names : ℕ → Parameter → Type 0 where
   one : Names 49 One
   two : Names 50 Two
   three : Names 51 Three
+
+-- here a name ends: at a byte that no name goes on with, or at the end of the text
+abbrev pub AtNameEnd : List ℕ → Type 0
+AtNameEnd [] = Unit {0}
+AtNameEnd (b ∷ bs) = continues_name b ≡ false
+
+-- The bytes begin with the rest of a name, to its last byte; then come the last.
+pub data EndsName : List ℕ → List ℕ → List ℕ → Type 0 where
+  ends_here : {bs : List ℕ} → AtNameEnd bs → EndsName bs [] bs
+  one_more : {b : ℕ} {bs name rest : List ℕ} →
+      continues_name b ≡ true → EndsName bs name rest → EndsName (b ∷ bs) (b ∷ name) rest
 
 -- a byte that ends a word
 abbrev pub ends_word : ℕ → Bool
@@ -96,6 +107,9 @@ mutual
         b ≡ bytes.double_quote → IsDouble l bs w ts → IsWord l (b ∷ bs) w false ts
     parameter : {l b c : ℕ} {k : Parameter} {bs : List ℕ} {w : Word} {p : Bool} {ts : List Token} →
         b ≡ bytes.dollar → Names c k → IsWord l bs w p ts → IsWord l (b ∷ c ∷ bs) (bare k ∷ w) false ts
+    by_name : {l b c : ℕ} {bs name rest : List ℕ} {w : Word} {p : Bool} {ts : List Token} →
+        b ≡ bytes.dollar → begins_name c ≡ true → EndsName bs name rest → IsWord l rest w p ts →
+        IsWord l (b ∷ c ∷ bs) (named_bare (c ∷ name) ∷ w) false ts
 
   -- The bytes go on inside single quotes, where every other byte stands for itself, and then with the rest of the word.
   pub data IsSingle : ℕ → List ℕ → Word → List Token → Type 0 where
@@ -113,6 +127,9 @@ mutual
         is_escaped b ≡ false → IsDouble (line_after l b) bs w ts → IsDouble l (b ∷ bs) (byte b ∷ w) ts
     in_double : {l b c : ℕ} {k : Parameter} {bs : List ℕ} {w : Word} {ts : List Token} →
         b ≡ bytes.dollar → Names c k → IsDouble l bs w ts → IsDouble l (b ∷ c ∷ bs) (quoted k ∷ w) ts
+    by_name_in_double : {l b c : ℕ} {bs name rest : List ℕ} {w : Word} {ts : List Token} →
+        b ≡ bytes.dollar → begins_name c ≡ true → EndsName bs name rest → IsDouble l rest w ts →
+        IsDouble l (b ∷ c ∷ bs) (named_quoted (c ∷ name) ∷ w) ts
     escapes : {l b c : ℕ} {bs : List ℕ} {w : Word} {ts : List Token} →
         b ≡ bytes.backslash → is_escaped c ≡ true → IsDouble l bs w ts → IsDouble l (b ∷ c ∷ bs) (byte c ∷ w) ts
     backslash : {l b c : ℕ} {bs : List ℕ} {w : Word} {ts : List Token} →

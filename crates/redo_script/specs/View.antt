@@ -18,16 +18,19 @@ use Rattle.redo_script.specs.declared.ast.Stmt.{Stmt}
 use Rattle.redo_script.specs.declared.ast.Stmt.TheOpen.{Stmt-F}
 use Rattle.redo_script.specs.declared.ast.Stmt.TheOpen as stmts
 use Rattle.redo_script.specs.declared.ast.Stmt.TheFolds.{fold-Stmt}
-use Rattle.redo_script.specs.Syntax.{Symbol, byte, quoted, bare, Word, Redirection, Test, is_file, equal, differ}
+use Rattle.redo_script.specs.Syntax.{Symbol, byte, quoted, bare, named_quoted, named_bare, Word}
+use Rattle.redo_script.specs.Syntax.{Redirection, Test, is_file, equal, differ}
 use Rattle.redo_script.specs.Syntax.{Writer, echo, printf, cat, Command, write, test, change, create, always_true}
 use Rattle.redo_script.specs.Syntax.{always_false, exit, Condition, if_test, if_true, if_false, Script, finish, simple}
-use Rattle.redo_script.specs.Syntax.{choice}
+use Rattle.redo_script.specs.Syntax.{choice, loop}
 
 -- the symbols of a piece of a word
 abbrev pub symbols_of_part : Part → List Symbol
 symbols_of_part (parts.Lit bytes) = map byte bytes
 symbols_of_part (parts.Quoted p) = quoted p ∷ []
 symbols_of_part (parts.Bare p) = bare p ∷ []
+symbols_of_part (parts.NamedQuoted name) = named_quoted name ∷ []
+symbols_of_part (parts.NamedBare name) = named_bare name ∷ []
 
 -- the symbols of pieces, one after the other
 abbrev pub symbols_of : List Part → Word
@@ -79,10 +82,11 @@ abbrev pub in_a_row : List (Script → Script) → Script
 in_a_row [] = finish
 in_a_row (first ∷ others) = first (in_a_row others)
 
--- a statement whose branches are given as what puts them before others, before the rest
+-- a statement whose parts are given as what puts them before others, before the rest
 abbrev pub stmt_step : Stmt-F (Script → Script) → Script → Script
 stmt_step (stmts.Simple line c) rest = simple line (command_of c) rest
 stmt_step (stmts.If line c a b) rest = choice line (condition_of c) (in_a_row a.items) (in_a_row b.items) rest
+stmt_step (stmts.Loop line name ws body) rest = loop line name (words_of ws.items) (in_a_row body.items) rest
 
 -- the statement, and then the rest
 abbrev pub before : Stmt → Script → Script

@@ -21,6 +21,10 @@ pub enum Part {
     /// A parameter outside quotes, whose value must be plain bytes and not empty
     /// ([`is_plain_byte`](crate::is_plain_byte)).
     Bare(Parameter),
+    /// The value that a loop gives this name, in double quotes.
+    NamedQuoted(Bytes),
+    /// The value that a loop gives this name, outside quotes: plain bytes and not empty.
+    NamedBare(Bytes),
 }
 
 /// A word of a command, without its quotes.
@@ -90,6 +94,8 @@ pub enum Stmt {
     Simple(u64, Command),
     /// The condition and the two branches. Without `else` the second is empty, and otherwise neither is.
     If(u64, Condition, Vec<Stmt>, Vec<Stmt>),
+    /// The line, the name, the words and the body of `for NAME in words; do body done`.
+    Loop(u64, Bytes, Vec<Word>, Vec<Stmt>),
 }
 
 /// A whole script.

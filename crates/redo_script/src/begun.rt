@@ -1,19 +1,33 @@
 //! A command as far as it was read.
 
-ghost use Rattle.std.specs.Prelude.{◌≡◌, Ok};
+ghost use Rattle.std.specs.Prelude.{◌≡◌, Ok, [], map, option_map};
 ghost use Rattle.redo_script.specs.Faults.{Gives, Leaves};
 ghost use Rattle.redo_script.specs.Parsing.{begun, with_word, with_redirect, is_unfinished};
-ghost use Rattle.redo_script.specs.Parsing.{ended_command, ended_condition};
-ghost use Rattle.redo_script.specs.View.{command_of, condition_of};
-ghost use Rattle.redo_script.specs.inside.Parser.{item_of, word_named, begun_of};
+ghost use Rattle.redo_script.specs.Grammar.{knows, knows_items};
+ghost use Rattle.redo_script.specs.Parsing.{ended_command, ended_condition, names_in};
+ghost use Rattle.redo_script.specs.View.{command_of, condition_of, word_of};
+ghost use Rattle.redo_script.specs.inside.Parser.{item_of, word_named, begun_of, stack_onto};
 
 use crate::ast::{Command, Condition, Redirection};
 use crate::fault::{Reason, ScriptFault};
 use crate::form::{command_of_items, condition_of_items};
-use crate::item::Item;
+use crate::item::{Item, is_known};
 use crate::name::CommandName;
+use crate::open::Open;
 use std::alloc::Global;
 use std::mem;
+
+/// Whether each name in these words is bound by one of these.
+fn all_known(items: &[Item], opens: &[Open]) -> bool
+    ensures { result ≡ knows_items (names_in (stack_onto [] opens.now)) (map item_of items.now) }
+{
+    for item in items {
+        if !item.is_known(opens) {
+            return false;
+        }
+    }
+    true
+}
 
 /// What was read of a command. One place serves all commands of a script, one after the other.
 #[derive(Debug, Drop)]
@@ -85,38 +99,72 @@ impl<'a> Begun<'a> {
         self.is_ill || self.awaits.is_some()
     }
 
+    /// Whether each name in the command is bound by one of these.
+    fn is_known(&self, opens: &[Open]) -> bool
+        ensures { result ≡ knows (names_in (stack_onto [] opens.now)) (begun_of self.now).items
+            (begun_of self.now).redirection }
+    {
+        all_known(&self.items, opens)
+            && match &self.redirection {
+                Some(redirection) => is_known(&redirection.word, opens),
+                None => true,
+            }
+    }
+
     pub fn line(&self) -> u64
         ensures { result ≡ self.now.line }
     {
         self.line
     }
 
-    /// The command that ends here.
-    pub fn command(&mut self, alloc: Global) -> Result<Command, ScriptFault>
-        ensures { Gives command_of result (ended_command (begun_of self.old)) }
+    /// The command that ends here, inside these.
+    pub fn command(&mut self, alloc: Global, opens: &[Open]) -> Result<Command, ScriptFault>
+        ensures { Gives command_of result
+            (ended_command (names_in (stack_onto [] opens.now)) (begun_of self.old)) }
     {
         let shape = ScriptFault {
             line: self.line,
             why: Reason::Shape,
+        };
+        let unsupported = ScriptFault {
+            line: self.line,
+            why: Reason::Unsupported,
         };
         if self.is_unfinished() {
             return Err(shape);
         }
+        let is_known = self.is_known(opens);
         let redirection = mem::replace(&mut self.redirection, None);
-        command_of_items(alloc, self.name, &mut self.items, redirection)?.ok_or(shape)
+        let command = command_of_items(alloc, self.name, &mut self.items, redirection)?.ok_or(
+            shape,
+        )?;
+        if !is_known {
+            return Err(unsupported);
+        }
+        Ok(command)
     }
 
-    /// The condition that ends here.
-    pub fn condition(&mut self, alloc: Global) -> Result<Condition, ScriptFault>
-        ensures { Gives condition_of result (ended_condition (begun_of self.old)) }
+    /// The condition that ends here, inside these.
+    pub fn condition(&mut self, alloc: Global, opens: &[Open]) -> Result<Condition, ScriptFault>
+        ensures { Gives condition_of result
+            (ended_condition (names_in (stack_onto [] opens.now)) (begun_of self.old)) }
     {
         let shape = ScriptFault {
             line: self.line,
             why: Reason::Shape,
         };
+        let unsupported = ScriptFault {
+            line: self.line,
+            why: Reason::Unsupported,
+        };
         if self.is_unfinished() || self.redirection.is_some() {
             return Err(shape);
         }
-        condition_of_items(alloc, self.name, &mut self.items)?.ok_or(shape)
+        let is_known = self.is_known(opens);
+        let condition = condition_of_items(alloc, self.name, &mut self.items)?.ok_or(shape)?;
+        if !is_known {
+            return Err(unsupported);
+        }
+        Ok(condition)
     }
 }

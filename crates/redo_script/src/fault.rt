@@ -19,20 +19,20 @@ pub enum Reason {
     /// A quote that isn't closed, at the line of the quote.
     #[error("openquote")]
     OpenQuote,
-    /// A byte or a word of the shell that the subset leaves out.
+    /// A byte or a word of the shell that the subset leaves out, or a name that no loop binds.
     #[error("unsupported")]
     Unsupported,
     /// A command's name that the subset doesn't know.
     #[error("unknowncommand")]
     UnknownCommand,
-    /// A command whose operands or redirection aren't of its form, or a separator or redirection
-    /// where a command must stand.
+    /// A command whose operands or redirection aren't of its form, a separator or redirection where
+    /// a command must stand, or a `for`, `do` or `done` out of place or a loop that isn't ended.
     #[error("shape")]
     Shape,
     /// An `if`, `then`, `else` or `fi` out of place, or an `if` that isn't ended.
     #[error("ifshape")]
     IfShape,
-    /// An `if` inside 16 others.
+    /// An `if` inside 16 others, or a loop inside 2.
     #[error("toodeep")]
     TooDeep,
     /// Want of memory, which says nothing of the text.

@@ -1,14 +1,17 @@
 //! Words of a command, as they are written.
 
-ghost use Rattle.std.specs.Prelude.{◌≡◌, ◌++◌, true, false, IfOk};
+ghost use Rattle.std.specs.Prelude.{◌≡◌, ◌++◌, ◌&&◌, true, false, [], IfOk, Some, None, option_map};
 ghost use Rattle.std.specs.Option.{MatchOption};
+ghost use Rattle.redo_script.specs.Bytes.{all_continue, is_name};
 ghost use Rattle.redo_script.specs.Syntax.{Word as Symbols};
-ghost use Rattle.redo_script.specs.Grammar.{spells, is_named};
-ghost use Rattle.redo_script.specs.Parsing.{is_one_of, words_outside};
+ghost use Rattle.redo_script.specs.Grammar.{spells, is_named, literal_on, as_name, name_of, knows_word};
+ghost use Rattle.redo_script.specs.Parsing.{is_one_of, words_outside, loop_words, if_words, names_in};
 ghost use Rattle.redo_script.specs.View.{symbols_of_part, symbols_of, word_of};
-ghost use Rattle.redo_script.specs.inside.Parser.{item_of};
+ghost use Rattle.redo_script.specs.inside.Parser.{item_of, stack_onto};
 
 use crate::ast::{Part, Word};
+use crate::bytes::{is_name_byte, is_name_start};
+use crate::open::{Open, binds};
 use redo_bytes::Bytes;
 use std::alloc::{AllocError, Global};
 
@@ -29,7 +32,7 @@ fn past_part<'a>(part: &Part, name: &'a [u8]) -> Option<&'a [u8]>
 {
     match part {
         Part::Lit(bytes) => name.strip_prefix(bytes.as_slice()),
-        Part::Quoted(_) | Part::Bare(_) => None,
+        Part::Quoted(_) | Part::Bare(_) | Part::NamedQuoted(_) | Part::NamedBare(_) => None,
     }
 }
 
@@ -45,6 +48,103 @@ fn parts_spell(parts: &[Part], name: &[u8]) -> bool
         }
     }
     left.is_empty()
+}
+
+/// These bytes and those of a part, where it is no parameter.
+#[tactic(auto, using(crate::proofs::WordLemmas::literal_past))]
+fn with_part(mut literal: Vec<u8>, part: &Part) -> Result<Option<Vec<u8>>, AllocError>
+    ensures { IfOk result (λ longer. MatchOption longer
+        ((w : Symbols) → literal_on literal.items (symbols_of_part part.now ++ w) ≡ None)
+        (λ v. (w : Symbols) → literal_on literal.items (symbols_of_part part.now ++ w) ≡ literal_on v.items w)) }
+{
+    match part {
+        Part::Lit(bytes) => {
+            literal.extend_from_slice(bytes.as_slice())?;
+            Ok(Some(literal))
+        }
+        Part::Quoted(_) | Part::Bare(_) | Part::NamedQuoted(_) | Part::NamedBare(_) => Ok(None),
+    }
+}
+
+/// The bytes of parts, where no parameter is among them.
+fn parts_literal(alloc: Global, parts: &[Part]) -> Result<Option<Vec<u8>>, AllocError>
+    ensures { IfOk result (λ bytes. option_map (λ v. v.items) bytes ≡ literal_on [] (symbols_of parts.now)) }
+{
+    let mut literal = Vec::new(alloc);
+    for part in parts {
+        match with_part(literal, part)? {
+            Some(longer) => literal = longer,
+            None => return Ok(None),
+        }
+    }
+    Ok(Some(literal))
+}
+
+/// Whether a name may go on with these bytes.
+fn are_name_bytes(bytes: &[u8]) -> bool
+    ensures { result ≡ all_continue bytes.now }
+{
+    for byte in bytes {
+        if !is_name_byte(*byte) {
+            return false;
+        }
+    }
+    true
+}
+
+/// Whether the bytes are a name.
+fn is_name_text(bytes: &[u8]) -> bool
+    ensures { result ≡ is_name bytes.now }
+{
+    match bytes {
+        [first, others @ ..] => is_name_start(*first) && are_name_bytes(others),
+        [] => false,
+    }
+}
+
+/// These bytes, where they are a name.
+fn name_from(alloc: Global, bytes: &[u8]) -> Result<Option<Bytes>, AllocError>
+    ensures { IfOk result (λ name. name ≡ as_name (Some bytes.now)) }
+{
+    if is_name_text(bytes) {
+        return Ok(Some(Bytes::from_slice(alloc, bytes)?));
+    }
+    Ok(None)
+}
+
+/// Whether the part is no name, or one that one of these binds.
+#[tactic(auto, using(crate::proofs::WordLemmas::knows_past))]
+fn part_known(part: &Part, opens: &[Open]) -> bool
+    ensures { (w : Symbols) → knows_word (names_in (stack_onto [] opens.now)) (symbols_of_part part.now ++ w) ≡
+        (result && knows_word (names_in (stack_onto [] opens.now)) w) }
+{
+    match part {
+        Part::NamedQuoted(name) | Part::NamedBare(name) => binds(opens, name.as_slice()),
+        Part::Lit(_) | Part::Quoted(_) | Part::Bare(_) => true,
+    }
+}
+
+/// Whether each name among the parts is bound by one of these.
+fn parts_known(parts: &[Part], opens: &[Open]) -> bool
+    ensures { result ≡ knows_word (names_in (stack_onto [] opens.now)) (symbols_of parts.now) }
+{
+    for part in parts {
+        if !part_known(part, opens) {
+            return false;
+        }
+    }
+    true
+}
+
+/// Whether each name in the word is bound by one of these.
+#[tactic(auto, using(crate::proofs::WordLemmas::knows_bytes))]
+pub fn is_known(word: &Word, opens: &[Open]) -> bool
+    ensures { result ≡ knows_word (names_in (stack_onto [] opens.now)) (word_of word.now) }
+{
+    match word {
+        Word::Literal(_) => true,
+        Word::Mixed(parts) => parts_known(parts, opens),
+    }
 }
 
 impl Item<'_> {
@@ -85,6 +185,46 @@ impl Item<'_> {
         }
     }
 
+    /// The name that the word is, where it is one.
+    #[tactic(auto, using(crate::proofs::WordLemmas::literal_bytes))]
+    pub fn name(&self, alloc: Global) -> Result<Option<Bytes>, AllocError>
+        ensures { IfOk result (λ name. name ≡ name_of (item_of self.now)) }
+    {
+        match self {
+            Item::Lent(true, bytes) => name_from(alloc, bytes),
+            Item::Built(true, parts) => match parts_literal(alloc, parts)? {
+                Some(bytes) => name_from(alloc, &bytes),
+                None => Ok(None),
+            },
+            _ => Ok(None),
+        }
+    }
+
+    /// Whether each name in the word is bound by one of these.
+    #[tactic(auto, using(crate::proofs::WordLemmas::knows_bytes))]
+    pub fn is_known(&self, opens: &[Open]) -> bool
+        ensures { result ≡ knows_word (names_in (stack_onto [] opens.now)) (item_of self.now).word }
+    {
+        match self {
+            Item::Lent(_, _) => true,
+            Item::Built(_, parts) => parts_known(parts, opens),
+        }
+    }
+
+    /// Whether this is a word of an `if` behind its condition.
+    pub fn is_of_if(&self) -> bool
+        ensures { result ≡ is_one_of if_words (item_of self.now) }
+    {
+        self.is_named(b"then") || self.is_named(b"else") || self.is_named(b"fi")
+    }
+
+    /// Whether this is a word of a loop.
+    pub fn is_of_loop(&self) -> bool
+        ensures { result ≡ is_one_of loop_words (item_of self.now) }
+    {
+        self.is_named(b"for") || self.is_named(b"do") || self.is_named(b"done")
+    }
+
     /// Whether this is a word of the shell that the subset leaves out.
     pub fn is_outside(&self) -> bool
         ensures { result ≡ is_one_of words_outside (item_of self.now) }
@@ -93,9 +233,6 @@ impl Item<'_> {
             || self.is_named(b"elif")
             || self.is_named(b"while")
             || self.is_named(b"until")
-            || self.is_named(b"for")
-            || self.is_named(b"do")
-            || self.is_named(b"done")
             || self.is_named(b"case")
             || self.is_named(b"esac")
     }

@@ -4,18 +4,20 @@ mod runs;
 
 ghost use Rattle.std.specs.Prelude.{◌≡◌, ◌+◌, ◌<◌, ◌≤◌, ◌^◌, map, Ok, OnOk, IfOk, IfErr, []};
 ghost use Rattle.redo_script.specs.Faults.{Gives, Leaves, fault_at, no_memory};
-ghost use Rattle.redo_script.specs.Syntax.{byte as byte_symbol};
+ghost use Rattle.redo_script.specs.Syntax.{byte as byte_symbol, named_bare, named_quoted};
 ghost use Rattle.redo_script.specs.View.{symbols_of_part};
 ghost use Rattle.redo_script.specs.Reading.{next_byte, at_end, at_start, in_word, gap_byte, word_byte};
 ghost use Rattle.redo_script.specs.Reading.{in_single, in_double, after_backslash, after_dollar};
-ghost use Rattle.redo_script.specs.Reading.{after_quoted_dollar, after_redirect, parameter_named};
+ghost use Rattle.redo_script.specs.Reading.{after_quoted_dollar, after_redirect, parameter_named, with_name};
+ghost use Rattle.redo_script.specs.Reading.{with_name_byte, in_name, in_quoted_name};
 ghost use Rattle.redo_script.specs.Reading.{with_word, with_token, with_symbol, with_symbols, with_quote};
 ghost use Rattle.redo_script.specs.Reading.{with_begun_word};
 ghost use Rattle.redo_script.specs.declared.fault.Reason.TheVariants as reasons;
+ghost use Rattle.redo_script.specs.declared.lexer.Mode.TheVariants as modes;
 ghost use Rattle.redo_script.specs.inside.Lexer.{token_of, reader_of, with_no_tokens};
 
 use crate::ast::{Parameter, Part};
-use crate::bytes::is_plain_byte;
+use crate::bytes::{is_name_byte, is_name_start, is_plain_byte};
 use crate::fault::{Reason, ScriptFault};
 use crate::item::Item;
 use crate::token::Token;
@@ -36,12 +38,16 @@ pub enum Mode {
     Word,
     /// Behind `$`.
     Dollar,
+    /// In a name behind `$`.
+    Name,
     /// In single quotes.
     Single,
     /// In double quotes.
     Double,
     /// Behind `$` in double quotes.
     QuotedDollar,
+    /// In a name behind `$` in double quotes.
+    QuotedName,
     /// Behind a backslash in double quotes.
     Escape,
 }
@@ -66,6 +72,8 @@ pub struct Lexer<'a> {
     parts: Vec<Part>,
     /// Bytes of the word behind its parts.
     literal: Vec<u8>,
+    /// The name that was begun last.
+    name: Vec<u8>,
     tokens: Vec<Token<'a>>,
 }
 
@@ -217,10 +225,24 @@ impl<'a> Lexer<'a> {
         self.push_byte(Mode::Double, byte)
     }
 
+    /// Begins a name.
+    fn begin_name(&mut self, mode: Mode, byte: u8) -> Result<(), ScriptFault>
+        ensures reads { Leaves reader_of self.new result (Ok (with_name (reader_of self.old) mode byte)) }
+        ensures line { self.new.line ≡ self.old.line }
+    {
+        self.name.clear();
+        self.name.push(byte)?;
+        self.mode = mode;
+        Ok(())
+    }
+
     fn parameter_byte(&mut self, byte: u8) -> Result<(), ScriptFault>
         ensures reads { Leaves reader_of self.new result (after_dollar (reader_of self.old) byte) }
         ensures line { self.new.line ≡ self.old.line }
     {
+        if is_name_start(byte) {
+            return self.begin_name(Mode::Name, byte);
+        }
         match parameter_of(byte) {
             Some(parameter) => self.push_parameter(Mode::Word, Part::Bare(parameter)),
             None => self.unsupported(),
@@ -231,10 +253,33 @@ impl<'a> Lexer<'a> {
         ensures reads { Leaves reader_of self.new result (after_quoted_dollar (reader_of self.old) byte) }
         ensures line { self.new.line ≡ self.old.line }
     {
+        if is_name_start(byte) {
+            return self.begin_name(Mode::QuotedName, byte);
+        }
         match parameter_of(byte) {
             Some(parameter) => self.push_parameter(Mode::Double, Part::Quoted(parameter)),
             None => self.unsupported(),
         }
+    }
+
+    /// Ends a name outside quotes.
+    fn push_name(&mut self) -> Result<(), ScriptFault>
+        ensures reads { Leaves reader_of self.new result
+            (Ok (with_symbol (reader_of self.old) modes.Word (named_bare (reader_of self.old).name))) }
+        ensures line { self.new.line ≡ self.old.line }
+    {
+        let name = Bytes::from_slice(self.alloc, &self.name)?;
+        self.push_parameter(Mode::Word, Part::NamedBare(name))
+    }
+
+    /// Ends a name in double quotes.
+    fn push_quoted_name(&mut self) -> Result<(), ScriptFault>
+        ensures reads { Leaves reader_of self.new result
+            (Ok (with_symbol (reader_of self.old) modes.Double (named_quoted (reader_of self.old).name))) }
+        ensures line { self.new.line ≡ self.old.line }
+    {
+        let name = Bytes::from_slice(self.alloc, &self.name)?;
+        self.push_parameter(Mode::Double, Part::NamedQuoted(name))
     }
 
     fn begin_word(&mut self)
@@ -288,6 +333,32 @@ impl<'a> Lexer<'a> {
         }
     }
 
+    fn name_byte(&mut self, byte: u8) -> Result<(), ScriptFault>
+        requires { self.old.line + 1 < 2 ^ 64 }
+        ensures reads { Leaves reader_of self.new result (in_name (reader_of self.old) byte) }
+        ensures line { self.new.line ≤ self.old.line + 1 }
+    {
+        if is_name_byte(byte) {
+            self.name.push(byte)?;
+            return Ok(());
+        }
+        self.push_name()?;
+        self.in_word_byte(byte)
+    }
+
+    fn quoted_name_byte(&mut self, byte: u8) -> Result<(), ScriptFault>
+        requires { self.old.line + 1 < 2 ^ 64 }
+        ensures reads { Leaves reader_of self.new result (in_quoted_name (reader_of self.old) byte) }
+        ensures line { self.new.line ≤ self.old.line + 1 }
+    {
+        if is_name_byte(byte) {
+            self.name.push(byte)?;
+            return Ok(());
+        }
+        self.push_quoted_name()?;
+        self.double_byte(byte)
+    }
+
     fn redirect_byte(&mut self, byte: u8) -> Result<(), ScriptFault>
         requires { self.old.line + 1 < 2 ^ 64 }
         ensures reads { Leaves reader_of self.new result (after_redirect (reader_of self.old) byte) }
@@ -324,9 +395,11 @@ impl<'a> Lexer<'a> {
             }
             Mode::Word => self.in_word_byte(byte),
             Mode::Dollar => self.parameter_byte(byte),
+            Mode::Name => self.name_byte(byte),
             Mode::Single => self.single_byte(byte),
             Mode::Double => self.double_byte(byte),
             Mode::QuotedDollar => self.quoted_parameter_byte(byte),
+            Mode::QuotedName => self.quoted_name_byte(byte),
             Mode::Escape => self.escaped_byte(byte),
         }
     }
@@ -345,6 +418,7 @@ impl<'a> Lexer<'a> {
             is_number: true,
             parts: Vec::new(alloc),
             literal: Vec::new(alloc),
+            name: Vec::new(alloc),
             tokens: Vec::new(alloc),
         }
     }
@@ -375,8 +449,12 @@ impl<'a> Lexer<'a> {
             Mode::Gap | Mode::Semicolon | Mode::Comment => {}
             Mode::Redirect => self.push_token(Token::Redirect(line, false))?,
             Mode::Word => self.push_word()?,
+            Mode::Name => {
+                self.push_name()?;
+                self.push_word()?;
+            }
             Mode::Dollar | Mode::QuotedDollar => return self.unsupported(),
-            Mode::Single | Mode::Double | Mode::Escape => {
+            Mode::Single | Mode::Double | Mode::QuotedName | Mode::Escape => {
                 return Err(ScriptFault {
                     line: self.opened,
                     why: Reason::OpenQuote,

@@ -9,7 +9,7 @@
 //! - `fault`: what can be wrong.
 //! - `reader`: the passes over a text, and `parse`.
 //! - `bytes`, `spans`, `token`, `lexer`: from bytes to tokens; `lexer::runs`: many bytes at once.
-//! - `item`, `name`, `number`, `form`, `begun`, `parser`: from tokens to statements.
+//! - `item`, `name`, `number`, `form`, `begun`, `open`, `parser`: from tokens to statements.
 //! - `laws`: what ties the grammar to the functions that say which fault a text has. Each is a
 //!   function with nothing to run, whose contract is the law.
 #![tactic(auto)]
@@ -24,6 +24,7 @@ pub mod laws;
 mod lexer;
 mod name;
 mod number;
+mod open;
 mod parser;
 mod reader;
 mod spans;

@@ -68,7 +68,7 @@ impl Number {
     {
         match part {
             Part::Lit(bytes) => self.past_bytes(bytes.as_slice()),
-            Part::Quoted(_) | Part::Bare(_) => None,
+            Part::Quoted(_) | Part::Bare(_) | Part::NamedQuoted(_) | Part::NamedBare(_) => None,
         }
     }
 

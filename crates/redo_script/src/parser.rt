@@ -7,18 +7,22 @@ ghost use Rattle.redo_script.specs.Tokens.{Token as Symbol};
 ghost use Rattle.redo_script.specs.inside.Passes.{IsOn, ParsesOn};
 ghost use Rattle.redo_script.specs.Faults.{Gives, Leaves, fault_at, no_memory};
 ghost use Rattle.redo_script.specs.Parsing.{with_command, with_condition, if_opened, at_else, at_fi, then_word};
+ghost use Rattle.redo_script.specs.Parsing.{for_opened, at_done, misplaced, loop_named, words_begun, loop_word, do_word};
 ghost use Rattle.redo_script.specs.Parsing.{condition_word, first_word, a_word, a_redirect, a_separator, next_token};
 ghost use Rattle.redo_script.specs.Parsing.{unless_open, end_by_phase, at_first, parse_on, statements_of};
-ghost use Rattle.redo_script.specs.View.{condition_of, script_of};
+ghost use Rattle.redo_script.specs.Grammar.{name_of};
+ghost use Rattle.redo_script.specs.View.{condition_of, script_of, words_of};
 ghost use Rattle.redo_script.specs.inside.Lexer.{token_of};
 ghost use Rattle.redo_script.specs.inside.Parser.{item_of, begun_of, open_of, parser_of};
 
-use crate::ast::{Condition, Script, Stmt};
+use crate::ast::{Condition, Script, Stmt, Word};
 use crate::begun::Begun;
 use crate::fault::{Reason, ScriptFault};
 use crate::item::Item;
 use crate::name::CommandName;
+use crate::open::{Open, OpenIf, OpenLoop, binds, count_ifs, count_loops};
 use crate::token::Token;
+use redo_bytes::Bytes;
 use std::alloc::Global;
 use std::mem;
 
@@ -32,17 +36,14 @@ pub enum Phase {
     InCondition,
     BeforeThen(u64),
     BehindFi(u64),
-}
-
-/// An open `if`.
-#[derive(Debug, Drop)]
-pub struct Open {
-    line: u64,
-    condition: Condition,
-    /// The first branch, once `else` was read.
-    first: Option<Vec<Stmt>>,
-    /// The statements before the `if`.
-    before: Vec<Stmt>,
+    /// Behind `for`, which stands in this line.
+    BehindFor(u64),
+    /// Behind the name of a loop.
+    BehindName(u64),
+    /// Among the words of a loop.
+    InWords(u64),
+    BeforeDo(u64),
+    BehindDone(u64),
 }
 
 /// Reads statements token by token.
@@ -54,6 +55,9 @@ pub struct Parser<'a> {
     begun: Begun<'a>,
     /// The condition that was read last.
     condition: Condition,
+    /// The name and the words of the loop that was begun last.
+    name: Bytes,
+    words: Vec<Word>,
     opens: Vec<Open>,
     so_far: Vec<Stmt>,
 }
@@ -65,23 +69,26 @@ impl<'a> Parser<'a> {
         Err(ScriptFault { line, why })
     }
 
-    /// `else`, where this `if` is the innermost open one.
+    /// `else`, where this is the innermost that is open.
     #[tactic(auto, using(crate::proofs::StatementLemmas::stack_push, crate::proofs::StatementLemmas::script_empty))]
     fn begin_second(&mut self, line: u64, innermost: Open) -> Result<(), ScriptFault>
         ensures { Leaves parser_of self.new result
             (at_else (parser_of self.old) line (open_of innermost ∷ (parser_of self.old).opens)) }
     {
+        let Open::If(innermost) = innermost else {
+            return Parser::fault(line, Reason::IfShape);
+        };
         if innermost.first.is_some() || self.so_far.is_empty() {
             return Parser::fault(line, Reason::IfShape);
         }
         let second = Vec::with_capacity(self.alloc, 1)?;
         let first = mem::replace(&mut self.so_far, second);
-        self.opens.push(Open {
+        self.opens.push(Open::If(OpenIf {
             line: innermost.line,
             condition: innermost.condition,
             first: Some(first),
             before: innermost.before,
-        })?;
+        }))?;
         self.phase = Phase::AtCommand;
         Ok(())
     }
@@ -96,16 +103,19 @@ impl<'a> Parser<'a> {
         }
     }
 
-    /// Ends the `if` that was the innermost open one.
+    /// `fi`, where this is the innermost that is open.
     #[tactic(auto, using(crate::proofs::StatementLemmas::script_empty, crate::proofs::StatementLemmas::if_push))]
-    fn close(&mut self, line: u64, innermost: Open) -> Result<(), ScriptFault>
+    fn close_if(&mut self, line: u64, innermost: Open) -> Result<(), ScriptFault>
         ensures { Leaves parser_of self.new result
             (at_fi (parser_of self.old) line (open_of innermost ∷ (parser_of self.old).opens)) }
     {
+        let Open::If(innermost) = innermost else {
+            return Parser::fault(line, Reason::IfShape);
+        };
         if self.so_far.is_empty() {
             return Parser::fault(line, Reason::IfShape);
         }
-        let Open {
+        let OpenIf {
             line: if_line,
             condition,
             first,
@@ -129,21 +139,75 @@ impl<'a> Parser<'a> {
         ensures { Leaves parser_of self.new result (at_fi (parser_of self.old) line (parser_of self.old).opens) }
     {
         match self.opens.pop() {
-            Some(open) => self.close(line, open),
+            Some(open) => self.close_if(line, open),
             None => Parser::fault(line, Reason::IfShape),
         }
     }
 
+    /// `done`, where this is the innermost that is open.
+    #[tactic(auto, using(crate::proofs::StatementLemmas::script_empty, crate::proofs::StatementLemmas::loop_push))]
+    fn close_loop(&mut self, line: u64, innermost: Open) -> Result<(), ScriptFault>
+        ensures { Leaves parser_of self.new result
+            (at_done (parser_of self.old) line (open_of innermost ∷ (parser_of self.old).opens)) }
+    {
+        let Open::Loop(innermost) = innermost else {
+            return Parser::fault(line, Reason::Shape);
+        };
+        let OpenLoop {
+            line: for_line,
+            name,
+            words,
+            before,
+        } = innermost;
+        let body = mem::replace(&mut self.so_far, before);
+        if body.is_empty() {
+            return Parser::fault(line, Reason::Shape);
+        }
+        self.so_far.push(Stmt::Loop(for_line, name, words, body))?;
+        self.phase = Phase::BehindDone(line);
+        Ok(())
+    }
+
+    /// `done`
+    fn done_word(&mut self, line: u64) -> Result<(), ScriptFault>
+        ensures { Leaves parser_of self.new result (at_done (parser_of self.old) line (parser_of self.old).opens) }
+    {
+        match self.opens.pop() {
+            Some(open) => self.close_loop(line, open),
+            None => Parser::fault(line, Reason::Shape),
+        }
+    }
+
     /// `if` in a command's place.
-    #[tactic(auto, using(crate::proofs::StatementLemmas::stack_length))]
     fn if_word(&mut self, line: u64) -> Result<(), ScriptFault>
         ensures { Leaves parser_of self.new result (if_opened (parser_of self.old) line) }
     {
-        if self.opens.len() >= 16 {
+        if count_ifs(&self.opens) >= 16 {
             return Parser::fault(line, Reason::TooDeep);
         }
         self.phase = Phase::BehindIf(line);
         Ok(())
+    }
+
+    /// `for` in a command's place.
+    fn for_word(&mut self, line: u64) -> Result<(), ScriptFault>
+        ensures { Leaves parser_of self.new result (for_opened (parser_of self.old) line) }
+    {
+        if count_loops(&self.opens) >= 2 {
+            return Parser::fault(line, Reason::TooDeep);
+        }
+        self.phase = Phase::BehindFor(line);
+        Ok(())
+    }
+
+    /// A word that may not stand here. One of a loop is told in its own line.
+    fn misplaced(line: u64, at: u64, item: &Item) -> Result<(), ScriptFault>
+        ensures { result ≡ misplaced line at (item_of item.now) }
+    {
+        if item.is_of_loop() {
+            return Parser::fault(at, Reason::Shape);
+        }
+        Parser::fault(line, Reason::IfShape)
     }
 
     /// A word where `then` must stand.
@@ -153,25 +217,26 @@ impl<'a> Parser<'a> {
             (then_word (parser_of self.old) line (condition_of self.old.condition) at (item_of item.entry)) }
     {
         if !item.is_named(b"then") {
-            return Parser::fault(at, Reason::IfShape);
+            return Parser::misplaced(at, at, &item);
         }
         // Many a branch is one statement.
         let branch = Vec::with_capacity(self.alloc, 1)?;
         let before = mem::replace(&mut self.so_far, branch);
         let condition = mem::replace(&mut self.condition, Condition::True);
-        self.opens.push(Open {
+        self.opens.push(Open::If(OpenIf {
             line,
             condition,
             first: None,
             before,
-        })?;
+        }))?;
         self.phase = Phase::AtCommand;
         Ok(())
     }
 
     /// A word behind `if`.
-    fn condition_word(&mut self, line: u64, item: Item<'a>) -> Result<(), ScriptFault>
-        ensures { Leaves parser_of self.new result (condition_word (parser_of self.old) line (item_of item.entry)) }
+    fn condition_word(&mut self, line: u64, at: u64, item: Item<'a>) -> Result<(), ScriptFault>
+        ensures { Leaves parser_of self.new result
+            (condition_word (parser_of self.old) line at (item_of item.entry)) }
     {
         match CommandName::of(&item) {
             Some(name) if name.is_condition() => {
@@ -179,8 +244,76 @@ impl<'a> Parser<'a> {
                 self.phase = Phase::InCondition;
                 Ok(())
             }
-            _ => Parser::fault(line, Reason::IfShape),
+            _ => Parser::misplaced(line, at, &item),
         }
+    }
+
+    /// A word where a loop's name must stand.
+    fn name_word(&mut self, line: u64, at: u64, item: Item<'a>) -> Result<(), ScriptFault>
+        ensures { Leaves parser_of self.new result
+            (loop_named (parser_of self.old) line at (name_of (item_of item.entry))) }
+    {
+        let Some(name) = item.name(self.alloc)? else {
+            return Parser::fault(at, Reason::Shape);
+        };
+        if binds(&self.opens, name.as_slice()) {
+            return Parser::fault(at, Reason::Shape);
+        }
+        self.name = name;
+        self.phase = Phase::BehindName(line);
+        Ok(())
+    }
+
+    /// A word where `in` must stand.
+    fn in_word(&mut self, line: u64, item: Item<'a>) -> Result<(), ScriptFault>
+        ensures { Leaves parser_of self.new result
+            (words_begun (parser_of self.old) line self.old.name (item_of item.entry)) }
+    {
+        if !item.is_named(b"in") {
+            return Parser::fault(line, Reason::Shape);
+        }
+        self.words.clear();
+        self.phase = Phase::InWords(line);
+        Ok(())
+    }
+
+    /// One of the words of a loop.
+    fn loop_word(&mut self, line: u64, item: Item<'a>) -> Result<(), ScriptFault>
+        ensures { Leaves parser_of self.new result
+            (loop_word (parser_of self.old) line self.old.name (words_of self.old.words.items) (item_of item.entry)) }
+    {
+        if !item.is_known(&self.opens) {
+            return Parser::fault(line, Reason::Unsupported);
+        }
+        self.words.push(item.into_word(self.alloc)?)?;
+        self.phase = Phase::InWords(line);
+        Ok(())
+    }
+
+    /// A word where `do` must stand.
+    #[tactic(auto, using(crate::proofs::StatementLemmas::stack_push))]
+    fn do_word(&mut self, line: u64, at: u64, item: Item<'a>) -> Result<(), ScriptFault>
+        ensures { Leaves parser_of self.new result
+            (do_word (parser_of self.old) line self.old.name (words_of self.old.words.items) at (item_of item.entry)) }
+    {
+        if !item.is_named(b"do") {
+            if item.is_of_if() {
+                return Parser::fault(at, Reason::IfShape);
+            }
+            return Parser::fault(at, Reason::Shape);
+        }
+        let body = Vec::with_capacity(self.alloc, 1)?;
+        let before = mem::replace(&mut self.so_far, body);
+        let name = mem::replace(&mut self.name, Bytes::empty());
+        let words = mem::replace(&mut self.words, Vec::new(self.alloc));
+        self.opens.push(Open::Loop(OpenLoop {
+            line,
+            name,
+            words,
+            before,
+        }))?;
+        self.phase = Phase::AtCommand;
+        Ok(())
     }
 
     /// A word in a command's place.
@@ -199,6 +332,15 @@ impl<'a> Parser<'a> {
         }
         if item.is_named(b"fi") {
             return self.fi_word(line);
+        }
+        if item.is_named(b"for") {
+            return self.for_word(line);
+        }
+        if item.is_named(b"do") {
+            return Parser::fault(line, Reason::Shape);
+        }
+        if item.is_named(b"done") {
+            return self.done_word(line);
         }
         let Some(name) = CommandName::of(&item) else {
             if item.is_outside() {
@@ -219,9 +361,14 @@ impl<'a> Parser<'a> {
         match self.phase {
             Phase::AtCommand => self.first_word(line, item),
             Phase::InCommand | Phase::InCondition => self.begun.push_word(self.alloc, item),
-            Phase::BehindIf(if_line) => self.condition_word(if_line, item),
+            Phase::BehindIf(if_line) => self.condition_word(if_line, line, item),
             Phase::BeforeThen(if_line) => self.then_word(if_line, line, item),
-            Phase::BehindFi(fi_line) => Parser::fault(fi_line, Reason::IfShape),
+            Phase::BehindFi(fi_line) => Parser::misplaced(fi_line, line, &item),
+            Phase::BehindFor(for_line) => self.name_word(for_line, line, item),
+            Phase::BehindName(for_line) => self.in_word(for_line, item),
+            Phase::InWords(for_line) => self.loop_word(for_line, item),
+            Phase::BeforeDo(for_line) => self.do_word(for_line, line, item),
+            Phase::BehindDone(done_line) => Parser::fault(done_line, Reason::Shape),
         }
     }
 
@@ -231,11 +378,15 @@ impl<'a> Parser<'a> {
             (a_redirect (parser_of self.old).phase (parser_of self.old) line appends) }
     {
         match self.phase {
-            Phase::AtCommand => Parser::fault(line, Reason::Shape),
+            Phase::AtCommand | Phase::BehindFor(_) | Phase::InWords(_) | Phase::BeforeDo(_) => {
+                Parser::fault(line, Reason::Shape)
+            }
             Phase::InCommand | Phase::InCondition => {
                 self.begun.push_redirect(appends);
                 Ok(())
             }
+            Phase::BehindName(for_line) => Parser::fault(for_line, Reason::Shape),
+            Phase::BehindDone(done_line) => Parser::fault(done_line, Reason::Shape),
             Phase::BeforeThen(_) => Parser::fault(line, Reason::IfShape),
             Phase::BehindIf(if_line) => Parser::fault(if_line, Reason::IfShape),
             Phase::BehindFi(fi_line) => Parser::fault(fi_line, Reason::IfShape),
@@ -248,7 +399,7 @@ impl<'a> Parser<'a> {
         ensures { Leaves parser_of self.new result (with_command (parser_of self.old) (begun_of self.old.begun)) }
     {
         let line = self.begun.line();
-        let command = self.begun.command(self.alloc)?;
+        let command = self.begun.command(self.alloc, &self.opens)?;
         self.so_far.push(Stmt::Simple(line, command))?;
         self.phase = Phase::AtCommand;
         Ok(())
@@ -259,7 +410,7 @@ impl<'a> Parser<'a> {
         ensures { Leaves parser_of self.new result (with_condition (parser_of self.old) (begun_of self.old.begun)) }
     {
         let line = self.begun.line();
-        self.condition = self.begun.condition(self.alloc)?;
+        self.condition = self.begun.condition(self.alloc, &self.opens)?;
         self.phase = Phase::BeforeThen(line);
         Ok(())
     }
@@ -272,14 +423,21 @@ impl<'a> Parser<'a> {
         match self.phase {
             Phase::InCommand => self.end_command(),
             Phase::InCondition => self.end_condition(),
-            Phase::BehindFi(_) => {
+            Phase::BehindFi(_) | Phase::BehindDone(_) => {
                 self.phase = Phase::AtCommand;
                 Ok(())
             }
+            Phase::InWords(for_line) => {
+                self.phase = Phase::BeforeDo(for_line);
+                Ok(())
+            }
             Phase::BehindIf(if_line) => Parser::fault(if_line, Reason::IfShape),
-            Phase::AtCommand | Phase::BeforeThen(_) if is_newline => Ok(()),
-            Phase::AtCommand => Parser::fault(line, Reason::Shape),
+            Phase::BehindName(for_line) => Parser::fault(for_line, Reason::Shape),
+            Phase::AtCommand | Phase::BeforeThen(_) | Phase::BeforeDo(_) if is_newline => Ok(()),
             Phase::BeforeThen(_) => Parser::fault(line, Reason::IfShape),
+            Phase::AtCommand | Phase::BehindFor(_) | Phase::BeforeDo(_) => {
+                Parser::fault(line, Reason::Shape)
+            }
         }
     }
 
@@ -315,18 +473,20 @@ impl<'a> Parser<'a> {
             phase: Phase::AtCommand,
             begun: Begun::new(alloc),
             condition: Condition::True,
+            name: Bytes::empty(),
+            words: Vec::new(alloc),
             opens: Vec::new(alloc),
             so_far: Vec::new(alloc),
         }
     }
 
-    /// The statements, where no `if` is open.
+    /// The statements, where no `if` or loop is open.
     fn script(mut self) -> Result<Script, ScriptFault>
         ensures { Gives (λ s. script_of s.stmts.items) result
             (unless_open (parser_of self.entry).opens (parser_of self.entry).so_far) }
     {
         match self.opens.pop() {
-            Some(open) => Parser::fault(open.line, Reason::IfShape),
+            Some(open) => Err(open.fault_inside()),
             None => {
                 // A script may wait for long, and many at a time.
                 let mut stmts = self.so_far;
@@ -342,7 +502,7 @@ impl<'a> Parser<'a> {
             (end_by_phase (parser_of self.entry).phase (parser_of self.entry)) }
     {
         match self.phase {
-            Phase::AtCommand | Phase::BehindFi(_) => self.script(),
+            Phase::AtCommand | Phase::BehindFi(_) | Phase::BehindDone(_) => self.script(),
             Phase::InCommand => {
                 self.end_command()?;
                 self.script()
@@ -354,6 +514,10 @@ impl<'a> Parser<'a> {
             }
             Phase::BehindIf(line) => Parser::fault(line, Reason::IfShape),
             Phase::BeforeThen(line) => Parser::fault(line, Reason::IfShape),
+            Phase::BehindFor(line)
+            | Phase::BehindName(line)
+            | Phase::InWords(line)
+            | Phase::BeforeDo(line) => Parser::fault(line, Reason::Shape),
         }
     }
 }

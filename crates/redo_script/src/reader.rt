@@ -6,7 +6,8 @@ ghost use Rattle.redo_script.specs.declared.fault.Reason.TheVariants as reasons;
 ghost use Rattle.redo_script.specs.inside.Passes.{script_by_tokens};
 ghost use Rattle.redo_script.specs.Syntax.{Script as ScriptTree};
 ghost use Rattle.redo_script.specs.View.{script_of};
-ghost use Rattle.redo_script.specs.Texts.{IsScript, has_no_nul, same_bytes, first_line, nul_from, interpreter_is_fit};
+ghost use Rattle.redo_script.specs.Bytes.{same_bytes};
+ghost use Rattle.redo_script.specs.Texts.{IsScript, has_no_nul, first_line, nul_from, interpreter_is_fit};
 ghost use Rattle.redo_script.specs.Texts.{script_in};
 ghost use Rattle.redo_script.specs.Refused.{IsRefused};
 
@@ -107,9 +108,10 @@ fn read(alloc: Global, text: &[u8]) -> Result<Script, ScriptFault>
 /// Reads a script, in time that grows with its length alone, from any bytes whatever.
 ///
 /// The grammar is a subset of the POSIX shell command language (its chapters on token recognition,
-/// quoting, simple commands, redirection and the `if` compound command), with the commands echo,
-/// printf, cat, test, true, false and exit, and with redo-ifchange(1) and redo-ifcreate(1). The
-/// only parameters are `$1`, `$2` and `$3`; an `if` may stand in at most 15 others.
+/// quoting, simple commands, redirection and the `if` and `for` compound commands), with the commands
+/// echo, printf, cat, test, true, false and exit, and with redo-ifchange(1) and redo-ifcreate(1). The
+/// only parameters are `$1`, `$2` and `$3`, and the names of the loops round a command; an `if` may
+/// stand in at most 15 others, a loop in one.
 ///
 /// A text is looked at in four passes: for a byte 0, for its interpreter line, for its tokens and
 /// for its commands. The first pass that finds a fault decides, and in a pass the fault that stands

@@ -28,7 +28,7 @@ const BY_TOKENS: &[Row] = &[
     (b"echo a;; echo b\n", 1, Reason::Unsupported),
     (b"true;;;", 1, Reason::Unsupported),
     (b"echo \"$4\"\n", 1, Reason::Unsupported),
-    (b"echo $x\n", 1, Reason::Unsupported),
+    (b"echo $-\n", 1, Reason::Unsupported),
     (b"echo $\n", 1, Reason::Unsupported),
     (b"echo $", 1, Reason::Unsupported),
     (b"echo \"$", 1, Reason::Unsupported),
@@ -44,7 +44,7 @@ const BY_TOKENS: &[Row] = &[
     // A quote that isn't closed has the line of the quote, not that of its word.
     (b"echo \"a\n", 1, Reason::OpenQuote),
     (b"echo \"\\", 1, Reason::OpenQuote),
-    // A `$` that stands for itself lacks no digit.
+    // A `$` that stands for itself lacks no digit, and no name.
     (b"echo '$", 1, Reason::OpenQuote),
     (b"echo 'a\nb'\"c\n\n", 2, Reason::OpenQuote),
 ];
@@ -67,13 +67,12 @@ const BY_COMMANDS: &[Row] = &[
     (b"a=b\n", 1, Reason::UnknownCommand),
     (b":\n", 1, Reason::UnknownCommand),
     (b"break\n", 1, Reason::UnknownCommand),
+    (b"continue\n", 1, Reason::UnknownCommand),
+    (b"in\n", 1, Reason::UnknownCommand),
     (b"redo-always\n", 1, Reason::UnknownCommand),
     (b"! true\n", 1, Reason::Unsupported),
     (b"while true\n", 1, Reason::Unsupported),
     (b"until true\n", 1, Reason::Unsupported),
-    (b"for x in a\n", 1, Reason::Unsupported),
-    (b"do\n", 1, Reason::Unsupported),
-    (b"done\n", 1, Reason::Unsupported),
     (b"case a in\n", 1, Reason::Unsupported),
     (b"esac\n", 1, Reason::Unsupported),
     (
@@ -126,7 +125,6 @@ const BY_IFS: &[Row] = &[
     (b"if true; ; then true; fi\n", 1, Reason::IfShape),
     (b"if true\n; then true; fi\n", 2, Reason::IfShape),
     (b"if true; 'then' true; fi\n", 1, Reason::IfShape),
-    (b"if true; do true; fi\n", 1, Reason::IfShape),
     (b"if true;\n> $3\n", 2, Reason::IfShape),
     // `then`, `else` and `fi` out of place, also with no command before them in their part.
     (b"true\nthen\n", 2, Reason::IfShape),
@@ -159,6 +157,134 @@ const BY_IFS: &[Row] = &[
         1,
         Reason::IfShape,
     ),
+];
+
+const BY_LOOPS: &[Row] = &[
+    // A name is a letter or `_`, and then letters, digits and `_`, in plain bytes.
+    (b"true\nfor 1x in a; do true; done\n", 2, Reason::Shape),
+    (b"for x-y in a; do true; done\n", 1, Reason::Shape),
+    (b"for 'x' in a; do true; done\n", 1, Reason::Shape),
+    (b"for $1 in a; do true; done\n", 1, Reason::Shape),
+    (b"for $x in a; do true; done\n", 1, Reason::Shape),
+    (b"for\nx in a; do true; done\n", 1, Reason::Shape),
+    (b"true\nfor; do true; done\n", 2, Reason::Shape),
+    (b"for > a; do true; done\n", 1, Reason::Shape),
+    // `in` stands behind it on the same line.
+    (b"for x a; do true; done\n", 1, Reason::Shape),
+    (b"for x; do true; done\n", 1, Reason::Shape),
+    (b"for x\nin a; do true; done\n", 1, Reason::Shape),
+    (b"for x 'in' a; do true; done\n", 1, Reason::Shape),
+    // A redirection among the words, in its own line.
+    (b"for x in 'a\nb' > c; do true; done\n", 2, Reason::Shape),
+    // Behind the words and their separator: words of an `if` keep their own reason.
+    (b"for x in a; true; done\n", 1, Reason::Shape),
+    (b"for x in a\ntrue; done\n", 2, Reason::Shape),
+    (b"for x in a\n; do true; done\n", 2, Reason::Shape),
+    (b"for x in a; ; do true; done\n", 1, Reason::Shape),
+    (b"for x in a;\n> $3\n", 2, Reason::Shape),
+    (b"for x in a; 'do' true; done\n", 1, Reason::Shape),
+    (b"for x in a do true\ndone\n", 2, Reason::Shape),
+    (b"for x in a\nthen true; done\n", 2, Reason::IfShape),
+    (b"for x in a\nelse\n", 2, Reason::IfShape),
+    (b"for x in a\n'fi'\n", 2, Reason::Shape),
+    (b"for x in a\nfi\n", 2, Reason::IfShape),
+    // A body with no command, or a separator in a command's place.
+    (b"for x in a; do; true; done\n", 1, Reason::Shape),
+    (b"for x in a; do\ndone\n", 2, Reason::Shape),
+    (b"for x in a; do true done\n", 1, Reason::Shape),
+    // Words of a loop out of place.
+    (b"true\ndo\n", 2, Reason::Shape),
+    (b"true\ndone\n", 2, Reason::Shape),
+    (b"if for\n", 1, Reason::Shape),
+    (b"if done\n", 1, Reason::Shape),
+    (b"if true; do true; fi\n", 1, Reason::Shape),
+    (b"if true;\ndone\n", 2, Reason::Shape),
+    (b"if true; then true; fi done\n", 1, Reason::Shape),
+    (
+        b"for x in a; do\nif true; then true\ndone\n",
+        3,
+        Reason::Shape,
+    ),
+    (
+        b"if true; then\nfor x in a; do true\nfi\n",
+        3,
+        Reason::IfShape,
+    ),
+    (b"for x in a; do true\nelse\n", 2, Reason::IfShape),
+    // Behind `done`, and behind its separator.
+    (b"for x in a\ndo true\ndone > $3\n", 3, Reason::Shape),
+    (b"for x in a\ndo true\ndone done\n", 3, Reason::Shape),
+    (b"for x in a\ndo true\ndone fi\n", 3, Reason::Shape),
+    (b"for x in a; do true; done\nfi\n", 2, Reason::IfShape),
+    // The text ends inside: the line of the innermost that is open.
+    (b"true\nfor", 2, Reason::Shape),
+    (b"for x", 1, Reason::Shape),
+    (b"for x in 'a\nb'", 1, Reason::Shape),
+    (b"for x in a\n\n", 1, Reason::Shape),
+    (b"for x in a; do\n", 1, Reason::Shape),
+    (b"for x in a; do true\n", 1, Reason::Shape),
+    (
+        b"if true; then\nfor x in a; do true; done",
+        1,
+        Reason::IfShape,
+    ),
+    (b"for x in a; do\nif true; then true\n", 2, Reason::IfShape),
+    (b"if true; then\nfor x in a; do true\n", 2, Reason::Shape),
+    // A name that an outer loop binds, and a third loop.
+    (
+        b"for x in a; do for x in b; do true; done; done\n",
+        1,
+        Reason::Shape,
+    ),
+    (
+        b"for x in a; do\nfor y in b; do\nfor z in c; do\ntrue; done; done; done\n",
+        3,
+        Reason::TooDeep,
+    ),
+    (
+        b"for x in a; do for y in b; do\nif for z\n",
+        2,
+        Reason::Shape,
+    ),
+];
+
+const BY_NAMES: &[Row] = &[
+    // A name that no open loop binds, at the line of the command or of the `for`.
+    (b"true\necho $x\n", 2, Reason::Unsupported),
+    (b"echo \"a\n$x\"\n", 1, Reason::Unsupported),
+    (b"echo a > $x\n", 1, Reason::Unsupported),
+    (
+        b"true\nif test $x = a; then true; fi\n",
+        2,
+        Reason::Unsupported,
+    ),
+    (
+        b"for x in a; do true; done\necho $x\n",
+        2,
+        Reason::Unsupported,
+    ),
+    (
+        b"for x in a 'b\n' $x; do true; done\n",
+        1,
+        Reason::Unsupported,
+    ),
+    (b"for x in a; do echo $x1; done\n", 1, Reason::Unsupported),
+    (
+        b"for x in a; do for y in $z; do true; done; done\n",
+        1,
+        Reason::Unsupported,
+    ),
+    // Another fault at the same word goes before it, and so does the form of the same command.
+    (b"$x a\n", 1, Reason::UnknownCommand),
+    (b"if $x; then true; fi\n", 1, Reason::IfShape),
+    (b"echo $x > a b\n", 1, Reason::Shape),
+    (b"exit $x\n", 1, Reason::Shape),
+    // Other faults by their place.
+    (b"echo $x; ; true\n", 1, Reason::Unsupported),
+    (b"if true; then\necho $x", 2, Reason::Unsupported),
+    (b"for y in $x > a\n", 1, Reason::Unsupported),
+    (b"for y in 'a\n' > $x\n", 2, Reason::Shape),
+    (b"ls\necho $x\n", 1, Reason::UnknownCommand),
 ];
 
 /// A text, and the tree that is read from it.
@@ -228,11 +354,45 @@ const TREES: &[(&[u8], &str)] = &[
         b"if false\nthen true; else\nif true; then exit 1; fi; fi; true",
         "[If(1, False, [Simple(2, True)], [If(3, True, [Simple(3, Exit(1))], [])]), Simple(3, True)]",
     ),
+    // A loop, with no words too; where newlines may stand in it; words of the shell's own as names.
+    (
+        b"for x in; do false; done",
+        "[Loop(1, [120], [], [Simple(1, False)])]",
+    ),
+    (
+        b"true\nfor do in a 'b c' $1\n\ndo\n\nfalse;\ndone; true",
+        "[Simple(1, True), Loop(2, [100, 111], [Literal([97]), Literal([98, 32, 99]), Mixed([Bare(One)])], \
+          [Simple(6, False)]), Simple(7, True)]",
+    ),
+    // The longest name is read, and a name is bound in the body alone; the words of an inner loop may have the outer
+    // name.
+    (
+        b"for _x1 in a; do echo $_x1-1\"$_x1,$2\"; done",
+        "[Loop(1, [95, 120, 49], [Literal([97])], [Simple(1, Write(Echo([Mixed([NamedBare([95, 120, 49]), \
+          Lit([45, 49]), NamedQuoted([95, 120, 49]), Lit([44]), Quoted(Two)])]), None))])]",
+    ),
+    (
+        b"for x in a; do for y in $x; do true; done; done; for x in b; do cat \"$x\" > $x; done",
+        "[Loop(1, [120], [Literal([97])], [Loop(1, [121], [Mixed([NamedBare([120])])], [Simple(1, True)])]), \
+          Loop(1, [120], [Literal([98])], [Simple(1, Write(Cat([Mixed([NamedQuoted([120])])]), \
+          Some(Redirection { appends: false, word: Mixed([NamedBare([120])]) })))])]",
+    ),
+    (
+        b"for x in a b; do if test $x = a; then redo-ifchange $x; fi; done",
+        "[Loop(1, [120], [Literal([97]), Literal([98])], [If(1, Test(Equal(Mixed([NamedBare([120])]), Literal([97]))), \
+          [Simple(1, Change([Mixed([NamedBare([120])])]))], [])])]",
+    ),
+    // In single quotes a name stands for itself, and words of a loop are words like others behind a name.
+    (
+        b"echo for '$x' done",
+        "[Simple(1, Write(Echo([Literal([102, 111, 114]), Mixed([Lit([36, 120])]), Literal([100, 111, 110, 101])]), None))]",
+    ),
 ];
 
-/// So many lines that each open an `if`, and then a text.
-fn nested(alloc: Global, count: usize, last: &[u8]) -> Result<Vec<u8>, AllocError> {
+/// A text, then so many lines that each open an `if`, and then another.
+fn nested(alloc: Global, first: &[u8], count: usize, last: &[u8]) -> Result<Vec<u8>, AllocError> {
     let mut text = Vec::new(alloc);
+    text.extend_from_slice(first)?;
     for _ in 0..count {
         text.extend_from_slice(b"if true; then\n")?;
     }
@@ -246,7 +406,7 @@ fn fault_of(alloc: Global, text: &[u8]) -> Option<ScriptFault> {
 
 #[test]
 fn the_first_fault_of_the_first_pass_is_answered(rt: HostRuntime) -> Result<(), Fail> {
-    for rows in [BY_PASS, BY_TOKENS, BY_COMMANDS, BY_IFS] {
+    for rows in [BY_PASS, BY_TOKENS, BY_COMMANDS, BY_IFS, BY_LOOPS, BY_NAMES] {
         for (text, line, why) in rows {
             let want = ScriptFault {
                 line: *line,
@@ -277,18 +437,38 @@ fn sixteen_ifs_nest_and_no_more(rt: HostRuntime) -> Result<(), Fail> {
         (16, "", 16, Reason::IfShape),
         (15, "if if true", 16, Reason::IfShape),
     ] {
-        let text = nested(rt.alloc(), count, last.as_bytes())?;
+        let text = nested(rt.alloc(), b"", count, last.as_bytes())?;
         assert_eq!(rt;
             fault_of(rt.alloc(), &text),
             Some(ScriptFault { line, why }),
             "with {count}"
         );
     }
-    let mut text = nested(rt.alloc(), 16, b"true\n")?;
+    let mut text = nested(rt.alloc(), b"", 16, b"true\n")?;
     for _ in 0..16 {
         text.extend_from_slice(b"fi\n")?;
     }
     assert_eq!(rt; fault_of(rt.alloc(), &text), None);
+    Ok(())
+}
+
+#[test]
+fn a_loop_counts_as_no_if(rt: HostRuntime) -> Result<(), Fail> {
+    let loops = b"for x in a; do for y in b; do\n";
+    let mut text = nested(rt.alloc(), loops, 16, b"echo $x $y\n")?;
+    for _ in 0..16 {
+        text.extend_from_slice(b"fi\n")?;
+    }
+    text.extend_from_slice(b"done; done\n")?;
+    assert_eq!(rt; fault_of(rt.alloc(), &text), None);
+    let text = nested(rt.alloc(), loops, 17, b"")?;
+    assert_eq!(rt;
+        fault_of(rt.alloc(), &text),
+        Some(ScriptFault {
+            line: 18,
+            why: Reason::TooDeep
+        })
+    );
     Ok(())
 }
 

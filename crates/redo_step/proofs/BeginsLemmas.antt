@@ -1,17 +1,18 @@
 -- A run under an ask is a beginning of the run under each ask that keeps its answers.
 use Rattle.std.proofs.Common.{◌≡◌, ℕ, Bool, true, false, cond, inl, inr, Result, Ok, Err, List, [], ◌∷◌, refl, sym, ◌∙◌}
 use Rattle.redo_script.specs.Syntax.{Command, write, test, change, create, always_true, always_false, exit, Script}
-use Rattle.redo_script.specs.Syntax.{finish, simple, choice}
+use Rattle.redo_script.specs.Syntax.{finish, simple, choice, loop}
 use Rattle.redo_record.specs.declared.deps.DepKind.TheVariants as kinds
 use Rattle.redo_record.specs.declared.outcome.Why.TheVariants as why
 use Rattle.redo_record.specs.Paths.{Path}
-use Rattle.redo_step.specs.Setting.{Setting}
+use Rattle.redo_step.specs.Setting.{Setting, with_value}
 use Rattle.redo_step.specs.Runs.{State, End, exited, faulted, stopped, Run, goes, ends, end_state, ◌>>=◌}
 use Rattle.redo_step.specs.Words.{texts_of, paths_of}
 use Rattle.redo_step.specs.Declaring.{declaring, lacks, lacking, any_failed, waited, changed, free_paths, created}
 use Rattle.redo_step.specs.Outputs.{written}
 use Rattle.redo_step.specs.Reading.{tested}
-use Rattle.redo_step.specs.Statements.{with_status, with_state, command_run, condition_result, then_run, chosen, run}
+use Rattle.redo_step.specs.Statements.{with_status, with_state, command_run, condition_result, then_run, chosen}
+use Rattle.redo_step.specs.Statements.{turns, looped, run}
 use Rattle.redo_record.specs.Answers.{Ask}
 use Rattle.redo_record.specs.declared.deps.Dep.{Dep}
 use Rattle.redo_step.specs.Reach.{Keeps}
@@ -19,7 +20,7 @@ use Rattle.redo_record.specs.Entries.{Extends}
 use Rattle.redo_step.specs.Begins.{AreKnown, Awaits, IsEnd, Begins}
 use Rattle.redo_record.proofs.EntryLemmas.{Extends-refl, Extends-trans, Extends-with_entries, AllEntered}
 use Rattle.redo_record.proofs.EntryLemmas.{AllEntered-with_entries}
-use Rattle.redo_step.proofs.RunLemmas.{Keeps-extends}
+use Rattle.redo_step.proofs.RunLemmas.{Keeps-extends, Keeps-turn}
 use Rattle.redo_step.proofs.StableLemmas.{lacking-nil, lacking-answered, answered_later}
 use Rattle.redo_step.proofs.StepLemmas.{command_goes, command_stays, written_entries}
 use Rattle.redo_step.proofs.SettledLemmas.{IsOver, over_bind, Settled, texts_over, paths_over, free_over}
@@ -44,6 +45,14 @@ chosen_extends (Ok true) f g s x y = x
 chosen_extends (Ok false) f g s x y = y
 chosen_extends (Err e) f g s x y = Extends-refl s.entries
 
+turns_extends : (turn : List ℕ → State → Run) → ((value : List ℕ) (s : State) → Extends s.entries (end_state (turn value s)).entries) → (values : List (List ℕ)) (s : State) → Extends s.entries (end_state (turns turn values s)).entries
+turns_extends turn k [] s = Extends-refl s.entries
+turns_extends turn k (value ∷ values) s = then_extends s.entries (turn value s) (turns turn values) (k value s) (turns_extends turn k values)
+
+looped_extends : (r : Result (List (List ℕ)) End) (turn : List ℕ → State → Run) → ((value : List ℕ) (s : State) → Extends s.entries (end_state (turn value s)).entries) → (s : State) → Extends s.entries (end_state (looped r turn s)).entries
+looped_extends (Err e) turn k s = Extends-refl s.entries
+looped_extends (Ok values) turn k s = turns_extends turn k values s
+
 pub run_extends : (setting : Setting) (ask : Ask) (c : Script) (s : State) → Extends s.entries (end_state (run setting ask c s)).entries
 unfolding run
 run_extends setting ask finish s = Extends-refl s.entries
@@ -52,6 +61,10 @@ run_extends setting ask (simple line c rest) s =
 run_extends setting ask (choice line c first second rest) s =
     then_extends s.entries (chosen (condition_result setting ask line c s) (run setting ask first) (run setting ask second) s) (run setting ask rest)
     (chosen_extends (condition_result setting ask line c s) (run setting ask first) (run setting ask second) s (run_extends setting ask first s) (run_extends setting ask second s))
+    (run_extends setting ask rest)
+run_extends setting ask (loop line name ws body rest) s =
+    then_extends s.entries (looped (texts_of setting line ws) (λ value. run (with_value setting name value) ask body) s) (run setting ask rest)
+    (looped_extends (texts_of setting line ws) (λ value. run (with_value setting name value) ask body) (λ value. run_extends (with_value setting name value) ask body) s)
     (run_extends setting ask rest)
 
 waited_extends : (setting : Setting) (ask : Ask) (line : ℕ) (ps qs : List Path) (s : State) → Extends s.entries (end_state (waited setting ask line ps qs s)).entries
@@ -161,20 +174,57 @@ module _ (setting : Setting) (ask later : Ask) where
   chosen_begins (Ok false) q f f' g g' s st known keeps x y = rw st.same (y keeps)
   chosen_begins (Err e) q f f' g g' s st known keeps x y = rw st.same (over_begins e s st.over known)
 
-  -- The law: from any state whose operands have answers.
-  pub run_begins : (c : Script) (s : State) → AreKnown setting ask s.entries → Keeps setting (end_state (run setting ask c s)).entries ask later → Begins setting ask later (run setting ask c s) (run setting later c s)
-  unfolding run
-  run_begins finish s known keeps = (refl, known)
-  run_begins (simple line c rest) s known keeps =
-      then_begins (command_run setting ask line c s) (command_run setting later line c s) (run setting ask rest) (run setting later rest) keeps
-      (run_extends setting ask rest) (run_extends setting later rest) (command_begins line c s known) (run_begins rest)
-  run_begins (choice line c first second rest) s known keeps =
-      let r : Run = chosen (condition_result setting ask line c s) (run setting ask first) (run setting ask second) s in
-      let inside : Extends s.entries (end_state r).entries = chosen_extends (condition_result setting ask line c s) (run setting ask first) (run setting ask second) s (run_extends setting ask first s) (run_extends setting ask second s) in
-      then_begins r (chosen (condition_result setting later line c s) (run setting later first) (run setting later second) s) (run setting ask rest) (run setting later rest) keeps
-      (run_extends setting ask rest) (run_extends setting later rest)
-      (λ k.
-      let before : Keeps setting s.entries ask later = Keeps-extends setting s.entries (end_state r).entries ask later inside k in
-      chosen_begins (condition_result setting ask line c s) (condition_result setting later line c s) (run setting ask first) (run setting later first) (run setting ask second) (run setting later second) s
-      (condition_settled setting ask later s.entries before known line c s refl) known k (run_begins first s known) (run_begins second s known))
-      (run_begins rest)
+  turns_begins : (f g : List ℕ → State → Run) → ((value : List ℕ) (t : State) → Extends t.entries (end_state (f value t)).entries) → ((value : List ℕ) (t : State) → Extends t.entries (end_state (g value t)).entries) →
+      ((value : List ℕ) (t : State) → AreKnown setting ask t.entries → Keeps setting (end_state (f value t)).entries ask later → Begins setting ask later (f value t) (g value t)) →
+      (values : List (List ℕ)) (s : State) → AreKnown setting ask s.entries → Keeps setting (end_state (turns f values s)).entries ask later → Begins setting ask later (turns f values s) (turns g values s)
+  turns_begins f g x y k [] s known keeps = (refl, known)
+  turns_begins f g x y k (value ∷ values) s known keeps =
+      then_begins (f value s) (g value s) (turns f values) (turns g values) keeps (turns_extends f x values) (turns_extends g y values) (k value s known) (turns_begins f g x y k values)
+
+  looped_begins : (r : Result (List (List ℕ)) End) (f g : List ℕ → State → Run) → IsOver r → ((value : List ℕ) (t : State) → Extends t.entries (end_state (f value t)).entries) → ((value : List ℕ) (t : State) → Extends t.entries (end_state (g value t)).entries) →
+      ((value : List ℕ) (t : State) → AreKnown setting ask t.entries → Keeps setting (end_state (f value t)).entries ask later → Begins setting ask later (f value t) (g value t)) →
+      (s : State) → AreKnown setting ask s.entries → Keeps setting (end_state (looped r f s)).entries ask later → Begins setting ask later (looped r f s) (looped r g s)
+  looped_begins (Err e) f g over x y k s known keeps = over_begins e s over known
+  looped_begins (Ok values) f g over x y k s known keeps = turns_begins f g x y k values s known keeps
+
+-- What is known in a turn of a loop is known round it.
+module _ (setting : Setting) (name value : List ℕ) (ask later : Ask) where
+  known_inside : (es : List Dep) → AreKnown setting ask es → AreKnown (with_value setting name value) ask es
+  known_inside es k = record { known = λ p h. k.known p h }
+
+  known_outside : (es : List Dep) → AreKnown (with_value setting name value) ask es → AreKnown setting ask es
+  known_outside es k = record { known = λ p h. k.known p h }
+
+  begins_outside : (r r' : Run) → Begins (with_value setting name value) ask later r r' → Begins setting ask later r r'
+  begins_outside (goes s) r' b = (b.0, known_outside s.entries b.1)
+  begins_outside (ends (exited n) s) r' b = (b.0, known_outside s.entries b.1)
+  begins_outside (ends (faulted w) s) r' b = (b.0, known_outside s.entries b.1)
+  begins_outside (ends (stopped ps) s) r' b = record { lacking = b.lacking; extends = b.extends; stays = λ p h l. b.stays p h l }
+
+-- The law: from any state whose operands have answers.
+pub run_begins : (setting : Setting) (ask later : Ask) (c : Script) (s : State) → AreKnown setting ask s.entries → Keeps setting (end_state (run setting ask c s)).entries ask later → Begins setting ask later (run setting ask c s) (run setting later c s)
+unfolding run
+run_begins setting ask later finish s known keeps = (refl, known)
+run_begins setting ask later (simple line c rest) s known keeps =
+    then_begins setting ask later (command_run setting ask line c s) (command_run setting later line c s) (run setting ask rest) (run setting later rest) keeps
+    (run_extends setting ask rest) (run_extends setting later rest) (command_begins setting ask later line c s known) (run_begins setting ask later rest)
+run_begins setting ask later (choice line c first second rest) s known keeps =
+    let r : Run = chosen (condition_result setting ask line c s) (run setting ask first) (run setting ask second) s in
+    let inside : Extends s.entries (end_state r).entries = chosen_extends (condition_result setting ask line c s) (run setting ask first) (run setting ask second) s (run_extends setting ask first s) (run_extends setting ask second s) in
+    then_begins setting ask later r (chosen (condition_result setting later line c s) (run setting later first) (run setting later second) s) (run setting ask rest) (run setting later rest) keeps
+    (run_extends setting ask rest) (run_extends setting later rest)
+    (λ k.
+    let before : Keeps setting s.entries ask later = Keeps-extends setting s.entries (end_state r).entries ask later inside k in
+    chosen_begins setting ask later (condition_result setting ask line c s) (condition_result setting later line c s) (run setting ask first) (run setting later first) (run setting ask second) (run setting later second) s
+    (condition_settled setting ask later s.entries before known line c s refl) known k (run_begins setting ask later first s known) (run_begins setting ask later second s known))
+    (run_begins setting ask later rest)
+run_begins setting ask later (loop line name ws body rest) s known keeps =
+    then_begins setting ask later (looped (texts_of setting line ws) (λ value. run (with_value setting name value) ask body) s) (looped (texts_of setting line ws) (λ value. run (with_value setting name value) later body) s) (run setting ask rest) (run setting later rest) keeps
+    (run_extends setting ask rest) (run_extends setting later rest)
+    (looped_begins setting ask later (texts_of setting line ws) (λ value. run (with_value setting name value) ask body) (λ value. run (with_value setting name value) later body) (texts_over setting line ws)
+    (λ value. run_extends (with_value setting name value) ask body) (λ value. run_extends (with_value setting name value) later body)
+    (λ value t known' keeps'.
+    begins_outside setting name value ask later (run (with_value setting name value) ask body t) (run (with_value setting name value) later body t)
+    (run_begins (with_value setting name value) ask later body t (known_inside setting name value ask later t.entries known') (Keeps-turn setting name value (end_state (run (with_value setting name value) ask body t)).entries ask later keeps')))
+    s known)
+    (run_begins setting ask later rest)

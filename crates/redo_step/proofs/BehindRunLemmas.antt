@@ -1,24 +1,25 @@
 -- What a script declares stands behind what was declared before.
 use Rattle.std.proofs.Common.{◌≡◌, ℕ, Bool, true, false, cond, List, [], ◌∷◌, refl, sym, ◌∙◌, Result, Ok, Err}
-use Rattle.std.proofs.Common.{append-nil}
+use Rattle.std.proofs.Common.{append-nil, drop}
 use Rattle.redo_script.specs.Syntax.{Command, write, test, change, create, always_true, always_false, exit, Script}
-use Rattle.redo_script.specs.Syntax.{finish, simple, choice}
+use Rattle.redo_script.specs.Syntax.{finish, simple, choice, loop}
 use Rattle.redo_record.specs.declared.deps.Dep.{Dep}
 use Rattle.redo_record.specs.declared.deps.DepKind.TheVariants as kinds
 use Rattle.redo_record.specs.declared.outcome.Why.TheVariants as why
 use Rattle.redo_record.specs.Entries.{IsBeginning}
 use Rattle.redo_record.specs.Paths.{Path}
-use Rattle.redo_step.specs.Setting.{Setting}
+use Rattle.redo_step.specs.Setting.{Setting, with_value}
 use Rattle.redo_step.specs.Runs.{State, End, faulted, Run, goes, ends, end_state, ◌>>=◌}
 use Rattle.redo_step.specs.Words.{texts_of, paths_of}
 use Rattle.redo_step.specs.Declaring.{free_paths, declaring, lacking, any_failed, waited, changed, created}
 use Rattle.redo_step.specs.Outputs.{written}
 use Rattle.redo_step.specs.Reading.{tested}
-use Rattle.redo_step.specs.Statements.{with_status, with_state, command_run, condition_result, then_run, chosen, run}
+use Rattle.redo_step.specs.Statements.{with_status, with_state, command_run, condition_result, then_run, chosen}
+use Rattle.redo_step.specs.Statements.{turns, looped, run}
 use Rattle.redo_step.specs.declared.place.Branch.{Branch}
 use Rattle.redo_step.specs.declared.place.Branch.TheVariants.{First, Second}
-use Rattle.redo_step.specs.declared.place.Place.{Place, Before, Within'}
-use Rattle.redo_step.specs.Place.{Rest, skip, inside, left_at}
+use Rattle.redo_step.specs.declared.place.Place.{Place, Before, Within', InTurn'}
+use Rattle.redo_step.specs.Place.{Rest, turns_of, skip, inside, in_turn, left_at}
 use Rattle.redo_record.specs.Answers.{Ask}
 use Rattle.redo_step.proofs.StepLemmas.{written_entries}
 use Rattle.redo_record.proofs.BehindLemmas.{beginning-refl, beginning-trans, entries-begin}
@@ -58,38 +59,69 @@ module _ (setting : Setting) (ask : Ask) where
   command-begins line always_false s = beginning-refl s.entries
   command-begins line (exit n) s = beginning-refl s.entries
 
-  then-begins : (es : List Dep) (r : Run) (f : State → Run) → IsBeginning es (end_state r).entries → ((t : State) → IsBeginning t.entries (end_state (f t)).entries) →
-      IsBeginning es (end_state (then_run r f)).entries
-  then-begins es (goes t) f x k = beginning-trans es t.entries (end_state (f t)).entries x (k t)
-  then-begins es (ends e t) f x k = x
+then-begins : (es : List Dep) (r : Run) (f : State → Run) → IsBeginning es (end_state r).entries → ((t : State) → IsBeginning t.entries (end_state (f t)).entries) →
+    IsBeginning es (end_state (then_run r f)).entries
+then-begins es (goes t) f x k = beginning-trans es t.entries (end_state (f t)).entries x (k t)
+then-begins es (ends e t) f x k = x
 
-  chosen-begins : (r : Result Bool End) (f g : State → Run) (s : State) → IsBeginning s.entries (end_state (f s)).entries → IsBeginning s.entries (end_state (g s)).entries →
-      IsBeginning s.entries (end_state (chosen r f g s)).entries
-  chosen-begins (Ok true) f g s x y = x
-  chosen-begins (Ok false) f g s x y = y
-  chosen-begins (Err e) f g s x y = beginning-refl s.entries
+chosen-begins : (r : Result Bool End) (f g : State → Run) (s : State) → IsBeginning s.entries (end_state (f s)).entries → IsBeginning s.entries (end_state (g s)).entries →
+    IsBeginning s.entries (end_state (chosen r f g s)).entries
+chosen-begins (Ok true) f g s x y = x
+chosen-begins (Ok false) f g s x y = y
+chosen-begins (Err e) f g s x y = beginning-refl s.entries
 
-  -- a run only adds to what was declared, behind it
-  pub run-begins : (c : Script) (s : State) → IsBeginning s.entries (end_state (run setting ask c s)).entries
-  unfolding run
-  run-begins finish s = beginning-refl s.entries
-  run-begins (simple line c rest) s = then-begins s.entries (command_run setting ask line c s) (run setting ask rest) (command-begins line c s) (run-begins rest)
-  run-begins (choice line c first second rest) s =
-      then-begins s.entries (chosen (condition_result setting ask line c s) (run setting ask first) (run setting ask second) s) (run setting ask rest)
-      (chosen-begins (condition_result setting ask line c s) (run setting ask first) (run setting ask second) s (run-begins first s) (run-begins second s))
-      (run-begins rest)
+turns-begins : (turn : List ℕ → State → Run) → ((value : List ℕ) (s : State) → IsBeginning s.entries (end_state (turn value s)).entries) → (values : List (List ℕ)) (s : State) →
+    IsBeginning s.entries (end_state (turns turn values s)).entries
+turns-begins turn k [] s = beginning-refl s.entries
+turns-begins turn k (value ∷ values) s = then-begins s.entries (turn value s) (turns turn values) (k value s) (turns-begins turn k values)
 
-  inside-begins : (branch : Branch) (left : Setting → Script → Rest) (c : Script) → ((c : Script) (s : State) → IsBeginning s.entries (end_state (left setting c ask s)).entries) → (s : State) →
-      IsBeginning s.entries (end_state (inside branch left setting c ask s)).entries
-  inside-begins First left finish part s = run-begins finish s
-  inside-begins Second left finish part s = run-begins finish s
-  inside-begins First left (simple line c rest) part s = run-begins finish s
-  inside-begins Second left (simple line c rest) part s = run-begins finish s
-  inside-begins First left (choice line c first second rest) part s = then-begins s.entries (left setting first ask s) (run setting ask rest) (part first s) (run-begins rest)
-  inside-begins Second left (choice line c first second rest) part s = then-begins s.entries (left setting second ask s) (run setting ask rest) (part second s) (run-begins rest)
+looped-begins : (r : Result (List (List ℕ)) End) (turn : List ℕ → State → Run) → ((value : List ℕ) (s : State) → IsBeginning s.entries (end_state (turn value s)).entries) → (s : State) →
+    IsBeginning s.entries (end_state (looped r turn s)).entries
+looped-begins (Err e) turn k s = beginning-refl s.entries
+looped-begins (Ok values) turn k s = turns-begins turn k values s
 
-  -- so does what is left of one
-  pub left-begins : (place : Place) (c : Script) (s : State) → IsBeginning s.entries (end_state (left_at place setting c ask s)).entries
-  unfolding left_at
-  left-begins (Before n) c s = run-begins (skip n c) s
-  left-begins (Within' n branch p place) c s = inside-begins branch (left_at place) (skip n c) (left-begins place) s
+-- a run only adds to what was declared, behind it
+pub run-begins : (setting : Setting) (ask : Ask) (c : Script) (s : State) → IsBeginning s.entries (end_state (run setting ask c s)).entries
+unfolding run
+run-begins setting ask finish s = beginning-refl s.entries
+run-begins setting ask (simple line c rest) s =
+    then-begins s.entries (command_run setting ask line c s) (run setting ask rest) (command-begins setting ask line c s) (run-begins setting ask rest)
+run-begins setting ask (choice line c first second rest) s =
+    then-begins s.entries (chosen (condition_result setting ask line c s) (run setting ask first) (run setting ask second) s) (run setting ask rest)
+    (chosen-begins (condition_result setting ask line c s) (run setting ask first) (run setting ask second) s (run-begins setting ask first s) (run-begins setting ask second s))
+    (run-begins setting ask rest)
+run-begins setting ask (loop line name ws body rest) s =
+    then-begins s.entries (looped (texts_of setting line ws) (λ value. run (with_value setting name value) ask body) s) (run setting ask rest)
+    (looped-begins (texts_of setting line ws) (λ value. run (with_value setting name value) ask body) (λ value. run-begins (with_value setting name value) ask body) s)
+    (run-begins setting ask rest)
+
+-- so does what is left from a place on
+abbrev pub LeftBegins : Ask → (Setting → Script → Rest) → Type 0
+LeftBegins ask left = (setting : Setting) (c : Script) (s : State) → IsBeginning s.entries (end_state (left setting c ask s)).entries
+
+inside-begins : (ask : Ask) (branch : Branch) (left : Setting → Script → Rest) → LeftBegins ask left → LeftBegins ask (inside branch left)
+inside-begins ask First left part setting finish s = run-begins setting ask finish s
+inside-begins ask Second left part setting finish s = run-begins setting ask finish s
+inside-begins ask First left part setting (simple line c rest) s = run-begins setting ask finish s
+inside-begins ask Second left part setting (simple line c rest) s = run-begins setting ask finish s
+inside-begins ask First left part setting (choice line c first second rest) s = then-begins s.entries (left setting first ask s) (run setting ask rest) (part setting first s) (run-begins setting ask rest)
+inside-begins ask Second left part setting (choice line c first second rest) s = then-begins s.entries (left setting second ask s) (run setting ask rest) (part setting second s) (run-begins setting ask rest)
+inside-begins ask First left part setting (loop line name ws body rest) s = run-begins setting ask finish s
+inside-begins ask Second left part setting (loop line name ws body rest) s = run-begins setting ask finish s
+
+in_turn-begins : (ask : Ask) (values : List (List ℕ)) (left : Setting → Script → Rest) → LeftBegins ask left → LeftBegins ask (in_turn values left)
+in_turn-begins ask [] left part setting c s = run-begins setting ask finish s
+in_turn-begins ask (value ∷ values) left part setting finish s = run-begins setting ask finish s
+in_turn-begins ask (value ∷ values) left part setting (simple line c rest) s = run-begins setting ask finish s
+in_turn-begins ask (value ∷ values) left part setting (choice line c first second rest) s = run-begins setting ask finish s
+in_turn-begins ask (value ∷ values) left part setting (loop line name ws body rest) s =
+    then-begins s.entries (then_run (left (with_value setting name value) body ask s) (turns_of setting name body values ask)) (run setting ask rest)
+    (then-begins s.entries (left (with_value setting name value) body ask s) (turns_of setting name body values ask) (part (with_value setting name value) body s)
+    (turns-begins (λ value. run (with_value setting name value) ask body) (λ value. run-begins (with_value setting name value) ask body) values))
+    (run-begins setting ask rest)
+
+pub left-begins : (setting : Setting) (ask : Ask) (place : Place) (c : Script) (s : State) → IsBeginning s.entries (end_state (left_at place setting c ask s)).entries
+unfolding left_at
+left-begins setting ask (Before n) c s = run-begins setting ask (skip n c) s
+left-begins setting ask (Within' n branch p place) c s = inside-begins ask branch (left_at place) (λ inner. left-begins inner ask place) setting (skip n c) s
+left-begins setting ask (InTurn' n values turn p place) c s = in_turn-begins ask (drop turn values) (left_at place) (λ inner. left-begins inner ask place) setting (skip n c) s

@@ -1,6 +1,6 @@
 -- A script that goes on with a redo-ifchange that waited.
 use Rattle.std.proofs.Common.{◌≡◌, ℕ, zero, suc, ◌+◌, ◌<◌, length, List, [], ◌∷◌, Option, Result, Ok, refl, sym, ap}
-use Rattle.std.proofs.Common.{◌∙◌, subst, add-one, arith}
+use Rattle.std.proofs.Common.{◌∙◌, subst, add-one, arith, drop}
 use Rattle.std.specs.Prelude.{Box}
 use Rattle.std.specs.declared.alloc.Global.{Global}
 use Rattle.redo_script.specs.declared.ast.Stmt.{Stmt}
@@ -8,7 +8,7 @@ use Rattle.redo_script.specs.Syntax.{Script, Command, finish, simple}
 use Rattle.redo_script.specs.View.{script_of}
 use Rattle.redo_script.specs.declared.fault.ScriptFault.{ScriptFault}
 use Rattle.redo_step.specs.declared.place.Branch.{Branch}
-use Rattle.redo_step.specs.declared.place.Place.{Place, Before, Within'}
+use Rattle.redo_step.specs.declared.place.Place.{Place, Before, Within', InTurn'}
 use Rattle.redo_step.specs.declared.place.Place.TheVariants as places
 use Rattle.redo_step.specs.declared.machine.RunEnd.{RunEnd}
 use Rattle.redo_step.specs.declared.halt.Halt.{Halt}
@@ -16,13 +16,14 @@ use Rattle.redo_step.specs.declared.wait.Waiting.{Waiting}
 use Rattle.redo_step.specs.Setting.{Setting}
 use Rattle.redo_step.specs.Runs.{State, goes}
 use Rattle.redo_record.specs.Answers.{Ask}
-use Rattle.redo_step.specs.Place.{all_of, behind_first, skip, branch_of, stands_at, left_at}
+use Rattle.redo_step.specs.Place.{all_of, behind_first, skip, branch_of, body_in, Standing, stands_at}
 use Rattle.redo_step.specs.inside.Waiting.{waited_on, unanswered}
-use Rattle.redo_step.specs.inside.Machine.{WaitsBy, Comes, IsStopBefore, HasBranch}
+use Rattle.redo_step.specs.declared.machine.Turns.{Turns}
+use Rattle.redo_step.specs.inside.Machine.{WaitsBy, Comes, IsStopBefore, HasBranch, HasTurns, IsTurn}
 use Rattle.redo_step.specs.inside.Kept.{IsFirst, IsKept}
 use Rattle.redo_step.proofs.StepLemmas.{reaches_simple}
 use Rattle.redo_step.proofs.SliceLemmas.{skip_finish, behind-before}
-use Rattle.redo_step.proofs.ComesLemmas.{comes_after, comes_before, stop_comes, branch_choice}
+use Rattle.redo_step.proofs.ComesLemmas.{comes_after, stop_comes, branch_choice}
 use Rattle.redo_step.proofs.WaitingLemmas.{first_is, ends_waiting}
 
 skip_next : (n : ℕ) (script : Script) → skip (suc n) script ≡ behind_first (skip n script)
@@ -39,55 +40,68 @@ within_here [] n rest line c h = absurd (let bad : finish ≡ simple line c rest
 within_here (x ∷ xs) zero rest line c h = omega arith
 within_here (x ∷ xs) (suc n) rest line c h = let r = within_here xs n rest line c (sym (ap (skip n) (behind-before x (script_of xs))) ∙ h) in omega arith
 
-stands_here : (place : Place) (n : ℕ) (script : Script) → place ≡ Before n → stands_at place script ≡ skip n script
+pub stands_first : (place : Place) (n : ℕ) (setting : Setting) (script : Script) → place ≡ Before n → stands_at place setting script ≡ record { setting = setting; script = skip n script }
 unfolding stands_at
-stands_here place n script is = rw is refl
+stands_first place n setting script is = rw is refl
 
-stands_inside : (place : Place) (n : ℕ) (branch : Branch) (inner : Box Place Global) (script : Script) → place ≡ places.Within n branch inner → stands_at place script ≡ stands_at inner.value (branch_of branch (skip n script))
+stands_inside : (place : Place) (setting : Setting) (n : ℕ) (branch : Branch) (inner : Box Place Global) (script : Script) → place ≡ places.Within n branch inner → stands_at place setting script ≡ stands_at inner.value setting (branch_of branch (skip n script))
 unfolding stands_at
-stands_inside place n branch inner script is = rw is refl
+stands_inside place setting n branch inner script is = rw is refl
 
--- how many branches a place lies in
+stands_in_turn : (place : Place) (setting : Setting) (n : ℕ) (values : List (List ℕ)) (turn : ℕ) (inner : Box Place Global) (script : Script) → place ≡ places.InTurn n values turn inner →
+    stands_at place setting script ≡ (let here = body_in (drop turn values) setting (skip n script) in stands_at inner.value here.setting here.script)
+unfolding stands_at
+stands_in_turn place setting n values turn inner script is = rw is refl
+
+-- how many branches and turns a place lies in
 abbrev pub depth : Place → ℕ
 depth (Before n) = 0
 depth (Within' n branch p place) = suc (depth place)
+depth (InTurn' n values turn p place) = suc (depth place)
 
 pub depth_inside : (place here : Place) (n : ℕ) (branch : Branch) (inner : Box Place Global) → place ≡ places.Within n branch inner → here ≡ inner.value → depth here < depth place
 depth_inside place here n branch inner is e = rw (is, e) (omega arith)
 
-module _ (setting : Setting) (ask : Ask) (whole : List Stmt) (place : Place) (s : State) where
+pub depth_in_turn : (place here : Place) (n : ℕ) (values : List (List ℕ)) (turn : ℕ) (inner : Box Place Global) → place ≡ places.InTurn n values turn inner → here ≡ inner.value → depth here < depth place
+depth_in_turn place here n values turn inner is e = rw (is, e) (omega arith)
+
+module _ (setting : Setting) (ask : Ask) (whole : List Stmt) (s : State) where
   -- what is kept for a branch
-  pub kept_inside : (n : ℕ) (branch : Branch) (inner : Box Place Global) (part : List Stmt) (here : Place) (kept : Option Waiting) → place ≡ places.Within n branch inner → HasBranch whole n branch part → here ≡ inner.value → IsKept setting (stands_at place (script_of whole)) s kept → IsKept setting (stands_at here (script_of part)) s kept
-  kept_inside n branch inner part here kept is has e k =
-      let same : stands_at place (script_of whole) ≡ stands_at here (script_of part) =
-      stands_inside place n branch inner (script_of whole) is ∙ ap (λ y. stands_at inner.value (branch_of branch y)) has.here ∙ ap (stands_at inner.value) (branch_choice setting ask branch has.line has.condition has.first has.second (skip (n + 1) (script_of whole)) ∙ sym has.part_is) ∙ ap (λ q. stands_at q (script_of part)) (sym e) in
-      subst (λ (y : Script). IsKept setting y s kept) same k
+  pub kept_inside : (place : Place) (n : ℕ) (branch : Branch) (inner : Box Place Global) (part : List Stmt) (here : Place) (kept : Option Waiting) → place ≡ places.Within n branch inner → HasBranch whole n branch part → here ≡ inner.value → IsKept (stands_at place setting (script_of whole)) s kept → IsKept (stands_at here setting (script_of part)) s kept
+  kept_inside place n branch inner part here kept is has e k =
+      let same : stands_at place setting (script_of whole) ≡ stands_at here setting (script_of part) =
+      stands_inside place setting n branch inner (script_of whole) is ∙ ap (λ y. stands_at inner.value setting (branch_of branch y)) has.here ∙ ap (stands_at inner.value setting) (branch_choice setting ask branch has.line has.condition has.first has.second (skip (n + 1) (script_of whole)) ∙ sym has.part_is) ∙ ap (λ q. stands_at q setting (script_of part)) (sym e) in
+      subst (λ (y : Standing). IsKept y s kept) same k
 
-  module _ (n : ℕ) (is : place ≡ Before n) (w : Waiting) (first : IsFirst setting (stands_at place (script_of whole)) s w) where
-    at : skip n (script_of whole) ≡ simple first.line first.command first.rest
-    at = sym (stands_here place n (script_of whole) is) ∙ first.here
+  -- what is kept for a turn
+  pub kept_in_turn : (place : Place) (n : ℕ) (values : List (List ℕ)) (turn : ℕ) (inner : Box Place Global) (turns : Turns) (here : Place) (within : Setting) (kept : Option Waiting) → place ≡ places.InTurn n values turn inner → HasTurns whole n turns → turns.values.now ≡ values → IsTurn setting turns turn within → here ≡ inner.value → IsKept (stands_at place setting (script_of whole)) s kept → IsKept (stands_at here within (script_of turns.body.now)) s kept
+  kept_in_turn place n values turn inner turns here within kept is has v t e k =
+      let d : drop turn values ≡ t.value ∷ drop (turn + 1) turns.values.now = ap (drop turn) (sym v) ∙ t.here in
+      let same : stands_at place setting (script_of whole) ≡ stands_at here within (script_of turns.body.now) = rw (e, t.binds) (stands_in_turn place setting n values turn inner (script_of whole) is ∙ rw (d, has.here) refl) in
+      subst (λ (y : Standing). IsKept y s kept) same k
 
+  module _ (n : ℕ) (w : Waiting) (first : IsFirst setting (skip n (script_of whole)) s w) where
     pub kept_within : n < length whole
-    kept_within = within_here whole n first.rest first.line first.command at
+    kept_within = within_here whole n first.rest first.line first.command first.here
 
     -- it goes on
-    pub kept_goes : (t : State) (p : RunEnd) → waited_on ask w.line w.targets.items (unanswered ask [] w.targets.items) s ≡ goes s → Comes setting ask (script_of whole) (all_of setting (skip (n + 1) (script_of whole))) (all_of setting finish) s p t → Comes setting ask (script_of whole) (left_at place setting (script_of whole)) (all_of setting finish) s p t
+    pub kept_goes : (t : State) (p : RunEnd) → waited_on ask w.line w.targets.items (unanswered ask [] w.targets.items) s ≡ goes s → Comes setting ask (script_of whole) (all_of setting (skip (n + 1) (script_of whole))) (all_of setting finish) s p t → Comes setting ask (script_of whole) (all_of setting (skip n (script_of whole))) (all_of setting finish) s p t
     kept_goes t p g c =
         let runs = first_is setting ask first.line first.command w s first.has ∙ g in
         let reaches = reaches_simple setting ask first.line first.command first.rest s s runs in
-        let behind = behind_here n (script_of whole) first.rest first.line first.command at in
+        let behind = behind_here n (script_of whole) first.rest first.line first.command first.here in
         let all = comes_after setting ask (script_of whole) (all_of setting (simple first.line first.command first.rest)) (all_of setting first.rest) (all_of setting finish) s s t p reaches (subst (λ (y : Script). Comes setting ask (script_of whole) (all_of setting y) (all_of setting finish) s p t) behind c) in
-        comes_before setting ask whole place s n t p is (subst (λ (y : Script). Comes setting ask (script_of whole) (all_of setting y) (all_of setting finish) s p t) (sym at) all)
+        subst (λ (y : Script). Comes setting ask (script_of whole) (all_of setting y) (all_of setting finish) s p t) (sym first.here) all
 
     -- it stops again
-    pub kept_stops : (stop : Halt) (p : RunEnd) → WaitsBy w stop (waited_on ask w.line w.targets.items (unanswered ask [] w.targets.items) s) s → IsStopBefore stop n p → Comes setting ask (script_of whole) (left_at place setting (script_of whole)) (all_of setting finish) s p s
+    pub kept_stops : (stop : Halt) (p : RunEnd) → WaitsBy w stop (waited_on ask w.line w.targets.items (unanswered ask [] w.targets.items) s) s → IsStopBefore stop n p → Comes setting ask (script_of whole) (all_of setting (skip n (script_of whole))) (all_of setting finish) s p s
     kept_stops stop p h before =
         let ends = ends_waiting setting ask first.line first.command w stop _ s first.has (rw (← first_is setting ask first.line first.command w s first.has) at h) in
-        let stopped = stop_comes setting ask first.line first.command n s s stop p (script_of whole) first.rest (all_of setting finish) ends before at in
-        comes_before setting ask whole place s n s p is (subst (λ (y : Script). Comes setting ask (script_of whole) (all_of setting y) (all_of setting finish) s p s) (sym at) stopped)
+        let stopped = stop_comes setting ask first.line first.command n s s stop p (script_of whole) first.rest (all_of setting finish) ends before first.here in
+        subst (λ (y : Script). Comes setting ask (script_of whole) (all_of setting y) (all_of setting finish) s p s) (sym first.here) stopped
 
 ok_same : (x : Result Script ScriptFault) (a b : Script) → x ≡ Ok a → x ≡ Ok b → a ≡ b
 ok_same x a b e f = cc
 
-pub same_kept : (setting : Setting) (place : Place) (s : State) (kept : Option Waiting) (x : Result Script ScriptFault) (a b : Script) → x ≡ Ok a → x ≡ Ok b → IsKept setting (stands_at place a) s kept → IsKept setting (stands_at place b) s kept
-same_kept setting place s kept x a b e f k = subst (λ (y : Script). IsKept setting (stands_at place y) s kept) (ok_same x a b e f) k
+pub same_kept : (setting : Setting) (place : Place) (s : State) (kept : Option Waiting) (x : Result Script ScriptFault) (a b : Script) → x ≡ Ok a → x ≡ Ok b → IsKept (stands_at place setting a) s kept → IsKept (stands_at place setting b) s kept
+same_kept setting place s kept x a b e f k = subst (λ (y : Script). IsKept (stands_at place setting y) s kept) (ok_same x a b e f) k

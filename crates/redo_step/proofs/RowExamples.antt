@@ -3,8 +3,9 @@ use Rattle.std.specs.Prelude.{◌≡◌, ℕ, Bool, true, false, List, [], ◌�
 use Rattle.std.specs.Prelude.{if◌then◌else◌}
 use Rattle.redo_script.specs.declared.ast.Parameter.{Parameter}
 use Rattle.redo_script.specs.declared.ast.Parameter.TheVariants.{One, Two, Three}
-use Rattle.redo_script.specs.Syntax.{byte, bare, Word, Redirection, is_file, equal, Writer, echo, printf, cat, write}
-use Rattle.redo_script.specs.Syntax.{change, create, always_false, exit, if_test, Script, finish, simple, choice}
+use Rattle.redo_script.specs.Syntax.{byte, bare, named_quoted, named_bare, Word, Redirection, is_file, equal, Writer}
+use Rattle.redo_script.specs.Syntax.{echo, printf, cat, write, change, create, always_false, exit, if_test, Script}
+use Rattle.redo_script.specs.Syntax.{finish, simple, choice, loop}
 use Rattle.redo_script.specs.Bytes.{is_plain}
 use Rattle.redo_record.specs.declared.deps.DepKind.TheVariants as kinds
 use Rattle.redo_record.specs.declared.outcome.Why.TheVariants as why
@@ -38,6 +39,7 @@ setting target source limit = record {
   stands_for = arguments target;
   third = Some (target ++ codes ".redo.tmp");
   limit = limit;
+  bound = [];
 }
 
 abbrev no_source : Path → Option (List ℕ)
@@ -216,3 +218,67 @@ last_round_filled = refl
 lone_percent : result 9 (writes 1 (printf (word (codes "%s%")) []) None finish) ≡ Some (not_made (why.Format 1))
 unfolding meaning run resolved is_plain
 lone_percent = refl
+
+-- Loops
+
+abbrev x_bare : Word
+x_bare = named_bare (codes "x") ∷ []
+
+abbrev x_quoted : Word
+x_quoted = named_quoted (codes "x") ∷ []
+
+abbrev over : List Word → Script → Script
+over ws body = loop 1 (codes "x") ws body finish
+
+-- for x in p q; do redo-ifchange $x; cat $x; done
+abbrev each_in_turn : Script
+each_in_turn = over (word (codes "p") ∷ word (codes "q") ∷ []) (simple 2 (change (x_bare ∷ [])) (writes 3 (cat (x_bare ∷ [])) None finish))
+
+abbrev entry : List ℕ → Dep
+entry p = record { kind = kinds.Change; path = p }
+
+stops_in_the_first_turn : meaning (setting (codes "t") no_source 1000) no_answers each_in_turn ≡ ends (stopped (codes "p" ∷ [])) (record { output = []; third = None; entries = entry (codes "p") ∷ [] })
+unfolding meaning run resolved is_plain
+stops_in_the_first_turn = refl
+
+stops_in_the_second_turn : meaning (setting (codes "t") no_source 1000) (λ p. if bytes_eq p (codes "p") then Some (outcomes.Built (Some (codes "1"))) else None) each_in_turn ≡ ends (stopped (codes "q" ∷ [])) (record { output = codes "1"; third = None; entries = entry (codes "p") ∷ entry (codes "q") ∷ [] })
+unfolding meaning run resolved is_plain
+stops_in_the_second_turn = refl
+
+all_turns : result_of (meaning (setting (codes "t") no_source 1000) (λ p. Some (outcomes.Built (Some p))) each_in_turn) ≡ Some (made (Some (codes "pq")))
+unfolding meaning run resolved is_plain
+all_turns = refl
+
+-- for x in; do false; done
+no_turns : result 9 (over [] (simple 1 always_false finish)) ≡ Some (made None)
+unfolding meaning run resolved is_plain
+no_turns = refl
+
+-- a turn that fails ends the loop
+fails_in_a_turn : result 9 (over (word (codes "a") ∷ word (codes "b") ∷ []) (writes 2 (echo (x_bare ∷ [])) None (simple 3 always_false finish))) ≡ Some (not_made (why.Exit 1))
+unfolding meaning run resolved is_plain
+fails_in_a_turn = refl
+
+-- so does one that ends well
+ends_well_in_a_turn : result 9 (over (word (codes "a") ∷ word (codes "b") ∷ []) (writes 2 (echo (x_bare ∷ [])) None (simple 3 (exit 0) finish))) ≡ Some (made (Some (97 ∷ 10 ∷ [])))
+unfolding meaning run resolved is_plain
+ends_well_in_a_turn = refl
+
+-- a value is judged where it stands outside quotes
+empty_bare_value : result 9 (over (word [] ∷ []) (writes 2 (echo (x_bare ∷ [])) None finish)) ≡ Some (not_made (why.Unquoted 2))
+unfolding meaning run resolved is_plain
+empty_bare_value = refl
+
+empty_quoted_value : result 9 (over (word [] ∷ []) (writes 2 (echo (x_quoted ∷ [])) None finish)) ≡ Some (made (Some (10 ∷ [])))
+unfolding meaning run resolved is_plain
+empty_quoted_value = refl
+
+-- for x in $1, for a target whose name has a blank: at the line of the loop, and before its first turn
+unquoted_word : result_of (meaning (setting (codes "a b") no_source 1000) no_answers (over (word (codes "a") ∷ (bare One ∷ []) ∷ []) (simple 2 (exit 7) finish))) ≡ Some (not_made (why.Unquoted 1))
+unfolding meaning run resolved is_plain
+unquoted_word = refl
+
+-- a loop in a loop, whose words have the outer value
+a_loop_in_a_loop : result 99 (over (word (codes "a") ∷ word (codes "b") ∷ []) (loop 2 (codes "y") (x_bare ∷ word (codes "c") ∷ []) (writes 3 (printf (x_bare ++ named_bare (codes "y") ∷ []) []) None finish) finish)) ≡ Some (made (Some (codes "aaacbbbc")))
+unfolding meaning run resolved is_plain
+a_loop_in_a_loop = refl

@@ -1,7 +1,7 @@
 -- Laws of runs.
-use Rattle.std.proofs.Common.{List, refl, ap, ◌∙◌}
+use Rattle.std.proofs.Common.{ℕ, List, refl, ap, ◌∙◌}
 use Rattle.redo_record.specs.declared.deps.DepKind.TheVariants as kinds
-use Rattle.redo_step.specs.Setting.{Setting}
+use Rattle.redo_step.specs.Setting.{Setting, with_value}
 use Rattle.redo_step.specs.Runs.{State}
 use Rattle.redo_step.specs.Statements.{then_run}
 use Rattle.redo_record.specs.Answers.{Ask}
@@ -31,4 +31,15 @@ pub Reaches-and_then : (setting : Setting) (ask : Ask) (a b more : Rest) (s t : 
 Reaches-and_then setting ask a b more s t x = record {
   extends = x.extends;
   same = λ later k. ap (λ r. then_run r (more later)) (x.same later k);
+}
+
+-- a turn of a loop is run in the same tree
+
+pub Keeps-turn : (setting : Setting) (name value : List ℕ) (es : List Dep) (ask later : Ask) → Keeps setting es ask later → Keeps (with_value setting name value) es ask later
+Keeps-turn setting name value es ask later k = record { same = λ p a n h e. k.same p a n h e }
+
+pub Reaches-turn : (setting : Setting) (name value : List ℕ) (ask : Ask) (a b : Rest) (s t : State) → Reaches (with_value setting name value) ask a s b t → Reaches setting ask a s b t
+Reaches-turn setting name value ask a b s t x = record {
+  extends = x.extends;
+  same = λ later k. x.same later (Keeps-turn setting name value t.entries ask later k);
 }

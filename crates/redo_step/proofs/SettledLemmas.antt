@@ -12,7 +12,7 @@ use Rattle.std.specs.Str.{bytes_eq}
 use Rattle.redo_record.specs.Paths.{Path}
 use Rattle.redo_step.specs.Path.{resolved}
 use Rattle.redo_record.specs.declared.outcome.Outcome.{Outcome}
-use Rattle.redo_step.specs.Value.{value_of}
+use Rattle.redo_step.specs.Value.{value_of, value_bound}
 use Rattle.redo_step.specs.Setting.{Setting}
 use Rattle.redo_step.specs.Runs.{State, End, exited, faulted, ◌>>=◌, or_else}
 use Rattle.redo_step.specs.Words.{text_of, texts_of, path_of, paths_of}
@@ -56,7 +56,7 @@ settled_bind (Err e) t f g s k = rw s.same (both (Err e) s.over)
 
 module _ (setting : Setting) (line : ℕ) where
   text_over : (w : Word) → IsOver (text_of setting line w)
-  text_over w = over_or_else (faulted (why.Unquoted line)) (value_of setting.stands_for w) tt
+  text_over w = over_or_else (faulted (why.Unquoted line)) (value_of setting.stands_for (value_bound setting.bound) w) tt
 
   pub texts_over : (ws : List Word) → IsOver (texts_of setting line ws)
   texts_over [] = tt

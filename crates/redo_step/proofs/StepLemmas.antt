@@ -1,7 +1,7 @@
 -- How far one statement comes.
 use Rattle.std.proofs.Common.{◌≡◌, ℕ, Bool, true, false, Option, Some, None, Result, Ok, Err, List, ◌++◌, refl, sym, ap}
 use Rattle.redo_script.specs.Syntax.{Word, Redirection, Writer, Command, write, test, change, create, always_true}
-use Rattle.redo_script.specs.Syntax.{always_false, exit, Condition, Script, simple, choice}
+use Rattle.redo_script.specs.Syntax.{always_false, exit, Condition, Script, simple, choice, loop}
 use Rattle.redo_record.specs.declared.deps.DepKind.TheVariants as kinds
 use Rattle.redo_record.specs.Paths.{Path}
 use Rattle.redo_step.specs.Setting.{Setting}
@@ -14,7 +14,7 @@ use Rattle.redo_step.specs.Statements.{with_status, with_state, command_run, con
 use Rattle.redo_record.specs.Answers.{Ask}
 use Rattle.redo_step.specs.Reach.{Keeps, Reaches}
 use Rattle.redo_record.specs.Entries.{Extends}
-use Rattle.redo_step.specs.Place.{all_of, and_then}
+use Rattle.redo_step.specs.Place.{all_of, and_then, turns_of}
 use Rattle.redo_record.proofs.EntryLemmas.{Extends-refl, Extends-with_entries}
 use Rattle.redo_step.proofs.StableLemmas.{Stable, written_stable, tested_stable, condition_stable, changed_goes}
 use Rattle.redo_step.proofs.StableLemmas.{changed_stays}
@@ -141,4 +141,12 @@ reaches_branch setting ask line c first second rest s true e = record {
 reaches_branch setting ask line c first second rest s false e = record {
   extends = Extends-refl s.entries;
   same = λ later k. rw ((condition_stable setting ask later s.entries k line c s refl).by false e) refl;
+}
+
+-- a loop whose words have values
+pub reaches_turns : (setting : Setting) (ask : Ask) (line : ℕ) (name : List ℕ) (ws : List Word) (body rest : Script) (s : State) (values : List (List ℕ)) → texts_of setting line ws ≡ Ok values → Reaches setting ask (all_of setting (loop line name ws body rest)) s (and_then (turns_of setting name body values) (all_of setting rest)) s
+unfolding run
+reaches_turns setting ask line name ws body rest s values e = record {
+  extends = Extends-refl s.entries;
+  same = λ later k. rw e refl;
 }

@@ -6,10 +6,12 @@ use Rattle.std.proofs.Math.Seq.{drop-cons}
 use Rattle.std.specs.List.{list_any}
 use Rattle.std.proofs.lemmas.Bool.{cases_Bool, both_ways}
 use Rattle.std.specs.Str.{bytes_eq}
+use Rattle.std.specs.Cmp.Lexicographic.{nat_list_eq_equiv}
 use lib.Pointwise.{bytes_decides}
 use Rattle.redo_record.specs.declared.deps.DepKind.TheVariants as kinds
 use Rattle.redo_step.specs.declared.halt.Halt.{Halt}
-use Rattle.redo_record.specs.Paths.{Path}
+use Rattle.redo_names.specs.Paths.{with_path}
+use Rattle.redo_record.specs.Paths.{Path, is_among}
 use Rattle.redo_script.specs.Syntax.{Word, Command, change}
 use Rattle.redo_step.specs.declared.halt.Halt.TheVariants as stops
 use Rattle.redo_step.specs.declared.wait.Waiting.{Waiting}
@@ -74,9 +76,9 @@ module _ (setting : Setting) (ask : Ask) where
 
 -- Gathering what has no answer
 
-any_in : (p : Path) (qs : List Path) → list_any (bytes_eq p) qs ≡ is_in qs p
-any_in p [] = refl
-any_in p (q ∷ qs) = ap (λ b. bytes_eq p q || b) (any_in p qs)
+among_in : (p : Path) (qs : List Path) → is_among qs p ≡ is_in qs p
+among_in p [] = refl
+among_in p (q ∷ qs) = λ i. nat_list_eq_equiv.symm q p i || among_in p qs i
 
 bytes_turn : (p q : Path) → bytes_eq p q ≡ true → bytes_eq q p ≡ true
 bytes_turn p q h = let e : p ≡ q = (bytes_decides p q).0 h in rw e ((bytes_decides q q).1 refl)
@@ -105,8 +107,8 @@ module _ (ask : Ask) where
     pub none_goes : (new : List Path) → is_none (ask p) ≡ true → new ≡ cond (is_in found p) found (found ++ p ∷ []) → unanswered ask new (drop (i + 1) paths) ≡ total
     none_goes new h n = rw n (sym (ap (unanswered ask found) split ∙ new_goes found (drop (i + 1) paths) p h) ∙ before)
 
-    pub set_goes : (new : List Path) → is_none (ask p) ≡ true → new ≡ cond (list_any (bytes_eq p) found) found (found ++ p ∷ []) → unanswered ask new (drop (i + 1) paths) ≡ total
-    set_goes new h n = none_goes new h (n ∙ ap (λ b. cond b found (found ++ p ∷ [])) (any_in p found))
+    pub set_goes : (new : List Path) → is_none (ask p) ≡ true → new ≡ with_path found p → unanswered ask new (drop (i + 1) paths) ≡ total
+    set_goes new h n = none_goes new h (n ∙ ap (λ b. cond b found (found ++ p ∷ [])) (among_in p found))
 
     pub some_goes : (new : List Path) → is_none (ask p) ≡ false → new ≡ found → unanswered ask new (drop (i + 1) paths) ≡ total
     some_goes new h n = rw n (sym (ap (unanswered ask found) split ∙ known_goes found (drop (i + 1) paths) p h) ∙ before)

@@ -6,20 +6,23 @@ use Rattle.redo_script.specs.declared.ast.Stmt.{Stmt}
 use Rattle.redo_script.specs.declared.ast.Stmt.TheOpen.{Stmt-F}
 use Rattle.redo_script.specs.declared.ast.Stmt.TheOpen as opens
 use Rattle.redo_script.specs.declared.ast.Stmt.TheVariants as stmt
-use Rattle.redo_script.specs.declared.ast.Stmt.TheViews.{out-Stmt, outs-If}
+use Rattle.redo_script.specs.declared.ast.Stmt.TheViews.{out-Stmt, outs-If, outs-Loop}
 use Rattle.redo_script.specs.declared.ast.Condition.{Condition as ConditionTree}
-use Rattle.redo_script.specs.Syntax.{Script, finish, simple, choice}
-use Rattle.redo_script.specs.View.{before, script_of, condition_of}
+use Rattle.redo_script.specs.declared.ast.Word.{Word as WordTree}
+use Rattle.redo_script.specs.Syntax.{Script, finish, simple, choice, loop}
+use Rattle.redo_script.specs.View.{before, script_of, condition_of, words_of}
 use Rattle.redo_step.proofs.SliceLemmas.{opened, before-opened}
 
 abbrev pub weight : Script → ℕ
 weight finish = 0
 weight (simple line c rest) = weight rest + 1
 weight (choice line c first second rest) = weight first + weight second + weight rest + 1
+weight (loop line name ws body rest) = weight body + weight rest + 1
 
 weight_opened : (x : Stmt-F Stmt) (rest : Script) → weight (opened x rest) ≡ weight (opened x finish) + weight rest
 weight_opened (opens.Simple line c) rest = omega arith
 weight_opened (opens.If line c a b) rest = omega arith
+weight_opened (opens.Loop line name ws body) rest = omega arith
 
 weight_before : (x : Stmt) (rest : Script) → weight (before x rest) ≡ weight (before x finish) + weight rest
 weight_before x rest = rw (before-opened x rest, before-opened x finish) (weight_opened (out-Stmt x) rest)
@@ -39,3 +42,8 @@ weight_first x line c a b items is e = let w = weight_if x line c a b is in rw e
 
 pub weight_second : (x : Stmt) (line : ℕ) (c : ConditionTree) (a b : Vec Stmt Global) (items : List Stmt) → x ≡ stmt.If line c a b → items ≡ b.items → weight (script_of items) < weight (before x finish)
 weight_second x line c a b items is e = let w = weight_if x line c a b is in rw e (omega arith)
+
+pub weight_body : (x : Stmt) (line : ℕ) (name : List ℕ) (ws : Vec WordTree Global) (body : Vec Stmt Global) (items : List Stmt) → x ≡ stmt.Loop line name ws body → items ≡ body.items → weight (script_of items) < weight (before x finish)
+weight_body x line name ws body items is e =
+    let o : before x finish ≡ loop line name (words_of ws.items) (script_of body.items) finish = before-opened x finish ∙ rw is (ap (λ o. opened o finish) (outs-Loop line name ws body)) in
+    rw (e, o) (omega arith)

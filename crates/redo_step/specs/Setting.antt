@@ -1,5 +1,5 @@
 -- What a target's script is run in.
-use Rattle.std.specs.Prelude.{ℕ, Bool, true, false, List, Option, None, Some, is_some}
+use Rattle.std.specs.Prelude.{ℕ, Bool, true, false, List, [], ◌∷◌, Option, None, Some, is_some}
 use Rattle.redo_script.specs.declared.ast.Parameter.{Parameter}
 use Rattle.redo_script.specs.declared.ast.Parameter.TheVariants.{One, Two, Three}
 use Rattle.redo_tree.specs.Tree as tree_words
@@ -7,8 +7,10 @@ use Rattle.redo_tree.specs.Tree.{Tree, Node, node_at, file_at}
 use Rattle.redo_which.specs.Rule.{Outcome as Found, Source, Directory, NoDirectory, NoRule, Rule, Arguments, found_of}
 use Rattle.redo_record.specs.Paths.{Path}
 use Rattle.redo_step.specs.Path.{resolved}
+use Rattle.redo_step.specs.declared.scope.Binding.{Binding}
 
--- What a script is run in: the tree, the rule's arguments, and the limit of bytes.
+-- What a script is run in: the tree, the rule's arguments, the limit of bytes, and the names that the loops round a
+-- statement bind, those of the innermost first.
 pub record Setting : Type 0 where
   pub source : Path → Option (List ℕ)
   pub is_directory : Path → Bool
@@ -18,6 +20,7 @@ pub record Setting : Type 0 where
   pub stands_for : Parameter → List ℕ
   pub third : Option Path
   pub limit : ℕ
+  pub bound : List Binding
 
 -- whether a directory stands there
 abbrev pub is_directory : Option Node → Bool
@@ -40,7 +43,7 @@ value_in a Two = a.two
 value_in a Three = a.three
 
 -- The setting of a target's script in a tree where the search finds this for each path, with the limit of a
--- file's bytes.
+-- file's bytes. No loop is begun.
 unfoldable pub setting_by : Tree → (Path → Found) → ℕ → Path → Arguments → Setting
 setting_by tree found limit target a = record {
   source = file_at tree;
@@ -51,11 +54,16 @@ setting_by tree found limit target a = record {
   stands_for = value_in a;
   third = resolved a.dir a.three;
   limit = limit;
+  bound = [];
 }
 
 -- the setting of a target's script in a tree
 abbrev pub setting_of : Tree → ℕ → Path → Arguments → Setting
 setting_of tree limit target a = setting_by tree (found_of tree) limit target a
+
+-- the setting of a turn of a loop: this name has this value
+abbrev pub with_value : Setting → List ℕ → List ℕ → Setting
+with_value setting name value = record setting { bound = record { name = name; value = value } ∷ setting.bound }
 
 -- whether it is a file of the tree
 abbrev pub is_source : Setting → Path → Bool

@@ -1,14 +1,14 @@
 -- What a script does, as a function of the answers to what it asks for.
 use Rattle.std.specs.Prelude.{ℕ, zero, suc, Bool, true, false, List, [], ◌∷◌, Option, Some, None, Result, Ok, Err}
 use Rattle.redo_script.specs.Syntax.{Command, write, test, change, create, always_true, always_false, exit, Condition}
-use Rattle.redo_script.specs.Syntax.{if_test, if_true, if_false, Script, finish, simple, choice}
+use Rattle.redo_script.specs.Syntax.{if_test, if_true, if_false, Script, finish, simple, choice, loop}
 use Rattle.redo_record.specs.declared.outcome.Why.{Why}
 use Rattle.redo_record.specs.declared.outcome.Why.TheVariants as why
 use Rattle.redo_record.specs.Answers.{Ask}
 use Rattle.redo_step.specs.Runs.{End, Run, State, ends, exited, faulted, goes, start, stopped}
-use Rattle.redo_step.specs.Setting.{Setting}
+use Rattle.redo_step.specs.Setting.{Setting, with_value}
 use Rattle.redo_step.specs.Declaring.{changed, created, free_operands}
-use Rattle.redo_step.specs.Words.{operands_of}
+use Rattle.redo_step.specs.Words.{operands_of, texts_of}
 use Rattle.redo_step.specs.Reading.{tested}
 use Rattle.redo_step.specs.Outputs.{written}
 
@@ -50,12 +50,25 @@ chosen (Err e) first second s = ends e s
 chosen (Ok true) first second s = first s
 chosen (Ok false) first second s = second s
 
+-- the turns of a loop, one for each of these values, one after the other
+abbrev pub turns : (List ℕ → State → Run) → List (List ℕ) → State → Run
+turns turn [] s = goes s
+turns turn (value ∷ values) s = then_run (turn value s) (turns turn values)
+
+-- the turns for the values of a loop's words
+abbrev pub looped : Result (List (List ℕ)) End → (List ℕ → State → Run) → State → Run
+looped (Err e) turn s = ends e s
+looped (Ok values) turn s = turns turn values s
+
 -- what the statements do, one after the other, from this state
 unfoldable pub run : Setting → Ask → Script → State → Run
 run setting ask finish s = goes s
 run setting ask (simple line c rest) s = then_run (command_run setting ask line c s) (run setting ask rest)
 run setting ask (choice line c first second rest) s =
     then_run (chosen (condition_result setting ask line c s) (run setting ask first) (run setting ask second) s) (run setting ask rest)
+run setting ask (loop line name ws body rest) s =
+    then_run (looped (texts_of setting line ws) (λ value. run (with_value setting name value) ask body) s)
+    (run setting ask rest)
 
 -- the meaning of a whole script
 unfoldable pub meaning : Setting → Ask → Script → Run

@@ -4,13 +4,14 @@ use Rattle.redo_script.specs.Syntax.{Word}
 use Rattle.redo_record.specs.declared.outcome.Why.TheVariants as why
 use Rattle.redo_record.specs.Paths.{Path}
 use Rattle.redo_step.specs.Path.{resolved}
-use Rattle.redo_step.specs.Value.{value_of}
+use Rattle.redo_step.specs.Value.{value_of, value_bound}
 use Rattle.redo_step.specs.Runs.{End, faulted, or_else, ◌>>=◌}
 use Rattle.redo_step.specs.Setting.{Setting}
 
 -- the value of a word, or the fault Unquoted
 abbrev pub text_of : Setting → ℕ → Word → Result (List ℕ) End
-text_of setting line word = or_else (faulted (why.Unquoted line)) (value_of setting.stands_for word)
+text_of setting line word =
+    or_else (faulted (why.Unquoted line)) (value_of setting.stands_for (value_bound setting.bound) word)
 
 -- the values of words, from left to right
 abbrev pub texts_of : Setting → ℕ → List Word → Result (List (List ℕ)) End

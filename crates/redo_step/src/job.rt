@@ -7,13 +7,15 @@ ghost use Rattle.redo_step.specs.Statements.{result_of};
 ghost use Rattle.redo_step.specs.Runs.{ends};
 ghost use Rattle.redo_step.specs.Results.{outcome_of};
 ghost use Rattle.redo_record.specs.Entries.{search_deps};
-ghost use Rattle.redo_step.specs.inside.Machine.{state_of, end_of};
+ghost use Rattle.redo_script.specs.View.{script_of};
+ghost use Rattle.redo_script.specs.Syntax.{finish};
+ghost use Rattle.redo_step.specs.Place.{all_of, left_at, stands_at};
+ghost use Rattle.redo_step.specs.inside.Kept.{IsKept};
+ghost use Rattle.redo_step.specs.inside.Machine.{state_of, end_of, Comes};
 ghost use Rattle.redo_step.specs.Job.{begun, Advances};
 ghost use Rattle.redo_step.specs.inside.Endings.{IsRefused, IsEnded, after_end, by_both};
 ghost use Rattle.redo_step.specs.JobView.{IsFit, record_so_far};
-ghost use Rattle.redo_step.specs.inside.Scene.{scene_setting};
-ghost use Rattle.redo_step.specs.Setting.{setting_of};
-ghost use Rattle.redo_which.specs.Views.{arguments_view};
+ghost use Rattle.redo_step.specs.inside.Scene.{scene_setting, task_setting};
 
 use crate::answers::Answers;
 use crate::halt::Ending;
@@ -25,7 +27,7 @@ use crate::scene::Scene;
 use crate::wait::Waiting;
 use redo_path::Path;
 use redo_record::{Deps, Outcome, Record, Why};
-use redo_script::ScriptFault;
+use redo_script::{ScriptFault, Stmt};
 use redo_tree::{Content, Tree};
 use redo_which::Rule;
 use std::alloc::{AllocError, Global};
@@ -45,9 +47,9 @@ struct Task {
 
 impl Task {
     /// What the script's commands see.
+    #[tactic(auto, unfolding(crate::specs::Setting::setting_by))]
     fn scene(&self) -> Scene<'_>
-        ensures { scene_setting result ≡
-            setting_of (arc_value self.now.tree) self.now.limits.file_bytes self.now.target (arguments_view self.now.rule.args) }
+        ensures { scene_setting result ≡ task_setting self.now }
     {
         Scene {
             alloc: self.alloc,
@@ -55,7 +57,23 @@ impl Task {
             target: &self.target,
             args: &self.rule.args,
             limit: self.limits.file_bytes() as usize,
+            bound: Vec::new(self.alloc),
         }
+    }
+
+    /// Runs what is left of the script's statements from a place on, with the redo-ifchange that waited there.
+    fn resume<A: Answers>(
+        &self,
+        answers: &A,
+        effects: &mut Effects,
+        stmts: &[Stmt],
+        place: &Place,
+        kept: Option<Waiting>,
+    ) -> Result<RunEnd, AllocError>
+        requires { IsKept (stands_at place.now (task_setting self.now) (script_of stmts.now)) (state_of effects.old) kept }
+        ensures { IfOk result (λ progress. Comes (task_setting self.now) (A.ask answers.now) (script_of stmts.now) (left_at place.now (task_setting self.now) (script_of stmts.now)) (all_of (task_setting self.now) finish) (state_of effects.old) progress (state_of effects.new)) }
+    {
+        resume(&self.scene(), answers, effects, stmts, place, kept)
     }
 }
 
@@ -94,10 +112,10 @@ impl Model for Job {
     ghost view = { λ j. let c = j.course.value in record { tree = arc_value c.task.tree; target = c.task.target; do_file = c.task.rule.do_file; missing = c.task.rule.missing; arguments = arguments_view c.task.rule.args; limits = c.task.limits; parsed = arc_value c.task.parsed; place = c.place; state = state_of c.effects; turn = c.turn } };
 
     ghost use Rattle.redo_step.specs.Parsed.{parsed_of};
-    ghost use Rattle.redo_step.specs.Setting.{setting_of};
+    ghost use Rattle.redo_step.specs.inside.Scene.{task_setting};
     ghost use Rattle.redo_step.specs.inside.Kept.{IsKeptIn};
 
-    ghost invariant = { λ j. let c = j.course.value in IsKeptIn (setting_of (arc_value c.task.tree) c.task.limits.file_bytes c.task.target (arguments_view c.task.rule.args)) (parsed_of (arc_value c.task.parsed)) c.place (state_of c.effects) c.kept };
+    ghost invariant = { λ j. let c = j.course.value in IsKeptIn (task_setting c.task) (parsed_of (arc_value c.task.parsed)) c.place (state_of c.effects) c.kept };
 }
 
 /// What became of a target whose script ended, with its record.
@@ -205,14 +223,7 @@ impl Job {
                 return refused(course, fault);
             }
         };
-        match resume(
-            &task.scene(),
-            answers,
-            effects,
-            &script.stmts,
-            place,
-            kept.take(),
-        )? {
+        match task.resume(answers, effects, &script.stmts, place, kept.take())? {
             RunEnd::Finished => ended(course, Ending::Exited(0)),
             RunEnd::Ended(ending) => ended(course, ending),
             RunEnd::Stopped(paths, place, kept) => {

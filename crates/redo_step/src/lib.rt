@@ -7,8 +7,8 @@
 //!
 //! - What a script is given: `limits`, `parsed` and `refusal`, `answers`.
 //! - A job and how it goes on: `job`, `machine`, `place`, `halt`.
-//! - Commands, one idea each: `scene` (what they see), `text`, `value` and `words`, `reading`, `printf`, `sink` and
-//!   `writing`, `declaring`, `commands`.
+//! - Commands, one idea each: `scene` (what they see), `scope` (the names that loops bind), `text`, `value` and
+//!   `words`, `reading`, `printf`, `sink` and `writing`, `declaring`, `commands`.
 //! - Laws over what scripts mean: `laws`.
 #![tactic(auto)]
 
@@ -26,6 +26,7 @@ mod printf;
 mod reading;
 mod refusal;
 mod scene;
+mod scope;
 mod sink;
 mod text;
 mod value;

@@ -1,19 +1,22 @@
 //! Runs a script until it ends, or until an answer is missing.
 
-ghost use Rattle.std.specs.Prelude.{◌≡◌, ◌+◌, ◌<◌, IfOk, IfSome, IfNone, length};
+ghost use Rattle.std.specs.Prelude.{◌≡◌, ◌+◌, ◌<◌, ◌^◌, IfOk, IfSome, IfNone, length};
 ghost use Rattle.redo_script.specs.View.{script_of};
 ghost use Rattle.redo_script.specs.Syntax.{finish};
-ghost use Rattle.redo_step.specs.Place.{all_of, skip, left_at, stands_at};
+ghost use Rattle.redo_step.specs.Place.{all_of, and_then, skip, left_at, stands_at};
 ghost use Rattle.redo_step.specs.inside.Kept.{IsKept};
-ghost use Rattle.redo_step.specs.inside.Machine.{state_of, Comes, IsStopBefore, IsWithin, IsPassed, HasBranch};
-ghost use Rattle.redo_step.specs.inside.Machine.{HasNoBranch};
+ghost use Rattle.redo_step.specs.inside.Machine.{state_of, Comes, IsStopBefore, IsWithin, IsInTurn, IsPassed};
+ghost use Rattle.redo_step.specs.inside.Machine.{turns_from, AreRun, IsTurn, HasBranch, HasNoBranch, HasTurns};
+ghost use Rattle.redo_step.specs.inside.Machine.{HasNoTurn};
 ghost use Rattle.redo_step.specs.inside.Scene.{scene_setting};
 
 use crate::answers::Answers;
 use crate::halt::{Ending, Halt};
 use crate::place::{Branch, Place};
 use crate::scene::Scene;
+use crate::scope::Values;
 use crate::wait::Waiting;
+use redo_bytes::Bytes;
 use redo_path::Path;
 use redo_record::Deps;
 use redo_script::Stmt;
@@ -36,6 +39,26 @@ pub(crate) enum RunEnd {
     /// Stopped at a place of the list, for want of the answers for these paths, with the redo-ifchange that waits
     /// there.
     Stopped(Vec<Path>, Place, Option<Waiting>),
+}
+
+/// A loop whose words have these values.
+#[derive(Drop)]
+struct Turns<'a> {
+    name: &'a Bytes,
+    values: &'a Values,
+    body: &'a [Stmt],
+    /// The loop's number among the statements round it.
+    index: usize,
+}
+
+impl Turns<'_> {
+    /// What commands see in the turn with this number.
+    fn scene<'a>(&self, scene: &Scene<'a>, turn: usize) -> Result<Scene<'a>, AllocError>
+        requires { turn < length self.now.values.now }
+        ensures { IfOk result (λ inner. IsTurn (scene_setting scene.now) self.now turn (scene_setting inner)) }
+    {
+        scene.with_value(self.name, &self.values.as_slice()[turn])
+    }
 }
 
 /// Runs these statements from the one with this number on.
@@ -87,6 +110,78 @@ fn run_stmt<A: Answers>(
                 Err(stop) => stop_before(stop, index),
             }
         }
+        Stmt::Loop(line, name, words, body) => match scene.values(*line, words) {
+            Ok(values) => {
+                let turns = Turns {
+                    name,
+                    values: &values,
+                    body,
+                    index,
+                };
+                run_turns(scene, answers, effects, &turns, 0)
+            }
+            Err(stop) => stop_before(stop, index),
+        },
+    }
+}
+
+/// Runs the turns of a loop from the one with this number on.
+#[cycle(running)]
+fn run_turns<A: Answers>(
+    scene: &Scene,
+    answers: &A,
+    effects: &mut Effects,
+    turns: &Turns,
+    first: usize,
+) -> Result<RunEnd, AllocError>
+    ensures { IfOk result (λ progress. AreRun (scene_setting scene.now) (A.ask answers.now) turns.now first (state_of effects.old) progress (state_of effects.new)) }
+{
+    for turn in first..turns.values.as_slice().len() {
+        let inner = turns.scene(scene, turn)?;
+        match run_from(&inner, answers, effects, turns.body, 0)? {
+            RunEnd::Finished => {}
+            progress => return in_turn(scene.alloc, progress, turns, turn),
+        }
+    }
+    Ok(RunEnd::Finished)
+}
+
+/// Runs the turns of a loop from the one with this number on, and then the statements behind the loop.
+fn run_behind<A: Answers>(
+    scene: &Scene,
+    answers: &A,
+    effects: &mut Effects,
+    stmts: &[Stmt],
+    turns: &Turns,
+    first: usize,
+) -> Result<RunEnd, AllocError>
+    requires { HasTurns stmts.now turns.now.index turns.now }
+    ensures { IfOk result (λ progress. Comes (scene_setting scene.now) (A.ask answers.now) (script_of stmts.now) (and_then (turns_from (scene_setting scene.now) turns.now first) (all_of (scene_setting scene.now) (skip (turns.now.index + 1) (script_of stmts.now)))) (all_of (scene_setting scene.now) finish) (state_of effects.old) progress (state_of effects.new)) }
+{
+    match run_turns(scene, answers, effects, turns, first)? {
+        RunEnd::Finished => run_from(scene, answers, effects, stmts, turns.index + 1),
+        progress => Ok(progress),
+    }
+}
+
+/// Runs these statements from the one with this number on. A redo-ifchange that waited there isn't begun again.
+fn resume_before<A: Answers>(
+    scene: &Scene,
+    answers: &A,
+    effects: &mut Effects,
+    stmts: &[Stmt],
+    first: usize,
+    kept: Option<Waiting>,
+) -> Result<RunEnd, AllocError>
+    requires { IsKept (record { setting = scene_setting scene.now; script = skip first (script_of stmts.now) }) (state_of effects.old) kept }
+    ensures { IfOk result (λ progress. Comes (scene_setting scene.now) (A.ask answers.now) (script_of stmts.now) (all_of (scene_setting scene.now) (skip first (script_of stmts.now))) (all_of (scene_setting scene.now) finish) (state_of effects.old) progress (state_of effects.new)) }
+{
+    let Some(waiting) = kept else {
+        return run_from(scene, answers, effects, stmts, first);
+    };
+    match waiting.go_on(scene.alloc, answers) {
+        Ok(()) => run_from(scene, answers, effects, stmts, first + 1),
+        Err(stop) => stop_before(stop, first),
     }
 }
 
@@ -99,19 +194,11 @@ pub(crate) fn resume<A: Answers>(
     place: &Place,
     kept: Option<Waiting>,
 ) -> Result<RunEnd, AllocError>
-    requires { IsKept (scene_setting scene.now) (stands_at place.now (script_of stmts.now)) (state_of effects.old) kept }
+    requires { IsKept (stands_at place.now (scene_setting scene.now) (script_of stmts.now)) (state_of effects.old) kept }
     ensures { IfOk result (λ progress. Comes (scene_setting scene.now) (A.ask answers.now) (script_of stmts.now) (left_at place.now (scene_setting scene.now) (script_of stmts.now)) (all_of (scene_setting scene.now) finish) (state_of effects.old) progress (state_of effects.new)) }
 {
     match place {
-        Place::Before(first) => {
-            let Some(waiting) = kept else {
-                return run_from(scene, answers, effects, stmts, *first);
-            };
-            match waiting.go_on(scene.alloc, answers) {
-                Ok(()) => run_from(scene, answers, effects, stmts, *first + 1),
-                Err(stop) => stop_before(stop, *first),
-            }
-        }
+        Place::Before(first) => resume_before(scene, answers, effects, stmts, *first, kept),
         Place::Within(index, branch, inner) => {
             // A place inside what is no `if` has nothing left.
             let Some(part) = branch_at(stmts, *index, *branch) else {
@@ -120,6 +207,18 @@ pub(crate) fn resume<A: Answers>(
             let progress = resume(scene, answers, effects, part, inner, kept)?;
             match within(scene.alloc, progress, *index, *branch)? {
                 RunEnd::Finished => run_from(scene, answers, effects, stmts, *index + 1),
+                progress => Ok(progress),
+            }
+        }
+        Place::InTurn(index, values, turn, inner) => {
+            // So has one in a turn of what is no loop, and in one for which there is no value.
+            let Some(turns) = turns_at(stmts, *index, values, *turn) else {
+                return Ok(RunEnd::Finished);
+            };
+            let here = turns.scene(scene, *turn)?;
+            let progress = resume(&here, answers, effects, turns.body, inner, kept)?;
+            match in_turn(scene.alloc, progress, &turns, *turn)? {
+                RunEnd::Finished => run_behind(scene, answers, effects, stmts, &turns, *turn + 1),
                 progress => Ok(progress),
             }
         }
@@ -135,11 +234,38 @@ fn branch_at(stmts: &[Stmt], index: usize, branch: Branch) -> Option<&[Stmt]>
         return None;
     }
     match &stmts[index] {
-        Stmt::Simple(_, _) => None,
+        Stmt::Simple(_, _) | Stmt::Loop(_, _, _, _) => None,
         Stmt::If(_, _, first, second) => match branch {
             Branch::First => Some(first),
             Branch::Second => Some(second),
         },
+    }
+}
+
+/// The turns of the statement with this number for these values, where it is a loop and has a turn with that number.
+fn turns_at<'a>(
+    stmts: &'a [Stmt],
+    index: usize,
+    values: &'a Values,
+    turn: usize,
+) -> Option<Turns<'a>>
+    ensures found { IfSome result (λ turns. HasTurns stmts.now index turns) }
+    ensures same { IfSome result (λ turns. turns.values.now ≡ values.now) }
+    ensures within { IfSome result (λ turns. turn < length values.now) }
+    ensures small { IfSome result (λ turns. turn + 1 < 2 ^ 64) }
+    ensures none { IfNone result (HasNoTurn stmts.now index values.now turn) }
+{
+    if index >= stmts.len() || turn >= values.as_slice().len() {
+        return None;
+    }
+    match &stmts[index] {
+        Stmt::Simple(_, _) | Stmt::If(_, _, _, _) => None,
+        Stmt::Loop(_, name, _, body) => Some(Turns {
+            name,
+            values,
+            body,
+            index,
+        }),
     }
 }
 
@@ -169,6 +295,25 @@ fn within(
         RunEnd::Stopped(paths, place, kept) => {
             let place = Box::new(alloc, place)?;
             Ok(RunEnd::Stopped(paths, Place::Within(index, branch, place), kept))
+        }
+        other => Ok(other),
+    }
+}
+
+/// The progress of a turn, as that of the statements round its loop.
+fn in_turn(
+    alloc: Global,
+    progress: RunEnd,
+    turns: &Turns,
+    turn: usize,
+) -> Result<RunEnd, AllocError>
+    ensures { IfOk result (IsInTurn progress turns.now.index turns.now.values.now turn) }
+{
+    match progress {
+        RunEnd::Stopped(paths, place, kept) => {
+            let place = Box::new(alloc, place)?;
+            let values = turns.values.clone()?;
+            Ok(RunEnd::Stopped(paths, Place::InTurn(turns.index, values, turn, place), kept))
         }
         other => Ok(other),
     }

@@ -1,16 +1,19 @@
-//! What commands see: the tree, the rule's arguments, the limit of bytes.
+//! What commands see: the tree, the rule's arguments, the limit of bytes, the names that loops bind.
 
 ghost use Rattle.std.specs.Prelude.{◌≡◌, IfOk, option_copied};
 ghost use Rattle.std.specs.Str.{bytes_eq};
 ghost use Rattle.redo_script.specs.View.{word_of};
 ghost use Rattle.redo_step.specs.Words.{text_of, path_of};
+ghost use Rattle.redo_step.specs.Setting.{with_value};
 ghost use Rattle.redo_step.specs.Outputs.{is_third};
 ghost use Rattle.redo_step.specs.inside.Machine.{Gives};
 ghost use Rattle.redo_step.specs.inside.Scene.{scene_setting};
 
 use crate::halt::Halt;
+use crate::scope::{Binding, with_binding};
 use crate::text::Text;
 use crate::value::word_value;
+use redo_bytes::Bytes;
 use redo_path::{Path, PathFault, resolve};
 use redo_record::Why;
 use redo_script::Word;
@@ -27,6 +30,25 @@ pub(crate) struct Scene<'a> {
     pub(crate) target: &'a Path,
     pub(crate) args: &'a Args,
     pub(crate) limit: usize,
+    /// The names that the loops round a statement bind, those of the innermost first.
+    pub(crate) bound: Vec<Binding>,
+}
+
+impl<'a> Scene<'a> {
+    /// What commands see in a turn of a loop, in which this name has this value.
+    pub(crate) fn with_value(&self, name: &Bytes, value: &Bytes) -> Result<Scene<'a>, AllocError>
+        ensures { IfOk result (λ inner. scene_setting inner ≡ with_value (scene_setting self.now) name.now value.now) }
+    {
+        let bound = with_binding(self.alloc, &self.bound, name, value)?;
+        Ok(Scene {
+            alloc: self.alloc,
+            tree: self.tree,
+            target: self.target,
+            args: self.args,
+            limit: self.limit,
+            bound,
+        })
+    }
 }
 
 impl Scene<'_> {
@@ -43,7 +65,7 @@ impl Scene<'_> {
     pub(crate) fn text<'s>(&'s self, line: u64, word: &'s Word) -> Result<Text<'s>, Halt>
         ensures { Gives (λ t. t) result (text_of (scene_setting self.now) line (word_of word.now)) }
     {
-        match word_value(self.alloc, self.args, word)? {
+        match word_value(self.alloc, self.args, &self.bound, word)? {
             Some(text) => Ok(text),
             None => Err(Halt::fault(Why::Unquoted(line))),
         }

@@ -4,9 +4,10 @@ ghost use Rattle.std.specs.Prelude.{◌≡◌, IfOk, option_copied, option_map};
 ghost use Rattle.redo_script.specs.View.{word_of, symbols_of};
 ghost use Rattle.redo_which.specs.Views.{arguments_view};
 ghost use Rattle.redo_step.specs.Setting.{value_in};
-ghost use Rattle.redo_step.specs.Value.{value_of, is_fit, are_plain};
-ghost use Rattle.redo_step.specs.inside.Parts.{added};
+ghost use Rattle.redo_step.specs.Value.{value_of, value_bound, is_fit, are_plain};
+ghost use Rattle.redo_step.specs.inside.Parts.{added, fit};
 
+use crate::scope::{Binding, bound_value};
 use crate::text::Text;
 use redo_script::{Parameter, Part, Word, is_plain_byte};
 use redo_which::Args;
@@ -42,36 +43,48 @@ fn are_plain_bytes(bytes: &[u8]) -> bool
     true
 }
 
+/// A text that stands outside quotes, or none where it isn't fit.
+fn fit_text(text: Text<'_>) -> Option<Text<'_>>
+    ensures { result ≡ fit text.entry }
+{
+    if is_fit_value(text.bytes()) {
+        Some(text)
+    } else {
+        None
+    }
+}
+
 /// What a part stands for, or none where its bytes aren't fit.
 fn part_value<'a>(
     alloc: Global,
     args: &'a Args,
+    bound: &'a [Binding],
     part: &'a Part,
 ) -> Result<Option<Text<'a>>, AllocError>
-    ensures { IfOk result (λ value. value ≡ added (value_in (arguments_view args.now)) part.now) }
+    ensures { IfOk result (λ value. value ≡ added (value_in (arguments_view args.now)) (value_bound bound.now) part.now) }
 {
     match part {
         Part::Lit(bytes) => Ok(Some(Text::lent(bytes.as_slice()))),
         Part::Quoted(parameter) => Ok(Some(argument(alloc, args, *parameter)?)),
-        Part::Bare(parameter) => {
-            let text = argument(alloc, args, *parameter)?;
-            if is_fit_value(text.bytes()) {
-                Ok(Some(text))
-            } else {
-                Ok(None)
-            }
-        }
+        Part::Bare(parameter) => Ok(fit_text(argument(alloc, args, *parameter)?)),
+        Part::NamedQuoted(name) => Ok(Some(Text::lent(bound_value(bound, name.as_slice())))),
+        Part::NamedBare(name) => Ok(fit_text(Text::lent(bound_value(bound, name.as_slice())))),
     }
 }
 
 /// What parts stand for, one after the other.
-fn joined_value(alloc: Global, args: &Args, parts: &[Part]) -> Result<Option<Vec<u8>>, AllocError>
+fn joined_value(
+    alloc: Global,
+    args: &Args,
+    bound: &[Binding],
+    parts: &[Part],
+) -> Result<Option<Vec<u8>>, AllocError>
     ensures { IfOk result (λ value. option_map (λ v. v.items) value ≡
-        value_of (value_in (arguments_view args.now)) (symbols_of parts.now)) }
+        value_of (value_in (arguments_view args.now)) (value_bound bound.now) (symbols_of parts.now)) }
 {
     let mut value = Vec::new(alloc);
     for part in parts {
-        let Some(text) = part_value(alloc, args, part)? else {
+        let Some(text) = part_value(alloc, args, bound, part)? else {
             return Ok(None);
         };
         value.extend_from_slice(text.bytes())?;
@@ -79,34 +92,38 @@ fn joined_value(alloc: Global, args: &Args, parts: &[Part]) -> Result<Option<Vec
     Ok(Some(value))
 }
 
-/// The value of a word in parts, or none where a bare parameter's bytes aren't fit.
+/// The value of a word in parts, or none where the bytes of one outside quotes aren't fit.
 fn parts_value<'a>(
     alloc: Global,
     args: &'a Args,
+    bound: &'a [Binding],
     parts: &'a [Part],
 ) -> Result<Option<Text<'a>>, AllocError>
-    ensures { IfOk result (λ value. value ≡ value_of (value_in (arguments_view args.now)) (symbols_of parts.now)) }
+    ensures { IfOk result (λ value. value ≡
+        value_of (value_in (arguments_view args.now)) (value_bound bound.now) (symbols_of parts.now)) }
 {
     match parts {
-        [part] => part_value(alloc, args, part),
-        parts => match joined_value(alloc, args, parts)? {
+        [part] => part_value(alloc, args, bound, part),
+        parts => match joined_value(alloc, args, bound, parts)? {
             Some(bytes) => Ok(Some(Text::held(bytes))),
             None => Ok(None),
         },
     }
 }
 
-/// The value of a word, or none where a bare parameter's bytes aren't fit.
+/// The value of a word, where loops bind these names, or none where the bytes of a part outside quotes aren't fit.
 #[tactic(auto, using(crate::proofs::ValueLemmas::value_of_literal))]
 pub(crate) fn word_value<'a>(
     alloc: Global,
     args: &'a Args,
+    bound: &'a [Binding],
     word: &'a Word,
 ) -> Result<Option<Text<'a>>, AllocError>
-    ensures { IfOk result (λ value. value ≡ value_of (value_in (arguments_view args.now)) (word_of word.now)) }
+    ensures { IfOk result (λ value. value ≡
+        value_of (value_in (arguments_view args.now)) (value_bound bound.now) (word_of word.now)) }
 {
     match word {
         Word::Literal(bytes) => Ok(Some(Text::lent(bytes.as_slice()))),
-        Word::Mixed(parts) => parts_value(alloc, args, parts),
+        Word::Mixed(parts) => parts_value(alloc, args, bound, parts),
     }
 }

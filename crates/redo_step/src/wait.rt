@@ -11,12 +11,12 @@ ghost use Rattle.redo_step.specs.inside.Waiting.{unanswered, any_failure, waited
 
 use crate::answers::Answers;
 use crate::halt::Halt;
-use indexmap::IndexSet;
+use redo_names::PathSet;
 use redo_path::Path;
 use redo_record::Why;
 use std::alloc::{AllocError, Global};
 
-/// Up to how many targets are compared with each other rather than hashed.
+/// Up to how many targets are compared with each other rather than looked up.
 const FEW: usize = 8;
 
 /// A redo-ifchange: its line, and those of its operands that are no sources.
@@ -115,7 +115,7 @@ fn many_without_answer<A: Answers>(
 ) -> Result<Vec<Path>, AllocError>
     ensures { IfOk result (λ found. found.items ≡ unanswered (A.ask answers.now) [] targets.now) }
 {
-    let mut found = IndexSet::new(alloc);
+    let mut found = PathSet::new(alloc);
     for path in targets {
         if answers.answer(path).is_none() {
             found.insert(path.clone()?)?;

@@ -8,6 +8,7 @@ ghost use Rattle.redo_step.specs.inside.Scene.{scene_setting};
 
 use crate::halt::Halt;
 use crate::scene::Scene;
+use crate::scope::Values;
 use crate::text::Text;
 use redo_path::Path;
 use redo_script::Word;
@@ -22,6 +23,14 @@ impl Scene<'_> {
             texts.push(self.text(line, word)?)?;
         }
         Ok(texts)
+    }
+
+    /// The values of a loop's words, which its turns share.
+    pub(crate) fn values(&self, line: u64, words: &[Word]) -> Result<Values, Halt>
+        ensures { Gives (λ vs. vs) result (texts_of (scene_setting self.now) line (words_of words.now)) }
+    {
+        let texts = self.texts(line, words)?;
+        Ok(Values::of(self.alloc, &texts)?)
     }
 
     /// The paths that these texts name.

@@ -6,20 +6,16 @@ use Rattle.std.specs.Prelude.{IfSome, option_map, ◌&&◌}
 use Rattle.std.specs.Cmp.Lexicographic.{slice_cmp, pointwise, nat_list_cmp_total, nat_list_eq_equiv}
 use Rattle.std.specs.FinMap.{slice_cmp-IsAntisymmetric, nat_cmp-IsAntisymmetric}
 use Rattle.std.specs.FinMap.Entries.{below_all, is_sorted, same_entries as same_lists}
-use Rattle.std.specs.HashMap.Eq.{get_from_hash_map_eq, hash_map_eq_from_get}
 use Rattle.std.specs.List.{AllByRecursion}
 use Rattle.std.specs.List.Sorted.{IsStrictlySortedBy}
 use Rattle.std.specs.Map.{keys_of, lookup}
 use Rattle.std.specs.Ordering.{nat_cmp, is_lt}
 use Rattle.std.specs.declared.cmp.Ordering.TheVariants.{Less}
-use Rattle.indexmap.specs.IndexMap.{IndexMap, index_map_eq}
 use Rattle.redo_path.specs.Names.{IsPath, parent_of}
-use Rattle.redo_tree.specs.contracts.entries.EntryPartialEq.TheImpl.{ghosts}
 use Rattle.redo_tree.specs.declared.entries.Entry.{Entry}
 use Rattle.redo_tree.specs.declared.entries.Entry.TheVariants as entries
-use Rattle.redo_tree.specs.Tree.{Directory, Tree, IsKept, IsNoted, IsTree, NotesDefaults, default_dir, node_at, node_of}
+use Rattle.redo_tree.specs.Tree.{AreAmong, Directory, Tree, IsKept, IsNoted, IsTree, NotesDefaults, default_dir, node_at, node_of}
 use Rattle.redo_tree.specs.Tree.{refusal, top, tree_eq, tree_of, with_node}
-use Rattle.redo_tree.proofs.AlikeLemmas.{alike, found_alike, same_entries, same_found}
 use Rattle.redo_tree.proofs.GrowLemmas.{IsTree-with, Puts-with, free, is_path, length-with}
 use Rattle.redo_tree.proofs.NodeLemmas.{node_of-cond, tree_of-last}
 use Rattle.redo_tree.proofs.NotedLemmas.{noted-with, noted_top}
@@ -81,6 +77,11 @@ IsKept-with old new dirs path entry is noted fits h put finds =
 
 -- ---- trees in which look-ups find the same are one
 
+same_kept : (o p : Option Entry) → ((e : Entry) → o ≡ Some e → option_map node_of p ≡ Some (node_of e)) → ((e : Entry) → p ≡ Some e → option_map node_of o ≡ Some (node_of e)) → option_map node_of o ≡ option_map node_of p
+same_kept None None there back = refl
+same_kept None (Some f) there back = back f refl
+same_kept (Some e) p there back = sym (there e refl)
+
 both_hold : (a b : Bool) → T a → T b → T (a && b)
 both_hold true b h k = k
 both_hold false b h k = h
@@ -97,18 +98,17 @@ one_tree : (tree other : Tree) → IsTree tree → IsTree other → ((q : List �
 one_tree tree other is is_other same =
     same_lists (slice_cmp nat_cmp) nat_list_cmp_total (slice_cmp-IsAntisymmetric nat_cmp-IsAntisymmetric) tree other (rises tree is.sorted) (rises other is_other.sorted) same
 
-both_ways : (a b : Bool) → (a ≡ true → b ≡ true) → (b ≡ true → a ≡ true) → a ≡ b
+pub both_ways : (a b : Bool) → (a ≡ true → b ≡ true) → (b ≡ true → a ≡ true) → a ≡ b
 both_ways true b f g = sym (f refl)
 both_ways false true f g = g refl
 both_ways false false f g = refl
 
--- the map's `==` is that of the trees
-pub kept_alike : {S : Type 0} (m n : IndexMap (List ℕ) Entry S) (dirs others : List (List ℕ)) → IsKept m.entries dirs → IsKept n.entries others → index_map_eq (pointwise nat_eq) ghosts.eq m n ≡ tree_eq (tree_of m.entries) (tree_of n.entries)
-kept_alike m n dirs others is is_other =
-    both_ways _ _ (
-    λ h. alike (tree_of m.entries) (tree_of n.entries) (
-    one_tree (tree_of m.entries) (tree_of n.entries) is.tree is_other.tree (
-    λ q. sym (is.found q) ∙ same_found (lookup (pointwise nat_eq q) m.entries) (lookup (pointwise nat_eq q) n.entries) (get_from_hash_map_eq (pointwise nat_eq) ghosts.eq nat_list_eq_equiv m n h q) ∙ is_other.found q)))
-    (λ h. let e = same_entries (tree_of m.entries) (tree_of n.entries) h in
-    hash_map_eq_from_get (pointwise nat_eq) ghosts.eq m n (
-    λ q. found_alike (lookup (pointwise nat_eq q) m.entries) (lookup (pointwise nat_eq q) n.entries) (is.found q ∙ ap (λ t. node_at t q) e ∙ sym (is_other.found q))))
+-- what both keep is one tree
+pub one-kept : (es fs : List (List ℕ × Entry)) (dirs others : List (List ℕ)) → IsKept es dirs → IsKept fs others → AreAmong es fs → AreAmong fs es → tree_of es ≡ tree_of fs
+one-kept es fs dirs others is is_other there back =
+    one_tree (tree_of es) (tree_of fs) is.tree is_other.tree (
+    λ q. sym (is.found q) ∙ same_kept (lookup (pointwise nat_eq q) es) (lookup (pointwise nat_eq q) fs) (there q) (back q) ∙ is_other.found q)
+
+pub kept-among : (es fs : List (List ℕ × Entry)) (dirs others : List (List ℕ)) → IsKept es dirs → IsKept fs others → tree_of es ≡ tree_of fs → AreAmong es fs
+kept-among es fs dirs others is is_other same path entry h =
+    sym (is.found path ∙ ap (λ t. node_at t path) same ∙ sym (is_other.found path)) ∙ ap (option_map node_of) h

@@ -1,6 +1,8 @@
 -- What the code keeps, as the tree that contracts see.
 use Rattle.std.proofs.Common.{◌≡◌, List, [], ◌∷◌, ◌++◌, ℕ, Bool, true, false, cond, map, drop, refl, ap, sym, ◌∙◌, Bor}
-use Rattle.std.proofs.Common.{Option, Some, None, MatchOption}
+use Rattle.std.proofs.Common.{Option, Some, None, MatchOption, ◌+◌, slice_get}
+use Rattle.std.proofs.lemmas.List.{drop_more}
+use Rattle.std.proofs.lemmas.Option.{get_or_from_slice_get, slice_get_within}
 use Rattle.std.proofs.lemmas.List.Sums.{fold-append}
 use Rattle.std.specs.Prelude.{option_map}
 use Rattle.std.specs.BTreeMap.{insert_entry}
@@ -32,6 +34,10 @@ tree_of-last es path entry = fold-append (λ done e. with_node done e.0 (node_of
 pub node_of-cond : (b : Bool) (entry : Entry) (o : Option Entry) → option_map node_of (cond b (Some entry) o) ≡ cond b (Some (node_of entry)) (option_map node_of o)
 node_of-cond true entry o = refl
 node_of-cond false entry o = refl
+
+-- what is left of some entries at a place is the entry there and what is left behind it
+pub drop-at : (es : List (List ℕ × Entry)) (n : ℕ) (e : List ℕ × Entry) → slice_get es n ≡ Some e → drop n es ≡ e ∷ drop (n + 1) es
+drop-at es n e h = drop_more es n e (slice_get_within es n e h) ∙ ap (λ x. x ∷ drop (n + 1) es) (get_or_from_slice_get es n e e h)
 
 -- what is left of a sorted map behind its first entry
 pub behind_first : (first : Option (Bor (List ℕ) × Bor Entry)) (all left : List (Bor (List ℕ) × Bor Entry)) → MatchOption first ((all ≡ []) × (left ≡ [])) (λ e. all ≡ e ∷ left) → drop 1 (seen all) ≡ seen left

@@ -6,7 +6,9 @@ use Rattle.std.proofs.Math.Seq.{drop-append_seam, take-append_seam}
 use Rattle.std.proofs.lemmas.Bool.Decides.{Decides-eqb}
 use Rattle.std.proofs.lemmas.List.{append_assoc, get_or-append_right}
 use Rattle.std.proofs.lemmas.Slice.Eq.{ends_is}
-use Rattle.std.specs.Prelude.{IfSome, option_and_then}
+use Rattle.std.specs.Prelude.{IfSome, option_and_then, Option, MatchOption, is_some, ◌||◌, ◌⊎◌, slice_get}
+use Rattle.std.proofs.Common.{inl, inr}
+use Rattle.redo_names.specs.Paths.{IsAmong}
 use Rattle.std.specs.Cmp.Lexicographic.{pointwise, same_text}
 use Rattle.std.specs.List.{AllByRecursion, list_any}
 use Rattle.redo_path.specs.Names.{IsNameStart, IsPart, child_of, is_slash, name_of, parent_of}
@@ -112,3 +114,20 @@ none-noted dirs tree dir noted none suffix part =
       | Some Directory ↦ λ at. refl
       | Some (File bytes) ↦ λ at. absurd (true≢false (sym (noted path dir (File bytes) at (default-lies dir suffix bytes part)) ∙ none))
     ] refl
+
+-- ---- the set of noted directories
+
+any-among : (dirs : List (List ℕ)) (dir : List ℕ) → list_any (pointwise nat_eq dir) dirs ≡ true → IsAmong dirs dir
+any-among [] dir h = cc
+any-among (d ∷ ds) dir h = elim (pointwise nat_eq dir d) as (λ b. pointwise nat_eq dir d ≡ b → (b || list_any (pointwise nat_eq dir) ds) ≡ true → (d ≡ dir) ⊎ IsAmong ds dir) [
+  | true ↦ λ e t. inl (sym (same_text dir d (sym e)))
+  | false ↦ λ e t. inr (any-among ds dir t)
+] refl h
+
+-- a directory that has no number isn't noted
+pub unnoted : (dirs : List (List ℕ)) (dir : List ℕ) (o : Option ℕ) → MatchOption o (IsAmong dirs dir → ⊥) (λ n. slice_get dirs n ≡ Some dir) → is_some o ≡ false → list_any (pointwise nat_eq dir) dirs ≡ false
+unnoted dirs dir None told none = elim (list_any (pointwise nat_eq dir) dirs) as (λ b. list_any (pointwise nat_eq dir) dirs ≡ b → list_any (pointwise nat_eq dir) dirs ≡ false) [
+  | true ↦ λ e. absurd (told (any-among dirs dir e))
+  | false ↦ λ e. e
+] refl
+unnoted dirs dir (Some n) told none = cc

@@ -169,6 +169,15 @@ pub record IsKept (es : List (List ℕ × Entry)) (dirs : List (List ℕ)) : Typ
   pub found : (path : List ℕ) → option_map node_of (lookup (pointwise nat_eq path) es) ≡ node_at (tree_of es) path
   pub noted : NotesDefaults dirs (tree_of es)
 
+-- this entry is kept at the path
+abbrev pub HasEntry : List (List ℕ × Entry) → List ℕ → Entry → Type 0
+HasEntry es path entry = option_map node_of (lookup (pointwise nat_eq path) es) ≡ Some (node_of entry)
+
+-- what is kept of one tree at a path is kept of the other
+abbrev pub AreAmong : List (List ℕ × Entry) → List (List ℕ × Entry) → Type 0
+AreAmong es others =
+    (path : List ℕ) (entry : Entry) → lookup (pointwise nat_eq path) es ≡ Some entry → HasEntry others path entry
+
 -- the entries added in turn
 abbrev pub grown : Tree → List (List ℕ × Node) → Result Tree TreeFault
 grown tree [] = Ok tree

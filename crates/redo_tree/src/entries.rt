@@ -3,23 +3,20 @@
 //! Entries are kept in the order in which they were added. They are sorted for [`Tree::in_order`] and
 //! [`Tree::files`] alone, so memory may run out there and while a bundle is written.
 
-ghost use Rattle.std.specs.Prelude.{◌≡◌, ◌<◌, ◌^◌, IfOk, IfSome, OnOk, false, length, option_copied, map, nat_eq};
-ghost use Rattle.std.specs.Prelude.{option_map, is_some, List, ℕ, ◌∷◌, []};
-ghost use Rattle.std.proofs.Common.{ap, rules};
+ghost use Rattle.std.specs.Prelude.{◌≡◌, ◌<◌, ◌^◌, ◌↔◌, IfOk, IfSome, IsTrue, OnOk, false, length, option_copied, map};
+ghost use Rattle.std.specs.Prelude.{option_map, is_some, List, ℕ};
 ghost use Rattle.std.specs.Cmp.{partial_equiv_from_equiv};
-ghost use Rattle.std.specs.Cmp.Rules.{hashing};
-ghost use Rattle.std.specs.Cmp.Lexicographic.{bytes_decides, nat_list_eq_equiv, pointwise};
 ghost use Rattle.redo_path.specs.Names.{IsPath};
 ghost use Rattle.redo_tree.specs.Tree.{Directory, File, top, node_at, kind_of, file_at, files_of, node_of, refusal};
 ghost use Rattle.redo_tree.specs.Tree.{added, tree_eq, trees_alike, default_dir as dir_of_default};
 ghost use Rattle.redo_tree.specs.Tree.{is_default as begins_and_ends, Adds, Allows, HasNoDefaults, IsNoted, IsTree};
+ghost use Rattle.redo_tree.specs.Tree.{tree_of, AreAmong, HasEntry};
 
 use crate::{Content, TreeFault};
-use indexmap::{Equivalent, IndexMap, IndexSet};
+use redo_names::{PathMap, PathSet};
 use redo_path::Path;
 use std::alloc::{AllocError, Global};
 use std::collections::BTreeMap;
-use std::hash::{Hash, Hasher};
 use std::marker::Model;
 
 /// What stands at a path.
@@ -42,12 +39,11 @@ pub enum Entry {
 
 /// The top directory, and the directories and files below it. The parent of each is a directory of
 /// the tree. In a contract it is the list of its entries, in path order, the top directory among
-/// them. They are kept by the hashes of their paths, so that a look-up takes the same time in a tree
-/// of any size.
+/// them. A look-up takes about the same time in a tree of any size, whatever names stand in it.
 pub struct Tree {
-    entries: IndexMap<Path, Entry>,
+    entries: PathMap<Entry>,
     /// The directories of the files whose names begin with `default` and end in `.do`.
-    defaults: IndexSet<Path>,
+    defaults: PathSet,
     alloc: Global,
 }
 
@@ -59,35 +55,9 @@ impl Model for Tree {
 
     ghost coded = { coded_list (coded× (coded_list coded_ℕ) node_code) };
 
-    ghost view = { λ t. tree_of t.entries.entries };
+    ghost view = { λ t. tree_of t.entries };
 
-    ghost invariant = { λ t. IsKept t.entries.entries t.defaults.keys };
-}
-
-/// The text of a path, by which its entry is looked up.
-#[derive(Clone, Copy, PartialEq, Eq)]
-struct PathText<'a>(&'a [u8]);
-
-impl<'a> Hash for PathText<'a> {
-    ghost hash_input = { λ text. text.0.now ∷ [] };
-
-    ghost respects_eq = { Prim.search (hashing, rules) };
-
-    fn hash<H: Hasher>(&self, state: &mut H) {
-        state.write(self.0);
-    }
-}
-
-impl<'a> Equivalent<Path> for PathText<'a> {
-    ghost equivalent = { λ text path. pointwise nat_eq text.0.now path };
-
-    ghost respects_hash = { λ text path h. ap (λ bytes. bytes ∷ []) ((bytes_decides text.0.now path).0 h) };
-
-    ghost respects_eq = { λ text x y. nat_list_eq_equiv.congr text.0.now x y };
-
-    fn equivalent(&self, key: &Path) -> bool {
-        self.0 == key.text()
-    }
+    ghost invariant = { λ t. IsKept t.entries t.defaults };
 }
 
 impl Tree {
@@ -95,11 +65,11 @@ impl Tree {
     pub fn new(alloc: Global) -> Result<Tree, AllocError>
         ensures { IfOk result (λ tree. tree ≡ top) }
     {
-        let mut entries = IndexMap::new(alloc);
+        let mut entries = PathMap::new(alloc);
         entries.insert(Path::root(), Entry::Directory)?;
         Ok(Tree {
             entries,
-            defaults: IndexSet::new(alloc),
+            defaults: PathSet::new(alloc),
             alloc,
         })
     }
@@ -119,14 +89,14 @@ impl Tree {
         ensures found { is_some result ≡ is_some (node_at self.now path.now) }
         ensures within { IfSome result (λ n. n < length self.now) }
     {
-        self.entries.get_index_of(path)
+        self.entries.number_by_text(path.text())
     }
 
     /// What is kept at the path with this text.
     fn entry(&self, text: &[u8]) -> Option<&Entry>
         ensures { option_map node_of (option_copied result) ≡ node_at self.now text.now }
     {
-        self.entries.get(PathText(text))
+        self.entries.get_by_text(text)
     }
 
     /// What stands at a path.
@@ -171,7 +141,7 @@ impl Tree {
     pub fn holds_defaults(&self, dir: &[u8]) -> bool
         ensures none { result ≡ false → HasNoDefaults self.now dir.now }
     {
-        self.defaults.contains(PathText(dir))
+        self.defaults.number_by_text(dir).is_some()
     }
 
     /// The entries in path order, the top directory first. They are sorted at each call.
@@ -182,11 +152,7 @@ impl Tree {
         ensures entries { IfOk result (λ sorted. map (λ e. (e.0.now, node_of e.1.now)) sorted.entries ≡ self.now) }
         ensures tree { IsTree self.now }
     {
-        let mut sorted = BTreeMap::new(alloc);
-        for (path, entry) in &self.entries {
-            sorted.insert(path, entry)?;
-        }
-        Ok(sorted)
+        sorted(alloc, &self.entries)
     }
 
     /// The paths of the files, in path order: that of the paths' bytes.
@@ -251,15 +217,57 @@ impl Tree {
     }
 }
 
+/// Entries in the order of their paths.
+fn sorted(alloc: Global, entries: &PathMap<Entry>) -> Result<BTreeMap<&Path, &Entry>, AllocError>
+    ensures { IfOk result (λ sorted. map (λ e. (e.0.now, node_of e.1.now)) sorted.entries ≡ tree_of entries.now) }
+{
+    let mut sorted = BTreeMap::new(alloc);
+    'entries: for number in 0..entries.len() {
+        let (path, entry) = entries.at(number);
+        sorted.insert(path, entry)?;
+    }
+    Ok(sorted)
+}
+
+/// Whether two maps have the same entries.
+fn are_same(entries: &PathMap<Entry>, others: &PathMap<Entry>) -> bool
+    ensures { IsTrue result ↔ (AreAmong entries.now others.now × AreAmong others.now entries.now) }
+{
+    are_among(entries, others) && are_among(others, entries)
+}
+
+/// Whether each of some entries is one of others.
+fn are_among(entries: &PathMap<Entry>, others: &PathMap<Entry>) -> bool
+    ensures { IsTrue result ↔ AreAmong entries.now others.now }
+{
+    'entries: for number in 0..entries.len() {
+        let (path, entry) = entries.at(number);
+        if !is_among(path, entry, others) {
+            return false;
+        }
+    }
+    true
+}
+
+/// Whether an entry at a path is one of others.
+fn is_among(path: &Path, entry: &Entry, others: &PathMap<Entry>) -> bool
+    ensures { IsTrue result ↔ HasEntry others.now path.now entry.now }
+{
+    match others.get(path) {
+        Some(other) => entry == other,
+        None => false,
+    }
+}
+
 /// Notes the directory of a file whose name begins with `default` and ends in `.do`.
 fn note_default(
     alloc: Global,
-    dirs: &mut IndexSet<Path>,
+    dirs: &mut PathSet,
     path: &Path,
     entry: &Entry,
 ) -> Result<(), AllocError>
-    ensures kept { (dir : List ℕ) → IsNoted dirs.old.keys dir → IsNoted dirs.new.keys dir }
-    ensures noted { OnOk result (IfSome (dir_of_default path.now (node_of entry.now)) (IsNoted dirs.new.keys)) }
+    ensures kept { (dir : List ℕ) → IsNoted dirs.old dir → IsNoted dirs.new dir }
+    ensures noted { OnOk result (IfSome (dir_of_default path.now (node_of entry.now)) (IsNoted dirs.new)) }
 {
     if let Some(dir) = default_dir(alloc, path, entry)? {
         dirs.insert(dir)?;
@@ -302,7 +310,7 @@ impl PartialEq for Tree {
     ghost laws = { partial_equiv_from_equiv trees_alike };
 
     fn eq(&self, other: &Tree) -> bool {
-        self.entries == other.entries
+        self.len() == other.len() && are_same(&self.entries, &other.entries)
     }
 }
 

@@ -1,7 +1,7 @@
 //! A tree of directories and files below one top directory: what a build of redo reads.
 //!
 //! A [`Tree`] tells what stands at each path, and the bytes of each file. It stands on `redo_path`, on `redo_bytes` for
-//! what files hold, and on `indexmap` and `thiserror`.
+//! what files hold, on `redo_names` for looking paths up and on `thiserror`.
 //!
 //! - `entries`: the tree, and what is added to it; `content`: a file's bytes, which clones share;
 //! - `faults`: why nothing was added;

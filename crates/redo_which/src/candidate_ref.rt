@@ -4,20 +4,18 @@ ghost use Rattle.std.specs.Prelude.{◌≡◌, ◌++◌, ◌∷◌, [], IfOk, On
 ghost use Rattle.std.specs.Option.{option_to_list};
 ghost use Rattle.redo_path.specs.Names.{IsPart, IsPath, child_of};
 ghost use Rattle.redo_path.specs.Resolve.{resolved};
-ghost use Rattle.redo_bundle.specs.Bundle.{Writes};
 ghost use Rattle.redo_which.specs.Candidates.{place_at};
 ghost use Rattle.redo_which.specs.inside.Pieces.{prefix_of};
 ghost use Rattle.redo_which.specs.Views.{place_of};
 
 use crate::Candidate;
-use redo_bundle::{Broken, ByteOut, write_parts};
 use redo_path::{LONGEST_NAME, LONGEST_PATH, Path};
 use std::alloc::{AllocError, Global};
 use std::marker::Model;
 
 /// A candidate in pieces, with no path of its own. In a contract it is the place of the candidate.
 #[derive(Drop)]
-pub(crate) struct CandidateRef<'a> {
+pub struct CandidateRef<'a> {
     dir: &'a [u8],
     /// What stands between the directory and the suffix: a slash, unless the directory is the root, and then
     /// `default`, unless it is the candidate by the whole name.
@@ -83,7 +81,7 @@ impl<'a> CandidateRef<'a> {
     }
 
     /// Adds the text of the .do file's path to a text.
-    pub(crate) fn spell(&self, text: &mut Vec<u8>) -> Result<(), AllocError>
+    pub fn spell(&self, text: &mut Vec<u8>) -> Result<(), AllocError>
         ensures path { IsPath self.now.do_file }
         ensures text { OnOk result (text.new.items ≡ text.old.items ++ self.now.do_file) }
     {
@@ -93,23 +91,11 @@ impl<'a> CandidateRef<'a> {
         text.extend_from_slice(b".do")
     }
 
-    /// Writes the text of the .do file's path between a front and a newline.
-    pub(crate) fn write_line<W: ByteOut>(&self, front: &[u8], out: &mut W) -> Result<(), Broken>
-        requires { W.has_failed out.old ≡ false }
-        ensures writes { Writes (W.held out.old) (W.held out.new) result (front.now ++ self.now.do_file ++ 10 ∷ []) }
-        ensures failed { W.has_failed out.new ≡ is_err result }
+    /// The text of the .do file's path in three pieces, behind which stands `.do`.
+    pub fn pieces(&self) -> (&'a [u8], &'a [u8], &'a [u8])
+        ensures { result.0.now ++ result.1.now ++ result.2.now ++ codes ".do" ≡ self.now.do_file }
     {
-        write_parts(out, &[front, self.dir, self.prefix, self.suffix, b".do\n"])
-    }
-
-    /// Adds the text of the .do file's path between a front and a newline to a text.
-    pub(crate) fn add_line(&self, front: &[u8], text: &mut Vec<u8>) -> Result<(), AllocError>
-        ensures { OnOk result (text.new.items ≡ text.old.items ++ (front.now ++ self.now.do_file ++ 10 ∷ [])) }
-    {
-        text.extend_from_slice(front)?;
-        self.spell(text)?;
-        text.push(b'\n')?;
-        Ok(())
+        (self.dir, self.prefix, self.suffix)
     }
 
     /// The path of the .do file.

@@ -21,7 +21,7 @@ use std::marker::Model;
 /// The candidates of a target that are still to come, in the order of the search. In a contract it
 /// is the list of their places.
 #[derive(Drop)]
-pub(crate) struct Candidates<'a> {
+pub struct Candidates<'a> {
     /// The target's name.
     name: &'a [u8],
     next: Next<'a>,

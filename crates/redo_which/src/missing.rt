@@ -107,14 +107,14 @@ impl Missing {
     }
 
     /// The first of them, and the rest.
-    pub(crate) fn split_first(&self) -> Option<(CandidateRef<'_>, Rest<'_>)>
+    pub fn split_first(&self) -> Option<(CandidateRef<'_>, Tail<'_>)>
         ensures some { IfSome result (λ split. self.now ≡ split.0.do_file ∷ map (λ place. place.do_file) split.1) }
         ensures none { IfNone result (self.now ≡ []) }
     {
         let len = self.count.checked_sub(1)?;
         let mut candidates = Candidates::of(&self.target);
         let first = candidates.next()?;
-        Some((first, Rest { candidates, len }))
+        Some((first, Tail { candidates, len }))
     }
 }
 
@@ -128,12 +128,12 @@ impl Clone for Missing {
 
 /// The candidates of a target behind its first, so many of them. In a contract it is the list of their places.
 #[derive(Drop)]
-pub(crate) struct Rest<'a> {
+pub struct Tail<'a> {
     candidates: Candidates<'a>,
     len: usize,
 }
 
-impl<'a> Model for Rest<'a> {
+impl<'a> Model for Tail<'a> {
     ghost use Rattle.std.specs.Prelude.{List, take};
     ghost use Rattle.redo_which.specs.Candidates.{Place};
 
@@ -142,36 +142,36 @@ impl<'a> Model for Rest<'a> {
     ghost view = { λ r. take r.len r.candidates };
 }
 
-impl<'a> Rest<'a> {
+impl<'a> Tail<'a> {
     /// No candidates.
-    pub(crate) fn none() -> Rest<'a>
+    pub fn none() -> Tail<'a>
         ensures { result ≡ [] }
     {
-        Rest {
+        Tail {
             candidates: Candidates::none(),
             len: 0,
         }
     }
 
     /// Them, one after another.
-    pub(crate) fn candidates(&self) -> Take<Candidates<'a>>
+    pub fn candidates(&self) -> Take<Candidates<'a>>
         ensures { take (take_count result) (take_source result) ≡ self.now }
     {
         self.candidates.again().take(self.len)
     }
 
     /// The same candidates once more.
-    pub(crate) fn again(&self) -> Rest<'a>
+    pub fn again(&self) -> Tail<'a>
         ensures { result ≡ self.now }
     {
-        Rest {
+        Tail {
             candidates: self.candidates.again(),
             len: self.len,
         }
     }
 
     /// Whether they are seen at once to be the same as others.
-    pub(crate) fn is_same(&self, other: &Rest<'_>) -> bool
+    pub fn is_same(&self, other: &Tail<'_>) -> bool
         ensures { IsTrue result → self.now ≡ other.now }
     {
         self.len == other.len && self.candidates.is_same(&other.candidates)

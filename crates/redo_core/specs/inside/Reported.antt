@@ -31,7 +31,7 @@ sources_among tree ps = filter (λ p. is_some (file_at tree p)) ps
 
 -- the targets of a table and the requested sources in path order, each once
 abbrev pub reported_paths : Tree → List (List ℕ) → Table → List (List ℕ)
-reported_paths tree request t = placed (placed [] t.targets.keys) (sources_among tree request)
+reported_paths tree request t = placed (placed [] t.targets) (sources_among tree request)
 
 -- paths that are lent, each with its number if it is a target, as they are made into rows
 abbrev pub listed_paths : List (Bor (List ℕ) × Option ℕ) → List (List ℕ)
@@ -67,7 +67,7 @@ IsTold tree p (Decided fact) = (fact.value.given.tree ≡ tree) × (fact.value.t
 
 abbrev pub AllTold : Tree → Table → Type 0
 AllTold tree t =
-    (k : ℕ) (slot : Slot) (p : List ℕ) → slice_get t.slots.items k ≡ Some slot → slice_get t.targets.keys k ≡ Some p →
+    (k : ℕ) (slot : Slot) (p : List ℕ) → slice_get t.slots.items k ≡ Some slot → slice_get t.targets k ≡ Some p →
     IsTold tree p slot.stage
 
 -- whether the script of a target was begun: it was, where the target waits; and a fact tells, and says that it was
@@ -83,13 +83,13 @@ IsBegunAs (Decided fact) begun =
 pub record IsTargetRow (t : Table) (row : Row) : Type 0 where
   pub at : ℕ
   pub slot : Slot
-  pub path : slice_get t.targets.keys at ≡ Some row.path
+  pub path : slice_get t.targets at ≡ Some row.path
   pub there : slice_get t.slots.items at ≡ Some slot
   pub shown : IsShown slot.stage row.outcome (arc_value row.deps)
 
 -- the row is that of a path that the table lacks
 pub record IsSourceRow (t : Table) (row : Row) : Type 0 where
-  pub absent : IsAmong t.targets.keys row.path → ⊥
+  pub absent : IsAmong t.targets row.path → ⊥
   pub outcome : row.outcome ≡ Source
   pub deps : arc_value row.deps ≡ []
 

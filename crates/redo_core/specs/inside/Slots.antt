@@ -74,7 +74,7 @@ abbrev pub entries_from : Rules → ℕ → List (List ℕ) → List Slot → Li
 entries_from r depth ps slots = slot_entries r (outcome_at r depth) ps slots
 
 abbrev pub table_entries : Rules → ℕ → Table → List Entry
-table_entries r depth t = entries_from r depth t.targets.keys t.slots.items
+table_entries r depth t = entries_from r depth t.targets t.slots.items
 
 -- the state that a table stands for
 abbrev pub state_from : Rules → ℕ → List (List ℕ) → List Slot → List ℕ → State
@@ -88,7 +88,7 @@ rules_inside b = rules_for b.build
 
 -- the state that a board keeps
 abbrev pub state_of : Inside → State
-state_of b = state_from (rules_inside b) b.build.limits.targets b.table.targets.keys b.table.slots.items
+state_of b = state_from (rules_inside b) b.build.limits.targets b.table.targets b.table.slots.items
     b.table.ready.items
 
 -- a slot whose job is parked has that job at its place
@@ -215,13 +215,13 @@ pub record IsTable (r : Rules) (given : GivenView) (ps : List (List ℕ)) (slots
 
 abbrev pub IsTableOf : GivenView → Table → List ℕ → Type 0
 IsTableOf given t newly_ready =
-    IsTable (rules_for given) given t.targets.keys t.slots.items t.ready.items t.out newly_ready
+    IsTable (rules_for given) given t.targets t.slots.items t.ready.items t.out newly_ready
 
 -- what a board keeps: a state that is reached, and a table with nothing left to do
 pub record IsKept (b : Inside) : Type 0 where
   pub reached : IsReached (rules_inside b) b.request.items (state_of b)
   pub table : IsTableOf b.build b.table []
-  pub watched : AllWatched (rules_inside b) b.build.limits.targets b.table.targets.keys b.table.slots.items []
+  pub watched : AllWatched (rules_inside b) b.build.limits.targets b.table.targets b.table.slots.items []
 
 -- a board keeps what it shows while it runs, and has stopped at the limit only where the build needs too many
 pub record IsBoard (b : Inside) : Type 0 where
@@ -238,7 +238,7 @@ is_stage_decided (Decided fact) = true
 pub record IsDecidedSlot (t : Table) (q : List ℕ) : Type 0 where
   pub at : ℕ
   pub slot : Slot
-  pub path : slice_get t.targets.keys at ≡ Some q
+  pub path : slice_get t.targets at ≡ Some q
   pub there : slice_get t.slots.items at ≡ Some slot
   pub decided : is_stage_decided slot.stage ≡ true
 
@@ -345,11 +345,11 @@ pub record IsMadeReadyAt (given : GivenView) (t u : Table) (at : ℕ) : Type 0 w
 pub record IsFedAs (given : GivenView) (t : Table) (at : ℕ) (slot : Slot) (parked : Parked) : Type 0 where
   pub there : slice_get t.slots.items at ≡ Some slot
   pub was : slot.stage ≡ Waiting parked
-  pub distinct : AreDistinct t.targets.keys
+  pub distinct : AreDistinct t.targets
   pub waits : IsWaitingWith (rules_for given) (outcomes_of (table_entries (rules_for given) given.limits.targets t))
-      given (path_at t.targets.keys at) slot.turn parked
-  pub fits : AllFit (rules_for given) given.limits.targets given t.targets.keys t.slots.items
-  pub numbered : AreNumbers t.targets.keys parked.operands.items (waited_by (rules_for given) parked.begun.value)
+      given (path_at t.targets at) slot.turn parked
+  pub fits : AllFit (rules_for given) given.limits.targets given t.targets t.slots.items
+  pub numbered : AreNumbers t.targets parked.operands.items (waited_by (rules_for given) parked.begun.value)
   pub rest : AreDecidedFrom t parked.operands.items parked.held (length parked.operands.items)
   pub is_work : IsWork (rules_for given) parked.begun.value.job.target parked.begun.value.job.turn
       (job_deps parked.begun.value.job)
@@ -367,8 +367,8 @@ pub record IsLookedAt (given : GivenView) (t u : Table) (at : ℕ) : Type 0 wher
   pub rest : (u.targets ≡ t.targets) × (u.ready ≡ t.ready) × (u.out ≡ t.out)
   pub slots : length u.slots.items ≡ length t.slots.items
   pub watched : (pending : List ℕ) →
-      AllWatched (rules_for given) given.limits.targets t.targets.keys t.slots.items (at ∷ pending) →
-      AllWatched (rules_for given) given.limits.targets u.targets.keys u.slots.items pending
+      AllWatched (rules_for given) given.limits.targets t.targets t.slots.items (at ∷ pending) →
+      AllWatched (rules_for given) given.limits.targets u.targets u.slots.items pending
 
 -- what a path that is seen for the first time is at once
 abbrev pub IsBegun : GivenView → List ℕ → Stage → Type 0
@@ -388,7 +388,7 @@ pub record IsPushed (given : GivenView) (t u : Table) (newly_ready newly_ready' 
   pub begun : IsBegun given p new.stage
   pub turn : new.turn ≡ 0
   pub watchers : new.watchers.items ≡ []
-  pub keys : u.targets.keys ≡ t.targets.keys ++ p ∷ []
+  pub keys : u.targets ≡ t.targets ++ p ∷ []
   pub slots : u.slots.items ≡ t.slots.items ++ new ∷ []
   pub newly_ready_is : newly_ready' ≡ newly_ready ++ (if is_stage_ready new.stage then length t.slots.items ∷ []
       else [])
@@ -400,11 +400,11 @@ pub record AreEnteredInto (given : GivenView) (t u : Table) (newly_ready : List 
   pub entries : table_entries (rules_for given) given.limits.targets u ≡
       entered (rules_for given) (table_entries (rules_for given) given.limits.targets t) ps
   pub rest : (u.ready ≡ t.ready) × (u.out ≡ t.out)
-  pub keys_kept : (k : ℕ) (p : List ℕ) → slice_get t.targets.keys k ≡ Some p → slice_get u.targets.keys k ≡ Some p
+  pub keys_kept : (k : ℕ) (p : List ℕ) → slice_get t.targets k ≡ Some p → slice_get u.targets k ≡ Some p
   pub slots_kept : (k : ℕ) (slot : Slot) → slice_get t.slots.items k ≡ Some slot → slice_get u.slots.items k ≡ Some slot
   pub watched : (pending : List ℕ) →
-      AllWatched (rules_for given) given.limits.targets t.targets.keys t.slots.items pending →
-      AllWatched (rules_for given) given.limits.targets u.targets.keys u.slots.items pending
+      AllWatched (rules_for given) given.limits.targets t.targets t.slots.items pending →
+      AllWatched (rules_for given) given.limits.targets u.targets u.slots.items pending
 
 abbrev pub IsEnteredInto : GivenView → Table → Table → List ℕ → List ℕ → Type 0
 IsEnteredInto given t u newly_ready p = AreEnteredInto given t u newly_ready (p ∷ [])
@@ -423,8 +423,8 @@ pub record AreLookedAtBelow (given : GivenView) (t u : Table) (pending left : Li
   pub rest : (u.targets ≡ t.targets) × (u.ready ≡ t.ready) × (u.out ≡ t.out)
   pub slots : length u.slots.items ≡ length t.slots.items
   pub watched : (more : List ℕ) →
-      AllWatched (rules_for given) given.limits.targets t.targets.keys t.slots.items (pending ++ more) →
-      AllWatched (rules_for given) given.limits.targets u.targets.keys u.slots.items (left ++ more)
+      AllWatched (rules_for given) given.limits.targets t.targets t.slots.items (pending ++ more) →
+      AllWatched (rules_for given) given.limits.targets u.targets u.slots.items (left ++ more)
 
 abbrev pub AreLookedAt : GivenView → Table → Table → List ℕ → Type 0
 AreLookedAt given t u pending = AreLookedAtBelow given t u pending []
@@ -484,13 +484,13 @@ IsOutThere t at =
 
 -- the state that a table stands for
 abbrev pub table_state : Rules → ℕ → Table → State
-table_state r depth t = state_from r depth t.targets.keys t.slots.items t.ready.items
+table_state r depth t = state_from r depth t.targets t.slots.items t.ready.items
 
 -- the state after what is out at a number is handed in
 abbrev pub state_after : GivenView → Table → ℕ → State
 state_after given t at =
     handed_in (rules_for given) (table_state (rules_for given) given.limits.targets t)
-    (entry_of (table_entries (rules_for given) given.limits.targets t) (path_at t.targets.keys at))
+    (entry_of (table_entries (rules_for given) given.limits.targets t) (path_at t.targets at))
 
 -- the table is that of a state that is reached, with nothing left to do, and the end is that of the job that is out at
 -- the number
@@ -498,31 +498,31 @@ pub record MayTakeIn (given : GivenView) (t : Table) (at : ℕ) (end : End) : Ty
   pub request : List (List ℕ)
   pub reached : IsReached (rules_for given) request (table_state (rules_for given) given.limits.targets t)
   pub table : IsTableOf given t []
-  pub watched : AllWatched (rules_for given) given.limits.targets t.targets.keys t.slots.items []
+  pub watched : AllWatched (rules_for given) given.limits.targets t.targets t.slots.items []
   pub slot : Slot
   pub there : slice_get t.slots.items at ≡ Some slot
   pub is_out : slot.stage ≡ Out
-  pub is_end : IsEndAt given (path_at t.targets.keys at) slot.turn end
+  pub is_end : IsEndAt given (path_at t.targets at) slot.turn end
 
 -- the table shows the entries after it, with these numbers newly ready and those to be looked at
 pub record IsPutBackThere (given : GivenView) (t u : Table) (at : ℕ) (newly_ready pending : List ℕ) : Type 0 where
   pub table : IsTableOf given u newly_ready
   pub entries : table_entries (rules_for given) given.limits.targets u ≡ (state_after given t at).entries
   pub ready : u.ready ≡ t.ready
-  pub keys_kept : (k : ℕ) (p : List ℕ) → slice_get t.targets.keys k ≡ Some p → slice_get u.targets.keys k ≡ Some p
+  pub keys_kept : (k : ℕ) (p : List ℕ) → slice_get t.targets k ≡ Some p → slice_get u.targets k ≡ Some p
   pub within : (k : ℕ) → IsPlace pending k → k < length u.slots.items
-  pub watched : AllWatched (rules_for given) given.limits.targets u.targets.keys u.slots.items pending
+  pub watched : AllWatched (rules_for given) given.limits.targets u.targets u.slots.items pending
 
 -- the table shows the state after it, with nothing left to do
 pub record IsTakenIn (given : GivenView) (t u : Table) (at : ℕ) : Type 0 where
   pub table : IsTableOf given u []
-  pub watched : AllWatched (rules_for given) given.limits.targets u.targets.keys u.slots.items []
+  pub watched : AllWatched (rules_for given) given.limits.targets u.targets u.slots.items []
   pub state : table_state (rules_for given) given.limits.targets u ≡ state_after given t at
 
 -- the job of a target is out at this number, at its turn
 pub record IsOutSlotAt (t : Table) (target : List ℕ) (turn at : ℕ) : Type 0 where
   pub slot : Slot
-  pub path : slice_get t.targets.keys at ≡ Some target
+  pub path : slice_get t.targets at ≡ Some target
   pub there : slice_get t.slots.items at ≡ Some slot
   pub is_out : slot.stage ≡ Out
   pub at_turn : slot.turn ≡ turn
@@ -534,5 +534,5 @@ targets_in r paths = filter (λ p. not (r.is_source p)) paths
 -- the table shows the opening, with nothing left to do
 pub record IsFirstTable (given : GivenView) (request : List (List ℕ)) (t : Table) : Type 0 where
   pub table : IsTableOf given t []
-  pub watched : AllWatched (rules_for given) given.limits.targets t.targets.keys t.slots.items []
+  pub watched : AllWatched (rules_for given) given.limits.targets t.targets t.slots.items []
   pub state : table_state (rules_for given) given.limits.targets t ≡ opening (rules_for given) request

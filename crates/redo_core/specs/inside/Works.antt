@@ -2,7 +2,6 @@
 use Rattle.std.specs.Prelude.{◌≡◌, ◌⊎◌, ℕ, zero, suc, false, ◌+◌, ◌<◌, ◌≤◌, List, [], Some, None, map, length}
 use Rattle.std.specs.Prelude.{slice_get, unwrap_or, Box, Option, ◌++◌}
 use Rattle.std.specs.declared.alloc.Global.{Global}
-use Rattle.indexmap.specs.IndexMap.{IndexMap}
 use Rattle.redo_script.specs.Texts.{script_in}
 use Rattle.redo_tree.specs.Tree.{file_at}
 use Rattle.redo_which.specs.Rule.{Rule, found_of}
@@ -27,10 +26,9 @@ few_known facts = map (λ f. (f.value.target, f.value.outcome)) facts
 abbrev pub entries_known : List (List ℕ × Shown FactView) → List (List ℕ × Outcome)
 entries_known es = map (λ e. (e.0, e.1.value.outcome)) es
 
-abbrev pub more_known : {S : Type 0} → Option (Box (IndexMap (List ℕ) (Shown FactView) S) Global) →
-    List (List ℕ × Outcome)
+abbrev pub more_known : Option (Box (List (List ℕ × Shown FactView)) Global) → List (List ℕ × Outcome)
 more_known None = []
-more_known (Some more) = entries_known more.value.entries
+more_known (Some more) = entries_known more.value
 
 abbrev pub known_in : Facts → List (List ℕ × Outcome)
 known_in facts = more_known facts.more ++ few_known facts.few.items

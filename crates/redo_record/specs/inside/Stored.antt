@@ -7,4 +7,4 @@ use Rattle.redo_record.specs.declared.deps.Store.TheVariants.{Few, Many}
 -- the entries, wherever they are kept
 abbrev pub stored : Store → List Dep
 stored (Few entries) = entries.items
-stored (Many entries) = entries.value.keys
+stored (Many entries) = entries.value

@@ -1,27 +1,34 @@
--- What workers round one board come to.
-use Rattle.std.specs.Prelude.{◌≡◌, ℕ, List, Result, Err, IfOk}
+-- What a build by an owner and its workers comes to.
+use Rattle.std.specs.Prelude.{◌≡◌, ℕ, List, [], Result, Err, IfOk, All, length}
 use Rattle.redo_core.specs.Build.{GivenView, rules_for}
 use Rattle.redo_build.specs.Outcomes.{IsTooMany}
+use Rattle.redo_build.specs.Takes.{AreBegun, AreCountedOnce}
 use Rattle.redo_report.specs.Reports.{IsReport}
-use Rattle.redo_core.specs.Views.{BoardView, PieceView, WorkView}
+use Rattle.redo_core.specs.Taken.{HasTaken}
+use Rattle.redo_core.specs.Views.{BoardView}
 use Rattle.redo_report.specs.declared.report.Report.{Report}
+use Rattle.redo_sync.specs.Relay.{Pair, Shares, Source, Taker}
 use Rattle.redo_run.specs.declared.run_fault.RunFault.{RunFault}
 use Rattle.redo_run.specs.declared.run_fault.RunFault.TheVariants.{TooMany}
 
--- the board is that of a build
-pub record IsBoardOf (given : GivenView) (request : List (List ℕ)) (b : BoardView) : Type 0 where
-  pub of_given : b.given ≡ given
-  pub of_request : b.request ≡ request
+-- the source is of the same relay
+abbrev pub IsSameSource : Source → Source → Type 0
+IsSameSource old new = (new.relay ≡ old.relay) × (new.workers ≡ old.workers)
 
--- the work is of a build that is given this
-abbrev pub IsWorkOf : GivenView → WorkView → Type 0
-IsWorkOf given work = work.given ≡ given
+-- these are all takers of the source
+abbrev pub IsStaffed : Source → List Taker → Type 0
+IsStaffed source takers = (length takers ≡ source.workers) × All (λ t. t.relay ≡ source.relay) takers
 
--- the piece is of a build that is given this
-abbrev pub IsPieceOf : GivenView → PieceView → Type 0
-IsPieceOf given piece = piece.given ≡ given
+-- what the board had taken is what it has taken now
+abbrev pub HasTakenOn : BoardView → BoardView → Type 0
+HasTakenOn old new = (taken : List Pair) → HasTaken old taken → HasTaken new taken
 
--- a report is that of the build, and too many targets are answered where the build needs too many
-pub record IsAnswerTo (given : GivenView) (request : List (List ℕ)) (answer : Result Report RunFault) : Type 0 where
-  pub report : IfOk answer (IsReport (rules_for given) request given.limits.targets)
+-- a report is that of the build, its ledger shows each job taken once and those of its begun scripts, and too many
+-- targets are answered where the build needs too many
+pub record IsAnswerTo (given : GivenView) (request : List (List ℕ)) (answer : Result (Report × Shares) RunFault) :
+    Type 0 where
+  pub report : IfOk answer (λ r. IsReport (rules_for given) request given.limits.targets r.0)
+  pub none_left : IfOk answer (λ r. r.1.left ≡ [])
+  pub once : IfOk answer (λ r. AreCountedOnce r.1.taken)
+  pub begun : IfOk answer (λ r. AreBegun r.1.taken r.0.begun.items)
   pub too_many : answer ≡ Err TooMany → IsTooMany (rules_for given) request given.limits.targets

@@ -61,7 +61,8 @@ fn four_workers_answer_as_ever_or_are_out_of_memory(rt: HostRuntime) -> Result<(
         let request = paths_of(alloc, words)?;
         let tree = tree_of(alloc, files)?;
         let found = build_many(&rt, alloc, tree, &request, limits, 4, &NoGate);
-        assert!(rt; is_answer(alloc, found, expected)?, "{rule}");
+        let report = found.map(|(report, _ledger)| report);
+        assert!(rt; is_answer(alloc, report, expected)?, "{rule}");
     }
     Ok(())
 }

@@ -93,7 +93,7 @@ fn built_by<R: Threads + Wait + Sync, G: Gate>(
     let limits = Limits::new(targets, 1_000_000).ok_or("no limits")?;
     let request = paths_of(alloc, words)?;
     match build_many(rt, alloc, tree, &request, limits, workers, gate) {
-        Ok(report) => Ok(Ok(report_text(alloc, &report, true)?)),
+        Ok((report, _ledger)) => Ok(Ok(report_text(alloc, &report, true)?)),
         Err(fault) => Ok(Err(fault)),
     }
 }
@@ -284,6 +284,66 @@ fn each_job_enters_once_and_no_more_are_inside_than_workers(rt: HostRuntime) -> 
     Ok(())
 }
 
+/// How often each target of the diamond entered at each of its first turns, and how often anything else did.
+#[derive(Drop)]
+struct Notes {
+    entered: Vec<Vec<AtomicU64>>,
+    strange: AtomicU64,
+}
+
+const DIAMOND_TARGETS: [&[u8]; 4] = [b"top", b"left", b"right", b"base"];
+
+impl Gate for Notes {
+    fn enter(&self, target: &Path, turn: u64) {
+        let place = DIAMOND_TARGETS
+            .iter()
+            .position(|name| target.text() == *name);
+        let turns = place.and_then(|place| self.entered.get(place));
+        let turn = usize::try_from(turn).unwrap_or(usize::MAX);
+        match turns.and_then(|turns| turns.get(turn)) {
+            Some(count) => count.fetch_add(1, Ordering::SeqCst),
+            None => self.strange.fetch_add(1, Ordering::SeqCst),
+        };
+    }
+}
+
+/// Notes for so many turns of each target.
+fn no_notes(alloc: Global, turns: usize) -> Result<Notes, Fail> {
+    let mut entered = Vec::new(alloc);
+    for _ in DIAMOND_TARGETS {
+        let mut counts = Vec::new(alloc);
+        for _ in 0..turns {
+            counts.push(AtomicU64::new(0))?;
+        }
+        entered.push(counts)?;
+    }
+    Ok(Notes {
+        entered,
+        strange: AtomicU64::new(0),
+    })
+}
+
+#[test]
+fn no_job_enters_twice_and_those_at_turn_0_are_begun(rt: HostRuntime) -> Result<(), Fail> {
+    let alloc = rt.alloc();
+    let limits = Limits::new(100, 100).ok_or("no limits")?;
+    let notes = no_notes(alloc, 3)?;
+    let request = paths_of(alloc, &[b"top"])?;
+    let tree = tree_of(alloc, DIAMOND)?;
+    let (report, ledger) = build_many(&rt, alloc, tree, &request, limits, 8, &notes)?;
+    assert!(rt; ledger.left().is_empty());
+    assert_eq!(rt; notes.strange.load(Ordering::SeqCst), 0);
+    for (name, counts) in DIAMOND_TARGETS.iter().zip(notes.entered.iter()) {
+        let is_begun = report.begun.iter().any(|path| path.text() == *name);
+        for (turn, count) in counts.iter().enumerate() {
+            let count = count.load(Ordering::SeqCst);
+            assert!(rt; count <= 1, "turn {turn}");
+            assert!(rt; turn > 0 || (count == 1) == is_begun);
+        }
+    }
+    Ok(())
+}
+
 /// What the script of a target does: some fail, some stand in rings, and most ask for two others.
 fn soaked_script(alloc: Global, number: u32) -> Result<String, Fail>
     requires { number ≤ 299 }
@@ -322,8 +382,8 @@ const SOAKED: &[&[u8]] = &[
 fn one_report_in_every_order(rt: HostRuntime) -> Result<(), Fail> {
     let alloc = rt.alloc();
     let first = built_by(&rt, alloc, soaked_tree(alloc)?, SOAKED, 200, 1, &NoGate)??;
-    for _ in 0..50u32 {
-        for workers in [1, 2, 8, 64] {
+    for (workers, rounds) in [(1, 10), (2, 20), (8, 20), (64, 3u32)] {
+        for _ in 0..rounds {
             let tree = soaked_tree(alloc)?;
             let text = built_by(&rt, alloc, tree, SOAKED, 200, workers, &NoGate)??;
             assert!(rt; text == first, "{workers} workers");

@@ -27,6 +27,7 @@ reader_of l = record {
   is_plain = l.is_plain;
   is_number = l.is_number;
   word = symbols_of l.parts.items ++ map byte l.literal.items;
+  name = l.name.items;
   tokens = map token_of l.tokens.items;
 }
 

@@ -1,6 +1,7 @@
 -- What contracts see of the reader of statements.
-use Rattle.std.specs.Prelude.{◌+◌, ℕ, true, ◌&&◌, nat_le, if◌then◌else◌, length, List, [], ◌∷◌, map}
+use Rattle.std.specs.Prelude.{◌+◌, ℕ, Bool, true, false, ◌&&◌, ◌||◌, nat_le, if◌then◌else◌, length, List, [], ◌∷◌, map}
 use Rattle.std.specs.Prelude.{Option, None, option_map, codes}
+use Rattle.redo_script.specs.Bytes.{same_bytes}
 use Rattle.redo_script.specs.Syntax.{byte, Word}
 use Rattle.redo_script.specs.Grammar.{at_most, digits_value, Item}
 use Rattle.redo_script.specs.declared.item.Item.{Item as ItemTree}
@@ -11,11 +12,15 @@ use Rattle.redo_script.specs.declared.begun.Begun.{Begun as BegunTree}
 use Rattle.redo_script.specs.declared.ast.Condition.{Condition as ConditionTree}
 use Rattle.redo_script.specs.declared.parser.Phase.{Phase as PhaseTree}
 use Rattle.redo_script.specs.declared.parser.Phase.TheVariants as phases
-use Rattle.redo_script.specs.declared.parser.Open.{Open as OpenTree}
+use Rattle.redo_script.specs.declared.open.OpenIf.{OpenIf}
+use Rattle.redo_script.specs.declared.open.OpenLoop.{OpenLoop}
+use Rattle.redo_script.specs.declared.open.Open.{Open as OpenTree}
+use Rattle.redo_script.specs.declared.open.Open.TheVariants as trees
 use Rattle.redo_script.specs.declared.parser.Parser.{Parser as ParserTree}
-use Rattle.redo_script.specs.Parsing.{Begun, Open, Parser}
+use Rattle.redo_script.specs.Parsing.{Begun, Open, open_if, open_loop, Parser}
 use Rattle.redo_script.specs.Parsing.{Phase, at_command, in_command, behind_if, in_condition, before_then, behind_fi}
-use Rattle.redo_script.specs.View.{symbols_of, redirection_of, condition_of, script_of}
+use Rattle.redo_script.specs.Parsing.{behind_for, behind_name, in_words, before_do, behind_done}
+use Rattle.redo_script.specs.View.{symbols_of, words_of, redirection_of, condition_of, script_of}
 
 -- a word of a command, by its symbols
 abbrev pub item_of : ItemTree → Item
@@ -49,25 +54,36 @@ begun_of b = record {
   awaits = b.awaits;
 }
 
--- what is expected next, with the command that is being read and the condition that was read last
-abbrev pub phase_of : PhaseTree → BegunTree → ConditionTree → Phase
-phase_of phases.AtCommand b c = at_command
-phase_of phases.InCommand b c = in_command (begun_of b)
-phase_of (phases.BehindIf line) b c = behind_if line
-phase_of phases.InCondition b c = in_condition (begun_of b)
-phase_of (phases.BeforeThen line) b c = before_then line (condition_of c)
-phase_of (phases.BehindFi line) b c = behind_fi line
+-- what is expected next, with the command that is being read, and the condition, the name and the words that were read
+-- last
+abbrev pub phase_of : PhaseTree → BegunTree → ConditionTree → List ℕ → List Word → Phase
+phase_of phases.AtCommand b c name ws = at_command
+phase_of phases.InCommand b c name ws = in_command (begun_of b)
+phase_of (phases.BehindIf line) b c name ws = behind_if line
+phase_of phases.InCondition b c name ws = in_condition (begun_of b)
+phase_of (phases.BeforeThen line) b c name ws = before_then line (condition_of c)
+phase_of (phases.BehindFi line) b c name ws = behind_fi line
+phase_of (phases.BehindFor line) b c name ws = behind_for line
+phase_of (phases.BehindName line) b c name ws = behind_name line name
+phase_of (phases.InWords line) b c name ws = in_words line name ws
+phase_of (phases.BeforeDo line) b c name ws = before_do line name ws
+phase_of (phases.BehindDone line) b c name ws = behind_done line
 
 -- an open if
-abbrev pub open_of : OpenTree → Open
-open_of o = record {
-  line = o.line;
-  condition = condition_of o.condition;
-  first = option_map (λ v. script_of v.items) o.first;
-  before = script_of o.before.items;
-}
+abbrev pub open_if_of : OpenIf → Open
+open_if_of o =
+    open_if o.line (condition_of o.condition) (option_map (λ v. script_of v.items) o.first) (script_of o.before.items)
 
--- the open ifs: the innermost, which the code has last, comes first
+-- an open loop
+abbrev pub open_loop_of : OpenLoop → Open
+open_loop_of o = open_loop o.line o.name (words_of o.words.items) (script_of o.before.items)
+
+-- an open if or loop
+abbrev pub open_of : OpenTree → Open
+open_of (trees.If o) = open_if_of o
+open_of (trees.Loop o) = open_loop_of o
+
+-- what is open: the innermost, which the code has last, comes first
 abbrev pub stack_onto : List Open → List OpenTree → List Open
 stack_onto os [] = os
 stack_onto os (x ∷ xs) = stack_onto (open_of x ∷ os) xs
@@ -75,7 +91,7 @@ stack_onto os (x ∷ xs) = stack_onto (open_of x ∷ os) xs
 -- where the parser stands
 abbrev pub parser_of : ParserTree → Parser
 parser_of p = record {
-  phase = phase_of p.phase p.begun p.condition;
+  phase = phase_of p.phase p.begun p.condition p.name (words_of p.words.items);
   opens = stack_onto [] p.opens.items;
   so_far = script_of p.so_far.items;
 }
@@ -84,3 +100,21 @@ parser_of p = record {
 abbrev pub status_on : ℕ → ℕ → Word → Option ℕ
 status_on digits value w =
     if nat_le 1 (digits + length w) && nat_le (digits + length w) 3 then at_most 255 (digits_value value w) else None
+
+-- how many ifs are among these
+abbrev pub ifs_among : List OpenTree → ℕ
+ifs_among [] = 0
+ifs_among (trees.If o ∷ xs) = ifs_among xs + 1
+ifs_among (trees.Loop o ∷ xs) = ifs_among xs
+
+-- how many loops
+abbrev pub loops_among : List OpenTree → ℕ
+loops_among [] = 0
+loops_among (trees.If o ∷ xs) = loops_among xs
+loops_among (trees.Loop o ∷ xs) = loops_among xs + 1
+
+-- a loop among these binds the name
+abbrev pub bound_among : List ℕ → List OpenTree → Bool
+bound_among name [] = false
+bound_among name (trees.If o ∷ xs) = bound_among name xs
+bound_among name (trees.Loop o ∷ xs) = same_bytes o.name name || bound_among name xs

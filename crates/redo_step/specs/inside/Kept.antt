@@ -10,7 +10,7 @@ use Rattle.redo_step.specs.Setting.{Setting}
 use Rattle.redo_step.specs.Runs.{State}
 use Rattle.redo_step.specs.Words.{operands_of}
 use Rattle.redo_step.specs.Declaring.{declaring}
-use Rattle.redo_step.specs.Place.{stands_at}
+use Rattle.redo_step.specs.Place.{Standing, stands_at}
 use Rattle.redo_step.specs.inside.Waiting.{targets_in}
 
 -- It waits for the operands that this command's words name, and they are declared.
@@ -32,11 +32,11 @@ pub record IsFirst (setting : Setting) (script : Script) (state : State) (waitin
   pub has : HasOperands setting line command state waiting
 
 -- what is kept, if anything, is the first of these statements
-abbrev pub IsKept : Setting → Script → State → Option Waiting → Type 0
-IsKept setting script state None = Unit {0}
-IsKept setting script state (Some waiting) = IsFirst setting script state waiting
+abbrev pub IsKept : Standing → State → Option Waiting → Type 0
+IsKept here state None = Unit {0}
+IsKept here state (Some waiting) = IsFirst here.setting here.script state waiting
 
 -- what is kept, if anything, is the statement at this place of the script
 abbrev pub IsKeptIn : Setting → Result Script ScriptFault → Place → State → Option Waiting → Type 0
 IsKeptIn setting whole place state kept =
-    (script : Script) → whole ≡ Ok script → IsKept setting (stands_at place script) state kept
+    (script : Script) → whole ≡ Ok script → IsKept (stands_at place setting script) state kept

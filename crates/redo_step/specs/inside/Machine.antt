@@ -1,6 +1,6 @@
 -- What contracts see of the machine.
-use Rattle.std.specs.Prelude.{◌≡◌, ℕ, ◌+◌, ◌<◌, length, List, option_map, None, Some, Result, Ok, Err}
-use Rattle.redo_script.specs.Syntax.{Script, Command, Condition, finish, choice}
+use Rattle.std.specs.Prelude.{◌≡◌, ℕ, ◌+◌, ◌<◌, length, List, ◌∷◌, drop, option_map, None, Some, Result, Ok, Err}
+use Rattle.redo_script.specs.Syntax.{Script, Word, Command, Condition, finish, choice, loop}
 use Rattle.redo_step.specs.declared.machine.Effects.{Effects}
 use Rattle.redo_step.specs.declared.halt.Ending.{Ending}
 use Rattle.redo_step.specs.declared.halt.Ending.TheVariants as endings
@@ -9,15 +9,16 @@ use Rattle.redo_step.specs.declared.halt.Halt.TheVariants as stops
 use Rattle.redo_step.specs.declared.wait.Waiting.{Waiting}
 use Rattle.redo_step.specs.declared.machine.RunEnd.{RunEnd}
 use Rattle.redo_step.specs.declared.machine.RunEnd.TheVariants as progress
-use Rattle.redo_step.specs.Setting.{Setting}
+use Rattle.redo_step.specs.declared.machine.Turns.{Turns}
+use Rattle.redo_step.specs.Setting.{Setting, with_value}
 use Rattle.redo_step.specs.Runs.{State, End, exited, faulted, stopped, Run, goes, ends}
 use Rattle.redo_record.specs.Answers.{Ask}
 use Rattle.redo_step.specs.declared.place.Branch.{Branch}
 use Rattle.redo_step.specs.declared.place.Branch.TheVariants.{First, Second}
-use Rattle.redo_step.specs.declared.place.Place.{Before, Within'}
+use Rattle.redo_step.specs.declared.place.Place.{Before, Within', InTurn'}
 use Rattle.redo_script.specs.declared.ast.Stmt.{Stmt}
 use Rattle.redo_script.specs.View.{before, script_of}
-use Rattle.redo_step.specs.Place.{Rest, all_of, skip, inside, stands_at, left_at}
+use Rattle.redo_step.specs.Place.{Rest, all_of, and_then, turns_of, skip, inside, in_turn, stands_at, left_at}
 use Rattle.redo_step.specs.Reach.{Reaches}
 use Rattle.redo_step.specs.inside.Kept.{HasOperands, IsKept}
 
@@ -87,7 +88,7 @@ Comes setting ask whole part rest old (progress.Ended e) new = part ask old ≡ 
 Comes setting ask whole part rest old (progress.Stopped ps place kept) new =
     Reaches setting ask part old (left_at place setting whole) new ×
     (left_at place setting whole ask new ≡ ends (stopped ps.items) new) ×
-    IsKept setting (stands_at place whole) new kept
+    IsKept (stands_at place setting whole) new kept
 
 -- why the statement with this number stopped, as progress
 abbrev pub IsStopBefore : Halt → ℕ → RunEnd → Type 0
@@ -103,10 +104,35 @@ IsWithin (progress.Ended e) index branch outer = outer ≡ progress.Ended e
 IsWithin (progress.Stopped ps place kept) index branch outer =
     (p : _) × (outer ≡ progress.Stopped ps (Within' index branch p place) kept)
 
+-- The same progress, but for a place, which is that in a turn.
+abbrev pub IsInTurn : RunEnd → ℕ → List (List ℕ) → ℕ → RunEnd → Type 0
+IsInTurn progress.Finished index values turn outer = outer ≡ progress.Finished
+IsInTurn (progress.Ended e) index values turn outer = outer ≡ progress.Ended e
+IsInTurn (progress.Stopped ps place kept) index values turn outer =
+    (p : _) × (outer ≡ progress.Stopped ps (InTurn' index values turn p place) kept)
+
 -- Running a statement, wherever it stands at this number.
 pub record IsPassed (setting : Setting) (ask : Ask) (stmt : Stmt) (index : ℕ) (old : State) (progress : RunEnd) (new : State) : Type 0 where
   pub comes : (whole rest : Script) → skip index whole ≡ before stmt rest →
       Comes setting ask whole (all_of setting (before stmt rest)) (all_of setting rest) old progress new
+
+-- the turns of a loop from this one on
+abbrev pub turns_from : Setting → Turns → ℕ → Rest
+turns_from setting turns first =
+    turns_of setting turns.name.now (script_of turns.body.now) (drop first turns.values.now)
+
+-- Running the turns of a loop from this one on, wherever the loop stands at its number.
+pub record AreRun (setting : Setting) (ask : Ask) (turns : Turns) (first : ℕ) (old : State) (progress : RunEnd) (new : State) : Type 0 where
+  pub comes : (whole rest : Script) (line : ℕ) (words : List Word) →
+      skip turns.index whole ≡ loop line turns.name.now words (script_of turns.body.now) rest →
+      Comes setting ask whole (and_then (turns_from setting turns first) (all_of setting rest)) (all_of setting rest) old
+      progress new
+
+-- the setting of a turn: the loop's name has the value of this number
+pub record IsTurn (setting : Setting) (turns : Turns) (turn : ℕ) (inner : Setting) : Type 0 where
+  pub value : List ℕ
+  pub here : drop turn turns.values.now ≡ value ∷ drop (turn + 1) turns.values.now
+  pub binds : inner ≡ with_value setting turns.name.now value
 
 -- the branch, of these two
 abbrev pub picked : Branch → Script → Script → Script
@@ -127,3 +153,17 @@ pub record HasBranch (stmts : List Stmt) (index : ℕ) (branch : Branch) (part :
 pub record HasNoBranch (stmts : List Stmt) (index : ℕ) : Type 0 where
   pub nothing : (branch : Branch) (left : Setting → Script → Rest) (setting : Setting) →
       inside branch left setting (skip index (script_of stmts)) ≡ all_of setting finish
+
+-- the statement with this number is a loop, and these are its turns
+pub record HasTurns (stmts : List Stmt) (index : ℕ) (turns : Turns) : Type 0 where
+  pub line : ℕ
+  pub words : List Word
+  pub same_index : turns.index ≡ index
+  pub within : index < length stmts
+  pub here : skip index (script_of stmts) ≡
+      loop line turns.name.now words (script_of turns.body.now) (skip (index + 1) (script_of stmts))
+
+-- nothing is left inside the statement with this number, in this turn for these values
+pub record HasNoTurn (stmts : List Stmt) (index : ℕ) (values : List (List ℕ)) (turn : ℕ) : Type 0 where
+  pub nothing : (left : Setting → Script → Rest) (setting : Setting) →
+      in_turn (drop turn values) left setting (skip index (script_of stmts)) ≡ all_of setting finish

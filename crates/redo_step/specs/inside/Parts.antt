@@ -5,8 +5,14 @@ use Rattle.redo_script.specs.declared.ast.Part.{Part}
 use Rattle.redo_script.specs.declared.ast.Part.TheVariants as parts
 use Rattle.redo_step.specs.Value.{is_fit}
 
+-- bytes that stand outside quotes, or none where they aren't fit
+abbrev pub fit : List ℕ → Option (List ℕ)
+fit bytes = if is_fit bytes then Some bytes else None
+
 -- what a part adds to a value, or none
-abbrev pub added : (Parameter → List ℕ) → Part → Option (List ℕ)
-added stands_for (parts.Lit bytes) = Some bytes
-added stands_for (parts.Quoted p) = Some (stands_for p)
-added stands_for (parts.Bare p) = if is_fit (stands_for p) then Some (stands_for p) else None
+abbrev pub added : (Parameter → List ℕ) → (List ℕ → List ℕ) → Part → Option (List ℕ)
+added parameters names (parts.Lit bytes) = Some bytes
+added parameters names (parts.Quoted p) = Some (parameters p)
+added parameters names (parts.Bare p) = fit (parameters p)
+added parameters names (parts.NamedQuoted n) = Some (names n)
+added parameters names (parts.NamedBare n) = fit (names n)

@@ -66,6 +66,62 @@ const ROWS: &[Row] = &[
     (b"echo $12\n", b"file t2\n"),
 ];
 
+/// Loops.
+const LOOPS: &[Row] = &[
+    // A turn for each word, from left to right.
+    (b"for x in a b; do echo $x; done\n", b"file a\nb\n"),
+    (b"for x in b a b\ndo\nprintf $x\ndone\n", b"file bab"),
+    (b"for x in a b; do echo $x >> $3; done\n", b"file a\nb\n"),
+    // No words, no turn.
+    (b"for x in; do false; done\necho e\n", b"file e\n"),
+    (b"for x in; do exit 3; done\n", b"none"),
+    // A turn that ends the script ends the loop.
+    (b"for x in a b; do echo $x; false; done\n", b"exit 1"),
+    (
+        b"for x in a b; do echo $x; exit 0; done\necho c\n",
+        b"file a\n",
+    ),
+    (
+        b"for x in a b; do if test $x = b; then exit 5; fi; done\n",
+        b"exit 5",
+    ),
+    (
+        b"for x in a b; do if test $x = a; then echo $x; fi; done\n",
+        b"file a\n",
+    ),
+    // The words have the arguments, and those of an inner loop the outer name.
+    (
+        b"for x in $1 \"$1$3\" ''; do echo \"$x\"; done\n",
+        b"file t\ntt.redo.tmp\n\n",
+    ),
+    (
+        b"for x in a b; do for y in $x c; do printf $x$y; done; done\n",
+        b"file aaacbbbc",
+    ),
+    // A later loop may bind the name again.
+    (
+        b"for x in a; do echo $x; done\nfor x in b; do echo \"$x\"; done\n",
+        b"file a\nb\n",
+    ),
+    // A value is judged where it stands outside quotes, and not where it is bound.
+    (
+        b"for x in 'a b'; do echo \"$x\"; done\n",
+        b"file a b\n",
+    ),
+    (b"for x in 'a b'\ndo true\necho $x\ndone\n", b"unquoted 3"),
+    (b"for x in a ''\ndo\necho $x\ndone\n", b"unquoted 3"),
+    // A path that a value names.
+    (
+        b"for x in src ./src; do redo-ifchange $x; cat $x; done\n",
+        b"file x\nx\n",
+    ),
+    (
+        b"for x in src ../x; do\nredo-ifchange $x; done\n",
+        b"outside 2",
+    ),
+    (b"for x in t.redo.tmp t; do\necho > $x\ndone\n", b"direct 2"),
+];
+
 /// Formats of printf.
 const FORMATS: &[Row] = &[
     (b"printf '%s-%s\\n' a b c\n", b"file a-b\nc-\n"),
@@ -149,6 +205,7 @@ fn scripts_by_themselves(rt: HostRuntime) -> Result<(), Fail> {
     let limits = limits_of(1000)?;
     let known = Known::nothing(alloc);
     check_rows(&rt, alloc, FILES, &known, limits, ROWS)?;
+    check_rows(&rt, alloc, FILES, &known, limits, LOOPS)?;
     check_rows(&rt, alloc, FILES, &known, limits, FORMATS)?;
     check_rows(&rt, alloc, FILES, &known, limits, PATHS)?;
     check_rows(&rt, alloc, FILES, &known, limits, REDIRECTIONS)
@@ -172,6 +229,7 @@ const LIMITED: &[Row] = &[
         b"exit 1",
     ),
     (b"printf abcd%\n", b"format 1"),
+    (b"for x in a b c d\ndo\nprintf $x\ndone\n", b"toolarge 3"),
     // Each of both has its own.
     (b"printf abc > $3\nprintf '' >> $3\n", b"file abc"),
 ];
@@ -202,6 +260,7 @@ const ANSWERED: &[Row] = &[
     (b"redo-ifchange bare\necho a\ncat built\n", b"undeclared 3"),
     (b"echo a\nredo-ifchange built bad\n", b"depends 2"),
     (b"redo-ifchange ring\n", b"depends 1"),
+    (b"for x in built bad bare\ndo\nredo-ifchange $x\ndone\n", b"depends 3"),
     (b"redo-ifchange built src bare\necho ok\n", b"file ok\n"),
     // A path declared for its coming alone has no file, whatever is known of it.
     (b"redo-ifcreate built\ncat built\n", b"exit 1"),
@@ -243,6 +302,19 @@ const ARGUMENTS: &[(&[u8], &[u8], &[u8], &[u8])] = &[
         b"a b.do",
         b"if test $1 = a; then true; fi\n",
         b"unquoted 1",
+    ),
+    // The words of a loop are evaluated before its first turn, at the line of the `for`.
+    (
+        b"a b",
+        b"a b.do",
+        b"true\nfor x in a $1\ndo\nexit 1\ndone\n",
+        b"unquoted 2",
+    ),
+    (
+        b"a b",
+        b"a b.do",
+        b"for x in \"$1\"; do echo \"$x\"; done\n",
+        b"file a b\n",
     ),
     (b"\xc3\xa4", b"\xc3\xa4.do", b"echo $1\n", b"unquoted 1"),
     (

@@ -1,6 +1,6 @@
 //! Scripts that stop and go on.
 
-ghost use Rattle.std.specs.Prelude.{◌≡◌, ◌+◌, ◌<◌, ◌≤◌, ℕ, List, Some, IfOk, OnOk, nat_eq};
+ghost use Rattle.std.specs.Prelude.{◌≡◌, ◌+◌, ◌<◌, ◌≤◌, ℕ, List, Some, IfOk, OnOk, length, nat_eq};
 ghost use Rattle.std.specs.Cmp.Lexicographic.{pointwise};
 ghost use Rattle.indexmap.specs.IndexMap.{get};
 ghost use Rattle.redo_record.specs.declared.outcome.Outcome.{Outcome as OutcomeTree};
@@ -11,6 +11,7 @@ use super::{File, Known, begin, check_outcome, ended, limits_of, path};
 use crate::{Job, Step};
 use redo_path::Path;
 use redo_record::{Outcome, Why};
+use redo_tree::Content;
 use std::alloc::Global;
 use std::process::Abort;
 use std::test::Fail;
@@ -164,6 +165,7 @@ const ASKS: &[(&[u8], &[&[u8]])] = &[
         b"if true; then if true; then redo-ifchange deep; fi; fi\n",
         &[b"deep"],
     ),
+    (b"for x in a b; do redo-ifchange $x c; done\n", &[b"a", b"c"]),
 ];
 
 /// Runs a script that asks for these paths first.
@@ -235,15 +237,123 @@ fn long_file(alloc: Global, bytes: usize) -> Result<Vec<u8>, Fail> {
     Ok(words)
 }
 
+/// A loop over so many pairs of paths, that asks for each and writes a byte.
+fn long_loop(alloc: Global, rounds: u64) -> Result<Vec<u8>, Fail> {
+    let mut script = Vec::from_slice(alloc, b"for x in")?;
+    for number in 0..rounds {
+        let words = format!(in alloc; " a{number} b{number}")?;
+        script.extend_from_slice(words.as_bytes())?;
+    }
+    script.extend_from_slice(b"\ndo redo-ifchange $x; printf x; done\n")?;
+    Ok(script)
+}
+
+/// Runs a script that stops 2,000 times, and then has a file of so many bytes.
+fn check_stops(
+    rt: &(impl Abort + Eprint),
+    alloc: Global,
+    script: &[u8],
+    bytes: usize,
+) -> Result<(), Fail> {
+    let mut known = Known::nothing(alloc);
+    let job = begun(alloc, script)?;
+    let job = answer_each(rt, alloc, job, &mut known, 2000)?;
+    assert_eq!(rt; job.declared().len(), 2000);
+    let want = long_file(alloc, bytes)?;
+    finishes(rt, alloc, job, &known, &want)
+}
+
 /// Goes on from where it stopped, 2,000 times, in branches too.
 #[test]
 fn stops_often(rt: HostRuntime) -> Result<(), Fail> {
     let alloc = rt.alloc();
     let script = long_script(alloc, 1000)?;
+    check_stops(&rt, alloc, &script, 1000)
+}
+
+/// Goes on in the turn in which it stopped, in each of 2,000 turns.
+#[test]
+fn stops_in_each_turn(rt: HostRuntime) -> Result<(), Fail> {
+    let alloc = rt.alloc();
+    let script = long_loop(alloc, 1000)?;
+    check_stops(&rt, alloc, &script, 2000)
+}
+
+/// Answers these paths, which a script asks for one after the other, each as built without a file.
+fn answer_in_order(
+    rt: &(impl Abort + Eprint),
+    alloc: Global,
+    mut job: Job,
+    known: &mut Known,
+    paths: &[&[u8]],
+) -> Result<Job, Fail>
+    requires fits { IsFit job (get (pointwise nat_eq) known.old.outcomes) }
+    requires start { job.turn ≡ 0 }
+    requires few { length paths.now < 100 }
+    ensures fits { IfOk result (λ later. IsFit later (get (pointwise nat_eq) known.new.outcomes)) }
+    ensures turn { IfOk result (λ later. later.turn ≤ length paths.now) }
+{
+    for path in paths {
+        job = stopped(rt, job, known, &[path])?;
+        learn(alloc, known, path, Outcome::Built(None))?;
+    }
+    Ok(job)
+}
+
+/// Scripts that stop in loops, the paths that they ask for, one after the other, and what they make.
+const IN_LOOPS: &[(&[u8], &[&[u8]], &[u8])] = &[
+    (
+        b"for x in a b; do redo-ifchange $x; printf $x; done\n",
+        &[b"a", b"b"],
+        b"file ab",
+    ),
+    (
+        b"for x in a b\ndo\nif test $x = b; then redo-ifchange $x; fi\nprintf $x\ndone\nprintf c\n",
+        &[b"b"],
+        b"file abc",
+    ),
+    (
+        b"if true; then for x in a b; do redo-ifchange $x; printf $x; done; printf c; fi\n",
+        &[b"a", b"b"],
+        b"file abc",
+    ),
+    (
+        b"for x in a b; do for y in $x c; do redo-ifchange $x$y; printf $x$y,; done; printf $x; done\n",
+        &[b"aa", b"ac", b"bb", b"bc"],
+        b"file aa,ac,abb,bc,b",
+    ),
+    (
+        b"for x in a b c; do redo-ifchange $x; if test $x = b; then exit 0; fi; done\n",
+        &[b"a", b"b"],
+        b"none",
+    ),
+];
+
+/// Goes on in the turn in which it stopped, in a loop in a loop too.
+#[test]
+fn stops_in_loops(rt: HostRuntime) -> Result<(), Fail> {
+    let alloc = rt.alloc();
+    for (script, paths, want) in IN_LOOPS {
+        let mut known = Known::nothing(alloc);
+        let job = begun(alloc, script)?;
+        let job = answer_in_order(&rt, alloc, job, &mut known, paths)?;
+        finishes(&rt, alloc, job, &known, want)?;
+    }
+    Ok(())
+}
+
+/// A loop that asks for each of two paths and reads it, ends at its turn 2.
+#[test]
+fn reads_in_each_turn(rt: HostRuntime) -> Result<(), Fail> {
+    let alloc = rt.alloc();
     let mut known = Known::nothing(alloc);
-    let job = begun(alloc, &script)?;
-    let job = answer_each(&rt, alloc, job, &mut known, 2000)?;
-    assert_eq!(rt; job.declared().len(), 2000);
-    let want = long_file(alloc, 1000)?;
-    finishes(&rt, alloc, job, &known, &want)
+    let job = begun(alloc, b"for x in p q; do redo-ifchange $x; cat $x; done\n")?;
+    let job = stopped(&rt, job, &known, &[b"p"])?;
+    let first = Content::new(Vec::from_slice(alloc, b"p\n")?)?;
+    learn(alloc, &mut known, b"p", Outcome::Built(Some(first)))?;
+    let job = stopped(&rt, job, &known, &[b"q"])?;
+    let second = Content::new(Vec::from_slice(alloc, b"q\n")?)?;
+    learn(alloc, &mut known, b"q", Outcome::Built(Some(second)))?;
+    check_shown(&rt, &job, 2, 2);
+    finishes(&rt, alloc, job, &known, b"file p\nq\n")
 }

@@ -6,5 +6,5 @@ use Rattle.redo_core.proofs.finish.add_sources.Given as goal
 abbrev pub invariant-loop-path : goal.invariant-loop-path
 invariant-loop-path l = record {
   paths : listed_paths l.listed.items ++ sources_among l.tree (drop l.path-index l.request) ≡ listed_paths l.fn.listed.items ++ sources_among l.tree l.request;
-  numbers : All (λ e. IsNumberOf l.targets.keys e.0.now e.1) l.listed.items;
+  numbers : All (λ e. IsNumberOf l.targets e.0.now e.1) l.listed.items;
 }

@@ -24,10 +24,10 @@ returns-clause-paths c =
     let sorted = c.sort_unstable_by_key.ensures.sorted (λ e. e.0) (answers_always _ _ _ (λ f a r g h. search rules)) in
     ap listed_paths (kept (goal.at-returns-clause-paths c).After-dedup_by)
     ∙ listed-once (λ (e : Bor (List ℕ) × Option ℕ). e.0.now) is_double (λ x y. texts_ties x.0.now y.0.now) c.add_sources.new.listed.items c.sort_unstable_by_key.new.self.items c.sort_unstable_by_key.ensures.permutation sorted
-    ∙ ap (placed []) (c.in_ok-add_sources.ensures.paths ∙ ap (λ ps. ps ++ sources_among c.args.tree.now c.args.request.now) (c.in_ok-listed.ensures.paths ∙ c.as_slice.ensures.keys))
-    ∙ fold-append (insert_key (slice_cmp nat_cmp)) [] c.args.targets.now.keys (sources_among c.args.tree.now c.args.request.now)
+    ∙ ap (placed []) (c.in_ok-add_sources.ensures.paths ∙ ap (λ ps. ps ++ sources_among c.args.tree.now c.args.request.now) (c.in_ok-listed.ensures.paths ∙ c.as_slice.ensures))
+    ∙ fold-append (insert_key (slice_cmp nat_cmp)) [] c.args.targets.now (sources_among c.args.tree.now c.args.request.now)
 
 pub returns-clause-numbers : goal.returns-clause-numbers
 returns-clause-numbers c =
-    let P : Bor (List ℕ) × Option ℕ → Type 0 = λ e. IsNumberOf c.args.targets.now.keys e.0.now e.1 in
+    let P : Bor (List ℕ) × Option ℕ → Type 0 = λ e. IsNumberOf c.args.targets.now e.0.now e.1 in
     rw (kept (goal.at-returns-clause-numbers c).After-dedup_by) (All-dedup is_double P c.sort_unstable_by_key.new.self.items (All-permutation P c.add_sources.new.listed.items c.sort_unstable_by_key.new.self.items c.sort_unstable_by_key.ensures.permutation c.in_ok-add_sources.ensures.numbers))

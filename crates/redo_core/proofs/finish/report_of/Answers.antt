@@ -11,7 +11,7 @@ use Rattle.redo_core.proofs.finish.report_of.Goals as goal
 
 pub row_of-requires-clause-number : goal.row_of-requires-clause-number
 row_of-requires-clause-number c =
-    let P : Bor (List ℕ) × Option ℕ → Type 0 = λ e. IsNumberOf c.args.table.now.targets.keys e.0.now e.1 in
+    let P : Bor (List ℕ) × Option ℕ → Type 0 = λ e. IsNumberOf c.args.table.now.targets e.0.now e.1 in
     let Q : List (Bor (List ℕ) × Option ℕ) → Type 0 = λ es. (k : ℕ) (d : Bor (List ℕ) × Option ℕ) → k < length es → P (slice_index_or es k d) in
     let numbers : Q c.deref-path-items.result.now = subst Q (sym c.deref-path-items.ensures.value) c.in_ok-listed.ensures.numbers in
     subst P (sym c.loop-path-item.is) (numbers c.loop-path.path-index c.loop-path-item.result (omega (arith, c.loop-path-test.true, c.loop-path.auto.path-index-end)))

@@ -4,12 +4,12 @@ use Rattle.redo_core.proofs.ReportedLemmas.{begun-told}
 use Rattle.redo_core.proofs.finish.row_of.Goals as goal
 use Rattle.redo_core.proofs.finish.row_of.Goals.{After-index}
 
-path_there : (c : After-index) → slice_get c.args.table.now.targets.keys c.in-Some.at ≡ Some c.args.path.now
+path_there : (c : After-index) → slice_get c.args.table.now.targets c.in-Some.at ≡ Some c.args.path.now
 path_there c = rw c.in-Some.is at c.requires.number
 
 slot_there : (c : After-index) → slice_get c.args.table.now.slots.items c.in-Some.at ≡ Some c.index.result.now
 slot_there c = slice_get-item c.args.table.now.slots.items c.in-Some.at c.index.result.now
-    (omega (arith, c.requires.one_each, slice_get-below_some c.args.table.now.targets.keys c.in-Some.at c.args.path.now (path_there c))) c.index.ensures
+    (omega (arith, c.requires.one_each, slice_get-below_some c.args.table.now.targets c.in-Some.at c.args.path.now (path_there c))) c.index.ensures
 
 pub came_to-requires : goal.came_to-requires
 came_to-requires c = c.requires.settled c.in-Some.at c.index.result.now (slot_there c)

@@ -1,4 +1,5 @@
-use Rattle.std.proofs.Common.{List, ℕ, [], refl, sym, subst, arith}
+use Rattle.std.proofs.Common.{List, ℕ, [], refl, sym, subst, arith, Result, Ok, Err}
+use Rattle.std.specs.Prelude.{IfOk, OnOk}
 use Rattle.redo_core.specs.Build.{rules_for}
 use Rattle.redo_build.specs.Schedule.{Entry}
 use Rattle.redo_build.specs.inside.Standing.{AreStanding}
@@ -8,9 +9,13 @@ use Rattle.redo_core.specs.declared.work.End.TheVariants.{Ended}
 use Rattle.redo_core.proofs.SlotLemmas.{slice_get-below_some}
 use Rattle.redo_core.proofs.TakeInLemmas.{out-there, decided-put, after-sound}
 use Rattle.redo_core.proofs.EnqueueLemmas.{looked-put}
-use Rattle.indexmap.proofs.SearchLemmas.{on_ok_of}
 use Rattle.redo_core.proofs.moves.conclude.Goals as goal
 use Rattle.redo_core.proofs.moves.conclude.Goals.{After-decide-watchers}
+
+-- what follows from two facts of a call that came to something
+on_ok_of : {X E : Type 0} (r : Result X E) (P Q : X → Type 0) (R : Type 0) → ((x : X) → P x → Q x → R) → IfOk r P → IfOk r Q → OnOk r R
+on_ok_of (Ok x) P Q R f p q = f x p q
+on_ok_of (Err e) P Q R f p q = tt
 
 decided : (c : After-decide-watchers) → IsPutBackThere c.args.build.now c.args.table.now c.decide-watchers.new.table c.args.at c.args.newly_ready.now.items c.decide-watchers.result.items
 decided c =

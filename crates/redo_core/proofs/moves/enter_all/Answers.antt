@@ -27,17 +27,17 @@ loop-dep-preserved c =
     let more = operands-more (rules_for given) c.args.deps.now i c.dep-item.result get in
     let so_far = operands (rules_for given) (take i c.args.deps.now) in
     let P : List (List ℕ) → Type 0 = λ ps. AreEnteredInto given c.args.table.now c.if-is_operand.table c.if-is_operand.newly_ready.items ps ×
-    AreNumbers c.if-is_operand.table.targets.keys c.if-is_operand.numbers.items ps in
+    AreNumbers c.if-is_operand.table.targets c.if-is_operand.numbers.items ps in
     elim c.if-is_operand.branch [
       | then-is_operand+in_ok-at+in_ok-push w ↦
           let one = one-operand (rules_for given) c.dep-item.result (w.if-is_operand.ensures.0 refl) in
-          let kept = numbers-kept c.loop-dep.table.targets.keys w.enter.new.table.targets.keys w.in_ok-at.ensures.ok.keys_kept c.loop-dep.numbers.items so_far c.loop-dep.invariant.1 in
-          let N : List ℕ → Type 0 = λ ns. AreNumbers w.enter.new.table.targets.keys ns (so_far ++ c.dep-item.result.path ∷ []) in
+          let kept = numbers-kept c.loop-dep.table.targets w.enter.new.table.targets w.in_ok-at.ensures.ok.keys_kept c.loop-dep.numbers.items so_far c.loop-dep.invariant.1 in
+          let N : List ℕ → Type 0 = λ ns. AreNumbers w.enter.new.table.targets ns (so_far ++ c.dep-item.result.path ∷ []) in
           subst P (sym (more ∙ ap (λ xs. so_far ++ xs) one))
           (rw (w.table-is, w.newly_ready-is, w.numbers-is) (
             enter-more given c.args.table.now c.loop-dep.table w.enter.new.table c.loop-dep.newly_ready.items w.enter.new.newly_ready.items
                 so_far (c.dep-item.result.path ∷ []) c.loop-dep.invariant.0 w.in_ok-at.ensures.ok,
-            subst N (sym w.in_ok-push.ensures.items) (numbers-push w.enter.new.table.targets.keys c.loop-dep.numbers.items so_far w.in_ok-at.at c.dep-item.result.path kept w.in_ok-at.ensures.number),
+            subst N (sym w.in_ok-push.ensures.items) (numbers-push w.enter.new.table.targets c.loop-dep.numbers.items so_far w.in_ok-at.at c.dep-item.result.path kept w.in_ok-at.ensures.number),
           ))
       | else-is_operand w ↦
           let un : IsOperand (rules_for given) c.dep-item.result c.dep-item.result.path → ⊥ = λ is.

@@ -40,13 +40,13 @@ enters c =
     let ok : E c.asked.result.now = c.in_ok-operands.ensures.ok in
     subst E whole ok
 
-numbers : (c : In_ok-operands) → AreNumbers c.enter_all.new.table.targets.keys c.in_ok-operands.operands.items
+numbers : (c : In_ok-operands) → AreNumbers c.enter_all.new.table.targets c.in_ok-operands.operands.items
     (operands (rules_for c.args.build.now) (drop c.args.begun.value.facts.gained c.args.begun.value.job.state.entries))
 numbers c =
     let given : GivenView = c.args.build.now in
     let whole : c.asked.result.now ≡ drop c.args.begun.value.facts.gained c.args.begun.value.job.state.entries =
     c.asked.ensures ∙ ap (λ (b : Begun). drop b.facts.gained b.job.state.entries) c.deref.ensures in
-    let E : List Dep → Type 0 = λ ds. AreNumbers c.enter_all.new.table.targets.keys c.in_ok-operands.operands.items (operands (rules_for given) ds) in
+    let E : List Dep → Type 0 = λ ds. AreNumbers c.enter_all.new.table.targets c.in_ok-operands.operands.items (operands (rules_for given) ds) in
     let ok : E c.asked.result.now = c.in_ok-operands.ensures.numbers in
     subst E whole ok
 

@@ -10,18 +10,18 @@ use Rattle.redo_core.proofs.table.out_at.Goals as goal
 use Rattle.redo_core.proofs.table.out_at.Goals.{else-is_out-via-then-is_out+else-slot-turn, else-is_out-via-else-is_out}
 
 pub returns-in_default : goal.returns-in_default
-returns-in_default c = λ at o. c.in_default.ensures (slice_get-among c.args.table.now.targets.keys at c.args.target.now o.path)
+returns-in_default c = λ at o. c.in_default.ensures (slice_get-among c.args.table.now.targets at c.args.target.now o.path)
 
 pub index-slot-requires : goal.index-slot-requires
 index-slot-requires c =
     let below : c.in-Some.at < length c.args.table.now.slots.items =
-    omega (arith, c.requires.one_each, slice_get-below_some c.args.table.now.targets.keys c.in-Some.at c.args.target.now c.in-Some.ensures) in
+    omega (arith, c.requires.one_each, slice_get-below_some c.args.table.now.targets c.in-Some.at c.args.target.now c.in-Some.ensures) in
     search rules
 
 pub returns-then-slot-turn : goal.returns-then-slot-turn
 returns-then-slot-turn c =
     let below : c.in-Some.at < length c.args.table.now.slots.items =
-    omega (arith, c.requires.one_each, slice_get-below_some c.args.table.now.targets.keys c.in-Some.at c.args.target.now c.in-Some.ensures) in
+    omega (arith, c.requires.one_each, slice_get-below_some c.args.table.now.targets c.in-Some.at c.args.target.now c.in-Some.ensures) in
     record {
       slot = c.index-slot.result.now;
       path = c.in-Some.ensures;
@@ -33,9 +33,9 @@ returns-then-slot-turn c =
 pub returns : goal.returns
 returns c = λ at o.
     let below : c.in-Some.at < length c.args.table.now.slots.items =
-    omega (arith, c.requires.one_each, slice_get-below_some c.args.table.now.targets.keys c.in-Some.at c.args.target.now c.in-Some.ensures) in
+    omega (arith, c.requires.one_each, slice_get-below_some c.args.table.now.targets c.in-Some.at c.args.target.now c.in-Some.ensures) in
     let there = slice_get-item c.args.table.now.slots.items c.in-Some.at c.index-slot.result.now below c.index-slot.ensures in
-    let same : at ≡ c.in-Some.at = distinct-place c.args.table.now.targets.keys at c.in-Some.at c.args.target.now c.requires.distinct o.path c.in-Some.ensures in
+    let same : at ≡ c.in-Some.at = distinct-place c.args.table.now.targets at c.in-Some.at c.args.target.now c.requires.distinct o.path c.in-Some.ensures in
     let P : ℕ → Type 0 = λ k. slice_get c.args.table.now.slots.items k ≡ Some o.slot in
     let both : Some o.slot ≡ Some c.index-slot.result.now = sym (subst P same o.there) ∙ there in
     let slot : o.slot ≡ c.index-slot.result.now = cc in

@@ -7,4 +7,4 @@ use Rattle.redo_record.proofs.deps.copied.Goals as goal
 pub returns : goal.returns
 returns c =
     let entries = c.args.entries.now in
-    sym (ap (with_all c.loop-entry.set.keys) (drop_all c.loop-entry.entry-index entries c.loop-entry-test.false)) ∙ c.loop-entry.invariant.1 ∙ put-in entries c.requires
+    sym (ap (with_all c.loop-entry.many) (drop_all c.loop-entry.entry-index entries c.loop-entry-test.false)) ∙ c.loop-entry.invariant ∙ put-in entries c.requires

@@ -1,5 +1,5 @@
 use Rattle.redo_run.proofs.workers.build_many.Given as goal
 
 -- the build that the workers are at is that of the board
-abbrev pub ghosts-run_workers : goal.ghosts-run_workers
-ghosts-run_workers g a = record { given = a.board.given; request = a.board.request }
+abbrev pub ghosts-run_build : goal.ghosts-run_build
+ghosts-run_build g a = record { given = a.board.given }

@@ -1,5 +1,6 @@
-use Rattle.std.proofs.Common.{rules, arith, sym}
+use Rattle.std.proofs.Common.{rules, arith, sym, refl}
 use Rattle.redo_step.proofs.ComesLemmas.{passes_goes, passes_stop, passes_check, passes_first, passes_second}
+use Rattle.redo_step.proofs.ComesLemmas.{passes_turns, passes_words, turn_finished, turn_stopped}
 use Rattle.redo_step.proofs.ComesLemmas.{item_comes, all_passed, comes_default, if_ok_map}
 use Rattle.redo_step.proofs.WeightLemmas.{weight_first, weight_item}
 use Rattle.redo_step.proofs.machine.+running.Goals as goal
@@ -45,3 +46,22 @@ run_stmt-returns-in_ok-progress-in-Ok-false g t c =
 pub run_stmt-returns-in-Err-condition : goal.run_stmt-returns-in-Err-condition
 run_stmt-returns-in-Err-condition g t c =
     if_ok_map c.stop_before-in-Err-condition.result (λ p is. passes_check _ _ c.args.stmt.now c.in-If.line c.in-If.condition c.in-If.first c.in-If.second c.args.index _ c.in-Err-condition.stop p c.in-If.is c.in-Err-condition.ensures is) c.stop_before-in-Err-condition.ensures
+
+pub run_stmt-returns-in-Ok-values : goal.run_stmt-returns-in-Ok-values
+run_stmt-returns-in-Ok-values g t c =
+    let values = rw c.deref-in-Loop.ensures.value at c.in-Ok-values.ensures in
+    if_ok_map c.run_turns.result (λ p ran. passes_turns _ _ c.args.stmt.now c.in-Loop.line c.in-Loop.name c.in-Loop.words c.in-Loop.body _ c.args.index _ _ p c.in-Loop.is values refl c.deref-in-Ok-values.ensures.value refl ran) c.run_turns.ensures
+
+pub run_stmt-returns-in-Err-values : goal.run_stmt-returns-in-Err-values
+run_stmt-returns-in-Err-values g t c =
+    let stops = rw c.deref-in-Loop.ensures.value at c.in-Err-values.ensures in
+    if_ok_map c.stop_before-in-Err-values.result (λ p is. passes_words _ _ c.args.stmt.now c.in-Loop.line c.in-Loop.name c.in-Loop.words c.in-Loop.body c.args.index _ c.in-Err-values.stop p c.in-Loop.is stops is) c.stop_before-in-Err-values.ensures
+
+pub run_turns-returns-in_default : goal.run_turns-returns-in_default
+run_turns-returns-in_default g t c =
+    if_ok_map c.in_turn.result (λ outer w. turn_stopped _ _ c.args.turns.now c.args.first c.loop-turn.turn _ _ _ _ c.in_ok-progress.progress outer c.in_ok-inner.ensures c.loop-turn.invariant c.in_default.not-Finished c.in_ok-progress.ensures w) c.in_turn.ensures
+
+pub run_turns-loop-turn-preserved : goal.run_turns-loop-turn-preserved
+run_turns-loop-turn-preserved g t c =
+    let ran = rw c.in-Finished.is at c.in_ok-progress.ensures in
+    turn_finished _ _ c.args.turns.now c.args.first c.loop-turn.turn _ _ _ _ c.in_ok-inner.ensures c.loop-turn.invariant ran

@@ -1,9 +1,9 @@
 use Rattle.std.proofs.Common.{◌≡◌, drop}
 use Rattle.redo_script.specs.View.{symbols_of}
-use Rattle.redo_step.specs.Value.{value_of, with_front}
+use Rattle.redo_step.specs.Value.{value_of, value_bound, with_front}
 use Rattle.redo_which.specs.Views.{arguments_view}
 use Rattle.redo_step.specs.Setting.{value_in}
 use Rattle.redo_step.proofs.value.joined_value.Given as goal
 
 abbrev pub invariant-loop-part : goal.invariant-loop-part
-invariant-loop-part l = with_front l.value.items (value_of (value_in (arguments_view l.args)) (symbols_of (drop l.part-index l.parts))) ≡ value_of (value_in (arguments_view l.args)) (symbols_of l.parts)
+invariant-loop-part l = with_front l.value.items (value_of (value_in (arguments_view l.args)) (value_bound l.bound) (symbols_of (drop l.part-index l.parts))) ≡ value_of (value_in (arguments_view l.args)) (value_bound l.bound) (symbols_of l.parts)

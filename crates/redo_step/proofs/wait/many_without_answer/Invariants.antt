@@ -4,4 +4,4 @@ use Rattle.redo_step.proofs.wait.many_without_answer.Given as goal
 
 abbrev pub invariant-loop-path : goal.invariant-loop-path
 invariant-loop-path g l =
-    unanswered (g.A.Answers.ask l.answers) l.found.keys (drop l.path-index l.targets) ≡ unanswered (g.A.Answers.ask l.answers) [] l.targets
+    unanswered (g.A.Answers.ask l.answers) l.found (drop l.path-index l.targets) ≡ unanswered (g.A.Answers.ask l.answers) [] l.targets

@@ -8,7 +8,7 @@ use Rattle.redo_core.proofs.TableLemmas.{slice_get-place}
 use Rattle.redo_core.proofs.board.Board.ready_at.Goals as goal
 use Rattle.redo_core.proofs.board.Board.ready_at.Goals.{After-index-at}
 
-count : (c : After-index-at) → c.args.which < cond (is_some c.self.inside.stopped) 0 (length (map (path_at c.self.inside.table.targets.keys) c.self.inside.table.ready.items))
+count : (c : After-index-at) → c.args.which < cond (is_some c.self.inside.stopped) 0 (length (map (path_at c.self.inside.table.targets) c.self.inside.table.ready.items))
 count c = rw (← c.self.view_is) at c.requires
 
 kept : (c : After-index-at) → IsKept c.self.inside
@@ -17,17 +17,15 @@ kept c = c.self.invariant.kept (running c.self.inside.stopped _ c.args.which (co
 first : (c : After-index-at) → slice_get c.self.inside.table.ready.items c.args.which ≡ Some c.index-at.result.now
 first c = first_item c.self.inside c.args.which c.index-at.result.now (count c) c.index-at.ensures
 
-pub index-requires : goal.index-requires
-index-requires c =
-    let d = (goal.at-index-requires c).After-index-at in
-    let fact : c.index-at.result.now < length c.self.inside.table.targets.keys =
-    omega (arith, (kept d).table.one_each, (kept d).table.queue.ready_below c.index-at.result.now (slice_get-place c.self.inside.table.ready.items c.args.which c.index-at.result.now (first d))) in
-    search rules
+pub at-requires : goal.at-requires
+at-requires c =
+    let d = (goal.at-at-requires c).After-index-at in
+    omega (arith, (kept d).table.one_each, (kept d).table.queue.ready_below c.index-at.result.now (slice_get-place c.self.inside.table.ready.items c.args.which c.index-at.result.now (first d)))
 
 pub returns : goal.returns
 returns c =
     let d = (goal.at-returns c).After-index-at in
     let b = c.self.inside in
-    let P : BoardView → Type 0 = λ v. slice_get v.state.ready c.args.which ≡ Some c.index.result.now in
-    let at : path_at b.table.targets.keys c.index-at.result.now ≡ c.index.result.now = rw c.index.ensures refl in
-    subst P c.self.view_is (slice_get-map (path_at b.table.targets.keys) b.table.ready.items c.args.which c.index-at.result.now (first d) ∙ ap (λ (p : List ℕ). Some p) at)
+    let P : BoardView → Type 0 = λ v. slice_get v.state.ready c.args.which ≡ Some c.at.result.now in
+    let at : path_at b.table.targets c.index-at.result.now ≡ c.at.result.now = rw c.at.ensures refl in
+    subst P c.self.view_is (slice_get-map (path_at b.table.targets) b.table.ready.items c.args.which c.index-at.result.now (first d) ∙ ap (λ (p : List ℕ). Some p) at)

@@ -11,7 +11,7 @@ use Rattle.redo_core.proofs.BoardCountLemmas.{work_out, one_more, left_less}
 use Rattle.redo_core.proofs.board.Board.take.Goals as goal
 use Rattle.redo_core.proofs.board.Board.take.Goals.{After-replace-stage}
 
-count : (c : After-replace-stage) → c.args.which < cond (is_some c.self.inside.stopped) 0 (length (map (path_at c.self.inside.table.targets.keys) c.self.inside.table.ready.items))
+count : (c : After-replace-stage) → c.args.which < cond (is_some c.self.inside.stopped) 0 (length (map (path_at c.self.inside.table.targets) c.self.inside.table.ready.items))
 count c = rw (← c.self.view_is) at c.requires
 
 kept : (c : After-replace-stage) → IsKept c.self.inside
@@ -80,7 +80,7 @@ returns-clause-part c =
 pub index_mut-slot-requires : goal.index_mut-slot-requires
 index_mut-slot-requires c =
     let b = c.self.inside in
-    let count' : c.args.which < cond (is_some b.stopped) 0 (length (map (path_at b.table.targets.keys) b.table.ready.items)) = rw (← c.self.view_is) at c.requires in
+    let count' : c.args.which < cond (is_some b.stopped) 0 (length (map (path_at b.table.targets) b.table.ready.items)) = rw (← c.self.view_is) at c.requires in
     let kept' = c.self.invariant.kept (running b.stopped _ c.args.which count') in
     let fact : c.in-Some.at < length b.table.slots.items = kept'.table.queue.ready_below c.in-Some.at
     (slice_get-place b.table.ready.items c.args.which c.in-Some.at (first_item b c.args.which c.in-Some.at count' c.in-Some.ensures.value)) in

@@ -1,6 +1,6 @@
-use Rattle.std.proofs.Common.{[], refl, inr}
+use Rattle.std.proofs.Common.{[], inr}
 use Rattle.redo_script.proofs.StatementLemmas.{stack_push}
 use Rattle.redo_script.proofs.parser.Parser.script.Goals as goal
 
 pub returns-in-Some : goal.returns-in-Some
-returns-in-Some c = rw (c.in-Some.ensures.items, stack_push [] c.pop.new.self.items c.in-Some.open, c.fault.ensures) (inr refl)
+returns-in-Some c = rw (c.in-Some.ensures.items, stack_push [] c.pop.new.self.items c.in-Some.open) (inr (c.fault_inside.ensures _ _))

@@ -1,0 +1,198 @@
+//! What the lines of a book have made so far.
+
+ghost use Rattle.std.specs.Prelude.{◌≡◌, ◌++◌, ◌∷◌, [], IfOk, IfSome, OnOk};
+ghost use Rattle.redo_book.specs.declared.book.BookEntry.TheVariants.{Always};
+ghost use Rattle.redo_book.specs.Book.{IsBook, record_of};
+ghost use Rattle.redo_book.specs.inside.Reading.{Finds, IsKept, Keeps, Makes, at_first, dep_of as dep_in, made_of};
+ghost use Rattle.redo_book.specs.inside.Reading.{may_follow as stands_behind, new_entry, next};
+ghost use Rattle.redo_book.specs.inside.Reading.{records_of, with_entry, with_line};
+ghost use Rattle.redo_book.specs.declared.lines.Line.TheVariants.{Target};
+
+use crate::lines::{Line, read_line};
+use crate::{Book, BookEntry, BookFault, BookRecord, Digest};
+use redo_path::Path;
+use redo_record::{Dep, DepKind, Deps};
+use std::alloc::{AllocError, Global};
+
+/// The record that more entries may follow.
+#[derive(Drop)]
+pub(crate) struct Last {
+    begun: BookRecord,
+    /// Its entries but `always`: each that comes is looked up here.
+    deps: Deps,
+    /// Whether `always` is one of them.
+    always: bool,
+}
+
+/// The dependency that an entry stands for; `always` is none.
+fn dep_of(entry: &BookEntry) -> Result<Option<Dep>, AllocError>
+    ensures { IfOk result (λ dep. dep ≡ dep_in entry.now) }
+{
+    let (kind, path) = match entry {
+        BookEntry::Change(_, path) => (DepKind::Change, path),
+        BookEntry::Create(path) => (DepKind::Create, path),
+        BookEntry::Always => return Ok(None),
+    };
+    let path = path.clone()?;
+    Ok(Some(Dep { kind, path }))
+}
+
+impl Last {
+    /// A record without entries yet.
+    fn new(alloc: Global, target: Path, state: Option<Digest>) -> Last
+        ensures begun { record_of result.begun ≡ record { target = target; state = state; entries = [] } }
+        ensures kept { IsKept result }
+    {
+        Last {
+            begun: BookRecord {
+                target,
+                state,
+                entries: Vec::new(alloc),
+            },
+            deps: Deps::new(alloc),
+            always: false,
+        }
+    }
+
+    /// Notes that `always` is an entry now, unless it is one.
+    fn note_always(&mut self, number: u64) -> Result<(), BookFault>
+        requires { IsKept self.old }
+        ensures new { Finds number result (new_entry self.old.begun.entries.items Always) }
+        ensures same { self.new.begun ≡ self.old.begun }
+        ensures kept { OnOk result (Keeps self.new (self.old.begun.entries.items ++ Always ∷ [])) }
+    {
+        if self.always {
+            return Err(BookFault::Line(number));
+        }
+        self.always = true;
+        Ok(())
+    }
+
+    /// Notes an entry that is to come, unless one of its kind and path is there.
+    fn note(&mut self, number: u64, entry: &BookEntry) -> Result<(), BookFault>
+        requires { IsKept self.old }
+        ensures new { Finds number result (new_entry self.old.begun.entries.items entry.now) }
+        ensures same { self.new.begun ≡ self.old.begun }
+        ensures kept { OnOk result (Keeps self.new (self.old.begun.entries.items ++ entry.now ∷ [])) }
+    {
+        let Some(dep) = dep_of(entry)? else {
+            return self.note_always(number);
+        };
+        if self.deps.contains(&dep) {
+            return Err(BookFault::Line(number));
+        }
+        self.deps.insert(dep)?;
+        Ok(())
+    }
+
+    /// Adds an entry, unless one of its kind and path is there.
+    fn add(&mut self, number: u64, entry: BookEntry) -> Result<(), BookFault>
+        requires { IsKept self.old }
+        ensures adds { Makes number result (with_entry (record_of self.old.begun) entry) (record_of self.new.begun) }
+        ensures kept { OnOk result (IsKept self.new) }
+    {
+        self.note(number, &entry)?;
+        self.begun.entries.push(entry)?;
+        Ok(())
+    }
+}
+
+/// What the lines so far have made: the records that are whole, and the one that more entries may follow.
+#[derive(Drop)]
+pub(crate) struct Begun {
+    done: Vec<BookRecord>,
+    last: Option<Last>,
+}
+
+impl Begun {
+    /// What no line has made.
+    pub(crate) fn new(alloc: Global) -> Begun
+        ensures made { made_of result ≡ at_first }
+        ensures kept { IfSome result.last IsKept }
+    {
+        Begun {
+            done: Vec::new(alloc),
+            last: None,
+        }
+    }
+
+    /// Puts the record that more entries might have followed with the whole ones.
+    fn close(&mut self) -> Result<(), AllocError>
+        ensures { OnOk result (made_of self.new ≡ record { done = records_of (made_of self.old); last = None }) }
+    {
+        if let Some(last) = self.last.take() {
+            let Last { begun, .. } = last;
+            self.done.push(begun)?;
+        }
+        Ok(())
+    }
+
+    /// Whether the record of a target may come next.
+    fn may_follow(&self, target: &Path) -> bool
+        ensures { result ≡ stands_behind (made_of self.now).last target.now }
+    {
+        match &self.last {
+            Some(last) => last.begun.target < *target,
+            None => true,
+        }
+    }
+
+    /// Begins the record of a target, unless it stands out of order.
+    fn add_target(
+        &mut self,
+        alloc: Global,
+        number: u64,
+        state: Option<Digest>,
+        target: Path,
+    ) -> Result<(), BookFault>
+        requires { IfSome self.old.last IsKept }
+        ensures adds { Makes number result (with_line (made_of self.old) (Target state target)) (made_of self.new) }
+        ensures kept { OnOk result (IfSome self.new.last IsKept) }
+    {
+        if !self.may_follow(&target) {
+            return Err(BookFault::Line(number));
+        }
+        self.close()?;
+        self.last = Some(Last::new(alloc, target, state));
+        Ok(())
+    }
+
+    /// Adds what a line says, unless it may not stand there.
+    fn add(&mut self, alloc: Global, number: u64, line: Line) -> Result<(), BookFault>
+        requires { IfSome self.old.last IsKept }
+        ensures adds { Makes number result (with_line (made_of self.old) line) (made_of self.new) }
+        ensures kept { OnOk result (IfSome self.new.last IsKept) }
+    {
+        match line {
+            Line::Target(state, target) => self.add_target(alloc, number, state, target),
+            Line::Entry(entry) => match &mut self.last {
+                Some(last) => last.add(number, entry),
+                None => Err(BookFault::Line(number)),
+            },
+        }
+    }
+
+    /// Adds a line, unless it says nothing that may stand there.
+    pub(crate) fn add_line(
+        &mut self,
+        alloc: Global,
+        number: u64,
+        line: &[u8],
+    ) -> Result<(), BookFault>
+        requires { IfSome self.old.last IsKept }
+        ensures adds { Makes number result (next (made_of self.old) line.now) (made_of self.new) }
+        ensures kept { OnOk result (IfSome self.new.last IsKept) }
+    {
+        let line = read_line(alloc, number, line)?;
+        self.add(alloc, number, line)
+    }
+
+    /// The book of the records.
+    pub(crate) fn finish(mut self) -> Result<Book, AllocError>
+        requires { IsBook (records_of (made_of self)) }
+        ensures { IfOk result (λ book. book ≡ records_of (made_of self)) }
+    {
+        self.close()?;
+        Ok(Book::of_records(self.done))
+    }
+}

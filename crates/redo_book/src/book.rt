@@ -1,0 +1,111 @@
+//! Books and their records.
+
+ghost use Rattle.std.specs.Prelude.{◌≡◌, ◌++◌, ◌∷◌, [], OnErr, OnOk, length, map, option_copied, option_map};
+ghost use Rattle.std.specs.Cmp.Lexicographic.{slice_cmp};
+ghost use Rattle.std.specs.List.Sorted.{IsBinarySearchResult, IsSearchInRange};
+ghost use Rattle.std.specs.Ordering.{nat_cmp};
+ghost use Rattle.redo_book.specs.Book.{IsBook, record_at, record_of};
+
+use crate::Digest;
+use redo_path::Path;
+use std::alloc::{AllocError, Global};
+use std::cmp::Ordering;
+use std::marker::Model;
+
+/// What a target is to be made again for.
+#[derive(Debug, PartialEq, Eq, Drop)]
+pub enum BookEntry {
+    /// This file was there, or none was, and that has changed.
+    Change(Option<Digest>, Path),
+    /// Something has come to exist.
+    Create(Path),
+    /// In any case.
+    Always,
+}
+
+/// What a target came to in the last run, and what it depended on.
+#[derive(Debug, PartialEq, Eq, Drop)]
+pub struct BookRecord {
+    pub target: Path,
+    /// The digest of its file, or none where it made no file.
+    pub state: Option<Digest>,
+    /// In the order in which they were recorded.
+    pub entries: Vec<BookEntry>,
+}
+
+/// The records of a run, in the order of their targets, each target once. In a contract it is the list of
+/// these records.
+#[derive(Debug, Drop)]
+pub struct Book {
+    records: Vec<BookRecord>,
+}
+
+impl Model for Book {
+    ghost use Rattle.std.specs.Prelude.{List, map};
+    ghost use Rattle.redo_book.specs.Book.{IsBook, Record, record_of};
+
+    ghost Value = { List Record };
+
+    ghost view = { λ b. map record_of b.records.items };
+
+    ghost invariant = { λ b. IsBook (map record_of b.records.items) };
+}
+
+/// The place of a target's record, or where it would stand.
+fn search(records: &[BookRecord], target: &Path) -> Result<usize, usize>
+    ensures within { IsSearchInRange result (length records.now) }
+    ensures place { IsBinarySearchResult (λ r. slice_cmp nat_cmp r.target target.now) records.now result }
+{
+    records.binary_search_by(
+        |at: &BookRecord| -> Ordering
+            ensures { result ≡ slice_cmp nat_cmp at.now.target target.entry.now }
+        { at.target.cmp(target) },
+    )
+}
+
+impl Book {
+    /// A book without records.
+    pub fn new(alloc: Global) -> Book
+        ensures { result ≡ [] }
+    {
+        Book {
+            records: Vec::new(alloc),
+        }
+    }
+
+    /// The book of these records.
+    pub fn of_records(records: Vec<BookRecord>) -> Book
+        requires { IsBook (map record_of records.items) }
+        ensures { result ≡ map record_of records.items }
+    {
+        Book { records }
+    }
+
+    /// Puts a record behind the others, whose targets have to stand before it.
+    pub fn push(&mut self, next: BookRecord) -> Result<(), AllocError>
+        requires { IsBook (self.old ++ record_of next ∷ []) }
+        ensures ok { OnOk result (self.new ≡ self.old ++ record_of next ∷ []) }
+        ensures err { OnErr result (self.new ≡ self.old) }
+    {
+        self.records.push(next)?;
+        Ok(())
+    }
+
+    /// The record of a target, if there is one.
+    pub fn find(&self, target: &Path) -> Option<&BookRecord>
+        ensures { option_map record_of (option_copied result) ≡ record_at self.now target.now }
+    {
+        match search(&self.records, target) {
+            Ok(at) => Some(&self.records[at]),
+            Err(_) => None,
+        }
+    }
+
+    /// The records, in the order of their targets.
+    pub fn records(&self) -> &[BookRecord]
+        ensures records { map record_of result.now ≡ self.now }
+        ensures book { IsBook self.now }
+    {
+        self.records.as_slice()
+    }
+}

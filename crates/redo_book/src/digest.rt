@@ -1,0 +1,84 @@
+//! Digests of contents.
+
+ghost use Rattle.std.specs.Prelude.{◌≡◌, option_copied};
+ghost use Rattle.hex.specs.Hex.{encode_lower};
+ghost use Rattle.sha2.specs.Sha256.{sha256};
+ghost use Rattle.redo_book.specs.Book.{IsDigest, IsState, state_of as state_in};
+ghost use Rattle.redo_book.specs.inside.Reading.{digest_of};
+
+use sha2::{Digest as _, Sha256};
+use std::marker::Model;
+
+/// The digits of a digest.
+pub(crate) const DIGITS: usize = 64;
+
+/// The SHA-256 digest of a file's bytes. In a contract it is its 32 bytes.
+#[derive(Clone, Copy, Debug, PartialEq, Eq)]
+pub struct Digest {
+    bytes: [u8; 32],
+}
+
+impl Model for Digest {
+    ghost use Rattle.std.specs.Prelude.{List, ℕ};
+
+    ghost Value = { List ℕ };
+
+    ghost view = { λ d. d.bytes };
+
+    ghost inverse = { λ bytes. record { bytes = bytes } };
+}
+
+impl Digest {
+    /// The digest of a file's bytes.
+    pub fn of(content: &[u8]) -> Digest
+        ensures sha256 { result ≡ sha256 content.now }
+        ensures digest { IsDigest result }
+    {
+        Digest {
+            bytes: Sha256::digest(content),
+        }
+    }
+
+    /// The digest that 64 digits spell, the letters in lower case.
+    pub(crate) fn from_hex(word: &[u8]) -> Option<Digest>
+        ensures { result ≡ digest_of word.now }
+    {
+        let mut bytes = [0; 32];
+        hex::decode_to_slice(word, &mut bytes).ok()?;
+        let digest = Digest { bytes };
+        if digest.digits().as_slice() == word {
+            Some(digest)
+        } else {
+            None
+        }
+    }
+
+    /// Its 64 digits, the letters in lower case.
+    pub fn digits(&self) -> [u8; DIGITS]
+        ensures { result ≡ encode_lower self.now }
+    {
+        let mut digits = [0; DIGITS];
+        let _fits = hex::encode_to_slice(&self.bytes, &mut digits);
+        digits
+    }
+
+    /// The bytes.
+    pub fn bytes(&self) -> &[u8]
+        ensures bytes { result.now ≡ self.now }
+        ensures digest { IsDigest self.now }
+    {
+        let bytes = self.bytes.as_slice();
+        bytes
+    }
+}
+
+/// The state of a path: the digest of the file that stands there, or none where no file does.
+pub fn state_of(file: Option<&[u8]>) -> Option<Digest>
+    ensures value { result ≡ state_in (option_copied file.entry) }
+    ensures state { IsState result }
+{
+    match file {
+        Some(content) => Some(Digest::of(content)),
+        None => None,
+    }
+}

@@ -1,0 +1,82 @@
+//! Lines of a book, each by itself.
+
+ghost use Rattle.std.specs.Prelude.{◌≡◌, option_map};
+ghost use Rattle.redo_book.specs.inside.Reading.{Finds, line_of, place_of, split_state as split_at_state, stated};
+
+use crate::digest::DIGITS;
+use crate::{BookEntry, BookFault, Digest};
+use redo_path::{Path, PathFault, resolve};
+use std::alloc::Global;
+
+/// A line, but the last: that of a target, or of what it depends on.
+#[derive(Drop)]
+pub(crate) enum Line {
+    Target(Option<Digest>, Path),
+    Entry(BookEntry),
+}
+
+/// The path below the top directory whose text this is.
+fn read_path(alloc: Global, number: u64, word: &[u8]) -> Result<Path, BookFault>
+    ensures { Finds number result (place_of word.now) }
+{
+    match resolve(alloc, &Path::root(), word) {
+        Ok(path) => {
+            if path.text() == word {
+                Ok(path)
+            } else {
+                Err(BookFault::Line(number))
+            }
+        }
+        Err(PathFault::Memory) => Err(BookFault::Memory),
+        Err(_) => Err(BookFault::Line(number)),
+    }
+}
+
+/// The state behind the first word of a line, and the word behind that.
+fn split_state(words: &[u8]) -> Option<(Option<Digest>, &[u8])>
+    ensures { option_map (λ s. (s.0, s.1.now)) result ≡ split_at_state words.now }
+{
+    if let Some(word) = words.strip_prefix(b"none ") {
+        return Some((None, word));
+    }
+    let (digits, rest) = words.split_at_checked(DIGITS)?;
+    let word = rest.strip_prefix(b" ")?;
+    let digest = Digest::from_hex(digits)?;
+    Some((Some(digest), word))
+}
+
+/// The state and the path behind the first word of a line.
+fn read_stated(
+    alloc: Global,
+    number: u64,
+    words: &[u8],
+) -> Result<(Option<Digest>, Path), BookFault>
+    ensures { Finds number result (stated words.now) }
+{
+    match split_state(words) {
+        Some((state, word)) => Ok((state, read_path(alloc, number, word)?)),
+        None => Err(BookFault::Line(number)),
+    }
+}
+
+/// What a line says.
+pub(crate) fn read_line(alloc: Global, number: u64, line: &[u8]) -> Result<Line, BookFault>
+    ensures { Finds number result (line_of line.now) }
+{
+    if let Some(words) = line.strip_prefix(b"target ") {
+        let (state, path) = read_stated(alloc, number, words)?;
+        return Ok(Line::Target(state, path));
+    }
+    if let Some(words) = line.strip_prefix(b"change ") {
+        let (state, path) = read_stated(alloc, number, words)?;
+        return Ok(Line::Entry(BookEntry::Change(state, path)));
+    }
+    if let Some(word) = line.strip_prefix(b"create ") {
+        let path = read_path(alloc, number, word)?;
+        return Ok(Line::Entry(BookEntry::Create(path)));
+    }
+    if line == b"always".as_slice() {
+        return Ok(Line::Entry(BookEntry::Always));
+    }
+    Err(BookFault::Line(number))
+}

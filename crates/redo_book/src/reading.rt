@@ -1,0 +1,58 @@
+//! Reading a book, line by line.
+
+ghost use Rattle.std.specs.Prelude.{◌≡◌, IfErr, IfOk, List, MatchOption, false, position};
+ghost use Rattle.std.specs.List.{list_any};
+ghost use Rattle.redo_book.specs.Book.{IsText, Record, Refuses, RefusesAll, is_newline};
+ghost use Rattle.redo_book.specs.inside.Reading.{IsCut};
+
+use crate::begun::Begun;
+use crate::{Book, BookFault};
+use memchr::memchr;
+use std::alloc::Global;
+
+/// Where the first newline stands.
+fn newline_at(bytes: &[u8]) -> Option<usize>
+    ensures { result ≡ position is_newline bytes.now }
+{
+    memchr(b'\n', bytes)
+}
+
+/// The first line, and what is behind its newline.
+fn split_line(text: &[u8]) -> Option<(&[u8], &[u8])>
+    ensures { MatchOption result (list_any is_newline text.now ≡ false) (λ cut. IsCut text.now cut.0.now cut.1.now) }
+{
+    let end = newline_at(text)?;
+    Some((&text[..end], &text[end + 1..]))
+}
+
+/// Reads a book.
+///
+/// It has a line `target <state> <path>` for each record, the targets rising, each followed by a line for each of the
+/// record's entries, which is `change <state> <path>`, `create <path>` or `always`, and at last the line `end`. A state
+/// is 64 hexadecimal digits in lower case, or `none`. Each line ends with a newline, and nothing follows the last. A
+/// path lies below the top directory and is spelled as its text, and no record has two entries of one kind and one
+/// path. The first line is answered that is not so.
+pub fn read_book(alloc: Global, text: &[u8]) -> Result<Book, BookFault>
+    ensures book { IfOk result (λ book. IsText text.now book) }
+    ensures only { IfOk result (λ book. (other : List Record) → IsText text.now other → other ≡ book) }
+    ensures first { IfErr result (λ fault. Refuses fault text.now) }
+    ensures none { IfErr result (λ fault. RefusesAll fault text.now) }
+{
+    let mut begun = Begun::new(alloc);
+    let mut rest = text;
+    let mut number = 1;
+    'lines: loop {
+        let Some((line, behind)) = split_line(rest) else {
+            return Err(BookFault::Line(number));
+        };
+        if line == b"end".as_slice() {
+            if behind.is_empty() {
+                return Ok(begun.finish()?);
+            }
+            return Err(BookFault::Line(number + 1));
+        }
+        begun.add_line(alloc, number, line)?;
+        rest = behind;
+        number += 1;
+    }
+}

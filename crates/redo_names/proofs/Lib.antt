@@ -1,0 +1,4 @@
+pub mod IndexLemmas
+pub mod OverLemmas
+pub mod PathLemmas
+pub mod MapLemmas

@@ -1,0 +1,17 @@
+use Rattle.std.proofs.Common.{◌≡◌, ◌+◌, ◌∙◌, ap, refl, Some, set}
+use Rattle.redo_names.proofs.IndexLemmas.{entered-again, entered-free, entered-over}
+use Rattle.redo_names.proofs.index.Index.enter.Goals as goal
+
+pub returns-in-Found-clause-entered : goal.returns-in-Found-clause-entered
+returns-in-Found-clause-entered c =
+    entered-again c.args.self.now c.args.paths.now c.args.text.now c.in-Found.number c.requires.index c.in-Found.ensures
+
+pub returns-in_ok-self-in-Free-clause-entered : goal.returns-in_ok-self-in-Free-clause-entered
+returns-in_ok-self-in-Free-clause-entered c =
+    entered-free c.args.self.now _ c.args.paths.now c.args.text.now c.in-Free.at c.requires.index c.requires.room c.in-Free.ensures.1 c.in-Free.ensures.2
+    (ap (λ n. set c.args.self.now.places.items c.in-Free.at (n + 1)) c.in_ok-self-in-Free.ensures.number) refl
+
+pub returns-in_ok-put_over-in-Over-clause-entered : goal.returns-in_ok-put_over-in-Over-clause-entered
+returns-in_ok-put_over-in-Over-clause-entered c =
+    entered-over c.args.self.now c.put_over.new.self c.args.paths.now c.args.text.now c.requires.index c.in-Over.ensures.1 c.in_ok-put_over-in-Over.ensures.places
+    (c.in_ok-put_over-in-Over.ensures.own ∙ ap Some c.in_ok-next_number-in-Over.ensures.number) c.in_ok-put_over-in-Over.ensures.others

@@ -1,0 +1,82 @@
+-- Where the numbers of paths are kept.
+use Rattle.std.specs.Prelude.{◌≡◌, ◌+◌, ◌-◌, ◌<◌, ◌≤◌, ◌⊎◌, ℕ, List, Option, Some, Vec, length, slice_get, slice_index}
+use Rattle.std.specs.Prelude.{bit_and}
+use Rattle.std.specs.declared.alloc.Global.{Global}
+use Rattle.std.specs.BTreeMap.{BTreeMap, get_by}
+use Rattle.std.specs.Cmp.Lexicographic.{slice_cmp}
+use Rattle.std.specs.Hash.FoldHasher as folding
+use Rattle.std.specs.Ordering.{nat_cmp}
+use Rattle.redo_names.specs.declared.index.Index.{Index}
+use Rattle.redo_names.specs.declared.index.Spot.{Spot}
+use Rattle.redo_names.specs.declared.index.Spot.TheVariants.{Found, Free, Over}
+
+-- the hash of a path's text, which decides where a path is looked for first, and nothing that is answered
+unfoldable pub hash_of : List ℕ → ℕ
+hash_of text = folding.finish (folding.write folding.initial text)
+
+-- the first place that is tried for a text in a row of so many places
+abbrev pub start_of : List ℕ → ℕ → ℕ
+start_of text places = bit_and (hash_of text) (places - 8)
+
+-- the number that the ordered map has for a text
+abbrev pub kept_over : BTreeMap (Vec ℕ Global) ℕ → List ℕ → Option ℕ
+kept_over over text = get_by (λ key. slice_cmp nat_cmp text key.items) over
+
+-- the text is that of no path
+abbrev pub IsAbsent : List (List ℕ) → List ℕ → Type 0
+IsAbsent paths text = (n : ℕ) → slice_get paths n ≡ Some text → ⊥
+
+-- the places from the first that is tried for a text up to this one are taken
+abbrev pub AreTakenTo : List ℕ → List ℕ → ℕ → Type 0
+AreTakenTo places text end = (k : ℕ) → start_of text (length places) ≤ k → k < end → 0 < slice_index places k
+
+-- so are all that are tried for it
+abbrev pub AllTaken : List ℕ → List ℕ → Type 0
+AllTaken places text = AreTakenTo places text (start_of text (length places) + 8)
+
+-- none of those places up to this one is that of the text
+abbrev pub AreOthersTo : List ℕ → List (List ℕ) → List ℕ → ℕ → Type 0
+AreOthersTo places paths text end =
+    (k : ℕ) → start_of text (length places) ≤ k → k < end → slice_get paths (slice_index places k - 1) ≡ Some text → ⊥
+
+-- nor is any that is tried for it
+abbrev pub IsNowhere : List ℕ → List (List ℕ) → List ℕ → Type 0
+IsNowhere places paths text = AreOthersTo places paths text (start_of text (length places) + 8)
+
+-- the search for a text comes to this place of the row
+pub record IsTried (places : List ℕ) (text : List ℕ) (at : ℕ) : Type 0 where
+  pub from : start_of text (length places) ≤ at
+  pub near : at < start_of text (length places) + 8
+  pub taken : AreTakenTo places text at
+
+-- the search for a text finds its path in the row
+pub record IsInRow (places : List ℕ) (paths : List (List ℕ)) (text : List ℕ) : Type 0 where
+  pub at : ℕ
+  pub tried : IsTried places text at
+  pub used : 0 < slice_index places at
+  pub here : slice_get paths (slice_index places at - 1) ≡ Some text
+
+-- the search for a text finds its path in the ordered map
+pub record IsOver (index : Index) (paths : List (List ℕ)) (text : List ℕ) : Type 0 where
+  pub number : ℕ
+  pub taken : AllTaken index.places.items text
+  pub kept : kept_over index.overflow text ≡ Some number
+  pub here : slice_get paths number ≡ Some text
+
+-- the search for the text of each of these paths finds a path with it
+abbrev pub IsIndexOf : Index → List (List ℕ) → Type 0
+IsIndexOf index paths =
+    (n : ℕ) (text : List ℕ) → slice_get paths n ≡ Some text →
+    IsInRow index.places.items paths text ⊎ IsOver index paths text
+
+-- where the search for a text ends: at its path's number, or, where there is no such path, where that belongs
+abbrev pub IsSpot : Index → List (List ℕ) → List ℕ → Spot → Type 0
+IsSpot index paths text (Found n) = slice_get paths n ≡ Some text
+IsSpot index paths text (Free at) =
+    IsAbsent paths text × IsTried index.places.items text at × (slice_index index.places.items at ≡ 0)
+IsSpot index paths text Over = IsAbsent paths text × AllTaken index.places.items text
+
+-- what the ordered map has for other texts it still has
+abbrev pub KeepsOthers : BTreeMap (Vec ℕ Global) ℕ → BTreeMap (Vec ℕ Global) ℕ → List ℕ → Type 0
+KeepsOthers old new text =
+    (other : List ℕ) (n : ℕ) → kept_over old other ≡ Some n → (other ≡ text) ⊎ (kept_over new other ≡ Some n)

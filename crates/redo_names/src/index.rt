@@ -1,0 +1,197 @@
+//! Where the numbers of paths are kept, by the hashes of their texts.
+
+ghost use Rattle.std.specs.Prelude.{◌≡◌, ◌+◌, ◌-◌, ◌<◌, ◌≤◌, ◌^◌, ◌++◌, ◌∷◌, ◌↔◌, [], Some, None, IfOk, IfNone, IfSome};
+ghost use Rattle.std.specs.Prelude.{OnErr, OnOk, IsTrue, length, slice_get, slice_index};
+ghost use Rattle.redo_names.specs.inside.Index.{hash_of as hash_of_text, start_of as start_in, kept_over};
+ghost use Rattle.redo_names.specs.inside.Index.{AllTaken, IsAbsent, IsIndexOf, IsNowhere, IsSpot, KeepsOthers};
+
+use redo_path::Path;
+use std::alloc::{AllocError, Global};
+use std::collections::BTreeMap;
+use std::hash::{FoldHasher, Hasher};
+
+/// How many places of the row are tried for a path.
+const TRIES: usize = 8;
+
+/// How many places a row has first. A hash is cut to the bits of one less than a power of two, and the last place that
+/// it can tell has places behind it, too.
+const FIRST: usize = 32 + TRIES - 1;
+
+/// The numbers of some paths. The paths stand elsewhere, and are handed in at each call.
+#[derive(Drop)]
+pub(crate) struct Index {
+    /// One more than the number of a path that was put here; 0 in a free place.
+    pub(crate) places: Vec<u32>,
+    /// The numbers of the paths that found no free place, by their texts.
+    pub(crate) overflow: BTreeMap<Vec<u8>, u32>,
+}
+
+/// Where the search for a path ends.
+#[derive(Clone, Copy)]
+pub(crate) enum Spot {
+    /// At the path's number.
+    Found(usize),
+    /// At a free place, which is where the path belongs.
+    Free(usize),
+    /// In the ordered map, where the path belongs.
+    Over,
+}
+
+/// The hash of a path's text.
+fn hash_of(text: &[u8]) -> u64
+    ensures { result ≡ hash_of_text text.now }
+{
+    let mut hasher = FoldHasher::default();
+    hasher.write(text);
+    hasher.finish()
+}
+
+/// The first place that is tried for a text in a row of so many places.
+fn start_of(text: &[u8], places: usize) -> usize
+    ensures start { result ≡ start_in text.now places }
+    ensures within { result ≤ places - 8 }
+{
+    hash_of(text) as usize & places.saturating_sub(TRIES)
+}
+
+/// Whether the path of a number has this text.
+fn is_at(paths: &[Path], number: usize, text: &[u8]) -> bool
+    ensures { IsTrue result ↔ (slice_get paths.now number ≡ Some text.now) }
+{
+    match paths.get(number) {
+        Some(path) => path.text() == text,
+        None => false,
+    }
+}
+
+/// The number of a path that comes behind these. It is refused where it doesn't fit into a place.
+fn next_number(paths: &[Path]) -> Result<u32, AllocError>
+    ensures number { IfOk result (λ number. number ≡ length paths.now) }
+    ensures fits { IfOk result (λ number. number + 1 < 2 ^ 32) }
+{
+    if paths.len() >= u32::MAX as usize {
+        return Err(AllocError);
+    }
+    Ok(paths.len() as u32)
+}
+
+impl Index {
+    /// No numbers. It takes no memory.
+    pub(crate) fn new(alloc: Global) -> Index
+        ensures { IsIndexOf result [] }
+    {
+        Index {
+            places: Vec::new(alloc),
+            overflow: BTreeMap::new(alloc),
+        }
+    }
+
+    /// The numbers of these paths, in a row of so many places.
+    fn of(alloc: Global, paths: &[Path], places: usize) -> Result<Index, AllocError>
+        requires { 8 ≤ places }
+        ensures index { IfOk result (λ index. IsIndexOf index paths.now) }
+        ensures room { IfOk result (λ index. 8 ≤ length index.places.items) }
+    {
+        let mut index = Index::new(alloc);
+        index.places.resize(places, 0)?;
+        'paths: for number in 0..paths.len() {
+            index.enter(&paths[..number], paths[number].text())?;
+        }
+        Ok(index)
+    }
+
+    /// What stands at a place of the row, and 0 behind its end.
+    fn place(&self, at: usize) -> u32
+        ensures { result ≡ slice_index self.now.places.items at }
+    {
+        match self.places.get(at) {
+            Some(place) => *place,
+            None => 0,
+        }
+    }
+
+    /// Where the search for a text ends.
+    pub(crate) fn look(&self, paths: &[Path], text: &[u8]) -> Spot
+        requires { IsIndexOf self.now paths.now }
+        ensures { IsSpot self.now paths.now text.now result }
+    {
+        let start = start_of(text, self.places.len());
+        'tries: for at in start..start + TRIES {
+            let place = self.place(at);
+            if place == 0 {
+                return Spot::Free(at);
+            }
+            let number = place as usize - 1;
+            if is_at(paths, number, text) {
+                return Spot::Found(number);
+            }
+        }
+        self.look_over(paths, text)
+    }
+
+    /// Where the search for a text ends that finds no free place and no such path in the row.
+    fn look_over(&self, paths: &[Path], text: &[u8]) -> Spot
+        requires index { IsIndexOf self.now paths.now }
+        requires taken { AllTaken self.now.places.items text.now }
+        requires others { IsNowhere self.now.places.items paths.now text.now }
+        ensures { IsSpot self.now paths.now text.now result }
+    {
+        if let Some(number) = self.overflow.get(text) {
+            if is_at(paths, *number as usize, text) {
+                return Spot::Found(*number as usize);
+            }
+        }
+        Spot::Over
+    }
+
+    /// Makes room for a path behind these, so that about half of the row is free.
+    pub(crate) fn make_room(&mut self, paths: &[Path]) -> Result<(), AllocError>
+        requires { IsIndexOf self.old paths.now }
+        ensures index { IsIndexOf self.new paths.now }
+        ensures room { OnOk result (8 ≤ length self.new.places.items) }
+    {
+        let places = self.places.len();
+        if paths.len() < (places / 2).saturating_sub(TRIES) {
+            return Ok(());
+        }
+        let grown = places.saturating_mul(2).saturating_sub(TRIES - 1);
+        *self = Index::of(*self.places.allocator(), paths, grown.max(FIRST))?;
+        Ok(())
+    }
+
+    /// Enters a text as that of a path behind these. Where it is the text of one of them, that one's number is answered.
+    pub(crate) fn enter(&mut self, paths: &[Path], text: &[u8]) -> Result<Option<usize>, AllocError>
+        requires index { IsIndexOf self.old paths.now }
+        requires room { 8 ≤ length self.old.places.items }
+        ensures number { IfOk result (λ found. IfSome found (λ n. slice_get paths.now n ≡ Some text.now)) }
+        ensures new { IfOk result (λ found. IfNone found (IsAbsent paths.now text.now)) }
+        ensures entered { OnOk result (IsIndexOf self.new (paths.now ++ text.now ∷ [])) }
+        ensures kept { IfOk result (λ found. IfSome found (λ _. self.new ≡ self.old)) }
+        ensures err { OnErr result (IsIndexOf self.new paths.now) }
+        ensures room { 8 ≤ length self.new.places.items }
+    {
+        match self.look(paths, text) {
+            Spot::Found(number) => Ok(Some(number)),
+            Spot::Free(at) => {
+                self.places[at] = next_number(paths)? + 1;
+                Ok(None)
+            }
+            Spot::Over => {
+                self.put_over(text, next_number(paths)?)?;
+                Ok(None)
+            }
+        }
+    }
+
+    /// Puts a number into the ordered map.
+    fn put_over(&mut self, text: &[u8], number: u32) -> Result<(), AllocError>
+        ensures places { self.new.places.items ≡ self.old.places.items }
+        ensures own { OnOk result (kept_over self.new.overflow text.now ≡ Some number) }
+        ensures others { OnOk result (KeepsOthers self.old.overflow self.new.overflow text.now) }
+        ensures err { OnErr result (self.new.overflow.entries ≡ self.old.overflow.entries) }
+    {
+        let text = Vec::from_slice(*self.places.allocator(), text)?;
+        self.overflow.insert(text, number)?;
+        Ok(())
+    }
+}

@@ -1,0 +1,111 @@
+//! Maps from paths.
+
+ghost use Rattle.std.specs.Prelude.{◌≡◌, ◌==◌, ◌<◌, ◌^◌, ◌++◌, ◌∷◌, [], ℕ, List, Some, None, IfOk, IfSome, OnErr, OnOk};
+ghost use Rattle.std.specs.Prelude.{is_some, length, bytes_eq, option_copied, slice_get, if◌then◌else◌};
+ghost use Rattle.std.specs.Map.{lookup};
+
+use crate::PathSet;
+use redo_path::Path;
+use std::alloc::{AllocError, Global};
+use std::marker::Model;
+use std::mem;
+
+/// Paths in the order in which they were put in, each with a value. In a contract it is the list of both. A path is found
+/// in few steps, as in a [`PathSet`].
+#[derive(Drop)]
+pub struct PathMap<T> {
+    paths: PathSet,
+    values: Vec<T>,
+}
+
+impl<T> Model for PathMap<T> {
+    ghost use Rattle.std.specs.Prelude.{◌≡◌, List, ℕ, length};
+    ghost use Rattle.std.specs.List.{zip};
+    ghost use Rattle.redo_names.specs.Paths.{AreDistinct};
+
+    ghost Value = { List (List ℕ × T) };
+
+    ghost view = { λ m. zip m.paths m.values.items };
+
+    ghost invariant = { λ m. (length m.paths ≡ length m.values.items) × AreDistinct m.paths };
+}
+
+impl<T> PathMap<T> {
+    /// No paths. It takes no memory.
+    pub fn new(alloc: Global) -> PathMap<T>
+        ensures { result ≡ [] }
+    {
+        PathMap {
+            paths: PathSet::new(alloc),
+            values: Vec::new(alloc),
+        }
+    }
+
+    /// How many paths there are.
+    pub fn len(&self) -> usize
+        ensures count { result ≡ length self.now }
+        ensures small { result < 2 ^ 63 }
+    {
+        self.paths.len()
+    }
+
+    pub fn is_empty(&self) -> bool
+        ensures { result ≡ (length self.now == 0) }
+    {
+        self.len() == 0
+    }
+
+    /// The number of the path with this text, from 0 in the order in which paths were put in; none where there is none.
+    pub fn number_by_text(&self, text: &[u8]) -> Option<usize>
+        ensures found { is_some result ≡ is_some (lookup (bytes_eq text.now) self.now) }
+        ensures within { IfSome result (λ n. n < length self.now) }
+    {
+        self.paths.number_by_text(text)
+    }
+
+    /// The path of a number, with its value.
+    pub fn at(&self, number: usize) -> (&Path, &T)
+        requires { number < length self.now }
+        ensures pair { slice_get self.now number ≡ Some (result.0.now, result.1.now) }
+        ensures value { lookup (bytes_eq result.0.now) self.now ≡ Some result.1.now }
+    {
+        (self.paths.at(number), &self.values[number])
+    }
+
+    /// The value of a path; none where the path isn't there.
+    pub fn get(&self, path: &Path) -> Option<&T>
+        ensures { option_copied result ≡ lookup (bytes_eq path.now) self.now }
+    {
+        self.get_by_text(path.text())
+    }
+
+    /// The value of the path with this text, for where no path is made of it.
+    pub fn get_by_text(&self, text: &[u8]) -> Option<&T>
+        ensures { option_copied result ≡ lookup (bytes_eq text.now) self.now }
+    {
+        match self.paths.number_by_text(text) {
+            Some(number) => Some(&self.values[number]),
+            None => None,
+        }
+    }
+
+    /// Puts in a value for a path: behind the others where the path is new, else in the place of its old value, which is
+    /// answered. On want of memory the map is as it was.
+    pub fn insert(&mut self, path: Path, value: T) -> Result<Option<T>, AllocError>
+    where
+        T: Drop,
+        ensures old { IfOk result (λ old. old ≡ lookup (bytes_eq path) self.old) }
+        ensures updates { OnOk result ((q : List ℕ) → lookup (bytes_eq q) self.new ≡
+            (if bytes_eq path q then Some value else lookup (bytes_eq q) self.old)) }
+        ensures new { OnOk result (lookup (bytes_eq path) self.old ≡ None → self.new ≡ self.old ++ (path, value) ∷ []) }
+        ensures err { OnErr result (self.new ≡ self.old) }
+    {
+        self.values.reserve(1)?;
+        let (number, new) = self.paths.insert(path)?;
+        if new {
+            self.values.push_reserved(value);
+            return Ok(None);
+        }
+        Ok(Some(mem::replace(&mut self.values[number], value)))
+    }
+}

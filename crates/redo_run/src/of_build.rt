@@ -1,0 +1,95 @@
+//! What the owner of a board and its workers send each other.
+//!
+//! What comes out of a queue is known by its type alone, so its type names the build, which contracts alone see: no
+//! piece is compared with the board when the program runs.
+
+ghost use Rattle.std.specs.Prelude.{◌≡◌, IfOk};
+
+use crate::gate::Gate;
+use redo_core::work::{Piece, Work};
+use redo_path::Path;
+use redo_sync::Numbered;
+use std::alloc::AllocError;
+use std::marker::{Brand, PhantomData};
+
+/// The build that workers are at, by what it is given. It has no value when the program runs.
+pub trait Build {
+    ghost use Rattle.redo_core.specs.Build.{GivenView};
+
+    ghost given: { GivenView };
+}
+
+impl Build for Brand {
+    ghost use Rattle.redo_tree.specs.Tree.{top};
+
+    ghost given = { record { tree = top; limits = record { targets = 1; file_bytes = 1 } } };
+}
+
+/// A job of this build, on its way to a worker.
+#[derive(Drop)]
+pub(crate) struct JobOf<B: Build> {
+    pub work: Work,
+    build: PhantomData<B>,
+    ghost given: { work.given ≡ B.given },
+}
+
+/// A piece of this build, on its way to the owner.
+#[derive(Drop)]
+pub(crate) struct PieceOf<B: Build> {
+    pub piece: Piece,
+    build: PhantomData<B>,
+    ghost given: { piece.given ≡ B.given },
+}
+
+/// What a worker sends: a piece, or that its call met want of memory.
+pub(crate) type Message<B> = Result<PieceOf<B>, AllocError>;
+
+impl<B: Build> JobOf<B> {
+    /// A work of this build.
+    pub fn new(work: Work) -> JobOf<B>
+        requires { work.given ≡ B.given }
+        ensures { result.work ≡ work }
+    {
+        JobOf {
+            work,
+            build: PhantomData,
+        }
+    }
+
+    /// Tells the gate, and advances the script.
+    pub fn advance<G: Gate>(self, gate: &G) -> Message<B>
+        ensures { IfOk result (λ p. (p.piece.target ≡ self.work.target) × (p.piece.turn ≡ self.work.turn)) }
+    {
+        let JobOf { work, build: _ } = self;
+        gate.enter(work.target(), work.turn());
+        let piece = work.advance()?;
+        Ok(PieceOf {
+            piece,
+            build: PhantomData,
+        })
+    }
+}
+
+impl<B: Build> PieceOf<B> {
+    /// The piece, which is of this build.
+    pub fn into_piece(self) -> Piece
+        ensures piece { result ≡ self.piece }
+        ensures given { result.given ≡ B.given }
+    {
+        let PieceOf { piece, build: _ } = self;
+        piece
+    }
+}
+
+/// A job goes by the number of its work.
+impl<B: Build> Numbered for JobOf<B> {
+    ghost number = { λ j. (j.work.target, j.work.turn) };
+
+    fn target(&self) -> &Path {
+        self.work.target()
+    }
+
+    fn turn(&self) -> u64 {
+        self.work.turn()
+    }
+}
