@@ -52,11 +52,12 @@ among-last (q ∷ qs) last p (inr rest) = elim (among-last qs last p rest) [
 pub distinct-last : (ps : List (List ℕ)) (last : List ℕ) → AreDistinct ps → (IsAmong ps last → ⊥) → AreDistinct (ps ++ last ∷ [])
 distinct-last [] last d new = (λ none. none, tt)
 distinct-last (q ∷ qs) last d new = (
-    λ m. elim (among-last qs last q m) [
-      | inl r ↦ d.0 r
-      | inr e ↦ new (inl (sym e))
-    ],
-    distinct-last qs last d.1 (λ m. new (inr m)))
+  λ m. elim (among-last qs last q m) [
+    | inl r ↦ d.0 r
+    | inr e ↦ new (inl (sym e))
+  ],
+  distinct-last qs last d.1 (λ m. new (inr m)),
+)
 
 -- ---- a path put in
 

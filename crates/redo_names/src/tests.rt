@@ -58,7 +58,11 @@ fn a_path_has_the_value_of_its_last_mention(rt: HostRuntime) -> Result<(), Fail>
         assert_eq!(rt; map.insert(path(alloc, word)?, value)?, old, "{word}");
     }
     assert_eq!(rt; map.len(), 2);
-    for (word, number, value) in [("a", Some(0), Some(&5)), ("b", Some(1), Some(&4)), ("c", None, None)] {
+    for (word, number, value) in [
+        ("a", Some(0), Some(&5)),
+        ("b", Some(1), Some(&4)),
+        ("c", None, None),
+    ] {
         let place = path(alloc, word)?;
         assert_eq!(rt; map.get(&place), value, "{word}");
         assert_eq!(rt; map.get_by_text(place.text()), value, "{word}");

@@ -104,10 +104,7 @@ const LOOPS: &[Row] = &[
         b"file a\nb\n",
     ),
     // A value is judged where it stands outside quotes, and not where it is bound.
-    (
-        b"for x in 'a b'; do echo \"$x\"; done\n",
-        b"file a b\n",
-    ),
+    (b"for x in 'a b'; do echo \"$x\"; done\n", b"file a b\n"),
     (b"for x in 'a b'\ndo true\necho $x\ndone\n", b"unquoted 3"),
     (b"for x in a ''\ndo\necho $x\ndone\n", b"unquoted 3"),
     // A path that a value names.
@@ -260,7 +257,10 @@ const ANSWERED: &[Row] = &[
     (b"redo-ifchange bare\necho a\ncat built\n", b"undeclared 3"),
     (b"echo a\nredo-ifchange built bad\n", b"depends 2"),
     (b"redo-ifchange ring\n", b"depends 1"),
-    (b"for x in built bad bare\ndo\nredo-ifchange $x\ndone\n", b"depends 3"),
+    (
+        b"for x in built bad bare\ndo\nredo-ifchange $x\ndone\n",
+        b"depends 3",
+    ),
     (b"redo-ifchange built src bare\necho ok\n", b"file ok\n"),
     // A path declared for its coming alone has no file, whatever is known of it.
     (b"redo-ifcreate built\ncat built\n", b"exit 1"),

@@ -165,7 +165,10 @@ const ASKS: &[(&[u8], &[&[u8]])] = &[
         b"if true; then if true; then redo-ifchange deep; fi; fi\n",
         &[b"deep"],
     ),
-    (b"for x in a b; do redo-ifchange $x c; done\n", &[b"a", b"c"]),
+    (
+        b"for x in a b; do redo-ifchange $x c; done\n",
+        &[b"a", b"c"],
+    ),
 ];
 
 /// Runs a script that asks for these paths first.

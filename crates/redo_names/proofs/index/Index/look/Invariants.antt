@@ -6,5 +6,5 @@ use Rattle.redo_names.proofs.index.Index.look.Given as goal
 abbrev pub invariant-tries : goal.invariant-tries
 invariant-tries l = record {
   taken : AreTakenTo l.self.places.items l.text l.at;
-  others : AreOthersTo l.self.places.items l.paths l.text l.at
+  others : AreOthersTo l.self.places.items l.paths l.text l.at;
 }

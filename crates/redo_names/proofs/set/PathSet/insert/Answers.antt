@@ -41,8 +41,7 @@ returns-in-None-clause-added c = sym (ap not (told-absent c.args.self.now c.args
 pub invariant_of-self-in-None : goal.invariant_of-self-in-None
 invariant_of-self-in-None c =
     let all : c.deref-2.result.now ++ c.text.result.now ∷ [] ≡ c.push_reserved.new.self.items = (λ i. c.deref-2.ensures.value i ++ c.text.ensures.text i ∷ []) ∙ sym c.push_reserved.ensures.items in
-    let last : c.args.self.now ++ c.args.path ∷ [] ≡ c.push_reserved.new.self.items = sym (c.push_reserved.ensures.items ∙ ap (λ ps. ps ++ c.args.path ∷ []) (c.reserve.ensures.items ∙ c.self.view_is)) in
-    (
+    let last : c.args.self.now ++ c.args.path ∷ [] ≡ c.push_reserved.new.self.items = sym (c.push_reserved.ensures.items ∙ ap (λ ps. ps ++ c.args.path ∷ []) (c.reserve.ensures.items ∙ c.self.view_is)) in (
       subst (IsIndexOf c.enter.new.self) all c.in_ok-number.ensures.entered,
-      subst AreDistinct last (distinct-last c.args.self.now c.args.path (subst AreDistinct c.self.view_is c.self.invariant.1) (absent c))
+      subst AreDistinct last (distinct-last c.args.self.now c.args.path (subst AreDistinct c.self.view_is c.self.invariant.1) (absent c)),
     )

@@ -15,11 +15,11 @@ returns-then-len c =
     let other = c.args.other.now in
     both_ways c.are_same.result (tree_eq tree other)
     (λ yes.
-      let both = c.are_same.ensures.0 yes in
-      alike tree other (sym c.self.view_is ∙ one-kept es fs dirs others c.self.invariant c.other.invariant both.0 both.1 ∙ c.other.view_is))
+    let both = c.are_same.ensures.0 yes in
+    alike tree other (sym c.self.view_is ∙ one-kept es fs dirs others c.self.invariant c.other.invariant both.0 both.1 ∙ c.other.view_is))
     (λ yes.
-      let same : tree_of es ≡ tree_of fs = c.self.view_is ∙ same_entries tree other yes ∙ sym c.other.view_is in
-      c.are_same.ensures.1 (kept-among es fs dirs others c.self.invariant c.other.invariant same, kept-among fs es others dirs c.other.invariant c.self.invariant (sym same)))
+    let same : tree_of es ≡ tree_of fs = c.self.view_is ∙ same_entries tree other yes ∙ sym c.other.view_is in
+    c.are_same.ensures.1 (kept-among es fs dirs others c.self.invariant c.other.invariant same, kept-among fs es others dirs c.other.invariant c.self.invariant (sym same)))
 
 pub returns-else-len : goal.returns-else-len
 returns-else-len c =
