@@ -6,37 +6,57 @@ use crate::gate::Gate;
 use crate::of_build::{Build, JobOf, Message};
 use crossbeam_channel::{Receiver, Sender};
 use redo_sync::{JobTaker, Taken};
-use std::alloc::AllocError;
+use std::alloc::{AllocError, Global};
 use std::snapshot::Snapshot;
 use std::sync::Wait;
-use std::sync::atomic::AtomicBool;
-use std::sync::atomic::Ordering::SeqCst;
-use std::thread;
 use std::thread::{Promise, PromisedHandle, Scope, Threads};
 
-/// What the owner tells all workers.
+/// How many jobs may be out for each worker: one that it is at, and one that waits for it.
+const OUT_FOR_EACH: usize = 2;
+
+/// How many calls and messages a channel holds: one for each job that may be out, with 64 workers. So no sender waits.
+const MOST_OUT: usize = 128;
+
+/// Tells the workers that one more job waits for one of them. Between calls they sleep.
 #[derive(Drop)]
-pub(crate) struct Signals {
-    stop: AtomicBool,
+pub(crate) struct Call;
+
+/// The owner's ends of the channels to its workers and back.
+#[derive(Drop)]
+pub(crate) struct Lines<B: Build> {
+    pub calls: Sender<Call>,
+    pub messages: Receiver<Message<B>>,
+    /// How many jobs may be out at a time: none where there is no worker. The others wait on the board, where the
+    /// newest goes first.
+    pub most_out: usize,
 }
 
-impl Signals {
-    /// Nothing is told yet.
-    pub fn new() -> Signals {
-        Signals {
-            stop: AtomicBool::new(false),
-        }
-    }
+/// A worker's ends of the channels.
+#[derive(Drop)]
+pub(crate) struct Extension<B: Build> {
+    calls: Receiver<Call>,
+    messages: Sender<Message<B>>,
+}
 
-    /// Tells all to end.
-    pub fn stop(&self) {
-        self.stop.store(true, SeqCst);
-    }
-
-    /// Whether all are to end.
-    fn is_stopped(&self) -> bool {
-        self.stop.load(SeqCst)
-    }
+/// Channels for so many workers.
+pub(crate) fn lines_for<B: Build>(
+    alloc: Global,
+    workers: usize,
+) -> Result<(Lines<B>, Extension<B>), AllocError> {
+    let (calls, called) = crossbeam_channel::bounded(alloc, MOST_OUT)?;
+    let (sender, messages) = crossbeam_channel::bounded(alloc, MOST_OUT)?;
+    let lines = Lines {
+        calls,
+        messages,
+        most_out: workers.saturating_mul(OUT_FOR_EACH),
+    };
+    Ok((
+        lines,
+        Extension {
+            calls: called,
+            messages: sender,
+        },
+    ))
 }
 
 /// A worker hands back its own taker.
@@ -50,28 +70,40 @@ impl<B: Build> Promise<JobTaker<JobOf<B>>> for OwnTaker<B> {
 /// A worker that was started.
 pub(crate) type Hand<B> = PromisedHandle<JobTaker<JobOf<B>>, OwnTaker<B>>;
 
-/// Takes jobs and sends what they came to, until all are to end.
+/// Takes a job that was given for nobody else, and advances its script. A try may find another taker at the queue, but
+/// the job is there, so one of the next tries has it.
+pub(crate) fn advance_next<B: Build, R: Wait, G: Gate>(
+    rt: &R,
+    taker: &mut JobTaker<JobOf<B>>,
+    gate: &G,
+) -> Message<B>
+    ensures { taker.new.relay ≡ taker.old.relay }
+{
+    'tries: for _ in rt.forever() {
+        if let Taken::Job(job) = taker.try_take()? {
+            return job.advance(gate);
+        }
+    }
+    unreachable!()
+}
+
+/// Takes a job for each call and sends what it came to, until the owner has ended.
 fn work<B: Build, R: Wait, G: Gate>(
     rt: &R,
-    signals: &Signals,
     gate: &G,
     mut taker: JobTaker<JobOf<B>>,
+    calls: Receiver<Call>,
     messages: Sender<Message<B>>,
 ) -> JobTaker<JobOf<B>>
     ensures { result.relay ≡ taker.relay }
 {
-    'tries: for _ in rt.forever() {
-        if signals.is_stopped() {
+    'calls: for _ in rt.forever() {
+        if calls.recv(rt).is_err() {
             break;
         }
-        match taker.try_take() {
-            Ok(Taken::Job(job)) => {
-                if messages.send(rt, job.advance(gate)).is_err() {
-                    break;
-                }
-            }
-            Ok(_) => thread::yield_now(),
-            Err(_) => unreachable!(),
+        let message = advance_next(rt, &mut taker, gate);
+        if messages.send(rt, message).is_err() {
+            break;
         }
     }
     taker
@@ -81,10 +113,9 @@ fn work<B: Build, R: Wait, G: Gate>(
 pub(crate) fn start_all<'s, E, B: Build + Send + Sync + 's, R: Threads + Wait + Sync, G: Gate>(
     scope: &Scope<'s, E>,
     rt: &'s R,
-    signals: &'s Signals,
     gate: &'s G,
     takers: Vec<JobTaker<JobOf<B>>>,
-    messages: Sender<Message<B>>,
+    extension: Extension<B>,
     hands: &mut Vec<Hand<B>>,
 ) -> Result<(), AllocError>
     requires { hands.old.items ≡ [] }
@@ -92,23 +123,16 @@ pub(crate) fn start_all<'s, E, B: Build + Send + Sync + 's, R: Threads + Wait + 
         map (λ t. t.relay) takers.items) }
     ensures most { length hands.new.items ≤ length takers.items }
 {
+    let Extension { calls, messages } = extension;
     'takers: for taker in takers {
+        let called = calls.clone()?;
         let sender = messages.clone()?;
         hands.reserve(1)?;
         let promise = OwnTaker(Snapshot::of(&taker));
-        let hand = scope.spawn_with(promise, move || work(rt, signals, gate, taker, sender))?;
+        let hand = scope.spawn_with(promise, move || work(rt, gate, taker, called, sender))?;
         hands.push_reserved(hand);
     }
     Ok(())
-}
-
-/// Drops what still comes, until all workers have ended.
-pub(crate) fn drain<B: Build, R: Wait>(rt: &R, messages: Receiver<Message<B>>) {
-    for _ in rt.forever() {
-        if messages.recv(rt).is_err() {
-            break;
-        }
-    }
 }
 
 /// Waits for all workers, and has their takers back, in a `Vec` that has room for them.

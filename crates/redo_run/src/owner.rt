@@ -7,13 +7,14 @@ ghost use Rattle.redo_core.specs.Taken.{HasTaken};
 ghost use Rattle.redo_core.specs.Views.{limit_on, ready_count, rules_on};
 ghost use Rattle.redo_run.specs.inside.Workers.{HasTakenOn, IsSameSource};
 
+use crate::crew::{Call, Lines, advance_next};
 use crate::gate::Gate;
 use crate::of_build::{Build, JobOf, Message, PieceOf};
 use crate::run_fault::RunFault;
 use crossbeam_channel::Receiver;
 use redo_core::board::{Board, HandFault};
 use redo_core::laws::what_was_taken;
-use redo_sync::{JobSource, JobTaker, Taken};
+use redo_sync::{JobSource, JobTaker};
 use std::alloc::AllocError;
 use std::sync::Wait;
 
@@ -63,6 +64,51 @@ fn hand_in<B: Build, R: Wait>(rt: &R, board: &mut Board, piece: PieceOf<B>) -> R
     }
 }
 
+/// Gives the newest job, and calls a worker for it. Nobody hears the call only where every worker has ended, which none
+/// does before the end of the run.
+fn call_for_newest<B: Build, R: Wait>(
+    rt: &R,
+    board: &mut Board,
+    source: &mut JobSource<JobOf<B>>,
+    lines: &Lines<B>,
+) -> Result<(), AllocError>
+    requires ready { 0 < ready_count board.old }
+    requires of_build { board.old.given ≡ B.given }
+    ensures source { IsSameSource source.old source.new }
+    ensures build { IsSameBuild board.old board.new }
+    ensures running { OnOk result (IsNone board.new.stopped) }
+    ensures taken { OnOk result (HasTaken board.old source.old.given → HasTaken board.new source.new.given) }
+{
+    give_newest(board, source)?;
+    if lines.calls.send(rt, Call).is_err() {
+        never(rt)
+    }
+    Ok(())
+}
+
+/// Gives the newest job, takes it, and hands its piece in.
+fn advance_newest<B: Build, R: Wait, G: Gate>(
+    rt: &R,
+    board: &mut Board,
+    source: &mut JobSource<JobOf<B>>,
+    taker: &mut JobTaker<JobOf<B>>,
+    gate: &G,
+) -> Result<(), RunFault>
+    requires ready { 0 < ready_count board.old }
+    requires of_build { board.old.given ≡ B.given }
+    ensures source { IsSameSource source.old source.new }
+    ensures taker { taker.new.relay ≡ taker.old.relay }
+    ensures build { IsSameBuild board.old board.new }
+    ensures running { OnOk result (IsNone board.new.stopped) }
+    ensures taken { OnOk result (HasTaken board.old source.old.given → HasTaken board.new source.new.given) }
+    ensures too_many { result ≡ Err RunFault.TooMany →
+        IsTooMany (rules_on board.old) board.old.request (limit_on board.old) }
+{
+    give_newest(board, source)?;
+    let piece = advance_next(rt, taker, gate)?;
+    hand_in(rt, board, piece)
+}
+
 /// Receives one message, and hands its piece in. All senders are gone only where every worker has ended, which none
 /// does before the end of the run.
 fn receive<B: Build, R: Wait>(
@@ -87,57 +133,19 @@ fn receive<B: Build, R: Wait>(
     }
 }
 
-/// Gives what is ready and hands in what comes, until nothing is ready or out. No more than `most` jobs are out at a
-/// time: the others wait on the board, where the newest goes first.
-pub(crate) fn own<B: Build, R: Wait>(
-    rt: &R,
-    board: &mut Board,
-    source: &mut JobSource<JobOf<B>>,
-    messages: &Receiver<Message<B>>,
-    most: usize,
-) -> Result<(), RunFault>
-    requires of_build { board.old.given ≡ B.given }
-    requires running { IsNone board.old.stopped }
-    ensures source { IsSameSource source.old source.new }
-    ensures build { IsSameBuild board.old board.new }
-    ensures taken { OnOk result (HasTaken board.old source.old.given → HasTaken board.new source.new.given) }
-    ensures too_many { result ≡ Err RunFault.TooMany →
-        IsTooMany (rules_on board.old) board.old.request (limit_on board.old) }
-{
-    'turns: for _ in rt.forever() {
-        if board.ready() > 0 && board.out() < most {
-            give_newest(board, source)?;
-        } else if board.out() > 0 {
-            receive(rt, board, messages)?;
-        } else {
-            return Ok(());
-        }
-    }
-    unreachable!()
+/// Whether the owner advances the newest job itself: there is no worker, or this is the only script that can go on, so
+/// that nothing waits for the owner meanwhile. So a chain of targets needs no hand-over.
+fn is_for_owner<B: Build>(board: &Board, lines: &Lines<B>) -> bool {
+    board.out() == 0 && (board.ready() == 1 || lines.most_out == 0)
 }
 
-/// Takes the job that was just given, and advances its script.
-fn advance_next<B: Build, R: Wait, G: Gate>(
-    rt: &R,
-    taker: &mut JobTaker<JobOf<B>>,
-    gate: &G,
-) -> Message<B>
-    ensures { taker.new.relay ≡ taker.old.relay }
-{
-    'tries: for _ in rt.forever() {
-        if let Taken::Job(job) = taker.try_take()? {
-            return job.advance(gate);
-        }
-    }
-    unreachable!()
-}
-
-/// Gives, takes and hands in by one thread alone, until nothing is ready.
-pub(crate) fn own_alone<B: Build, R: Wait, G: Gate>(
+/// Gives what is ready and hands in what comes, until nothing is ready or out.
+pub(crate) fn own<B: Build, R: Wait, G: Gate>(
     rt: &R,
     board: &mut Board,
     source: &mut JobSource<JobOf<B>>,
     taker: &mut JobTaker<JobOf<B>>,
+    lines: &Lines<B>,
     gate: &G,
 ) -> Result<(), RunFault>
     requires of_build { board.old.given ≡ B.given }
@@ -150,12 +158,16 @@ pub(crate) fn own_alone<B: Build, R: Wait, G: Gate>(
         IsTooMany (rules_on board.old) board.old.request (limit_on board.old) }
 {
     'turns: for _ in rt.forever() {
-        if board.ready() == 0 {
+        if board.ready() == 0 && board.out() == 0 {
             return Ok(());
         }
-        give_newest(board, source)?;
-        let piece = advance_next(rt, taker, gate)?;
-        hand_in(rt, board, piece)?;
+        if board.ready() > 0 && is_for_owner(board, lines) {
+            advance_newest(rt, board, source, taker, gate)?;
+        } else if board.ready() > 0 && board.out() < lines.most_out {
+            call_for_newest(rt, board, source, lines)?;
+        } else {
+            receive(rt, board, &lines.messages)?;
+        }
     }
     unreachable!()
 }

@@ -1,8 +1,9 @@
 //! A build by many workers, and by one.
 //!
 //! The thread that asked for the build owns the board, and no lock stands round it. It gives each job that is ready to
-//! a relay, out of which the workers take, and hands in the pieces that they send back through a channel. Once all
-//! workers are in, the ledger of the relay shows that each job was taken once.
+//! a relay, calls the workers, which take the jobs out of it, and hands in the pieces that they send back through a
+//! channel. Where a single script can go on, and with one worker always, it takes the job itself. Once all workers are
+//! in, the ledger of the relay shows that each job was taken once.
 
 ghost use Rattle.std.specs.Prelude.{◌≡◌, ◌≤◌, Err, [], IfOk, IsNone, IsTrue};
 ghost use Rattle.redo_build.specs.Outcomes.{IsTooMany};
@@ -15,10 +16,10 @@ ghost use Rattle.redo_report.specs.Reports.{IsReport};
 ghost use Rattle.redo_sync.specs.Relay.{SharesOut, taken_by};
 ghost use Rattle.redo_run.specs.inside.Workers.{IsAnswerTo, IsStaffed};
 
-use crate::crew::{Signals, drain, join_all, start_all};
+use crate::crew::{join_all, lines_for, start_all};
 use crate::gate::Gate;
 use crate::of_build::{Build, JobOf};
-use crate::owner::{never, own, own_alone};
+use crate::owner::{never, own};
 use crate::run_fault::RunFault;
 use redo_build::laws::counts_tell;
 use redo_core::board::Board;
@@ -35,13 +36,7 @@ use std::sync::{Arc, Wait};
 use std::thread;
 use std::thread::{Scope, Threads};
 
-/// How many messages may wait for the owner.
-const MOST_MESSAGES: usize = 64;
-
-/// How many jobs may be out for each worker: one that it is at, and one that waits for it.
-const OUT_FOR_EACH: usize = 2;
-
-/// The board of a build, with both ends of its relay.
+/// The board of a build, with both ends of its relay. The last taker is the owner's own, the others are for workers.
 #[derive(Drop)]
 struct Desk<B: Build> {
     board: Board,
@@ -84,91 +79,17 @@ fn answer_of<B: Build, R: Wait>(
     Ok((board.finish()?, ledger))
 }
 
-/// Runs a build to its end by as many workers as there are takers, each in a thread of its own.
-#[tactic(auto, using(crate::proofs::LedgerLemmas::same_relays))]
+/// Runs a build to its end by the owner, and a worker in a thread of its own for each taker but the owner's.
 fn run_crew<'s, E, B: Build + Send + Sync + 's, R: Threads + Wait + Sync, G: Gate>(
     scope: &Scope<'s, E>,
     rt: &'s R,
-    signals: &'s Signals,
     gate: &'s G,
     alloc: Global,
     desk: Desk<B>,
 ) -> Result<Desk<B>, RunFault>
     requires of_build { desk.board.given ≡ B.given }
     requires running { IsNone desk.board.stopped }
-    requires staffed { IsStaffed desk.source desk.takers.items }
-    requires taken { HasTaken desk.board desk.source.given }
-    ensures staffed { IfOk result (λ d. IsStaffed d.source d.takers.items) }
-    ensures taken { IfOk result (λ d. HasTaken d.board d.source.given) }
-    ensures build { IfOk result (λ d. IsSameBuild desk.board d.board) }
-    ensures too_many { result ≡ Err RunFault.TooMany →
-        IsTooMany (rules_on desk.board) desk.board.request (limit_on desk.board) }
-{
-    let Desk {
-        mut board,
-        mut source,
-        takers,
-    } = desk;
-    let most = takers.len().saturating_mul(OUT_FOR_EACH);
-    let (sender, receiver) = crossbeam_channel::bounded(alloc, MOST_MESSAGES)?;
-    let back = Vec::with_capacity(alloc, takers.len())?;
-    let mut hands = Vec::new(alloc);
-    let ended = match start_all(scope, rt, signals, gate, takers, sender, &mut hands) {
-        Ok(()) => own(rt, &mut board, &mut source, &receiver, most),
-        Err(_) => Err(RunFault::Memory),
-    };
-    signals.stop();
-    drain(rt, receiver);
-    let takers = join_all(rt, hands, back);
-    ended?;
-    Ok(Desk {
-        board,
-        source,
-        takers,
-    })
-}
-
-/// The same in a scope of threads: all have ended when it returns.
-fn run_in_scope<B: Build + Send + Sync, R: Threads + Wait + Sync, G: Gate>(
-    rt: &R,
-    signals: &Signals,
-    gate: &G,
-    alloc: Global,
-    desk: Desk<B>,
-) -> Result<Desk<B>, RunFault>
-    requires of_build { desk.board.given ≡ B.given }
-    requires running { IsNone desk.board.stopped }
-    requires staffed { IsStaffed desk.source desk.takers.items }
-    requires taken { HasTaken desk.board desk.source.given }
-    ensures staffed { IfOk result (λ d. IsStaffed d.source d.takers.items) }
-    ensures taken { IfOk result (λ d. HasTaken d.board d.source.given) }
-    ensures build { IfOk result (λ d. IsSameBuild desk.board d.board) }
-    ensures too_many { result ≡ Err RunFault.TooMany →
-        IsTooMany (rules_on desk.board) desk.board.request (limit_on desk.board) }
-{
-    thread::scope(
-        thread::scope_env(),
-        rt,
-        move |scope| -> Result<Desk<B>, RunFault>
-            requires { (desk.board.given ≡ B.given) × IsNone desk.board.stopped ×
-                IsStaffed desk.source desk.takers.items × HasTaken desk.board desk.source.given }
-            ensures { IfOk result (λ d. IsStaffed d.source d.takers.items × HasTaken d.board d.source.given ×
-                IsSameBuild desk.board d.board) ×
-                (result ≡ Err RunFault.TooMany →
-                IsTooMany (rules_on desk.board) desk.board.request (limit_on desk.board)) }
-        { run_crew(scope, rt, signals, gate, alloc, desk) },
-    )
-}
-
-/// Runs a build to its end by the caller alone, through a relay of one taker.
-fn run_alone<B: Build, R: Wait, G: Gate>(
-    rt: &R,
-    gate: &G,
-    desk: Desk<B>,
-) -> Result<Desk<B>, RunFault>
-    requires alone { desk.source.workers ≡ 1 }
-    requires of_build { desk.board.given ≡ B.given }
-    requires running { IsNone desk.board.stopped }
+    requires some { 1 ≤ desk.source.takers }
     requires staffed { IsStaffed desk.source desk.takers.items }
     requires taken { HasTaken desk.board desk.source.given }
     ensures staffed { IfOk result (λ d. IsStaffed d.source d.takers.items) }
@@ -182,11 +103,21 @@ fn run_alone<B: Build, R: Wait, G: Gate>(
         mut source,
         mut takers,
     } = desk;
+    let back = Vec::with_capacity(alloc, takers.len())?;
     let Some(mut taker) = takers.pop() else {
         unreachable!()
     };
-    own_alone(rt, &mut board, &mut source, &mut taker, gate)?;
-    takers.push_reserved(taker);
+    let (lines, extension) = lines_for(alloc, takers.len())?;
+    let mut hands = Vec::new(alloc);
+    let ended = match start_all(scope, rt, gate, takers, extension, &mut hands) {
+        Ok(()) => own(rt, &mut board, &mut source, &mut taker, &lines, gate),
+        Err(_) => Err(RunFault::Memory),
+    };
+    // Nobody calls any more, and nobody reads messages: so the workers end.
+    drop(lines);
+    let mut takers = join_all(rt, hands, back);
+    ended?;
+    takers.push(taker)?;
     Ok(Desk {
         board,
         source,
@@ -194,16 +125,16 @@ fn run_alone<B: Build, R: Wait, G: Gate>(
     })
 }
 
-/// Runs a build to its end, by the caller alone where there is one worker.
-fn run_desk<B: Build + Send + Sync, R: Threads + Wait + Sync, G: Gate>(
+/// The same in a scope of threads: all have ended when it returns.
+fn run_in_scope<B: Build + Send + Sync, R: Threads + Wait + Sync, G: Gate>(
     rt: &R,
+    gate: &G,
     alloc: Global,
     desk: Desk<B>,
-    gate: &G,
 ) -> Result<Desk<B>, RunFault>
     requires of_build { desk.board.given ≡ B.given }
     requires running { IsNone desk.board.stopped }
-    requires some { 1 ≤ desk.source.workers }
+    requires some { 1 ≤ desk.source.takers }
     requires staffed { IsStaffed desk.source desk.takers.items }
     requires taken { HasTaken desk.board desk.source.given }
     ensures staffed { IfOk result (λ d. IsStaffed d.source d.takers.items) }
@@ -212,11 +143,25 @@ fn run_desk<B: Build + Send + Sync, R: Threads + Wait + Sync, G: Gate>(
     ensures too_many { result ≡ Err RunFault.TooMany →
         IsTooMany (rules_on desk.board) desk.board.request (limit_on desk.board) }
 {
-    if desk.takers.len() == 1 {
-        run_alone(rt, gate, desk)
-    } else {
-        run_in_scope(rt, &Signals::new(), gate, alloc, desk)
-    }
+    thread::scope(
+        thread::scope_env(),
+        rt,
+        move |scope| -> Result<Desk<B>, RunFault>
+            requires { (desk.board.given ≡ B.given) × IsNone desk.board.stopped × (1 ≤ desk.source.takers) ×
+                IsStaffed desk.source desk.takers.items × HasTaken desk.board desk.source.given }
+            ensures { IfOk result (λ d. IsStaffed d.source d.takers.items × HasTaken d.board d.source.given ×
+                IsSameBuild desk.board d.board) ×
+                (result ≡ Err RunFault.TooMany →
+                IsTooMany (rules_on desk.board) desk.board.request (limit_on desk.board)) }
+        { run_crew(scope, rt, gate, alloc, desk) },
+    )
+}
+
+/// How many threads are started: with one worker the owner does it all.
+fn threads_for(workers: usize) -> usize
+    ensures { result ≤ workers }
+{
+    if workers == 1 { 0 } else { workers }
 }
 
 /// Runs a build that was opened.
@@ -234,21 +179,21 @@ fn run_build<B: Build + Send + Sync, R: Threads + Wait + Sync, G: Gate>(
     requires few { workers ≤ 64 }
     ensures { IsAnswerTo board.given board.request result }
 {
-    let (source, takers) = relay(alloc, workers)?;
+    let (source, takers) = relay(alloc, threads_for(workers) + 1)?;
     let desk = Desk::<B> {
         board,
         source,
         takers,
     };
-    let ended = run_desk(rt, alloc, desk, gate)?;
+    let ended = run_in_scope(rt, gate, alloc, desk)?;
     answer_of(rt, alloc, ended)
 }
 
 /// Builds the requested targets by so many workers side by side, each in a thread of its own; the caller's thread has
-/// the board meanwhile, and hands out the jobs. With one worker no thread is started: the caller does it all. The
-/// report is that of the recursive build in one thread, whatever the workers do when, and the ledger shows that each
-/// job was taken by one worker, once. All threads have ended when it answers. It answers `Memory` too where a thread
-/// could not be started.
+/// the board meanwhile, and hands out the jobs. It advances a script itself where no other can go on. With one worker no
+/// thread is started: the caller does it all. The report is that of the recursive build in one thread, whatever the
+/// workers do when, and the ledger shows that each job was taken once. All threads have ended when it answers. It
+/// answers `Memory` too where a thread could not be started.
 pub fn build_many<R: Threads + Wait + Sync, G: Gate>(
     rt: &R,
     alloc: Global,

@@ -77,8 +77,8 @@ taken_in parts given ts t v w before after =
     after ∙ ap (λ (u : Hand). hand (u.parts + 1) u.given (u.taken ++ t.taken) u.left) before ∙ (λ i. hand (more i) given (sym (taken_by_snoc ts t) i) [])
 
 module _ {T : Type 0} (n : T → Pair) where
-  pub begins : Balanced n [] (hand 65 [] [] [] ∷ [])
-  begins = (refl, (λ p. refl), idle_snoc [] (hand 65 [] [] []) (λ none. absurd (omega arith)) (λ port v e. absurd (some-ne-none v (sym e))))
+  pub begins : Balanced n [] (hand 66 [] [] [] ∷ [])
+  begins = (refl, (λ p. refl), idle_snoc [] (hand 66 [] [] []) (λ none. absurd (omega arith)) (λ port v e. absurd (some-ne-none v (sym e))))
 
   pub gives : (port : ℕ) (v : Hand) (xs : List T) → 0 < v.parts → Pushes (Balanced n) port v xs (λ w. w ≡ hand v.parts (v.given ++ map n xs) v.taken v.left)
   gives port v xs may items hands room at =
@@ -161,7 +161,7 @@ module _ {T : Type 0} (n : T → Pair) where
       )
 
   -- who has every part and finds the deque empty knows that what was given was taken
-  pub finds : (port : ℕ) (v : Hand) → v.parts ≡ 65 → Finds (Balanced n) port v (SharesOut v.given v.taken v.left)
+  pub finds : (port : ℕ) (v : Hand) → v.parts ≡ 66 → Finds (Balanced n) port v (SharesOut v.given v.taken v.left)
   finds port v all hands room at p =
       let same : sum_by (λ (u : Hand). u.parts) hands ≡ v.parts = room.0 ∙ sym all in
       let g = sole (λ u. count_by p u.given) (λ u e _ _. ap (count_by p) e) hands port v at same room.2 in
@@ -170,7 +170,7 @@ module _ {T : Type 0} (n : T → Pair) where
       let b = room.1 p in
       omega arith
 
-  fewer : (port : ℕ) (v : Hand) (xs items : List T) (hands : List Hand) → 0 < length xs → Balanced n (xs ++ items) hands → get_elem? hands port ≡ some v → v.parts ≡ 65
+  fewer : (port : ℕ) (v : Hand) (xs items : List T) (hands : List Hand) → 0 < length xs → Balanced n (xs ++ items) hands → get_elem? hands port ≡ some v → v.parts ≡ 66
       → pending (hand v.parts v.given v.taken (v.left ++ map n xs)) < pending v
   fewer port v xs items hands some_job room at all =
       let same : sum_by (λ (u : Hand). u.parts) hands ≡ v.parts = room.0 ∙ sym all in
@@ -182,7 +182,7 @@ module _ {T : Type 0} (n : T → Pair) where
       omega
       (arith, count_by-true v.given, count_by-true v.taken, count_by-true v.left, count_by-true (xs ++ items), length-append xs items, length-append v.left (map n xs), length-map n xs)
 
-  pub drains : (port : ℕ) (v : Hand) → 0 < v.parts → Takes (Balanced n) port v 1 (λ xs w. (w ≡ hand v.parts v.given v.taken (v.left ++ map n xs)) × (v.parts ≡ 65 → pending w < pending v))
+  pub drains : (port : ℕ) (v : Hand) → 0 < v.parts → Takes (Balanced n) port v 1 (λ xs w. (w ≡ hand v.parts v.given v.taken (v.left ++ map n xs)) × (v.parts ≡ 66 → pending w < pending v))
   drains port v may xs items hands some_job _ room at =
       let w = hand v.parts v.given v.taken (v.left ++ map n xs) in (
         w,

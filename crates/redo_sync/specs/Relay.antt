@@ -19,7 +19,7 @@ RelayId = (ℕ × ℕ) × Global
 -- a source: its relay, how many takers the relay has, and the numbers of the jobs that it gave
 pub record Source : Type 0 where
   pub relay : RelayId
-  pub workers : ℕ
+  pub takers : ℕ
   pub given : List Pair
 
 -- a taker: its relay, and the numbers of the jobs that it took

@@ -66,8 +66,8 @@ fn learn<T: Numbered + Drop, U: Numbered, K: Finished>(
 )
     requires none_left { ledger.now.left ≡ [] }
     requires lists { (ledger.now.given ≡ K.given) × (ledger.now.taken ≡ K.taken) }
-    requires first { worker_view deque.old ≡ hand 65 [] [] [] }
-    ensures view { worker_view deque.new ≡ hand 65 K.given K.taken [] }
+    requires first { worker_view deque.old ≡ hand 66 [] [] [] }
+    ensures view { worker_view deque.new ≡ hand 66 K.given K.taken [] }
     ensures shared_out { SharesOut K.given K.taken [] }
 {
     // The ledger's own fact, that what was given was shared out.
@@ -81,7 +81,7 @@ pub fn gather<T: Numbered + Drop>(
     source: JobSource<T>,
     takers: Vec<JobTaker<T>>,
 ) -> Result<Ledger<T>, AllocError>
-    requires all { length takers.items ≡ source.workers }
+    requires all { length takers.items ≡ source.takers }
     requires own { All (λ t. t.relay ≡ source.relay) takers.items }
     ensures given { IfOk result (λ l. l.given ≡ source.given) }
     ensures taken { IfOk result (λ l. l.taken ≡ taken_by takers.items) }
@@ -90,7 +90,7 @@ pub fn gather<T: Numbered + Drop>(
 {
     let JobSource {
         mut deque,
-        workers: _,
+        takers: _,
         alloc,
     } = source;
     'takers: for taker in takers {
@@ -120,10 +120,10 @@ fn drain<T: Numbered + Drop>(
     deque: &mut Worker<T, Global, Hand, ShareOut>,
 ) -> Result<Vec<T>, AllocError>
     requires fifo { worker_flavor deque.old ≡ 0 }
-    requires whole { (worker_view deque.old).parts ≡ 65 }
+    requires whole { (worker_view deque.old).parts ≡ 66 }
     requires first { (worker_view deque.old).left ≡ [] }
     ensures view { IfOk result (λ left.
-        let v = worker_view deque.old in worker_view deque.new ≡ hand 65 v.given v.taken (map T.number left.items)) }
+        let v = worker_view deque.old in worker_view deque.new ≡ hand 66 v.given v.taken (map T.number left.items)) }
     ensures shared_out { OnOk result (let v = worker_view deque.new in SharesOut v.given v.taken v.left) }
     ensures err { OnErr result (let v = worker_view deque.old in SharesOut v.given v.taken [] → ⊥) }
 {

@@ -13,29 +13,29 @@ use std::alloc::{AllocError, Global};
 /// How many jobs may be given before the queue grows.
 const FIRST_SLOTS: usize = 64;
 
-/// A source of jobs, and its takers, one for each of 1 to 64 workers. The jobs wait in a queue that grows as needed,
-/// and are taken in the order in which they were given.
+/// A source of jobs and its takers, 1 to 65 of them: one for each of 64 threads, and one for the thread that gives. The
+/// jobs wait in a queue that grows as needed, and are taken in the order in which they were given.
 pub fn relay<T: Numbered + Drop>(
     alloc: Global,
-    workers: usize,
+    takers: usize,
 ) -> Result<(JobSource<T>, Vec<JobTaker<T>>), AllocError>
-    requires { (0 < workers) × (workers ≤ 64) }
-    ensures source { IfOk result (λ r. (r.0.workers ≡ workers) × (r.0.given ≡ [])) }
+    requires { (0 < takers) × (takers ≤ 65) }
+    ensures source { IfOk result (λ r. (r.0.takers ≡ takers) × (r.0.given ≡ [])) }
     ensures takers { IfOk result (λ r.
-        (length r.1.items ≡ workers)
+        (length r.1.items ≡ takers)
         × All (λ t. (t.relay ≡ r.0.relay) × (t.taken ≡ [])) r.1.items) }
 {
     let mut deque = Worker::fifo_as(alloc, FIRST_SLOTS)?;
-    let mut takers = Vec::new(alloc);
-    'takers: for _ in 0..workers {
-        takers.push(another_taker(&mut deque)?)?;
+    let mut made = Vec::new(alloc);
+    'takers: for _ in 0..takers {
+        made.push(another_taker(&mut deque)?)?;
     }
     let source = JobSource {
         deque,
-        workers,
+        takers,
         alloc,
     };
-    Ok((source, takers))
+    Ok((source, made))
 }
 
 /// One more taker, which gets one of the source's parts.

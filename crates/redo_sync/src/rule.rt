@@ -39,7 +39,7 @@ impl<T: Numbered> Protocol<T, Hand> for ShareOut {
 
     ghost holds = { Balanced T.number };
 
-    ghost first = { hand 65 [] [] [] };
+    ghost first = { hand 66 [] [] [] };
 
     ghost guest = { hand 0 [] [] [] };
 }
@@ -96,7 +96,7 @@ impl<T: Numbered> Outcome<T, Hand> for Drain {
 
     ghost then = { λ v xs w.
         (w ≡ hand v.parts v.given v.taken (v.left ++ map T.number xs))
-        × (v.parts ≡ 65 → pending w < pending v) };
+        × (v.parts ≡ 66 → pending w < pending v) };
 
     ghost empty = { λ v. SharesOut v.given v.taken v.left };
 }

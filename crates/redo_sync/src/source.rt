@@ -6,12 +6,12 @@ use crossbeam_deque::Worker;
 use std::alloc::{AllocError, Global};
 use std::marker::Model;
 
-/// The end of a relay that gives jobs. One thread has it, for as long as the workers run. In a contract it is the name
+/// The end of a relay that gives jobs. One thread has it, for as long as others take. In a contract it is the name
 /// of its relay, how many takers that has, and the numbers of the jobs that it gave.
 #[derive(Drop)]
 pub struct JobSource<T: Numbered> {
     pub(crate) deque: Worker<T, Global, Hand, ShareOut>,
-    pub(crate) workers: usize,
+    pub(crate) takers: usize,
     pub(crate) alloc: Global,
 }
 
@@ -26,23 +26,23 @@ impl<T: Numbered> Model for JobSource<T> {
 
     ghost view = { λ s. record {
       relay = worker_deque s.deque;
-      workers = s.workers;
+      takers = s.takers;
       given = (worker_view s.deque).given;
     } };
 
     ghost invariant = { λ s.
         (worker_flavor s.deque ≡ 0)
-        × (s.workers ≤ 64)
+        × (s.takers ≤ 65)
         × (64 ≤ worker_capacity s.deque)
         × (worker_index s.deque ≡ length (worker_view s.deque).given)
-        × (worker_view s.deque ≡ hand (65 - s.workers) (worker_view s.deque).given [] []) };
+        × (worker_view s.deque ≡ hand (66 - s.takers) (worker_view s.deque).given [] []) };
 }
 
 impl<T: Numbered> JobSource<T> {
     /// Gives a job, which one taker may take. The first 64 jobs take no memory and are never refused. A later one comes
     /// back where the queue can't grow: on want of memory, or past billions of jobs that wait.
     pub fn give(&mut self, job: T) -> Result<(), (T, AllocError)>
-        ensures same { (self.new.relay ≡ self.old.relay) × (self.new.workers ≡ self.old.workers) }
+        ensures same { (self.new.relay ≡ self.old.relay) × (self.new.takers ≡ self.old.takers) }
         ensures given { MatchResult result
             (λ _. self.new.given ≡ self.old.given ++ T.number job ∷ [])
             (λ e. (e.0 ≡ job) × (self.new.given ≡ self.old.given)) }

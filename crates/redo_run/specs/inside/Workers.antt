@@ -13,11 +13,11 @@ use Rattle.redo_run.specs.declared.run_fault.RunFault.TheVariants.{TooMany}
 
 -- the source is of the same relay
 abbrev pub IsSameSource : Source → Source → Type 0
-IsSameSource old new = (new.relay ≡ old.relay) × (new.workers ≡ old.workers)
+IsSameSource old new = (new.relay ≡ old.relay) × (new.takers ≡ old.takers)
 
 -- these are all takers of the source
 abbrev pub IsStaffed : Source → List Taker → Type 0
-IsStaffed source takers = (length takers ≡ source.workers) × All (λ t. t.relay ≡ source.relay) takers
+IsStaffed source takers = (length takers ≡ source.takers) × All (λ t. t.relay ≡ source.relay) takers
 
 -- what the board had taken is what it has taken now
 abbrev pub HasTakenOn : BoardView → BoardView → Type 0

@@ -21,11 +21,11 @@ EachIdle hands = (port : ℕ) (v : Hand) → get_elem? hands port ≡ some v →
 abbrev pub pending : Hand → ℕ
 pending v = length v.given - (length v.taken + length v.left)
 
--- What was given is what was taken, what was found left and what the queue holds, over all hands. There are 65 parts:
--- one for each of at most 64 takers, and at least one for the source.
+-- What was given is what was taken, what was found left and what the queue holds, over all hands. There are 66 parts:
+-- one for each of at most 65 takers, and at least one for the source.
 abbrev pub Balanced : {T : Type 0} → (T → Pair) → List T → List Hand → Type 0
 Balanced pair items hands =
-    (sum_by (λ v. v.parts) hands ≡ 65)
+    (sum_by (λ v. v.parts) hands ≡ 66)
     × ((p : Pair → Bool)
     → sum_by (λ v. count_by p v.given) hands
     ≡ (sum_by (λ v. count_by p v.taken) hands + sum_by (λ v. count_by p v.left) hands)

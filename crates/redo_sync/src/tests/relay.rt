@@ -112,8 +112,8 @@ fn what_nobody_took_is_left(rt: HostRuntime) -> Result<(), Fail> {
 
 #[test]
 fn relay_of_nothing_leaves_nothing(rt: HostRuntime) -> Result<(), Fail> {
-    let (source, takers) = relay::<Ticket>(rt.alloc(), 64)?;
-    assert_eq!(rt; takers.len(), 64);
+    let (source, takers) = relay::<Ticket>(rt.alloc(), 65)?;
+    assert_eq!(rt; takers.len(), 65);
     let ledger = gather(source, takers)?;
     assert!(rt; ledger.left().is_empty());
     Ok(())
@@ -200,7 +200,7 @@ fn take_share<R: Wait>(rt: &R, taker: JobTaker<Ticket>, marks: &Marks) -> JobTak
 
 /// Gives the jobs of the targets `a` and `b` at the turns below 5,000.
 fn give_all(alloc: Global, source: &mut JobSource<Ticket>) -> Result<(), Fail>
-    ensures { (source.new.relay ≡ source.old.relay) × (source.new.workers ≡ source.old.workers) }
+    ensures { (source.new.relay ≡ source.old.relay) × (source.new.takers ≡ source.old.takers) }
 {
     'jobs: for number in 0..10_000u64 {
         let target = if number % 2 == 0 { "a" } else { "b" };
@@ -275,9 +275,9 @@ fn run<'s, E, R: Threads + Wait + Sync>(
     marks: &'s Marks,
     ends: Ends,
 ) -> Result<Ends, Fail>
-    requires all { length ends.takers.items ≡ ends.source.workers }
+    requires all { length ends.takers.items ≡ ends.source.takers }
     requires own { All (λ t. t.relay ≡ ends.source.relay) ends.takers.items }
-    ensures all { IfOk result (λ e. length e.takers.items ≡ e.source.workers) }
+    ensures all { IfOk result (λ e. length e.takers.items ≡ e.source.takers) }
     ensures own { IfOk result (λ e. All (λ t. t.relay ≡ e.source.relay) e.takers.items) }
 {
     let Ends { mut source, takers } = ends;
@@ -296,18 +296,18 @@ fn run_in_scope<R: Threads + Wait + Sync>(
     marks: &Marks,
     ends: Ends,
 ) -> Result<Ends, Fail>
-    requires all { length ends.takers.items ≡ ends.source.workers }
+    requires all { length ends.takers.items ≡ ends.source.takers }
     requires own { All (λ t. t.relay ≡ ends.source.relay) ends.takers.items }
-    ensures all { IfOk result (λ e. length e.takers.items ≡ e.source.workers) }
+    ensures all { IfOk result (λ e. length e.takers.items ≡ e.source.takers) }
     ensures own { IfOk result (λ e. All (λ t. t.relay ≡ e.source.relay) e.takers.items) }
 {
     thread::scope(
         thread::scope_env(),
         rt,
         move |scope| -> Result<Ends, Fail>
-            requires { (length ends.takers.items ≡ ends.source.workers)
+            requires { (length ends.takers.items ≡ ends.source.takers)
                 × All (λ t. t.relay ≡ ends.source.relay) ends.takers.items }
-            ensures { IfOk result (λ e. (length e.takers.items ≡ e.source.workers)
+            ensures { IfOk result (λ e. (length e.takers.items ≡ e.source.takers)
                 × All (λ t. t.relay ≡ e.source.relay) e.takers.items) }
         { run(scope, rt, alloc, marks, ends) },
     )

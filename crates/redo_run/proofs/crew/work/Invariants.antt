@@ -1,5 +1,5 @@
 use Rattle.std.proofs.Common.{◌≡◌}
 use Rattle.redo_run.proofs.crew.work.Given as goal
 
-abbrev pub invariant-tries : goal.invariant-tries
-invariant-tries g l = l.taker.relay ≡ l.fn.taker.relay
+abbrev pub invariant-calls : goal.invariant-calls
+invariant-calls g l = l.taker.relay ≡ l.fn.taker.relay

@@ -9,4 +9,4 @@ use Rattle.redo_run.proofs.owner.own.Given as goal
 abbrev pub invariant-turns : goal.invariant-turns
 invariant-turns g l =
     IsNone l.board.stopped × IsSameSource l.fn.source l.source × IsSameBuild l.fn.board l.board
-    × (HasTaken l.fn.board l.fn.source.given → HasTaken l.board l.source.given)
+    × (l.taker.relay ≡ l.fn.taker.relay) × (HasTaken l.fn.board l.fn.source.given → HasTaken l.board l.source.given)

@@ -6,5 +6,5 @@ pub takers-preserved : goal.takers-preserved
 takers-preserved g c = (
   c.take_in.ensures.flavor ∙ c.takers.invariant.0,
   c.take_in.ensures.relay ∙ c.takers.invariant.1,
-  taken_in (65 - c.args.source.workers) c.args.source.given c.takers.yielded c.in-Some.taker _ _ c.takers.invariant.2 c.take_in.ensures.view,
+  taken_in (66 - c.args.source.takers) c.args.source.given c.takers.yielded c.in-Some.taker _ _ c.takers.invariant.2 c.take_in.ensures.view,
 )

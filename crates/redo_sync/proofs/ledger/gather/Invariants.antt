@@ -7,4 +7,4 @@ use Rattle.redo_sync.proofs.ledger.gather.Given as goal
 abbrev pub invariant-takers : goal.invariant-takers
 invariant-takers g l =
     (worker_flavor l.deque ≡ 0) × (worker_deque l.deque ≡ l.fn.source.relay)
-    × (worker_view l.deque ≡ hand ((65 - l.fn.source.workers) + length l.yielded) l.fn.source.given (taken_by l.yielded) [])
+    × (worker_view l.deque ≡ hand ((66 - l.fn.source.takers) + length l.yielded) l.fn.source.given (taken_by l.yielded) [])

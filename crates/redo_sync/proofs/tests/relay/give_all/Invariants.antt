@@ -3,4 +3,4 @@ use Rattle.redo_sync.proofs.tests.relay.give_all.Given as goal
 
 abbrev pub invariant-jobs : goal.invariant-jobs
 invariant-jobs l =
-    (l.source.relay ≡ l.fn.source.relay) × (l.source.workers ≡ l.fn.source.workers)
+    (l.source.relay ≡ l.fn.source.relay) × (l.source.takers ≡ l.fn.source.takers)

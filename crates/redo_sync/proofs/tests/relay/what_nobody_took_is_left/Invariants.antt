@@ -3,4 +3,4 @@ use Rattle.redo_sync.proofs.tests.relay.what_nobody_took_is_left.Given as goal
 
 abbrev pub invariant-given : goal.invariant-given
 invariant-given g l =
-    (l.source.relay ≡ l.initial.source.relay) × (l.source.workers ≡ l.initial.source.workers)
+    (l.source.relay ≡ l.initial.source.relay) × (l.source.takers ≡ l.initial.source.takers)
