@@ -2,7 +2,7 @@
 use Rattle.std.proofs.Common.{◌≡◌, ◌<◌, ◌≤◌, ◌↔◌, ◌++◌, ◌∷◌, ℕ, List, [], map, length, get_or, All, ap, sym, ◌∙◌, subst, arith}
 use Rattle.std.proofs.Common.{Result, Err}
 use Rattle.std.proofs.Math.ListN.{get_or-map}
-use Rattle.std.proofs.lemmas.List.{length-map}
+use Rattle.std.proofs.lemmas.List.{length-map, map-append}
 use Rattle.redo_build.specs.Takes.{is_at, times_taken, AreBegun, AreCountedOnce, IsTaken}
 use Rattle.redo_core.specs.Build.{GivenView}
 use Rattle.redo_report.specs.declared.report.Report.{Report}
@@ -42,10 +42,11 @@ module _ (given taken : List Pair) (out : SharesOut given taken []) where
     λ among. (tell taken p 0).1 (subst (λ n. 1 ≤ n) (as_often p 0) ((tell given p 0).0 ((of_given p).1 among))),
   )
 
--- one taker that comes back is of the same relay
-pub one_back : (init : List Taker) (t u : Taker) → u.relay ≡ t.relay → map (λ t. t.relay) (init ++ u ∷ []) ≡ map (λ t. t.relay) (init ++ t ∷ [])
-one_back [] t u e = ap (λ r. r ∷ []) e
-one_back (x ∷ xs) t u e = ap (λ l. x.relay ∷ l) (one_back xs t u e)
+-- takers that come back, and then one more, are of the same relays
+pub one_back : (us ts : List Taker) (u t : Taker) → map (λ t. t.relay) us ≡ map (λ t. t.relay) ts → u.relay ≡ t.relay → map (λ t. t.relay) (us ++ u ∷ []) ≡ map (λ t. t.relay) (ts ++ t ∷ [])
+one_back us ts u t same e =
+    map-append relay_of us (u ∷ []) ∙ ap (λ l. l ++ u.relay ∷ []) same ∙ ap (λ r. map relay_of ts ++ r ∷ []) e
+    ∙ sym (map-append relay_of ts (t ∷ []))
 
 -- a build that met want of memory answers so
 pub without_memory : (given : GivenView) (request : List (List ℕ)) (answer : Result (Report × Shares) RunFault) → answer ≡ Err Memory → IsAnswerTo given request answer

@@ -1,14 +1,27 @@
 use Rattle.std.proofs.Common.{◌∙◌}
 use Rattle.redo_run.proofs.owner.own.Goals as goal
 
--- a job is given
-pub turns-preserved-then-out-most : goal.turns-preserved-then-out-most
-turns-preserved-then-out-most g c =
-    let i = c.turns.invariant in let s = c.give_newest.ensures.source in let b = c.give_newest.ensures.build in (
-      c.in_ok-give_newest.ensures.running,
+-- the owner advances a script
+pub turns-preserved-then-is_for_owner : goal.turns-preserved-then-is_for_owner
+turns-preserved-then-is_for_owner g c =
+    let i = c.turns.invariant in let s = c.advance_newest.ensures.source in let b = c.advance_newest.ensures.build in (
+      c.in_ok-advance_newest.ensures.running,
       (s.0 ∙ i.1.0, s.1 ∙ i.1.1),
       (b.0 ∙ i.2.0, b.1 ∙ i.2.1),
-      λ had. c.in_ok-give_newest.ensures.taken (i.3 had),
+      c.advance_newest.ensures.taker ∙ i.3,
+      λ had. c.in_ok-advance_newest.ensures.taken (i.4 had),
+    )
+
+-- a job is given
+pub turns-preserved-then-out-lines : goal.turns-preserved-then-out-lines
+turns-preserved-then-out-lines g c =
+    let i = c.turns.invariant in let s = c.call_for_newest.ensures.source in
+    let b = c.call_for_newest.ensures.build in (
+      c.in_ok-call_for_newest.ensures.running,
+      (s.0 ∙ i.1.0, s.1 ∙ i.1.1),
+      (b.0 ∙ i.2.0, b.1 ∙ i.2.1),
+      i.3,
+      λ had. c.in_ok-call_for_newest.ensures.taken (i.4 had),
     )
 
 -- a piece comes in
@@ -18,5 +31,6 @@ turns-preserved g c =
       c.in_ok-receive.ensures.running,
       i.1,
       (b.0 ∙ i.2.0, b.1 ∙ i.2.1),
-      λ had. c.in_ok-receive.ensures.taken _ (i.3 had),
+      i.3,
+      λ had. c.in_ok-receive.ensures.taken _ (i.4 had),
     )

@@ -1,21 +1,34 @@
-use Rattle.std.proofs.Common.{rules, ap, sym, ◌∙◌, subst, Result}
+use Rattle.std.proofs.Common.{◌≡◌, ◌∙◌, List, ap, arith, map, rules, sym, subst, Result}
 use Rattle.std.specs.Prelude.{OnOk}
 use Rattle.redo_core.specs.Taken.{HasTaken}
 use Rattle.redo_core.specs.Views.{BoardView}
-use Rattle.redo_sync.specs.Relay.{Source}
+use Rattle.redo_sync.specs.Relay.{RelayId, Source, Taker}
 use Rattle.redo_run.specs.declared.run_fault.RunFault.{RunFault}
-use Rattle.redo_run.proofs.LedgerLemmas.{same_relays}
+use Rattle.redo_run.proofs.LedgerLemmas.{one_back, same_relays}
 use Rattle.redo_run.proofs.workers.run_crew.Goals as goal
 use Rattle.redo_run.proofs.workers.run_crew.Goals.{in-Ok, in-Err}
+
+-- there is a taker for the owner
+pub unreachable-requires : goal.unreachable-requires
+unreachable-requires g c =
+    let none = c.in_default.ensures.cases.0 in let all = c.requires.staffed.0 in
+    absurd (omega (arith, none, all, c.requires.some, c.args.desk.takers.ok))
 
 -- the takers that came back are those that went out
 pub returns-clause-staffed : goal.returns-clause-staffed
 returns-clause-staffed g c =
+    let relays : List Taker → List RelayId = λ l. map (λ t. t.relay) l in
     elim c.match-start_all.branch [
       | in-Ok w ↦
+          let others : relays c.join_all-takers.result.items ≡ relays c.pop.new.self.items =
+          c.join_all-takers.ensures ∙ w.in-Ok.ensures.each in
+          let own : c.match-start_all.taker.relay ≡ c.in-Some.taker.relay =
+          ap (λ t. t.relay) w.taker-is ∙ w.own-ended.ensures.taker in
+          let back : relays c.push.new.self.items ≡ relays c.args.desk.takers.items =
+          ap relays c.in_ok-push.ensures.items ∙ one_back _ _ _ _ others own ∙ sym (ap relays c.in-Some.ensures.items) in
           let kept = w.own-ended.ensures.source in
-          same_relays c.join_all-takers.result.items c.args.desk.takers.items c.args.desk.source c.match-start_all.source (c.join_all-takers.ensures ∙ w.in-Ok.ensures.each)
-          (ap (λ s. s.relay) w.source-is ∙ kept.0, ap (λ s. s.workers) w.source-is ∙ kept.1) c.requires.staffed
+          same_relays _ _ c.args.desk.source c.match-start_all.source back
+          (ap (λ s. s.relay) w.source-is ∙ kept.0, ap (λ s. s.takers) w.source-is ∙ kept.1) c.requires.staffed
       | in-Err w ↦ search rules
     ]
 
