@@ -14,6 +14,9 @@ Run = namedtuple("Run", "status out said")
 
 # What a run took: its processor time in seconds, of all threads, and the most memory that it held, in MiB.
 Took = namedtuple("Took", "seconds mib")
+# With four workers a run may take so many times the processor time that it may take with one: those that find no job
+# keep their processors busy, for as long as the machine holds up the one that has work.
+SPINNING = 5
 
 # The words behind `failed` in a row of a report.
 WHY = (

@@ -1,4 +1,5 @@
-//! Small builds, and scripts.
+//! Small builds, scripts, and what is left where memory runs out.
 
 mod board;
+mod memory;
 mod reading;

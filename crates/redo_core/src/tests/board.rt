@@ -17,16 +17,16 @@ const DIAMOND: [(&[u8], &[u8]); 4] = [
     (b"base.do", b"echo b\n"),
 ];
 
-const REPORT: &[u8] =
+pub(crate) const REPORT: &[u8] =
     b"built 2 base\ndep change base.do\nbuilt 2 left\ndep change left.do\ndep change base\nbuilt 2 right\ndep change right.do\ndep change base\nbuilt 4 top\ndep change top.do\ndep change left\ndep change right\nbegun base\nbegun left\nbegun right\nbegun top\nfile 2 base\nb\n\nfile 2 left\nb\n\nfile 2 right\nb\n\nfile 4 top\nb\nb\n\nend\n";
 
-fn path(alloc: Global, word: &[u8]) -> Result<Path, Fail> {
+pub(crate) fn path(alloc: Global, word: &[u8]) -> Result<Path, Fail> {
     let root = Path::root();
     Ok(resolve(alloc, &root, word)?)
 }
 
 /// The tree of the first so many scripts.
-fn tree(alloc: Global, scripts: usize) -> Result<Arc<Tree>, Fail> {
+pub(crate) fn tree(alloc: Global, scripts: usize) -> Result<Arc<Tree>, Fail> {
     let mut tree = Tree::new(alloc)?;
     for (name, text) in DIAMOND.iter().take(scripts) {
         let file = path(alloc, name)?;
@@ -59,7 +59,7 @@ fn take(board: &mut Board, which: usize) -> Result<Work, Fail> {
 }
 
 /// The answer to a piece of the board's build.
-fn answer(board: &mut Board, piece: Piece) -> Result<Option<HandFault>, Fail> {
+pub(crate) fn answer(board: &mut Board, piece: Piece) -> Result<Option<HandFault>, Fail> {
     if !board.belongs(&piece) {
         Err("a piece of another build")?;
     }
@@ -84,7 +84,7 @@ fn go(board: &mut Board, steps: usize) -> Result<(), Fail> {
 }
 
 /// The first piece of another board of the diamond.
-fn first_piece(alloc: Global, targets: u32) -> Result<Piece, Fail> {
+pub(crate) fn first_piece(alloc: Global, targets: u32) -> Result<Piece, Fail> {
     let mut other = board(alloc, &[b"top"], targets)?;
     let work = take(&mut other, 0)?;
     Ok(work.advance()?)
@@ -102,7 +102,7 @@ fn gives_back(alloc: Global, board: &mut Board) -> Result<bool, Fail> {
 }
 
 /// How many are ready, how many are out, and whether the board is quiet.
-fn counts(board: &Board) -> (usize, usize, bool) {
+pub(crate) fn counts(board: &Board) -> (usize, usize, bool) {
     (board.ready(), board.out(), board.quiet())
 }
 

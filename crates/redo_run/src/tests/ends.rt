@@ -160,7 +160,7 @@ fn a_writer_may_fail_at_any_call(rt: HostRuntime) -> Result<(), Fail> {
     Ok(())
 }
 
-/// With each allocation refused in turn, by `rt try --test --fail-alloc N`.
+/// `tests/refused-memory` refuses each allocation of this test in turn, as it does those of `memory`.
 #[test]
 fn a_refusal_of_memory_leaves_nothing(rt: HostRuntime) -> Result<(), Fail> {
     let alloc = rt.alloc();
