@@ -11,6 +11,7 @@ use crate::item::Item;
 use crate::name::CommandName;
 use crate::number::status_of_word;
 use std::alloc::{AllocError, Global};
+use std::mem;
 
 /// What `test` looks at, where its operands are of a form.
 fn test_operands(alloc: Global, items: &mut Vec<Item>) -> Result<Option<Test>, AllocError>
@@ -35,14 +36,15 @@ fn test_operands(alloc: Global, items: &mut Vec<Item>) -> Result<Option<Test>, A
     }
 }
 
-/// The words of operands.
-#[tactic(auto, using(crate::proofs::StatementLemmas::words_push))]
+/// The words of operands, which are taken from their places.
 #[inline(always)]
 fn words_of_items(alloc: Global, items: &mut Vec<Item>) -> Result<Vec<Word>, AllocError>
     ensures { IfOk result (λ words. words_of words.items ≡ item_words (map item_of items.old.items)) }
 {
     let mut words = Vec::with_capacity(alloc, items.len())?;
-    for item in items.drain(..) {
+    // In their order, each word is moved once, which `drain` would do twice.
+    for place in items.iter_mut() {
+        let item = mem::replace(place, Item::Lent(false, b""));
         words.push(item.into_word(alloc)?)?;
     }
     Ok(words)
