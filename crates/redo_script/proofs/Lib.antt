@@ -27,4 +27,5 @@ pub mod RunLemmas
 pub mod SpelledLemmas
 pub mod StatementLemmas
 pub mod StopTokenLemmas
+pub mod TableLemmas
 pub mod WholeScriptLemmas

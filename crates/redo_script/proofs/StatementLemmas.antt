@@ -1,6 +1,7 @@
 -- Lists of statements and of open ifs, as they are seen.
 use Rattle.std.proofs.Common.{◌≡◌, ℕ, suc, ◌+◌, ◌==◌, false, List, [], ◌∷◌, ◌++◌, length, refl, sym, ap, ◌∙◌, map}
-use Rattle.std.proofs.Common.{arith}
+use Rattle.std.proofs.Common.{arith, zero, ◌<◌, take, drop, get_or, set, add-one}
+use Rattle.std.proofs.Math.Seq.{drop-cons}
 use Rattle.std.proofs.lemmas.Bool.{ne_eqb}
 use Rattle.redo_script.specs.declared.ast.Stmt.{Stmt}
 use Rattle.redo_script.specs.declared.ast.Stmt.TheOpen.{Stmt-F}
@@ -19,7 +20,7 @@ use Rattle.redo_script.specs.View.{stmt_step, before, script_of, command_of, con
 use Rattle.redo_script.specs.declared.ast.Word.{Word as WordTree}
 use Rattle.redo_script.specs.declared.item.Item.{Item as ItemTree}
 use Rattle.redo_script.specs.Grammar.{Item, item_words}
-use Rattle.std.proofs.lemmas.List.{map-append}
+use Rattle.std.proofs.lemmas.List.{map-append, drop-set-lt}
 use Rattle.redo_script.specs.inside.Parser.{item_of, open_of, stack_onto}
 
 -- one statement and what is behind it
@@ -83,3 +84,19 @@ script_empty (x ∷ xs) = ap is_empty (before-opened x (script_of xs)) ∙ opene
 -- an operand more
 pub words_push : (ws : List WordTree) (is : List ItemTree) (w : WordTree) (i : ItemTree) → words_of ws ≡ item_words (map item_of is) → word_of w ≡ (item_of i).word → words_of (ws ++ w ∷ []) ≡ item_words (map item_of (is ++ i ∷ []))
 words_push ws is w i h e = rw (map-append word_of ws (w ∷ []), map-append item_of is (i ∷ []), map-append {A = Item} (λ x. x.word) (map item_of is) (map item_of (i ∷ [])), h, e) refl
+
+drop_head : {A : Type 0} (xs : List A) (i : ℕ) (x : A) (rest : List A) → drop i xs ≡ x ∷ rest → (take (suc i) xs ≡ take i xs ++ x ∷ []) × (drop (suc i) xs ≡ rest)
+drop_head [] zero x rest h = absurd (cc h)
+drop_head (y ∷ ys) zero x rest h =
+    let e : y ≡ x = cc h in
+    let f : ys ≡ rest = cc h in
+    (rw e refl, f)
+drop_head [] (suc i) x rest h = absurd (cc h)
+drop_head (y ∷ ys) (suc i) x rest h = let p = drop_head ys i x rest h in (ap (λ t. y ∷ t) p.0, p.1)
+
+-- an operand more, which leaves another one in its place
+pub words_next : (olds nows : List ItemTree) (k : ℕ) (item left : ItemTree) (ws : List WordTree) (w : WordTree) → k < length nows → get_or nows k item ≡ item → word_of w ≡ (item_of item).word → words_of ws ≡ item_words (map item_of (take k olds)) → drop k nows ≡ drop k olds → (words_of (ws ++ w ∷ []) ≡ item_words (map item_of (take (k + 1) olds))) × (drop (k + 1) (set nows k left) ≡ drop (k + 1) olds)
+words_next olds nows k item left ws w lt at e h same =
+    let here : drop k nows ≡ item ∷ drop (suc k) nows = drop-cons nows k item lt ∙ ap (λ x. x ∷ drop (suc k) nows) at in
+    let p = drop_head olds k item (drop (suc k) nows) (sym same ∙ here) in
+    rw (add-one k) (words_push ws (take k olds) w item h e ∙ ap (λ t. item_words (map item_of t)) (sym p.0), drop-set-lt (suc k) nows k left (omega arith) ∙ sym p.1)

@@ -3,18 +3,24 @@
 ghost use Rattle.std.specs.Prelude.{◌≡◌};
 ghost use Rattle.redo_script.specs.Bytes.{is_plain, begins_name, continues_name};
 
+// Each byte that stands for itself stands at its own place, and `#`, which doesn't, at every other place.
+static PLAIN_BYTES: [u8; 256] = *b"\
+    ################################\
+    #!###%#####+,-./0123456789:##=##\
+    @ABCDEFGHIJKLMNOPQRSTUVWXYZ####_\
+    #abcdefghijklmnopqrstuvwxyz#####\
+    ################################\
+    ################################\
+    ################################\
+    ################################";
+
 /// Whether a byte stands for itself outside quotes, and may stand in the value of a bare parameter:
 /// a letter, a digit, or one of `_ - . / + , : = @ % !`.
-#[tactic(auto, unfolding(crate::specs::Bytes::is_plain))]
 pub fn is_plain_byte(byte: u8) -> bool
     ensures { result ≡ is_plain byte }
 {
-    // Most bytes are small letters, which one comparison tells.
-    byte.is_ascii_lowercase()
-        || matches!(
-        byte,
-        b'A'..=b'Z' | b'0'..=b'9' | b'_' | b'-' | b'.' | b'/' | b'+' | b',' | b':' | b'=' | b'@' | b'%' | b'!'
-    )
+    // Readers ask this of nearly every byte, and a table takes the fewest steps.
+    PLAIN_BYTES[byte as usize] != b'#'
 }
 
 /// Whether a name may begin with this byte: a letter or `_`.

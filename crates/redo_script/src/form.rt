@@ -11,38 +11,41 @@ use crate::item::Item;
 use crate::name::CommandName;
 use crate::number::status_of_word;
 use std::alloc::{AllocError, Global};
+use std::mem;
 
-/// What `test` looks at, where its operands are of a form.
+/// What `test` looks at, where its operands are of a form. Those that are left lose their order, since none is looked
+/// at again.
 fn test_operands(alloc: Global, items: &mut Vec<Item>) -> Result<Option<Test>, AllocError>
     ensures { IfOk result (λ test. option_map test_of test ≡ test_form (map item_of items.old.items)) }
 {
     match items.as_slice() {
         [flag, _] if flag.spells(b"-f") => {
-            let file = items.remove(1).into_word(alloc)?;
+            let file = items.swap_remove(1).into_word(alloc)?;
             Ok(Some(Test::IsFile(file)))
         }
         [_, operator, _] if operator.spells(b"=") => {
-            let right = items.remove(2).into_word(alloc)?;
-            let left = items.remove(0).into_word(alloc)?;
+            let right = items.swap_remove(2).into_word(alloc)?;
+            let left = items.swap_remove(0).into_word(alloc)?;
             Ok(Some(Test::Equal(left, right)))
         }
         [_, operator, _] if operator.spells(b"!=") => {
-            let right = items.remove(2).into_word(alloc)?;
-            let left = items.remove(0).into_word(alloc)?;
+            let right = items.swap_remove(2).into_word(alloc)?;
+            let left = items.swap_remove(0).into_word(alloc)?;
             Ok(Some(Test::Differ(left, right)))
         }
         _ => Ok(None),
     }
 }
 
-/// The words of operands.
-#[tactic(auto, using(crate::proofs::StatementLemmas::words_push))]
+/// The words of operands, which are taken from their places.
 #[inline(always)]
 fn words_of_items(alloc: Global, items: &mut Vec<Item>) -> Result<Vec<Word>, AllocError>
     ensures { IfOk result (λ words. words_of words.items ≡ item_words (map item_of items.old.items)) }
 {
     let mut words = Vec::with_capacity(alloc, items.len())?;
-    for item in items.drain(..) {
+    // In their order, each word is moved once, which `drain` would do twice.
+    for place in items.iter_mut() {
+        let item = mem::replace(place, Item::Lent(false, b""));
         words.push(item.into_word(alloc)?)?;
     }
     Ok(words)

@@ -179,10 +179,12 @@ impl<'a> Parser<'a> {
     }
 
     /// `if` in a command's place.
+    #[tactic(auto, using(crate::proofs::OpenLemmas::ifs_are, crate::proofs::OpenLemmas::ifs_few))]
     fn if_word(&mut self, line: u64) -> Result<(), ScriptFault>
         ensures { Leaves parser_of self.new result (if_opened (parser_of self.old) line) }
     {
-        if count_ifs(&self.opens) >= 16 {
+        // Where fewer are open at all, none is counted.
+        if self.opens.len() >= 16 && count_ifs(&self.opens) >= 16 {
             return Parser::fault(line, Reason::TooDeep);
         }
         self.phase = Phase::BehindIf(line);

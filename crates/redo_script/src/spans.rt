@@ -24,12 +24,23 @@ pub fn plain_len(text: &[u8]) -> usize
     text.len()
 }
 
+// Each byte that means something in quotes of one kind or the other, or ends a line, stands at its own place, and `.`,
+// which doesn't, at every other place.
+static SPECIAL_BYTES: [u8; 256] = *b"\
+    ..........\n.....................\
+    ..\".$..'........................\
+    ............................\\...\
+    `...............................\
+    ................................\
+    ................................\
+    ................................\
+    ................................";
+
 /// Whether a byte means something in quotes of one kind or the other, or ends a line.
 fn is_special_byte(byte: u8) -> bool
     ensures { result ≡ is_special byte }
 {
-    // Most bytes are small letters, which one comparison tells.
-    !byte.is_ascii_lowercase() && matches!(byte, b'$' | b'`' | b'"' | b'\\' | b'\'' | b'\n')
+    SPECIAL_BYTES[byte as usize] != b'.'
 }
 
 /// How many bytes come first that stand for themselves in quotes, on one line.
