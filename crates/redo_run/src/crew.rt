@@ -3,12 +3,14 @@
 ghost use Rattle.std.specs.Prelude.{◌≡◌, ◌≤◌, [], length, map, vec_capacity, OnOk};
 
 use crate::gate::Gate;
+use crate::lookers::Lookers;
 use crate::of_build::{Build, JobOf, Message};
 use crossbeam_channel::{Receiver, Sender};
 use redo_sync::{JobTaker, Taken};
 use std::alloc::{AllocError, Global};
 use std::snapshot::Snapshot;
 use std::sync::Wait;
+use std::thread;
 use std::thread::{Promise, PromisedHandle, Scope, Threads};
 
 /// How many jobs may be out for each worker: one that it is at, and one that waits for it.
@@ -17,15 +19,19 @@ const OUT_FOR_EACH: usize = 2;
 /// How many calls and messages a channel holds: one for each job that may be out, with 64 workers. So no sender waits.
 const MOST_OUT: usize = 128;
 
-/// Tells the workers that one more job waits for one of them. Between calls they sleep.
+/// How often a worker looks for a job before it sleeps. It leaves its processor to others after each look.
+const LOOKS: u32 = 64;
+
+/// Tells one worker that a job waits for it. Until it is called it sleeps.
 #[derive(Drop)]
 pub(crate) struct Call;
 
 /// The owner's ends of the channels to its workers and back.
 #[derive(Drop)]
-pub(crate) struct Lines<B: Build> {
+pub(crate) struct Lines<'s, B: Build> {
     pub calls: Sender<Call>,
     pub messages: Receiver<Message<B>>,
+    pub lookers: &'s Lookers,
     /// How many jobs may be out at a time: none where there is no worker. The others wait on the board, where the
     /// newest goes first.
     pub most_out: usize,
@@ -33,30 +39,32 @@ pub(crate) struct Lines<B: Build> {
 
 /// A worker's ends of the channels.
 #[derive(Drop)]
-pub(crate) struct Extension<B: Build> {
+pub(crate) struct Extension<'s, B: Build> {
     calls: Receiver<Call>,
     messages: Sender<Message<B>>,
+    lookers: &'s Lookers,
 }
 
 /// Channels for so many workers.
-pub(crate) fn lines_for<B: Build>(
+pub(crate) fn lines_for<'s, B: Build>(
     alloc: Global,
     workers: usize,
-) -> Result<(Lines<B>, Extension<B>), AllocError> {
+    lookers: &'s Lookers,
+) -> Result<(Lines<'s, B>, Extension<'s, B>), AllocError> {
     let (calls, called) = crossbeam_channel::bounded(alloc, MOST_OUT)?;
     let (sender, messages) = crossbeam_channel::bounded(alloc, MOST_OUT)?;
     let lines = Lines {
         calls,
         messages,
+        lookers,
         most_out: workers.saturating_mul(OUT_FOR_EACH),
     };
-    Ok((
-        lines,
-        Extension {
-            calls: called,
-            messages: sender,
-        },
-    ))
+    let extension = Extension {
+        calls: called,
+        messages: sender,
+        lookers,
+    };
+    Ok((lines, extension))
 }
 
 /// A worker hands back its own taker.
@@ -70,39 +78,75 @@ impl<B: Build> Promise<JobTaker<JobOf<B>>> for OwnTaker<B> {
 /// A worker that was started.
 pub(crate) type Hand<B> = PromisedHandle<JobTaker<JobOf<B>>, OwnTaker<B>>;
 
-/// Takes a job that was given for nobody else, and advances its script. A try may find another taker at the queue, but
-/// the job is there, so one of the next tries has it.
-pub(crate) fn advance_next<B: Build, R: Wait, G: Gate>(
-    rt: &R,
-    taker: &mut JobTaker<JobOf<B>>,
-    gate: &G,
-) -> Message<B>
+/// Looks for a job so often as a worker does before it sleeps.
+fn look<B: Build>(taker: &mut JobTaker<JobOf<B>>) -> Option<JobOf<B>>
     ensures { taker.new.relay ≡ taker.old.relay }
 {
-    'tries: for _ in rt.forever() {
-        if let Taken::Job(job) = taker.try_take()? {
-            return job.advance(gate);
+    'looks: for _ in 0..LOOKS {
+        if let Ok(Taken::Job(job)) = taker.try_take() {
+            return Some(job);
+        }
+        thread::yield_now();
+    }
+    None
+}
+
+/// The next job of a worker that has added its token. It is none once the owner has ended.
+fn next_job<B: Build, R: Wait>(
+    rt: &R,
+    lookers: &Lookers,
+    taker: &mut JobTaker<JobOf<B>>,
+    calls: &Receiver<Call>,
+) -> Option<JobOf<B>>
+    ensures { taker.new.relay ≡ taker.old.relay }
+{
+    'looks: for _ in rt.forever() {
+        if let Some(job) = look(taker) {
+            return Some(job);
+        }
+        if lookers.take() && calls.recv(rt).is_err() {
+            return None;
         }
     }
     unreachable!()
 }
 
-/// Takes a job for each call and sends what it came to, until the owner has ended.
+/// The job that the owner has given and added its token for, unless a worker that looked was faster.
+pub(crate) fn job_of_owner<B: Build, R: Wait>(
+    rt: &R,
+    lookers: &Lookers,
+    taker: &mut JobTaker<JobOf<B>>,
+) -> Option<JobOf<B>>
+    ensures { taker.new.relay ≡ taker.old.relay }
+{
+    'looks: for _ in rt.forever() {
+        if let Ok(Taken::Job(job)) = taker.try_take() {
+            return Some(job);
+        }
+        if lookers.take() {
+            return None;
+        }
+    }
+    unreachable!()
+}
+
+/// Takes jobs and sends what they came to, until the owner has ended.
 fn work<B: Build, R: Wait, G: Gate>(
     rt: &R,
     gate: &G,
+    lookers: &Lookers,
     mut taker: JobTaker<JobOf<B>>,
     calls: Receiver<Call>,
     messages: Sender<Message<B>>,
 ) -> JobTaker<JobOf<B>>
     ensures { result.relay ≡ taker.relay }
 {
-    'calls: for _ in rt.forever() {
-        if calls.recv(rt).is_err() {
+    'jobs: for _ in rt.forever() {
+        lookers.add();
+        let Some(job) = next_job(rt, lookers, &mut taker, &calls) else {
             break;
-        }
-        let message = advance_next(rt, &mut taker, gate);
-        if messages.send(rt, message).is_err() {
+        };
+        if messages.send(rt, job.advance(gate)).is_err() {
             break;
         }
     }
@@ -115,7 +159,7 @@ pub(crate) fn start_all<'s, E, B: Build + Send + Sync + 's, R: Threads + Wait + 
     rt: &'s R,
     gate: &'s G,
     takers: Vec<JobTaker<JobOf<B>>>,
-    extension: Extension<B>,
+    extension: Extension<'s, B>,
     hands: &mut Vec<Hand<B>>,
 ) -> Result<(), AllocError>
     requires { hands.old.items ≡ [] }
@@ -123,13 +167,19 @@ pub(crate) fn start_all<'s, E, B: Build + Send + Sync + 's, R: Threads + Wait + 
         map (λ t. t.relay) takers.items) }
     ensures most { length hands.new.items ≤ length takers.items }
 {
-    let Extension { calls, messages } = extension;
+    let Extension {
+        calls,
+        messages,
+        lookers,
+    } = extension;
     'takers: for taker in takers {
         let called = calls.clone()?;
         let sender = messages.clone()?;
         hands.reserve(1)?;
         let promise = OwnTaker(Snapshot::of(&taker));
-        let hand = scope.spawn_with(promise, move || work(rt, gate, taker, called, sender))?;
+        let hand = scope.spawn_with(promise, move || {
+            work(rt, gate, lookers, taker, called, sender)
+        })?;
         hands.push_reserved(hand);
     }
     Ok(())

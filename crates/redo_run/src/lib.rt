@@ -9,8 +9,8 @@
 //! `redo_tree`, `redo_bundle` and `redo_dir` for trees and where they come from, and on `redo_which` for the search.
 //!
 //! - `one`: a build by one thread; `workers`: by many, or by one through a relay; `owner`: what the one does that has
-//!   the board; `crew`: what the workers do; `of_build`: what they send each other; `gate`: who is told of each job;
-//!   `picks`: a build in an order that is given beforehand;
+//!   the board; `crew`: what the workers do; `lookers`: how many of them look for a job; `of_build`: what they send each
+//!   other; `gate`: who is told of each job; `picks`: a build in an order that is given beforehand;
 //! - `run_fault`: why a build has no report; `exit`: whether all that was requested is there;
 //! - `bundle`: the two calls over bundles; `options` and `fault`: what they take and refuse; `directory` and
 //!   `dir_fault`: the same over a directory; `request` and `candidates`: what both share.
@@ -25,6 +25,7 @@ mod directory;
 mod exit;
 mod fault;
 mod gate;
+mod lookers;
 mod of_build;
 mod one;
 mod options;

@@ -7,7 +7,7 @@ ghost use Rattle.redo_core.specs.Taken.{HasTaken};
 ghost use Rattle.redo_core.specs.Views.{limit_on, ready_count, rules_on};
 ghost use Rattle.redo_run.specs.inside.Workers.{HasTakenOn, IsSameSource};
 
-use crate::crew::{Call, Lines, advance_next};
+use crate::crew::{Call, Lines, job_of_owner};
 use crate::gate::Gate;
 use crate::of_build::{Build, JobOf, Message, PieceOf};
 use crate::run_fault::RunFault;
@@ -64,13 +64,13 @@ fn hand_in<B: Build, R: Wait>(rt: &R, board: &mut Board, piece: PieceOf<B>) -> R
     }
 }
 
-/// Gives the newest job, and calls a worker for it. Nobody hears the call only where every worker has ended, which none
-/// does before the end of the run.
+/// Gives the newest job, and calls a worker for it if none looks for one. Nobody hears the call only where every worker
+/// has ended, which none does before the end of the run.
 fn call_for_newest<B: Build, R: Wait>(
     rt: &R,
     board: &mut Board,
     source: &mut JobSource<JobOf<B>>,
-    lines: &Lines<B>,
+    lines: &Lines<'_, B>,
 ) -> Result<(), AllocError>
     requires ready { 0 < ready_count board.old }
     requires of_build { board.old.given ≡ B.given }
@@ -80,18 +80,20 @@ fn call_for_newest<B: Build, R: Wait>(
     ensures taken { OnOk result (HasTaken board.old source.old.given → HasTaken board.new source.new.given) }
 {
     give_newest(board, source)?;
-    if lines.calls.send(rt, Call).is_err() {
+    if !lines.lookers.take() && lines.calls.send(rt, Call).is_err() {
         never(rt)
     }
     Ok(())
 }
 
-/// Gives the newest job, takes it, and hands its piece in.
+/// Gives the newest job, takes it, and hands its piece in. Where a worker that looked has taken it first, its piece
+/// comes as any other's.
 fn advance_newest<B: Build, R: Wait, G: Gate>(
     rt: &R,
     board: &mut Board,
     source: &mut JobSource<JobOf<B>>,
     taker: &mut JobTaker<JobOf<B>>,
+    lines: &Lines<'_, B>,
     gate: &G,
 ) -> Result<(), RunFault>
     requires ready { 0 < ready_count board.old }
@@ -104,9 +106,12 @@ fn advance_newest<B: Build, R: Wait, G: Gate>(
     ensures too_many { result ≡ Err RunFault.TooMany →
         IsTooMany (rules_on board.old) board.old.request (limit_on board.old) }
 {
-    give_newest(board, source)?;
-    let piece = advance_next(rt, taker, gate)?;
-    hand_in(rt, board, piece)
+    lines.lookers.add();
+    call_for_newest(rt, board, source, lines)?;
+    let Some(job) = job_of_owner(rt, lines.lookers, taker) else {
+        return Ok(());
+    };
+    hand_in(rt, board, job.advance(gate)?)
 }
 
 /// Receives one message, and hands its piece in. All senders are gone only where every worker has ended, which none
@@ -135,7 +140,7 @@ fn receive<B: Build, R: Wait>(
 
 /// Whether the owner advances the newest job itself: there is no worker, or this is the only script that can go on, so
 /// that nothing waits for the owner meanwhile. So a chain of targets needs no hand-over.
-fn is_for_owner<B: Build>(board: &Board, lines: &Lines<B>) -> bool {
+fn is_for_owner<B: Build>(board: &Board, lines: &Lines<'_, B>) -> bool {
     board.out() == 0 && (board.ready() == 1 || lines.most_out == 0)
 }
 
@@ -145,7 +150,7 @@ pub(crate) fn own<B: Build, R: Wait, G: Gate>(
     board: &mut Board,
     source: &mut JobSource<JobOf<B>>,
     taker: &mut JobTaker<JobOf<B>>,
-    lines: &Lines<B>,
+    lines: &Lines<'_, B>,
     gate: &G,
 ) -> Result<(), RunFault>
     requires of_build { board.old.given ≡ B.given }
@@ -162,7 +167,7 @@ pub(crate) fn own<B: Build, R: Wait, G: Gate>(
             return Ok(());
         }
         if board.ready() > 0 && is_for_owner(board, lines) {
-            advance_newest(rt, board, source, taker, gate)?;
+            advance_newest(rt, board, source, taker, lines, gate)?;
         } else if board.ready() > 0 && board.out() < lines.most_out {
             call_for_newest(rt, board, source, lines)?;
         } else {

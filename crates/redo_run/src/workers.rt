@@ -18,6 +18,7 @@ ghost use Rattle.redo_run.specs.inside.Workers.{IsAnswerTo, IsStaffed};
 
 use crate::crew::{join_all, lines_for, start_all};
 use crate::gate::Gate;
+use crate::lookers::Lookers;
 use crate::of_build::{Build, JobOf};
 use crate::owner::{never, own};
 use crate::run_fault::RunFault;
@@ -84,6 +85,7 @@ fn run_crew<'s, E, B: Build + Send + Sync + 's, R: Threads + Wait + Sync, G: Gat
     scope: &Scope<'s, E>,
     rt: &'s R,
     gate: &'s G,
+    lookers: &'s Lookers,
     alloc: Global,
     desk: Desk<B>,
 ) -> Result<Desk<B>, RunFault>
@@ -107,7 +109,7 @@ fn run_crew<'s, E, B: Build + Send + Sync + 's, R: Threads + Wait + Sync, G: Gat
     let Some(mut taker) = takers.pop() else {
         unreachable!()
     };
-    let (lines, extension) = lines_for(alloc, takers.len())?;
+    let (lines, extension) = lines_for(alloc, takers.len(), lookers)?;
     let mut hands = Vec::new(alloc);
     let ended = match start_all(scope, rt, gate, takers, extension, &mut hands) {
         Ok(()) => own(rt, &mut board, &mut source, &mut taker, &lines, gate),
@@ -129,6 +131,7 @@ fn run_crew<'s, E, B: Build + Send + Sync + 's, R: Threads + Wait + Sync, G: Gat
 fn run_in_scope<B: Build + Send + Sync, R: Threads + Wait + Sync, G: Gate>(
     rt: &R,
     gate: &G,
+    lookers: &Lookers,
     alloc: Global,
     desk: Desk<B>,
 ) -> Result<Desk<B>, RunFault>
@@ -153,7 +156,7 @@ fn run_in_scope<B: Build + Send + Sync, R: Threads + Wait + Sync, G: Gate>(
                 IsSameBuild desk.board d.board) ×
                 (result ≡ Err RunFault.TooMany →
                 IsTooMany (rules_on desk.board) desk.board.request (limit_on desk.board)) }
-        { run_crew(scope, rt, gate, alloc, desk) },
+        { run_crew(scope, rt, gate, lookers, alloc, desk) },
     )
 }
 
@@ -185,7 +188,7 @@ fn run_build<B: Build + Send + Sync, R: Threads + Wait + Sync, G: Gate>(
         source,
         takers,
     };
-    let ended = run_in_scope(rt, gate, alloc, desk)?;
+    let ended = run_in_scope(rt, gate, &Lookers::new(), alloc, desk)?;
     answer_of(rt, alloc, ended)
 }
 

@@ -5,6 +5,7 @@ use Rattle.redo_sync.proofs.taker.JobTaker.TheSendSync as taker
 use Rattle.crossbeam_channel.proofs.channel.Sender.TheSendSync as sender
 use Rattle.crossbeam_channel.proofs.channel.Receiver.TheSendSync as receiver
 use Rattle.redo_run.proofs.crew.Call.TheSendSync as call
+use Rattle.redo_run.proofs.lookers.Lookers.TheSendSync as lookers
 use Rattle.redo_run.proofs.CrossingLemmas.{job_of_send, message_send}
 use Rattle.redo_run.proofs.crew.start_all.Lts.{arg-15-2, arg-15-3}
 use Rattle.redo_run.proofs.crew.start_all.Goals as goal
@@ -18,7 +19,7 @@ spawn_with-requires-send-T g c κs within =
       leaving = λ k x w. tt;
     }
 
--- what the worker's closure has: two references to what may be shared, a taker, and its ends of the channels
+-- what the worker's closure has: three references to what may be shared, a taker, and its ends of the channels
 pub spawn_with-requires-send-F : goal.spawn_with-requires-send-F
 spawn_with-requires-send-F g c κs within =
     let bounds = c.type_bounds in
@@ -31,14 +32,17 @@ spawn_with-requires-send-F g c κs within =
           (
             (tt, bounds.sync-G.shared x.1.now x.1.ref_ptr.0 x.1.ref_ptr.1 _),
             (
-              (taker.the_send _ _ (job_of_send (param 1 g.row.B) g.B.Build)).owned x.2 vs,
+              (tt, lookers.the_sync.shared x.2.now x.2.ref_ptr.0 x.2.ref_ptr.1 _),
               (
-                (receiver.the_send _ _ _ call.the_send heap.send heap.sync heap.frees).owned x.3 vs,
-                ((sender.the_send _ _ _ (message_send (param 1 g.row.B) g.B.Build) heap.send heap.sync heap.frees).owned x.4 vs, tt),
+                (taker.the_send _ _ (job_of_send (param 1 g.row.B) g.B.Build)).owned x.3 vs,
+                (
+                  (receiver.the_send _ _ _ call.the_send heap.send heap.sync heap.frees).owned x.4 vs,
+                  ((sender.the_send _ _ _ (message_send (param 1 g.row.B) g.B.Build) heap.send heap.sync heap.frees).owned x.5 vs, tt),
+                ),
               ),
             ),
           ),
         ),
       );
-      leaving = λ k x w. (tt, (tt, (tt, (tt, (tt, tt)))));
+      leaving = λ k x w. (tt, (tt, (tt, (tt, (tt, (tt, tt))))));
     }

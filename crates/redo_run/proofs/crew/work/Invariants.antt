@@ -1,5 +1,5 @@
 use Rattle.std.proofs.Common.{◌≡◌}
 use Rattle.redo_run.proofs.crew.work.Given as goal
 
-abbrev pub invariant-calls : goal.invariant-calls
-invariant-calls g l = l.taker.relay ≡ l.fn.taker.relay
+abbrev pub invariant-jobs : goal.invariant-jobs
+invariant-jobs g l = l.taker.relay ≡ l.fn.taker.relay
