@@ -11,7 +11,8 @@ use Rattle.redo_record.specs.declared.deps.DepKind.TheVariants as kinds
 use Rattle.redo_record.specs.Entries.{is_entered, with_entry as with_dep}
 use Rattle.redo_book.specs.declared.book.BookEntry.{BookEntry}
 use Rattle.redo_book.specs.declared.book.BookEntry.TheVariants.{Change, Create, Always}
-use Rattle.redo_book.specs.Book.{Record, State, same_entry}
+use Rattle.redo_digest.specs.Digest.{State}
+use Rattle.redo_book.specs.Book.{Record, same_entry}
 use Rattle.redo_book.specs.inside.Reading.{dep_of, deps_of, new_entry, only_if, with_entry}
 
 entered_change : (s : State) (p : List ℕ) (es : List BookEntry) → is_entered (deps_of es) kinds.Change p ≡ list_any (same_entry (Change s p)) es

@@ -18,7 +18,8 @@ use Rattle.redo_book.specs.declared.book.BookEntry.{BookEntry}
 use Rattle.redo_book.specs.declared.book.BookEntry.TheVariants.{Change, Create, Always}
 use Rattle.redo_book.specs.declared.lines.Line.{Line}
 use Rattle.redo_book.specs.declared.lines.Line.TheVariants.{Target, Entry}
-use Rattle.redo_book.specs.Book.{IsBook, IsEntry, IsPlace, IsRecord, IsState, Record, State, entry_line, is_newline}
+use Rattle.redo_digest.specs.Digest.{IsState, State}
+use Rattle.redo_book.specs.Book.{IsBook, IsEntry, IsPlace, IsRecord, Record, entry_line, is_newline}
 use Rattle.redo_book.specs.Book.{record_lines, same_entry, targets_of}
 use Rattle.redo_book.specs.inside.Reading.{Made, at_first, line_of, may_follow, next, records_of}
 use Rattle.redo_book.specs.inside.Reading.{with_entry, with_line}

@@ -10,9 +10,10 @@ use Rattle.std.specs.List.{AllByRecursion, list_any}
 use Rattle.std.specs.Prelude.{Result, Ok, Err, codes, option_map, option_and_then, slice_index}
 use Rattle.std.specs.Result.{result_ok}
 use Rattle.std.specs.Str.{bytes_eq}
-use Rattle.hex.specs.Hex.{IsBytes, decode_sized, encode_lower, encode_with, hex_digit_value, lower_digits}
-use Rattle.hex.proofs.HexLemmas.{IsDigits-lower_digits, decode_of-ok, decode_sized-encode_lower, decode_sized-ok}
-use Rattle.hex.proofs.HexLemmas.{decode_sized-twice, length-encode_with}
+use Rattle.hex.specs.Hex.{IsBytes, encode_lower, encode_with, hex_digit_value, lower_digits}
+use Rattle.hex.proofs.HexLemmas.{IsDigits-lower_digits, length-encode_with}
+use Rattle.redo_digest.proofs.SpellingLemmas.{digest_is, digest_spelled}
+use Rattle.redo_digest.specs.Digest.{IsDigest, IsState, State, digest_of}
 use Rattle.redo_path.proofs.ApartLemmas.{apart}
 use Rattle.redo_path.proofs.CanonicalLemmas.{path-resolved, printable_path, resolved-path}
 use Rattle.redo_path.specs.Names.{IsPath, is_control}
@@ -20,8 +21,8 @@ use Rattle.redo_path.specs.Resolve.{resolved}
 use Rattle.redo_book.specs.declared.book.BookEntry.TheVariants.{Change, Create, Always}
 use Rattle.redo_book.specs.declared.lines.Line.{Line}
 use Rattle.redo_book.specs.declared.lines.Line.TheVariants.{Target, Entry}
-use Rattle.redo_book.specs.Book.{IsDigest, IsEntry, IsPlace, IsState, State, entry_line, is_newline, state_text}
-use Rattle.redo_book.specs.inside.Reading.{digest_of, line_of, only_if, place_of, split_state, stated}
+use Rattle.redo_book.specs.Book.{IsEntry, IsPlace, entry_line, is_newline, state_text}
+use Rattle.redo_book.specs.inside.Reading.{line_of, only_if, place_of, split_state, stated}
 
 pub only_if-some : {A : Type 0} (b : Bool) (x y : A) → only_if b x ≡ Some y → (b ≡ true) × (x ≡ y)
 only_if-some true x y h = (refl, cc)
@@ -79,19 +80,6 @@ pub place_line : (path : List ℕ) → IsPlace path → list_any is_newline path
 place_line path h = no_newline path (printable_path path h.1)
 
 -- ---- digests
-
-pub digest_spelled : (digest : List ℕ) → IsDigest digest → digest_of (encode_lower digest) ≡ Some digest
-digest_spelled digest h = rw (decode_sized-encode_lower digest 32 h.size h.bytes, bytes_same (encode_lower digest)) refl
-
-pub digest_is : (word digest : List ℕ) → digest_of word ≡ Some digest → (word ≡ encode_lower digest) × IsDigest digest
-digest_is word digest h =
-    let (bytes, some, kept) = then_some (λ b. only_if (bytes_eq (encode_lower b) word) b) (result_ok (decode_sized word 32)) digest h in
-    let ok = ok_some (decode_sized word 32) bytes some in
-    let (same, is) = only_if-some (bytes_eq (encode_lower bytes) word) bytes digest kept in
-    let size = decode_sized-ok word 32 bytes ok in
-    let (even, digits, twice, small) = decode_of-ok word bytes (sym (decode_sized-twice word 32 size) ∙ ok) in
-    let d : IsDigest bytes = record { size = omega arith; bytes = small } in
-    (sym (same_bytes (encode_lower bytes) word same) ∙ ap encode_lower is, subst IsDigest is d)
 
 -- a digit has the value of its place
 digit : (k : ℕ) → k < 16 → (c : ℕ) → hex_digit_value c ≡ None → slice_index lower_digits k ≢ c
@@ -202,8 +190,8 @@ is_some words word state e h =
     let (digest, some, same) = map_some {B = State × List ℕ} (λ digest. (Some digest, drop 65 words)) (digest_of (take 64 words)) (state, word) h in
     let s : Some digest ≡ state = ap (λ (p : State × List ℕ). p.0) same in
     let w : drop 65 words ≡ word = ap (λ (p : State × List ℕ). p.1) same in
-    let (spelled, is) = digest_is (take 64 words) digest some in
-    let split : IsSplit words (Some digest) (drop 65 words) = record { whole = behind_space words e ∙ ap (λ t. t ++ 32 ∷ drop 65 words) spelled; spelled = is } in
+    let spells = digest_is (take 64 words) digest some in
+    let split : IsSplit words (Some digest) (drop 65 words) = record { whole = behind_space words e ∙ ap (λ t. t ++ 32 ∷ drop 65 words) spells.whole; spelled = spells.is } in
     subst (λ t. IsSplit words t word) s (subst (λ t. IsSplit words (Some digest) t) w split)
 
 pub state_is : (words word : List ℕ) (state : State) → split_state words ≡ Some (state, word) → IsSplit words state word

@@ -1,27 +1,19 @@
 -- Books: what the targets of the last run came to and depended on, and the text of this.
 use Rattle.std.specs.Prelude.{◌≡◌, ◌≢◌, ◌+◌, ◌==◌, ℕ, Bool, true, false, List, [], ◌∷◌, ◌++◌, Option, Some, None}
-use Rattle.std.specs.Prelude.{◌⊎◌, IfSome, MatchBool, codes, find, flat_map, length, map, option_map}
-use Rattle.sha2.specs.Sha256.{sha256}
+use Rattle.std.specs.Prelude.{◌⊎◌, MatchBool, codes, find, flat_map, length, map}
 use Rattle.std.specs.Cmp.Lexicographic.{slice_cmp}
 use Rattle.std.specs.List.{AllByRecursion, IsDistinct, before_first, list_any}
 use Rattle.std.specs.List.Sorted.{IsStrictlySortedBy}
 use Rattle.std.specs.Ordering.{nat_cmp}
 use Rattle.std.specs.Str.{bytes_eq}
-use Rattle.hex.specs.Hex.{IsBytes, encode_lower}
+use Rattle.hex.specs.Hex.{encode_lower}
+use Rattle.redo_digest.specs.Digest.{IsState, State}
 use Rattle.redo_path.specs.Names.{IsPath}
 use Rattle.redo_book.specs.declared.book.BookRecord.{BookRecord}
 use Rattle.redo_book.specs.declared.faults.BookFault.{BookFault}
 use Rattle.redo_book.specs.declared.faults.BookFault.TheVariants.{Line, Memory}
 use Rattle.redo_book.specs.declared.book.BookEntry.{BookEntry}
 use Rattle.redo_book.specs.declared.book.BookEntry.TheVariants.{Change, Create, Always}
-
--- what stood at a path: a file with this digest, or no file
-abbrev pub State : Type 0
-State = Option (List ℕ)
-
--- the state of a path where this file stands, or none
-abbrev pub state_of : Option (List ℕ) → State
-state_of file = option_map sha256 file
 
 -- what a target came to, and what it depended on, in the order in which that was recorded
 pub record Record : Type 0 where
@@ -55,14 +47,6 @@ book_lines book = flat_map record_lines book ++ codes "end" ∷ []
 -- each line, with its newline
 abbrev pub text_of : List (List ℕ) → List ℕ
 text_of lines = flat_map (λ line. line ++ 10 ∷ []) lines
-
--- 32 bytes
-pub record IsDigest (digest : List ℕ) : Type 0 where
-  pub size : length digest ≡ 32
-  pub bytes : IsBytes digest
-
-abbrev pub IsState : State → Type 0
-IsState state = IfSome state IsDigest
 
 -- a path below the root
 abbrev pub IsPlace : List ℕ → Type 0

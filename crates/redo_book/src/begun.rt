@@ -9,7 +9,8 @@ ghost use Rattle.redo_book.specs.inside.Reading.{records_of, with_entry, with_li
 ghost use Rattle.redo_book.specs.declared.lines.Line.TheVariants.{Target};
 
 use crate::lines::{Line, read_line};
-use crate::{Book, BookEntry, BookFault, BookRecord, Digest};
+use crate::{Book, BookEntry, BookFault, BookRecord};
+use redo_digest::Digest;
 use redo_path::Path;
 use redo_record::{Dep, DepKind, Deps};
 use std::alloc::{AllocError, Global};

@@ -6,7 +6,7 @@ ghost use Rattle.std.specs.List.Sorted.{IsBinarySearchResult, IsSearchInRange};
 ghost use Rattle.std.specs.Ordering.{nat_cmp};
 ghost use Rattle.redo_book.specs.Book.{IsBook, record_at, record_of};
 
-use crate::Digest;
+use redo_digest::Digest;
 use redo_path::Path;
 use std::alloc::{AllocError, Global};
 use std::cmp::Ordering;

@@ -3,7 +3,6 @@
 
 mod begun;
 mod book;
-mod digest;
 mod faults;
 pub mod laws;
 mod lines;
@@ -11,7 +10,6 @@ mod reading;
 mod writing;
 
 pub use book::{Book, BookEntry, BookRecord};
-pub use digest::{Digest, state_of};
 pub use faults::BookFault;
 pub use reading::read_book;
 pub use writing::book_text;

@@ -3,8 +3,8 @@
 ghost use Rattle.std.specs.Prelude.{◌≡◌, option_map};
 ghost use Rattle.redo_book.specs.inside.Reading.{Finds, line_of, place_of, split_state as split_at_state, stated};
 
-use crate::digest::DIGITS;
-use crate::{BookEntry, BookFault, Digest};
+use crate::{BookEntry, BookFault};
+use redo_digest::{DIGITS, Digest};
 use redo_path::{Path, PathFault, resolve};
 use std::alloc::Global;
 

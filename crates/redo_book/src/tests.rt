@@ -1,8 +1,10 @@
 //! Books that are read and written, a table for each rule.
 
-ghost use Rattle.redo_book.specs.Book.{IsPlace, IsState};
+ghost use Rattle.redo_digest.specs.Digest.{IsState};
+ghost use Rattle.redo_book.specs.Book.{IsPlace};
 
-use crate::{Book, BookFault, BookRecord, Digest, book_text, read_book, state_of};
+use crate::{Book, BookFault, BookRecord, book_text, read_book};
+use redo_digest::{Digest, state_of};
 use redo_path::{Path, resolve};
 use std::alloc::Global;
 use std::test::Fail;
@@ -43,31 +45,6 @@ fn fault_of(alloc: Global, text: &[u8]) -> Option<BookFault> {
 
 fn path(alloc: Global, word: &str) -> Result<Path, Fail> {
     Ok(resolve(alloc, &Path::root(), word.as_bytes())?)
-}
-
-#[test]
-fn a_state_is_the_digest_of_the_bytes(rt: HostRuntime) {
-    for (bytes, digits) in [("abc", ABC), ("", NOTHING)] {
-        let digest = Digest::of(bytes.as_bytes());
-        assert_eq!(rt; digest.digits().as_slice(), digits.as_bytes());
-        assert_eq!(rt; Digest::from_hex(digits.as_bytes()), Some(digest));
-        assert_eq!(rt; state_of(Some(bytes.as_bytes())), Some(digest));
-    }
-    assert_eq!(rt; state_of(None), None);
-}
-
-#[test]
-fn digits_are_64_in_lower_case(rt: HostRuntime) {
-    for word in [
-        "",
-        "none",
-        "ba7816bf8f01cfea414140de5dae2223b00361a396177a9cb410ff61f20015a",
-        "ba7816bf8f01cfea414140de5dae2223b00361a396177a9cb410ff61f20015adb",
-        "Ba7816bf8f01cfea414140de5dae2223b00361a396177a9cb410ff61f20015ad",
-        "ga7816bf8f01cfea414140de5dae2223b00361a396177a9cb410ff61f20015ad",
-    ] {
-        assert_eq!(rt; Digest::from_hex(word.as_bytes()), None, "{word}");
-    }
 }
 
 #[test]

@@ -3,7 +3,8 @@
 ghost use Rattle.std.specs.Prelude.{◌≡◌, ◌++◌, ◌∷◌, [], IfOk, OnOk};
 ghost use Rattle.redo_book.specs.Book.{IsText, book_lines, entry_line, record_lines, record_of, state_text, text_of};
 
-use crate::{Book, BookEntry, BookRecord, Digest};
+use crate::{Book, BookEntry, BookRecord};
+use redo_digest::Digest;
 use redo_path::Path;
 use std::alloc::{AllocError, Global};
 

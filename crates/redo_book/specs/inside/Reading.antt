@@ -8,7 +8,7 @@ use Rattle.std.specs.Option.{option_to_list}
 use Rattle.std.specs.Ordering.{is_lt, nat_cmp}
 use Rattle.std.specs.Result.{result_ok}
 use Rattle.std.specs.Str.{bytes_eq}
-use Rattle.hex.specs.Hex.{decode_sized, encode_lower}
+use Rattle.redo_digest.specs.Digest.{State, digest_of}
 use Rattle.redo_path.specs.Resolve.{resolved}
 use Rattle.redo_record.specs.declared.deps.Dep.{Dep}
 use Rattle.redo_record.specs.declared.deps.DepKind.TheVariants as kinds
@@ -20,16 +20,11 @@ use Rattle.redo_book.specs.declared.begun.Begun.{Begun}
 use Rattle.redo_book.specs.declared.begun.Last.{Last}
 use Rattle.redo_book.specs.declared.lines.Line.{Line}
 use Rattle.redo_book.specs.declared.lines.Line.TheVariants.{Target, Entry}
-use Rattle.redo_book.specs.Book.{State, Record, is_newline, record_of, same_entry, text_of}
+use Rattle.redo_book.specs.Book.{Record, is_newline, record_of, same_entry, text_of}
 
 -- the value, where it is one of two that are to be the same
 abbrev pub only_if : {A : Type 0} → Bool → A → Option A
 only_if b x = if b then Some x else None
-
--- the digest that is spelled so
-abbrev pub digest_of : List ℕ → Option (List ℕ)
-digest_of word =
-    option_and_then (λ bytes. only_if (bytes_eq (encode_lower bytes) word) bytes) (result_ok (decode_sized word 32))
 
 -- the path below the root whose text this is
 abbrev pub place_of : List ℕ → Option (List ℕ)

@@ -11,5 +11,5 @@ returns c =
     let digits : c.in_ok-digits.digits.now ≡ take 64 words = search rules in
     let rest : c.in_ok-digits.rest.now ≡ drop 64 words = search rules in
     let spelled = c.in_ok-word.ensures.cases in
-    let is = sym c.from_hex.ensures ∙ c.in_ok-digest.was in
+    let is = sym c.from_hex.ensures.value ∙ c.in_ok-digest.was in
     sym (split_digest words _ _ _ c.in_ok-digest.digest c.in_default.ensures.cases digits rest spelled.0 spelled.1 is)

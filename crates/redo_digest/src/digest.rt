@@ -3,14 +3,13 @@
 ghost use Rattle.std.specs.Prelude.{◌≡◌, option_copied};
 ghost use Rattle.hex.specs.Hex.{encode_lower};
 ghost use Rattle.sha2.specs.Sha256.{sha256};
-ghost use Rattle.redo_book.specs.Book.{IsDigest, IsState, state_of as state_in};
-ghost use Rattle.redo_book.specs.inside.Reading.{digest_of};
+ghost use Rattle.redo_digest.specs.Digest.{IsDigest, IsState, digest_of, state_of as state_in};
 
 use sha2::{Digest as _, Sha256};
 use std::marker::Model;
 
-/// The digits of a digest.
-pub(crate) const DIGITS: usize = 64;
+/// How many digits spell a digest.
+pub const DIGITS: usize = 64;
 
 /// The SHA-256 digest of a file's bytes. In a contract it is its 32 bytes.
 #[derive(Clone, Copy, Debug, PartialEq, Eq)]
@@ -39,9 +38,10 @@ impl Digest {
         }
     }
 
-    /// The digest that 64 digits spell, the letters in lower case.
-    pub(crate) fn from_hex(word: &[u8]) -> Option<Digest>
-        ensures { result ≡ digest_of word.now }
+    /// The digest that 64 digits spell, the letters in lower case. No other word is one.
+    pub fn from_hex(word: &[u8]) -> Option<Digest>
+        ensures value { result ≡ digest_of word.now }
+        ensures digest { IsState result }
     {
         let mut bytes = [0; 32];
         hex::decode_to_slice(word, &mut bytes).ok()?;

@@ -1,0 +1,34 @@
+-- Digests of contents, their spelling, and the states of paths.
+use Rattle.std.specs.Prelude.{◌≡◌, ℕ, List, Option, Some, None, IfSome, if◌then◌else◌, length, option_and_then}
+use Rattle.std.specs.Prelude.{option_map}
+use Rattle.std.specs.Result.{result_ok}
+use Rattle.std.specs.Str.{bytes_eq}
+use Rattle.hex.specs.Hex.{IsBytes, decode_sized, encode_lower}
+use Rattle.sha2.specs.Sha256.{sha256}
+
+-- 32 bytes
+pub record IsDigest (digest : List ℕ) : Type 0 where
+  pub size : length digest ≡ 32
+  pub bytes : IsBytes digest
+
+-- the word has the digits of a digest, the letters in lower case
+pub record Spells (word digest : List ℕ) : Type 0 where
+  pub whole : word ≡ encode_lower digest
+  pub is : IsDigest digest
+
+-- the digest that is spelled so
+abbrev pub digest_of : List ℕ → Option (List ℕ)
+digest_of word =
+    option_and_then (λ bytes. if bytes_eq (encode_lower bytes) word then Some bytes else None)
+    (result_ok (decode_sized word 32))
+
+-- what stood at a path: a file with this digest, or no file
+abbrev pub State : Type 0
+State = Option (List ℕ)
+
+abbrev pub IsState : State → Type 0
+IsState state = IfSome state IsDigest
+
+-- the state of a path where this file stands, or none
+abbrev pub state_of : Option (List ℕ) → State
+state_of file = option_map sha256 file
