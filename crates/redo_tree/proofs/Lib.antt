@@ -1,6 +1,9 @@
 pub mod AlikeLemmas
+pub mod AmongLemmas
 pub mod GrowLemmas
 pub mod KeptLemmas
 pub mod KeyLemmas
 pub mod NodeLemmas
 pub mod NotedLemmas
+pub mod PartingLemmas
+pub mod WithoutLemmas

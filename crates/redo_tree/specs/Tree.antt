@@ -1,7 +1,7 @@
 -- A tree: what stands at each path, in the order of the paths' texts.
 use Rattle.std.specs.Prelude.{◌≡◌, ◌&&◌, Bool, true, nat_eq, ℕ, List, [], ◌∷◌, ◌++◌, codes, filter_map, fold, length}
 use Rattle.std.specs.Prelude.{Option, Some, None, Result, Ok, Err, IsSome, option_and_then, option_map, refl}
-use Rattle.std.specs.Prelude.{if◌then◌else◌, ◌-◌}
+use Rattle.std.specs.Prelude.{if◌then◌else◌, filter, is_some, not}
 use Rattle.std.specs.BTreeMap.{insert_entry, is_at}
 use Rattle.std.specs.Cmp.{IsEquivalence, and_equiv, on_equiv}
 use Rattle.std.specs.Cmp.Lexicographic.{lists_equiv, nat_list_eq_equiv, options_equiv, pointwise, slice_cmp}
@@ -11,6 +11,7 @@ use Rattle.std.specs.List.Sorted.{IsStrictlySortedBy}
 use Rattle.std.specs.Map.{keys_of, lookup}
 use Rattle.std.specs.Option.{option_eq, option_map_or, option_or}
 use Rattle.std.specs.Ordering.{nat_cmp}
+use Rattle.redo_names.specs.Paths.{is_among}
 use Rattle.redo_path.specs.Names.{IsPart, IsPath, child_of, name_of, parent_of}
 use Rattle.redo_tree.specs.declared.entries.Entry.{Entry}
 use Rattle.redo_tree.specs.declared.entries.Entry.TheVariants as entries
@@ -88,6 +89,23 @@ file_path e = option_map (λ _. e.0) (bytes_of e.1)
 -- the paths of the files, in path order
 abbrev pub files_of : Tree → List (List ℕ)
 files_of tree = filter_map file_path tree
+
+-- an entry is a file at one of these paths
+abbrev pub is_file_among : List (List ℕ) → List ℕ × Node → Bool
+is_file_among paths e = is_some (bytes_of e.1) && is_among paths e.0
+
+-- the tree but the files at these paths
+abbrev pub without : Tree → List (List ℕ) → Tree
+without tree paths = filter (λ e. not (is_file_among paths e)) tree
+
+-- the path and the bytes of an entry that is a file at one of these paths
+abbrev pub file_among : List (List ℕ) → List ℕ × Node → Option (List ℕ × List ℕ)
+file_among paths e =
+    option_and_then (λ bytes. if is_among paths e.0 then Some (e.0, bytes) else None) (bytes_of e.1)
+
+-- the files at these paths, in path order
+abbrev pub files_among : Tree → List (List ℕ) → List (List ℕ × List ℕ)
+files_among tree paths = filter_map (file_among paths) tree
 
 -- why nothing goes below what stands in the parent's place
 abbrev pub parent_refusal : Option Node → Option TreeFault

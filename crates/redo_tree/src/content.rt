@@ -1,26 +1,34 @@
-//! The bytes of a file, held once by all that share them.
+//! The bytes of a file, held once by all that share them, and their digest.
 
 ghost use Rattle.std.specs.Prelude.{◌≡◌, IfOk, nat_eq};
 ghost use Rattle.std.specs.Cmp.{partial_equiv_from_equiv};
 ghost use Rattle.std.specs.Cmp.Lexicographic.{pointwise, nat_list_eq_equiv};
+ghost use Rattle.sha2.specs.Sha256.{sha256};
+ghost use Rattle.redo_digest.specs.Digest.{IsDigest};
 
 use redo_bytes::Bytes;
+use redo_digest::Digest;
 use std::alloc::AllocError;
 use std::marker::Model;
 
-/// The bytes of a file. A clone shares them, but for a few that lie in place. In a contract it is the
-/// list of bytes.
+/// The bytes of a file. A clone shares them, but for a few that lie in place, and has their digest
+/// where that was kept. In a contract it is the list of bytes.
 #[derive(Debug, Drop)]
 pub struct Content {
     bytes: Bytes,
+    /// The digest of the bytes, where it was made to be kept.
+    digest: Option<Digest>,
 }
 
 impl Model for Content {
-    ghost use Rattle.std.specs.Prelude.{List, ℕ};
+    ghost use Rattle.std.specs.Prelude.{◌≡◌, IfSome, List, ℕ};
+    ghost use Rattle.sha2.specs.Sha256.{sha256};
 
     ghost Value = { List ℕ };
 
     ghost view = { λ c. c.bytes };
+
+    ghost invariant = { λ c. IfSome c.digest (λ digest. digest ≡ sha256 c.bytes) };
 }
 
 impl Content {
@@ -29,7 +37,10 @@ impl Content {
         ensures { IfOk result (λ content. content ≡ bytes.items) }
     {
         let bytes = Bytes::from_vec(bytes)?;
-        Ok(Content { bytes })
+        Ok(Content {
+            bytes,
+            digest: None,
+        })
     }
 
     /// The bytes, in their order.
@@ -38,6 +49,25 @@ impl Content {
     {
         self.bytes.as_slice()
     }
+
+    /// The digest of the bytes. They are read unless it was kept.
+    pub fn digest(&self) -> Digest
+        ensures sha256 { result ≡ sha256 self.now }
+        ensures digest { IsDigest result }
+    {
+        match self.digest {
+            Some(digest) => digest,
+            None => Digest::of(self.bytes()),
+        }
+    }
+
+    /// Makes the digest and keeps it, so that later calls of [`Content::digest`], also those on clones that are made
+    /// from then on, read no byte.
+    pub fn keep_digest(&mut self)
+        ensures { self.new ≡ self.old }
+    {
+        self.digest = Some(self.digest());
+    }
 }
 
 impl Clone for Content {
@@ -45,7 +75,10 @@ impl Clone for Content {
 
     fn clone(&self) -> Result<Content, AllocError> {
         let bytes = self.bytes.clone()?;
-        Ok(Content { bytes })
+        Ok(Content {
+            bytes,
+            digest: self.digest,
+        })
     }
 }
 

@@ -10,8 +10,9 @@ ghost use Rattle.redo_path.specs.Names.{IsPath};
 ghost use Rattle.redo_tree.specs.Tree.{Directory, File, top, node_at, kind_of, file_at, files_of, node_of, refusal};
 ghost use Rattle.redo_tree.specs.Tree.{added, tree_eq, trees_alike, default_dir as dir_of_default};
 ghost use Rattle.redo_tree.specs.Tree.{is_default as begins_and_ends, Adds, Allows, HasNoDefaults, IsNoted, IsTree};
-ghost use Rattle.redo_tree.specs.Tree.{tree_of, AreAmong, HasEntry};
+ghost use Rattle.redo_tree.specs.Tree.{tree_of, AreAmong, HasEntry, IsKept, files_among, without};
 
+use crate::parting::{Parting, set_of};
 use crate::{Content, TreeFault};
 use redo_names::{PathMap, PathSet};
 use redo_path::Path;
@@ -135,6 +136,16 @@ impl Tree {
         }
     }
 
+    /// The content of a file; none where no file stands.
+    pub fn content(&self, path: &Path) -> Option<&Content>
+        ensures { option_copied result ≡ file_at self.now path.now }
+    {
+        match self.entry(path.text()) {
+            Some(Entry::File(content)) => Some(content),
+            _ => None,
+        }
+    }
+
     /// Whether a file whose name begins with `default` and ends in `.do` may stand in the directory
     /// at the path with this text. Where the answer is `false` none does, so a search need not look
     /// up such names there one by one.
@@ -167,6 +178,48 @@ impl Tree {
             }
         }
         Ok(paths)
+    }
+
+    /// The tree without the files at these paths, and these files, both in path order. Directories stay, and paths at
+    /// which no file stands are passed over. No content is copied: both share them with this tree.
+    pub fn part(
+        &self,
+        alloc: Global,
+        out: &[Path],
+    ) -> Result<(Tree, Vec<(Path, Content)>), AllocError>
+        ensures tree { IfOk result (λ parts. parts.0 ≡ without self.now out.now) }
+        ensures files { IfOk result (λ parts. parts.1.items ≡ files_among self.now out.now) }
+    {
+        let names = set_of(alloc, out)?;
+        self.part_names(alloc, &names)
+    }
+
+    /// The same, of paths that are looked up.
+    fn part_names(
+        &self,
+        alloc: Global,
+        names: &PathSet,
+    ) -> Result<(Tree, Vec<(Path, Content)>), AllocError>
+        ensures tree { IfOk result (λ parts. parts.0 ≡ without self.now names.now) }
+        ensures files { IfOk result (λ parts. parts.1.items ≡ files_among self.now names.now) }
+    {
+        let mut parting = Parting::new(alloc);
+        for (path, entry) in self.in_order(alloc)? {
+            parting.pass(alloc, names, path, entry)?;
+        }
+        Ok(parting.finish(alloc))
+    }
+
+    /// The tree that is kept so.
+    pub(crate) fn of_entries(alloc: Global, entries: PathMap<Entry>, defaults: PathSet) -> Tree
+        requires { IsKept entries defaults }
+        ensures { result ≡ tree_of entries }
+    {
+        Tree {
+            entries,
+            defaults,
+            alloc,
+        }
     }
 
     /// Adds a directory, whose parent has to be one. After a refusal the tree is as it was.
@@ -260,7 +313,7 @@ fn is_among(path: &Path, entry: &Entry, others: &PathMap<Entry>) -> bool
 }
 
 /// Notes the directory of a file whose name begins with `default` and ends in `.do`.
-fn note_default(
+pub(crate) fn note_default(
     alloc: Global,
     dirs: &mut PathSet,
     path: &Path,

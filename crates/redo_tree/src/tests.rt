@@ -42,6 +42,12 @@ fn each_path_has_its_kind(rt: HostRuntime) -> Result<(), Fail> {
             bytes.map(|text| text.as_bytes()),
             "{word}"
         );
+        assert_eq!(rt;
+            tree.content(&place)
+                .map(|content: &Content| content.bytes()),
+            bytes.map(|text| text.as_bytes()),
+            "{word}"
+        );
     }
     Ok(())
 }
@@ -218,5 +224,100 @@ fn a_clone_of_a_content_has_its_bytes(rt: HostRuntime) -> Result<(), Fail> {
     let other = Content::new(b"y\n".to_vec(alloc)?)?;
     assert_eq!(rt; copy.bytes(), b"x\n".as_slice());
     assert!(rt; copy == content && copy != other);
+    Ok(())
+}
+
+#[test]
+fn a_digest_is_that_of_the_bytes_kept_or_not(rt: HostRuntime) -> Result<(), Fail> {
+    let alloc = rt.alloc();
+    for (text, digits) in [
+        (
+            "abc",
+            "ba7816bf8f01cfea414140de5dae2223b00361a396177a9cb410ff61f20015ad",
+        ),
+        (
+            "",
+            "e3b0c44298fc1c149afbf4c8996fb92427ae41e4649b934ca495991b7852b855",
+        ),
+    ] {
+        let content = Content::new(text.as_bytes().to_vec(alloc)?)?;
+        let mut kept = content.clone()?;
+        kept.keep_digest();
+        let copy = kept.clone()?;
+        for it in [&content, &kept, &copy] {
+            assert_eq!(rt;
+                it.digest().digits().as_slice(),
+                digits.as_bytes(),
+                "{text}"
+            );
+            assert_eq!(rt; it.bytes(), text.as_bytes());
+        }
+        assert!(rt; kept == content && content == copy, "{text}");
+    }
+    Ok(())
+}
+
+/// The files of the small tree without those at these paths, and those, each with its bytes in a line of its own.
+fn parted(alloc: Global, out: &[&str]) -> Result<(Vec<u8>, Vec<u8>), Fail> {
+    let mut paths = Vec::new(alloc);
+    for word in out {
+        paths.push(path(alloc, word)?)?;
+    }
+    let tree = small_tree(alloc)?;
+    let (left, taken) = tree.part(alloc, &paths)?;
+    let mut left_files = Vec::new(alloc);
+    for file in left.files(alloc)? {
+        left_files.extend_from_slice(file.text())?;
+        left_files.push(b'\n')?;
+    }
+    let mut taken_files = Vec::new(alloc);
+    for (file, content) in &taken {
+        taken_files.extend_from_slice(file.text())?;
+        taken_files.push(b' ')?;
+        taken_files.extend_from_slice(content.bytes())?;
+    }
+    Ok((left_files, taken_files))
+}
+
+#[test]
+fn files_are_taken_out_by_their_paths(rt: HostRuntime) -> Result<(), Fail> {
+    for (out, left, taken) in [
+        (["x", "x"], "a\nd/f\n", ""),
+        (["a", "x"], "d/f\n", "a 1\n"),
+        (["a", "a"], "d/f\n", "a 1\n"),
+        (["d/f", "a"], "", "a 1\nd/f "),
+        (["d", "."], "a\nd/f\n", ""),
+        (["f", "d/a"], "a\nd/f\n", ""),
+    ] {
+        let (left_files, taken_files) = parted(rt.alloc(), &out)?;
+        assert_eq!(rt; left_files.as_slice(), left.as_bytes());
+        assert_eq!(rt; taken_files.as_slice(), taken.as_bytes());
+    }
+    Ok(())
+}
+
+#[test]
+fn a_tree_without_files_keeps_its_directories(rt: HostRuntime) -> Result<(), Fail> {
+    let alloc = rt.alloc();
+    let tree = tree_of_defaults(alloc, &["e/default.do", "default.do"])?;
+    let out = [
+        path(alloc, "e/default.do")?,
+        path(alloc, "d/f")?,
+        path(alloc, "e")?,
+    ];
+    let (left, taken) = tree.part(alloc, &out)?;
+    for (word, kind) in [
+        (".", Kind::Dir),
+        ("d", Kind::Dir),
+        ("d/f", Kind::Nothing),
+        ("e", Kind::Dir),
+        ("e/default.do", Kind::Nothing),
+        ("default.do", Kind::File),
+    ] {
+        let place = path(alloc, word)?;
+        assert_eq!(rt; left.kind(&place), kind, "{word}");
+    }
+    assert_eq!(rt; taken.len(), 2);
+    assert!(rt; left.holds_defaults(b"") && !left.holds_defaults(b"e"));
     Ok(())
 }
