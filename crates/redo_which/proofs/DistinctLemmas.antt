@@ -10,7 +10,7 @@ use Rattle.std.specs.Str.{bytes_eq}
 use Rattle.redo_path.proofs.PartLemmas.{AllByRecursion-front}
 use Rattle.redo_path.specs.Names.{IsName, IsPart, is_slash, name_of, names, text_of}
 use Rattle.redo_path.specs.Resolve.{resolved}
-use Rattle.redo_which.specs.Candidates.{LiesIn, Place, candidates_of, defaults_in, fronts, is_do_file, is_dot, once}
+use Rattle.redo_which.specs.Candidates.{LiesIn, Place, candidates_of, defaults_in, fronts, is_never_made, is_dot, once}
 use Rattle.redo_which.specs.Candidates.{place_at, places_of, suffixes, upward}
 use Rattle.redo_which.specs.inside.Distinct.{above, defaults_by, distinct_places, without_whole}
 use Rattle.redo_which.proofs.OnceLemmas.{once-distinct}
@@ -32,10 +32,10 @@ distinct_of target dir h =
 pub name_part : (target dir name : List ℕ) → LiesIn target dir → name ≡ name_of target → IsPart name
 name_part target dir name h is = subst IsPart (sym is) (target_name target dir h).part
 
-pub candidates-distinct : (target dir : List ℕ) → LiesIn target dir → candidates_of target ≡ cond (is_do_file target) [] (distinct_places dir (name_of target))
+pub candidates-distinct : (target dir : List ℕ) → LiesIn target dir → candidates_of target ≡ cond (is_never_made target) [] (distinct_places dir (name_of target))
 candidates-distinct target dir h =
-    ap (λ o. elim o as (λ _. List Place) [ None ↦ [] | Some d ↦ cond (is_do_file target) [] (once (places_of d (name_of target))) ]) (sym h.parent)
-    ∙ ap (cond (is_do_file target) []) (distinct_of target dir h)
+    ap (λ o. elim o as (λ _. List Place) [ None ↦ [] | Some d ↦ cond (is_never_made target) [] (once (places_of d (name_of target))) ]) (sym h.parent)
+    ∙ ap (cond (is_never_made target) []) (distinct_of target dir h)
 
 -- ---- how many there are
 
@@ -104,4 +104,4 @@ few-places target dir h =
 pub few-candidates : (target dir : List ℕ) → LiesIn target dir → length (candidates_of target) ≤ 2 ^ 20
 few-candidates target dir h =
     subst (λ (ps : List Place). length ps ≤ 2 ^ 20) (sym (candidates-distinct target dir h))
-    (elim (is_do_file target) as (λ b. length (cond b [] (distinct_places dir (name_of target))) ≤ 2 ^ 20) [ true ↦ omega arith | false ↦ few-places target dir h ])
+    (elim (is_never_made target) as (λ b. length (cond b [] (distinct_places dir (name_of target))) ≤ 2 ^ 20) [ true ↦ omega arith | false ↦ few-places target dir h ])

@@ -9,7 +9,7 @@ use Rattle.redo_path.proofs.ApartLemmas.{apart}
 use Rattle.std.proofs.lemmas.Bool.Decides.{Decides-eqb}
 use Rattle.redo_path.proofs.PartLemmas.{AllByRecursion-append}
 use Rattle.redo_path.specs.Names.{child_of, name_of, parent_of}
-use Rattle.redo_which.specs.Candidates.{LiesIn, Place, candidates_of, defaults_in, is_do_file, once, place_at}
+use Rattle.redo_which.specs.Candidates.{LiesIn, Place, candidates_of, defaults_in, is_never_made, once, place_at}
 use Rattle.redo_which.specs.Candidates.{places_of, suffixes, upward, with_new}
 use Rattle.redo_which.specs.Missing.{AreDistinct, AreFirst, AreNewAfter, IsTarget, first_candidates}
 use Rattle.redo_which.specs.inside.Distinct.{above, defaults_by, distinct_places, without_whole}
@@ -60,10 +60,10 @@ take-new (suc n) before (p ∷ ps) h = (h.0, take-new n (before ++ p.do_file ∷
 
 candidates-new : (target : List ℕ) → AreDistinct (map (λ p. p.do_file) (candidates_of target))
 candidates-new target =
-    elim (parent_of target) as (λ (o : Option (List ℕ)). AreDistinct (map (λ p. p.do_file) (elim o as (λ _. List Place) [ None ↦ [] | Some dir ↦ cond (is_do_file target) [] (once (places_of dir (name_of target))) ]))) [
+    elim (parent_of target) as (λ (o : Option (List ℕ)). AreDistinct (map (λ p. p.do_file) (elim o as (λ _. List Place) [ None ↦ [] | Some dir ↦ cond (is_never_made target) [] (once (places_of dir (name_of target))) ]))) [
       | None ↦ tt
       | Some dir ↦
-          elim (is_do_file target) as (λ b. AreDistinct (map (λ p. p.do_file) (cond b [] (once (places_of dir (name_of target)))))) [
+          elim (is_never_made target) as (λ b. AreDistinct (map (λ p. p.do_file) (cond b [] (once (places_of dir (name_of target)))))) [
             | true ↦ tt
             | false ↦ once-new [] (places_of dir (name_of target)) tt
           ]
@@ -110,10 +110,10 @@ do_distinct dir name h =
 do_candidates : (target : List ℕ) → IsTarget target → AllByRecursion (λ p. IsDo p.do_file) (candidates_of target)
 do_candidates target =
     elim (parent_of target) as (λ (o : Option (List ℕ)). parent_of target ≡ o → IfSome o (LiesIn target) → AllByRecursion (λ p. IsDo p.do_file) (candidates_of target)) [
-      | None ↦ λ e h. subst (AllByRecursion (λ p. IsDo p.do_file)) (ap (λ o. elim o as (λ _. List Place) [ None ↦ [] | Some dir ↦ cond (is_do_file target) [] (once (places_of dir (name_of target))) ]) (sym e)) tt
+      | None ↦ λ e h. subst (AllByRecursion (λ p. IsDo p.do_file)) (ap (λ o. elim o as (λ _. List Place) [ None ↦ [] | Some dir ↦ cond (is_never_made target) [] (once (places_of dir (name_of target))) ]) (sym e)) tt
       | Some dir ↦ λ e h.
           subst (AllByRecursion (λ p. IsDo p.do_file)) (sym (candidates-distinct target dir h))
-          (elim (is_do_file target) as (λ b. AllByRecursion (λ p. IsDo p.do_file) (cond b [] (distinct_places dir (name_of target)))) [
+          (elim (is_never_made target) as (λ b. AllByRecursion (λ p. IsDo p.do_file) (cond b [] (distinct_places dir (name_of target)))) [
             | true ↦ tt
             | false ↦ do_distinct dir (name_of target) (name_part target dir (name_of target) h refl).no_slash
           ])

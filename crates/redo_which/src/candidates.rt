@@ -1,18 +1,19 @@
 //! The candidates of a target one after another, without a list of them.
 
 ghost use Rattle.std.specs.Prelude.{◌≡◌, ◌<◌, ◌≤◌, ◌^◌, ◌∷◌, ◌++◌, [], IfSome, IsTrue, codes, filter, flat_map, length};
-ghost use Rattle.std.specs.Prelude.{nat_eq, if◌then◌else◌};
+ghost use Rattle.std.specs.Prelude.{◌||◌, nat_eq, if◌then◌else◌};
 ghost use Rattle.std.specs.List.{ends_with};
 ghost use Rattle.std.specs.Iterator.{YieldsFirst, YieldsFirstBy, item_count};
 ghost use Rattle.std.specs.Option.{option_to_list};
 ghost use Rattle.std.specs.Str.{bytes_eq};
 ghost use Rattle.redo_path.specs.Names.{IsPart, IsPath};
-ghost use Rattle.redo_which.specs.Candidates.{candidates_of, is_dot, suffixes};
+ghost use Rattle.redo_which.specs.Candidates.{book_path, candidates_of, is_dot, suffixes};
 ghost use Rattle.redo_which.specs.Missing.{IsTarget};
 ghost use Rattle.redo_which.specs.inside.Passed.{Passes, places_left};
 ghost use Rattle.redo_which.specs.inside.Slots.{IsFirstDot, IsNext, shorter, slots_above, slots_by, slots_left};
 ghost use Rattle.redo_which.specs.inside.Distinct.{distinct_places, without_whole};
 
+use crate::BOOK;
 use crate::candidate_ref::{CandidateRef, fits};
 use redo_path::{Path, parent_of_text};
 use redo_tree::Tree;
@@ -89,7 +90,7 @@ impl<'a> Candidates<'a> {
     {
         let name = target.name();
         let next = match parent_of_text(target.text()) {
-            Some(dir) => first_next(name, dir),
+            Some(dir) => first_next(target.text(), name, dir),
             None => Next::Nothing,
         };
         Candidates { name, next }
@@ -191,19 +192,27 @@ fn count_each(dir: &[u8], end: &[u8]) -> usize
     }
 }
 
-/// What comes first: the whole name in the target's directory, unless it ends in `.do`.
-fn first_next<'a>(name: &'a [u8], dir: &'a [u8]) -> Next<'a>
+/// What comes first: the whole name in the target's directory, unless no rule makes the target.
+fn first_next<'a>(target: &[u8], name: &'a [u8], dir: &'a [u8]) -> Next<'a>
     requires path { IsPath dir.now }
     requires part { IsPart name.now }
     ensures left { flat_map (λ places. places) (slots_left name.now result)
-        ≡ if ends_with nat_eq name.now (codes ".do") then [] else distinct_places dir.now name.now }
+        ≡ if ends_with nat_eq name.now (codes ".do") || bytes_eq target.now book_path then []
+        else distinct_places dir.now name.now }
     ensures next { IsNext name.now result }
 {
-    if name.ends_with(b".do") {
+    if is_never_made(target, name) {
         Next::Nothing
     } else {
         Next::Whole(dir)
     }
+}
+
+/// Whether no rule makes the target with this text and name: a .do file, or the book of the last run.
+fn is_never_made(target: &[u8], name: &[u8]) -> bool
+    ensures { result ≡ (ends_with nat_eq name.now (codes ".do") || bytes_eq target.now book_path) }
+{
+    name.ends_with(b".do") || target == BOOK
 }
 
 /// What comes behind the whole name: the suffixes, but not the longest where the candidate by it is

@@ -3,9 +3,9 @@
 //! For a target `D/name` the search goes over candidates, as redo-whichdo(1) prints them: `D/name.do`,
 //! and then in `D` and each directory above it `default<suffix>.do` for each suffix of the name that
 //! begins at a dot, longest first, and `default.do`. The first that is a file of the tree is the rule.
-//! The search ends at the top directory. Names that end in `.do`, and the top directory, have no
-//! candidates; one that is too long for a path is left out, and one that occurs twice stands at its
-//! first place. Stands on `redo_path` and `redo_tree`.
+//! The search ends at the top directory. Names that end in `.do`, the top directory, and the book of
+//! the last run there ([`BOOK`]) have no candidates; one that is too long for a path is left out, and one
+//! that occurs twice stands at its first place. Stands on `redo_path` and `redo_tree`.
 //!
 //! - here: what the search finds, as plain data;
 //! - [`lookup`]: the search; `args`: what a script is called with;
@@ -24,6 +24,9 @@ pub use candidate_ref::CandidateRef;
 pub use candidates::Candidates;
 pub use missing::{Missing, Tail};
 use redo_path::Path;
+
+/// The path of the book of the last run. No rule makes it.
+pub const BOOK: &[u8] = b".redo-book";
 
 /// A .do file that may have a target's rule.
 #[derive(Debug, Drop)]

@@ -73,6 +73,16 @@ fn candidates_stand_in_the_order_of_the_search(rt: HostRuntime) -> Result<(), Fa
             "d/default.x",
             "d/default.x.do:d:0 d/default.do:d:0 default.x.do::2 default.do::0 ",
         ),
+        (".redo-book", ""),
+        (
+            "d/.redo-book",
+            "d/.redo-book.do:d:0 d/default.redo-book.do:d:10 d/default.do:d:0 \
+             default.redo-book.do::10 default.do::0 ",
+        ),
+        (
+            ".redo-book2",
+            ".redo-book2.do::0 default.redo-book2.do::11 default.do::0 ",
+        ),
         ("a.do", ""),
         (".do", ""),
         ("d/a.do", ""),
@@ -121,6 +131,12 @@ fn a_search_ends_at_the_first_file(rt: HostRuntime) -> Result<(), Fail> {
             "b/x.c",
             "b/x.c.do b/default.c.do b/default.do ",
             Some("default.c.do"),
+        ),
+        (".redo-book", "", None),
+        (
+            "a/.redo-book",
+            "a/.redo-book.do a/default.redo-book.do a/default.do default.redo-book.do default.do ",
+            None,
         ),
         ("x.do", "", None),
         (".", "", None),
@@ -176,7 +192,11 @@ fn found_text(alloc: Global, tree: &Tree, word: &[u8]) -> Result<Vec<u8>, Fail> 
 #[test]
 fn the_first_that_holds_is_found(rt: HostRuntime) -> Result<(), Fail> {
     let alloc = rt.alloc();
-    let tree = tree_of(alloc, &["a", "x.d"], &["src", "src.do", "all.do"])?;
+    let tree = tree_of(
+        alloc,
+        &["a", "x.d"],
+        &["src", "src.do", "all.do", ".redo-book.do"],
+    )?;
     for (word, meant) in [
         ("src", "source"),
         ("src.do", "source"),
@@ -188,6 +208,8 @@ fn the_first_that_holds_is_found(rt: HostRuntime) -> Result<(), Fail> {
         ("x", "norule x.do default.do "),
         ("a/x", "norule a/x.do a/default.do default.do "),
         ("new.do", "norule "),
+        (".redo-book", "norule "),
+        ("d/.redo-book", "nodirectory"),
         ("all", "rule all.do::all:all:all.redo.tmp: "),
     ] {
         let text = found_text(alloc, &tree, word.as_bytes())?;
