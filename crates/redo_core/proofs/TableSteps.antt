@@ -33,13 +33,14 @@ use Rattle.redo_build.proofs.TurnBoundLemmas.{turn-below}
 use Rattle.redo_core.proofs.JobLemmas.{asked_of_job, asked_by_job}
 use Rattle.redo_build.specs.inside.Turns.{IsWork}
 use Rattle.redo_record.specs.declared.deps.DepKind.{DepKind}
-use Rattle.redo_record.specs.declared.deps.DepKind.TheVariants.{Change, Create}
+use Rattle.redo_record.specs.declared.deps.DepKind.TheVariants.{Change, Create, Always}
 use Rattle.redo_core.proofs.SlotLemmas.{entry_of-slots, paths_of-slots, slice_get-from, slice_get-below_some}
 use Rattle.redo_record.specs.declared.deps.Dep.{Dep}
 
 changed-path : (kind : DepKind) (p q : List ℕ) → changed kind p ≡ Some q → p ≡ q
 changed-path Change p q h = cc
 changed-path Create p q h = cc
+changed-path Always p q h = cc
 
 pub operand-path : (r : Rules) (d : Dep) (q : List ℕ) → IsOperand r d q → d.path ≡ q
 operand-path r d q is = changed-path d.kind d.path q is.0

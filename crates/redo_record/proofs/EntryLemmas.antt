@@ -20,6 +20,7 @@ bytes_eq-refl p = (bytes_decides p p).1 refl
 pub same_kind-refl : (k : DepKind) → same_kind k k ≡ true
 same_kind-refl kinds.Change = refl
 same_kind-refl kinds.Create = refl
+same_kind-refl kinds.Always = refl
 
 or_true : (a : Bool) → (a || true) ≡ true
 or_true true = refl

@@ -15,8 +15,13 @@ bytes_eq-true p q e = (bytes_decides p q).0 e
 pub same_kind-true : (j k : DepKind) → same_kind j k ≡ true → j ≡ k
 same_kind-true kinds.Change kinds.Change e = refl
 same_kind-true kinds.Create kinds.Create e = refl
+same_kind-true kinds.Always kinds.Always e = refl
 same_kind-true kinds.Change kinds.Create e = absurd cc
+same_kind-true kinds.Change kinds.Always e = absurd cc
 same_kind-true kinds.Create kinds.Change e = absurd cc
+same_kind-true kinds.Create kinds.Always e = absurd cc
+same_kind-true kinds.Always kinds.Change e = absurd cc
+same_kind-true kinds.Always kinds.Create e = absurd cc
 
 and_parts : (a b : Bool) → (a && b) ≡ true → (a ≡ true) × (b ≡ true)
 and_parts true b e = (refl, e)

@@ -47,8 +47,13 @@ affirmed false new told is = sym is ∙ told
 same_kind-itself : (k j : DepKind) → k ≡ j → same_kind j k ≡ true
 same_kind-itself kinds.Change kinds.Change e = refl
 same_kind-itself kinds.Change kinds.Create e = cc
+same_kind-itself kinds.Change kinds.Always e = cc
 same_kind-itself kinds.Create kinds.Change e = cc
 same_kind-itself kinds.Create kinds.Create e = refl
+same_kind-itself kinds.Create kinds.Always e = cc
+same_kind-itself kinds.Always kinds.Change e = cc
+same_kind-itself kinds.Always kinds.Create e = cc
+same_kind-itself kinds.Always kinds.Always e = refl
 
 module _ (es : List Dep) (d : Dep) (k : DepKind) (set grown : List Path) (p : Path) (new : Bool) (kept : set ≡ paths_with k es) (kind : d.kind ≡ k) (path : p ≡ d.path) (put : grown ≡ with_path set p) (told : new ≡ not (is_among set p)) where
   entered : is_entered es d.kind d.path ≡ is_among set p
@@ -69,7 +74,7 @@ module _ (es : List Dep) (d : Dep) (k : DepKind) (set grown : List Path) (p : Pa
   pub set-still : new ≡ false → grown ≡ paths_with k es
   set-still is = put ∙ ap (λ b. cond b set (set ++ p ∷ [])) (affirmed (is_among set p) new told is) ∙ kept
 
--- the other set stays
+-- each other set stays
 pub other-set : (es : List Dep) (d : Dep) (k : DepKind) (set : List Path) → set ≡ paths_with k es → same_kind k d.kind ≡ false → set ≡ paths_with k (es ++ d ∷ [])
 other-set es d k set kept other =
     kept ∙ sym (paths-last k es d ∙ ap (λ b. paths_with k es ++ cond b (d.path ∷ []) []) other ∙ append-nil (paths_with k es))

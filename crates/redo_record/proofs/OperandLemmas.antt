@@ -7,7 +7,7 @@ use Rattle.std.proofs.lemmas.Bool.{cases_Bool, or_cases, or_left, or_right, both
 use Rattle.std.proofs.lemmas.List.Elements.{filter_map-append}
 use Rattle.redo_record.specs.declared.deps.Dep.{Dep}
 use Rattle.redo_record.specs.declared.deps.DepKind.{DepKind}
-use Rattle.redo_record.specs.declared.deps.DepKind.TheVariants.{Change, Create}
+use Rattle.redo_record.specs.declared.deps.DepKind.TheVariants.{Change, Create, Always}
 use Rattle.redo_record.specs.Paths.{Path, IsAmong, AreDistinct}
 use Rattle.redo_record.specs.Entries.{same_kind, is_entered, with_entry, with_entries, with_all}
 use Rattle.redo_record.specs.Progress.{changed, changes, operands}
@@ -60,6 +60,7 @@ among-changes (d ∷ ds) q m =
         | inr later ↦ or_right _ _ (among-changes ds q later)
       ]
       | Create ↦ λ n. among-changes ds q n
+      | Always ↦ λ n. among-changes ds q n
     ]) m
 
 pub among-entered : (ds : List Dep) (q : Path) → is_entered ds Change q ≡ true → IsAmong (changes ds) q
@@ -71,11 +72,13 @@ among-entered (d ∷ ds) q h =
         | inr later ↦ inr (among-entered ds q later)
       ]
       | Create ↦ λ n. among-entered ds q n
+      | Always ↦ λ n. among-entered ds q n
     ]) h
 
 here_too : (k : DepKind) (p : Path) → (same_kind k k && bytes_eq p p) ≡ true
 here_too Change p = bytes_eq-refl p
 here_too Create p = bytes_eq-refl p
+here_too Always p = bytes_eq-refl p
 
 append_nil : (ps : List Path) → ps ++ [] ≡ ps
 append_nil [] = refl
@@ -116,6 +119,7 @@ all_second ds (e ∷ es) k p h = elim (or_cases (same_kind k e.kind && bytes_eq 
 changes-append : (ds : List Dep) (k : DepKind) (p : Path) → AreDistinct (changes ds) → is_entered ds k p ≡ false → AreDistinct (changes (ds ++ record { kind = k; path = p } ∷ []))
 changes-append ds Change p d new = rw (filter_map-append (λ (e : Dep). changed e.kind e.path) ds (record { kind = Change; path = p } ∷ [])) (AreDistinct-push (changes ds) p d (λ m. both_ways _ new (among-changes ds p m)))
 changes-append ds Create p d new = rw (filter_map-append (λ (e : Dep). changed e.kind e.path) ds (record { kind = Create; path = p } ∷ [])) (rw (append_nil (changes ds)) d)
+changes-append ds Always p d new = rw (filter_map-append (λ (e : Dep). changed e.kind e.path) ds (record { kind = Always; path = p } ∷ [])) (rw (append_nil (changes ds)) d)
 
 distinct-entry : (ds : List Dep) (k : DepKind) (p : Path) → AreDistinct (changes ds) → AreDistinct (changes (with_entry ds k p))
 distinct-entry ds k p d = elim (cases_Bool (is_entered ds k p)) [

@@ -36,6 +36,10 @@ creates-change : (missing : List Path) (p : Path) → is_entered (creates missin
 creates-change [] p = refl
 creates-change (q ∷ qs) p = creates-change qs p
 
+creates-always : (missing : List Path) (p : Path) → is_entered (creates missing) kinds.Always p ≡ false
+creates-always [] p = refl
+creates-always (q ∷ qs) p = creates-always qs p
+
 abbrev create_of : Path → Dep
 create_of path = record { kind = kinds.Create; path = path }
 
@@ -67,6 +71,10 @@ pub found-create : (missing : List Path) (do_file p : Path) → is_entered (sear
 found-create missing do_file p =
     entered-append (creates missing) (change_of (Some do_file)) kinds.Create p ∙ or_false (is_entered (creates missing) kinds.Create p) ∙ creates-create missing p
 
+pub found-always : (missing : List Path) (do_file p : Path) → is_entered (search_entries missing (Some do_file)) kinds.Always p ≡ false
+found-always missing do_file p =
+    entered-append (creates missing) (change_of (Some do_file)) kinds.Always p ∙ or_false (is_entered (creates missing) kinds.Always p) ∙ creates-always missing p
+
 -- ---- what the script declared
 
 -- one of the entries is there already
@@ -76,8 +84,13 @@ any_found found ds = list_any (λ d. is_entered found d.kind d.path) ds
 pub same_kind-flips : (j k : DepKind) → same_kind j k ≡ same_kind k j
 same_kind-flips kinds.Change kinds.Change = refl
 same_kind-flips kinds.Change kinds.Create = refl
+same_kind-flips kinds.Change kinds.Always = refl
 same_kind-flips kinds.Create kinds.Change = refl
 same_kind-flips kinds.Create kinds.Create = refl
+same_kind-flips kinds.Create kinds.Always = refl
+same_kind-flips kinds.Always kinds.Change = refl
+same_kind-flips kinds.Always kinds.Create = refl
+same_kind-flips kinds.Always kinds.Always = refl
 
 pub same_way : (p q : Path) → bytes_eq p q ≡ bytes_eq q p
 same_way p q =

@@ -12,8 +12,13 @@ use Rattle.redo_record.specs.declared.deps.DepKind.TheVariants.{Change, Create}
 abbrev pub same_kind : DepKind → DepKind → Bool
 same_kind kinds.Change kinds.Change = true
 same_kind kinds.Create kinds.Create = true
+same_kind kinds.Always kinds.Always = true
 same_kind kinds.Change kinds.Create = false
+same_kind kinds.Change kinds.Always = false
 same_kind kinds.Create kinds.Change = false
+same_kind kinds.Create kinds.Always = false
+same_kind kinds.Always kinds.Change = false
+same_kind kinds.Always kinds.Create = false
 
 -- whether a kind and a path are among the entries
 abbrev pub is_entered : List Dep → DepKind → Path → Bool

@@ -1,7 +1,7 @@
 -- How far a target has come, what it waits for, and the laws of its progress.
 use Rattle.std.specs.Prelude.{List, Option, Some, ◌≡◌, Bool, false, not, None, filter_map, filter}
 use Rattle.redo_record.specs.declared.deps.Dep.{Dep}
-use Rattle.redo_record.specs.declared.deps.DepKind.TheVariants.{Change, Create}
+use Rattle.redo_record.specs.declared.deps.DepKind.TheVariants.{Change, Create, Always}
 use Rattle.redo_record.specs.declared.outcome.Outcome.{Outcome}
 use Rattle.redo_record.specs.Paths.{Path, AreDistinct, IsAmong}
 use Rattle.redo_record.specs.Answers.{Ask}
@@ -20,6 +20,7 @@ at_once outcome deps = record { outcome = Some outcome; deps = deps }
 abbrev pub changed : DepKind → Path → Option Path
 changed Change p = Some p
 changed Create p = None
+changed Always p = None
 
 -- the paths of the change entries
 abbrev pub changes : List Dep → List Path

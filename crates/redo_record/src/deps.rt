@@ -9,11 +9,13 @@ use redo_path::Path;
 use std::alloc::{AllocError, Global};
 use std::marker::Model;
 
-/// Whether a target is to be made again when a path changes, or when it comes to exist.
+/// Whether a target is to be made again when a path changes, when it comes to exist, or in any case.
 #[derive(Clone, Copy, Debug, PartialEq, Eq, Hash)]
 pub enum DepKind {
     Change,
     Create,
+    /// Its entry has the root for its path, which stands for nothing there.
+    Always,
 }
 
 /// An entry of a record.
@@ -39,6 +41,7 @@ struct Many {
     entries: Vec<Dep>,
     changed: PathSet,
     created: PathSet,
+    always: PathSet,
 }
 
 impl Model for Many {
@@ -50,7 +53,7 @@ impl Model for Many {
 
     ghost view = { λ m. m.entries.items };
 
-    ghost invariant = { λ m. AreByKind m.entries.items m.changed m.created };
+    ghost invariant = { λ m. AreByKind m.entries.items m.changed m.created m.always };
 }
 
 impl Many {
@@ -61,6 +64,7 @@ impl Many {
             entries: Vec::new(alloc),
             changed: PathSet::new(alloc),
             created: PathSet::new(alloc),
+            always: PathSet::new(alloc),
         }
     }
 
@@ -71,6 +75,7 @@ impl Many {
         match kind {
             DepKind::Change => &self.changed,
             DepKind::Create => &self.created,
+            DepKind::Always => &self.always,
         }
     }
 
@@ -90,6 +95,7 @@ impl Many {
         let (_, new) = match dep.kind {
             DepKind::Change => self.changed.insert(path)?,
             DepKind::Create => self.created.insert(path)?,
+            DepKind::Always => self.always.insert(path)?,
         };
         if new {
             self.entries.push_reserved(dep);

@@ -164,6 +164,7 @@ fn is_found(alloc: Global, rule: &Rule, dep: &Dep) -> Result<bool, AllocError>
     match dep.kind {
         DepKind::Change => Ok(dep.path == rule.do_file),
         DepKind::Create => rule.missing.contains(alloc, &dep.path),
+        DepKind::Always => Ok(false),
     }
 }
 

@@ -62,12 +62,14 @@ outcome_words outcomes.Cyclic = codes "cyclic"
 abbrev pub path_line : List ℕ → List ℕ
 path_line path = path ++ 10 ∷ []
 
-abbrev pub kind_word : DepKind → List ℕ
-kind_word kinds.Change = codes "change"
-kind_word kinds.Create = codes "create"
+-- an entry of a record, of which `always` has no path
+abbrev pub dep_words : DepKind → List ℕ → List ℕ
+dep_words kinds.Change path = codes "change " ++ path
+dep_words kinds.Create path = codes "create " ++ path
+dep_words kinds.Always path = codes "always"
 
 abbrev pub dep_line : Dep → List ℕ
-dep_line dep = codes "dep " ++ kind_word dep.kind ++ 32 ∷ path_line dep.path
+dep_line dep = codes "dep " ++ dep_words dep.kind dep.path ++ 10 ∷ []
 
 -- what became of the path, the path, and its record
 abbrev pub row_text : Row → List ℕ

@@ -17,11 +17,15 @@ fn path(alloc: Global, word: &[u8]) -> Result<Path, Fail> {
     Ok(resolve(alloc, &root, word)?)
 }
 
-/// The record of a target of the tree whose script declared nothing but this source.
+/// The record of a target of the tree whose script called redo-always, and declared this source.
 fn record(alloc: Global, tree: &Tree, target: &Path) -> Result<Record, Fail> {
     match lookup::find(alloc, tree, target)? {
         Found::Rule(rule) => {
             let mut declared = Deps::new(alloc);
+            declared.insert(Dep {
+                kind: DepKind::Always,
+                path: Path::root(),
+            })?;
             declared.insert(Dep {
                 kind: DepKind::Change,
                 path: path(alloc, b"src")?,
@@ -70,12 +74,12 @@ const TEXTS: [(&str, bool, &[u8]); 2] = [
     (
         "rows with their records, begun scripts, files as in a bundle, and the end",
         true,
-        b"built 2 d/a.x\ndep create d/a.x.do\ndep create d/default.x.do\ndep create d/default.do\ndep change default.x.do\ndep change src\nfailed norule d/b\ndep create d/b.do\ndep create d/default.do\ndep create default.do\nsource src\nbegun d/a.x\nfile 2 d/a.x\na\n\nend\n",
+        b"built 2 d/a.x\ndep create d/a.x.do\ndep create d/default.x.do\ndep create d/default.do\ndep change default.x.do\ndep always\ndep change src\nfailed norule d/b\ndep create d/b.do\ndep create d/default.do\ndep create default.do\nsource src\nbegun d/a.x\nfile 2 d/a.x\na\n\nend\n",
     ),
     (
         "the files are left out where they are not wanted",
         false,
-        b"built 2 d/a.x\ndep create d/a.x.do\ndep create d/default.x.do\ndep create d/default.do\ndep change default.x.do\ndep change src\nfailed norule d/b\ndep create d/b.do\ndep create d/default.do\ndep create default.do\nsource src\nbegun d/a.x\nend\n",
+        b"built 2 d/a.x\ndep create d/a.x.do\ndep create d/default.x.do\ndep create d/default.do\ndep change default.x.do\ndep always\ndep change src\nfailed norule d/b\ndep create d/b.do\ndep create d/default.do\ndep create default.do\nsource src\nbegun d/a.x\nend\n",
     ),
 ];
 

@@ -158,6 +158,7 @@ fn write_dep<W: ByteOut>(out: &mut W, dep: &Dep) -> Result<(), Broken>
     match dep.kind {
         DepKind::Change => write_path_line(out, b"dep change ", &dep.path),
         DepKind::Create => write_path_line(out, b"dep create ", &dep.path),
+        DepKind::Always => write_all(out, b"dep always\n"),
     }
 }
 

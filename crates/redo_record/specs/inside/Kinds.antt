@@ -2,7 +2,7 @@
 use Rattle.std.specs.Prelude.{◌≡◌, List, [], ◌∷◌, if◌then◌else◌}
 use Rattle.redo_record.specs.declared.deps.Dep.{Dep}
 use Rattle.redo_record.specs.declared.deps.DepKind.{DepKind}
-use Rattle.redo_record.specs.declared.deps.DepKind.TheVariants.{Change, Create}
+use Rattle.redo_record.specs.declared.deps.DepKind.TheVariants.{Change, Create, Always}
 use Rattle.redo_record.specs.Entries.{same_kind}
 use Rattle.redo_record.specs.Paths.{Path}
 
@@ -11,7 +11,9 @@ abbrev pub paths_with : DepKind → List Dep → List Path
 paths_with kind [] = []
 paths_with kind (e ∷ es) = if same_kind kind e.kind then e.path ∷ paths_with kind es else paths_with kind es
 
--- these are the paths of the entries that name a change, and these of those that name a creation
-pub record AreByKind (es : List Dep) (changed created : List Path) : Type 0 where
+-- these are the paths of the entries that name a change, these of those that name a creation, and these of those that
+-- stand for a target that is to be made in any case
+pub record AreByKind (es : List Dep) (changed created always : List Path) : Type 0 where
   pub changes : changed ≡ paths_with Change es
   pub creates : created ≡ paths_with Create es
+  pub in_any_case : always ≡ paths_with Always es

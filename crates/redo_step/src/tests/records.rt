@@ -15,6 +15,7 @@ fn listed(alloc: Global, record: &Record) -> Result<Vec<u8>, Fail> {
         text.extend_from_slice(match dep.kind {
             DepKind::Change => b"change ".as_slice(),
             DepKind::Create => b"create ",
+            DepKind::Always => b"always",
         })?;
         text.extend_from_slice(dep.path.text())?;
         text.push(b'\n')?;
@@ -201,6 +202,22 @@ fn entries_are_there_once(rt: HostRuntime) -> Result<(), Fail> {
     assert_eq!(rt; deps.len(), 1);
     assert!(rt; deps.contains(&root_entry(DepKind::Change)));
     assert!(rt; !deps.contains(&root_entry(DepKind::Create)));
+    assert!(rt; !deps.contains(&root_entry(DepKind::Always)));
+    Ok(())
+}
+
+/// Entries of one path are one for each kind.
+#[test]
+fn kinds_are_told_apart(rt: HostRuntime) -> Result<(), Fail> {
+    let mut deps = Deps::new(rt.alloc());
+    let kinds = [DepKind::Always, DepKind::Change, DepKind::Create];
+    for kind in kinds {
+        deps.insert(root_entry(kind))?;
+    }
+    for (dep, kind) in deps.as_slice().iter().zip(kinds) {
+        assert_eq!(rt; dep.kind, kind);
+    }
+    assert_eq!(rt; deps.len(), 3);
     Ok(())
 }
 

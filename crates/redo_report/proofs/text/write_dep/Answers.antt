@@ -5,3 +5,6 @@ returns-in-Change-clause-writes g c = rw c.in-Change.is c.write_path_line.ensure
 
 pub returns-in-Create-clause-writes : goal.returns-in-Create-clause-writes
 returns-in-Create-clause-writes g c = rw c.in-Create.is c.write_path_line-in-Create.ensures.writes
+
+pub returns-in-Always-clause-writes : goal.returns-in-Always-clause-writes
+returns-in-Always-clause-writes g c = rw c.in-Always.is c.write_all.ensures.writes
