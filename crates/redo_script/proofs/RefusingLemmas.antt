@@ -360,7 +360,7 @@ redirection_ill l a ts os s = refl
 outside_ill : (l : ℕ) (w : Word) (ts : List Token) (os : List Open) (s : Script) → is_one_of words_outside (item true w) ≡ true → parse_on (in_place os s) (word l true w ∷ ts) ≡ fault_at l reasons.Unsupported
 outside_ill l w ts os s e =
     let no = other_name words_outside true w e in
-    let none : is_one_of commands (item true w) ≡ false = rw (no (codes "echo") refl, no (codes "printf") refl, no (codes "cat") refl, no (codes "test") refl, no (codes "redo-ifchange") refl, no (codes "redo-ifcreate") refl, no (codes "true") refl, no (codes "false") refl, no (codes "exit") refl) refl in
+    let none : is_one_of commands (item true w) ≡ false = rw (no (codes "echo") refl, no (codes "printf") refl, no (codes "cat") refl, no (codes "test") refl, no (codes "redo-ifchange") refl, no (codes "redo-ifcreate") refl, no (codes "redo-always") refl, no (codes "true") refl, no (codes "false") refl, no (codes "exit") refl) refl in
     name_outside l w ts os s (no (codes "if") refl, no (codes "then") refl, no (codes "else") refl, no (codes "fi") refl, no (codes "for") refl, no (codes "do") refl, no (codes "done") refl) none e
 
 unknown_ill : (l : ℕ) (p : Bool) (w : Word) (ts : List Token) (os : List Open) (s : Script) → is_one_of (codes "if" ∷ if_words) (item p w) ≡ false → is_one_of loop_words (item p w) ≡ false → is_one_of commands (item p w) ≡ false → is_one_of words_outside (item p w) ≡ false → parse_on (in_place os s) (word l p w ∷ ts) ≡ fault_at l reasons.UnknownCommand

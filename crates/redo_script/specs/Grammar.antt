@@ -4,7 +4,7 @@ use Rattle.std.specs.Prelude.{if◌then◌else◌, List, [], ◌∷◌, ◌++◌
 use Rattle.redo_script.specs.Bytes.{is_digit, same_bytes, is_name}
 use Rattle.redo_script.specs.Syntax.{byte, quoted, bare, named_quoted, named_bare, Word, Redirection}
 use Rattle.redo_script.specs.Syntax.{Test, is_file, equal, differ, echo, printf, cat, Command, write, test, change}
-use Rattle.redo_script.specs.Syntax.{create, always_true, always_false, exit}
+use Rattle.redo_script.specs.Syntax.{create, always, always_true, always_false, exit}
 use Rattle.redo_script.specs.Syntax.{Condition, if_test, if_true, if_false, Script, finish, simple, choice, loop}
 use Rattle.redo_script.specs.Tokens.{Token, word, semicolon, newline, redirect}
 
@@ -147,6 +147,7 @@ bare_form name items =
     if is_named (codes "test") name then option_test (test_form items)
     else if is_named (codes "redo-ifchange") name then Some (change (item_words items))
     else if is_named (codes "redo-ifcreate") name then Some (create (item_words items))
+    else if is_named (codes "redo-always") name then lone always items
     else if is_named (codes "true") name then lone always_true items
     else if is_named (codes "false") name then lone always_false items
     else if is_named (codes "exit") name then exit_form items
@@ -169,6 +170,7 @@ option_condition (Some c) = elim c [
   | test t ↦ Some (if_test t)
   | change ws ↦ None
   | create ws ↦ None
+  | always ↦ None
   | always_true ↦ Some if_true
   | always_false ↦ Some if_false
   | exit n ↦ None

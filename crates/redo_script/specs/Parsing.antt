@@ -88,7 +88,7 @@ is_one_of (name ∷ names) item = is_named name item || is_one_of names item
 abbrev pub commands : List (List ℕ)
 commands =
     codes "echo" ∷ codes "printf" ∷ codes "cat" ∷ codes "test" ∷ codes "redo-ifchange" ∷ codes "redo-ifcreate"
-    ∷ codes "true" ∷ codes "false" ∷ codes "exit" ∷ []
+    ∷ codes "redo-always" ∷ codes "true" ∷ codes "false" ∷ codes "exit" ∷ []
 
 -- the words of the shell that the subset leaves out
 abbrev pub words_outside : List (List ℕ)

@@ -38,6 +38,7 @@ pub data Command : Type 0 where
   test : Test Word → Command
   change : List Word → Command
   create : List Word → Command
+  always : Command
   always_true : Command
   always_false : Command
   exit : ℕ → Command

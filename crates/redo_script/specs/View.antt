@@ -20,9 +20,9 @@ use Rattle.redo_script.specs.declared.ast.Stmt.TheOpen as stmts
 use Rattle.redo_script.specs.declared.ast.Stmt.TheFolds.{fold-Stmt}
 use Rattle.redo_script.specs.Syntax.{Symbol, byte, quoted, bare, named_quoted, named_bare, Word}
 use Rattle.redo_script.specs.Syntax.{Redirection, Test, is_file, equal, differ}
-use Rattle.redo_script.specs.Syntax.{Writer, echo, printf, cat, Command, write, test, change, create, always_true}
-use Rattle.redo_script.specs.Syntax.{always_false, exit, Condition, if_test, if_true, if_false, Script, finish, simple}
-use Rattle.redo_script.specs.Syntax.{choice, loop}
+use Rattle.redo_script.specs.Syntax.{Writer, echo, printf, cat, Command, write, test, change, create, always}
+use Rattle.redo_script.specs.Syntax.{always_true, always_false, exit, Condition, if_test, if_true, if_false, Script}
+use Rattle.redo_script.specs.Syntax.{finish, simple, choice, loop}
 
 -- the symbols of a piece of a word
 abbrev pub symbols_of_part : Part → List Symbol
@@ -67,6 +67,7 @@ command_of (commands.Write w r) = write (writer_of w) (option_map redirection_of
 command_of (commands.Test t) = test (test_of t)
 command_of (commands.Change ws) = change (words_of ws.items)
 command_of (commands.Create ws) = create (words_of ws.items)
+command_of commands.Always = always
 command_of commands.True = always_true
 command_of commands.False = always_false
 command_of (commands.Exit n) = exit n

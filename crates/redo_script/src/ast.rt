@@ -1,5 +1,5 @@
-//! The syntax tree of a script: a subset of the POSIX shell command language, with redo-ifchange(1)
-//! and redo-ifcreate(1).
+//! The syntax tree of a script: a subset of the POSIX shell command language, with redo-ifchange(1),
+//! redo-ifcreate(1) and redo-always(1).
 
 use redo_bytes::Bytes;
 
@@ -74,6 +74,8 @@ pub enum Command {
     Change(Vec<Word>),
     /// `redo-ifcreate W*`
     Create(Vec<Word>),
+    /// `redo-always`
+    Always,
     True,
     False,
     /// `exit N`

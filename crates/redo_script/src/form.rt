@@ -130,6 +130,7 @@ fn bare_command(
         CommandName::Test => Ok(test_operands(alloc, items)?.map(Command::Test)),
         CommandName::Change => Ok(Some(Command::Change(words_of_items(alloc, items)?))),
         CommandName::Create => Ok(Some(Command::Create(words_of_items(alloc, items)?))),
+        CommandName::Always if items.is_empty() => Ok(Some(Command::Always)),
         CommandName::True if items.is_empty() => Ok(Some(Command::True)),
         CommandName::False if items.is_empty() => Ok(Some(Command::False)),
         CommandName::Exit => exit_of_items(alloc, items),

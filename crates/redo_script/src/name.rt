@@ -16,6 +16,7 @@ pub enum CommandName {
     Test,
     Change,
     Create,
+    Always,
     True,
     False,
     Exit,
@@ -40,6 +41,8 @@ impl CommandName {
             Some(CommandName::Change)
         } else if word.is_named(b"redo-ifcreate") {
             Some(CommandName::Create)
+        } else if word.is_named(b"redo-always") {
+            Some(CommandName::Always)
         } else if word.is_named(b"true") {
             Some(CommandName::True)
         } else if word.is_named(b"false") {

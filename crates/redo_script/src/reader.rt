@@ -109,9 +109,9 @@ fn read(alloc: Global, text: &[u8]) -> Result<Script, ScriptFault>
 ///
 /// The grammar is a subset of the POSIX shell command language (its chapters on token recognition,
 /// quoting, simple commands, redirection and the `if` and `for` compound commands), with the commands
-/// echo, printf, cat, test, true, false and exit, and with redo-ifchange(1) and redo-ifcreate(1). The
-/// only parameters are `$1`, `$2` and `$3`, and the names of the loops round a command; an `if` may
-/// stand in at most 15 others, a loop in one.
+/// echo, printf, cat, test, true, false and exit, and with redo-ifchange(1), redo-ifcreate(1) and
+/// redo-always(1). The only parameters are `$1`, `$2` and `$3`, and the names of the loops round a
+/// command; an `if` may stand in at most 15 others, a loop in one.
 ///
 /// A text is looked at in four passes: for a byte 0, for its interpreter line, for its tokens and
 /// for its commands. The first pass that finds a fault decides, and in a pass the fault that stands

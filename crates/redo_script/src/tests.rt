@@ -69,7 +69,8 @@ const BY_COMMANDS: &[Row] = &[
     (b"break\n", 1, Reason::UnknownCommand),
     (b"continue\n", 1, Reason::UnknownCommand),
     (b"in\n", 1, Reason::UnknownCommand),
-    (b"redo-always\n", 1, Reason::UnknownCommand),
+    (b"redo-stamp\n", 1, Reason::UnknownCommand),
+    (b"'redo-always'\n", 1, Reason::UnknownCommand),
     (b"! true\n", 1, Reason::Unsupported),
     (b"while true\n", 1, Reason::Unsupported),
     (b"until true\n", 1, Reason::Unsupported),
@@ -100,6 +101,10 @@ const BY_COMMANDS: &[Row] = &[
     (b"false > $3\n", 1, Reason::Shape),
     (b"redo-ifchange a > $3\n", 1, Reason::Shape),
     (b"redo-ifcreate a >> $3\n", 1, Reason::Shape),
+    (b"redo-always a\n", 1, Reason::Shape),
+    (b"true\nredo-always ''\n", 2, Reason::Shape),
+    (b"true\nredo-always > $3\n", 2, Reason::Shape),
+    (b"redo-always >> $3\n", 1, Reason::Shape),
     (b"echo a > $3 b\n", 1, Reason::Shape),
     (b"echo a > b > c\n", 1, Reason::Shape),
     (b"echo a >>> $3\n", 1, Reason::Shape),
@@ -116,6 +121,7 @@ const BY_IFS: &[Row] = &[
     (b"if; true\n", 1, Reason::IfShape),
     (b"if\ntrue; then true; fi\n", 1, Reason::IfShape),
     (b"if ! true; then true; fi\n", 1, Reason::IfShape),
+    (b"if redo-always; then true; fi\n", 1, Reason::IfShape),
     (b"if 'true'; then true; fi\n", 1, Reason::IfShape),
     (b"if if true\n", 1, Reason::IfShape),
     (b"if true > $3; then true; fi\n", 1, Reason::Shape),
@@ -338,6 +344,10 @@ const TREES: &[(&[u8], &str)] = &[
     (
         b"redo-ifchange a\nredo-ifcreate",
         "[Simple(1, Change([Literal([97])])), Simple(2, Create([]))]",
+    ),
+    (
+        b"redo-always\nif true; then redo-always; fi",
+        "[Simple(1, Always), If(2, True, [Simple(2, Always)], [])]",
     ),
     // With three operands of `test` the middle one is the operator; quotes may stand in it.
     (

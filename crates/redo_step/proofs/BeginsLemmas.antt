@@ -1,7 +1,7 @@
 -- A run under an ask is a beginning of the run under each ask that keeps its answers.
 use Rattle.std.proofs.Common.{◌≡◌, ℕ, Bool, true, false, cond, inl, inr, Result, Ok, Err, List, [], ◌∷◌, refl, sym, ◌∙◌}
-use Rattle.redo_script.specs.Syntax.{Command, write, test, change, create, always_true, always_false, exit, Script}
-use Rattle.redo_script.specs.Syntax.{finish, simple, choice, loop}
+use Rattle.redo_script.specs.Syntax.{Command, write, test, change, create, always, always_true, always_false, exit}
+use Rattle.redo_script.specs.Syntax.{Script, finish, simple, choice, loop}
 use Rattle.redo_record.specs.declared.deps.DepKind.TheVariants as kinds
 use Rattle.redo_record.specs.declared.outcome.Why.TheVariants as why
 use Rattle.redo_record.specs.Paths.{Path}
@@ -25,7 +25,7 @@ use Rattle.redo_step.proofs.StableLemmas.{lacking-nil, lacking-answered, answere
 use Rattle.redo_step.proofs.StepLemmas.{command_goes, command_stays, written_entries}
 use Rattle.redo_step.proofs.SettledLemmas.{IsOver, over_bind, Settled, texts_over, paths_over, free_over}
 use Rattle.redo_step.proofs.SettledLemmas.{written_settled, tested_settled, condition_settled}
-use Rattle.redo_step.proofs.KnownLemmas.{known_changes, known_creates, answered_or, known_later}
+use Rattle.redo_step.proofs.KnownLemmas.{known_changes, known_creates, known_always, answered_or, known_later}
 
 -- Entries only grow
 
@@ -159,6 +159,7 @@ module _ (setting : Setting) (ask later : Ask) where
       changed_begins line (texts_of setting line ws >>= paths_of setting line) s (over_bind (texts_of setting line ws) (paths_of setting line) (texts_over setting line ws) (paths_over setting line)) known keeps
   command_begins line (create ws) s known keeps =
       created_begins (texts_of setting line ws >>= free_paths setting line) s (over_bind (texts_of setting line ws) (free_paths setting line) (texts_over setting line ws) (free_over setting line)) known
+  command_begins line always s known keeps = (refl, known_always setting ask s.entries [] known)
   command_begins line always_true s known keeps = (refl, known)
   command_begins line always_false s known keeps = (refl, known)
   command_begins line (exit n) s known keeps = (refl, known)

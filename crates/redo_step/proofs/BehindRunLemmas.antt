@@ -1,8 +1,8 @@
 -- What a script declares stands behind what was declared before.
 use Rattle.std.proofs.Common.{◌≡◌, ℕ, Bool, true, false, cond, List, [], ◌∷◌, refl, sym, ◌∙◌, Result, Ok, Err}
 use Rattle.std.proofs.Common.{append-nil, drop}
-use Rattle.redo_script.specs.Syntax.{Command, write, test, change, create, always_true, always_false, exit, Script}
-use Rattle.redo_script.specs.Syntax.{finish, simple, choice, loop}
+use Rattle.redo_script.specs.Syntax.{Command, write, test, change, create, always, always_true, always_false, exit}
+use Rattle.redo_script.specs.Syntax.{Script, finish, simple, choice, loop}
 use Rattle.redo_record.specs.declared.deps.Dep.{Dep}
 use Rattle.redo_record.specs.declared.deps.DepKind.TheVariants as kinds
 use Rattle.redo_record.specs.declared.outcome.Why.TheVariants as why
@@ -55,6 +55,7 @@ module _ (setting : Setting) (ask : Ask) where
   command-begins line (test t) s = status-begins (tested setting ask line t s) s
   command-begins line (change ws) s = changed-begins line (texts_of setting line ws >>= paths_of setting line) s
   command-begins line (create ws) s = created-begins (texts_of setting line ws >>= free_paths setting line) s
+  command-begins line always s = entries-begin s.entries kinds.Always ([] ∷ [])
   command-begins line always_true s = beginning-refl s.entries
   command-begins line always_false s = beginning-refl s.entries
   command-begins line (exit n) s = beginning-refl s.entries

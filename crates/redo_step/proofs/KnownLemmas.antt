@@ -39,6 +39,14 @@ module _ (setting : Setting) (ask : Ask) where
   known_creates es [] known = known
   known_creates es (p ∷ ps) known = known_creates (with_entry es kinds.Create p) ps (known_create es p known)
 
+  pub known_always : (es : List Dep) (q : Path) → AreKnown setting ask es → AreKnown setting ask (with_entry es kinds.Always q)
+  known_always es q known = record {
+    known = λ p h. elim (entered_cases es kinds.Always kinds.Change q p h) [
+      | inl old ↦ known.known p old
+      | inr new ↦ let other : kinds.Always ≡ kinds.Change = new.0 in absurd cc
+    ];
+  }
+
   -- all have answers, or one lacks its own
   pub answered_or : (es : List Dep) (ps : List Path) → AllEntered es kinds.Change ps → AllAnswered setting ask ps ⊎ ((p : Path) × (is_entered es kinds.Change p ≡ true) × (lacks setting ask p ≡ true))
   answered_or es [] h = inl tt

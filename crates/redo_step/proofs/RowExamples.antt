@@ -4,8 +4,8 @@ use Rattle.std.specs.Prelude.{if◌then◌else◌}
 use Rattle.redo_script.specs.declared.ast.Parameter.{Parameter}
 use Rattle.redo_script.specs.declared.ast.Parameter.TheVariants.{One, Two, Three}
 use Rattle.redo_script.specs.Syntax.{byte, bare, named_quoted, named_bare, Word, Redirection, is_file, equal, Writer}
-use Rattle.redo_script.specs.Syntax.{echo, printf, cat, write, change, create, always_false, exit, if_test, Script}
-use Rattle.redo_script.specs.Syntax.{finish, simple, choice, loop}
+use Rattle.redo_script.specs.Syntax.{echo, printf, cat, write, change, create, always, always_false, exit, if_test}
+use Rattle.redo_script.specs.Syntax.{Script, finish, simple, choice, loop}
 use Rattle.redo_script.specs.Bytes.{is_plain}
 use Rattle.redo_record.specs.declared.deps.DepKind.TheVariants as kinds
 use Rattle.redo_record.specs.declared.outcome.Why.TheVariants as why
@@ -86,6 +86,11 @@ operands_without_a_place = refl
 declared_for_creation : meaning (setting (codes "p") no_source 1000) no_answers (simple 1 (create (word (codes "none") ∷ [])) (simple 2 (write (echo (word (codes "ok") ∷ [])) None) finish)) ≡ goes (record { output = codes "ok" ++ 10 ∷ []; third = None; entries = record { kind = kinds.Create; path = codes "none" } ∷ [] })
 unfolding meaning run resolved is_plain
 declared_for_creation = refl
+
+-- redo-always, and again: one entry, and it goes on
+in_any_case : meaning (setting (codes "p") no_source 1000) no_answers (simple 1 always (simple 2 always (simple 3 (write (echo (word (codes "ok") ∷ [])) None) finish))) ≡ goes (record { output = codes "ok" ++ 10 ∷ []; third = None; entries = record { kind = kinds.Always; path = [] } ∷ [] })
+unfolding meaning run resolved is_plain
+in_any_case = refl
 
 a_choice : result_of (meaning (setting (codes "g") no_source 1000) no_answers (choice 1 (if_test (equal (word (codes "a")) (word (codes "b")))) (simple 1 always_false finish) finish finish)) ≡ Some (made None)
 unfolding meaning run resolved is_plain

@@ -1,13 +1,14 @@
 -- How far one statement comes.
-use Rattle.std.proofs.Common.{◌≡◌, ℕ, Bool, true, false, Option, Some, None, Result, Ok, Err, List, ◌++◌, refl, sym, ap}
-use Rattle.redo_script.specs.Syntax.{Word, Redirection, Writer, Command, write, test, change, create, always_true}
-use Rattle.redo_script.specs.Syntax.{always_false, exit, Condition, Script, simple, choice, loop}
+use Rattle.std.proofs.Common.{◌≡◌, ℕ, Bool, true, false, Option, Some, None, Result, Ok, Err, List, [], ◌∷◌}
+use Rattle.std.proofs.Common.{◌++◌, refl, sym, ap}
+use Rattle.redo_script.specs.Syntax.{Word, Redirection, Writer, Command, write, test, change, create, always}
+use Rattle.redo_script.specs.Syntax.{always_true, always_false, exit, Condition, Script, simple, choice, loop}
 use Rattle.redo_record.specs.declared.deps.DepKind.TheVariants as kinds
 use Rattle.redo_record.specs.Paths.{Path}
 use Rattle.redo_step.specs.Setting.{Setting}
 use Rattle.redo_step.specs.Runs.{State, End, Run, goes, ends, ◌>>=◌}
 use Rattle.redo_step.specs.Words.{texts_of, paths_of}
-use Rattle.redo_step.specs.Declaring.{declaring, free_paths, created}
+use Rattle.redo_step.specs.Declaring.{declaring, free_paths, created, in_any_case}
 use Rattle.redo_step.specs.Outputs.{limited, goal_of, bytes_of, writer_texts, bytes_or_none, put, written}
 use Rattle.redo_step.specs.Reading.{tested}
 use Rattle.redo_step.specs.Statements.{with_status, with_state, command_run, condition_result, then_run, run}
@@ -64,6 +65,9 @@ created_same : (r : Result (List Path) End) (s t : State) → created r s ≡ go
 created_same (Err w) s t e = absurd cc
 created_same (Ok ps) s t e = let same : t ≡ declaring s kinds.Create ps = cc in rw same (Extends-with_entries s.entries kinds.Create ps)
 
+any_case_same : (s t : State) → in_any_case s ≡ goes t → Extends s.entries t.entries
+any_case_same s t e = let same : t ≡ declaring s kinds.Always ([] ∷ []) = cc in rw same (Extends-with_entries s.entries kinds.Always ([] ∷ []))
+
 same_extends : (s t : State) → t.entries ≡ s.entries → Extends s.entries t.entries
 same_extends s t e = rw e (Extends-refl s.entries)
 
@@ -78,6 +82,7 @@ command_goes setting ask line (change ws) s t e =
     record { extends = (changed_goes setting ask ask line (texts_of setting line ws >>= paths_of setting line) s t e).0; so = λ later k. (changed_goes setting ask later line (texts_of setting line ws >>= paths_of setting line) s t e).1 k }
 command_goes setting ask line (create ws) s t e =
     record { extends = created_same (texts_of setting line ws >>= free_paths setting line) s t e; so = λ later k. e }
+command_goes setting ask line always s t e = record { extends = any_case_same s t e; so = λ later k. e }
 command_goes setting ask line always_true s t e = let same : s ≡ t = cc in record { extends = same_extends s t (sym (ap (λ (x : State). x.entries) same)); so = λ later k. e }
 command_goes setting ask line always_false s t e = absurd cc
 command_goes setting ask line (exit n) s t e = absurd cc
@@ -109,6 +114,7 @@ command_stays setting ask line (test t') s t w e = same_stays setting _ s t (sta
 command_stays setting ask line (change ws) s t w e =
     record { extends = (changed_stays setting ask ask line (texts_of setting line ws >>= paths_of setting line) s t w e).0; so = λ later. (changed_stays setting ask later line (texts_of setting line ws >>= paths_of setting line) s t w e).1 }
 command_stays setting ask line (create ws) s t w e = same_stays setting _ s t (created_ends (texts_of setting line ws >>= free_paths setting line) s t w e)
+command_stays setting ask line always s t w e = absurd cc
 command_stays setting ask line always_true s t w e = absurd cc
 command_stays setting ask line always_false s t w e = same_stays setting _ s t cc
 command_stays setting ask line (exit n) s t w e = same_stays setting _ s t cc

@@ -1,4 +1,4 @@
--- What redo-ifchange and redo-ifcreate declare, and when they stop or fail.
+-- What redo-ifchange, redo-ifcreate and redo-always declare, and when they stop or fail.
 use Rattle.std.specs.Prelude.{ℕ, Bool, false, ◌&&◌, ◌||◌, not, List, [], ◌∷◌, ◌++◌, Option, Some, None, is_some}
 use Rattle.std.specs.Prelude.{is_none, Result, Ok, Err, if◌then◌else◌}
 use Rattle.redo_script.specs.Syntax.{Word}
@@ -81,3 +81,7 @@ free_operands setting line ws = texts_of setting line ws >>= free_paths setting 
 abbrev pub created : Result (List Path) End → State → Run
 created (Err e) s = ends e s
 created (Ok ps) s = goes (declaring s kinds.Create ps)
+
+-- redo-always: its entry is declared, which has the root for its path
+abbrev pub in_any_case : State → Run
+in_any_case s = goes (declaring s kinds.Always ([] ∷ []))

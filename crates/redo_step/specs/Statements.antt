@@ -1,13 +1,13 @@
 -- What a script does, as a function of the answers to what it asks for.
 use Rattle.std.specs.Prelude.{ℕ, zero, suc, Bool, true, false, List, [], ◌∷◌, Option, Some, None, Result, Ok, Err}
-use Rattle.redo_script.specs.Syntax.{Command, write, test, change, create, always_true, always_false, exit, Condition}
-use Rattle.redo_script.specs.Syntax.{if_test, if_true, if_false, Script, finish, simple, choice, loop}
+use Rattle.redo_script.specs.Syntax.{Command, write, test, change, create, always, always_true, always_false, exit}
+use Rattle.redo_script.specs.Syntax.{Condition, if_test, if_true, if_false, Script, finish, simple, choice, loop}
 use Rattle.redo_record.specs.declared.outcome.Why.{Why}
 use Rattle.redo_record.specs.declared.outcome.Why.TheVariants as why
 use Rattle.redo_record.specs.Answers.{Ask}
 use Rattle.redo_step.specs.Runs.{End, Run, State, ends, exited, faulted, goes, start, stopped}
 use Rattle.redo_step.specs.Setting.{Setting, with_value}
-use Rattle.redo_step.specs.Declaring.{changed, created, free_operands}
+use Rattle.redo_step.specs.Declaring.{changed, created, free_operands, in_any_case}
 use Rattle.redo_step.specs.Words.{operands_of, texts_of}
 use Rattle.redo_step.specs.Reading.{tested}
 use Rattle.redo_step.specs.Outputs.{written}
@@ -29,6 +29,7 @@ command_run setting ask line (write w r) s = with_state (written setting ask lin
 command_run setting ask line (test t) s = with_status (tested setting ask line t s) s
 command_run setting ask line (change ws) s = changed setting ask line (operands_of setting line ws) s
 command_run setting ask line (create ws) s = created (free_operands setting line ws) s
+command_run setting ask line always s = in_any_case s
 command_run setting ask line always_true s = goes s
 command_run setting ask line always_false s = ends (exited 1) s
 command_run setting ask line (exit n) s = ends (exited n) s

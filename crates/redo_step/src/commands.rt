@@ -3,7 +3,7 @@
 ghost use Rattle.redo_script.specs.Syntax.{change};
 ghost use Rattle.redo_script.specs.View.{words_of, test_of, command_of, condition_of};
 ghost use Rattle.redo_step.specs.Words.{operands_of};
-ghost use Rattle.redo_step.specs.Declaring.{free_operands, changed, created};
+ghost use Rattle.redo_step.specs.Declaring.{free_operands, changed, created, in_any_case};
 ghost use Rattle.redo_step.specs.Reading.{tested_in};
 ghost use Rattle.redo_step.specs.Statements.{command_run, condition_result};
 ghost use Rattle.redo_step.specs.inside.Machine.{Gives, Runs, Passes, state_of};
@@ -15,7 +15,8 @@ use crate::halt::Halt;
 use crate::machine::Effects;
 use crate::scene::Scene;
 use crate::wait::Waiting;
-use redo_record::{DepKind, Deps};
+use redo_path::Path;
+use redo_record::{Dep, DepKind, Deps};
 use redo_script::{Command, Condition, Test, Word};
 
 impl Scene<'_> {
@@ -42,6 +43,7 @@ impl Scene<'_> {
             }
             Command::Change(words) => self.change(answers, line, words, effects),
             Command::Create(words) => self.create(line, words, effects),
+            Command::Always => always(effects),
             Command::True => Ok(()),
             Command::False => Err(Halt::exit(1)),
             Command::Exit(status) => Err(Halt::exit(*status)),
@@ -118,4 +120,15 @@ impl Scene<'_> {
             Condition::False => Ok(false),
         }
     }
+}
+
+/// redo-always(1): declares that the target is to be made in any case.
+fn always(effects: &mut Effects) -> Result<(), Halt>
+    ensures { Runs result (in_any_case (state_of effects.old)) (state_of effects.new) }
+{
+    effects.deps.insert(Dep {
+        kind: DepKind::Always,
+        path: Path::root(),
+    })?;
+    Ok(())
 }

@@ -54,6 +54,10 @@ const ROWS: &[Row] = &[
     ),
     (b"test a = b\n", b"exit 1"),
     (b"test a != b\necho on\n", b"file on\n"),
+    // redo-always goes on, and lets nothing be read.
+    (b"redo-always\n", b"none"),
+    (b"echo a\nredo-always\necho b\n", b"file a\nb\n"),
+    (b"redo-always\ncat src\n", b"undeclared 2"),
     (b"test -f = x\n", b"exit 1"),
     // echo has no options.
     (b"echo\n", b"file \n"),

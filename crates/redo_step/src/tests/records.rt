@@ -76,6 +76,51 @@ const ROWS: &[Row] = &[
         b"redo-ifcreate b\nredo-ifchange b src b\n",
         b"change t.do\ncreate b\nchange b\nchange src\n",
     ),
+    // redo-always has one entry without a path, at the place of the first.
+    (
+        b"t",
+        b"t.do",
+        b"redo-always\necho a\n",
+        b"change t.do\nalways\n",
+    ),
+    (
+        b"t",
+        b"t.do",
+        b"redo-ifchange src\nredo-always\nredo-ifcreate no\nredo-always\n",
+        b"change t.do\nchange src\nalways\ncreate no\n",
+    ),
+    (
+        b"t",
+        b"t.do",
+        b"for x in m n; do redo-always; redo-ifcreate $x; done\n",
+        b"change t.do\nalways\ncreate m\ncreate n\n",
+    ),
+    (
+        b"d/t",
+        b"default.do",
+        b"if true; then redo-always; fi\n",
+        b"create d/t.do\ncreate d/default.do\nchange default.do\nalways\n",
+    ),
+    // It is behind eight entries as it is behind one.
+    (
+        b"t",
+        b"t.do",
+        b"redo-ifcreate c e f g h i j k\nredo-always\nredo-ifcreate l\nredo-always\n",
+        b"change t.do\ncreate c\ncreate e\ncreate f\ncreate g\ncreate h\ncreate i\ncreate j\ncreate k\nalways\ncreate l\n",
+    ),
+    // Only where it is run.
+    (
+        b"t",
+        b"t.do",
+        b"if false; then redo-always; fi\nexit 0\nredo-always\n",
+        b"change t.do\n",
+    ),
+    (
+        b"t",
+        b"t.do",
+        b"redo-always\nfalse\n",
+        b"change t.do\nalways\n",
+    ),
     // What the search entered is not entered again, whatever else is declared.
     (
         b"d/t",

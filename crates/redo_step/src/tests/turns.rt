@@ -148,6 +148,24 @@ fn shows_where_it_stands(rt: HostRuntime) -> Result<(), Fail> {
     Ok(())
 }
 
+/// redo-always is declared before a stop, and not again behind it.
+#[test]
+fn declares_always_once(rt: HostRuntime) -> Result<(), Fail> {
+    let alloc = rt.alloc();
+    let mut known = Known::nothing(alloc);
+    let job = begun(
+        alloc,
+        b"redo-always\nredo-ifchange a\nredo-always\necho x\n",
+    )?;
+    let job = stopped(&rt, job, &known, &[b"a"])?;
+    check_shown(&rt, &job, 1, 2);
+    learn(alloc, &mut known, b"a", Outcome::Built(None))?;
+    let done = ended(job.advance(&known)?)?;
+    check_outcome(&rt, alloc, &done.outcome, b"file x\n")?;
+    assert_eq!(rt; done.deps.entries(alloc)?.len(), 3);
+    Ok(())
+}
+
 /// A script, and the paths that it asks for first: each once, no sources, whatever they are.
 const ASKS: &[(&[u8], &[&[u8]])] = &[
     (b"redo-ifchange a a ./a b a\n", &[b"a", b"b"]),
@@ -169,6 +187,7 @@ const ASKS: &[(&[u8], &[&[u8]])] = &[
         b"for x in a b; do redo-ifchange $x c; done\n",
         &[b"a", b"c"],
     ),
+    (b"redo-always\nredo-ifchange a\n", &[b"a"]),
 ];
 
 /// Runs a script that asks for these paths first.
