@@ -2,6 +2,7 @@ pub mod BehindLemmas
 pub mod EntryLemmas
 pub mod FoundLemmas
 pub mod LawfulLemmas
+pub mod OnceLemmas
 pub mod OperandLemmas
 pub mod Public
 pub mod SearchLemmas

@@ -4,7 +4,7 @@ ghost use Rattle.std.specs.Prelude.{◌≡◌, ◌∷◌, ◌++◌, [], List, If
 ghost use Rattle.redo_record.specs.declared.deps.Dep.{Dep};
 ghost use Rattle.redo_record.specs.declared.deps.DepKind.TheVariants as kinds;
 ghost use Rattle.redo_record.specs.Entries.{change_of, creates, entries_of, search_entries, is_entered, with_entries};
-ghost use Rattle.redo_record.specs.Entries.{search_deps, with_all};
+ghost use Rattle.redo_record.specs.Entries.{AreOnce, search_deps, with_all};
 
 use crate::deps::{Dep, DepKind, Deps};
 use redo_path::Path;
@@ -25,11 +25,13 @@ pub struct Record {
 impl Model for Record {
     ghost use Rattle.std.specs.Prelude.{List};
     ghost use Rattle.redo_record.specs.declared.deps.Dep.{Dep};
-    ghost use Rattle.redo_record.specs.Entries.{entries_of};
+    ghost use Rattle.redo_record.specs.Entries.{AreOnce, entries_of};
 
     ghost Value = { List Dep };
 
     ghost view = { λ r. entries_of r.missing r.do_file r.own };
+
+    ghost invariant = { λ r. AreOnce (entries_of r.missing r.do_file r.own) };
 }
 
 /// What a record is made of, in the order of its entries.
@@ -105,6 +107,13 @@ impl Record {
             do_file: self.do_file.as_ref(),
             own: self.own.as_slice(),
         }
+    }
+
+    /// No entry stands twice.
+    pub fn each_once(&self)
+        ensures { AreOnce self.now }
+    {
+        let _ = &self.own;
     }
 
     /// Its entries, each spelled anew.
