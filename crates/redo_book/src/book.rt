@@ -13,7 +13,7 @@ use std::cmp::Ordering;
 use std::marker::Model;
 
 /// What a target is to be made again for.
-#[derive(Debug, PartialEq, Eq, Drop)]
+#[derive(Clone, Debug, PartialEq, Eq, Drop)]
 pub enum BookEntry {
     /// This file was there, or none was, and that has changed.
     Change(Option<Digest>, Path),
@@ -24,7 +24,7 @@ pub enum BookEntry {
 }
 
 /// What a target came to in the last run, and what it depended on.
-#[derive(Debug, PartialEq, Eq, Drop)]
+#[derive(Clone, Debug, PartialEq, Eq, Drop)]
 pub struct BookRecord {
     pub target: Path,
     /// The digest of its file, or none where it made no file.
