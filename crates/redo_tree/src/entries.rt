@@ -93,6 +93,14 @@ impl Tree {
         self.entries.number_by_text(path.text())
     }
 
+    /// The paths rise, and the parent of each is a directory of the tree, as laws of trees ask.
+    pub fn is_tree(&self)
+        ensures { IsTree self.now }
+    {
+        // A field is read so that the invariant is at hand in the proof. Nothing runs.
+        let _ = &self.entries;
+    }
+
     /// What is kept at the path with this text.
     fn entry(&self, text: &[u8]) -> Option<&Entry>
         ensures { option_map node_of (option_copied result) ≡ node_at self.now text.now }
