@@ -4,7 +4,8 @@ use Rattle.redo_script.specs.declared.ast.Parameter.{Parameter}
 use Rattle.redo_script.specs.declared.ast.Parameter.TheVariants.{One, Two, Three}
 use Rattle.redo_tree.specs.Tree as tree_words
 use Rattle.redo_tree.specs.Tree.{Tree, Node, node_at, file_at}
-use Rattle.redo_which.specs.Rule.{Outcome as Found, Source, Directory, NoDirectory, NoRule, Rule, Arguments, found_of}
+pub use Rattle.redo_which.specs.Rule.{is_rule}
+use Rattle.redo_which.specs.Rule.{Outcome as Found, Arguments, found_of}
 use Rattle.redo_record.specs.Paths.{Path}
 use Rattle.redo_step.specs.Path.{resolved}
 use Rattle.redo_step.specs.declared.scope.Binding.{Binding}
@@ -27,14 +28,6 @@ abbrev pub is_directory : Option Node → Bool
 is_directory None = false
 is_directory (Some tree_words.Directory) = true
 is_directory (Some (tree_words.File bytes)) = false
-
--- whether the search found a rule
-abbrev pub is_rule : Found → Bool
-is_rule Source = false
-is_rule Directory = false
-is_rule NoDirectory = false
-is_rule (NoRule missing) = false
-is_rule (Rule do_file missing arguments) = true
 
 -- the bytes that a parameter stands for
 abbrev pub value_in : Arguments → Parameter → List ℕ
