@@ -1,0 +1,11 @@
+pub mod CarryLemmas
+pub mod EntryLemmas
+pub mod FileLemmas
+pub mod ItemLemmas
+pub mod LawLemmas
+pub mod LoopLemmas
+pub mod NewBookLemmas
+pub mod OrderLemmas
+pub mod PastLemmas
+pub mod RowLemmas
+pub mod StateLemmas

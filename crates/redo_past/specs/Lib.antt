@@ -1,0 +1,4 @@
+pub mod Faults
+pub mod NewBook
+pub mod Past
+pub mod inside

@@ -1,0 +1,45 @@
+-- What a run is given when there was one before it: a tree, the book in it, and the sources.
+use Rattle.std.specs.Prelude.{◌≡◌, Bool, false, ℕ, List, [], ◌∷◌, Option, Some, None, MatchOption, filter}
+use Rattle.std.specs.Str.{bytes_eq}
+use Rattle.sha2.specs.Sha256.{sha256}
+use Rattle.redo_digest.specs.Digest.{State}
+use Rattle.redo_tree.specs.Tree.{Tree, file_at, without}
+use Rattle.redo_which.specs.Candidates.{book_path}
+use Rattle.redo_book.specs.Book.{IsRefused, IsText, Record, targets_of}
+use Rattle.redo_past.specs.declared.faults.PastFault.{PastFault}
+use Rattle.redo_past.specs.declared.faults.PastFault.TheVariants.{Book, Memory}
+
+-- there is a file, and this is its digest
+abbrev pub has_digest : Option (List ℕ) → State → Bool
+has_digest None state = false
+has_digest (Some bytes) None = false
+has_digest (Some bytes) (Some digest) = bytes_eq (sha256 bytes) digest
+
+-- the file at the target of a record has the digest that it had in the last run
+abbrev pub is_generated : Tree → Record → Bool
+is_generated tree r = has_digest (file_at tree r.target) r.state
+
+-- the paths of the files that are no sources: the book's, and those of generated files
+abbrev pub set_aside : Tree → List Record → List (List ℕ)
+set_aside tree book = book_path ∷ targets_of (filter (is_generated tree) book)
+
+-- the tree as it was read, the sources in it, and the book of the last run
+pub record PastView : Type 0 where
+  pub tree : Tree
+  pub sources : Tree
+  pub book : List Record
+
+-- the book is the one that the tree has a text of, or empty, and the sources are the tree without what is set aside
+pub record IsPast (past : PastView) : Type 0 where
+  pub book : MatchOption (file_at past.tree book_path) (past.book ≡ []) (λ text. IsText text past.book)
+  pub sources : past.sources ≡ without past.tree (set_aside past.tree past.book)
+
+-- the tree has a text of a book, whose first line at fault this is, unless memory ran out
+abbrev pub RefusesBook : PastFault → Tree → Type 0
+RefusesBook (Book n) tree = (text : List ℕ) × (file_at tree book_path ≡ Some text) × IsRefused text n
+RefusesBook Memory tree = Unit {0}
+
+-- no book is the tree's, unless memory ran out
+abbrev pub HasNoPast : PastFault → Tree → Type 0
+HasNoPast (Book n) tree = (past : PastView) → IsPast past → past.tree ≡ tree → ⊥
+HasNoPast Memory tree = Unit {0}

@@ -1,0 +1,58 @@
+-- What the new book is made of.
+use Rattle.std.specs.Prelude.{◌≡◌, Bool, true, false, not, ◌&&◌, List, [], ◌∷◌, ℕ, Option, Some, None, if◌then◌else◌}
+use Rattle.std.specs.Prelude.{filter, filter_map, is_some, map, bytes_eq}
+use Rattle.std.specs.Map.{lookup}
+use Rattle.redo_digest.specs.Digest.{State}
+use Rattle.redo_tree.specs.Tree.{Tree, file_at}
+use Rattle.redo_which.specs.Rule.{found_of, is_rule}
+use Rattle.redo_book.specs.Book.{Record}
+use Rattle.redo_report.specs.Reports.{AreAscending}
+use Rattle.redo_report.specs.declared.report.Row.{Row}
+use Rattle.redo_past.specs.NewBook.{is_built, new_record, row_at, state_at}
+use Rattle.redo_past.specs.Past.{PastView}
+
+-- rows in path order
+abbrev pub AreRows : List Row → Type 0
+AreRows rows = AreAscending (map (λ row. row.path) rows)
+
+-- each state that is kept is that of its path
+abbrev pub AreStates : Tree → List Row → List (List ℕ × State) → Type 0
+AreStates sources rows states =
+    (path : List ℕ) (state : State) → lookup (bytes_eq path) states ≡ Some state → state ≡ state_at sources rows path
+
+abbrev pub is_top : List ℕ → Bool
+is_top [] = true
+is_top (byte ∷ bytes) = false
+
+-- whether a row's target was built, which the top directory never is
+abbrev pub leaves_record : Row → Bool
+leaves_record row = is_built row.outcome && not (is_top row.path)
+
+-- the record of a row, if its target was built
+abbrev pub record_if_built : Tree → List Row → Row → Option Record
+record_if_built sources rows row =
+    if leaves_record row then Some (new_record sources rows row) else None
+
+-- the records of the targets that were built
+abbrev pub built_records : Tree → List Row → List Record
+built_records sources rows = filter_map (record_if_built sources rows) rows
+
+-- whether a row is one of a target that was built
+abbrev pub has_built : Option Row → Bool
+has_built None = false
+has_built (Some row) = is_built row.outcome
+
+-- whether two answers are one
+abbrev pub same_answer : Bool → Bool → Bool
+same_answer true b = b
+same_answer false b = not b
+
+-- whether a record goes over into the new book, where its target's file is no source
+abbrev pub carries : PastView → List Row → Record → Bool
+carries past rows r =
+    same_answer (is_some r.state) (is_some (file_at past.tree r.target)) && (not (has_built (row_at rows r.target)) &&
+    is_rule (found_of past.sources r.target))
+
+-- the records that go over into the new book
+abbrev pub carried_records : PastView → List Row → List Record
+carried_records past rows = filter (carries past rows) past.book

@@ -1,0 +1,28 @@
+//! What a run takes over from the one before it, and what it leaves to the next.
+//!
+//! A tree may hold a book of the last run, the file `.redo-book` at its top, and files that the last run made. Neither
+//! are sources: [`Past`] tells the tree as it was read, the sources in it, and the book. After the run it makes the new
+//! book, which has a record for each target that was built, and those records of the old one that still hold. The crate
+//! stands on redo_tree and redo_which for trees and rules, on redo_digest and redo_book for books and the digests in
+//! them, on redo_record and redo_report for what a run came to, and on redo_names for paths.
+//!
+//! - `past`: the tree, the sources and the book, and what a run leaves; `faults`: why a tree is refused;
+//! - `states`: what stands at a path when a run ends;
+//! - `records`: the records of targets that were built; `carrying`: those that are carried;
+//! - `books`: the order of the new book, and its place among files;
+//! - [`laws`]: a tree has one past, and a run leaves one book.
+#![tactic(auto)]
+
+mod books;
+mod carrying;
+mod faults;
+pub mod laws;
+mod past;
+mod records;
+mod states;
+
+pub use faults::PastFault;
+pub use past::Past;
+
+#[cfg(test)]
+mod tests;

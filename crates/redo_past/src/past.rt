@@ -1,0 +1,184 @@
+//! The tree that was read, the sources in it, and the book of the last run.
+
+ghost use Rattle.std.specs.Prelude.{◌≡◌, ◌∷◌, [], Some, None, IfErr, IfOk, MatchOption, map};
+ghost use Rattle.redo_report.specs.Reports.{AreAscending, row_paths};
+ghost use Rattle.redo_past.specs.NewBook.{IsNewBook, IsResultOf};
+ghost use Rattle.std.specs.Arc.{arc_value};
+ghost use Rattle.redo_tree.specs.Tree.{file_at};
+ghost use Rattle.redo_book.specs.Book.{record_of, IsText};
+ghost use Rattle.redo_past.specs.Past.{HasNoPast, IsPast, RefusesBook, is_generated as was_generated};
+ghost use Rattle.redo_past.specs.Past.{set_aside as aside_of};
+ghost use Rattle.redo_tree.specs.Tree.{without};
+ghost use Rattle.redo_which.specs.Candidates.{book_path as path_of_book};
+
+use crate::PastFault;
+use crate::books::{put_file, sort};
+use crate::carrying::carry;
+use crate::records::new_records;
+use redo_book::{Book, BookRecord, book_text, read_book};
+use redo_path::Path;
+use redo_report::{Report, Row};
+use redo_tree::laws::no_other_file_is_taken_out;
+use redo_tree::{Content, Tree};
+use redo_which::BOOK;
+use std::alloc::{AllocError, Global};
+use std::marker::Model;
+use std::sync::Arc;
+
+/// What a run is given when there may have been one before it: the tree as it was read, the book of the last run in it,
+/// and the sources, which are the tree without the book and without generated files. A file is generated that has the
+/// digest which the book has for it; one that differs was changed by hand and is a source.
+#[derive(Drop)]
+pub struct Past {
+    tree: Arc<Tree>,
+    sources: Arc<Tree>,
+    book: Book,
+}
+
+impl Model for Past {
+    ghost use Rattle.std.specs.Arc.{arc_value};
+    ghost use Rattle.redo_past.specs.Past.{IsPast, PastView};
+
+    ghost Value = { PastView };
+
+    ghost view = { λ p. record { tree = arc_value p.tree; sources = arc_value p.sources; book = p.book } };
+
+    ghost invariant = { λ p. IsPast (record { tree = arc_value p.tree; sources = arc_value p.sources; book = p.book }) };
+}
+
+/// The path of the book.
+pub(crate) fn book_path(alloc: Global) -> Result<Path, AllocError>
+    ensures { IfOk result (λ path. path ≡ path_of_book) }
+{
+    Path::of_text(alloc, BOOK)
+}
+
+/// The book of a tree, where it has one.
+fn book_in(alloc: Global, tree: &Tree) -> Result<Option<Book>, PastFault>
+    ensures book { IfOk result (λ book. MatchOption (file_at tree.now path_of_book) (book ≡ None) (λ text.
+        MatchOption book ⊥ (IsText text))) }
+    ensures refused { IfErr result (λ fault. RefusesBook fault tree.now) }
+    ensures none { IfErr result (λ fault. HasNoPast fault tree.now) }
+{
+    match tree.file_by_text(BOOK) {
+        Some(text) => Ok(Some(read_book(alloc, text)?)),
+        None => Ok(None),
+    }
+}
+
+/// Whether the file at the target of a record has the digest that it had in the last run.
+fn is_generated(tree: &Tree, made: &BookRecord) -> bool
+    ensures { result ≡ was_generated tree.now (record_of made.now) }
+{
+    match (tree.content(&made.target), &made.state) {
+        (Some(content), Some(digest)) => content.digest() == *digest,
+        _ => false,
+    }
+}
+
+/// The paths of the files that are no sources: the book's, and those of generated files.
+fn set_aside(alloc: Global, tree: &Tree, book: &Book) -> Result<Vec<Path>, AllocError>
+    ensures { IfOk result (λ paths. paths.items ≡ aside_of tree.now book.now) }
+{
+    let mut paths = Vec::new(alloc);
+    paths.push(book_path(alloc)?)?;
+    for record in book.records() {
+        if is_generated(tree, record) {
+            paths.push(record.target.clone()?)?;
+        }
+    }
+    Ok(paths)
+}
+
+/// The sources of a tree with a book.
+fn sources_of(alloc: Global, tree: &Tree, book: &Book) -> Result<Arc<Tree>, AllocError>
+    ensures { IfOk result (λ sources. arc_value sources ≡ without tree.now (aside_of tree.now book.now)) }
+{
+    let aside = set_aside(alloc, tree, book)?;
+    let (sources, _files) = tree.part(alloc, &aside)?;
+    Ok(Arc::new(alloc, sources)?)
+}
+
+impl Past {
+    /// What a run over this tree is given. Contents are shared with it, and where it has no book all of it is. Where
+    /// memory runs out the tree's book may have a fault or none.
+    pub fn open(alloc: Global, tree: Arc<Tree>) -> Result<Past, PastFault>
+        ensures tree { IfOk result (λ past. past.tree ≡ arc_value tree) }
+        ensures past { IfOk result IsPast }
+        ensures refused { IfErr result (λ fault. RefusesBook fault (arc_value tree)) }
+        ensures none { IfErr result (λ fault. HasNoPast fault (arc_value tree)) }
+    {
+        tree.is_tree();
+        let Some(book) = book_in(alloc, &tree)? else {
+            let sources = Arc::try_clone(&tree)?;
+            let book = Book::new(alloc);
+            return Ok(Past {
+                tree,
+                sources,
+                book,
+            });
+        };
+        let sources = sources_of(alloc, &tree, &book)?;
+        Ok(Past {
+            tree,
+            sources,
+            book,
+        })
+    }
+
+    /// The tree as it was read.
+    pub fn tree(&self) -> &Arc<Tree>
+        ensures tree { arc_value result.now ≡ self.now.tree }
+        ensures past { IsPast self.now }
+    {
+        &self.tree
+    }
+
+    /// The sources.
+    pub fn sources(&self) -> &Arc<Tree>
+        ensures sources { arc_value result.now ≡ self.now.sources }
+        ensures past { IsPast self.now }
+    {
+        &self.sources
+    }
+
+    /// The book of the last run; empty where the tree has none.
+    pub fn book(&self) -> &Book
+        ensures book { result.now ≡ self.now.book }
+        ensures past { IsPast self.now }
+    {
+        &self.book
+    }
+
+    /// The book that a run leaves, by the rows of its report. It has a record for each target that was built, with
+    /// the states of what this depended on, and the records of the old book whose targets have a rule, stand as the
+    /// last run left them and weren't built.
+    pub fn new_book(&self, alloc: Global, rows: &[Row]) -> Result<Book, AllocError>
+        requires { AreAscending (map (λ row. row.path) rows.now) }
+        ensures { IfOk result (IsNewBook self.now rows.now) }
+    {
+        self.tree().is_tree();
+        no_other_file_is_taken_out();
+        let mut records = new_records(alloc, self.sources(), rows)?;
+        carry(alloc, self, rows, &mut records)?;
+        sort(&mut records);
+        Ok(Book::of_records(records))
+    }
+
+    /// The report of a run with the text of the new book among its files.
+    pub fn with_book(&self, alloc: Global, report: Report) -> Result<Report, AllocError>
+        requires rows { AreAscending (row_paths report) }
+        requires files { AreAscending (map (λ file. file.0) report.files.items) }
+        ensures { IfOk result (λ whole. IsResultOf self.now report whole) }
+    {
+        let book = self.new_book(alloc, &report.rows)?;
+        let text = Content::new(book_text(alloc, &book)?)?;
+        let Report {
+            rows,
+            mut files,
+            begun,
+        } = report;
+        put_file(&mut files, book_path(alloc)?, text)?;
+        Ok(Report { rows, files, begun })
+    }
+}
