@@ -5,10 +5,10 @@ use Rattle.std.proofs.Math.ListN.{get_or-map}
 use Rattle.std.proofs.lemmas.List.{length-map, map-append}
 use Rattle.redo_build.specs.Takes.{is_at, times_taken, AreBegun, AreCountedOnce, IsTaken}
 use Rattle.redo_core.specs.Build.{GivenView}
+use Rattle.redo_core.specs.declared.board.Stop.{Stop}
+use Rattle.redo_core.specs.declared.board.Stop.TheVariants.{Memory}
 use Rattle.redo_report.specs.declared.report.Report.{Report}
 use Rattle.redo_sync.specs.Relay.{Pair, RelayId, Shares, SharesOut, Source, Taker}
-use Rattle.redo_run.specs.declared.run_fault.RunFault.{RunFault}
-use Rattle.redo_run.specs.declared.run_fault.RunFault.TheVariants.{Memory}
 use Rattle.redo_run.specs.inside.Workers.{IsAnswerTo, IsSameSource, IsStaffed}
 
 abbrev relay_of : Taker → RelayId
@@ -49,7 +49,7 @@ one_back us ts u t same e =
     ∙ sym (map-append relay_of ts (t ∷ []))
 
 -- a build that met want of memory answers so
-pub without_memory : (given : GivenView) (request : List (List ℕ)) (answer : Result (Report × Shares) RunFault) → answer ≡ Err Memory → IsAnswerTo given request answer
+pub without_memory : (given : GivenView) (request : List (List ℕ)) (answer : Result (Report × Shares) Stop) → answer ≡ Err Memory → IsAnswerTo given request answer
 without_memory given request answer is =
-    let P : Result (Report × Shares) RunFault → Type 0 = IsAnswerTo given request in
+    let P : Result (Report × Shares) Stop → Type 0 = IsAnswerTo given request in
     subst P (sym is) record { report = tt; none_left = tt; once = tt; begun = tt; too_many = λ e. absurd cc }

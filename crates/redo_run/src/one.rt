@@ -9,7 +9,7 @@ ghost use Rattle.redo_build.specs.TakesLeft.{takes_left};
 ghost use Rattle.redo_core.specs.Views.{jobs_out, limit_on, ready_count, rules_on};
 
 use crate::RunFault;
-use redo_core::board::{Board, HandFault};
+use redo_core::board::{Board, HandFault, Stop};
 use redo_path::Path;
 use redo_report::Report;
 use redo_step::Limits;
@@ -19,7 +19,7 @@ use std::sync::Arc;
 
 /// Takes the target that became ready last, advances its script, and hands it in. So what was just asked for is built
 /// before more is asked for, and few scripts stand begun at a time.
-fn advance_newest(board: &mut Board) -> Result<(), RunFault>
+fn advance_newest(board: &mut Board) -> Result<(), Stop>
     requires ready { 0 < ready_count board.old }
     requires none_out { jobs_out board.old ≡ 0 }
     requires running { IsNone board.old.stopped }
@@ -27,15 +27,15 @@ fn advance_newest(board: &mut Board) -> Result<(), RunFault>
     ensures none_out { OnOk result (jobs_out board.new ≡ 0) }
     ensures running { OnOk result (IsNone board.new.stopped) }
     ensures left { OnOk result (takes_left (limit_on board.new) board.new.state < takes_left (limit_on board.old) board.old.state) }
-    ensures too_many { result ≡ Err RunFault.TooMany →
+    ensures too_many { result ≡ Err Stop.TooMany →
         IsTooMany (rules_on board.old) board.old.request (limit_on board.old) }
 {
     let work = board.take(board.ready() - 1)?;
     let piece = work.advance()?;
     match board.hand_in(piece) {
         Ok(()) => Ok(()),
-        Err(HandFault::TooMany) => Err(RunFault::TooMany),
-        Err(HandFault::Memory) => Err(RunFault::Memory),
+        Err(HandFault::TooMany) => Err(Stop::TooMany),
+        Err(HandFault::Memory) => Err(Stop::Memory),
         Err(HandFault::Stranger(_)) => unreachable!(),
     }
 }

@@ -10,9 +10,8 @@ ghost use Rattle.redo_run.specs.inside.Workers.{HasTakenOn, IsSameSource};
 use crate::crew::{Call, Lines, job_of_owner};
 use crate::gate::Gate;
 use crate::of_build::{Build, JobOf, Message, PieceOf};
-use crate::run_fault::RunFault;
 use crossbeam_channel::Receiver;
-use redo_core::board::{Board, HandFault};
+use redo_core::board::{Board, HandFault, Stop};
 use redo_core::laws::what_was_taken;
 use redo_sync::{JobSource, JobTaker};
 use std::alloc::AllocError;
@@ -46,20 +45,20 @@ fn give_newest<B: Build>(
 }
 
 /// Hands a piece in.
-fn hand_in<B: Build, R: Wait>(rt: &R, board: &mut Board, piece: PieceOf<B>) -> Result<(), RunFault>
+fn hand_in<B: Build, R: Wait>(rt: &R, board: &mut Board, piece: PieceOf<B>) -> Result<(), Stop>
     requires of_build { board.old.given ≡ B.given }
     requires running { IsNone board.old.stopped }
     ensures build { IsSameBuild board.old board.new }
     ensures running { OnOk result (IsNone board.new.stopped) }
     ensures taken { OnOk result (HasTakenOn board.old board.new) }
-    ensures too_many { result ≡ Err RunFault.TooMany →
+    ensures too_many { result ≡ Err Stop.TooMany →
         IsTooMany (rules_on board.old) board.old.request (limit_on board.old) }
 {
     what_was_taken();
     match board.hand_in(piece.into_piece()) {
         Ok(()) => Ok(()),
-        Err(HandFault::TooMany) => Err(RunFault::TooMany),
-        Err(HandFault::Memory) => Err(RunFault::Memory),
+        Err(HandFault::TooMany) => Err(Stop::TooMany),
+        Err(HandFault::Memory) => Err(Stop::Memory),
         Err(HandFault::Stranger(_piece)) => never(rt),
     }
 }
@@ -95,7 +94,7 @@ fn advance_newest<B: Build, R: Wait, G: Gate>(
     taker: &mut JobTaker<JobOf<B>>,
     lines: &Lines<'_, B>,
     gate: &G,
-) -> Result<(), RunFault>
+) -> Result<(), Stop>
     requires ready { 0 < ready_count board.old }
     requires of_build { board.old.given ≡ B.given }
     ensures source { IsSameSource source.old source.new }
@@ -103,7 +102,7 @@ fn advance_newest<B: Build, R: Wait, G: Gate>(
     ensures build { IsSameBuild board.old board.new }
     ensures running { OnOk result (IsNone board.new.stopped) }
     ensures taken { OnOk result (HasTaken board.old source.old.given → HasTaken board.new source.new.given) }
-    ensures too_many { result ≡ Err RunFault.TooMany →
+    ensures too_many { result ≡ Err Stop.TooMany →
         IsTooMany (rules_on board.old) board.old.request (limit_on board.old) }
 {
     lines.lookers.add();
@@ -120,13 +119,13 @@ fn receive<B: Build, R: Wait>(
     rt: &R,
     board: &mut Board,
     messages: &Receiver<Message<B>>,
-) -> Result<(), RunFault>
+) -> Result<(), Stop>
     requires of_build { board.old.given ≡ B.given }
     requires running { IsNone board.old.stopped }
     ensures build { IsSameBuild board.old board.new }
     ensures running { OnOk result (IsNone board.new.stopped) }
     ensures taken { OnOk result (HasTakenOn board.old board.new) }
-    ensures too_many { result ≡ Err RunFault.TooMany →
+    ensures too_many { result ≡ Err Stop.TooMany →
         IsTooMany (rules_on board.old) board.old.request (limit_on board.old) }
 {
     match messages.recv(rt) {
@@ -152,14 +151,14 @@ pub(crate) fn own<B: Build, R: Wait, G: Gate>(
     taker: &mut JobTaker<JobOf<B>>,
     lines: &Lines<'_, B>,
     gate: &G,
-) -> Result<(), RunFault>
+) -> Result<(), Stop>
     requires of_build { board.old.given ≡ B.given }
     requires running { IsNone board.old.stopped }
     ensures source { IsSameSource source.old source.new }
     ensures taker { taker.new.relay ≡ taker.old.relay }
     ensures build { IsSameBuild board.old board.new }
     ensures taken { OnOk result (HasTaken board.old source.old.given → HasTaken board.new source.new.given) }
-    ensures too_many { result ≡ Err RunFault.TooMany →
+    ensures too_many { result ≡ Err Stop.TooMany →
         IsTooMany (rules_on board.old) board.old.request (limit_on board.old) }
 {
     'turns: for _ in rt.forever() {

@@ -12,7 +12,7 @@ ghost use Rattle.redo_run.specs.Picks.{IsDriven, driven_on, picked};
 ghost use Rattle.redo_run.specs.inside.Driving.{AreOut, IsPicked};
 
 use crate::RunFault;
-use redo_core::board::{Board, HandFault};
+use redo_core::board::{Board, HandFault, Stop};
 use redo_core::work::Work;
 use redo_path::Path;
 use redo_step::Limits;
@@ -30,14 +30,14 @@ pub enum Pick {
 }
 
 /// Takes the ready target at a place. False where there is none.
-fn take_at(board: &mut Board, out: &mut Vec<Work>, which: usize) -> Result<bool, RunFault>
+fn take_at(board: &mut Board, out: &mut Vec<Work>, which: usize) -> Result<bool, Stop>
     requires running { IsNone board.old.stopped }
     requires out { AreOut board.old out.old.items }
     ensures picked { IfOk result (IsPicked (Pick.Take which) board.old out.old.items board.new out.new.items) }
     ensures build { OnOk result (IsSameBuild board.old board.new) }
     ensures running { OnOk result (IsNone board.new.stopped) }
     ensures out { OnOk result (AreOut board.new out.new.items) }
-    ensures too_many { result ≡ Err RunFault.TooMany → ⊥ }
+    ensures too_many { result ≡ Err Stop.TooMany → ⊥ }
 {
     if which >= board.ready() {
         return Ok(false);
@@ -47,14 +47,14 @@ fn take_at(board: &mut Board, out: &mut Vec<Work>, which: usize) -> Result<bool,
 }
 
 /// Advances the job at a place among those that are out, and hands it in. False where there is none.
-fn hand_in_at(board: &mut Board, out: &mut Vec<Work>, which: usize) -> Result<bool, RunFault>
+fn hand_in_at(board: &mut Board, out: &mut Vec<Work>, which: usize) -> Result<bool, Stop>
     requires running { IsNone board.old.stopped }
     requires out { AreOut board.old out.old.items }
     ensures picked { IfOk result (IsPicked (Pick.HandIn which) board.old out.old.items board.new out.new.items) }
     ensures build { OnOk result (IsSameBuild board.old board.new) }
     ensures running { OnOk result (IsNone board.new.stopped) }
     ensures out { OnOk result (AreOut board.new out.new.items) }
-    ensures too_many { result ≡ Err RunFault.TooMany →
+    ensures too_many { result ≡ Err Stop.TooMany →
         IsTooMany (rules_on board.old) board.old.request (limit_on board.old) }
 {
     if which >= out.len() {
@@ -63,21 +63,21 @@ fn hand_in_at(board: &mut Board, out: &mut Vec<Work>, which: usize) -> Result<bo
     let piece = out.remove(which).advance()?;
     match board.hand_in(piece) {
         Ok(()) => Ok(true),
-        Err(HandFault::TooMany) => Err(RunFault::TooMany),
-        Err(HandFault::Memory) => Err(RunFault::Memory),
+        Err(HandFault::TooMany) => Err(Stop::TooMany),
+        Err(HandFault::Memory) => Err(Stop::Memory),
         Err(HandFault::Stranger(_)) => unreachable!(),
     }
 }
 
 /// Performs a pick. False where it isn't open, and then nothing has changed.
-fn perform(board: &mut Board, out: &mut Vec<Work>, pick: Pick) -> Result<bool, RunFault>
+fn perform(board: &mut Board, out: &mut Vec<Work>, pick: Pick) -> Result<bool, Stop>
     requires running { IsNone board.old.stopped }
     requires out { AreOut board.old out.old.items }
     ensures picked { IfOk result (IsPicked pick board.old out.old.items board.new out.new.items) }
     ensures build { OnOk result (IsSameBuild board.old board.new) }
     ensures running { OnOk result (IsNone board.new.stopped) }
     ensures out { OnOk result (AreOut board.new out.new.items) }
-    ensures too_many { result ≡ Err RunFault.TooMany →
+    ensures too_many { result ≡ Err Stop.TooMany →
         IsTooMany (rules_on board.old) board.old.request (limit_on board.old) }
 {
     match pick {

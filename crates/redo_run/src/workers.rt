@@ -23,7 +23,7 @@ use crate::of_build::{Build, JobOf};
 use crate::owner::{never, own};
 use crate::run_fault::RunFault;
 use redo_build::laws::counts_tell;
-use redo_core::board::Board;
+use redo_core::board::{Board, Stop};
 use redo_core::laws::what_was_taken;
 use redo_core::work::Work;
 use redo_path::Path;
@@ -57,7 +57,7 @@ fn answer_of<B: Build, R: Wait>(
     rt: &R,
     alloc: Global,
     desk: Desk<B>,
-) -> Result<(Report, Ledger<Work>), RunFault>
+) -> Result<(Report, Ledger<Work>), Stop>
     requires staffed { IsStaffed desk.source desk.takers.items }
     requires taken { HasTaken desk.board desk.source.given }
     ensures { IsAnswerTo desk.board.given desk.board.request result }
@@ -88,7 +88,7 @@ fn run_crew<'s, E, B: Build + Send + Sync + 's, R: Threads + Wait + Sync, G: Gat
     lookers: &'s Lookers,
     alloc: Global,
     desk: Desk<B>,
-) -> Result<Desk<B>, RunFault>
+) -> Result<Desk<B>, Stop>
     requires of_build { desk.board.given ≡ B.given }
     requires running { IsNone desk.board.stopped }
     requires some { 1 ≤ desk.source.takers }
@@ -97,7 +97,7 @@ fn run_crew<'s, E, B: Build + Send + Sync + 's, R: Threads + Wait + Sync, G: Gat
     ensures staffed { IfOk result (λ d. IsStaffed d.source d.takers.items) }
     ensures taken { IfOk result (λ d. HasTaken d.board d.source.given) }
     ensures build { IfOk result (λ d. IsSameBuild desk.board d.board) }
-    ensures too_many { result ≡ Err RunFault.TooMany →
+    ensures too_many { result ≡ Err Stop.TooMany →
         IsTooMany (rules_on desk.board) desk.board.request (limit_on desk.board) }
 {
     let Desk {
@@ -113,7 +113,7 @@ fn run_crew<'s, E, B: Build + Send + Sync + 's, R: Threads + Wait + Sync, G: Gat
     let mut hands = Vec::new(alloc);
     let ended = match start_all(scope, rt, gate, takers, extension, &mut hands) {
         Ok(()) => own(rt, &mut board, &mut source, &mut taker, &lines, gate),
-        Err(_) => Err(RunFault::Memory),
+        Err(_) => Err(Stop::Memory),
     };
     // Nobody calls any more, and nobody reads messages: so the workers end.
     drop(lines);
@@ -134,7 +134,7 @@ fn run_in_scope<B: Build + Send + Sync, R: Threads + Wait + Sync, G: Gate>(
     lookers: &Lookers,
     alloc: Global,
     desk: Desk<B>,
-) -> Result<Desk<B>, RunFault>
+) -> Result<Desk<B>, Stop>
     requires of_build { desk.board.given ≡ B.given }
     requires running { IsNone desk.board.stopped }
     requires some { 1 ≤ desk.source.takers }
@@ -143,18 +143,18 @@ fn run_in_scope<B: Build + Send + Sync, R: Threads + Wait + Sync, G: Gate>(
     ensures staffed { IfOk result (λ d. IsStaffed d.source d.takers.items) }
     ensures taken { IfOk result (λ d. HasTaken d.board d.source.given) }
     ensures build { IfOk result (λ d. IsSameBuild desk.board d.board) }
-    ensures too_many { result ≡ Err RunFault.TooMany →
+    ensures too_many { result ≡ Err Stop.TooMany →
         IsTooMany (rules_on desk.board) desk.board.request (limit_on desk.board) }
 {
     thread::scope(
         thread::scope_env(),
         rt,
-        move |scope| -> Result<Desk<B>, RunFault>
+        move |scope| -> Result<Desk<B>, Stop>
             requires { (desk.board.given ≡ B.given) × IsNone desk.board.stopped × (1 ≤ desk.source.takers) ×
                 IsStaffed desk.source desk.takers.items × HasTaken desk.board desk.source.given }
             ensures { IfOk result (λ d. IsStaffed d.source d.takers.items × HasTaken d.board d.source.given ×
                 IsSameBuild desk.board d.board) ×
-                (result ≡ Err RunFault.TooMany →
+                (result ≡ Err Stop.TooMany →
                 IsTooMany (rules_on desk.board) desk.board.request (limit_on desk.board)) }
         { run_crew(scope, rt, gate, lookers, alloc, desk) },
     )
@@ -174,7 +174,7 @@ fn run_build<B: Build + Send + Sync, R: Threads + Wait + Sync, G: Gate>(
     board: Board,
     workers: usize,
     gate: &G,
-) -> Result<(Report, Ledger<Work>), RunFault>
+) -> Result<(Report, Ledger<Work>), Stop>
     requires of_build { board.given ≡ B.given }
     requires running { IsNone board.stopped }
     requires opened { HasTaken board [] }
@@ -217,5 +217,5 @@ pub fn build_many<R: Threads + Wait + Sync, G: Gate>(
     what_was_taken();
     let tree = Arc::new(alloc, tree)?;
     let board = Board::open(alloc, tree, request, limits)?;
-    run_build::<Brand, R, G>(rt, alloc, board, workers, gate)
+    Ok(run_build::<Brand, R, G>(rt, alloc, board, workers, gate)?)
 }

@@ -6,10 +6,10 @@ use Rattle.redo_build.specs.Takes.{AreBegun, AreCountedOnce}
 use Rattle.redo_report.specs.Reports.{IsReport}
 use Rattle.redo_core.specs.Taken.{HasTaken}
 use Rattle.redo_core.specs.Views.{BoardView}
+use Rattle.redo_core.specs.declared.board.Stop.{Stop}
+use Rattle.redo_core.specs.declared.board.Stop.TheVariants.{TooMany}
 use Rattle.redo_report.specs.declared.report.Report.{Report}
 use Rattle.redo_sync.specs.Relay.{Pair, Shares, Source, Taker}
-use Rattle.redo_run.specs.declared.run_fault.RunFault.{RunFault}
-use Rattle.redo_run.specs.declared.run_fault.RunFault.TheVariants.{TooMany}
 
 -- the source is of the same relay
 abbrev pub IsSameSource : Source → Source → Type 0
@@ -25,7 +25,7 @@ HasTakenOn old new = (taken : List Pair) → HasTaken old taken → HasTaken new
 
 -- a report is that of the build, its ledger shows each job taken once and those of its begun scripts, and too many
 -- targets are answered where the build needs too many
-pub record IsAnswerTo (given : GivenView) (request : List (List ℕ)) (answer : Result (Report × Shares) RunFault) :
+pub record IsAnswerTo (given : GivenView) (request : List (List ℕ)) (answer : Result (Report × Shares) Stop) :
     Type 0 where
   pub report : IfOk answer (λ r. IsReport (rules_for given) request given.limits.targets r.0)
   pub none_left : IfOk answer (λ r. r.1.left ≡ [])

@@ -2,8 +2,8 @@ use Rattle.std.proofs.Common.{◌≡◌, ◌∙◌, List, ap, arith, map, rules,
 use Rattle.std.specs.Prelude.{OnOk}
 use Rattle.redo_core.specs.Taken.{HasTaken}
 use Rattle.redo_core.specs.Views.{BoardView}
+use Rattle.redo_core.specs.declared.board.Stop.{Stop}
 use Rattle.redo_sync.specs.Relay.{RelayId, Source, Taker}
-use Rattle.redo_run.specs.declared.run_fault.RunFault.{RunFault}
 use Rattle.redo_run.proofs.LedgerLemmas.{one_back, same_relays}
 use Rattle.redo_run.proofs.workers.run_crew.Goals as goal
 use Rattle.redo_run.proofs.workers.run_crew.Goals.{in-Ok, in-Err}
@@ -38,7 +38,7 @@ returns-clause-taken g c =
     elim c.match-start_all.branch [
       | in-Ok w ↦
           let b = w.own-ended.new.board in let s = w.own-ended.new.source in
-          let Taken : Result Unit RunFault → Type 0 = λ r. OnOk r (HasTaken c.args.desk.board c.args.desk.source.given → HasTaken b s.given) in
+          let Taken : Result Unit Stop → Type 0 = λ r. OnOk r (HasTaken c.args.desk.board c.args.desk.source.given → HasTaken b s.given) in
           let had = subst Taken (sym w.ended-is ∙ c.in_ok-ended.was) w.own-ended.ensures.taken c.requires.taken in
           let P : BoardView → Type 0 = λ v. HasTaken v s.given in
           let Q : Source → Type 0 = λ t. HasTaken c.match-start_all.board t.given in
