@@ -169,7 +169,11 @@ fn the_book_and_generated_files_are_no_sources(rt: HostRuntime) -> Result<(), Fa
         let past = Past::open(alloc, tree(alloc, files)?)?;
         let text = listed(alloc, &past.sources().files(alloc)?)?;
         assert_eq!(rt; text.as_slice(), sources.as_bytes(), "{rule}");
-        assert_eq!(rt; past.tree().len(), files.len() + 1, "{rule}");
+        assert_eq!(rt;
+            Some(past.tree().len()),
+            files.len().checked_add(1),
+            "{rule}"
+        );
     }
     Ok(())
 }
