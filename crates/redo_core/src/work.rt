@@ -245,7 +245,10 @@ fn advance_job(given: Arc<Given>, number: u32, job: Job, facts: Facts) -> Result
             let own = Arc::try_clone(&given)?;
             let path = target.clone()?;
             let deps = Arc::new(alloc, done.deps)?;
-            let fact = Fact::of(own, path, done.outcome, deps, true);
+            let mut outcome = done.outcome;
+            // Here it is done side by side with other scripts.
+            outcome.keep_digest();
+            let fact = Fact::of(own, path, outcome, deps, true);
             End::Ended(fact)
         }
         Step::Asks { job, paths: _paths } => End::Stopped(Box::new(alloc, Begun { job, facts })?),

@@ -84,6 +84,15 @@ impl Outcome {
         }
     }
 
+    /// Keeps the digest of the bytes that it was built with, so that nobody makes it again.
+    pub fn keep_digest(&mut self)
+        ensures { self.new ≡ self.old }
+    {
+        if let Outcome::Built(Some(content)) = self {
+            content.keep_digest();
+        }
+    }
+
     /// Whether a script that declared it fails for it.
     pub fn has_failed(&self) -> bool
         ensures { result ≡ is_failure (Some self.now) }

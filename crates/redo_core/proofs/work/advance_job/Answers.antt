@@ -1,5 +1,7 @@
-use Rattle.std.proofs.Common.{◌≡◌, sym, ap, subst, ◌∙◌}
+use Rattle.std.proofs.Common.{◌≡◌, true, sym, ap, subst, ◌∙◌}
 use Rattle.std.specs.Arc.{arc_value}
+use Rattle.redo_record.specs.declared.outcome.Outcome.{Outcome}
+use Rattle.redo_build.specs.inside.Turns.{IsFact}
 use Rattle.redo_core.specs.Views.{FactView}
 use Rattle.redo_core.specs.Build.{rules_for}
 use Rattle.redo_core.specs.inside.Works.{told_in}
@@ -16,10 +18,13 @@ advance-requires-clause-fits c = work-fits (arc_value c.args.given) c.args.job c
 
 pub of-fact-requires : goal.of-fact-requires
 of-fact-requires c =
-    fact-parts (arc_value c.args.given) c.args.job c.args.facts c.requires
+    let deps = arc_value c.in_ok-deps-in-Ended.deps in
+    let F : Outcome → Type 0 = λ o. IsFact (rules_for (arc_value c.in_ok-own-in-Ended.own)) c.in_ok-path-in-Ended.path o deps deps true in
+    subst F (sym c.keep_digest.ensures)
+    (fact-parts (arc_value c.args.given) c.args.job c.args.facts c.requires
     c.in-Ended.done (rw c.in-Ended.is at c.in_ok-done.ensures)
     (arc_value c.in_ok-own-in-Ended.own) c.in_ok-path-in-Ended.path (arc_value c.in_ok-deps-in-Ended.deps)
-    c.in_ok-own-in-Ended.ensures (c.in_ok-path-in-Ended.ensures.cases ∙ c.in_ok-target.ensures.cases ∙ c.target.ensures) c.in_ok-deps-in-Ended.ensures.ok
+    c.in_ok-own-in-Ended.ensures (c.in_ok-path-in-Ended.ensures.cases ∙ c.in_ok-target.ensures.cases ∙ c.target.ensures) c.in_ok-deps-in-Ended.ensures.ok)
 
 pub invariant_of-result : goal.invariant_of-result
 invariant_of-result c =
@@ -33,7 +38,7 @@ invariant_of-result c =
           subst P (sym w.end-is) (ended-end given job facts c.requires w.in-Ended.done (rw w.in-Ended.is at c.in_ok-done.ensures) w.of-fact.result
           (ap (λ (f : FactView). f.given) w.of-fact.ensures ∙ w.in_ok-own-in-Ended.ensures)
           (ap (λ (f : FactView). f.target) w.of-fact.ensures ∙ path)
-          (ap (λ (f : FactView). f.outcome) w.of-fact.ensures)
+          (ap (λ (f : FactView). f.outcome) w.of-fact.ensures ∙ w.keep_digest.ensures)
           (ap (λ (f : FactView). f.deps) w.of-fact.ensures ∙ w.in_ok-deps-in-Ended.ensures.ok))
       | in-Asks+in_ok-new-in-Asks w ↦ subst P (sym w.end-is) (stopped-end given job facts c.requires w.in-Asks.job w.in-Asks._paths.items (rw w.in-Asks.is at c.in_ok-done.ensures) w.in_ok-new-in-Asks.field-0 w.in_ok-new-in-Asks.ensures.ok)
     ])
@@ -47,7 +52,7 @@ returns-clause-ended c =
     let now : P c.match-branch-3.end = elim c.match-branch-3.branch [
       | in-Ended+in_ok-own-in-Ended+in_ok-path-in-Ended+in_ok-deps-in-Ended w ↦
           subst P (sym w.end-is) (ended-progress given job facts c.requires w.in-Ended.done (rw w.in-Ended.is at c.in_ok-done.ensures) w.of-fact.result
-          (ap (λ (f : FactView). f.outcome) w.of-fact.ensures)
+          (ap (λ (f : FactView). f.outcome) w.of-fact.ensures ∙ w.keep_digest.ensures)
           (ap (λ (f : FactView). f.deps) w.of-fact.ensures ∙ w.in_ok-deps-in-Ended.ensures.ok))
       | in-Asks+in_ok-new-in-Asks w ↦ subst P (sym w.end-is) (asks-progress given job facts c.requires w.in-Asks.job w.in-Asks._paths.items (rw w.in-Asks.is at c.in_ok-done.ensures) w.in_ok-new-in-Asks.field-0 w.in_ok-new-in-Asks.ensures.ok)
     ] in
