@@ -11,10 +11,6 @@ use Rattle.redo_core.specs.Build.{GivenView, rules_for}
 use Rattle.redo_build.specs.Schedule.{Entry, State, paths_of, entered, enqueued, opening}
 use Rattle.redo_build.specs.inside.Standing.{AreStanding}
 use Rattle.redo_core.specs.declared.board.Board.TheInside.{Inside}
-use Rattle.redo_core.specs.declared.board.Stop.{Stop}
-use Rattle.redo_core.specs.declared.board.Stop.TheVariants.{TooMany, Memory}
-use Rattle.redo_core.specs.declared.board.OpenFault.TheVariants.{TooMany as OpenTooMany}
-use Rattle.redo_core.specs.Faults.{opening_fault_of}
 use Rattle.redo_build.proofs.QuietLemmas.{is_part}
 use Rattle.redo_core.specs.inside.Slots.{IsKept, table_entries, table_state, targets_in, IsTableOf, AllWatched}
 use Rattle.redo_core.specs.inside.Slots.{AreEnteredInto, AreEnqueued, IsFirstTable}
@@ -128,7 +124,3 @@ opening-many given request many =
     let r = rules_for given in
     let lawful = lawful_for given in
     (is_part r lawful request (opening r request) (opening-sound r lawful request) given.limits.targets).too_many many
-
-pub opened-fault : (stop : Stop) → OpenTooMany ≡ opening_fault_of stop → stop ≡ TooMany
-opened-fault TooMany h = refl
-opened-fault Memory h = cc

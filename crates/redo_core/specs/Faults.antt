@@ -5,9 +5,12 @@ use Rattle.redo_build.specs.Schedule.{IsOutAt}
 use Rattle.redo_core.specs.Views.{BoardView, PieceView, rules_on, limit_on}
 use Rattle.redo_core.specs.declared.board.Stop.{Stop}
 use Rattle.redo_core.specs.declared.board.Stop.TheVariants.{TooMany as Stopped_at_limit, Memory as Stopped_for_memory}
-use Rattle.redo_core.specs.declared.board.OpenFault.{OpenFault}
-use Rattle.redo_core.specs.declared.board.OpenFault.TheVariants.{TooMany as Opened_too_many}
-use Rattle.redo_core.specs.declared.board.OpenFault.TheVariants.{Memory as Opened_without_memory}
+use Rattle.redo_core.specs.declared.opening.OpenFault.{OpenFault}
+use Rattle.redo_core.specs.declared.opening.OpenFault.TheVariants.{Book as Opened_without_book}
+use Rattle.redo_core.specs.declared.opening.OpenFault.TheVariants.{TooMany as Opened_too_many}
+use Rattle.redo_core.specs.declared.opening.OpenFault.TheVariants.{Memory as Opened_without_memory}
+use Rattle.redo_past.specs.declared.faults.PastFault.{PastFault}
+use Rattle.redo_past.specs.declared.faults.PastFault.TheVariants as pasts
 use Rattle.redo_core.specs.declared.board.HandFault.{HandFault}
 use Rattle.redo_core.specs.declared.board.HandFault.TheVariants.{Stranger, TooMany, Memory}
 
@@ -20,6 +23,11 @@ fault_of Stopped_for_memory = Memory
 abbrev pub opening_fault_of : Stop → OpenFault
 opening_fault_of Stopped_at_limit = Opened_too_many
 opening_fault_of Stopped_for_memory = Opened_without_memory
+
+-- why no build was opened whose tree could not be taken apart
+abbrev pub past_fault_of : PastFault → OpenFault
+past_fault_of (pasts.Book line) = Opened_without_book line
+past_fault_of pasts.Memory = Opened_without_memory
 
 -- the board is of the same build
 abbrev pub IsSameBuild : BoardView → BoardView → Type 0

@@ -2,4 +2,5 @@ pub mod Build
 pub mod Views
 pub mod Faults
 pub mod Taken
+pub mod Results
 pub mod inside

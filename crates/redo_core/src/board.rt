@@ -30,7 +30,6 @@ use std::alloc::{AllocError, AllocFailed, Global};
 use std::marker::Model;
 use std::mem;
 use std::sync::Arc;
-use thiserror::Error;
 
 /// Why a board has stopped.
 #[derive(Clone, Copy, Debug, PartialEq, Eq)]
@@ -91,17 +90,6 @@ impl Model for Board {
     ghost invariant = { IsBoard };
 }
 
-/// Why no board was opened.
-#[derive(Clone, Copy, Debug, PartialEq, Eq, Error)]
-pub enum OpenFault {
-    /// More targets are requested than the limit allows.
-    #[error("more targets are needed than the limit allows")]
-    TooMany,
-    /// A growth was refused.
-    #[error("out of memory")]
-    Memory,
-}
-
 /// Why a piece was not taken in.
 #[derive(Drop)]
 pub enum HandFault {
@@ -111,29 +99,6 @@ pub enum HandFault {
     TooMany,
     /// A growth was refused. The board has stopped.
     Memory,
-}
-
-impl From<Stop> for OpenFault {
-    ghost use Rattle.redo_core.specs.Faults.{opening_fault_of};
-
-    ghost from_gives = { λ stop fault. fault ≡ opening_fault_of stop };
-
-    fn from(stop: Stop) -> OpenFault {
-        match stop {
-            Stop::TooMany => OpenFault::TooMany,
-            Stop::Memory => OpenFault::Memory,
-        }
-    }
-}
-
-impl From<AllocError> for OpenFault {
-    ghost use Rattle.redo_core.specs.declared.board.OpenFault.TheVariants.{Memory};
-
-    ghost from_gives = { λ _ fault. fault ≡ Memory };
-
-    fn from(_error: AllocError) -> OpenFault {
-        OpenFault::Memory
-    }
 }
 
 impl From<Stop> for HandFault {
@@ -150,19 +115,20 @@ impl From<Stop> for HandFault {
 }
 
 impl Board {
-    /// A board with the requested targets entered.
+    /// A board with the requested targets entered, over a tree of sources. [`open`](crate::opening::open) is for a tree that
+    /// holds what a run before has left.
     pub fn open(
         alloc: Global,
         tree: Arc<Tree>,
         request: &[Path],
         limits: Limits,
-    ) -> Result<Board, OpenFault>
+    ) -> Result<Board, Stop>
         ensures ok { IfOk result (λ b. b ≡ opened (arc_value tree) request.now limits) }
         ensures within { IfOk result (λ b. length b.state.entries ≤ limits.targets) }
         ensures part { IfOk result (λ b. IsPartOfBuild (rules_on b) b.request (limit_on b) b.state) }
         ensures none_out { IfOk result (λ b. jobs_out b ≡ 0) }
         ensures left { IfOk result (λ b. takes_left (limit_on b) b.state ≤ limit_on b * limit_on b) }
-        ensures too_many { result ≡ Err OpenFault.TooMany →
+        ensures too_many { result ≡ Err Stop.TooMany →
             IsTooMany (rules_of (arc_value tree) limits) request.now limits.targets }
     {
         let request = copied(alloc, request)?;

@@ -2,4 +2,5 @@
 
 mod board;
 mod memory;
+mod opening;
 mod reading;

@@ -1,6 +1,6 @@
 //! Boards that are driven by hand over a diamond: `top` asks for `left` and `right`, and both ask for `base`.
 
-use crate::board::{Board, HandFault, OpenFault, Stop};
+use crate::board::{Board, HandFault, Stop};
 use crate::work::{Piece, Work};
 use redo_path::{Path, resolve};
 use redo_report::report_text;
@@ -36,7 +36,7 @@ pub(crate) fn tree(alloc: Global, scripts: usize) -> Result<Arc<Tree>, Fail> {
 }
 
 /// Opens a board of the diamond for these words, with a limit of targets.
-fn open(alloc: Global, words: &[&[u8]], targets: u32) -> Result<Result<Board, OpenFault>, Fail> {
+fn open(alloc: Global, words: &[&[u8]], targets: u32) -> Result<Result<Board, Stop>, Fail> {
     let mut request = Vec::new(alloc);
     for word in words {
         request.push(path(alloc, word)?)?;
@@ -181,7 +181,7 @@ fn nothing_requested_is_built_at_once(rt: HostRuntime) -> Result<(), Fail> {
 #[test]
 fn a_request_beyond_the_limit_opens_no_board(rt: HostRuntime) -> Result<(), Fail> {
     let refused = open(rt.alloc(), &[b"left", b"right"], 1)?;
-    assert!(rt; refused.err() == Some(OpenFault::TooMany));
+    assert!(rt; refused.err() == Some(Stop::TooMany));
     Ok(())
 }
 

@@ -1,7 +1,7 @@
 //! What a call leaves that was refused memory: `tests/refused-memory` refuses each allocation of these tests in turn.
 
 use super::board::{REPORT, answer, counts, first_piece, path, tree};
-use crate::board::{Board, HandFault, OpenFault, Stop};
+use crate::board::{Board, HandFault, Stop};
 use crate::work::{Piece, Work};
 use redo_path::Path;
 use redo_report::report_text;
@@ -21,8 +21,8 @@ fn opened(alloc: Global, tree: &Arc<Tree>) -> Result<Option<Board>, Fail> {
     let limits = Limits::new(100, 100).ok_or("limits")?;
     match Board::open(alloc, Arc::try_clone(tree)?, &request, limits) {
         Ok(board) => Ok(Some(board)),
-        Err(OpenFault::Memory) => Ok(None),
-        Err(OpenFault::TooMany) => Err("too many targets")?,
+        Err(Stop::Memory) => Ok(None),
+        Err(Stop::TooMany) => Err("too many targets")?,
     }
 }
 

@@ -9,7 +9,7 @@ use Rattle.redo_build.specs.TakesLeft.{takes_left}
 use Rattle.redo_build.proofs.CountLemmas.{opening-out, opening-left}
 use Rattle.redo_core.specs.declared.board.Board.TheInside.{Inside}
 use Rattle.redo_core.proofs.TakeLemmas.{part-inside, length-entries}
-use Rattle.redo_core.proofs.OpeningLemmas.{first-kept, opening-many, opened-fault}
+use Rattle.redo_core.proofs.OpeningLemmas.{first-kept, opening-many}
 use Rattle.redo_core.proofs.board.Board.open.Goals as goal
 use Rattle.redo_core.proofs.board.Board.open.Goals.{In_ok-table}
 
@@ -25,8 +25,7 @@ kept c =
 pub returns-in_err-table-clause-too_many : goal.returns-in_err-table-clause-too_many
 returns-in_err-table-clause-too_many c = λ is.
     let made = rw is at c.from_residual-in_err-table.ensures in
-    let stop = opened-fault c.in_err-table.field-0.0 made.1 in
-    let many = c.first_table.ensures.too_many (c.in_err-table.was ∙ ap Err stop) in
+    let many = c.first_table.ensures.too_many (c.in_err-table.was ∙ ap Err (sym made.1)) in
     let P : List (List ℕ) → Type 0 = λ ps. c.in_ok-build.build.limits.targets < length (opening (rules_for c.in_ok-build.build) ps).entries in
     let Q : GivenView → Type 0 = λ g. IsTooMany (rules_for g) c.args.request.now g.limits.targets in
     subst Q c.in_ok-build.ensures (opening-many c.in_ok-build.build c.args.request.now (subst P (c.deref.ensures.value ∙ c.in_ok-request.ensures) many))
