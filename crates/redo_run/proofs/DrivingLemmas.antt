@@ -8,7 +8,7 @@ use Rattle.redo_build.specs.Schedule.{State}
 use Rattle.redo_core.specs.Views.{BoardView, WorkView, opened, rules_on}
 use Rattle.redo_tree.specs.Tree.{Tree}
 use Rattle.redo_run.specs.inside.Driving.{AreOut, IsPicked}
-use Rattle.redo_run.specs.Picks.{Driven, IsDriven, at_opening, driven, driven_on, picked}
+use Rattle.redo_run.specs.Picks.{Driven, IsDrivenOver, at_opening, driven, driven_on, picked}
 use Rattle.redo_run.specs.declared.picks.Pick.{Pick}
 use Rattle.redo_run.proofs.RefusalLemmas.{running}
 use Rattle.redo_step.specs.Limits.{LimitsView}
@@ -46,7 +46,7 @@ module _ (tree : Tree) (request : List (List ℕ)) (limits : LimitsView) (picks 
   module _ (b : BoardView) (works : List WorkView) (i : ℕ) (on : IsNone b.stopped)
       (build : (b.given ≡ record { tree = tree; limits = limits }) × (b.request ≡ request)) (leads : Leads b works i) where
     -- nothing more happens
-    at-end : driven (rules_of tree limits) (driven_on b works) (drop i picks) ≡ (driven_on b works, 0) → IsDriven tree request limits picks b i
+    at-end : driven (rules_of tree limits) (driven_on b works) (drop i picks) ≡ (driven_on b works, 0) → IsDrivenOver tree request limits picks b i
     at-end still =
         let end : driven (rules_of tree limits) (at_opening tree request limits) picks ≡ (driven_on b works, 0 + i) =
         leads ∙ ap (λ (x : Driven × ℕ). (x.0, x.1 + i)) still in
@@ -61,18 +61,18 @@ module _ (tree : Tree) (request : List (List ℕ)) (limits : LimitsView) (picks 
         )
 
     -- all picks were done
-    pub ends : length picks ≤ i → IsDriven tree request limits picks b i
+    pub ends : length picks ≤ i → IsDrivenOver tree request limits picks b i
     ends h = at-end (ap (driven (rules_of tree limits) (driven_on b works)) (drop-all picks i h))
 
     -- the next pick isn't open
     pub stops : (c : BoardView) (more : List WorkView) (pick : Pick) (open_yet : Bool) → i < length picks → pick ≡ slice_index_or picks i pick →
-        IsPicked pick b works c more open_yet → open_yet ≡ false → IsDriven tree request limits picks c i
+        IsPicked pick b works c more open_yet → open_yet ≡ false → IsDrivenOver tree request limits picks c i
     stops c more pick open_yet below is done shut =
         let P : Bool → Type 0 = IsPicked pick b works c more in
         let now = subst P shut done in
         let R : Rules → Type 0 = λ r. picked r (driven_on b works) pick ≡ None in
         let rules : rules_on b ≡ rules_of tree limits = ap rules_for build.0 in
         let none = subst R rules now.0 in
-        let C : BoardView → Type 0 = λ v. IsDriven tree request limits picks v i in
+        let C : BoardView → Type 0 = λ v. IsDrivenOver tree request limits picks v i in
         subst C (sym now.1)
         (at-end (ap (driven (rules_of tree limits) (driven_on b works)) (drop-item picks i pick below is) ∙ driven-stop (rules_of tree limits) (driven_on b works) pick (drop (i + 1) picks) none))

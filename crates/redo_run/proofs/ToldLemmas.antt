@@ -4,8 +4,7 @@ use Rattle.std.proofs.Common.{option_map, true, false, sym, subst, refl}
 use Rattle.std.specs.Prelude.{IfSome, IsSome, Err}
 use Rattle.std.specs.Io.KnownBytes.{Appends}
 use Rattle.redo_core.specs.Build.{rules_of}
-use Rattle.redo_build.specs.Outcomes.{IsTooMany}
-use Rattle.redo_report.specs.Reports.{IsReport}
+use Rattle.redo_core.specs.Results.{IsRefused, IsResult, IsResultOn, NeedsTooMany}
 use Rattle.redo_report.specs.ReportText.{report_text}
 use Rattle.redo_report.specs.declared.report.Report.{Report}
 use Rattle.redo_bundle.specs.Bundle.{IsBundle, Writes}
@@ -18,7 +17,7 @@ use Rattle.redo_run.specs.declared.exit.Exit.{Exit}
 use Rattle.redo_run.specs.declared.run_fault.RunFault.{RunFault}
 use Rattle.redo_run.specs.declared.run_fault.RunFault.TheVariants as build
 use Rattle.redo_run.specs.Exits.{IsExit}
-use Rattle.redo_run.specs.Directories.{ReportsTree}
+use Rattle.redo_run.specs.Directories.{ReportsTree, with_book_last}
 use Rattle.redo_run.specs.Faults.{of_build}
 use Rattle.redo_run.specs.Runs.{Explains, ExplainsList, Lists, Reports, request_in, request_of}
 use Rattle.redo_run.specs.Candidates.{candidate_text, search_text}
@@ -39,15 +38,17 @@ module _ (options : Options) (tree : Tree) (request : List (List ℕ)) (named : 
 
   -- a build that answers no report
   pub explains_build : (left old new : Option (List ℕ)) (fault : RunFault) → IfSome left (λ text. IsBundle text tree) →
-      (fault ≡ build.TooMany → IsTooMany (rules_of tree options.limits) request options.limits.targets) →
+      ((n : ℕ) → fault ≡ build.Book n → IsRefused tree n) →
+      (fault ≡ build.TooMany → NeedsTooMany tree request options.limits) →
       IfSome left (λ text. Explains {A = Exit} options text old new (Err (of_build fault)))
-  explains_build None old new fault bundle many = tt
-  explains_build (Some text) old new build.TooMany bundle many = (tree, bundle, moved (λ ps. IsTooMany (rules_of tree options.limits) ps options.limits.targets) (many refl))
-  explains_build (Some text) old new build.Memory bundle many = tt
+  explains_build None old new fault bundle book many = tt
+  explains_build (Some text) old new (build.Book n) bundle book many = (tree, bundle, book n refl)
+  explains_build (Some text) old new build.TooMany bundle book many = (tree, bundle, moved (λ ps. NeedsTooMany tree ps options.limits) (many refl))
+  explains_build (Some text) old new build.Memory bundle book many = tt
 
   -- a writer that fails in the report took a beginning of it
   pub explains_device : {E : Type 0} (f : E) (left old new : Option (List ℕ)) (report : Report) (written : List ℕ) →
-      IfSome left (λ text. IsBundle text tree) → IsReport (rules_of tree options.limits) request options.limits.targets report →
+      IfSome left (λ text. IsBundle text tree) → IsResultOn tree request options.limits report →
       written ≡ report_text report true → Writes {E = E} old new (Err f) written →
       IfSome left (λ text. Explains {A = Exit} options text old new (Err run.Device))
   explains_device f None old new report written bundle is made h = tt
@@ -55,7 +56,7 @@ module _ (options : Options) (tree : Tree) (request : List (List ℕ)) (named : 
     tree = tree;
     bundle = bundle;
     report = report;
-    is = moved (λ ps. IsReport (rules_of tree options.limits) ps options.limits.targets report) is;
+    is = moved (λ ps. IsResultOn tree ps options.limits report) is;
     out = h.0;
     more = h.1;
     begins = sym made ∙ h.2;
@@ -64,33 +65,39 @@ module _ (options : Options) (tree : Tree) (request : List (List ℕ)) (named : 
 
   -- the whole report was written
   pub reports : (left old new : Option (List ℕ)) (report : Report) (written : List ℕ) (exit : Exit) →
-      IfSome left (λ text. IsBundle text tree) → IsReport (rules_of tree options.limits) request options.limits.targets report →
-      written ≡ report_text report true → Appends old new written → IsExit (rules_of tree options.limits) options.limits.targets request exit →
+      IfSome left (λ text. IsBundle text tree) → (is : IsResultOn tree request options.limits report) →
+      written ≡ report_text report true → Appends old new written →
+      IsExit (rules_of is.0.sources options.limits) options.limits.targets request exit →
       IfSome left (λ text. Reports options text old new exit)
   reports None old new report written exit bundle is made h good = tt
   reports (Some text) old new report written exit bundle is made h good = record {
     tree = tree;
     bundle = bundle;
+    past = is.0;
+    of_tree = is.1;
     report = report;
-    is = moved (λ ps. IsReport (rules_of tree options.limits) ps options.limits.targets report) is;
+    is = moved (λ ps. IsResult is.0 ps options.limits report) is.2;
     written = subst (Appends old new) made h;
-    good = moved (λ ps. IsExit (rules_of tree options.limits) options.limits.targets ps exit) good;
+    good = moved (λ ps. IsExit (rules_of is.0.sources options.limits) options.limits.targets ps exit) good;
   }
 
   -- the whole report of a directory was written
   pub reports_tree : (dir : List ℕ) (old new : Option (List ℕ)) (report : Report) (written : List ℕ) (run : DirRun) →
-      IsLoaded tree run.passed → IsReport (rules_of tree options.limits) request options.limits.targets report →
-      run.stored ≡ places_in dir report.files.items →
-      written ≡ report_text report false → Appends old new written → IsExit (rules_of tree options.limits) options.limits.targets request run.exit →
+      IsLoaded tree run.passed → (is : IsResultOn tree request options.limits report) →
+      run.stored ≡ places_in dir (with_book_last report.files.items) →
+      written ≡ report_text report false → Appends old new written →
+      IsExit (rules_of is.0.sources options.limits) options.limits.targets request run.exit →
       ReportsTree options dir old new run
   reports_tree dir old new report written run loaded is stored made h good = record {
     tree = tree;
     loaded = loaded;
+    past = is.0;
+    of_tree = is.1;
     report = report;
-    is = moved (λ ps. IsReport (rules_of tree options.limits) ps options.limits.targets report) is;
+    is = moved (λ ps. IsResult is.0 ps options.limits report) is.2;
     stored = stored;
     written = subst (Appends old new) made h;
-    good = moved (λ ps. IsExit (rules_of tree options.limits) options.limits.targets ps run.exit) good;
+    good = moved (λ ps. IsExit (rules_of is.0.sources options.limits) options.limits.targets ps run.exit) good;
   }
 
 -- what a search looked at is the list of the target's candidates

@@ -13,6 +13,7 @@ of_load (load.Device kind) = run.Load
 of_load load.Memory = run.Memory
 
 abbrev pub of_run : RunFault → RunDirFault
+of_run (build.Book line) = run.Book line
 of_run build.TooMany = run.TooMany
 of_run build.Memory = run.Memory
 

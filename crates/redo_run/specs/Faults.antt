@@ -12,5 +12,6 @@ of_bundle bundle.Memory = run.Memory
 of_bundle fault = run.Bundle fault
 
 abbrev pub of_build : RunFault → RunIoFault
+of_build (build.Book line) = run.Book line
 of_build build.TooMany = run.TooMany
 of_build build.Memory = run.Memory

@@ -2,11 +2,13 @@
 -- in.
 use Rattle.std.specs.Prelude.{◌≡◌, ℕ, ◌+◌, List, [], ◌∷◌, ◌++◌, Option, Some, None, slice_get, remove, map, option_map}
 use Rattle.redo_core.specs.Build.{rules_of}
+use Rattle.redo_core.specs.Results.{IsOfTree}
 use Rattle.redo_build.specs.Rules.{Rules}
 use Rattle.redo_build.specs.Schedule.{State, entry_of, happens, handed_in, opening}
 use Rattle.redo_build.specs.Schedule.Event.{Take}
 use Rattle.redo_core.specs.Views.{BoardView, WorkView}
 use Rattle.redo_tree.specs.Tree.{Tree}
+use Rattle.redo_past.specs.Past.{PastView}
 use Rattle.redo_run.specs.declared.picks.Pick.{Pick}
 use Rattle.redo_run.specs.declared.picks.Pick.TheVariants.{Take as TakeAt, HandIn as HandInAt}
 use Rattle.redo_step.specs.Limits.{LimitsView}
@@ -41,14 +43,19 @@ driven r d (pick ∷ picks) =
 
 -- the opening, where nothing is out
 abbrev pub at_opening : Tree → List (List ℕ) → LimitsView → Driven
-at_opening tree request limits = record { state = opening (rules_of tree limits) request; out = [] }
+at_opening sources request limits = record { state = opening (rules_of sources limits) request; out = [] }
 
--- the board is that of the picks, which were done up to the first that isn't open
+-- the board is that of the picks over these sources, which were done up to the first that isn't open
+abbrev pub IsDrivenOver : Tree → List (List ℕ) → LimitsView → List Pick → BoardView → ℕ → Type 0
+IsDrivenOver sources request limits picks board done =
+    let end = driven (rules_of sources limits) (at_opening sources request limits) picks in
+    (board ≡ record { given = record { tree = sources; limits = limits }; request = request; state = end.0.state; stopped = None }) ×
+    (done ≡ end.1)
+
+-- the same over the sources of a tree
 abbrev pub IsDriven : Tree → List (List ℕ) → LimitsView → List Pick → BoardView → ℕ → Type 0
 IsDriven tree request limits picks board done =
-    let end = driven (rules_of tree limits) (at_opening tree request limits) picks in
-    (board ≡ record { given = record { tree = tree; limits = limits }; request = request; state = end.0.state; stopped = None }) ×
-    (done ≡ end.1)
+    (past : PastView) × IsOfTree tree past × IsDrivenOver past.sources request limits picks board done
 
 abbrev pub targets_of : List WorkView → List (List ℕ)
 targets_of works = map (λ w. w.target) works

@@ -1,13 +1,14 @@
 -- Why a build has no report.
-use Rattle.redo_core.specs.declared.board.OpenFault.{OpenFault}
-use Rattle.redo_core.specs.declared.board.OpenFault.TheVariants as openings
+use Rattle.redo_core.specs.declared.opening.OpenFault.{OpenFault}
+use Rattle.redo_core.specs.declared.opening.OpenFault.TheVariants as openings
 use Rattle.redo_core.specs.declared.board.Stop.{Stop}
 use Rattle.redo_core.specs.declared.board.Stop.TheVariants as stops
 use Rattle.redo_run.specs.declared.run_fault.RunFault.{RunFault}
-use Rattle.redo_run.specs.declared.run_fault.RunFault.TheVariants.{TooMany, Memory}
+use Rattle.redo_run.specs.declared.run_fault.RunFault.TheVariants.{Book, TooMany, Memory}
 
 -- the fault of a build whose board was not opened
 abbrev pub of_opening : OpenFault → RunFault
+of_opening (openings.Book line) = Book line
 of_opening openings.TooMany = TooMany
 of_opening openings.Memory = Memory
 

@@ -3,8 +3,8 @@ use Rattle.std.specs.Prelude.{◌≡◌, ◌↔◌, ◌++◌, ◌∷◌, [], ℕ
 use Rattle.std.specs.Prelude.{codes}
 use Rattle.std.specs.Io.KnownBytes.{Appends}
 use Rattle.redo_core.specs.Build.{rules_of}
-use Rattle.redo_build.specs.Outcomes.{IsTooMany}
-use Rattle.redo_report.specs.Reports.{IsReport}
+use Rattle.redo_core.specs.Results.{IsOfTree, IsRefused, IsResult, IsResultOn, NeedsTooMany as TreeNeedsTooMany}
+use Rattle.redo_past.specs.Past.{PastView}
 use Rattle.redo_report.specs.ReportText.{report_text}
 use Rattle.redo_report.specs.declared.report.Report.{Report}
 use Rattle.redo_bundle.specs.Bundle.{IsBundle, Reads}
@@ -13,7 +13,7 @@ use Rattle.redo_which.specs.Rule.{chosen_of}
 use Rattle.redo_run.specs.declared.exit.Exit.{Exit}
 use Rattle.redo_run.specs.declared.options.Options.{Options}
 use Rattle.redo_run.specs.declared.fault.RunIoFault.{RunIoFault}
-use Rattle.redo_run.specs.declared.fault.RunIoFault.TheVariants.{Bundle, TooMany, Device, Memory}
+use Rattle.redo_run.specs.declared.fault.RunIoFault.TheVariants.{Bundle, Book, TooMany, Device, Memory}
 use Rattle.redo_run.specs.Candidates.{candidate_text}
 use Rattle.redo_run.specs.Exits.{IsExit}
 
@@ -25,25 +25,34 @@ request_of (target ∷ targets) = target ∷ targets
 abbrev pub request_in : Options → List (List ℕ)
 request_in options = request_of options.targets.items
 
--- the report of the build of a tree, as the options want it
+-- the report of the build of a tree's sources, with the new book, as the options want it
 abbrev pub IsReportFor : Options → Tree → Report → Type 0
-IsReportFor options tree report =
-    IsReport (rules_of tree options.limits) (request_in options) options.limits.targets report
+IsReportFor options tree report = IsResultOn tree (request_in options) options.limits report
+
+-- the exit of the build of a tree's sources
+abbrev pub IsExitOf : Options → PastView → Exit → Type 0
+IsExitOf options past exit =
+    IsExit (rules_of past.sources options.limits) options.limits.targets (request_in options) exit
 
 -- the text is a bundle of a tree, and the writer took the report of its build, and nothing else
 pub record Reports (options : Options) (text : List ℕ) (old new : Option (List ℕ)) (exit : Exit) : Type 0 where
   pub tree : Tree
   pub bundle : IsBundle text tree
+  pub past : PastView
+  pub of_tree : IsOfTree tree past
   pub report : Report
-  pub is : IsReportFor options tree report
+  pub is : IsResult past (request_in options) options.limits report
   pub written : Appends old new (report_text report true)
-  pub good : IsExit (rules_of tree options.limits) options.limits.targets (request_in options) exit
+  pub good : IsExitOf options past exit
 
 -- the text is a bundle of a tree that needs too many targets
 abbrev pub NeedsTooMany : Options → List ℕ → Type 0
 NeedsTooMany options text =
-    (tree : Tree) × IsBundle text tree ×
-    IsTooMany (rules_of tree options.limits) (request_in options) options.limits.targets
+    (tree : Tree) × IsBundle text tree × TreeNeedsTooMany tree (request_in options) options.limits
+
+-- the text is a bundle of a tree whose book is refused for this line
+abbrev pub RefusesBook : List ℕ → ℕ → Type 0
+RefusesBook text n = (tree : Tree) × IsBundle text tree × IsRefused tree n
 
 -- the text is a bundle of a tree, and the writer took a beginning of the report of its build
 pub record BreaksOff (options : Options) (text : List ℕ) (old new : Option (List ℕ)) : Type 0 where
@@ -56,10 +65,11 @@ pub record BreaksOff (options : Options) (text : List ℕ) (old new : Option (Li
   pub begins : report_text report true ≡ out ++ more
   pub written : Appends old new out
 
--- whether a call fell to a fault of the text, of the targets or of the writer
+-- whether a call fell to a fault of the text, of the book, of the targets or of the writer
 abbrev pub Explains : {A : Type 0} → Options → List ℕ → Option (List ℕ) → Option (List ℕ) → Result A RunIoFault → Type 0
 Explains options text old new (Ok x) = Unit {0}
 Explains options text old new (Err (Bundle fault)) = Reads (Err fault) text
+Explains options text old new (Err (Book n)) = RefusesBook text n
 Explains options text old new (Err TooMany) = NeedsTooMany options text
 Explains options text old new (Err Device) = BreaksOff options text old new
 Explains options text old new (Err Memory) = Unit {0}
@@ -68,6 +78,7 @@ Explains options text old new (Err Memory) = Unit {0}
 abbrev pub IsUntouched : {A W : Type 0} → Result A RunIoFault → W → W → Type 0
 IsUntouched (Ok x) old new = Unit {0}
 IsUntouched (Err (Bundle fault)) old new = new ≡ old
+IsUntouched (Err (Book n)) old new = new ≡ old
 IsUntouched (Err TooMany) old new = new ≡ old
 IsUntouched (Err Device) old new = Unit {0}
 IsUntouched (Err Memory) old new = new ≡ old
@@ -79,11 +90,12 @@ pub record Lists (target text : List ℕ) (old new : Option (List ℕ)) (found :
   pub written : Appends old new (candidate_text tree target)
   pub chosen : IsTrue found ↔ IsSome (chosen_of tree target)
 
--- the same for a list of candidates, where no targets are built
+-- the same for a list of candidates, where no book is read and no targets are built
 abbrev pub ExplainsList : {A : Type 0} → List ℕ → List ℕ → Option (List ℕ) → Option (List ℕ) → Result A RunIoFault →
     Type 0
 ExplainsList target text old new (Ok x) = Unit {0}
 ExplainsList target text old new (Err (Bundle fault)) = Reads (Err fault) text
+ExplainsList target text old new (Err (Book n)) = ⊥
 ExplainsList target text old new (Err TooMany) = ⊥
 ExplainsList target text old new (Err Device) =
     (tree : Tree) × IsBundle text tree × (out more : List ℕ) × (candidate_text tree target ≡ out ++ more) ×

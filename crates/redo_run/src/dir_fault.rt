@@ -13,6 +13,9 @@ use thiserror::Error;
 pub enum RunDirFault {
     #[error("the directory could not be read")]
     Load,
+    /// The book of the last run is refused, for its line of this number, counted from 1.
+    #[error("the book of the last run is refused for its line {0}")]
+    Book(u64),
     #[error("more targets are needed than the limit allows")]
     TooMany,
     /// The built file at this place, counted from 0 in path order, could not be stored. Those before it were.
@@ -75,6 +78,7 @@ impl From<RunFault> for RunDirFault {
 
     fn from(error: RunFault) -> RunDirFault {
         match error {
+            RunFault::Book(line) => RunDirFault::Book(line),
             RunFault::TooMany => RunDirFault::TooMany,
             RunFault::Memory => RunDirFault::Memory,
         }

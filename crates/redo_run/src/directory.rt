@@ -1,8 +1,10 @@
 //! Runs over a directory of the system.
 
-ghost use Rattle.std.specs.Prelude.{◌≡◌, ◌↔◌, false, IfOk, IsErrOf, true};
-ghost use Rattle.redo_run.specs.Directories.{FallsInList, IsUnwritten, ListsTree, ReportsTree, NeedsTooMany};
+ghost use Rattle.std.specs.Prelude.{◌≡◌, ◌↔◌, false, IfOk, IsErrOf, true, ℕ, bytes_eq};
+ghost use Rattle.redo_run.specs.Directories.{FallsInList, IsUnwritten, ListsTree, ReportsTree, NeedsTooMany, RefusesBook};
+ghost use Rattle.redo_run.specs.Directories.{with_book_last as in_order_of_storing};
 ghost use Rattle.redo_dir.specs.Directory.{IsLoaded, places_in};
+ghost use Rattle.redo_which.specs.Candidates.{book_path};
 
 use crate::candidates::text_of_search;
 use crate::exit::exit_after;
@@ -12,10 +14,11 @@ use crate::{Cause, Exit, Gate, Options, RunDirFault};
 use redo_bundle::{ByteOut, write_all};
 use redo_dir::{LoadFault, StoreFault, Stored, load_dir, store_files};
 use redo_path::Path;
-use redo_report::write_report;
+use redo_report::{Report, write_report};
 use redo_tree::{Content, Tree};
+use redo_which::BOOK;
 use redo_which::lookup::search;
-use std::alloc::Global;
+use std::alloc::{AllocError, Global};
 use std::rt::Files;
 use std::sync::Wait;
 use std::thread::Threads;
@@ -69,12 +72,39 @@ fn store<H: Files>(
     }
 }
 
-/// Reads a directory with all that is below it, builds the targets, writes the files that were built into the
-/// directory, and then writes the report, without the files.
+/// Whether it is the path of the book.
+fn is_book(path: &Path) -> bool
+    ensures { result ≡ bytes_eq path.now book_path }
+{
+    path.text() == BOOK
+}
+
+/// The files as they are stored: in path order, but the book behind all others. So where storing breaks off the old book
+/// still stands, and tells of each file that was not stored yet what it told before.
+fn with_book_last(
+    alloc: Global,
+    files: Vec<(Path, Content)>,
+) -> Result<Vec<(Path, Content)>, AllocError>
+    ensures { IfOk result (λ sorted. sorted.items ≡ in_order_of_storing files.items) }
+{
+    let mut others = Vec::with_capacity(alloc, files.len())?;
+    let mut book = Vec::new(alloc);
+    'files: for file in files {
+        if is_book(&file.0) {
+            book.push(file)?;
+        } else {
+            others.push(file)?;
+        }
+    }
+    others.append(&mut book)?;
+    Ok(others)
+}
+
+/// Reads a directory with all that is below it, builds the targets of its sources, writes the files that were built and
+/// the new book into the directory, and then writes the report, without the files.
 ///
-/// Nothing is written before the build has answered. Where a file can't be stored, those before it in path order were,
-/// and no report is written; where the report can't be written, all files were stored. A file that stands in the
-/// directory, one of an earlier run too, is a source.
+/// Nothing is written before the build has answered. The book is stored behind all other files. Where a file can't be
+/// stored, those before it were, and no report is written; where the report can't be written, all files were stored.
 ///
 /// The report goes out in many small pieces: hand in a writer with a buffer, and flush it afterwards.
 pub fn run_dir<H: Threads + Wait + Sync + Files, W: ByteOut, G: Gate>(
@@ -88,6 +118,7 @@ pub fn run_dir<H: Threads + Wait + Sync + Files, W: ByteOut, G: Gate>(
 ) -> Result<DirRun, RunDirFault>
     requires writer { W.has_failed writer.old ≡ false }
     ensures report { IfOk result (λ run. ReportsTree options.now dir.now (W.held writer.old) (W.held writer.new) run) }
+    ensures book { (n : ℕ) → IsErrOf result (RunDirFault.Book n) → RefusesBook n }
     ensures too_many { IsErrOf result RunDirFault.TooMany → NeedsTooMany options.now }
     ensures untouched { IsUnwritten result writer.old writer.new }
     ensures device { IsErrOf result RunDirFault.Device ↔ (W.has_failed writer.new ≡ true) }
@@ -104,7 +135,10 @@ pub fn run_dir<H: Threads + Wait + Sync + Files, W: ByteOut, G: Gate>(
         gate,
     )?;
     let exit = exit_after(alloc, &report, &request)?;
-    let stored = store(rt, alloc, dir, &report.files, cause)?;
+    let Report { rows, files, begun } = report;
+    let files = with_book_last(alloc, files)?;
+    let stored = store(rt, alloc, dir, &files, cause)?;
+    let report = Report { rows, files, begun };
     write_report(writer, &report, false)?;
     Ok(DirRun {
         exit,

@@ -1,9 +1,11 @@
 //! Whether a run went well.
 
-ghost use Rattle.std.specs.Prelude.{◌≡◌, [], IfOk, ℕ};
+ghost use Rattle.std.specs.Prelude.{◌≡◌, [], IfOk};
 ghost use Rattle.std.specs.List.{list_any};
-ghost use Rattle.redo_report.specs.Reports.{IsReport};
-ghost use Rattle.redo_build.specs.Rules.{Rules};
+ghost use Rattle.redo_core.specs.Build.{rules_of};
+ghost use Rattle.redo_past.specs.Past.{PastView};
+ghost use Rattle.redo_step.specs.Limits.{LimitsView};
+ghost use Rattle.redo_core.specs.Results.{IsResult};
 ghost use Rattle.redo_core.specs.inside.Reported.{placed};
 ghost use Rattle.redo_run.specs.Exits.{IsExit, fails, is_made};
 
@@ -51,8 +53,8 @@ pub(crate) fn exit_after(
     report: &Report,
     request: &[Path],
 ) -> Result<Exit, AllocError>
-    ensures { (r : Rules) (limit : ℕ) → IsReport r request.now limit report.now →
-        IfOk result (IsExit r limit request.now) }
+    ensures { (past : PastView) (limits : LimitsView) → IsResult past request.now limits report.now →
+        IfOk result (IsExit (rules_of past.sources limits) limits.targets request.now) }
 {
     let wanted = set_of(alloc, request)?;
     if has_failed(&wanted, &report.rows) {

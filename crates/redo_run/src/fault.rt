@@ -12,6 +12,9 @@ use thiserror::Error;
 pub enum RunIoFault {
     #[error("the bundle is refused: {0}")]
     Bundle(BundleFault),
+    /// The book of the last run is refused, for its line of this number, counted from 1.
+    #[error("the book of the last run is refused for its line {0}")]
+    Book(u64),
     #[error("more targets are needed than the limit allows")]
     TooMany,
     #[error("the writer failed")]
@@ -71,6 +74,7 @@ impl From<RunFault> for RunIoFault {
 
     fn from(error: RunFault) -> RunIoFault {
         match error {
+            RunFault::Book(line) => RunIoFault::Book(line),
             RunFault::TooMany => RunIoFault::TooMany,
             RunFault::Memory => RunIoFault::Memory,
         }

@@ -1,15 +1,15 @@
 //! A build by one thread.
 
-ghost use Rattle.std.specs.Prelude.{◌≡◌, ◌<◌, Err, IfOk, IsNone, OnOk};
-ghost use Rattle.redo_core.specs.Build.{rules_of};
+ghost use Rattle.std.specs.Prelude.{◌≡◌, ◌<◌, Err, IfOk, IsNone, OnOk, ℕ};
+ghost use Rattle.redo_core.specs.Results.{IsRefused, IsResultOn, NeedsTooMany};
 ghost use Rattle.redo_core.specs.Faults.{IsSameBuild};
 ghost use Rattle.redo_build.specs.Outcomes.{IsTooMany};
-ghost use Rattle.redo_report.specs.Reports.{IsReport};
 ghost use Rattle.redo_build.specs.TakesLeft.{takes_left};
 ghost use Rattle.redo_core.specs.Views.{jobs_out, limit_on, ready_count, rules_on};
 
 use crate::RunFault;
 use redo_core::board::{Board, HandFault, Stop};
+use redo_core::opening::open;
 use redo_path::Path;
 use redo_report::Report;
 use redo_step::Limits;
@@ -40,19 +40,22 @@ fn advance_newest(board: &mut Board) -> Result<(), Stop>
     }
 }
 
-/// Builds the requested targets and all that they need, one script after another, and keeps going where one fails.
+/// Builds the requested targets and all that they need, one script after another, and keeps going where one fails. Among
+/// the files of the report is the new book.
 pub fn build_one(
     alloc: Global,
     tree: Tree,
     request: &[Path],
     limits: Limits,
 ) -> Result<Report, RunFault>
-    ensures report { IfOk result (IsReport (rules_of tree limits) request.now limits.targets) }
-    ensures too_many { result ≡ Err RunFault.TooMany → IsTooMany (rules_of tree limits) request.now limits.targets }
+    ensures report { IfOk result (IsResultOn tree request.now limits) }
+    ensures book { (n : ℕ) → result ≡ Err (RunFault.Book n) → IsRefused tree n }
+    ensures too_many { result ≡ Err RunFault.TooMany → NeedsTooMany tree request.now limits }
 {
-    let mut board = Board::open(alloc, Arc::new(alloc, tree)?, request, limits)?;
+    let (past, mut board) = open(alloc, Arc::new(alloc, tree)?, request, limits)?;
     while board.ready() > 0 {
         advance_newest(&mut board)?;
     }
-    Ok(board.finish()?)
+    let report = board.finish()?;
+    Ok(past.with_book(alloc, report)?)
 }

@@ -3,8 +3,8 @@
 //! Workers come to a board in an order that nobody can foresee. [`drive`] makes one order to be looked at: each
 //! [`Pick`] says what happens next, by places alone.
 
-ghost use Rattle.std.specs.Prelude.{◌≡◌, Err, IfOk, IsNone, MatchBool, None, OnOk, Some, length};
-ghost use Rattle.redo_core.specs.Build.{rules_of};
+ghost use Rattle.std.specs.Prelude.{◌≡◌, Err, IfOk, IsNone, MatchBool, None, OnOk, Some, length, ℕ};
+ghost use Rattle.redo_core.specs.Results.{IsRefused, NeedsTooMany};
 ghost use Rattle.redo_core.specs.Faults.{IsSameBuild};
 ghost use Rattle.redo_build.specs.Outcomes.{IsTooMany};
 ghost use Rattle.redo_core.specs.Views.{limit_on, rules_on};
@@ -13,6 +13,7 @@ ghost use Rattle.redo_run.specs.inside.Driving.{AreOut, IsPicked};
 
 use crate::RunFault;
 use redo_core::board::{Board, HandFault, Stop};
+use redo_core::opening::open;
 use redo_core::work::Work;
 use redo_path::Path;
 use redo_step::Limits;
@@ -86,7 +87,7 @@ fn perform(board: &mut Board, out: &mut Vec<Work>, pick: Pick) -> Result<bool, S
     }
 }
 
-/// Opens a board and performs the picks one after another, up to the first that isn't open: a place where nothing is
+/// Opens a board over a tree's sources and performs the picks one after another, up to the first that isn't open: a place where nothing is
 /// ready, or nothing is out. Answers the board, whatever is left to do on it, and how many picks were done. With the
 /// works that are still out the board is left as it is; they are lost.
 pub fn drive(
@@ -97,9 +98,10 @@ pub fn drive(
     picks: &[Pick],
 ) -> Result<(Board, usize), RunFault>
     ensures ok { IfOk result (λ driven. IsDriven tree request.now limits picks.now driven.0 driven.1) }
-    ensures too_many { result ≡ Err RunFault.TooMany → IsTooMany (rules_of tree limits) request.now limits.targets }
+    ensures book { (n : ℕ) → result ≡ Err (RunFault.Book n) → IsRefused tree n }
+    ensures too_many { result ≡ Err RunFault.TooMany → NeedsTooMany tree request.now limits }
 {
-    let mut board = Board::open(alloc, Arc::new(alloc, tree)?, request, limits)?;
+    let (_past, mut board) = open(alloc, Arc::new(alloc, tree)?, request, limits)?;
     let mut out = Vec::new(alloc);
     for (done, pick) in picks.iter().enumerate() {
         if !perform(&mut board, &mut out, *pick)? {

@@ -2,13 +2,17 @@
 
 ghost use Rattle.std.specs.Prelude.{◌≡◌};
 
-use redo_core::board::{OpenFault, Stop};
+use redo_core::board::Stop;
+use redo_core::opening::OpenFault;
 use std::alloc::{AllocError, AllocFailed};
 use thiserror::Error;
 
 /// Why a build has no report.
 #[derive(Clone, Copy, Debug, PartialEq, Eq, Error)]
 pub enum RunFault {
+    /// The book of the last run is refused, for its line of this number, counted from 1.
+    #[error("the book of the last run is refused for its line {0}")]
+    Book(u64),
     #[error("more targets are needed than the limit allows")]
     TooMany,
     /// A growth was refused, or a thread could not be started.
@@ -36,7 +40,7 @@ impl<T: Drop> From<AllocFailed<T>> for RunFault {
     }
 }
 
-/// No board was opened.
+/// No build was opened.
 impl From<OpenFault> for RunFault {
     ghost use Rattle.redo_run.specs.RunFaults.{of_opening};
 
@@ -44,6 +48,7 @@ impl From<OpenFault> for RunFault {
 
     fn from(error: OpenFault) -> RunFault {
         match error {
+            OpenFault::Book(line) => RunFault::Book(line),
             OpenFault::TooMany => RunFault::TooMany,
             OpenFault::Memory => RunFault::Memory,
         }

@@ -11,8 +11,10 @@ use std::sync::Wait;
 use std::test::Fail;
 use std::thread::Threads;
 
+mod books;
 mod directories;
 mod ends;
+mod histories;
 mod memory;
 mod one;
 mod picks;
@@ -23,8 +25,11 @@ mod workers;
 
 const HELLO: &[u8] = b"file 8 hello.do\necho hi\n\nend\n";
 
-const HELLO_REPORT: &[u8] =
-    b"built 3 hello\ndep change hello.do\nbegun hello\nfile 3 hello\nhi\n\nend\n";
+const HELLO_REPORT: &[u8] = b"built 3 hello\ndep change hello.do\nbegun hello\n\
+    file 163 .redo-book\n\
+    target 98ea6e4f216f2fb4b69fff9b3a44842c38686ca685f3f55dc48c5d3fb1107be4 hello\n\
+    change ab08508fdf5ca4da5c4995987bc41c56c048aaa5eeb046417ae4049b7d40286e hello.do\nend\n\n\
+    file 3 hello\nhi\n\nend\n";
 
 type Outcome = Result<Exit, RunIoFault>;
 

@@ -5,14 +5,13 @@
 //! channel. Where a single script can go on, and with one worker always, it takes the job itself. Once all workers are
 //! in, the ledger of the relay shows that each job was taken once.
 
-ghost use Rattle.std.specs.Prelude.{◌≡◌, ◌≤◌, Err, [], IfOk, IsNone, IsTrue};
+ghost use Rattle.std.specs.Prelude.{◌≡◌, ◌≤◌, Err, [], IfOk, IsNone, IsTrue, ℕ};
 ghost use Rattle.redo_build.specs.Outcomes.{IsTooMany};
 ghost use Rattle.redo_build.specs.Takes.{AreBegun, AreCountedOnce};
-ghost use Rattle.redo_core.specs.Build.{rules_of};
+ghost use Rattle.redo_core.specs.Results.{IsRefused, IsResultOn, NeedsTooMany};
 ghost use Rattle.redo_core.specs.Faults.{IsSameBuild};
 ghost use Rattle.redo_core.specs.Taken.{HasTaken};
 ghost use Rattle.redo_core.specs.Views.{limit_on, rules_on};
-ghost use Rattle.redo_report.specs.Reports.{IsReport};
 ghost use Rattle.redo_sync.specs.Relay.{SharesOut, taken_by};
 ghost use Rattle.redo_run.specs.inside.Workers.{IsAnswerTo, IsStaffed};
 
@@ -25,6 +24,7 @@ use crate::run_fault::RunFault;
 use redo_build::laws::counts_tell;
 use redo_core::board::{Board, Stop};
 use redo_core::laws::what_was_taken;
+use redo_core::opening::open;
 use redo_core::work::Work;
 use redo_path::Path;
 use redo_report::Report;
@@ -195,7 +195,7 @@ fn run_build<B: Build + Send + Sync, R: Threads + Wait + Sync, G: Gate>(
 /// Builds the requested targets by so many workers side by side, each in a thread of its own; the caller's thread has
 /// the board meanwhile, and hands out the jobs. It advances a script itself where no other can go on. With one worker no
 /// thread is started: the caller does it all. The report is that of the recursive build in one thread, whatever the
-/// workers do when, and the ledger shows that each job was taken once. All threads have ended when it answers. It
+/// workers do when, with the new book among its files, and the ledger shows that each job was taken once. All threads have ended when it answers. It
 /// answers `Memory` too where a thread could not be started.
 pub fn build_many<R: Threads + Wait + Sync, G: Gate>(
     rt: &R,
@@ -208,14 +208,16 @@ pub fn build_many<R: Threads + Wait + Sync, G: Gate>(
 ) -> Result<(Report, Ledger<Work>), RunFault>
     requires some { 1 ≤ workers }
     requires few { workers ≤ 64 }
-    ensures report { IfOk result (λ r. IsReport (rules_of tree limits) request.now limits.targets r.0) }
+    ensures report { IfOk result (λ r. IsResultOn tree request.now limits r.0) }
     ensures none_left { IfOk result (λ r. r.1.left ≡ []) }
     ensures once { IfOk result (λ r. AreCountedOnce r.1.taken) }
     ensures begun { IfOk result (λ r. AreBegun r.1.taken r.0.begun.items) }
-    ensures too_many { result ≡ Err RunFault.TooMany → IsTooMany (rules_of tree limits) request.now limits.targets }
+    ensures book { (n : ℕ) → result ≡ Err (RunFault.Book n) → IsRefused tree n }
+    ensures too_many { result ≡ Err RunFault.TooMany → NeedsTooMany tree request.now limits }
 {
     what_was_taken();
     let tree = Arc::new(alloc, tree)?;
-    let board = Board::open(alloc, tree, request, limits)?;
-    Ok(run_build::<Brand, R, G>(rt, alloc, board, workers, gate)?)
+    let (past, board) = open(alloc, tree, request, limits)?;
+    let (report, ledger) = run_build::<Brand, R, G>(rt, alloc, board, workers, gate)?;
+    Ok((past.with_book(alloc, report)?, ledger))
 }

@@ -1,6 +1,8 @@
 //! Runs over directories of the system. Each test works in a directory of its own, which it makes and removes. The
 //! helpers are small, and a test holds little more than its directory, so that each is proved in a few seconds.
 
+ghost use Rattle.std.specs.Prelude.{◌≤◌};
+
 use super::options;
 use crate::{Cause, Exit, NoGate, RunDirFault, run_dir, whichdo_dir};
 use redo_bundle::Plain;
@@ -17,6 +19,16 @@ use std::{env, fs, io};
 type Outcome = Result<(Exit, u64), RunDirFault>;
 
 type Listed = Result<(bool, u64), RunDirFault>;
+
+/// A run that went well and passed over one name.
+const GOOD: Outcome = Ok((Exit::Good, 1));
+
+/// What a run for `hello` says of it, and the book that it leaves.
+const BUILT: &[u8] = b"built 3 hello\ndep change hello.do\nbegun hello\nend\n";
+
+const BOOK: &[u8] =
+    b"target 98ea6e4f216f2fb4b69fff9b3a44842c38686ca685f3f55dc48c5d3fb1107be4 hello\n\
+    change ab08508fdf5ca4da5c4995987bc41c56c048aaa5eeb046417ae4049b7d40286e hello.do\nend\n";
 
 /// Makes a directory that no other test and no other run has, with a rule for `hello`.
 fn new_directory(rt: &HostRuntime) -> Result<PathBuf, Fail> {
@@ -53,19 +65,30 @@ fn holds(rt: &HostRuntime, dir: &PathBuf, name: &str, bytes: &[u8]) -> io::Resul
     Ok(found.as_slice() == bytes)
 }
 
+/// Whether nothing stands there.
+fn lacks(rt: &HostRuntime, dir: &PathBuf, name: &str) -> Result<bool, Fail> {
+    let place = dir.join(rt.alloc(), name)?;
+    Ok(fs::read(rt, place.as_path()).is_err())
+}
+
 fn remove(rt: &HostRuntime, dir: &PathBuf) -> io::Result<()> {
     fs::remove_dir_all(rt, dir.as_path())
 }
 
-/// Whether a run for `hello` over a directory answers this, with this report.
+/// Whether a run over a directory answers this, with this report.
 fn gives<R: Threads + Wait + Sync + Files>(
     rt: &R,
     alloc: Global,
     dir: &PathBuf,
+    words: &[&[u8]],
+    workers: usize,
     outcome: Outcome,
     report: &[u8],
-) -> Result<bool, Fail> {
-    let options = options(alloc, &[b"hello"], 2, 9, 9)?;
+) -> Result<bool, Fail>
+    requires some { 1 ≤ workers }
+    requires few { workers ≤ 64 }
+{
+    let options = options(alloc, words, workers, 9, 9)?;
     let mut writer = Plain::new(Vec::new(alloc));
     let mut cause = Cause::new(alloc);
     let found = run_dir(
@@ -98,25 +121,93 @@ fn lists(rt: &HostRuntime, dir: &PathBuf, answer: Listed, list: &[u8]) -> Result
     Ok(found == answer && stream.as_slice() == list)
 }
 
+/// Whether `hello` was built and stored, with the book of this alone.
+fn is_left(rt: &HostRuntime, dir: &PathBuf) -> io::Result<bool> {
+    Ok(holds(rt, dir, "hello", b"hi\n")? && holds(rt, dir, ".redo-book", BOOK)?)
+}
+
 #[test]
-fn what_is_built_is_stored_and_then_a_source(rt: HostRuntime) -> Result<(), Fail> {
-    const BUILT: &[u8] = b"built 3 hello\ndep change hello.do\nbegun hello\nend\n";
+fn what_is_built_is_stored_and_built_again(rt: HostRuntime) -> Result<(), Fail> {
     let dir = new_directory(&rt)?;
     // A name that is passed over.
     write_file(&rt, &dir, "a\tb", "1\n")?;
-    let built = gives(&rt, rt.alloc(), &dir, Ok((Exit::Good, 1)), BUILT)?;
-    let stored = holds(&rt, &dir, "hello", b"hi\n")?;
-    let source = gives(
+    for workers in [1, 8] {
+        let built = gives(&rt, rt.alloc(), &dir, &[b"hello"], workers, GOOD, BUILT)?;
+        let left = is_left(&rt, &dir)?;
+        assert!(rt; built && left, "{workers} workers");
+    }
+    remove(&rt, &dir)?;
+    Ok(())
+}
+
+#[test]
+fn what_is_changed_by_hand_is_a_source(rt: HostRuntime) -> Result<(), Fail> {
+    const SOURCE: &[u8] = b"source hello\nend\n";
+    let dir = new_directory(&rt)?;
+    // A name that is passed over.
+    write_file(&rt, &dir, "a\tb", "1\n")?;
+    let built = gives(&rt, rt.alloc(), &dir, &[b"hello"], 1, GOOD, BUILT)?;
+    let left = is_left(&rt, &dir)?;
+    write_file(&rt, &dir, "hello", "ho\n")?;
+    let source = gives(&rt, rt.alloc(), &dir, &[b"hello"], 8, GOOD, SOURCE)?;
+    let kept = holds(&rt, &dir, "hello", b"ho\n")? && holds(&rt, &dir, ".redo-book", b"end\n")?;
+    remove(&rt, &dir)?;
+    assert!(rt; built && left, "the first run");
+    assert!(rt; source && kept, "the second run");
+    Ok(())
+}
+
+#[test]
+fn a_refused_book_gives_no_report_and_stores_nothing(rt: HostRuntime) -> Result<(), Fail> {
+    let dir = new_directory(&rt)?;
+    write_file(&rt, &dir, ".redo-book", "end\nx")?;
+    let one = gives(
         &rt,
         rt.alloc(),
         &dir,
-        Ok((Exit::Good, 1)),
-        b"source hello\nend\n",
+        &[b"hello"],
+        1,
+        Err(RunDirFault::Book(2)),
+        b"",
     )?;
+    let many = gives(
+        &rt,
+        rt.alloc(),
+        &dir,
+        &[b"hello"],
+        8,
+        Err(RunDirFault::Book(2)),
+        b"",
+    )?;
+    let listed = lists(&rt, &dir, Ok((true, 0)), b"hello.do\n")?;
+    let kept = holds(&rt, &dir, ".redo-book", b"end\nx")? && lacks(&rt, &dir, "hello")?;
     remove(&rt, &dir)?;
-    assert!(rt; built, "the first run");
-    assert!(rt; stored, "the file");
-    assert!(rt; source, "the second run");
+    assert!(rt; one && many, "two runs");
+    assert!(rt; listed, "no list reads a book");
+    assert!(rt; kept, "what stands there");
+    Ok(())
+}
+
+/// The second of two targets can't be stored, as its name is no text. In path order the book is before both.
+#[test]
+fn the_book_is_the_last_file_that_is_stored(rt: HostRuntime) -> Result<(), Fail> {
+    let dir = new_directory(&rt)?;
+    write_file(&rt, &dir, "default.do", "echo x\n")?;
+    let words: [&[u8]; 2] = [b"hello", b"\xff"];
+    let refused = gives(
+        &rt,
+        rt.alloc(),
+        &dir,
+        &words,
+        1,
+        Err(RunDirFault::Store(1)),
+        b"",
+    )?;
+    let first = holds(&rt, &dir, "hello", b"hi\n")?;
+    let no_book = lacks(&rt, &dir, ".redo-book")?;
+    remove(&rt, &dir)?;
+    assert!(rt; refused, "the run");
+    assert!(rt; first && no_book, "what stands there");
     Ok(())
 }
 
@@ -125,7 +216,15 @@ fn a_directory_that_is_not_there_gives_no_report(rt: HostRuntime) -> Result<(), 
     let dir = new_directory(&rt)?;
     remove(&rt, &dir)?;
     assert!(rt;
-        gives(&rt, rt.alloc(), &dir, Err(RunDirFault::Load), b"")?,
+        gives(
+            &rt,
+            rt.alloc(),
+            &dir,
+            &[b"hello"],
+            2,
+            Err(RunDirFault::Load),
+            b""
+        )?,
         "a run"
     );
     assert!(rt; lists(&rt, &dir, Err(RunDirFault::Load), b"")?, "a list");

@@ -165,7 +165,7 @@ fn a_writer_may_fail_at_any_call(rt: HostRuntime) -> Result<(), Fail> {
 fn a_refusal_of_memory_leaves_nothing(rt: HostRuntime) -> Result<(), Fail> {
     let alloc = rt.alloc();
     let options = options(alloc, &[b"hello"], 1, 1, 3)?;
-    let mut room = [0u8; 100];
+    let mut room = [0u8; 300];
     let mut reader = make_drops(usize::MAX);
     let mut writer = Plain::new(room.as_mut_slice());
     let outcome = run_bundle(
@@ -178,10 +178,10 @@ fn a_refusal_of_memory_leaves_nothing(rt: HostRuntime) -> Result<(), Fail> {
         &mut Cause::new(alloc),
     );
     if outcome == Err(RunIoFault::Memory) {
-        assert_eq!(rt; writer.stream.len(), 100);
+        assert_eq!(rt; writer.stream.len(), 300);
     } else {
         assert_eq!(rt; outcome, GOOD);
-        assert_eq!(rt; writer.stream.len(), 100 - HELLO_REPORT.len());
+        assert_eq!(rt; writer.stream.len(), 300 - HELLO_REPORT.len());
     }
     Ok(())
 }

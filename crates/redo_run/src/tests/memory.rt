@@ -1,30 +1,29 @@
 //! Builds in which memory runs out: `tests/refused-memory` refuses each allocation of these tests in turn. A build then
 //! answers that it is out of memory, or what it answers without a refusal.
 
-use super::workers::{DIAMOND, DIAMOND_REPORT, Files, paths_of, tree_of};
+use super::HELLO_REPORT;
+use super::books::GENERATED;
+use super::workers::{
+    DIAMOND, DIAMOND_REPORT, ENDLESS, Files, RING, RING_REPORT, paths_of, tree_of,
+};
 use crate::{NoGate, RunFault, build_many, build_one};
 use redo_report::{Report, report_text};
 use redo_step::Limits;
 use std::alloc::Global;
 use std::test::Fail;
 
-const RING: Files = &[
-    (b"a.do", b"redo-ifchange b\n"),
-    (b"b.do", b"redo-ifchange a\n"),
-    (b"t.do", b"redo-ifchange a\n"),
-    (b"u.do", b"echo u\n"),
-];
-
-const RING_REPORT: &[u8] =
-    b"cyclic a\ndep change a.do\ndep change b\ncyclic b\ndep change b.do\ndep change a\ncyclic t\ndep change t.do\ndep change a\nbuilt 2 u\ndep change u.do\nbegun a\nbegun b\nbegun t\nbegun u\nfile 2 u\nu\n\nend\n";
-
-const ENDLESS: Files = &[(b"default.do", b"redo-ifchange \"$1\"x\n")];
-
 /// A rule, the files of a tree, the requested words, and the report, or why there is none.
-const BUILDS: [(&str, Files, &[&[u8]], Result<&[u8], RunFault>); 3] = [
+const BUILDS: [(&str, Files, &[&[u8]], Result<&[u8], RunFault>); 5] = [
     ("a diamond", DIAMOND, &[b"top"], Ok(DIAMOND_REPORT)),
     ("a ring", RING, &[b"t", b"u"], Ok(RING_REPORT)),
     ("too many", ENDLESS, &[b"a"], Err(RunFault::TooMany)),
+    ("a generated file", GENERATED, &[b"hello"], Ok(HELLO_REPORT)),
+    (
+        "a refused book",
+        &[(b".redo-book", b"end\nx")],
+        &[b"a"],
+        Err(RunFault::Book(2)),
+    ),
 ];
 
 /// Whether a build came to what is expected, or was out of memory.

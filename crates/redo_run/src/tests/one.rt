@@ -14,7 +14,12 @@ const RING: Files = &[
 ];
 
 const RING_REPORT: &[u8] =
-    b"cyclic a\ndep change a.do\ndep change b\ncyclic b\ndep change b.do\ndep change a\nbuilt 2 u\ndep change u.do\nbegun a\nbegun b\nbegun u\nfile 2 u\nu\n\nend\n";
+    b"cyclic a\ndep change a.do\ndep change b\ncyclic b\ndep change b.do\ndep change a\n\
+    built 2 u\ndep change u.do\nbegun a\nbegun b\nbegun u\n\
+    file 155 .redo-book\n\
+    target ea46748e171abd2dd4dba5b86bb6589334d86bba2df8d50cbb16b36c83b0856a u\n\
+    change 0da448c5eaa9510427525db4b620fcb440c7b66cbac58d28c095198afde8dfda u.do\nend\n\n\
+    file 2 u\nu\n\nend\n";
 
 /// A rule, the files of a tree, the requested words, the limit of targets, and the report, or why there is none.
 const BUILDS: [(&str, Files, &[&[u8]], u32, Result<&[u8], RunFault>); 5] = [

@@ -1,12 +1,19 @@
 //! Builds in an order that is given beforehand.
 
-use super::workers::{DIAMOND, DIAMOND_REPORT, paths_of, tree_of};
-use crate::{Pick, drive};
+use super::workers::{DIAMOND, paths_of, tree_of};
+use crate::{Pick, RunFault, drive};
 use redo_core::board::Board;
 use redo_report::report_text;
 use redo_step::Limits;
 use std::alloc::Global;
 use std::test::Fail;
+
+/// What the board of a diamond comes to. The new book isn't among its files.
+const REPORT: &[u8] =
+    b"built 2 base\ndep change base.do\nbuilt 2 left\ndep change left.do\ndep change base\n\
+    built 2 right\ndep change right.do\ndep change base\nbuilt 4 top\ndep change top.do\n\
+    dep change left\ndep change right\nbegun base\nbegun left\nbegun right\nbegun top\n\
+    file 2 base\nb\n\nfile 2 left\nb\n\nfile 2 right\nb\n\nfile 4 top\nb\nb\n\nend\n";
 
 /// The whole build of a diamond, in which `right` comes before `left`, and both are out at once.
 const WHOLE: [Pick; 14] = [
@@ -58,7 +65,7 @@ fn every_order_comes_to_the_report(rt: HostRuntime) -> Result<(), Fail> {
         return Err("not quiet".into());
     }
     let text = report_text(alloc, &board.finish()?, true)?;
-    assert_eq!(rt; text.as_slice(), DIAMOND_REPORT);
+    assert_eq!(rt; text.as_slice(), REPORT);
     Ok(())
 }
 
@@ -70,5 +77,16 @@ fn stops_at_the_first_pick_that_is_not_open(rt: HostRuntime) -> Result<(), Fail>
         assert!(rt; (done, board.ready(), board.out()) == expected, "{rule}");
         assert!(rt; !board.quiet(), "{rule}");
     }
+    Ok(())
+}
+
+#[test]
+fn no_order_begins_over_a_refused_book(rt: HostRuntime) -> Result<(), Fail> {
+    let alloc = rt.alloc();
+    let limits = Limits::new(1, 100).ok_or("no limits")?;
+    let request = paths_of(alloc, &[b"a", b"b"])?;
+    let tree = tree_of(alloc, &[(b".redo-book", b"end\nx")])?;
+    let driven = drive(alloc, tree, &request, limits, &[]);
+    assert!(rt; driven.err() == Some(RunFault::Book(2)));
     Ok(())
 }

@@ -30,7 +30,7 @@ fn writes_nothing_for_a_refused_bundle(rt: HostRuntime) -> Result<(), Fail> {
 fn lists_candidates(rt: HostRuntime) -> Result<(), Fail> {
     let alloc = rt.alloc();
     let tree: &[u8] = b"dir a\nfile 16 default.c.do\necho $1 $2 > $3\n\nend\n";
-    let rows: [(&[u8], &[u8], bool, &[u8]); 5] = [
+    let rows: [(&[u8], &[u8], bool, &[u8]); 6] = [
         (
             tree,
             b"a/x.y.c",
@@ -41,6 +41,13 @@ fn lists_candidates(rt: HostRuntime) -> Result<(), Fail> {
         (b"end\n", b"default.x", false, b"default.x.do\ndefault.do\n"),
         (b"end\n", b"a.do", false, b""),
         (b"file 2 s\n1\n\nend\n", b"s", false, b"s.do\ndefault.do\n"),
+        // No book is read: this one would be refused.
+        (
+            b"file 1 .redo-book\nx\nend\n",
+            b"s",
+            false,
+            b"s.do\ndefault.do\n",
+        ),
     ];
     for (bundle, word, found, list) in rows {
         let target = resolve(alloc, &Path::root(), word)?;

@@ -45,13 +45,15 @@ const SCRIPTS: [(&str, &[u8], &[u8], &[u8]); 28] = [
     ),
     (
         "ten targets of one script",
-        b"file 8 default.do\necho $1\n\nfile 58 0.do\nredo-ifchange a b c d e f g h i j\ncat a b c d e f g h i j\n\nend\n",
+        b"file 8 default.do\necho $1\n\nfile 58 0.do\nredo-ifchange a b c d e f g h i j\n\
+          cat a b c d e f g h i j\n\nend\n",
         b"0",
         b"built 20 0",
     ),
     (
         "the last of ten targets fails",
-        b"file 8 default.do\necho $1\n\nfile 7 j.do\nexit 1\n\nfile 34 0.do\nredo-ifchange a b c d e f g h i j\n\nend\n",
+        b"file 8 default.do\necho $1\n\nfile 7 j.do\nexit 1\n\n\
+          file 34 0.do\nredo-ifchange a b c d e f g h i j\n\nend\n",
         b"0",
         b"failed depends 1 0",
     ),

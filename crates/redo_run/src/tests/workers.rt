@@ -24,28 +24,57 @@ pub(crate) const DIAMOND: Files = &[
 ];
 
 pub(crate) const DIAMOND_REPORT: &[u8] =
-    b"built 2 base\ndep change base.do\nbuilt 2 left\ndep change left.do\ndep change base\nbuilt 2 right\ndep change right.do\ndep change base\nbuilt 4 top\ndep change top.do\ndep change left\ndep change right\nbegun base\nbegun left\nbegun right\nbegun top\nfile 2 base\nb\n\nfile 2 left\nb\n\nfile 2 right\nb\n\nfile 4 top\nb\nb\n\nend\n";
+    b"built 2 base\ndep change base.do\nbuilt 2 left\ndep change left.do\ndep change base\n\
+    built 2 right\ndep change right.do\ndep change base\nbuilt 4 top\ndep change top.do\n\
+    dep change left\ndep change right\nbegun base\nbegun left\nbegun right\nbegun top\n\
+    file 941 .redo-book\n\
+    target 0263829989b6fd954f72baaf2fc64bc2e2f01d692d4de72986ea808f6e99813f base\n\
+    change 256931e5627bfa46347df35ae1c25649073ce5630975d0cdf9d301d32836a118 base.do\n\
+    target 0263829989b6fd954f72baaf2fc64bc2e2f01d692d4de72986ea808f6e99813f left\n\
+    change 8f639ce0d3801bedf41167f8fb40a5588ddc8c9d4177a68521e59c7323dd8efd left.do\n\
+    change 0263829989b6fd954f72baaf2fc64bc2e2f01d692d4de72986ea808f6e99813f base\n\
+    target 0263829989b6fd954f72baaf2fc64bc2e2f01d692d4de72986ea808f6e99813f right\n\
+    change 8f639ce0d3801bedf41167f8fb40a5588ddc8c9d4177a68521e59c7323dd8efd right.do\n\
+    change 0263829989b6fd954f72baaf2fc64bc2e2f01d692d4de72986ea808f6e99813f base\n\
+    target f288623ee73a16eb4e2e51ed403847b534ca46ba1d2062ed641fe946f627f7a1 top\n\
+    change 68b0d0e4cf6b51adef1630c179acb109d714d6a0769c6f7ae611a8f0bea6e5ea top.do\n\
+    change 0263829989b6fd954f72baaf2fc64bc2e2f01d692d4de72986ea808f6e99813f left\n\
+    change 0263829989b6fd954f72baaf2fc64bc2e2f01d692d4de72986ea808f6e99813f right\nend\n\n\
+    file 2 base\nb\n\nfile 2 left\nb\n\nfile 2 right\nb\n\n\
+    file 4 top\nb\nb\n\nend\n";
 
-const ENDLESS: Files = &[(b"default.do", b"redo-ifchange \"$1\"x\n")];
+pub(crate) const RING: Files = &[
+    (b"a.do", b"redo-ifchange b\n"),
+    (b"b.do", b"redo-ifchange a\n"),
+    (b"t.do", b"redo-ifchange a\n"),
+    (b"u.do", b"echo u\n"),
+];
+
+pub(crate) const RING_REPORT: &[u8] =
+    b"cyclic a\ndep change a.do\ndep change b\ncyclic b\ndep change b.do\ndep change a\ncyclic t\n\
+    dep change t.do\ndep change a\nbuilt 2 u\ndep change u.do\nbegun a\nbegun b\nbegun t\n\
+    begun u\n\
+    file 155 .redo-book\n\
+    target ea46748e171abd2dd4dba5b86bb6589334d86bba2df8d50cbb16b36c83b0856a u\n\
+    change 0da448c5eaa9510427525db4b620fcb440c7b66cbac58d28c095198afde8dfda u.do\nend\n\n\
+    file 2 u\nu\n\nend\n";
+
+pub(crate) const ENDLESS: Files = &[(b"default.do", b"redo-ifchange \"$1\"x\n")];
 
 /// A rule, the files of a tree, the requested words, and the whole report.
 const CYCLES: [(&str, Files, &[&[u8]], &[u8]); 3] = [
     (
         "a ring is cyclic, and so is what waits for it",
-        &[
-            (b"a.do", b"redo-ifchange b\n"),
-            (b"b.do", b"redo-ifchange a\n"),
-            (b"t.do", b"redo-ifchange a\n"),
-            (b"u.do", b"echo u\n"),
-        ],
+        RING,
         &[b"t", b"u"],
-        b"cyclic a\ndep change a.do\ndep change b\ncyclic b\ndep change b.do\ndep change a\ncyclic t\ndep change t.do\ndep change a\nbuilt 2 u\ndep change u.do\nbegun a\nbegun b\nbegun t\nbegun u\nfile 2 u\nu\n\nend\n",
+        RING_REPORT,
     ),
     (
         "a target that asks for itself is cyclic",
         &[(b"s.do", b"redo-ifchange \"$1\"\n")],
         &[b"s"],
-        b"cyclic s\ndep change s.do\ndep change s\nbegun s\nend\n",
+        b"cyclic s\ndep change s.do\ndep change s\nbegun s\n\
+          file 4 .redo-book\nend\n\nend\n",
     ),
     (
         "a cyclic operand goes before a failed one",
@@ -55,11 +84,13 @@ const CYCLES: [(&str, Files, &[&[u8]], &[u8]); 3] = [
             (b"loop.do", b"redo-ifchange loop\n"),
         ],
         &[b"m"],
-        b"failed exit 1 bad\ndep change bad.do\ncyclic loop\ndep change loop.do\ndep change loop\ncyclic m\ndep change m.do\ndep change bad\ndep change loop\nbegun bad\nbegun loop\nbegun m\nend\n",
+        b"failed exit 1 bad\ndep change bad.do\ncyclic loop\ndep change loop.do\ndep change loop\n\
+          cyclic m\ndep change m.do\ndep change bad\ndep change loop\nbegun bad\nbegun loop\nbegun m\n\
+          file 4 .redo-book\nend\n\nend\n",
     ),
 ];
 
-pub(crate) fn tree_of(alloc: Global, files: Files) -> Result<Tree, Fail> {
+pub(crate) fn tree_of(alloc: Global, files: &[(&[u8], &[u8])]) -> Result<Tree, Fail> {
     let root = Path::root();
     let mut tree = Tree::new(alloc)?;
     for (name, text) in files {

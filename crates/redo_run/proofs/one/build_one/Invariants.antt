@@ -4,10 +4,10 @@ use Rattle.redo_build.specs.TakesLeft.{takes_left}
 use Rattle.redo_core.specs.Views.{jobs_out}
 use Rattle.redo_run.proofs.one.build_one.Given as goal
 
--- the board of this build runs, and no job is out
+-- the board of the build that was opened runs, and no job is out
 abbrev pub invariant-loop-board : goal.invariant-loop-board
 invariant-loop-board l =
-    IsNone l.board.stopped × (jobs_out l.board ≡ 0) × (l.board.given ≡ record { tree = l.fn.tree; limits = l.fn.limits }) × (l.board.request ≡ l.request)
+    IsNone l.board.stopped × (jobs_out l.board ≡ 0) × (l.board.given ≡ l.initial.board.given) × (l.board.request ≡ l.initial.board.request)
 
 -- each turn leaves fewer jobs to take
 abbrev pub decreases-loop-board : goal.decreases-loop-board
