@@ -20,11 +20,14 @@ pub(crate) fn of_target(alloc: Global, bad: Option<(&str, PathFault)>) -> Words 
     }
 }
 
-/// The cause of a run's fault: the entry of the bundle, the directory or file, or the limit.
+/// The cause of a run's fault: the entry of the bundle, the directory or file, the book, or the limit.
 pub(crate) fn of_fault(alloc: Global, fault: Fault, cause: &Cause) -> Words {
     match fault {
         Fault::Bundle(fault) => of_bundle(alloc, fault, &cause.header),
         Fault::Directory | Fault::Output => of_place(alloc, cause),
+        Fault::Book(_) => Ok(Some(format!(in alloc;
+            "the file .redo-book is not as a run leaves it; without it each file is a source"
+        )?)),
         Fault::TooMany => Ok(Some(format!(in alloc; "more than {TARGETS} targets are needed")?)),
         Fault::Memory => Ok(None),
     }
@@ -179,6 +182,11 @@ mod tests {
         let rows = [
             (Fault::Directory, denied, "\"d/a\": permission denied"),
             (Fault::Output, denied, "\"d/a\": permission denied"),
+            (
+                Fault::Book(2),
+                None,
+                "the file .redo-book is not as a run leaves it; without it each file is a source",
+            ),
             (Fault::TooMany, None, "more than 65536 targets are needed"),
             (Fault::Directory, None, ""),
             (Fault::Output, None, ""),

@@ -12,7 +12,7 @@ pub(crate) const GOOD: u8 = 0;
 pub(crate) const FAILED: u8 = 1;
 /// The command line is refused.
 pub(crate) const USAGE: u8 = 2;
-/// The bundle is refused, or the directory can't be read.
+/// The bundle or the book is refused, or the directory can't be read.
 pub(crate) const INPUT: u8 = 3;
 /// Too many targets are needed.
 pub(crate) const TOO_MANY: u8 = 4;
@@ -38,6 +38,8 @@ pub(crate) fn of_refusal(refusal: Refusal) -> u8 {
 pub(crate) enum Fault {
     Bundle(BundleFault),
     Directory,
+    /// The book of the last run is refused, for its line of this number.
+    Book(u64),
     TooMany,
     Output,
     Memory,
@@ -48,6 +50,7 @@ impl From<RunIoFault> for Fault {
         match fault {
             RunIoFault::Memory | RunIoFault::Bundle(BundleFault::Memory) => Fault::Memory,
             RunIoFault::Bundle(fault) => Fault::Bundle(fault),
+            RunIoFault::Book(line) => Fault::Book(line),
             RunIoFault::TooMany => Fault::TooMany,
             RunIoFault::Device => Fault::Output,
         }
@@ -58,6 +61,7 @@ impl From<RunDirFault> for Fault {
     fn from(fault: RunDirFault) -> Fault {
         match fault {
             RunDirFault::Load => Fault::Directory,
+            RunDirFault::Book(line) => Fault::Book(line),
             RunDirFault::TooMany => Fault::TooMany,
             RunDirFault::Store(_) | RunDirFault::Device => Fault::Output,
             RunDirFault::Memory => Fault::Memory,
@@ -68,7 +72,7 @@ impl From<RunDirFault> for Fault {
 /// The status after a fault.
 pub(crate) fn of_fault(fault: Fault) -> u8 {
     match fault {
-        Fault::Bundle(_) | Fault::Directory => INPUT,
+        Fault::Bundle(_) | Fault::Directory | Fault::Book(_) => INPUT,
         Fault::TooMany => TOO_MANY,
         Fault::Output => OUTPUT,
         Fault::Memory => MEMORY,
@@ -87,6 +91,7 @@ impl fmt::Display for Fault {
                 BundleFault::Memory => write!(f, "out of memory"),
             },
             Fault::Directory => write!(f, "directory not readable"),
+            Fault::Book(line) => write!(f, "book: line {line}"),
             Fault::TooMany => write!(f, "too many targets"),
             Fault::Output => write!(f, "output failed"),
             Fault::Memory => write!(f, "out of memory"),
@@ -123,10 +128,12 @@ mod tests {
             (bundle(BundleFault::Truncated), 3, "bundle: truncated"),
             (bundle(BundleFault::Read), 3, "bundle: read"),
             (bundle(BundleFault::Memory), 6, "out of memory"),
+            (Fault::from(RunIoFault::Book(7)), 3, "book: line 7"),
             (Fault::from(RunIoFault::TooMany), 4, "too many targets"),
             (Fault::from(RunIoFault::Device), 5, "output failed"),
             (Fault::from(RunIoFault::Memory), 6, "out of memory"),
             (Fault::from(RunDirFault::Load), 3, "directory not readable"),
+            (Fault::from(RunDirFault::Book(1)), 3, "book: line 1"),
             (Fault::from(RunDirFault::TooMany), 4, "too many targets"),
             (Fault::from(RunDirFault::Store(0)), 5, "output failed"),
             (Fault::from(RunDirFault::Device), 5, "output failed"),
