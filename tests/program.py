@@ -1,13 +1,14 @@
 """What the scripts beside this file share: the program under test, bundles, and what a run came to."""
 
 import os
-import re
 import signal
 import subprocess
 import sys
 import tempfile
 from collections import namedtuple
 from threading import Timer
+
+from reports import as_bytes, with_book
 
 # What a run came to: its exit status, and what it wrote on standard output and on standard error.
 Run = namedtuple("Run", "status out said")
@@ -17,17 +18,6 @@ Took = namedtuple("Took", "seconds mib")
 # With four workers a run may take so many times the processor time that it may take with one: those that find no job
 # keep their processors busy, for as long as the machine holds up the one that has work.
 SPINNING = 5
-
-# The words behind `failed` in a row of a report.
-WHY = (
-    rb"norule|directory|nodirectory|both"
-    rb"|(?:exit|depends|unquoted|outside|undeclared|exists|buildable|direct|elsewhere|toolarge|format) [0-9]+"
-    rb"|script [0-9]+ (?:nul|interpreter|openquote|unsupported|unknowncommand|shape|ifshape|toodeep)"
-)
-ROW = rb"(?:source|built none|built [0-9]+|cyclic|failed (?:%s)) [^\n]*\n(?:dep (?:create|change) [^\n]*\n)*" % WHY
-# The line before a file of a report, and a report without its files.
-FILE = re.compile(rb"file (0|[1-9][0-9]*) ([^\n]*)\n")
-HEAD = re.compile(rb"(?:%s)*(?:begun [^\n]*\n)*end\n" % ROW)
 
 
 def find():
@@ -70,23 +60,6 @@ def measured(words, text, seconds):
         said.seek(0)
         took = Took(used.ru_utime + used.ru_stime, used.ru_maxrss // 1024)
         return Run(child.returncode, out.read(), said.read()), took
-
-
-def parts(report):
-    """A report over a bundle: its text without the files, and the files. None where it isn't one."""
-    at = report.find(b"\nfile ") + 1 or len(report) - len(b"end\n")
-    head, files = report[:at] + b"end\n", {}
-    while found := FILE.match(report, at):
-        end = found.end() + int(found[1])
-        if report[end : end + 1] != b"\n":
-            return None
-        files[os.fsdecode(found[2])] = report[found.end() : end]
-        at = end + 1
-    return (head, files) if HEAD.fullmatch(head) and report[at:] == b"end\n" else None
-
-
-def as_bytes(content):
-    return content if isinstance(content, bytes) else content.encode()
 
 
 def bundle(tree):
@@ -156,10 +129,12 @@ class Tests:
         self.equal(name, "standard output", found.out, out)
         self.equal(name, "standard error", found.said, said)
 
-    def build(self, name, text, targets, status, report):
-        """Builds targets over a bundle with 1 and with 8 workers, which is to come to the same."""
+    def build(self, name, tree, targets, status, report):
+        """Builds targets over a tree with 1 and with 8 workers, which is to come to the same. The report is given without
+        the new book."""
+        report = with_book(tree, report)
         for jobs in "1", "8":
-            self.run(f"{name}, -j {jobs}", ["-j", jobs, "-k", "--bundle", *targets], text, status, as_bytes(report))
+            self.run(f"{name}, -j {jobs}", ["-j", jobs, "-k", "--bundle", *targets], bundle(tree), status, report)
 
     def finish(self):
         """Ends the script, with status 0 where all was as expected."""

@@ -1,12 +1,14 @@
 /* A library that is loaded into the program before the C library. It counts the program's calls by their kind, and
    refuses those of one kind from one call to another, counted from 1, with an error number, or with the answer 0 where
-   that is 0; and it lets a read or a write move so many bytes at most: REFUSE is "kind first last error most". The counts
-   stand in the file that COUNTS names, however the program ends: the calls of each kind, and then the refused ones. It
-   takes in no header, since the kit's compiler comes without. */
+   that is 0, or kills the program at the call where that is past all errors; and it lets a read or a write move so many
+   bytes at most: REFUSE is "kind first last error most". The counts stand in the file that COUNTS names, however the
+   program ends: the calls of each kind, and then the refused ones. It takes in no header, since the kit's compiler
+   comes without. */
 
 typedef unsigned long size_t;
 typedef long ssize_t;
 
+enum { LAST_ERROR = 4095, KILLED = 9 };
 enum { MEMORY, THREAD, OPEN, LOOK, LIST, READ, WRITE, SAY, RENAME, REMOVE, KINDS };
 
 /* Of the C library. */
@@ -16,6 +18,7 @@ extern void *dlsym(void *, const char *), *mmap(void *, size_t, int, int, int, l
 extern char *getenv(const char *);
 extern unsigned long strtoul(const char *, char **, int);
 extern int *__errno_location(void);
+extern int getpid(void), kill(int, int);
 #define NEXT ((void *)-1l)
 #define READ_AND_WRITE 3
 #define SHARED 1
@@ -58,6 +61,8 @@ static int refused(unsigned long this) {
     if (this != kind || call < first || last < call)
         return 0;
     __atomic_add_fetch(&counts[KINDS], 1, __ATOMIC_SEQ_CST);
+    if (error > LAST_ERROR)
+        kill(getpid(), KILLED);
     *__errno_location() = error;
     return 1;
 }

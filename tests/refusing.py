@@ -27,6 +27,8 @@ KINDS = {
     "remove": EIO,
 }
 WITHOUT_END = 2**63
+# In place of an error: the program is killed at the call.
+KILLED = 4096
 
 # How many calls of each kind a run made, and how many of them were refused.
 Counts = namedtuple("Counts", [*KINDS, "refused"])

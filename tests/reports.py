@@ -1,0 +1,197 @@
+"""What a report and a book hold, told again from the manual and without the program: the parts of a report, the first
+line at fault of a text that is no book, what a tree's book says of its files, and the book that a run leaves."""
+
+import os
+import re
+from hashlib import sha256
+
+# The file at the top of a tree that is the book of the last run.
+BOOK = ".redo-book"
+
+# The words behind `failed` in a row of a report.
+WHY = (
+    rb"norule|directory|nodirectory|both"
+    rb"|(?:exit|depends|unquoted|outside|undeclared|exists|buildable|direct|elsewhere|toolarge|format) [0-9]+"
+    rb"|script [0-9]+ (?:nul|interpreter|openquote|unsupported|unknowncommand|shape|ifshape|toodeep)"
+)
+DEP = rb"dep (?:(?:create|change) [^\n]*|always)\n"
+ROW = rb"(?:source|built none|built [0-9]+|cyclic|failed (?:%s)) [^\n]*\n(?:%s)*" % (WHY, DEP)
+# The line before a file of a report, and a report without its files.
+FILE = re.compile(rb"file (0|[1-9][0-9]*) ([^\n]*)\n")
+HEAD = re.compile(rb"(?:%s)*(?:begun [^\n]*\n)*end\n" % ROW)
+# The row of a target that was built.
+BUILT = re.compile(r"built (?:none|[0-9]+) (.*)")
+# A line of a book but its last.
+LINE = re.compile(rb"(?:(?P<kind>target|change) (?:none|[0-9a-f]{64})|(?P<create>create)) (?P<path>.+)|always")
+
+
+def as_bytes(content):
+    return content if isinstance(content, bytes) else content.encode()
+
+
+def all_bytes(tree):
+    """A tree with each content as bytes."""
+    return {path: None if content is None else as_bytes(content) for path, content in tree.items()}
+
+
+def parts(report):
+    """A report over a bundle: its text without the files, and the files. None where it isn't one."""
+    at = report.find(b"\nfile ") + 1 or len(report) - len(b"end\n")
+    head, files = report[:at] + b"end\n", {}
+    while found := FILE.match(report, at):
+        end = found.end() + int(found[1])
+        if report[end : end + 1] != b"\n":
+            return None
+        files[os.fsdecode(found[2])] = report[found.end() : end]
+        at = end + 1
+    return (head, files) if HEAD.fullmatch(head) and report[at:] == b"end\n" else None
+
+
+def whole(head, files):
+    """The report of these parts: the files stand in the order of their paths' bytes."""
+    texts = [b"file %d %s\n%s\n" % (len(files[path]), os.fsencode(path), files[path]) for path in in_order(files)]
+    return b"".join([head[: -len(b"end\n")], *texts, b"end\n"])
+
+
+def in_order(paths):
+    return sorted(paths, key=os.fsencode)
+
+
+def is_canonical(path):
+    """Whether bytes are a path as its text has it, and not empty."""
+    names = path.split(b"/")
+    return (
+        len(path) <= 1024
+        and all(0 < len(name) <= 255 and name not in (b".", b"..") for name in names)
+        and not re.search(rb"[\x00-\x1f\x7f]", path)
+    )
+
+
+def fault_of_book(text):
+    """The first line at fault of a text that is no book, counted from 1; None where it is one."""
+    *lines, rest = text.split(b"\n")
+    target, entries = b"", None
+    for number, line in enumerate(lines, 1):
+        if line == b"end":
+            return number + 1 if lines[number:] or rest else None
+        found = LINE.fullmatch(line)
+        path = found and found["path"]
+        if not found or path is not None and not is_canonical(path):
+            return number
+        if found["kind"] == b"target":
+            if path <= target:
+                return number
+            target, entries = path, set()
+        else:
+            entry = found["kind"] or found["create"], path
+            if entries is None or entry in entries:
+                return number
+            entries.add(entry)
+    return len(lines) + 1
+
+
+def records(text):
+    """The records of a book: of each target its state, and the lines behind its own."""
+    found = {}
+    for line in os.fsdecode(text).split("\n")[:-2]:
+        if line.startswith("target "):
+            _, at, target = line.split(" ", 2)
+            found[target] = at, []
+        else:
+            found[target][1].append(line)
+    return found
+
+
+def state(content):
+    """What a book says of a file: the digest of its bytes, or that there is none."""
+    return "none" if content is None else sha256(content).hexdigest()
+
+
+def states(tree):
+    """A tree with the state of each file in place of its content; a directory keeps None."""
+    return {path: None if content is None else state(as_bytes(content)) for path, content in tree.items()}
+
+
+def book_of(tree):
+    """The text of a tree's book, where it has one."""
+    return None if tree.get(BOOK) is None else as_bytes(tree[BOOK])
+
+
+def sources(stated, book):
+    """The sources of a tree of states, with their states: its files but the book, and but those that are as the book's
+    targets were."""
+    made = {target: at for target, (at, _) in records(book).items()} if book is not None else {}
+    return {path: it for path, it in stated.items() if it is not None and path != BOOK and made.get(path) != it}
+
+
+def bare(tree):
+    """A tree without its book and without the files that are as the last run left them."""
+    left = sources(states(tree), book_of(tree))
+    return {path: content for path, content in tree.items() if content is None or path in left}
+
+
+def candidates(path):
+    """Where the rule of a target is looked for."""
+    dir, slash, name = path.rpartition("/")
+    if path == BOOK or not path or name.endswith(".do"):
+        return
+    yield path + ".do"
+    suffixes = [name[at:] for at, byte in enumerate(name) if byte == "."] + [""]
+    while True:
+        yield from (f"{dir}{slash}default{suffix}.do" for suffix in suffixes)
+        if not dir:
+            return
+        dir, slash, _ = dir.rpartition("/")
+
+
+def has_rule(path, stated, left):
+    """Whether a path has a rule: it is no source and no directory, the directory that would hold it is there, and a
+    candidate is a source."""
+    above = path.rpartition("/")[0]
+    if path in left or stated.get(path, "") is None or above and stated.get(above, "") is not None:
+        return False
+    return any(it in left for it in candidates(path))
+
+
+def noted(head, files, left):
+    """The records of a run's built targets, by its report."""
+    made = {path: state(content) for path, content in files.items()}
+    found, entries = {}, []
+    for line in os.fsdecode(head).split("\n"):
+        if row := BUILT.fullmatch(line):
+            entries = []
+            found[row[1]] = made.get(row[1], "none"), entries
+        elif not line.startswith("dep "):
+            entries = []
+        elif line.startswith("dep change "):
+            path = line[len("dep change ") :]
+            entries.append(f"change {left.get(path) or made.get(path, 'none')} {path}")
+        else:
+            entries.append(line[len("dep ") :])
+    return found
+
+
+def carried(stated, book, left):
+    """The records of a book whose targets have a rule, and are as the book says."""
+    return {
+        target: (at, entries)
+        for target, (at, entries) in (records(book) if book is not None else {}).items()
+        if stated.get(target, "none") == at and has_rule(target, stated, left)
+    }
+
+
+def new_book(stated, book, head, files):
+    """The book that a run leaves: over a tree of states with this book, it came to this report and these files."""
+    left = sources(stated, book)
+    found = {**carried(stated, book, left), **noted(head, files, left)}
+    lines = []
+    for target in in_order(found):
+        at, entries = found[target]
+        lines += [f"target {at} {target}", *entries]
+    return os.fsencode("\n".join([*lines, "end\n"]))
+
+
+def with_book(tree, report):
+    """The report of a run over a tree, with the new book among the files of the report."""
+    head, files = parts(as_bytes(report))
+    return whole(head, {**files, BOOK: new_book(states(tree), book_of(tree), head, files)})
