@@ -159,7 +159,8 @@ impl Index {
         Ok(())
     }
 
-    /// Enters a text as that of a path behind these. Where it is the text of one of them, that one's number is answered.
+    /// Enters a text as that of a path behind these. Where it is the text of one of them, that one's number is
+    /// answered.
     pub(crate) fn enter(&mut self, paths: &[Path], text: &[u8]) -> Result<Option<usize>, AllocError>
         requires index { IsIndexOf self.old paths.now }
         requires room { 8 ≤ length self.old.places.items }

@@ -10,8 +10,8 @@ use std::alloc::{AllocError, Global};
 use std::marker::Model;
 use std::mem;
 
-/// Paths in the order in which they were put in, each with a value. In a contract it is the list of both. A path is found
-/// in few steps, as in a [`PathSet`].
+/// Paths in the order in which they were put in, each with a value. In a contract it is the list of both. A path is
+/// found in few steps, as in a [`PathSet`].
 #[derive(Drop)]
 pub struct PathMap<T> {
     paths: PathSet,
@@ -89,8 +89,8 @@ impl<T> PathMap<T> {
         }
     }
 
-    /// Puts in a value for a path: behind the others where the path is new, else in the place of its old value, which is
-    /// answered. On want of memory the map is as it was.
+    /// Puts in a value for a path: behind the others where the path is new, else in the place of its old value, which
+    /// is answered. On want of memory the map is as it was.
     pub fn insert(&mut self, path: Path, value: T) -> Result<Option<T>, AllocError>
     where
         T: Drop,

@@ -1,6 +1,7 @@
 //! Sets of paths.
 
-ghost use Rattle.std.specs.Prelude.{◌≡◌, ◌==◌, ◌<◌, ◌^◌, [], Some, IfNone, IfOk, IfSome, IsTrue, OnErr, OnOk, length, not};
+ghost use Rattle.std.specs.Prelude.{◌≡◌, ◌==◌, ◌<◌, ◌^◌, [], Some, IfNone, IfOk, IfSome, IsTrue, OnErr, OnOk, length};
+ghost use Rattle.std.specs.Prelude.{not};
 ghost use Rattle.std.specs.Prelude.{slice_get, MatchOption};
 ghost use Rattle.redo_names.specs.Paths.{AreDistinct, IsAmong, is_among, with_path};
 

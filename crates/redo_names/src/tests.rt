@@ -74,8 +74,8 @@ fn a_path_has_the_value_of_its_last_mention(rt: HostRuntime) -> Result<(), Fail>
     Ok(())
 }
 
-/// A path whose text has 32 bytes, of which the first 24 are chosen: the hash multiplies the last eight by what those come
-/// to, which is 0. So all such paths have one hash.
+/// A path whose text has 32 bytes, of which the first 24 are chosen: the hash multiplies the last eight by what those
+/// come to, which is 0. So all such paths have one hash.
 fn of_one_hash(alloc: Global, number: usize) -> Result<Path, Fail> {
     let word = format!(in alloc; "00000000000015255%9I:_r4{number:08}")?;
     Ok(path(alloc, &word)?)

@@ -1,4 +1,5 @@
 pub mod BehindLemmas
+pub mod ChangeLemmas
 pub mod EntryLemmas
 pub mod FoundLemmas
 pub mod LawfulLemmas

@@ -4,10 +4,11 @@ use Rattle.redo_record.specs.declared.deps.Dep.{Dep}
 use Rattle.redo_record.specs.declared.deps.DepKind.{DepKind}
 use Rattle.redo_record.specs.declared.deps.DepKind.TheVariants.{Change, Create}
 use Rattle.redo_record.specs.declared.outcome.Outcome.{Outcome}
-use Rattle.redo_record.specs.Paths.{IsAmong, Path}
-use Rattle.redo_record.specs.Progress.{operands, IsLawful, at_once}
+use Rattle.redo_record.specs.Paths.{IsAmong, AreDistinct, Path}
+use Rattle.redo_record.specs.Progress.{changes, operands, IsLawful, at_once}
 use Rattle.redo_record.specs.Entries.{is_entered, with_entries, search_deps, with_all}
 use Rattle.redo_record.proofs.OperandLemmas as asked
+use Rattle.redo_record.proofs.ChangeLemmas as changed
 use Rattle.redo_record.proofs.FoundLemmas as found
 use Rattle.redo_record.proofs.LawfulLemmas as lawful
 
@@ -31,9 +32,43 @@ entered_operand = asked.entered-operand
 pub sources_alone : (source : Path → Bool) (deps : List Dep) → ((q : Path) → is_entered deps Change q ≡ true → source q ≡ true) → operands source deps ≡ []
 sources_alone = lawful.sources-asked
 
+-- what it waits for is no source
+pub operand_target : (source : Path → Bool) (deps : List Dep) (q : Path) → IsAmong (operands source deps) q →
+    source q ≡ false
+operand_target = changed.operand-target
+
+-- it waits for each path once, where each stands once among its change entries
+pub operands_once : (source : Path → Bool) (deps : List Dep) → AreDistinct (changes deps) →
+    AreDistinct (operands source deps)
+operands_once = asked.distinct-operands
+
+-- of paths that are entered after others: what is entered then is one of these or was entered before
+pub change_cases : (ds : List Dep) (ps : List Path) (q : Path) →
+    is_entered (with_entries ds Change ps) Change q ≡ true → (is_entered ds Change q ≡ true) ⊎ IsAmong ps q
+change_cases = changed.change-cases
+
+-- each of these is entered
+pub change_entered : (ds : List Dep) (ps : List Path) (q : Path) → IsAmong ps q →
+    is_entered (with_entries ds Change ps) Change q ≡ true
+change_entered = changed.change-entered
+
+-- and each path stands once among the change entries, where it did before
+pub changes_once : (ds : List Dep) (ps : List Path) → AreDistinct (changes ds) →
+    AreDistinct (changes (with_entries ds Change ps))
+changes_once ds ps = asked.distinct-entries ds Change ps
+
 -- an entry of a whole record is one of its first or its further entries
 pub whole_cases : (ds es : List Dep) (k : DepKind) (p : Path) → is_entered (with_all ds es) k p ≡ true → (is_entered ds k p ≡ true) ⊎ (is_entered es k p ≡ true)
 whole_cases = asked.all_cases
+
+-- each of its first entries is one of the whole record
+pub whole_first : (ds es : List Dep) (k : DepKind) (p : Path) → is_entered ds k p ≡ true →
+    is_entered (with_all ds es) k p ≡ true
+whole_first = asked.all_first
+
+-- each path that its change entries name stands once among them, where it did among the first
+pub whole_once : (ds es : List Dep) → AreDistinct (changes ds) → AreDistinct (changes (with_all ds es))
+whole_once = asked.distinct-all
 
 -- each of its further entries is one of the whole record
 pub whole_second : (ds es : List Dep) (k : DepKind) (p : Path) → is_entered es k p ≡ true → is_entered (with_all ds es) k p ≡ true

@@ -140,7 +140,8 @@ pub data IsWrong : List Opening → (is_bare : Bool) → List Token → ScriptFa
       IsWrong os b (redirect l a ∷ ts) (in_line l reasons.Shape)
   -- an if inside 16 others
   too_deep : {os : List Opening} {b : Bool} {l : ℕ} {w : Word} {ts : List Token} →
-      spells w (codes "if") ≡ true → 16 ≤ (nest_in os).ifs → IsWrong os b (word l true w ∷ ts) (in_line l reasons.TooDeep)
+      spells w (codes "if") ≡ true → 16 ≤ (nest_in os).ifs →
+      IsWrong os b (word l true w ∷ ts) (in_line l reasons.TooDeep)
   -- behind if anything but `test`, `true` or `false`: the line of the if
   no_condition : {os : List Opening} {b : Bool} {l : ℕ} {w : Word} {ts : List Token} →
       spells w (codes "if") ≡ true → (nest_in os).ifs < 16 → (AtOneOf conditions ts → ⊥) → (AtOneOf loop_words ts → ⊥) →

@@ -395,7 +395,8 @@ const TREES: &[(&[u8], &str)] = &[
     // In single quotes a name stands for itself, and words of a loop are words like others behind a name.
     (
         b"echo for '$x' done",
-        "[Simple(1, Write(Echo([Literal([102, 111, 114]), Mixed([Lit([36, 120])]), Literal([100, 111, 110, 101])]), None))]",
+        "[Simple(1, Write(Echo([Literal([102, 111, 114]), Mixed([Lit([36, 120])]), \
+        Literal([100, 111, 110, 101])]), None))]",
     ),
 ];
 

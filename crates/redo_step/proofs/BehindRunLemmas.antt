@@ -37,7 +37,7 @@ module _ (setting : Setting) (ask : Ask) where
       beginning-trans s.entries t.entries (end_state (changed setting ask line (Ok ps) s)).entries (entries-begin s.entries kinds.Change ps)
       (waited-begins line ps (lacking setting ask [] ps) t)
 
-  created-begins : (r : Result (List Path) End) (s : State) → IsBeginning s.entries (end_state (created r s)).entries
+  pub created-begins : (r : Result (List Path) End) (s : State) → IsBeginning s.entries (end_state (created r s)).entries
   created-begins (Err e) s = beginning-refl s.entries
   created-begins (Ok ps) s = entries-begin s.entries kinds.Create ps
 
@@ -60,7 +60,7 @@ module _ (setting : Setting) (ask : Ask) where
   command-begins line always_false s = beginning-refl s.entries
   command-begins line (exit n) s = beginning-refl s.entries
 
-then-begins : (es : List Dep) (r : Run) (f : State → Run) → IsBeginning es (end_state r).entries → ((t : State) → IsBeginning t.entries (end_state (f t)).entries) →
+pub then-begins : (es : List Dep) (r : Run) (f : State → Run) → IsBeginning es (end_state r).entries → ((t : State) → IsBeginning t.entries (end_state (f t)).entries) →
     IsBeginning es (end_state (then_run r f)).entries
 then-begins es (goes t) f x k = beginning-trans es t.entries (end_state (f t)).entries x (k t)
 then-begins es (ends e t) f x k = x
@@ -71,7 +71,7 @@ chosen-begins (Ok true) f g s x y = x
 chosen-begins (Ok false) f g s x y = y
 chosen-begins (Err e) f g s x y = beginning-refl s.entries
 
-turns-begins : (turn : List ℕ → State → Run) → ((value : List ℕ) (s : State) → IsBeginning s.entries (end_state (turn value s)).entries) → (values : List (List ℕ)) (s : State) →
+pub turns-begins : (turn : List ℕ → State → Run) → ((value : List ℕ) (s : State) → IsBeginning s.entries (end_state (turn value s)).entries) → (values : List (List ℕ)) (s : State) →
     IsBeginning s.entries (end_state (turns turn values s)).entries
 turns-begins turn k [] s = beginning-refl s.entries
 turns-begins turn k (value ∷ values) s = then-begins s.entries (turn value s) (turns turn values) (k value s) (turns-begins turn k values)

@@ -19,4 +19,14 @@ pub mod FormatLemmas
 pub mod WriteLemmas
 pub mod LawfulScriptLemmas
 pub mod BehindRunLemmas
+pub mod AlikeLemmas
+pub mod MetLemmas
+pub mod FollowedLemmas
+pub mod AgreeingLemmas
+pub mod SameRuleLemmas
+pub mod CandidateLemmas
+pub mod TopDirectoryLemmas
+pub mod RecordLemmas
+pub mod DoFileLemmas
+pub mod AgreeingExamples
 pub mod Public

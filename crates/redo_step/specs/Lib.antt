@@ -14,6 +14,7 @@ pub mod Parsed
 pub mod Place
 pub mod Reach
 pub mod Begins
+pub mod Agreeing
 pub mod JobView
 pub mod Job
 pub mod inside

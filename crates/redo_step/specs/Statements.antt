@@ -66,7 +66,8 @@ unfoldable pub run : Setting → Ask → Script → State → Run
 run setting ask finish s = goes s
 run setting ask (simple line c rest) s = then_run (command_run setting ask line c s) (run setting ask rest)
 run setting ask (choice line c first second rest) s =
-    then_run (chosen (condition_result setting ask line c s) (run setting ask first) (run setting ask second) s) (run setting ask rest)
+    then_run (chosen (condition_result setting ask line c s) (run setting ask first) (run setting ask second) s)
+    (run setting ask rest)
 run setting ask (loop line name ws body rest) s =
     then_run (looped (texts_of setting line ws) (λ value. run (with_value setting name value) ask body) s)
     (run setting ask rest)

@@ -28,7 +28,10 @@ impl Scene<'_> {
         command: &Command,
         effects: &mut Effects,
     ) -> Result<(), Halt>
-        ensures { Passes (scene_setting self.now) line (command_of command.now) result (command_run (scene_setting self.now) (A.ask answers.now) line (command_of command.now) (state_of effects.old)) (state_of effects.new) }
+        ensures { Passes (scene_setting self.now) line (command_of command.now) result
+            (command_run (scene_setting self.now) (A.ask answers.now) line (command_of command.now)
+            (state_of effects.old))
+            (state_of effects.new) }
     {
         match command {
             Command::Write(writer, redirection) => {
@@ -58,7 +61,10 @@ impl Scene<'_> {
         words: &[Word],
         effects: &mut Effects,
     ) -> Result<(), Halt>
-        ensures { Passes (scene_setting self.now) line (change (words_of words.now)) result (changed (scene_setting self.now) (A.ask answers.now) line (operands_of (scene_setting self.now) line (words_of words.now)) (state_of effects.old)) (state_of effects.new) }
+        ensures { Passes (scene_setting self.now) line (change (words_of words.now)) result
+            (changed (scene_setting self.now) (A.ask answers.now) line
+            (operands_of (scene_setting self.now) line (words_of words.now)) (state_of effects.old))
+            (state_of effects.new) }
     {
         let paths = self.operands(line, words)?;
         declare(&mut effects.deps, DepKind::Change, &paths)?;
@@ -68,7 +74,9 @@ impl Scene<'_> {
 
     /// redo-ifcreate(1): declares these words' paths, none of which may be there.
     fn create(&self, line: u64, words: &[Word], effects: &mut Effects) -> Result<(), Halt>
-        ensures { Runs result (created (free_operands (scene_setting self.now) line (words_of words.now)) (state_of effects.old)) (state_of effects.new) }
+        ensures { Runs result
+            (created (free_operands (scene_setting self.now) line (words_of words.now)) (state_of effects.old))
+            (state_of effects.new) }
     {
         let paths = self.operands(line, words)?;
         self.check_free(line, &paths)?;
@@ -84,7 +92,8 @@ impl Scene<'_> {
         test: &Test,
         declared: &Deps,
     ) -> Result<bool, Halt>
-        ensures { Gives (λ holds. holds) result (tested_in (scene_setting self.now) (A.ask answers.now) declared.now line (test_of test.now)) }
+        ensures { Gives (λ holds. holds) result
+            (tested_in (scene_setting self.now) (A.ask answers.now) declared.now line (test_of test.now)) }
     {
         match test {
             Test::IsFile(word) => {
@@ -112,7 +121,9 @@ impl Scene<'_> {
         condition: &Condition,
         effects: &Effects,
     ) -> Result<bool, Halt>
-        ensures { Gives (λ holds. holds) result (condition_result (scene_setting self.now) (A.ask answers.now) line (condition_of condition.now) (state_of effects.now)) }
+        ensures { Gives (λ holds. holds) result
+            (condition_result (scene_setting self.now) (A.ask answers.now) line (condition_of condition.now)
+            (state_of effects.now)) }
     {
         match condition {
             Condition::Test(test) => self.tested(answers, line, test, &effects.deps),

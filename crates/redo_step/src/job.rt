@@ -70,8 +70,11 @@ impl Task {
         place: &Place,
         kept: Option<Waiting>,
     ) -> Result<RunEnd, AllocError>
-        requires { IsKept (stands_at place.now (task_setting self.now) (script_of stmts.now)) (state_of effects.old) kept }
-        ensures { IfOk result (λ progress. Comes (task_setting self.now) (A.ask answers.now) (script_of stmts.now) (left_at place.now (task_setting self.now) (script_of stmts.now)) (all_of (task_setting self.now) finish) (state_of effects.old) progress (state_of effects.new)) }
+        requires { IsKept (stands_at place.now (task_setting self.now) (script_of stmts.now)) (state_of effects.old)
+            kept }
+        ensures { IfOk result (λ progress. Comes (task_setting self.now) (A.ask answers.now) (script_of stmts.now)
+            (left_at place.now (task_setting self.now) (script_of stmts.now)) (all_of (task_setting self.now) finish)
+            (state_of effects.old) progress (state_of effects.new)) }
     {
         resume(&self.scene(), answers, effects, stmts, place, kept)
     }
@@ -109,13 +112,25 @@ impl Model for Job {
 
     ghost coded = { Prim.hlevel (codes, stmts.the_row.coded, places.the_row.coded) };
 
-    ghost view = { λ j. let c = j.course.value in record { tree = arc_value c.task.tree; target = c.task.target; do_file = c.task.rule.do_file; missing = c.task.rule.missing; arguments = arguments_view c.task.rule.args; limits = c.task.limits; parsed = arc_value c.task.parsed; place = c.place; state = state_of c.effects; turn = c.turn } };
+    ghost view = { λ j. let c = j.course.value in record {
+      tree = arc_value c.task.tree;
+      target = c.task.target;
+      do_file = c.task.rule.do_file;
+      missing = c.task.rule.missing;
+      arguments = arguments_view c.task.rule.args;
+      limits = c.task.limits;
+      parsed = arc_value c.task.parsed;
+      place = c.place;
+      state = state_of c.effects;
+      turn = c.turn;
+    } };
 
     ghost use Rattle.redo_step.specs.Parsed.{parsed_of};
     ghost use Rattle.redo_step.specs.inside.Scene.{task_setting};
     ghost use Rattle.redo_step.specs.inside.Kept.{IsKeptIn};
 
-    ghost invariant = { λ j. let c = j.course.value in IsKeptIn (task_setting c.task) (parsed_of (arc_value c.task.parsed)) c.place (state_of c.effects) c.kept };
+    ghost invariant = { λ j. let c = j.course.value in
+        IsKeptIn (task_setting c.task) (parsed_of (arc_value c.task.parsed)) c.place (state_of c.effects) c.kept };
 }
 
 /// What became of a target whose script ended, with its record.
@@ -240,7 +255,8 @@ impl Job {
 
 /// A target whose script can't be read.
 fn refused(course: Box<Course>, fault: ScriptFault) -> Result<Step, AllocError>
-    ensures { IfOk result (λ step. IsRefused (search_deps course.value.task.rule.missing course.value.task.rule.do_file) fault step) }
+    ensures { IfOk result (λ step.
+        IsRefused (search_deps course.value.task.rule.missing course.value.task.rule.do_file) fault step) }
 {
     let Task { alloc, rule, .. } = Box::into_inner(course).task;
     Ok(Step::Ended(Done {
@@ -251,7 +267,9 @@ fn refused(course: Box<Course>, fault: ScriptFault) -> Result<Step, AllocError>
 
 /// What an ended script made of its target.
 fn ended(course: Box<Course>, ending: Ending) -> Result<Step, AllocError>
-    ensures { IfOk result (λ step. IsEnded (search_deps course.value.task.rule.missing course.value.task.rule.do_file) (ends (end_of ending) (state_of course.value.effects)) step) }
+    ensures { IfOk result (λ step.
+        IsEnded (search_deps course.value.task.rule.missing course.value.task.rule.do_file)
+        (ends (end_of ending) (state_of course.value.effects)) step) }
 {
     let Course { task, effects, .. } = Box::into_inner(course);
     let Task { alloc, rule, .. } = task;

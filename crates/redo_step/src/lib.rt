@@ -36,7 +36,10 @@ mod writing;
 
 pub use answers::Answers;
 pub use job::{Done, Job, Step};
-pub use laws::{more_answers, progress_is_lawful};
+pub use laws::{
+    agreeing_records, agreeing_runs, followed_records, more_answers, next_operand,
+    progress_is_lawful, same_rules, what_was_built_is_met,
+};
 pub use limits::Limits;
 pub use parsed::Parsed;
 pub use refusal::Refusal;

@@ -32,7 +32,8 @@ impl Limits {
 
     /// Limits from 1 up to 65,536 targets and a gibibyte; none for other numbers.
     pub fn new(targets: u32, file_bytes: u32) -> Option<Limits>
-        ensures { SomeIff result (AreLimits targets file_bytes) (record { targets = targets; file_bytes = file_bytes }) }
+        ensures { SomeIff result (AreLimits targets file_bytes)
+            (record { targets = targets; file_bytes = file_bytes }) }
     {
         if targets < 1 || targets > MOST_TARGETS || file_bytes < 1 || file_bytes > MOST_BYTES {
             return None;

@@ -70,7 +70,9 @@ fn run_from<A: Answers>(
     stmts: &[Stmt],
     first: usize,
 ) -> Result<RunEnd, AllocError>
-    ensures { IfOk result (λ progress. Comes (scene_setting scene.now) (A.ask answers.now) (script_of stmts.now) (all_of (scene_setting scene.now) (skip first (script_of stmts.now))) (all_of (scene_setting scene.now) finish) (state_of effects.old) progress (state_of effects.new)) }
+    ensures { IfOk result (λ progress. Comes (scene_setting scene.now) (A.ask answers.now) (script_of stmts.now)
+        (all_of (scene_setting scene.now) (skip first (script_of stmts.now))) (all_of (scene_setting scene.now) finish)
+        (state_of effects.old) progress (state_of effects.new)) }
 {
     for index in first..stmts.len() {
         match run_stmt(scene, answers, effects, &stmts[index], index)? {
@@ -90,7 +92,8 @@ fn run_stmt<A: Answers>(
     stmt: &Stmt,
     index: usize,
 ) -> Result<RunEnd, AllocError>
-    ensures { IfOk result (λ progress. IsPassed (scene_setting scene.now) (A.ask answers.now) stmt.now index (state_of effects.old) progress (state_of effects.new)) }
+    ensures { IfOk result (λ progress. IsPassed (scene_setting scene.now) (A.ask answers.now) stmt.now index
+        (state_of effects.old) progress (state_of effects.new)) }
 {
     match stmt {
         Stmt::Simple(line, command) => match scene.command(answers, *line, command, effects) {
@@ -134,7 +137,8 @@ fn run_turns<A: Answers>(
     turns: &Turns,
     first: usize,
 ) -> Result<RunEnd, AllocError>
-    ensures { IfOk result (λ progress. AreRun (scene_setting scene.now) (A.ask answers.now) turns.now first (state_of effects.old) progress (state_of effects.new)) }
+    ensures { IfOk result (λ progress. AreRun (scene_setting scene.now) (A.ask answers.now) turns.now first
+        (state_of effects.old) progress (state_of effects.new)) }
 {
     for turn in first..turns.values.as_slice().len() {
         let inner = turns.scene(scene, turn)?;
@@ -156,7 +160,10 @@ fn run_behind<A: Answers>(
     first: usize,
 ) -> Result<RunEnd, AllocError>
     requires { HasTurns stmts.now turns.now.index turns.now }
-    ensures { IfOk result (λ progress. Comes (scene_setting scene.now) (A.ask answers.now) (script_of stmts.now) (and_then (turns_from (scene_setting scene.now) turns.now first) (all_of (scene_setting scene.now) (skip (turns.now.index + 1) (script_of stmts.now)))) (all_of (scene_setting scene.now) finish) (state_of effects.old) progress (state_of effects.new)) }
+    ensures { IfOk result (λ progress. Comes (scene_setting scene.now) (A.ask answers.now) (script_of stmts.now)
+        (and_then (turns_from (scene_setting scene.now) turns.now first)
+        (all_of (scene_setting scene.now) (skip (turns.now.index + 1) (script_of stmts.now))))
+        (all_of (scene_setting scene.now) finish) (state_of effects.old) progress (state_of effects.new)) }
 {
     match run_turns(scene, answers, effects, turns, first)? {
         RunEnd::Finished => run_from(scene, answers, effects, stmts, turns.index + 1),
@@ -173,8 +180,11 @@ fn resume_before<A: Answers>(
     first: usize,
     kept: Option<Waiting>,
 ) -> Result<RunEnd, AllocError>
-    requires { IsKept (record { setting = scene_setting scene.now; script = skip first (script_of stmts.now) }) (state_of effects.old) kept }
-    ensures { IfOk result (λ progress. Comes (scene_setting scene.now) (A.ask answers.now) (script_of stmts.now) (all_of (scene_setting scene.now) (skip first (script_of stmts.now))) (all_of (scene_setting scene.now) finish) (state_of effects.old) progress (state_of effects.new)) }
+    requires { IsKept (record { setting = scene_setting scene.now; script = skip first (script_of stmts.now) })
+        (state_of effects.old) kept }
+    ensures { IfOk result (λ progress. Comes (scene_setting scene.now) (A.ask answers.now) (script_of stmts.now)
+        (all_of (scene_setting scene.now) (skip first (script_of stmts.now))) (all_of (scene_setting scene.now) finish)
+        (state_of effects.old) progress (state_of effects.new)) }
 {
     let Some(waiting) = kept else {
         return run_from(scene, answers, effects, stmts, first);
@@ -194,8 +204,11 @@ pub(crate) fn resume<A: Answers>(
     place: &Place,
     kept: Option<Waiting>,
 ) -> Result<RunEnd, AllocError>
-    requires { IsKept (stands_at place.now (scene_setting scene.now) (script_of stmts.now)) (state_of effects.old) kept }
-    ensures { IfOk result (λ progress. Comes (scene_setting scene.now) (A.ask answers.now) (script_of stmts.now) (left_at place.now (scene_setting scene.now) (script_of stmts.now)) (all_of (scene_setting scene.now) finish) (state_of effects.old) progress (state_of effects.new)) }
+    requires { IsKept (stands_at place.now (scene_setting scene.now) (script_of stmts.now)) (state_of effects.old)
+        kept }
+    ensures { IfOk result (λ progress. Comes (scene_setting scene.now) (A.ask answers.now) (script_of stmts.now)
+        (left_at place.now (scene_setting scene.now) (script_of stmts.now)) (all_of (scene_setting scene.now) finish)
+        (state_of effects.old) progress (state_of effects.new)) }
 {
     match place {
         Place::Before(first) => resume_before(scene, answers, effects, stmts, *first, kept),

@@ -20,7 +20,8 @@ impl Scene<'_> {
         declared: &Deps,
         text: &[u8],
     ) -> Result<Option<&'s [u8]>, Halt>
-        ensures { Gives option_copied result (file_of (scene_setting self.now) (A.ask answers.now) declared.now line text.now) }
+        ensures { Gives option_copied result
+            (file_of (scene_setting self.now) (A.ask answers.now) declared.now line text.now) }
     {
         let change = Dep {
             kind: DepKind::Change,

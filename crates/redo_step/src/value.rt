@@ -61,7 +61,8 @@ fn part_value<'a>(
     bound: &'a [Binding],
     part: &'a Part,
 ) -> Result<Option<Text<'a>>, AllocError>
-    ensures { IfOk result (λ value. value ≡ added (value_in (arguments_view args.now)) (value_bound bound.now) part.now) }
+    ensures { IfOk result (λ value.
+        value ≡ added (value_in (arguments_view args.now)) (value_bound bound.now) part.now) }
 {
     match part {
         Part::Lit(bytes) => Ok(Some(Text::lent(bytes.as_slice()))),

@@ -30,7 +30,10 @@ impl Waiting {
     /// Goes on once all the targets have answers, and none of them failed.
     pub(crate) fn go_on<A: Answers>(self, alloc: Global, answers: &A) -> Result<(), Halt>
         ensures { (s : State) →
-            GoesOn self result (waited_on (A.ask answers.now) self.line self.targets.items (unanswered (A.ask answers.now) [] self.targets.items) s) s }
+            GoesOn self result
+            (waited_on (A.ask answers.now) self.line self.targets.items
+            (unanswered (A.ask answers.now) [] self.targets.items) s)
+            s }
     {
         if are_made(answers, &self.targets) {
             return Ok(());

@@ -71,7 +71,8 @@ impl Scene<'_> {
 
     /// Whether a redirection, if there is one, appends to `$3`.
     fn goal(&self, line: u64, redirection: &Option<Redirection>) -> Result<Option<bool>, Halt>
-        ensures { Gives (λ goal. goal) result (goal_of (scene_setting self.now) line (option_map redirection_of redirection.now)) }
+        ensures { Gives (λ goal. goal) result
+            (goal_of (scene_setting self.now) line (option_map redirection_of redirection.now)) }
     {
         let Some(redirection) = redirection else {
             return Ok(None);
@@ -96,7 +97,8 @@ impl Scene<'_> {
         declared: &Deps,
         sink: &mut Sink,
     ) -> Result<(), Halt>
-        ensures { Fills result (contents_of (scene_setting self.now) (A.ask answers.now) declared.now line texts.now) sink.old sink.new }
+        ensures { Fills result (contents_of (scene_setting self.now) (A.ask answers.now) declared.now line texts.now)
+            sink.old sink.new }
     {
         for text in texts {
             self.cat_one(answers, line, text.bytes(), declared, sink)?;
@@ -113,7 +115,8 @@ impl Scene<'_> {
         declared: &Deps,
         sink: &mut Sink,
     ) -> Result<(), Halt>
-        ensures { Fills result (content_of (scene_setting self.now) (A.ask answers.now) declared.now line text.now) sink.old sink.new }
+        ensures { Fills result (content_of (scene_setting self.now) (A.ask answers.now) declared.now line text.now)
+            sink.old sink.new }
     {
         match self.file(answers, line, declared, text)? {
             Some(bytes) => {
@@ -133,7 +136,9 @@ impl Scene<'_> {
         declared: &Deps,
         sink: &mut Sink,
     ) -> Result<(), Halt>
-        ensures { Fills result (bytes_of (scene_setting self.now) (A.ask answers.now) declared.now line (writing_of writing.now)) sink.old sink.new }
+        ensures { Fills result
+            (bytes_of (scene_setting self.now) (A.ask answers.now) declared.now line (writing_of writing.now))
+            sink.old sink.new }
     {
         match writing {
             Writing::Echo(texts) => {
@@ -154,7 +159,9 @@ impl Scene<'_> {
         declared: &Deps,
         bytes: Vec<u8>,
     ) -> (Vec<u8>, Result<(), Halt>)
-        ensures { Appends result.1 (appended (scene_setting self.now) (A.ask answers.now) declared.now line (writing_of writing.now) bytes.items) bytes.items result.0.items }
+        ensures { Appends result.1
+            (appended (scene_setting self.now) (A.ask answers.now) declared.now line (writing_of writing.now)
+            bytes.items) bytes.items result.0.items }
     {
         let length = bytes.len();
         let mut sink = Sink::new(bytes, self.limit());
@@ -182,7 +189,10 @@ impl Scene<'_> {
         writing: &Writing,
         effects: &mut Effects,
     ) -> Result<(), Halt>
-        ensures { Runs result (put_bytes (scene_setting self.now) (A.ask answers.now) line (writing_of writing.now) None (state_of effects.old)) (state_of effects.new) }
+        ensures { Runs result
+            (put_bytes (scene_setting self.now) (A.ask answers.now) line (writing_of writing.now) None
+            (state_of effects.old))
+            (state_of effects.new) }
     {
         let bytes = mem::replace(&mut effects.output, Vec::new(self.alloc));
         let (bytes, end) = self.append(answers, line, writing, &effects.deps, bytes);
@@ -199,7 +209,10 @@ impl Scene<'_> {
         appends: bool,
         effects: &mut Effects,
     ) -> Result<(), Halt>
-        ensures { Runs result (put_bytes (scene_setting self.now) (A.ask answers.now) line (writing_of writing.now) (Some appends) (state_of effects.old)) (state_of effects.new) }
+        ensures { Runs result
+            (put_bytes (scene_setting self.now) (A.ask answers.now) line (writing_of writing.now) (Some appends)
+            (state_of effects.old))
+            (state_of effects.new) }
     {
         if appends {
             if let Some(bytes) = effects.third.take() {
@@ -225,7 +238,12 @@ impl Scene<'_> {
         redirection: &Option<Redirection>,
         effects: &mut Effects,
     ) -> Result<(), Halt>
-        ensures { Runs result (with_state (written (scene_setting self.now) (A.ask answers.now) line (writer_of writer.now) (option_map redirection_of redirection.now) (state_of effects.old)) (state_of effects.old)) (state_of effects.new) }
+        ensures { Runs result
+            (with_state
+            (written (scene_setting self.now) (A.ask answers.now) line (writer_of writer.now)
+            (option_map redirection_of redirection.now) (state_of effects.old))
+            (state_of effects.old))
+            (state_of effects.new) }
     {
         let writing = self.writing(line, writer)?;
         match self.goal(line, redirection)? {

@@ -150,8 +150,8 @@ impl<'a> Candidates<'a> {
     }
 }
 
-/// How many candidates there are in a directory by the suffixes of this end of a name, which has so many dots. Where the
-/// end itself isn't too long, no suffix of it is.
+/// How many candidates there are in a directory by the suffixes of this end of a name, which has so many dots. Where
+/// the end itself isn't too long, no suffix of it is.
 fn count_by(dir: &[u8], end: &[u8], dots: usize) -> usize
     requires path { IsPath dir.now }
     requires part { IsPart end.now }

@@ -14,7 +14,8 @@ use Rattle.redo_step.specs.Place.{Standing, stands_at}
 use Rattle.redo_step.specs.inside.Waiting.{targets_in}
 
 -- It waits for the operands that this command's words name, and they are declared.
-pub record HasOperands (setting : Setting) (line : ℕ) (command : Command) (state : State) (waiting : Waiting) : Type 0 where
+pub record HasOperands (setting : Setting) (line : ℕ) (command : Command) (state : State) (waiting : Waiting) :
+    Type 0 where
   pub words : List Word
   pub operands : List Path
   pub same_line : waiting.line ≡ line

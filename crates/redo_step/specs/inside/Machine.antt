@@ -112,7 +112,8 @@ IsInTurn (progress.Stopped ps place kept) index values turn outer =
     (p : _) × (outer ≡ progress.Stopped ps (InTurn' index values turn p place) kept)
 
 -- Running a statement, wherever it stands at this number.
-pub record IsPassed (setting : Setting) (ask : Ask) (stmt : Stmt) (index : ℕ) (old : State) (progress : RunEnd) (new : State) : Type 0 where
+pub record IsPassed (setting : Setting) (ask : Ask) (stmt : Stmt) (index : ℕ) (old : State) (progress : RunEnd)
+    (new : State) : Type 0 where
   pub comes : (whole rest : Script) → skip index whole ≡ before stmt rest →
       Comes setting ask whole (all_of setting (before stmt rest)) (all_of setting rest) old progress new
 
@@ -122,11 +123,12 @@ turns_from setting turns first =
     turns_of setting turns.name.now (script_of turns.body.now) (drop first turns.values.now)
 
 -- Running the turns of a loop from this one on, wherever the loop stands at its number.
-pub record AreRun (setting : Setting) (ask : Ask) (turns : Turns) (first : ℕ) (old : State) (progress : RunEnd) (new : State) : Type 0 where
+pub record AreRun (setting : Setting) (ask : Ask) (turns : Turns) (first : ℕ) (old : State) (progress : RunEnd)
+    (new : State) : Type 0 where
   pub comes : (whole rest : Script) (line : ℕ) (words : List Word) →
       skip turns.index whole ≡ loop line turns.name.now words (script_of turns.body.now) rest →
-      Comes setting ask whole (and_then (turns_from setting turns first) (all_of setting rest)) (all_of setting rest) old
-      progress new
+      Comes setting ask whole (and_then (turns_from setting turns first) (all_of setting rest)) (all_of setting rest)
+      old progress new
 
 -- the setting of a turn: the loop's name has the value of this number
 pub record IsTurn (setting : Setting) (turns : Turns) (turn : ℕ) (inner : Setting) : Type 0 where

@@ -48,7 +48,8 @@ const ROWS: &[Row] = &[
         b"a/x.y.c",
         b"default.c.do",
         b"echo $1 $2 > $3\n",
-        b"create a/x.y.c.do\ncreate a/default.y.c.do\ncreate a/default.c.do\ncreate a/default.do\ncreate default.y.c.do\nchange default.c.do\n",
+        b"create a/x.y.c.do\ncreate a/default.y.c.do\ncreate a/default.c.do\n\
+          create a/default.do\ncreate default.y.c.do\nchange default.c.do\n",
     ),
     (b"t", b"t.do", b"cat src\n", b"change t.do\n"),
     (
@@ -106,7 +107,8 @@ const ROWS: &[Row] = &[
         b"t",
         b"t.do",
         b"redo-ifcreate c e f g h i j k\nredo-always\nredo-ifcreate l\nredo-always\n",
-        b"change t.do\ncreate c\ncreate e\ncreate f\ncreate g\ncreate h\ncreate i\ncreate j\ncreate k\nalways\ncreate l\n",
+        b"change t.do\ncreate c\ncreate e\ncreate f\ncreate g\ncreate h\n\
+          create i\ncreate j\ncreate k\nalways\ncreate l\n",
     ),
     // Only where it is run.
     (
@@ -187,7 +189,11 @@ const REFUSED: &[(&[u8], &[u8])] = &[
     (b"echo a\necho \0\n", b"script 2 nul"),
     (b"true\nls\n", b"script 2 unknowncommand"),
     (
-        b"if true; then if true; then if true; then if true; then\nif true; then if true; then if true; then if true; then\nif true; then if true; then if true; then if true; then\nif true; then if true; then if true; then if true; then\nif true; then\n",
+        b"if true; then if true; then if true; then if true; then\n\
+          if true; then if true; then if true; then if true; then\n\
+          if true; then if true; then if true; then if true; then\n\
+          if true; then if true; then if true; then if true; then\n\
+          if true; then\n",
         b"script 5 toodeep",
     ),
     (b"echo a 2> $3\n", b"script 1 unsupported"),
