@@ -2,18 +2,20 @@
 use Rattle.std.proofs.Common.{◌≡◌, ℕ, suc, ◌+◌, ◌*◌, ◌-◌, ◌<◌, ◌≤◌, true, false, cond, inl, inr, List, [], ◌∷◌, ◌++◌}
 use Rattle.std.proofs.Common.{length, length-append, filter, Option, Some, None, is_some, slice_get, option_and_then}
 use Rattle.std.proofs.Common.{refl, sym, ap, subst, ◌∙◌, arith, bytes_eq}
-use Rattle.std.proofs.lemmas.Bool.{cases_Bool}
+use Rattle.std.proofs.lemmas.Bool.{cases_Bool, and_parts}
 use Rattle.redo_record.specs.Paths.{is_among}
 use Rattle.redo_build.specs.Rules.{Rules, AreLawful, operands}
 use Rattle.redo_build.specs.Outcomes.{requested_targets}
 use Rattle.redo_build.specs.Schedule.{Entry, State, paths_of, entry_of, new_entry, entered, put, sent_out, taken}
 use Rattle.redo_build.specs.Schedule.{advanced, moved_on, handed_in, happens, out_count, opening, IsOutAt}
-use Rattle.redo_build.specs.Schedule.Event.{Take, Hand_in}
+use Rattle.redo_build.specs.Schedule.{is_able_to_go_on, IsDueAt}
+use Rattle.redo_build.specs.Schedule.Event.{Take, Hand_in, Look}
+use Rattle.redo_build.specs.Schedule.Phase.{Check, Script}
 use Rattle.redo_build.specs.TakesLeft.{turns_left, turns_of, takes_left}
 use Rattle.redo_build.proofs.SeenLemmas.{paths_of-put, entry_of-path, entry_of-among, entry_of-put_same}
 use Rattle.redo_build.proofs.SeenLemmas.{entry_of-entered_old, entered-longer}
 use Rattle.redo_build.proofs.QueueLemmas.{slice_get-among, slice_get-below}
-use Rattle.redo_build.proofs.SoundLemmas.{IsSound}
+use Rattle.redo_build.proofs.SoundLemmas.{IsSound, due-parts, is_able_to_go_on-parts}
 use Rattle.redo_build.proofs.TurnBoundLemmas.{turn-below}
 
 -- a number for each entry, added up
@@ -124,7 +126,7 @@ module _ (r : Rules) (lawful : AreLawful r) (request : List (List ℕ)) (s : Sta
     at : entry_of s.entries path ≡ Some entry
     open_yet : entry.outcome ≡ None
     is_in : entry.is_out ≡ false
-    turn : entry.turn < length s.entries
+    turn : entry.looks + entry.turn < length s.entries
 
   ready-there : (which : ℕ) → which < length s.ready → IsReadyThere which
   ready-there which below =
@@ -182,8 +184,9 @@ module _ (r : Rules) (lawful : AreLawful r) (request : List (List ℕ)) (s : Sta
       let there = ready-there which below in
       let new = sent_out there.entry in
       let moved = total-put (turns_left limit) s.entries new there.entry (at-path there.path there.entry there.at) in
-      let before : turns_left limit there.entry ≡ limit - (there.entry.turn + 0) = rw (there.open_yet, there.is_in) refl in
-      let after : turns_left limit new ≡ limit - (there.entry.turn + 1) = rw there.open_yet refl in
+      let before : turns_left limit there.entry ≡ limit - (there.entry.looks + there.entry.turn + 0) =
+      rw (there.open_yet, there.is_in) refl in
+      let after : turns_left limit new ≡ limit - (there.entry.looks + there.entry.turn + 1) = rw there.open_yet refl in
       let len = length-put s.entries new in
       let rest = ap (λ n. limit * (limit - n)) len in
       let whole = ap (left limit) (taken-is which there) in
@@ -201,7 +204,7 @@ module _ (r : Rules) (lawful : AreLawful r) (request : List (List ℕ)) (s : Sta
     was_out : old.is_out ≡ true
     was_open : old.outcome ≡ None
     is_in : new.is_out ≡ false
-    later : (new.outcome ≡ None) → new.turn ≡ old.turn + 1
+    later : (new.outcome ≡ None) → new.looks + new.turn ≡ old.looks + old.turn + 1
 
   handed-there : (target : List ℕ) (turn : ℕ) → IsOutAt s target turn → IsHandedThere target turn
   handed-there target turn out =
@@ -209,10 +212,11 @@ module _ (r : Rules) (lawful : AreLawful r) (request : List (List ℕ)) (s : Sta
       let fed = sound.queued.out_fed target e out.at out.is_out in
       let same : fed.0 ≡ e = let both : Some fed.0 ≡ Some e = sym fed.1 ∙ out.at in cc in
       let now = advanced r s.entries e in
-      let P : Option Entry → Type 0 = λ x. (handed_in r s x).entries ≡ put (entered r s.entries (operands r now.deps)) (moved_on e now) in
+      let P : Option Entry → Type 0 =
+      λ x. (handed_in r Script s x).entries ≡ put (entered r s.entries (operands r now.deps)) (moved_on Script e now) in
       record {
         es = entered r s.entries (operands r now.deps);
-        new = moved_on e now;
+        new = moved_on Script e now;
         old = e;
         entries = subst P (sym out.at) refl;
         more = operands r now.deps;
@@ -221,7 +225,7 @@ module _ (r : Rules) (lawful : AreLawful r) (request : List (List ℕ)) (s : Sta
         was_out = out.is_out;
         was_open = sym (ap (λ (x : Entry). x.outcome) same) ∙ fed.2;
         is_in = refl;
-        later = λ none. rw none refl;
+        later = λ none. rw none (omega arith);
       }
 
   -- one job fewer is out
@@ -242,8 +246,10 @@ module _ (r : Rules) (lawful : AreLawful r) (request : List (List ℕ)) (s : Sta
   hand_in-left target turn limit out few =
       let there = handed-there target turn out in
       let moved = total-put (turns_left limit) there.es there.new there.old there.at in
-      let before : turns_left limit there.old ≡ limit - (there.old.turn + 1) = rw (there.was_open, there.was_out) refl in
-      let after : turns_left limit there.new ≤ limit - (there.old.turn + 1) = elim (cases_Bool (is_some there.new.outcome)) [
+      let before : turns_left limit there.old ≡ limit - (there.old.looks + there.old.turn + 1) =
+      rw (there.was_open, there.was_out) refl in
+      let after : turns_left limit there.new ≤ limit - (there.old.looks + there.old.turn + 1) =
+      elim (cases_Bool (is_some there.new.outcome)) [
         | inl t ↦ rw t (omega arith)
         | inr f ↦ let later = there.later (none-from there.new.outcome f) in rw (f, there.is_in) (omega (arith, later))
       ] in
@@ -254,6 +260,90 @@ module _ (r : Rules) (lawful : AreLawful r) (request : List (List ℕ)) (s : Sta
       let rest = ap (λ n. limit * (limit - n)) len in
       let whole = ap (left limit) there.entries in
       omega (arith, moved, before, after, rest, whole, inside, from, turns-total limit there.es, turns-total limit (put there.es there.new))
+    where
+      none-from : {A : Type 0} (o : Option A) → is_some o ≡ false → o ≡ None
+      none-from None h = refl
+      none-from (Some x) h = cc
+
+  -- a look goes on with a check: an entry that is neither out nor decided is replaced
+  record IsLookedThere (target : List ℕ) : Type 0 where
+    es : List Entry
+    new : Entry
+    old : Entry
+    entries : (happens r s (Look target)).entries ≡ put es new
+    more : List (List ℕ)
+    from : es ≡ entered r s.entries more
+    at : entry_of es new.path ≡ Some old
+    was_in : old.is_out ≡ false
+    was_open : old.outcome ≡ None
+    is_in : new.is_out ≡ false
+    below : old.looks + old.turn < length s.entries
+    later : (new.outcome ≡ None) → new.looks + new.turn ≡ old.looks + old.turn + 1
+
+  looked-there : (target : List ℕ) → IsDueAt r s target → IsLookedThere target
+  looked-there target due =
+      let e = due.entry in
+      let parts = due-parts r lawful request s target e due.at due.due in
+      let inside = (is_able_to_go_on-parts r s e (and_parts (is_able_to_go_on r s e) _ due.due).0).2 in
+      let turn = turn-below r lawful request s.entries sound.standing target e due.at parts.0.0 parts.0.1 in
+      let now = advanced r s.entries e in
+      let P : Option Entry → Type 0 =
+      λ x. (handed_in r Check s x).entries ≡ put (entered r s.entries (operands r now.deps)) (moved_on Check e now) in
+      record {
+        es = entered r s.entries (operands r now.deps);
+        new = moved_on Check e now;
+        old = e;
+        entries = subst P (sym due.at) refl;
+        more = operands r now.deps;
+        from = refl;
+        at = entry_of-entered_old r s.entries (operands r now.deps) e.path e (at-path target e due.at);
+        was_in = inside;
+        was_open = parts.0.0;
+        is_in = refl;
+        below = omega (arith, turn, length-paths s.entries);
+        later = λ none. rw none (omega arith);
+      }
+
+  -- as many are out
+  pub look-out : (target : List ℕ) → IsDueAt r s target → out_count (happens r s (Look target)) ≡ out_count s
+  look-out target due =
+      let there = looked-there target due in
+      let moved = total-put one_out there.es there.new there.old there.at in
+      let before : one_out there.old ≡ 0 = rw there.was_in refl in
+      let after : one_out there.new ≡ 0 = rw there.is_in refl in
+      let same = ap (total one_out) there.from ∙ out-entered r s.entries there.more in
+      let counted = count-total (happens r s (Look target)).entries ∙ ap (total one_out) there.entries in
+      let old = count-total s.entries in
+      omega (arith, moved, before, after, same, counted, old)
+
+  -- and fewer looks may follow: so the board's own events come to an end
+  pub look-left : (target : List ℕ) (limit : ℕ) → IsDueAt r s target →
+      length (happens r s (Look target)).entries ≤ limit →
+      takes_left limit (happens r s (Look target)) < takes_left limit s
+  look-left target limit due few =
+      let there = looked-there target due in
+      let moved = total-put (turns_left limit) there.es there.new there.old there.at in
+      let before : turns_left limit there.old ≡ limit - (there.old.looks + there.old.turn + 0) =
+      rw (there.was_open, there.was_in) refl in
+      let len = length-put there.es there.new in
+      let size = ap length there.entries in
+      let grown = ap length there.from in
+      let longer = entered-longer r s.entries there.more in
+      let room : there.old.looks + there.old.turn < limit =
+      (let below = there.below in omega (arith, below, few, size, len, grown, longer)) in
+      let after : turns_left limit there.new < turns_left limit there.old =
+      elim (cases_Bool (is_some there.new.outcome)) [
+        | inl t ↦ rw t (omega (arith, before, room))
+        | inr f ↦
+            let later = there.later (none-from there.new.outcome f) in rw (f, there.is_in)
+            (omega (arith, later, before, room))
+      ] in
+      let inside = left-entered r limit s.entries there.more (omega (arith, few, size, len, grown)) in
+      let from = ap (left limit) there.from in
+      let rest = ap (λ n. limit * (limit - n)) len in
+      let whole = ap (left limit) there.entries in
+      let sums = turns-total limit (put there.es there.new) in
+      omega (arith, moved, after, rest, whole, inside, from, turns-total limit there.es, sums)
     where
       none-from : {A : Type 0} (o : Option A) → is_some o ≡ false → o ≡ None
       none-from None h = refl

@@ -1,7 +1,6 @@
 -- How often a pair is counted tells whether it was taken, and whether it stands twice.
-use Rattle.std.proofs.Common.{◌≡◌, ℕ, ◌≤◌, ◌+◌, ◌↔◌, Bool, true, inl, inr, List, [], ◌∷◌, cond, refl, ap, arith, bytes_eq}
+use Rattle.std.proofs.Common.{◌≡◌, ℕ, ◌≤◌, ◌+◌, Bool, true, inl, inr, List, [], ◌∷◌, cond, refl, ap, arith, bytes_eq}
 use Rattle.std.specs.Prelude.{nat_eq}
-use Rattle.std.specs.List.{count_by}
 use Rattle.std.proofs.lemmas.Bool.{cases_Bool, cases_lt, and_parts, and_from, eqb-true, eq-eqb}
 use Rattle.std.proofs.lemmas.List.Sums.{sum_by-cons}
 use Rattle.std.proofs.lemmas.Slice.Eq.{bytes_eq-Decides}

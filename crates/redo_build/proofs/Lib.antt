@@ -2,7 +2,10 @@ pub mod BegunLemmas
 pub mod CountLemmas
 pub mod CountedLemmas
 pub mod DepthLemmas
+pub mod DueLemmas
+pub mod Examples
 pub mod HandoverLemmas
+pub mod LookingLemmas
 pub mod OnceLemmas
 pub mod PathLemmas
 pub mod QueueLemmas
@@ -10,5 +13,7 @@ pub mod QuietLemmas
 pub mod SeenLemmas
 pub mod SoundLemmas
 pub mod StandingLemmas
+pub mod StartedLemmas
+pub mod StillLemmas
 pub mod TurnBoundLemmas
 pub mod TurnLemmas

@@ -1,17 +1,18 @@
 -- No target is taken twice at one turn.
 use Rattle.std.proofs.Common.{◌≡◌, ℕ, ◌<◌, ◌≤◌, true, ◌⊎◌, inl, inr, List, [], ◌∷◌, ◌++◌, Option, Some, None, is_some}
-use Rattle.std.proofs.Common.{option_and_then, refl, sym, ap, subst, ◌∙◌, arith, bytes_eq}
-use Rattle.std.proofs.lemmas.Bool.{cases_Bool, both_ways}
+use Rattle.std.proofs.Common.{option_and_then, refl, sym, ap, subst, ◌∙◌, arith, bytes_eq, false}
+use Rattle.std.proofs.lemmas.Bool.{cases_Bool, both_ways, and_parts}
 use Rattle.std.proofs.lemmas.Slice.Eq.{bytes_eq-Decides}
 use Rattle.redo_build.specs.Rules.{Rules, AreLawful, operands}
 use Rattle.redo_build.specs.Schedule.{Entry, State, Event, entry_of, entered, put, sent_out, taken, advanced, moved_on}
-use Rattle.redo_build.specs.Schedule.{handed_in, happens, IsOpen, AllOpen}
-use Rattle.redo_build.specs.Schedule.Event.{Take, Hand_in}
+use Rattle.redo_build.specs.Schedule.{handed_in, happens, IsOpen, AllOpen, is_able_to_go_on}
+use Rattle.redo_build.specs.Schedule.Event.{Take, Hand_in, Look}
+use Rattle.redo_build.specs.Schedule.Phase.{Check, Script}
 use Rattle.redo_build.specs.Takes.{place_of, takes, IsTaken, AreOnce}
 use Rattle.redo_build.proofs.SeenLemmas.{entry_of-path, entry_of-among, entry_of-entered_old, entry_of-put_same}
 use Rattle.redo_build.proofs.SeenLemmas.{entry_of-put_other}
 use Rattle.redo_build.proofs.QueueLemmas.{slice_get-among, slice_get-below}
-use Rattle.redo_build.proofs.SoundLemmas.{IsSound, happens-sound}
+use Rattle.redo_build.proofs.SoundLemmas.{IsSound, happens-sound, due-parts, is_able_to_go_on-parts}
 
 -- how an entry may change
 pub record Evolves (old new : Entry) : Type 0 where
@@ -41,14 +42,22 @@ pub at_path : (es : List Entry) (p : List ℕ) (e : Entry) → entry_of es p ≡
 at_path es p e h = let P : List ℕ → Type 0 = λ x. entry_of es x ≡ Some e in subst P (sym (entry_of-path es p e h)) h
 
 module _ (r : Rules) (lawful : AreLawful r) (request : List (List ℕ)) where
-  moved-evolves : (es : List Entry) (e : Entry) → e.outcome ≡ None → Evolves e (moved_on e (advanced r es e))
+  looked-evolves : (es : List Entry) (e : Entry) → e.outcome ≡ None → e.is_out ≡ false →
+      Evolves e (moved_on Check e (advanced r es e))
+  looked-evolves es e open' inside = record {
+    open_before = λ h. open';
+    no_earlier = omega arith;
+    out_or_later = λ h. absurd (both_ways _ inside h);
+  }
+
+  moved-evolves : (es : List Entry) (e : Entry) → e.outcome ≡ None → Evolves e (moved_on Script e (advanced r es e))
   moved-evolves es e open' = record {
     open_before = λ h. open';
     no_earlier = elim (cases_Bool (is_some (advanced r es e).outcome)) [ inl t ↦ rw t (omega arith) | inr f ↦ rw f (omega arith) ];
     out_or_later = λ h. inr (λ none. rw none (omega arith));
   }
 
-  happens-evolves : (s : State) (event : Event) → IsSound r request s → IsOpen s event → (p : List ℕ) (e : Entry) →
+  happens-evolves : (s : State) (event : Event) → IsSound r request s → IsOpen r s event → (p : List ℕ) (e : Entry) →
       entry_of s.entries p ≡ Some e → (f : Entry) × (entry_of (happens r s event).entries p ≡ Some f) × Evolves e f
   happens-evolves s (Take which) sound open' p e h =
       let at = slice_get-below s.ready which open' in
@@ -61,14 +70,29 @@ module _ (r : Rules) (lawful : AreLawful r) (request : List (List ℕ)) where
   happens-evolves s (Hand_in target turn) sound open' p e h =
       let fed = sound.queued.out_fed target open'.entry open'.at open'.is_out in
       let same : fed.0 ≡ open'.entry = let both : Some fed.0 ≡ Some open'.entry = sym fed.1 ∙ open'.at in cc in
-      let P : Option Entry → Type 0 = λ x. (f : Entry) × (entry_of (handed_in r s x).entries p ≡ Some f) × Evolves e f in
+      let P : Option Entry → Type 0 = λ x. (f : Entry) × (entry_of (handed_in r Script s x).entries p ≡ Some f) ×
+      Evolves e f in
       let new = operands r (advanced r s.entries open'.entry).deps in
-      subst P (sym open'.at) (put-evolves (entered r s.entries new) (moved_on open'.entry (advanced r s.entries open'.entry)) open'.entry
+      subst P (sym open'.at)
+      (put-evolves (entered r s.entries new) (moved_on Script open'.entry (advanced r s.entries open'.entry))
+      open'.entry
       (entry_of-entered_old r s.entries new open'.entry.path open'.entry (at_path s.entries target open'.entry open'.at))
       (moved-evolves s.entries open'.entry (sym (ap (λ (x : Entry). x.outcome) same) ∙ fed.2))
       p e (entry_of-entered_old r s.entries new p e h))
+  happens-evolves s (Look target) sound open' p e h =
+      let parts = due-parts r lawful request s target open'.entry open'.at open'.due in
+      let inside =
+      (is_able_to_go_on-parts r s open'.entry (and_parts (is_able_to_go_on r s open'.entry) _ open'.due).0).2 in
+      let P : Option Entry → Type 0 = λ x. (f : Entry) × (entry_of (handed_in r Check s x).entries p ≡ Some f) ×
+      Evolves e f in
+      let new = operands r (advanced r s.entries open'.entry).deps in
+      subst P (sym open'.at)
+      (put-evolves (entered r s.entries new) (moved_on Check open'.entry (advanced r s.entries open'.entry)) open'.entry
+      (entry_of-entered_old r s.entries new open'.entry.path open'.entry (at_path s.entries target open'.entry open'.at))
+      (looked-evolves s.entries open'.entry parts.0.0 inside)
+      p e (entry_of-entered_old r s.entries new p e h))
 
-  after-step : (event : Event) (events : List Event) (s : State) → IsSound r request s → IsOpen s event →
+  after-step : (event : Event) (events : List Event) (s : State) → IsSound r request s → IsOpen r s event →
       AllOpen r (happens r s event) events → (p : List ℕ) (turn : ℕ) → IsTaken (takes r events (happens r s event)) p turn →
       (e : Entry) → entry_of s.entries p ≡ Some e →
       ((f : Entry) → entry_of (happens r s event).entries p ≡ Some f → (f.outcome ≡ None) × (f.turn ≤ turn) × (f.is_out ≡ true → f.turn < turn)) →
@@ -113,6 +137,10 @@ module _ (r : Rules) (lawful : AreLawful r) (request : List (List ℕ)) where
   taken-later (Hand_in target at ∷ events) s sound open' p turn m e h =
       after-step (Hand_in target at) events s sound open'.0 open'.1 p turn m e h
       (taken-later events (happens r s (Hand_in target at)) (happens-sound r lawful request s (Hand_in target at) sound open'.0) open'.1 p turn m)
+  taken-later (Look target ∷ events) s sound open' p turn m e h =
+      after-step (Look target) events s sound open'.0 open'.1 p turn m e h
+      (taken-later events (happens r s (Look target)) (happens-sound r lawful request s (Look target) sound open'.0)
+      open'.1 p turn m)
 
   pub takes-once : (events : List Event) (s : State) → IsSound r request s → AllOpen r s events → AreOnce (takes r events s)
   takes-once [] s sound open' = tt
@@ -134,3 +162,6 @@ module _ (r : Rules) (lawful : AreLawful r) (request : List (List ℕ)) where
       ))
   takes-once (Hand_in target at ∷ events) s sound open' =
       takes-once events (happens r s (Hand_in target at)) (happens-sound r lawful request s (Hand_in target at) sound open'.0) open'.1
+  takes-once (Look target ∷ events) s sound open' =
+      takes-once events (happens r s (Look target)) (happens-sound r lawful request s (Look target) sound open'.0)
+      open'.1

@@ -1,24 +1,27 @@
 -- What a quiet board shows.
 use Rattle.std.proofs.Common.{◌≡◌, ℕ, zero, suc, ◌<◌, ◌≤◌, max, false, inl, inr, List, [], ◌∷◌, length, filter, Some}
-use Rattle.std.proofs.Common.{None, refl, sym, ap, subst, ◌∙◌, arith, bytes_eq}
-use Rattle.std.proofs.lemmas.Bool.{cases_Bool, cases_lt}
+use Rattle.std.proofs.Common.{None, refl, sym, ap, subst, ◌∙◌, arith, bytes_eq, true, is_none}
+use Rattle.std.proofs.lemmas.Bool.{cases_Bool, cases_lt, and_from, not_from_false, both_ways}
 use Rattle.redo_record.specs.Paths.{is_among, IsAmong}
 use Rattle.redo_record.specs.Progress.{Progress}
+use Rattle.redo_record.specs.declared.deps.Dep.{Dep}
+use Rattle.redo_record.specs.declared.outcome.Outcome.{Outcome}
 use Rattle.redo_build.specs.Rules.{Ask, Rules, AreLawful, Extends, operands, asked_under}
 use Rattle.redo_build.specs.Outcomes.{outcome_at, asked_at, needed_at, declared_of, IsTooMany}
 use Rattle.redo_build.specs.Schedule.{Entry, State, paths_of, entry_of, outcome_of, outcomes_of, only, IsQuiet}
+use Rattle.redo_build.specs.Schedule.{known_to, is_able_to_go_on, is_due, lacks_none}
+use Rattle.redo_build.specs.Looking.{NoneDue}
 use Rattle.redo_build.specs.Theorems.{IsPartOfBuild, ShowsBuild}
 use Rattle.redo_build.specs.inside.Turns.{deps_at_turn, CameTo}
+use Rattle.redo_build.specs.inside.Standing.{decided_count, rounds}
 use Rattle.redo_build.proofs.PathLemmas.{within-length, is_among-true}
 use Rattle.redo_build.proofs.DepthLemmas.{cases_Option, deeper, ended_stays, outcome_at-step, outcome_at-zero}
 use Rattle.redo_build.proofs.DepthLemmas.{asked_at-grows, reached-within, reached-more, reached-distinct, settled}
 use Rattle.redo_build.proofs.SeenLemmas.{entry_of-path, entry_of-among, among-entry_of, outcomes_of-at}
 use Rattle.redo_build.proofs.SeenLemmas.{decided_count-length}
-use Rattle.redo_build.specs.inside.Standing.{decided_count}
 use Rattle.redo_build.proofs.TurnLemmas.{only-Extends, only-among}
-use Rattle.redo_build.proofs.SoundLemmas.{IsSound}
-use Rattle.redo_record.specs.declared.deps.Dep.{Dep}
-use Rattle.redo_record.specs.declared.outcome.Outcome.{Outcome}
+use Rattle.redo_build.proofs.DueLemmas.{none-due}
+use Rattle.redo_build.proofs.SoundLemmas.{IsSound, lacks_none-from}
 
 pub none-out : (es : List Entry) (p : List ℕ) (e : Entry) → entry_of es p ≡ Some e → length (filter (λ x. x.is_out) es) ≡ 0 → e.is_out ≡ false
 none-out [] p e at none = cc
@@ -112,16 +115,36 @@ module _ (r : Rules) (lawful : AreLawful r) (request : List (List ℕ)) where
           ap (λ (x : Progress). x.outcome) same ∙ came.stopped k (omega arith),
         )
 
-    module _ (quiet : IsQuiet s) where
+    module _ (quiet : IsQuiet s) (looked : NoneDue r s) where
+      -- no entry waits in its check with all its answers there
+      pub never-due : (p : List ℕ) (e : Entry) → entry_of s.entries p ≡ Some e → e.outcome ≡ None → e.is_out ≡ false →
+          ((q : List ℕ) → IsAmong (operands r e.deps) q → outcomes_of s.entries q ≡ None → ⊥) →
+          r.begins e.path (known_to r s.entries e) ≡ false → ⊥
+      never-due p e at open' inside fed in_check =
+          let a : is_none e.outcome ≡ true = rw open' refl in
+          let b : lacks_none r s.entries e ≡ true = lacks_none-from r s.entries e fed in
+          let c : is_among s.ready e.path ≡ false =
+          (let P : List (List ℕ) → Type 0 = λ xs. is_among xs e.path ≡ false in subst P (sym quiet.0) refl) in
+          let go : is_able_to_go_on r s e ≡ true =
+          and_from _ _ (and_from _ _ (and_from _ _ a b) (not_from_false _ inside)) (not_from_false _ c) in
+          let due : is_due r s e ≡ true = and_from _ _ go (not_from_false _ in_check) in
+          both_ways _ (none-due r s looked p e at) due
+
       waiting-stays : (p : List ℕ) (e : Entry) → entry_of s.entries p ≡ Some e → e.outcome ≡ None →
           ((r.progress p (outcomes_of s.entries)).deps ≡ e.deps) × ((r.progress p (outcomes_of s.entries)).outcome ≡ None)
       waiting-stays p e at open' =
           let Gone : List (List ℕ) → Type 0 = λ xs. IsAmong xs p → ⊥ in
-          let lacks = sound.others_wait p e at open' (subst Gone (sym quiet.0) (λ m. m)) (none-out s.entries p e at quiet.1) in
+          let inside = none-out s.entries p e at quiet.1 in
+          let lacks : (q : List ℕ) × IsAmong (operands r e.deps) q × (outcomes_of s.entries q ≡ None) =
+          elim (sound.others_wait p e at open' (subst Gone (sym quiet.0) (λ m. m)) inside) [
+            | inl lack ↦ lack
+            | inr due ↦ absurd (never-due p e at open' inside due.0 due.1)
+          ] in
           let way = sound.standing.under_way p e at open' in
-          let Way : List ℕ → Type 0 = λ x. CameTo r x (outcomes_of s.entries) e.turn × (e.deps ≡ deps_at_turn r x (outcomes_of s.entries) e.turn) in
+          let Way : List ℕ → Type 0 = λ x. CameTo r x (outcomes_of s.entries) (rounds e) ×
+          (e.deps ≡ deps_at_turn r x (outcomes_of s.entries) (rounds e)) in
           let here : Way p = subst Way (entry_of-path s.entries p e at) (way.came, way.is) in
-          lacking-stays p e.deps e.turn here.0 here.1 lacks.0 lacks.1 lacks.2
+          lacking-stays p e.deps (rounds e) here.0 here.1 lacks.0 lacks.1 lacks.2
 
       -- the outcomes at a depth, on the entries alone
       on_entries : ℕ → Ask

@@ -4,11 +4,17 @@ use Rattle.std.proofs.Common.{Some, None, is_some, refl, sym, ap, ◌∙◌, ari
 use Rattle.std.proofs.lemmas.Bool.{cases_Bool, both_ways}
 use Rattle.std.proofs.lemmas.Slice.Eq.{bytes_eq-Decides}
 use Rattle.redo_record.specs.Paths.{is_among, with_new, IsAmong}
+use Rattle.redo_record.specs.declared.outcome.Outcome.{Outcome}
 use Rattle.redo_build.specs.Rules.{Rules}
-use Rattle.redo_build.specs.Schedule.{Entry, paths_of, entry_of, outcome_of, outcomes_of, new_entry, entered, put}
+use Rattle.redo_build.specs.Schedule.{Entry, Phase, paths_of, entry_of, outcome_of, outcomes_of, new_entry, entered}
+use Rattle.redo_build.specs.Schedule.{put}
+use Rattle.redo_build.specs.Schedule.Phase.{Check, Script}
 use Rattle.redo_build.specs.inside.Standing.{decided_count}
 use Rattle.redo_build.proofs.DepthLemmas.{cases_Option}
-use Rattle.redo_record.specs.declared.outcome.Outcome.{Outcome}
+
+pub phase_cases : (phase : Phase) → (phase ≡ Check) ⊎ (phase ≡ Script)
+phase_cases Check = inl refl
+phase_cases Script = inr refl
 
 pub entry_of-path : (es : List Entry) (p : List ℕ) (e : Entry) → entry_of es p ≡ Some e → e.path ≡ p
 entry_of-path [] p e h = cc

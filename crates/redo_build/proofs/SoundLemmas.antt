@@ -7,12 +7,16 @@ use Rattle.std.proofs.lemmas.Bool.{not_from_false, and_from}
 use Rattle.std.proofs.lemmas.Slice.Eq.{bytes_eq-Decides}
 use Rattle.redo_record.specs.Paths.{is_among, IsAmong, AreDistinct}
 use Rattle.redo_record.specs.Progress.{Progress}
-use Rattle.redo_build.specs.Rules.{Rules, AreLawful, Extends, operands}
+use Rattle.redo_record.specs.declared.outcome.Outcome.{Outcome}
+use Rattle.redo_build.specs.Rules.{Rules, AreLawful, Extends, operands, Ask}
 use Rattle.redo_build.specs.Outcomes.{outcome_at, requested_targets}
 use Rattle.redo_build.specs.Schedule.{Entry, State, Event, paths_of, entry_of, outcome_of, outcomes_of, only, entered}
 use Rattle.redo_build.specs.Schedule.{put, lacks_none, is_able_to_go_on, enqueued, opening, sent_out, new_entry, taken}
-use Rattle.redo_build.specs.Schedule.{advanced, moved_on, handed_in, happens, IsOpen, run, AllOpen}
-use Rattle.redo_build.specs.Schedule.Event.{Take, Hand_in}
+use Rattle.redo_build.specs.Schedule.{advanced, moved_on, handed_in, happens, IsOpen, run, AllOpen, known_to, may_run}
+use Rattle.redo_build.specs.Schedule.{is_due, Phase}
+use Rattle.redo_build.specs.Schedule.Event.{Take, Hand_in, Look}
+use Rattle.redo_build.specs.Schedule.Phase.{Check, Script}
+use Rattle.redo_build.specs.inside.Standing.{AreStanding, IsNeeded, decided_count, is_script}
 use Rattle.redo_build.proofs.PathLemmas.{IsAmong-same, IsAmong-append, IsAmong-left, IsAmong-right, is_among-true}
 use Rattle.redo_build.proofs.PathLemmas.{is_among-from}
 use Rattle.redo_build.proofs.DepthLemmas.{cases_Option, operand-target, requested-target}
@@ -22,17 +26,16 @@ use Rattle.redo_build.proofs.SeenLemmas.{entry_of-put_same}
 use Rattle.redo_build.proofs.QueueLemmas.{slice_get-among, slice_get-below, remove-cases, remove-from, remove-distinct}
 use Rattle.redo_build.proofs.QueueLemmas.{remove-gone, AreDistinct-append, paths_of-filter_from, paths_of-filter_to}
 use Rattle.redo_build.proofs.QueueLemmas.{paths_of-filter_distinct}
-use Rattle.redo_build.proofs.TurnLemmas.{only-Extends, progress-more}
+use Rattle.redo_build.proofs.TurnLemmas.{only-Extends, progress-more, begins-more}
 use Rattle.redo_build.proofs.StandingLemmas.{IsNeeded-asked, outcomes_of-deep, entered-outcomes, paths-entered}
 use Rattle.redo_build.proofs.StandingLemmas.{entered-standing, put-outcomes, put-standing, sent-cases, sent-outcomes}
 use Rattle.redo_build.proofs.StandingLemmas.{sent-standing}
-use Rattle.redo_build.specs.inside.Standing.{AreStanding, IsNeeded, decided_count}
-use Rattle.redo_record.specs.declared.outcome.Outcome.{Outcome}
 
--- the path has an entry that isn't decided and that has every answer that it asked for
+-- the path has an entry that isn't decided, that has every answer that it asked for, and whose script is begun
 abbrev pub IsFed : Rules → List Entry → List ℕ → Type 0
 IsFed r es p = (e : Entry) × (entry_of es p ≡ Some e) × (e.outcome ≡ None) ×
-    ((q : List ℕ) → IsAmong (operands r e.deps) q → outcomes_of es q ≡ None → ⊥)
+    ((q : List ℕ) → IsAmong (operands r e.deps) q → outcomes_of es q ≡ None → ⊥) ×
+    (r.begins e.path (known_to r es e) ≡ true)
 
 -- what is ready and what is out can go on, each once
 pub record AreQueued (r : Rules) (s : State) : Type 0 where
@@ -41,11 +44,13 @@ pub record AreQueued (r : Rules) (s : State) : Type 0 where
   pub ready_distinct : AreDistinct s.ready
   pub apart : (p : List ℕ) (e : Entry) → IsAmong s.ready p → entry_of s.entries p ≡ Some e → e.is_out ≡ false
 
--- what isn't decided, ready or out waits for an undecided path that it asked for
+-- what isn't decided, ready or out waits for an undecided path that it asked for, or its check can go on
 abbrev pub AllOthersWait : Rules → State → Type 0
 AllOthersWait r s = (p : List ℕ) (e : Entry) → entry_of s.entries p ≡ Some e → e.outcome ≡ None →
     (IsAmong s.ready p → ⊥) → e.is_out ≡ false →
-    (q : List ℕ) × IsAmong (operands r e.deps) q × (outcomes_of s.entries q ≡ None)
+    ((q : List ℕ) × IsAmong (operands r e.deps) q × (outcomes_of s.entries q ≡ None)) ⊎
+    (((q : List ℕ) → IsAmong (operands r e.deps) q → outcomes_of s.entries q ≡ None → ⊥) ×
+    (r.begins e.path (known_to r s.entries e) ≡ false))
 
 pub record IsSound (r : Rules) (request : List (List ℕ)) (s : State) : Type 0 where
   pub standing : AreStanding r request s.entries
@@ -53,14 +58,16 @@ pub record IsSound (r : Rules) (request : List (List ℕ)) (s : State) : Type 0 
   pub queued : AreQueued r s
   pub others_wait : AllOthersWait r s
 
-list_any-true : (f : List ℕ → Bool) (ps : List (List ℕ)) → list_any f ps ≡ true → (q : List ℕ) × IsAmong ps q × (f q ≡ true)
+pub list_any-true : (f : List ℕ → Bool) (ps : List (List ℕ)) → list_any f ps ≡ true → (q : List ℕ) × IsAmong ps q ×
+    (f q ≡ true)
 list_any-true f [] h = cc
 list_any-true f (x ∷ ps) h = elim (or_cases (f x) (list_any f ps) h) [
   | inl here ↦ (x, inl refl, here)
   | inr later ↦ let found = list_any-true f ps later in (found.0, inr found.1, found.2)
 ]
 
-list_any-false : (f : List ℕ → Bool) (ps : List (List ℕ)) → list_any f ps ≡ false → (q : List ℕ) → IsAmong ps q → f q ≡ false
+pub list_any-false : (f : List ℕ → Bool) (ps : List (List ℕ)) → list_any f ps ≡ false → (q : List ℕ) → IsAmong ps q →
+    f q ≡ false
 list_any-false f [] h q m = absurd m
 list_any-false f (x ∷ ps) h q m =
     let parts = or_parts (f x) (list_any f ps) h in
@@ -86,7 +93,15 @@ module _ (r : Rules) where
       let found = list_any-true (λ x. is_none (outcomes_of es x)) (operands r e.deps) (not-false _ h) in
       (found.0, found.1, is_none-true (outcomes_of es found.0) found.2)
 
-  -- what a free entry is
+  pub lacks_none-from : (es : List Entry) (e : Entry) →
+      ((q : List ℕ) → IsAmong (operands r e.deps) q → outcomes_of es q ≡ None → ⊥) →
+      lacks_none r es e ≡ true
+  lacks_none-from es e fed = elim (cases_Bool (lacks_none r es e)) [
+    | inl t ↦ t
+    | inr f ↦ let found = lacks_none-false es e f in absurd (fed found.0 found.1 found.2)
+  ]
+
+  -- what an entry is that can go on
   pub is_able_to_go_on-parts : (s : State) (e : Entry) → is_able_to_go_on r s e ≡ true →
       (e.outcome ≡ None) × (lacks_none r s.entries e ≡ true) × (e.is_out ≡ false) × (is_among s.ready e.path ≡ false)
   is_able_to_go_on-parts s e h =
@@ -95,7 +110,29 @@ module _ (r : Rules) where
       let first = and_parts _ _ second.0 in
       (is_none-true e.outcome first.0, first.1, not-true _ second.1, not-true _ third.1)
 
+  -- what a free entry is
+  pub may_run-parts : (s : State) (e : Entry) → may_run r s e ≡ true →
+      (e.outcome ≡ None) × (lacks_none r s.entries e ≡ true) × (e.is_out ≡ false) × (is_among s.ready e.path ≡ false) ×
+      (r.begins e.path (known_to r s.entries e) ≡ true)
+  may_run-parts s e h =
+      let last = and_parts (is_able_to_go_on r s e) (r.begins e.path (known_to r s.entries e)) h in
+      let parts = is_able_to_go_on-parts s e last.0 in
+      (parts.0, parts.1, parts.2, parts.3, last.1)
+
 module _ (r : Rules) (lawful : AreLawful r) (request : List (List ℕ)) where
+  only-more : (ps : List (List ℕ)) (a b : Ask) → Extends r a b → Extends r (only ps a) (only ps b)
+  only-more ps a b more q o s e = elim (cases_Bool (is_among ps q)) [
+    | inl t ↦ rw t (more q o s (rw t at e))
+    | inr f ↦ absurd (let bad : None ≡ Some o = rw f at e in cc)
+  ]
+
+  pub only-same : (ps : List (List ℕ)) (a b : Ask) → ((q : List ℕ) → IsAmong ps q → a q ≡ b q) → (q : List ℕ) →
+      only ps a q ≡ only ps b q
+  only-same ps a b same q = elim (cases_Bool (is_among ps q)) [
+    | inl t ↦ rw t (same q (is_among-true ps q t))
+    | inr f ↦ rw f refl
+  ]
+
   pub enqueued-sound : (s : State) → AreStanding r request s.entries →
       ((p : List ℕ) → IsAmong (requested_targets r request) p → IsAmong (paths_of s.entries) p) →
       AreQueued r s → IsSound r request (enqueued r s)
@@ -103,46 +140,52 @@ module _ (r : Rules) (lawful : AreLawful r) (request : List (List ℕ)) where
     standing = standing;
     requested = requested;
     queued = record {
-      ready_fed = λ p m. elim (IsAmong-append s.ready (paths_of (filter (is_able_to_go_on r s) s.entries)) p m) [
+      ready_fed = λ p m. elim (IsAmong-append s.ready (paths_of (filter (may_run r s) s.entries)) p m) [
         | inl old ↦ queued.ready_fed p old
         | inr new ↦
-            let found = paths_of-filter_from (is_able_to_go_on r s) s.entries p standing.distinct new in
-            let parts = is_able_to_go_on-parts r s found.0 found.2 in
-            (found.0, found.1, parts.0, lacks_none-true r s.entries found.0 parts.1)
+            let found = paths_of-filter_from (may_run r s) s.entries p standing.distinct new in
+            let parts = may_run-parts r s found.0 found.2 in
+            (found.0, found.1, parts.0, lacks_none-true r s.entries found.0 parts.1, parts.4)
       ];
       out_fed = queued.out_fed;
-      ready_distinct = AreDistinct-append s.ready (paths_of (filter (is_able_to_go_on r s) s.entries)) queued.ready_distinct
-          (paths_of-filter_distinct (is_able_to_go_on r s) s.entries standing.distinct)
+      ready_distinct = AreDistinct-append s.ready (paths_of (filter (may_run r s) s.entries)) queued.ready_distinct
+          (paths_of-filter_distinct (may_run r s) s.entries standing.distinct)
           (λ p old new.
-          let found = paths_of-filter_from (is_able_to_go_on r s) s.entries p standing.distinct new in
+          let found = paths_of-filter_from (may_run r s) s.entries p standing.distinct new in
           both_ways _ (not_ready-at p found.0 found.1 found.2) (is_among-from s.ready p old));
-      apart = λ p e m at. elim (IsAmong-append s.ready (paths_of (filter (is_able_to_go_on r s) s.entries)) p m) [
+      apart = λ p e m at. elim (IsAmong-append s.ready (paths_of (filter (may_run r s) s.entries)) p m) [
         | inl old ↦ queued.apart p e old at
         | inr new ↦
-            let found = paths_of-filter_from (is_able_to_go_on r s) s.entries p standing.distinct new in
+            let found = paths_of-filter_from (may_run r s) s.entries p standing.distinct new in
             let same : found.0 ≡ e = let both : Some found.0 ≡ Some e = sym found.1 ∙ at in cc in
-            sym (ap (λ (x : Entry). x.is_out) same) ∙ (is_able_to_go_on-parts r s found.0 found.2).2
+            sym (ap (λ (x : Entry). x.is_out) same) ∙ (may_run-parts r s found.0 found.2).2
       ];
     };
     others_wait = λ p e at open' not_ready not_out.
         let path = entry_of-path s.entries p e at in
         elim (cases_Bool (lacks_none r s.entries e)) [
-          | inl all ↦ absurd (
-              let a : is_none e.outcome ≡ true = is_none-from e.outcome open' in
-              let b : is_among s.ready e.path ≡ false = not_among s.ready e.path (λ m.
-              not_ready (IsAmong-left s.ready (paths_of (filter (is_able_to_go_on r s) s.entries)) p (IsAmong-same s.ready e.path p path m))) in
-              let free : is_able_to_go_on r s e ≡ true =
-              and_from _ _ (and_from _ _ (and_from _ _ a all) (not_from_false _ not_out)) (not_from_false _ b) in
-              not_ready (IsAmong-right s.ready (paths_of (filter (is_able_to_go_on r s) s.entries)) p
-              (paths_of-filter_to (is_able_to_go_on r s) s.entries p e at free)))
-          | inr some ↦ lacks_none-false r s.entries e some
+          | inl all ↦ elim (cases_Bool (r.begins e.path (known_to r s.entries e))) [
+            | inr in_check ↦ inr (lacks_none-true r s.entries e all, in_check)
+            | inl starts ↦ absurd (
+                let a : is_none e.outcome ≡ true = is_none-from e.outcome open' in
+                let b : is_among s.ready e.path ≡ false = not_among s.ready e.path (λ m.
+                not_ready (IsAmong-left s.ready (paths_of (filter (may_run r s) s.entries)) p
+                (IsAmong-same s.ready e.path p path m))) in
+                let free : may_run r s e ≡ true =
+                and_from _ _ (and_from _ _ (and_from _ _ (and_from _ _ a all) (not_from_false _ not_out))
+                (not_from_false _ b)) starts in
+                not_ready (IsAmong-right s.ready (paths_of (filter (may_run r s) s.entries)) p
+                (paths_of-filter_to (may_run r s) s.entries p e at free)))
+          ]
+          | inr some ↦ inl (lacks_none-false r s.entries e some)
         ];
   }
     where
-      not_ready-at : (p : List ℕ) (e : Entry) → entry_of s.entries p ≡ Some e → is_able_to_go_on r s e ≡ true → is_among s.ready p ≡ false
+      not_ready-at : (p : List ℕ) (e : Entry) → entry_of s.entries p ≡ Some e → may_run r s e ≡ true →
+          is_among s.ready p ≡ false
       not_ready-at p e at free =
           let P : List ℕ → Type 0 = λ x. is_among s.ready x ≡ false in
-          subst P (entry_of-path s.entries p e at) (is_able_to_go_on-parts r s e free).3
+          subst P (entry_of-path s.entries p e at) (may_run-parts r s e free).3
 
       not_among : (ps : List (List ℕ)) (p : List ℕ) → (IsAmong ps p → ⊥) → is_among ps p ≡ false
       not_among ps p h = elim (cases_Bool (is_among ps p)) [
@@ -150,7 +193,7 @@ module _ (r : Rules) (lawful : AreLawful r) (request : List (List ℕ)) where
         | inr f ↦ f
       ]
 
-  nothing-standing : AreStanding r request []
+  pub nothing-standing : AreStanding r request []
   nothing-standing = record {
     distinct = tt;
     targets = λ p m. absurd m;
@@ -211,6 +254,13 @@ module _ (r : Rules) (lawful : AreLawful r) (request : List (List ℕ)) where
     take_lacks : (q : List ℕ) → outcomes_of (put s.entries (sent_out e)) q ≡ outcomes_of s.entries q
     take_lacks = sent-outcomes r lawful request s.entries sound.standing e take_entry take_open
 
+    take_begins : (x : Entry) (t : Bool) → r.begins x.path (known_to r s.entries x) ≡ t →
+        r.begins x.path (known_to r (put s.entries (sent_out e)) x) ≡ t
+    take_begins x t h =
+        sym (lawful.begins_local x.path (known_to r s.entries x) (known_to r (put s.entries (sent_out e)) x)
+        (λ q m. only-same (operands r x.deps) (outcomes_of s.entries) (outcomes_of (put s.entries (sent_out e)))
+        (λ y n. sym (take_lacks y)) q)) ∙ h
+
     take_fed : (q : List ℕ) → IsFed r s.entries q → IsFed r (put s.entries (sent_out e)) q
     take_fed q fed = elim (cases_Bool (bytes_eq e.path q)) [
       | inl t ↦
@@ -222,12 +272,15 @@ module _ (r : Rules) (lawful : AreLawful r) (request : List (List ℕ)) where
             subst P same (entry_of-put_same s.entries (sent_out e) (entry_of-among s.entries e.path e take_entry)),
             take_open,
             λ x m none. fed.3 x (let R : Entry → Type 0 = λ y. IsAmong (operands r y.deps) x in subst R (sym is) m) (sym (take_lacks x) ∙ none),
+            take_begins e true (let R : Entry → Type 0 = λ y. r.begins y.path (known_to r s.entries y) ≡ true in
+                subst R is fed.4),
           )
       | inr f ↦ (
         fed.0,
         entry_of-put_other s.entries (sent_out e) q (λ same. both_ways _ f ((bytes_eq-Decides e.path q).1 same)) ∙ fed.1,
         fed.2,
         λ x m none. fed.3 x m (sym (take_lacks x) ∙ none),
+        take_begins fed.0 true fed.4,
       )
     ]
 
@@ -258,7 +311,10 @@ module _ (r : Rules) (lawful : AreLawful r) (request : List (List ℕ)) where
               | inl same ↦ gone q x same h not_out
               | inr rest ↦ not_ready rest
             ]) not_out in
-            (waits.0, waits.1, take_lacks waits.0 ∙ waits.2)
+            elim waits [
+              | inl lack ↦ inl (lack.0, lack.1, take_lacks lack.0 ∙ lack.2)
+              | inr due ↦ inr ((λ y m none. due.0 y m (sym (take_lacks y) ∙ none)), take_begins x false due.1)
+            ]
       ];
     }
       where
@@ -269,19 +325,16 @@ module _ (r : Rules) (lawful : AreLawful r) (request : List (List ℕ)) where
             let is : x ≡ sent_out e = let both : Some x ≡ Some (sent_out e) = sym h ∙ there in cc in
             both_ways _ not_out (ap (λ (y : Entry). y.is_out) is)
 
-  module _ (s : State) (sound : IsSound r request s) (p : List ℕ) (e : Entry) (at : entry_of s.entries p ≡ Some e) (out : e.is_out ≡ true) where
+  module _ (phase : Phase) (s : State) (sound : IsSound r request s) (p : List ℕ) (e : Entry)
+      (at : entry_of s.entries p ≡ Some e)
+      (out_is_fed : (e.outcome ≡ None) ×
+      ((q : List ℕ) → IsAmong (operands r e.deps) q → outcomes_of s.entries q ≡ None → ⊥))
+      (not_queued : IsAmong s.ready p → ⊥) (how : r.begins e.path (known_to r s.entries e) ≡ is_script phase) where
     out_path : e.path ≡ p
     out_path = entry_of-path s.entries p e at
 
     out_entry : entry_of s.entries e.path ≡ Some e
     out_entry = let P : List ℕ → Type 0 = λ x. entry_of s.entries x ≡ Some e in subst P (sym out_path) at
-
-    out_is_fed : (e.outcome ≡ None) × ((q : List ℕ) → IsAmong (operands r e.deps) q → outcomes_of s.entries q ≡ None → ⊥)
-    out_is_fed =
-        let fed = sound.queued.out_fed p e at out in
-        let same : fed.0 ≡ e = let both : Some fed.0 ≡ Some e = sym fed.1 ∙ at in cc in
-        let P : Entry → Type 0 = λ x. (x.outcome ≡ None) × ((q : List ℕ) → IsAmong (operands r x.deps) q → outcomes_of s.entries q ≡ None → ⊥) in
-        subst P same (fed.2, fed.3)
 
     new_targets : (q : List ℕ) → IsAmong (operands r (advanced r s.entries e).deps) q → r.is_source q ≡ false
     new_targets q m = operand-target r lawful (advanced r s.entries e).deps q m
@@ -319,16 +372,21 @@ module _ (r : Rules) (lawful : AreLawful r) (request : List (List ℕ)) where
       | inr some ↦ let also = wider_more q some.0 (operand-target r lawful e.deps q m) some.1 in cc
     ]
 
+    wider_how : r.begins e.path (known_to r wider e) ≡ is_script phase
+    wider_how =
+        sym (begins-more r lawful e.path e.deps (outcomes_of s.entries) (outcomes_of wider) wider_more out_is_fed.1)
+        ∙ how
+
     -- among more entries it comes as far
     same_advance : advanced r wider e ≡ advanced r s.entries e
     same_advance = sym (progress-more r lawful e.path e.deps (outcomes_of s.entries) (outcomes_of wider) wider_more out_is_fed.1)
 
     moved : List Entry
-    moved = put wider (moved_on e (advanced r s.entries e))
+    moved = put wider (moved_on phase e (advanced r s.entries e))
 
-    moved_is : moved ≡ put wider (moved_on e (advanced r wider e))
+    moved_is : moved ≡ put wider (moved_on phase e (advanced r wider e))
     unfolding moved
-    moved_is = ap (λ x. put wider (moved_on e x)) (sym same_advance)
+    moved_is = ap (λ x. put wider (moved_on phase e x)) (sym same_advance)
 
     entered_all : (q : List ℕ) → IsAmong (operands r (advanced r wider e).deps) q → IsAmong (paths_of wider) q
     entered_all q m =
@@ -338,18 +396,20 @@ module _ (r : Rules) (lawful : AreLawful r) (request : List (List ℕ)) where
     moved_standing : AreStanding r request moved
     moved_standing =
         let P : List Entry → Type 0 = AreStanding r request in
-        subst P (sym moved_is) (put-standing r lawful request wider wider_standing e (wider_entry e.path e out_entry) out_is_fed.0 wider_fed entered_all)
+        subst P (sym moved_is) (put-standing r lawful request wider wider_standing phase e
+        (wider_entry e.path e out_entry) out_is_fed.0 wider_fed entered_all wider_how)
 
     moved_more : Extends r (outcomes_of wider) (outcomes_of moved)
     moved_more =
         let P : List Entry → Type 0 = λ es. Extends r (outcomes_of wider) (outcomes_of es) in
-        subst P (sym moved_is) (put-outcomes r lawful request wider wider_standing e (wider_entry e.path e out_entry) out_is_fed.0 wider_fed entered_all)
+        subst P (sym moved_is) (put-outcomes r lawful request wider wider_standing phase e
+        (wider_entry e.path e out_entry) out_is_fed.0 wider_fed entered_all wider_how)
 
     moved_fed : (q : List ℕ) → (e.path ≡ q → ⊥) → IsFed r s.entries q → IsFed r moved q
     unfolding moved
     moved_fed q other fed = (
       fed.0,
-      entry_of-put_other wider (moved_on e (advanced r s.entries e)) q other ∙ wider_entry q fed.0 fed.1,
+      entry_of-put_other wider (moved_on phase e (advanced r s.entries e)) q other ∙ wider_entry q fed.0 fed.1,
       fed.2,
       λ x m none. elim (cases_Option (outcomes_of s.entries x)) [
         | inl no_answer ↦ fed.3 x m no_answer
@@ -358,6 +418,9 @@ module _ (r : Rules) (lawful : AreLawful r) (request : List (List ℕ)) where
             let also = moved_more x some.0 target (wider_more x some.0 target some.1) in
             absurd (let P : Option Outcome → Type 0 = λ y. y ≡ Some some.0 in no_some some.0 (subst P none also))
       ],
+      lawful.begins_stays fed.0.path (known_to r s.entries fed.0) (known_to r moved fed.0)
+          (only-more (operands r fed.0.deps) (outcomes_of s.entries) (outcomes_of moved)
+          (λ x o t h. moved_more x o t (wider_more x o t h))) fed.4,
     )
       where
         no_some : (v : Outcome) → None ≡ Some v → ⊥
@@ -368,27 +431,31 @@ module _ (r : Rules) (lawful : AreLawful r) (request : List (List ℕ)) where
     moved_cases q x h is_out = elim (cases_Bool (bytes_eq e.path q)) [
       | inl t ↦
           let same = (bytes_eq-Decides e.path q).0 t in
-          let P : List ℕ → Type 0 = λ y. entry_of moved y ≡ Some (moved_on e (advanced r s.entries e)) in
-          let there = subst P same (entry_of-put_same wider (moved_on e (advanced r s.entries e)) (entry_of-among wider e.path e (wider_entry e.path e out_entry))) in
-          let is : x ≡ moved_on e (advanced r s.entries e) = let both : Some x ≡ Some (moved_on e (advanced r s.entries e)) = sym h ∙ there in cc in
+          let P : List ℕ → Type 0 = λ y. entry_of moved y ≡ Some (moved_on phase e (advanced r s.entries e)) in
+          let there =
+          subst P same (entry_of-put_same wider (moved_on phase e (advanced r s.entries e))
+          (entry_of-among wider e.path e (wider_entry e.path e out_entry))) in
+          let is : x ≡ moved_on phase e (advanced r s.entries e) =
+          let both : Some x ≡ Some (moved_on phase e (advanced r s.entries e)) = sym h ∙ there in cc in
           absurd (both_ways _ (ap (λ (y : Entry). y.is_out) is) is_out)
       | inr f ↦
           let other : e.path ≡ q → ⊥ = λ same. both_ways _ f ((bytes_eq-Decides e.path q).1 same) in
-          let old = sym (entry_of-put_other wider (moved_on e (advanced r s.entries e)) q other) ∙ h in
+          let old = sym (entry_of-put_other wider (moved_on phase e (advanced r s.entries e)) q other) ∙ h in
           elim (entry_of-entered_cases r s.entries (operands r (advanced r s.entries e).deps) q x old) [
             | inl older ↦ (other, older)
             | inr new ↦ absurd (both_ways _ (ap (λ (y : Entry). y.is_out) new.1 ∙ new-inside q) is_out)
           ]
     ]
 
-    pub handed_in-sound : IsSound r request (handed_in r s (Some e))
+    pub handed_in-sound : IsSound r request (handed_in r phase s (Some e))
     unfolding moved wider
     handed_in-sound = enqueued-sound
         (record { entries = moved; ready = s.ready })
         moved_standing
         (λ q m.
         let P : List (List ℕ) → Type 0 = λ xs. IsAmong xs q in
-        subst P (sym (paths_of-put wider (moved_on e (advanced r s.entries e)))) (wider_paths q (inl (sound.requested q m))))
+        subst P (sym (paths_of-put wider (moved_on phase e (advanced r s.entries e))))
+        (wider_paths q (inl (sound.requested q m))))
         (record {
           ready_fed = λ q m. moved_fed q (λ same. not_ready q m same) (sound.queued.ready_fed q m);
           out_fed = λ q x h is_out. let old = moved_cases q x h is_out in moved_fed q old.0 (sound.queued.out_fed q x old.1 is_out);
@@ -400,43 +467,90 @@ module _ (r : Rules) (lawful : AreLawful r) (request : List (List ℕ)) where
         })
       where
         not_ready : (q : List ℕ) → IsAmong s.ready q → e.path ≡ q → ⊥
-        not_ready q m same =
-            let P : List ℕ → Type 0 = λ y. entry_of s.entries y ≡ Some e in
-            both_ways _ (sound.queued.apart q e m (subst P same out_entry)) out
+        not_ready q m same = not_queued (IsAmong-same s.ready q p (sym same ∙ out_path) m)
+
+    -- with all its answers before, no more answers let a check go on
+    still_in_check : (x : Entry) → ((q : List ℕ) → IsAmong (operands r x.deps) q → outcomes_of s.entries q ≡ None → ⊥) →
+        r.begins x.path (known_to r s.entries x) ≡ false → r.begins x.path (known_to r moved x) ≡ false
+    still_in_check x fed h = sym (begins-more r lawful x.path x.deps (outcomes_of s.entries) (outcomes_of moved)
+        (λ q o t k. moved_more q o t (wider_more q o t k)) fed) ∙ h
 
     -- what goes on after the piece is the target itself, a path seen for the first time, or one that asked for the target
-    pub newly_ready-cases : (q : List ℕ) (x : Entry) → entry_of (put (entered r s.entries (operands r (advanced r s.entries e).deps)) (moved_on e (advanced r s.entries e))) q ≡ Some x →
-        is_able_to_go_on r (record { entries = put (entered r s.entries (operands r (advanced r s.entries e).deps)) (moved_on e (advanced r s.entries e)); ready = s.ready }) x ≡ true →
+    pub newly_ready-cases : (q : List ℕ) (x : Entry) →
+        entry_of (put (entered r s.entries (operands r (advanced r s.entries e).deps))
+        (moved_on phase e (advanced r s.entries e))) q ≡ Some x →
+        may_run r
+        (record {
+          entries = put (entered r s.entries (operands r (advanced r s.entries e).deps))
+              (moved_on phase e (advanced r s.entries e));
+          ready = s.ready;
+        }) x ≡ true →
         (e.path ≡ q) ⊎ ((entry_of s.entries q ≡ None) ⊎ ((entry_of s.entries q ≡ Some x) × IsAmong (operands r x.deps) e.path))
     unfolding moved wider
     newly_ready-cases q x h free = elim (cases_Bool (bytes_eq e.path q)) [
       | inl t ↦ inl ((bytes_eq-Decides e.path q).0 t)
       | inr f ↦
           let other : e.path ≡ q → ⊥ = λ same. both_ways _ f ((bytes_eq-Decides e.path q).1 same) in
-          let there = sym (entry_of-put_other wider (moved_on e (advanced r s.entries e)) q other) ∙ h in
+          let there = sym (entry_of-put_other wider (moved_on phase e (advanced r s.entries e)) q other) ∙ h in
           elim (entry_of-entered_cases r s.entries (operands r (advanced r s.entries e).deps) q x there) [
             | inl old ↦
-                let parts = is_able_to_go_on-parts r (record { entries = moved; ready = s.ready }) x free in
+                let parts = may_run-parts r (record { entries = moved; ready = s.ready }) x free in
                 let path = entry_of-path s.entries q x old in
                 let waits = sound.others_wait q x old parts.0
                 (λ m. both_ways _ parts.3 (is_among-from s.ready x.path (IsAmong-same s.ready q x.path (sym path) m))) parts.2 in
-                inr (inr (
-                  old,
-                  elim (cases_Bool (bytes_eq e.path waits.0)) [
-                    | inl t ↦ IsAmong-same (operands r x.deps) waits.0 e.path (sym ((bytes_eq-Decides e.path waits.0).0 t)) waits.1
-                    | inr g ↦ absurd (
-                        let away : e.path ≡ waits.0 → ⊥ = λ same. both_ways _ g ((bytes_eq-Decides e.path waits.0).1 same) in
-                        let known = among-entry_of s.entries waits.0 (sound.standing.closed q waits.0 x old waits.1) in
-                        let now = entry_of-put_other wider (moved_on e (advanced r s.entries e)) waits.0 away ∙ wider_entry waits.0 known.0 known.1 in
-                        let none : outcomes_of moved waits.0 ≡ None = ap outcome_of now ∙ sym (ap outcome_of known.1) ∙ waits.2 in
-                        lacks_none-true r moved x parts.1 waits.0 waits.1 none)
-                  ],
-                ))
+                elim waits [
+                  | inl lack ↦ inr (inr (
+                    old,
+                    elim (cases_Bool (bytes_eq e.path lack.0)) [
+                      | inl t ↦
+                          IsAmong-same (operands r x.deps) lack.0 e.path (sym ((bytes_eq-Decides e.path lack.0).0 t))
+                          lack.1
+                      | inr g ↦ absurd (
+                          let away : e.path ≡ lack.0 → ⊥ =
+                          λ same. both_ways _ g ((bytes_eq-Decides e.path lack.0).1 same) in
+                          let known = among-entry_of s.entries lack.0 (sound.standing.closed q lack.0 x old lack.1) in
+                          let now = entry_of-put_other wider (moved_on phase e (advanced r s.entries e)) lack.0 away
+                          ∙ wider_entry lack.0 known.0 known.1 in
+                          let none : outcomes_of moved lack.0 ≡ None = ap outcome_of now ∙ sym (ap outcome_of known.1)
+                          ∙ lack.2 in
+                          lacks_none-true r moved x parts.1 lack.0 lack.1 none)
+                    ],
+                  ))
+                  | inr due ↦ absurd (both_ways _ (still_in_check x due.0 due.1) parts.4)
+                ]
             | inr new ↦ inr (inl new.0)
           ]
     ]
 
-  pub happens-sound : (s : State) (event : Event) → IsSound r request s → IsOpen s event → IsSound r request (happens r s event)
+  -- of an entry that is out, or whose check can go on
+  pub out-parts : (s : State) → IsSound r request s → (p : List ℕ) (e : Entry) → entry_of s.entries p ≡ Some e →
+      e.is_out ≡ true →
+      ((e.outcome ≡ None) × ((q : List ℕ) → IsAmong (operands r e.deps) q → outcomes_of s.entries q ≡ None → ⊥)) ×
+      (IsAmong s.ready p → ⊥) ×
+      (r.begins e.path (known_to r s.entries e) ≡ true)
+  out-parts s sound p e at out =
+      let fed = sound.queued.out_fed p e at out in
+      let same : fed.0 ≡ e = let both : Some fed.0 ≡ Some e = sym fed.1 ∙ at in cc in
+      let P : Entry → Type 0 = λ x. (x.outcome ≡ None) ×
+      ((q : List ℕ) → IsAmong (operands r x.deps) q → outcomes_of s.entries q ≡ None → ⊥) in
+      let Q : Entry → Type 0 = λ x. r.begins x.path (known_to r s.entries x) ≡ true in
+      (subst P same (fed.2, fed.3), (λ m. both_ways _ (sound.queued.apart p e m at) out), subst Q same fed.4)
+
+  pub due-parts : (s : State) (p : List ℕ) (e : Entry) → entry_of s.entries p ≡ Some e → is_due r s e ≡ true →
+      ((e.outcome ≡ None) × ((q : List ℕ) → IsAmong (operands r e.deps) q → outcomes_of s.entries q ≡ None → ⊥)) ×
+      (IsAmong s.ready p → ⊥) ×
+      (r.begins e.path (known_to r s.entries e) ≡ false)
+  due-parts s p e at due =
+      let both = and_parts (is_able_to_go_on r s e) _ due in
+      let parts = is_able_to_go_on-parts r s e both.0 in (
+        (parts.0, lacks_none-true r s.entries e parts.1),
+        (λ m. both_ways _ parts.3
+            (is_among-from s.ready e.path (IsAmong-same s.ready p e.path (sym (entry_of-path s.entries p e at)) m))),
+        not-true _ both.1,
+      )
+
+  pub happens-sound : (s : State) (event : Event) → IsSound r request s → IsOpen r s event →
+      IsSound r request (happens r s event)
   happens-sound s (Take which) sound open' =
       let at = slice_get-below s.ready which open' in
       let fed = sound.queued.ready_fed at.0 (slice_get-among s.ready which at.0 at.1) in
@@ -444,8 +558,13 @@ module _ (r : Rules) (lawful : AreLawful r) (request : List (List ℕ)) where
       let Q : Option Entry → Type 0 = λ x. IsSound r request (taken s x which) in
       subst P (sym at.1) (subst Q (sym fed.1) (taken-sound s sound which at.0 fed.0 at.1 fed.1))
   happens-sound s (Hand_in target turn) sound open' =
-      let P : Option Entry → Type 0 = λ x. IsSound r request (handed_in r s x) in
-      subst P (sym open'.at) (handed_in-sound s sound target open'.entry open'.at open'.is_out)
+      let P : Option Entry → Type 0 = λ x. IsSound r request (handed_in r Script s x) in
+      let parts = out-parts s sound target open'.entry open'.at open'.is_out in
+      subst P (sym open'.at) (handed_in-sound Script s sound target open'.entry open'.at parts.0 parts.1 parts.2)
+  happens-sound s (Look target) sound open' =
+      let P : Option Entry → Type 0 = λ x. IsSound r request (handed_in r Check s x) in
+      let parts = due-parts s target open'.entry open'.at open'.due in
+      subst P (sym open'.at) (handed_in-sound Check s sound target open'.entry open'.at parts.0 parts.1 parts.2)
 
   pub run-sound : (s : State) (events : List Event) → IsSound r request s → AllOpen r s events → IsSound r request (run r events s)
   run-sound s [] sound open' = sound

@@ -1,15 +1,20 @@
 -- What holds of the entries of every state of the schedule, and that entering and deciding keep it.
 use Rattle.std.proofs.Common.{◌≡◌, ℕ, zero, suc, ◌≤◌, max, false, cond, ◌⊎◌, inl, inr, List, [], Option, Some, None}
-use Rattle.std.proofs.Common.{is_some, flat_map, refl, sym, ap, subst, ◌∙◌, arith, bytes_eq}
+use Rattle.std.proofs.Common.{is_some, flat_map, refl, sym, ap, subst, ◌∙◌, arith, bytes_eq, ◌+◌, ◌<◌, true}
 use Rattle.std.proofs.lemmas.Bool.{cases_Bool, cases_lt, both_ways}
 use Rattle.std.proofs.lemmas.Slice.Eq.{bytes_eq-Decides}
 use Rattle.redo_record.specs.Paths.{IsAmong, AreDistinct, with_new}
 use Rattle.redo_record.specs.Progress.{Progress}
+use Rattle.redo_record.specs.declared.deps.Dep.{Dep}
+use Rattle.redo_record.specs.declared.outcome.Outcome.{Outcome}
 use Rattle.redo_build.specs.Rules.{Rules, AreLawful, Extends, operands}
 use Rattle.redo_build.specs.Outcomes.{outcome_at, asked_at, reached_in}
 use Rattle.redo_build.specs.Schedule.{Entry, paths_of, entry_of, outcome_of, outcomes_of, only, nothing_known}
-use Rattle.redo_build.specs.Schedule.{new_entry, entered, put, sent_out, advanced, moved_on}
-use Rattle.redo_build.specs.inside.Turns.{deps_at_turn, progress_at_turn, CameTo}
+use Rattle.redo_build.specs.Schedule.{new_entry, entered, put, sent_out, advanced, moved_on, known_to, Phase}
+use Rattle.redo_build.specs.Schedule.Phase.{Check}
+use Rattle.redo_build.specs.inside.Turns.{deps_at_turn, progress_at_turn, CameTo, begins_at}
+use Rattle.redo_build.specs.inside.Standing.{decided_count, IsNeeded, IsDecidedAs, IsUnderWay, AreStanding, rounds}
+use Rattle.redo_build.specs.inside.Standing.{is_script}
 use Rattle.redo_build.proofs.PathLemmas.{with_new-first, with_new-second, with_new-cases, with_new-distinct}
 use Rattle.redo_build.proofs.PathLemmas.{flat_map-among, flat_map-from}
 use Rattle.redo_build.proofs.DepthLemmas.{deeper, ended_stays, outcome_at-step, asked_at-grows, reached-once}
@@ -17,11 +22,9 @@ use Rattle.redo_build.proofs.DepthLemmas.{reached-more}
 use Rattle.redo_build.proofs.SeenLemmas.{entry_of-path, entry_of-among, outcomes_of-entry, outcomes_of-at, paths_of-put}
 use Rattle.redo_build.proofs.SeenLemmas.{entry_of-put_same, entry_of-put_other, decided_count-put, decided_count-some}
 use Rattle.redo_build.proofs.SeenLemmas.{decided_count-entered, new_entry-path, paths_of-entered, entry_of-entered_old}
-use Rattle.redo_build.proofs.SeenLemmas.{entry_of-entered_cases}
-use Rattle.redo_build.specs.inside.Standing.{decided_count, IsNeeded, IsDecidedAs, IsUnderWay, AreStanding}
-use Rattle.redo_build.proofs.TurnLemmas.{only-Extends, CameTo-more, deps_at_turn-more}
-use Rattle.redo_record.specs.declared.deps.Dep.{Dep}
-use Rattle.redo_record.specs.declared.outcome.Outcome.{Outcome}
+use Rattle.redo_build.proofs.SeenLemmas.{entry_of-entered_cases, phase_cases}
+use Rattle.redo_build.proofs.TurnLemmas.{only-Extends, CameTo-more, deps_at_turn-more, CameTo-upto, begins_at-more}
+use Rattle.redo_build.proofs.TurnLemmas.{begun-later}
 
 module _ (r : Rules) (lawful : AreLawful r) (request : List (List ℕ)) where
   -- rounds of asking at a greater depth reach no fewer paths
@@ -52,8 +55,14 @@ module _ (r : Rules) (lawful : AreLawful r) (request : List (List ℕ)) where
 
   pub IsUnderWay-more : (es fs : List Entry) (e : Entry) → Extends r (outcomes_of es) (outcomes_of fs) → IsUnderWay r es e → IsUnderWay r fs e
   IsUnderWay-more es fs e more h = record {
-    came = CameTo-more r lawful e.path (outcomes_of es) (outcomes_of fs) more e.turn h.came;
-    is = h.is ∙ deps_at_turn-more r lawful e.path (outcomes_of es) (outcomes_of fs) more e.turn h.came;
+    came = CameTo-more r lawful e.path (outcomes_of es) (outcomes_of fs) more (rounds e) h.came;
+    is = h.is ∙ deps_at_turn-more r lawful e.path (outcomes_of es) (outcomes_of fs) more (rounds e) h.came;
+    in_check = λ k below. sym (begins_at-more r lawful e.path (outcomes_of es) (outcomes_of fs) more k
+        (CameTo-upto r lawful e.path (outcomes_of es) k (rounds e) (omega arith) h.came)
+        (λ q m. h.came.answered k q (omega arith) m)) ∙ h.in_check k below;
+    begun = λ later. sym (begins_at-more r lawful e.path (outcomes_of es) (outcomes_of fs) more e.looks
+        (CameTo-upto r lawful e.path (outcomes_of es) e.looks (rounds e) (omega arith) h.came)
+        (λ q m. h.came.answered e.looks q (omega arith) m)) ∙ h.begun later;
   }
 
   pub IsDecidedAs-more : (es fs : List Entry) (e : Entry) (o : Outcome) → decided_count es ≤ decided_count fs →
@@ -134,7 +143,7 @@ module _ (r : Rules) (lawful : AreLawful r) (request : List (List ℕ)) where
       new-under_way : (p : List ℕ) (e : Entry) → e ≡ new_entry r p → e.outcome ≡ None → IsUnderWay r (entered r es ps) e
       new-under_way p e is open' = elim (cases_Bool (r.has_rule p)) [
         | inl ruled ↦
-            let turn : e.turn ≡ 0 = ap (λ (x : Entry). x.turn) is ∙ rw ruled refl in
+            let turn : rounds e ≡ 0 = ap (λ (x : Entry). rounds x) is ∙ rw ruled refl in
             let deps : e.deps ≡ [] = ap (λ (x : Entry). x.deps) is ∙ rw ruled refl in
             record {
               came = record {
@@ -142,6 +151,8 @@ module _ (r : Rules) (lawful : AreLawful r) (request : List (List ℕ)) where
                 stopped = λ k below. absurd (omega arith);
               };
               is = deps ∙ (let P : ℕ → Type 0 = λ k. [] ≡ deps_at_turn r e.path (outcomes_of (entered r es ps)) k in subst P (sym turn) refl);
+              in_check = λ k below. absurd (omega arith);
+              begun = λ later. absurd (omega arith);
             }
         | inr unruled ↦ absurd (
             let out : (r.progress p nothing_known).outcome ≡ None =
@@ -171,10 +182,11 @@ module _ (r : Rules) (lawful : AreLawful r) (request : List (List ℕ)) where
       }
 
     -- advancing one entry that has all that it asked for
-    module _ (e : Entry) (at : entry_of es e.path ≡ Some e) (open' : e.outcome ≡ None)
+    module _ (phase : Phase) (e : Entry) (at : entry_of es e.path ≡ Some e) (open' : e.outcome ≡ None)
         (fed : (q : List ℕ) → IsAmong (operands r e.deps) q → outcomes_of es q ≡ None → ⊥)
-        (entered' : (q : List ℕ) → IsAmong (operands r (advanced r es e).deps) q → IsAmong (paths_of es) q) where
-      pub put-outcomes : Extends r (outcomes_of es) (outcomes_of (put es (moved_on e (advanced r es e))))
+        (entered' : (q : List ℕ) → IsAmong (operands r (advanced r es e).deps) q → IsAmong (paths_of es) q)
+        (how : r.begins e.path (known_to r es e) ≡ is_script phase) where
+      pub put-outcomes : Extends r (outcomes_of es) (outcomes_of (put es (moved_on phase e (advanced r es e))))
       put-outcomes q o s h =
           let found = outcomes_of-entry es q o h in
           let other : e.path ≡ q → ⊥ = λ same.
@@ -183,27 +195,28 @@ module _ (r : Rules) (lawful : AreLawful r) (request : List (List ℕ)) where
           let entry : e ≡ found.0 = cc in
           let none = sym open' ∙ ap (λ (x : Entry). x.outcome) entry ∙ found.2 in
           cc in
-          ap outcome_of (entry_of-put_other es (moved_on e (advanced r es e)) q other) ∙ h
+          ap outcome_of (entry_of-put_other es (moved_on phase e (advanced r es e)) q other) ∙ h
 
-      pub put-cases : (p : List ℕ) (x : Entry) → entry_of (put es (moved_on e (advanced r es e))) p ≡ Some x →
-          ((e.path ≡ p) × (x ≡ moved_on e (advanced r es e))) ⊎ (entry_of es p ≡ Some x)
+      pub put-cases : (p : List ℕ) (x : Entry) → entry_of (put es (moved_on phase e (advanced r es e))) p ≡ Some x →
+          ((e.path ≡ p) × (x ≡ moved_on phase e (advanced r es e))) ⊎ (entry_of es p ≡ Some x)
       put-cases p x h = elim (cases_Bool (bytes_eq e.path p)) [
         | inl t ↦
             let same = (bytes_eq-Decides e.path p).0 t in
-            let new = entry_of-put_same es (moved_on e (advanced r es e)) (entry_of-among es e.path e at) in
-            let P : List ℕ → Type 0 = λ y. entry_of (put es (moved_on e (advanced r es e))) y ≡ Some (moved_on e (advanced r es e)) in
+            let new = entry_of-put_same es (moved_on phase e (advanced r es e)) (entry_of-among es e.path e at) in
+            let P : List ℕ → Type 0 = λ y.
+            entry_of (put es (moved_on phase e (advanced r es e))) y ≡ Some (moved_on phase e (advanced r es e)) in
             let there = subst P same new in
             inl (same, (cc))
         | inr f ↦
             let other : e.path ≡ p → ⊥ = λ same. both_ways _ f ((bytes_eq-Decides e.path p).1 same) in
-            inr (sym (entry_of-put_other es (moved_on e (advanced r es e)) p other) ∙ h)
+            inr (sym (entry_of-put_other es (moved_on phase e (advanced r es e)) p other) ∙ h)
       ]
 
-      put-count : decided_count es ≤ decided_count (put es (moved_on e (advanced r es e)))
-      put-count = omega (arith, decided_count-put es (moved_on e (advanced r es e)) e at open')
+      put-count : decided_count es ≤ decided_count (put es (moved_on phase e (advanced r es e)))
+      put-count = omega (arith, decided_count-put es (moved_on phase e (advanced r es e)) e at open')
 
       moved-decided : (o : Outcome) → (advanced r es e).outcome ≡ Some o →
-          IsDecidedAs r (put es (moved_on e (advanced r es e))) (moved_on e (advanced r es e)) o
+          IsDecidedAs r (put es (moved_on phase e (advanced r es e))) (moved_on phase e (advanced r es e)) o
       moved-decided o done =
           let stays : advanced r es e ≡ r.progress e.path (outcome_at r (decided_count es)) =
           ended_stays r lawful e.path (only (operands r e.deps) (outcomes_of es)) (outcome_at r (decided_count es)) o
@@ -211,48 +224,128 @@ module _ (r : Rules) (lawful : AreLawful r) (request : List (List ℕ)) where
           let P : Option Outcome → Type 0 = λ y. advanced r es e ≡ record { outcome = y; deps = (advanced r es e).deps } in
           let parts : advanced r es e ≡ record { outcome = Some o; deps = (advanced r es e).deps } = subst P done refl in (
             decided_count es,
-            (let more = decided_count-put es (moved_on e (advanced r es e)) e at open' in
-                let one : ◌≡◌ {A = ℕ} (cond (is_some (moved_on e (advanced r es e)).outcome) 1 0) 1 = rw done refl in
+            (let more = decided_count-put es (moved_on phase e (advanced r es e)) e at open' in
+                let one : ◌≡◌ {A = ℕ} (cond (is_some (moved_on phase e (advanced r es e)).outcome) 1 0) 1 =
+                rw done refl in
                 omega (arith, more, one)),
             sym stays ∙ parts,
           )
 
+      at-rounds : begins_at r e.path (outcomes_of es) (rounds e) ≡ is_script phase
+      at-rounds =
+          let before = standing.under_way e.path e at open' in
+          let P : List Dep → Type 0 = λ ds. r.begins e.path (only (operands r ds) (outcomes_of es)) ≡ is_script phase in
+          subst P before.is how
+
+      -- only a script that isn't begun is looked at
+      unbegun : phase ≡ Check → e.turn ≡ 0
+      unbegun t = elim (cases_lt 0 e.turn) [
+        | inl later ↦ absurd (
+            let before = standing.under_way e.path e at open' in
+            let begun = begun-later r lawful e.path (outcomes_of es) e.looks (rounds e) (omega arith) before.came
+            (before.begun later) in
+            let now : begins_at r e.path (outcomes_of es) (rounds e) ≡ false = at-rounds ∙ rw t refl in
+            both_ways _ now begun)
+        | inr none ↦ omega arith
+      ]
+
+      moved-looks : (advanced r es e).outcome ≡ None → (k : ℕ) → k < (moved_on phase e (advanced r es e)).looks →
+          (k ≤ rounds e) × (begins_at r e.path (outcomes_of es) k ≡ false)
+      moved-looks stopped k below =
+          let before = standing.under_way e.path e at open' in
+          elim (phase_cases phase) [
+            | inl t ↦
+                let more : (moved_on phase e (advanced r es e)).looks ≡ e.looks + 1 = rw (t, stopped) refl in
+                let none = unbegun t in
+                elim (cases_lt k e.looks) [
+                  | inl earlier ↦ (omega arith, before.in_check k earlier)
+                  | inr now ↦
+                      let same : rounds e ≡ k = omega arith in
+                      let P : ℕ → Type 0 = λ x. begins_at r e.path (outcomes_of es) x ≡ false in
+                      (omega arith, subst P same (at-rounds ∙ rw t refl))
+                ]
+            | inr f ↦
+                let still : (moved_on phase e (advanced r es e)).looks ≡ e.looks = rw f refl in
+                let earlier : k < e.looks = omega arith in
+                (omega arith, before.in_check k earlier)
+          ]
+
+      moved-begun : (advanced r es e).outcome ≡ None → 0 < (moved_on phase e (advanced r es e)).turn →
+          ((moved_on phase e (advanced r es e)).looks ≤ rounds e) ×
+          (begins_at r e.path (outcomes_of es) (moved_on phase e (advanced r es e)).looks ≡ true)
+      moved-begun stopped later =
+          let before = standing.under_way e.path e at open' in
+          elim (phase_cases phase) [
+            | inl t ↦ absurd (
+                let same : (moved_on phase e (advanced r es e)).turn ≡ e.turn = rw t refl in
+                let none = unbegun t in omega arith)
+            | inr f ↦
+                let still : (moved_on phase e (advanced r es e)).looks ≡ e.looks = rw f refl in
+                let P : ℕ → Type 0 = λ x. begins_at r e.path (outcomes_of es) x ≡ true in (
+                  omega arith,
+                  subst P (sym still) (elim (cases_lt 0 e.turn) [
+                    | inl earlier ↦ before.begun earlier
+                    | inr now ↦ let same : rounds e ≡ e.looks = omega arith in subst P same (at-rounds ∙ rw f refl)
+                  ]),
+                )
+          ]
+
       moved-under_way : (advanced r es e).outcome ≡ None →
-          IsUnderWay r (put es (moved_on e (advanced r es e))) (moved_on e (advanced r es e))
+          IsUnderWay r (put es (moved_on phase e (advanced r es e))) (moved_on phase e (advanced r es e))
       moved-under_way stopped =
           let before = standing.under_way e.path e at open' in
-          let here : advanced r es e ≡ progress_at_turn r e.path (outcomes_of es) e.turn =
+          let here : advanced r es e ≡ progress_at_turn r e.path (outcomes_of es) (rounds e) =
           (let P : List Dep → Type 0 = λ ds. advanced r es e ≡ r.progress e.path (only (operands r ds) (outcomes_of es)) in
           subst P before.is refl) in
-          let came : CameTo r e.path (outcomes_of es) (suc e.turn) = record {
-            answered = λ k q below m none. elim (cases_lt k e.turn) [
+          let came : CameTo r e.path (outcomes_of es) (suc (rounds e)) = record {
+            answered = λ k q below m none. elim (cases_lt k (rounds e)) [
               | inl earlier ↦ before.came.answered k q earlier m none
               | inr now ↦
-                  let same : k ≡ e.turn = omega arith in
+                  let same : k ≡ rounds e = omega arith in
                   let P : ℕ → Type 0 = λ j. IsAmong (operands r (deps_at_turn r e.path (outcomes_of es) j)) q in
                   let Q : List Dep → Type 0 = λ ds. IsAmong (operands r ds) q in
                   fed q (subst Q (sym before.is) (subst P same m)) none
             ];
-            stopped = λ k below. elim (cases_lt k e.turn) [
+            stopped = λ k below. elim (cases_lt k (rounds e)) [
               | inl earlier ↦ before.came.stopped k earlier
               | inr now ↦
-                  let same : k ≡ e.turn = omega arith in
+                  let same : k ≡ rounds e = omega arith in
                   let P : ℕ → Type 0 = λ j. (progress_at_turn r e.path (outcomes_of es) j).outcome ≡ None in
                   subst P (sym same) (sym (ap (λ (x : Progress). x.outcome) here) ∙ stopped)
             ];
           } in
-          let deps : (advanced r es e).deps ≡ deps_at_turn r e.path (outcomes_of es) (suc e.turn) =
+          let deps : (advanced r es e).deps ≡ deps_at_turn r e.path (outcomes_of es) (suc (rounds e)) =
           ap (λ (x : Progress). x.deps) here in
-          let turn : (moved_on e (advanced r es e)).turn ≡ suc e.turn = rw stopped (omega arith) in
-          let more = CameTo-more r lawful e.path (outcomes_of es) (outcomes_of (put es (moved_on e (advanced r es e)))) put-outcomes (suc e.turn) came in
-          let deps' = deps ∙ deps_at_turn-more r lawful e.path (outcomes_of es) (outcomes_of (put es (moved_on e (advanced r es e)))) put-outcomes (suc e.turn) came in
-          let P : ℕ → Type 0 = λ k. CameTo r e.path (outcomes_of (put es (moved_on e (advanced r es e)))) k in
-          let Q : ℕ → Type 0 = λ k. (advanced r es e).deps ≡ deps_at_turn r e.path (outcomes_of (put es (moved_on e (advanced r es e)))) k in
-          record { came = subst P (sym turn) more; is = subst Q (sym turn) deps' }
+          let turn : rounds (moved_on phase e (advanced r es e)) ≡ suc (rounds e) = elim (phase_cases phase) [
+            | inl t ↦ rw (t, stopped) (omega arith)
+            | inr f ↦ rw (f, stopped) (omega arith)
+          ] in
+          let more =
+          CameTo-more r lawful e.path (outcomes_of es) (outcomes_of (put es (moved_on phase e (advanced r es e))))
+          put-outcomes (suc (rounds e)) came in
+          let deps' = deps ∙ deps_at_turn-more r lawful e.path (outcomes_of es)
+          (outcomes_of (put es (moved_on phase e (advanced r es e)))) put-outcomes (suc (rounds e)) came in
+          let P : ℕ → Type 0 = λ k. CameTo r e.path (outcomes_of (put es (moved_on phase e (advanced r es e)))) k in
+          let Q : ℕ → Type 0 = λ k. (advanced r es e).deps ≡ deps_at_turn r e.path
+          (outcomes_of (put es (moved_on phase e (advanced r es e)))) k in
+          let stays : (k : ℕ) → k ≤ rounds e →
+          begins_at r e.path (outcomes_of es) k ≡ begins_at r e.path
+          (outcomes_of (put es (moved_on phase e (advanced r es e)))) k =
+          λ k h. begins_at-more r lawful e.path (outcomes_of es)
+          (outcomes_of (put es (moved_on phase e (advanced r es e)))) put-outcomes k
+          (CameTo-upto r lawful e.path (outcomes_of es) k (suc (rounds e)) (omega arith) came)
+          (λ q m. came.answered k q (omega arith) m) in
+          record {
+            came = subst P (sym turn) more;
+            is = subst Q (sym turn) deps';
+            in_check = λ k below. let was = moved-looks stopped k below in sym (stays k was.0) ∙ was.1;
+            begun = λ later. let was =
+                moved-begun stopped later in sym (stays (moved_on phase e (advanced r es e)).looks was.0) ∙ was.1;
+          }
 
-      pub put-standing : AreStanding r request (put es (moved_on e (advanced r es e)))
+      pub put-standing : AreStanding r request (put es (moved_on phase e (advanced r es e)))
       put-standing =
-          let paths = paths_of-put es (moved_on e (advanced r es e)) in
+          let paths = paths_of-put es (moved_on phase e (advanced r es e)) in
           let There : List ℕ → List (List ℕ) → Type 0 = λ p xs. IsAmong xs p in
           record {
             distinct = let P : List (List ℕ) → Type 0 = AreDistinct in subst P (sym paths) standing.distinct;
@@ -265,15 +358,19 @@ module _ (r : Rules) (lawful : AreLawful r) (request : List (List ℕ)) where
             ]);
             decided = λ p x o h done. elim (put-cases p x h) [
               | inl new ↦
-                  let P : Entry → Type 0 = λ y. IsDecidedAs r (put es (moved_on e (advanced r es e))) y o in
+                  let P : Entry → Type 0 = λ y. IsDecidedAs r (put es (moved_on phase e (advanced r es e))) y o in
                   subst P (sym new.1) (moved-decided o (sym (ap (λ (y : Entry). y.outcome) new.1) ∙ done))
-              | inr old ↦ IsDecidedAs-more es (put es (moved_on e (advanced r es e))) x o put-count (standing.decided p x o old done)
+              | inr old ↦
+                  IsDecidedAs-more es (put es (moved_on phase e (advanced r es e))) x o put-count
+                  (standing.decided p x o old done)
             ];
             under_way = λ p x h still. elim (put-cases p x h) [
               | inl new ↦
-                  let P : Entry → Type 0 = λ y. IsUnderWay r (put es (moved_on e (advanced r es e))) y in
+                  let P : Entry → Type 0 = λ y. IsUnderWay r (put es (moved_on phase e (advanced r es e))) y in
                   subst P (sym new.1) (moved-under_way (sym (ap (λ (y : Entry). y.outcome) new.1) ∙ still))
-              | inr old ↦ IsUnderWay-more es (put es (moved_on e (advanced r es e))) x put-outcomes (standing.under_way p x old still)
+              | inr old ↦
+                  IsUnderWay-more es (put es (moved_on phase e (advanced r es e))) x put-outcomes
+                  (standing.under_way p x old still)
             ];
           }
 
@@ -311,7 +408,7 @@ module _ (r : Rules) (lawful : AreLawful r) (request : List (List ℕ)) where
       sent-count = omega (arith, decided_count-put es (sent_out e) e at open')
 
       sent-under_way : IsUnderWay r (put es (sent_out e)) e → IsUnderWay r (put es (sent_out e)) (sent_out e)
-      sent-under_way h = record { came = h.came; is = h.is }
+      sent-under_way h = record { came = h.came; is = h.is; in_check = h.in_check; begun = h.begun }
 
       pub sent-standing : AreStanding r request (put es (sent_out e))
       sent-standing =

@@ -1,16 +1,15 @@
 -- A target's turn stays below the number of entries.
 use Rattle.std.proofs.Common.{◌≡◌, ℕ, zero, suc, ◌<◌, inl, inr, List, [], ◌∷◌, length, Some, None, refl, sym, ap, subst}
 use Rattle.std.proofs.Common.{◌∙◌, arith}
-use Rattle.std.proofs.lemmas.Bool.{cases_Bool}
-use Rattle.redo_record.specs.Paths.{is_among, IsAmong, AreDistinct}
+use Rattle.redo_record.specs.Paths.{IsAmong, AreDistinct}
+use Rattle.redo_record.specs.declared.deps.Dep.{Dep}
 use Rattle.redo_build.specs.Rules.{Ask, Rules, AreLawful, operands}
 use Rattle.redo_build.specs.Schedule.{Entry, paths_of, entry_of, outcomes_of, only}
 use Rattle.redo_build.specs.inside.Turns.{deps_at_turn, CameTo}
-use Rattle.redo_build.proofs.PathLemmas.{is_among-true, within-length, IsAmong-same}
+use Rattle.redo_build.specs.inside.Standing.{AreStanding, rounds}
+use Rattle.redo_build.proofs.PathLemmas.{within-length, IsAmong-same}
 use Rattle.redo_build.proofs.SeenLemmas.{entry_of-among, outcomes_of-at}
-use Rattle.redo_build.proofs.TurnLemmas.{only-some, only-among, CameTo-before}
-use Rattle.redo_build.specs.inside.Standing.{AreStanding}
-use Rattle.redo_record.specs.declared.deps.Dep.{Dep}
+use Rattle.redo_build.proofs.TurnLemmas.{only-among, CameTo-before, asked-more}
 
 -- some paths asked for at one turn after another, the last first, each once
 pub record HasAsked (r : Rules) (p : List ℕ) (a : Ask) (turn : ℕ) : Type 0 where
@@ -20,20 +19,6 @@ pub record HasAsked (r : Rules) (p : List ℕ) (a : Ask) (turn : ℕ) : Type 0 w
   pub many : length paths ≡ turn
 
 module _ (r : Rules) (lawful : AreLawful r) where
-  -- what a script asked for before it still asks for at its next turn
-  pub asked-more : (p : List ℕ) (a : Ask) (turn : ℕ) → CameTo r p a turn → (q : List ℕ) →
-      IsAmong (operands r (deps_at_turn r p a turn)) q → IsAmong (operands r (deps_at_turn r p a (suc turn))) q
-  asked-more p a zero came q m = absurd m
-  asked-more p a (suc k) came q m =
-      (lawful.each p).grows q (only (operands r (deps_at_turn r p a k)) a) (only (operands r (deps_at_turn r p a (suc k))) a)
-      (λ x o s h.
-      elim (cases_Bool (is_among (operands r (deps_at_turn r p a k)) x)) [
-        | inl t ↦
-            let wider = asked-more p a k (CameTo-before r lawful p a k came) x (is_among-true (operands r (deps_at_turn r p a k)) x t) in
-            only-among (operands r (deps_at_turn r p a (suc k))) a x wider ∙ only-some (operands r (deps_at_turn r p a k)) a x o h
-        | inr f ↦ absurd (let now = rw f at h in cc)
-      ]) m
-
   has_asked : (p : List ℕ) (a : Ask) (turn : ℕ) → CameTo r p a turn → HasAsked r p a turn
   has_asked p a zero came = record { paths = []; distinct = tt; inside = λ q m. absurd m; many = refl }
   has_asked p a (suc k) came =
@@ -47,17 +32,18 @@ module _ (r : Rules) (lawful : AreLawful r) where
         distinct = (λ m. new (old.inside lack.0 m), old.distinct);
         inside = λ q m. elim m [
           | inl here ↦ IsAmong-same (operands r (deps_at_turn r p a (suc k))) lack.0 q here lack.1
-          | inr later ↦ asked-more p a k before q (old.inside q later)
+          | inr later ↦ asked-more r lawful p a k before q (old.inside q later)
         ];
         many = ap suc old.many;
       }
 
   -- the turn of a target that has every answer it asked for is below the number of entries
   pub turn-below : (request : List (List ℕ)) (es : List Entry) → AreStanding r request es → (p : List ℕ) (e : Entry) → entry_of es p ≡ Some e →
-      e.outcome ≡ None → ((q : List ℕ) → IsAmong (operands r e.deps) q → outcomes_of es q ≡ None → ⊥) → e.turn < length (paths_of es)
+      e.outcome ≡ None → ((q : List ℕ) → IsAmong (operands r e.deps) q → outcomes_of es q ≡ None → ⊥) →
+      rounds e < length (paths_of es)
   turn-below request es standing p e at open' fed =
       let way = standing.under_way p e at open' in
-      let asked = has_asked e.path (outcomes_of es) e.turn way.came in
+      let asked = has_asked e.path (outcomes_of es) (rounds e) way.came in
       let P : List Dep → (List ℕ) → Type 0 = λ ds q. IsAmong (operands r ds) q in
       let deps : (q : List ℕ) → IsAmong asked.paths q → IsAmong (operands r e.deps) q = λ q m.
       (let Q : List Dep → Type 0 = λ ds. IsAmong (operands r ds) q in subst Q (sym way.is) (asked.inside q m)) in

@@ -1,15 +1,16 @@
 -- What a script did at its earlier turns doesn't change as more targets are decided.
 use Rattle.std.proofs.Common.{◌≡◌, ℕ, zero, suc, ◌≤◌, inl, inr, List, Some, None, refl, sym, ap, subst, ◌∙◌, arith}
-use Rattle.std.proofs.lemmas.Bool.{cases_Bool}
+use Rattle.std.proofs.Common.{true}
+use Rattle.std.proofs.lemmas.Bool.{cases_Bool, cases_lt}
 use Rattle.redo_record.specs.Paths.{is_among, IsAmong}
 use Rattle.redo_record.specs.Progress.{Progress}
-use Rattle.redo_build.specs.Rules.{Ask, Rules, AreLawful, Extends, operands}
-use Rattle.redo_build.specs.Schedule.{only}
-use Rattle.redo_build.specs.inside.Turns.{deps_at_turn, progress_at_turn, CameTo}
-use Rattle.redo_build.proofs.PathLemmas.{is_among-true, is_among-from}
-use Rattle.redo_build.proofs.DepthLemmas.{cases_Option, operand-target}
 use Rattle.redo_record.specs.declared.deps.Dep.{Dep}
 use Rattle.redo_record.specs.declared.outcome.Outcome.{Outcome}
+use Rattle.redo_build.specs.Rules.{Ask, Rules, AreLawful, Extends, operands}
+use Rattle.redo_build.specs.Schedule.{only}
+use Rattle.redo_build.specs.inside.Turns.{deps_at_turn, progress_at_turn, CameTo, begins_at}
+use Rattle.redo_build.proofs.PathLemmas.{is_among-true, is_among-from}
+use Rattle.redo_build.proofs.DepthLemmas.{cases_Option, operand-target}
 
 -- one of the answers alone
 pub only-some : (ps : List (List ℕ)) (a : Ask) (q : List ℕ) (o : Outcome) → only ps a q ≡ Some o → a q ≡ Some o
@@ -73,6 +74,72 @@ module _ (r : Rules) (lawful : AreLawful r) where
     answered = λ i q below m. came.answered i q (omega arith) m;
     stopped = λ i below. came.stopped i (omega arith);
   }
+
+  -- with all answers to what it asked for, whether it is begun stays too
+  pub begins-more : (p : List ℕ) (ds : List Dep) (a b : Ask) → Extends r a b →
+      ((q : List ℕ) → IsAmong (operands r ds) q → a q ≡ None → ⊥) →
+      r.begins p (only (operands r ds) a) ≡ r.begins p (only (operands r ds) b)
+  begins-more p ds a b more all = lawful.begins_local p (only (operands r ds) a) (only (operands r ds) b) (λ q m.
+      elim (cases_Bool (is_among (operands r ds) q)) [
+        | inl t ↦ rw t (
+            let among = is_among-true (operands r ds) q t in
+            elim (cases_Option (a q)) [
+              | inl none ↦ absurd (all q among none)
+              | inr some ↦ some.1 ∙ sym (more q some.0 (operand-target r lawful ds q among) some.1)
+            ])
+        | inr f ↦ rw f refl
+      ])
+
+  pub begins_at-more : (p : List ℕ) (a b : Ask) → Extends r a b → (turn : ℕ) → CameTo r p a turn →
+      ((q : List ℕ) → IsAmong (operands r (deps_at_turn r p a turn)) q → a q ≡ None → ⊥) →
+      begins_at r p a turn ≡ begins_at r p b turn
+  begins_at-more p a b more turn came all =
+      let here = begins-more p (deps_at_turn r p a turn) a b more all in
+      let P : List Dep → Type 0 = λ ds. r.begins p (only (operands r (deps_at_turn r p a turn)) a) ≡ r.begins p
+      (only (operands r ds) b) in
+      subst P (deps_at_turn-more p a b more turn came) here
+
+  -- what a script asked for before it still asks for at its next turn
+  pub asked-more : (p : List ℕ) (a : Ask) (turn : ℕ) → CameTo r p a turn → (q : List ℕ) →
+      IsAmong (operands r (deps_at_turn r p a turn)) q → IsAmong (operands r (deps_at_turn r p a (suc turn))) q
+  asked-more p a zero came q m = absurd m
+  asked-more p a (suc k) came q m =
+      (lawful.each p).grows q (only (operands r (deps_at_turn r p a k)) a) (only (operands r (deps_at_turn r p a (suc k))) a)
+      (known-more p a k (asked-more p a k (CameTo-before p a k came))) m
+    where
+      known-more : (p : List ℕ) (a : Ask) (k : ℕ) → ((q : List ℕ) → IsAmong (operands r (deps_at_turn r p a k)) q →
+          IsAmong (operands r (deps_at_turn r p a (suc k))) q) →
+          Extends r (only (operands r (deps_at_turn r p a k)) a) (only (operands r (deps_at_turn r p a (suc k))) a)
+      known-more p a k wider x o s h = elim (cases_Bool (is_among (operands r (deps_at_turn r p a k)) x)) [
+        | inl t ↦
+            let there = wider x (is_among-true (operands r (deps_at_turn r p a k)) x t) in
+            only-among (operands r (deps_at_turn r p a (suc k))) a x there
+            ∙ only-some (operands r (deps_at_turn r p a k)) a x o h
+        | inr f ↦ absurd (let now = rw f at h in cc)
+      ]
+
+  pub turn-more : (p : List ℕ) (a : Ask) (k : ℕ) → CameTo r p a k →
+      Extends r (only (operands r (deps_at_turn r p a k)) a) (only (operands r (deps_at_turn r p a (suc k))) a)
+  turn-more p a k came x o s h = elim (cases_Bool (is_among (operands r (deps_at_turn r p a k)) x)) [
+    | inl t ↦
+        let there = asked-more p a k came x (is_among-true (operands r (deps_at_turn r p a k)) x t) in
+        only-among (operands r (deps_at_turn r p a (suc k))) a x there ∙ only-some (operands r (deps_at_turn r p a k)) a
+        x o h
+    | inr f ↦ absurd (let now = rw f at h in cc)
+  ]
+
+  -- what is begun stays begun at later turns
+  pub begun-later : (p : List ℕ) (a : Ask) (j k : ℕ) → j ≤ k → CameTo r p a k → begins_at r p a j ≡ true →
+      begins_at r p a k ≡ true
+  begun-later p a j zero h came e = let same : j ≡ 0 = omega arith in rw same at e
+  begun-later p a j (suc k) h came e = elim (cases_lt k j) [
+    | inl above ↦
+        let same : j ≡ suc k = omega arith in (let P : ℕ → Type 0 = λ x. begins_at r p a x ≡ true in subst P same e)
+    | inr below ↦
+        lawful.begins_stays p (only (operands r (deps_at_turn r p a k)) a)
+        (only (operands r (deps_at_turn r p a (suc k))) a)
+        (turn-more p a k (CameTo-before p a k came)) (begun-later p a j k below (CameTo-before p a k came) e)
+  ]
 
   pub CameTo-more : (p : List ℕ) (a b : Ask) → Extends r a b → (turn : ℕ) → CameTo r p a turn → CameTo r p b turn
   CameTo-more p a b more turn came = record {

@@ -1,5 +1,7 @@
 pub mod Lacking
+pub mod Looking
 pub mod Outcomes
+pub mod Pieces
 pub mod Rules
 pub mod Schedule
 pub mod Takes

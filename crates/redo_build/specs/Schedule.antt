@@ -10,10 +10,11 @@ use Rattle.redo_build.specs.Outcomes.{requested_targets}
 use Rattle.redo_record.specs.declared.deps.Dep.{Dep}
 use Rattle.redo_record.specs.declared.outcome.Outcome.{Outcome}
 
--- a target that was seen: how often its script stopped, all that it asked for so far, its outcome once it is decided,
--- and whether its job is out
+-- a target that was seen: how often its check stopped and how often its script, all that it asked for so far, its
+-- outcome once it is decided, and whether its job is out
 pub record Entry : Type 0 where
   pub path : List ℕ
+  pub looks : ℕ
   pub turn : ℕ
   pub deps : List Dep
   pub outcome : Option Outcome
@@ -52,9 +53,10 @@ nothing_known q = None
 abbrev pub new_entry : Rules → List ℕ → Entry
 new_entry r p =
     if r.has_rule p
-    then record { path = p; turn = 0; deps = []; outcome = None; is_out = false }
+    then record { path = p; looks = 0; turn = 0; deps = []; outcome = None; is_out = false }
     else record {
       path = p;
+      looks = 0;
       turn = 0;
       deps = (r.progress p nothing_known).deps;
       outcome = (r.progress p nothing_known).outcome;
@@ -75,13 +77,25 @@ put (x ∷ xs) e = if bytes_eq x.path e.path then e ∷ xs else x ∷ put xs e
 abbrev pub lacks_none : Rules → List Entry → Entry → Bool
 lacks_none r es e = not (list_any (λ q. is_none (outcomes_of es q)) (operands r e.deps))
 
+-- the answers to all that the entry asked for. At turn 0 they are what its check came to know
+abbrev pub known_to : Rules → List Entry → Entry → Ask
+known_to r es e = only (operands r e.deps) (outcomes_of es)
+
 -- the entry can go on, and isn't noted as ready or out
 abbrev pub is_able_to_go_on : Rules → State → Entry → Bool
 is_able_to_go_on r s e = is_none e.outcome && lacks_none r s.entries e && not e.is_out && not (is_among s.ready e.path)
 
--- what can go on now is ready behind the others, in order of first sight
+-- its script can begin or go on
+abbrev pub may_run : Rules → State → Entry → Bool
+may_run r s e = is_able_to_go_on r s e && r.begins e.path (known_to r s.entries e)
+
+-- its script isn't begun yet, and the check of its recorded entries can begin or go on
+abbrev pub is_due : Rules → State → Entry → Bool
+is_due r s e = is_able_to_go_on r s e && not (r.begins e.path (known_to r s.entries e))
+
+-- what may run now is ready behind the others, in order of first sight
 abbrev pub enqueued : Rules → State → State
-enqueued r s = record s { ready = s.ready ++ paths_of (filter (is_able_to_go_on r s) s.entries) }
+enqueued r s = record s { ready = s.ready ++ paths_of (filter (may_run r s) s.entries) }
 
 -- the opening
 abbrev pub opening : Rules → List (List ℕ) → State
@@ -90,6 +104,13 @@ opening r request = enqueued r (record { entries = entered r [] (requested_targe
 pub data Event : Type 0 where
   Take : (which : ℕ) → Event
   Hand_in : (target : List ℕ) (turn : ℕ) → Event
+  -- the board's own: the check of a target goes on until it lacks an answer
+  Look : (target : List ℕ) → Event
+
+-- what of a target goes on: the check of its recorded entries, or its script
+pub data Phase : Type 0 where
+  Check : Phase
+  Script : Phase
 
 -- the entry, with its job out
 abbrev pub sent_out : Entry → Entry
@@ -101,31 +122,44 @@ taken s (Some e) which = record { entries = put s.entries (sent_out e); ready = 
 
 -- how far an entry comes with the answers that it asked for
 abbrev pub advanced : Rules → List Entry → Entry → Progress
-advanced r es e = r.progress e.path (only (operands r e.deps) (outcomes_of es))
+advanced r es e = r.progress e.path (known_to r es e)
 
--- the entry after its script was advanced so far
-abbrev pub moved_on : Entry → Progress → Entry
-moved_on e now =
+-- how often its check stopped, once this phase of the target came so far
+abbrev pub looks_after : Phase → Entry → Progress → ℕ
+looks_after Check e now = if is_some now.outcome then e.looks else e.looks + 1
+looks_after Script e now = e.looks
+
+-- how often its script stopped
+abbrev pub turn_after : Phase → Entry → Progress → ℕ
+turn_after Check e now = e.turn
+turn_after Script e now = if is_some now.outcome then e.turn else e.turn + 1
+
+-- the entry after its check or its script came so far
+abbrev pub moved_on : Phase → Entry → Progress → Entry
+moved_on phase e now =
     record {
       path = e.path;
-      turn = if is_some now.outcome then e.turn else e.turn + 1;
+      looks = looks_after phase e now;
+      turn = turn_after phase e now;
       deps = now.deps;
       outcome = now.outcome;
       is_out = false;
     }
 
-abbrev pub handed_in : Rules → State → Option Entry → State
-handed_in r s None = s
-handed_in r s (Some e) =
+-- the state after that, with what the entry asks for now
+abbrev pub handed_in : Rules → Phase → State → Option Entry → State
+handed_in r phase s None = s
+handed_in r phase s (Some e) =
     let now = advanced r s.entries e in
     enqueued r (record {
-      entries = put (entered r s.entries (operands r now.deps)) (moved_on e now);
+      entries = put (entered r s.entries (operands r now.deps)) (moved_on phase e now);
       ready = s.ready;
     })
 
 abbrev pub happens : Rules → State → Event → State
 happens r s (Take which) = taken s (option_and_then (entry_of s.entries) (slice_get s.ready which)) which
-happens r s (Hand_in target turn) = handed_in r s (entry_of s.entries target)
+happens r s (Hand_in target turn) = handed_in r Script s (entry_of s.entries target)
+happens r s (Look target) = handed_in r Check s (entry_of s.entries target)
 
 -- the target is out at that turn
 pub record IsOutAt (s : State) (target : List ℕ) (turn : ℕ) : Type 0 where
@@ -134,9 +168,17 @@ pub record IsOutAt (s : State) (target : List ℕ) (turn : ℕ) : Type 0 where
   pub is_out : entry.is_out ≡ true
   pub at_turn : entry.turn ≡ turn
 
-abbrev pub IsOpen : State → Event → Type 0
-IsOpen s (Take which) = which < length s.ready
-IsOpen s (Hand_in target turn) = IsOutAt s target turn
+-- the check of the target can begin or go on
+pub record IsDueAt (r : Rules) (s : State) (target : List ℕ) : Type 0 where
+  pub entry : Entry
+  pub at : entry_of s.entries target ≡ Some entry
+  pub due : is_due r s entry ≡ true
+
+-- the event may happen now
+abbrev pub IsOpen : Rules → State → Event → Type 0
+IsOpen r s (Take which) = which < length s.ready
+IsOpen r s (Hand_in target turn) = IsOutAt s target turn
+IsOpen r s (Look target) = IsDueAt r s target
 
 -- the state after these events
 abbrev pub run : Rules → List Event → State → State
@@ -146,7 +188,7 @@ run r (e ∷ es) s = run r es (happens r s e)
 -- each of these events is open when it happens
 abbrev pub AllOpen : Rules → State → List Event → Type 0
 AllOpen r s [] = Unit {0}
-AllOpen r s (e ∷ es) = IsOpen s e × AllOpen r (happens r s e) es
+AllOpen r s (e ∷ es) = IsOpen r s e × AllOpen r (happens r s e) es
 
 -- how many jobs are out
 abbrev pub out_count : State → ℕ

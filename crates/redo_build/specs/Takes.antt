@@ -5,7 +5,7 @@ use Rattle.std.specs.List.{count_by}
 use Rattle.redo_record.specs.Paths.{IsAmong}
 use Rattle.redo_build.specs.Rules.{Rules}
 use Rattle.redo_build.specs.Schedule.{Entry, State, Event, entry_of, happens}
-use Rattle.redo_build.specs.Schedule.Event.{Take, Hand_in}
+use Rattle.redo_build.specs.Schedule.Event.{Take, Hand_in, Look}
 
 -- the target of an entry with its turn
 abbrev pub place_of : Option Entry → List ((List ℕ) × ℕ)
@@ -19,6 +19,7 @@ takes r (Take which ∷ events) s =
     place_of (option_and_then (entry_of s.entries) (slice_get s.ready which)) ++
     takes r events (happens r s (Take which))
 takes r (Hand_in target turn ∷ events) s = takes r events (happens r s (Hand_in target turn))
+takes r (Look target ∷ events) s = takes r events (happens r s (Look target))
 
 abbrev pub IsTaken : List ((List ℕ) × ℕ) → List ℕ → ℕ → Type 0
 IsTaken [] p turn = ⊥

@@ -1,10 +1,16 @@
 //! Laws over the definitions, as contracts of functions that do nothing.
-ghost use Rattle.std.specs.Prelude.{◌≡◌, ℕ, List, ◌≤◌, ◌↔◌, true, length};
+ghost use Rattle.std.specs.Prelude.{◌≡◌, ℕ, List, ◌++◌, ◌<◌, ◌≤◌, ◌↔◌, true, length};
 ghost use Rattle.redo_record.specs.Paths.{IsAmong};
-ghost use Rattle.redo_build.specs.Outcomes.{needed_at, IsSettled};
+ghost use Rattle.redo_record.specs.Progress.{Progress};
+ghost use Rattle.redo_build.specs.Looking.{AreLooks, NoneDue, IsLedOn, IsLookedOut, KeepsNothing, Settles, looked};
+ghost use Rattle.redo_build.specs.Outcomes.{needed_at, outcome_at, IsSettled};
+ghost use Rattle.redo_build.specs.Pieces.{IsPiece};
 ghost use Rattle.redo_build.specs.Rules.{Rules, AreLawful};
-ghost use Rattle.redo_build.specs.Schedule.{Event, AllOpen, IsQuiet, opening, run};
+ghost use Rattle.redo_build.specs.Schedule.{Event, State, AllOpen, IsDueAt, IsOutAt, IsQuiet, advanced, happens};
+ghost use Rattle.redo_build.specs.Schedule.{opening, out_count, run};
+ghost use Rattle.redo_build.specs.Schedule.Event.{Look, Take};
 ghost use Rattle.redo_build.specs.Takes.{takes, times_taken, AreCountedOnce, AreOnce, IsTaken};
+ghost use Rattle.redo_build.specs.TakesLeft.{takes_left};
 ghost use Rattle.redo_build.specs.Theorems.{IsPartOfBuild, ShowsBuild};
 
 /// No depth beyond the limit makes a difference, where no more targets than the limit are needed.
@@ -13,13 +19,15 @@ pub fn depth_is_enough()
         length (needed_at r request limit) ≤ limit → IsSettled r request limit }
 {}
 
-/// Every order of taking and handing in shows a part of the one build, and all of it once nothing more can happen.
+/// Every order of taking, handing in and looking shows a part of the one build, and all of it once nothing more can
+/// happen and no check can go on.
 pub fn every_schedule()
     ensures part { (r : Rules) → AreLawful r → (request : List (List ℕ)) (limit : ℕ) (events : List Event) →
         AllOpen r (opening r request) events →
         IsPartOfBuild r request limit (run r events (opening r request)) }
     ensures quiet { (r : Rules) → AreLawful r → (request : List (List ℕ)) (limit : ℕ) (events : List Event) →
         AllOpen r (opening r request) events → IsQuiet (run r events (opening r request)) →
+        NoneDue r (run r events (opening r request)) →
         length (run r events (opening r request)).entries ≤ limit →
         ShowsBuild r request limit (run r events (opening r request)) }
 {}
@@ -32,13 +40,86 @@ pub fn takes_once()
         AllOpen r (opening r request) events → AreCountedOnce (takes r events (opening r request)) }
 {}
 
-/// Once nothing more can happen, the targets that were taken at turn 0 are the needed ones that have a rule.
+/// Once nothing more can happen, the targets that were taken at turn 0 are the needed ones that have a rule and that
+/// the rules begin in the end.
 pub fn begins_each()
     ensures { (r : Rules) → AreLawful r → (request : List (List ℕ)) (limit : ℕ) (events : List Event) →
         AllOpen r (opening r request) events → IsQuiet (run r events (opening r request)) →
+        NoneDue r (run r events (opening r request)) →
         length (run r events (opening r request)).entries ≤ limit → (p : List ℕ) →
         IsTaken (takes r events (opening r request)) p 0 ↔
-        (IsAmong (needed_at r request limit) p × (r.has_rule p ≡ true)) }
+        (IsAmong (needed_at r request limit) p × (r.has_rule p ≡ true) ×
+        (r.begins p (outcome_at r limit) ≡ true)) }
+{}
+
+/// The board's own looks come to an end: within the limit each leaves less that may be taken or looked at.
+pub fn looks_end()
+    ensures { (r : Rules) → AreLawful r → (request : List (List ℕ)) (limit : ℕ) (events : List Event)
+        (target : List ℕ) → AllOpen r (opening r request) events →
+        IsDueAt r (run r events (opening r request)) target →
+        length (happens r (run r events (opening r request)) (Look target)).entries ≤ limit →
+        takes_left limit (happens r (run r events (opening r request)) (Look target)) <
+        takes_left limit (run r events (opening r request)) }
+{}
+
+/// From each state within the limit the board's own looks lead to one in which no check can go on, or past the limit.
+pub fn looks_settle()
+    ensures { (r : Rules) → AreLawful r → (request : List (List ℕ)) (limit : ℕ) (events : List Event) →
+        AllOpen r (opening r request) events → length (run r events (opening r request)).entries ≤ limit →
+        Settles r limit (run r events (opening r request)) }
+{}
+
+/// The board's own looks are open events, and where they end there is one state that they lead to.
+pub fn looks_lead_on()
+    ensures led { (r : Rules) → AreLawful r → (request : List (List ℕ)) (events : List Event) (looks : ℕ) →
+        AllOpen r (opening r request) events →
+        IsLedOn r (run r events (opening r request)) (looked r looks (run r events (opening r request))) }
+    ensures one { (r : Rules) (s first second : State) → IsLookedOut r s first → IsLookedOut r s second →
+        first ≡ second }
+{}
+
+/// Looks leave the jobs as they are: what is out stays out at its turn, and nothing else is; as many are out; and looks
+/// take nothing.
+pub fn looks_leave_jobs()
+    ensures out { (r : Rules) → AreLawful r → (request : List (List ℕ)) (events : List Event) (looks : ℕ)
+        (target : List ℕ) (turn : ℕ) → AllOpen r (opening r request) events →
+        IsOutAt (run r events (opening r request)) target turn ↔
+        IsOutAt (looked r looks (run r events (opening r request))) target turn }
+    ensures count { (r : Rules) → AreLawful r → (request : List (List ℕ)) (events : List Event) (looks : ℕ) →
+        AllOpen r (opening r request) events →
+        out_count (looked r looks (run r events (opening r request))) ≡
+        out_count (run r events (opening r request)) }
+    ensures taken { (r : Rules) (events looks : List Event) (s : State) → AreLooks looks →
+        takes r (events ++ looks) s ≡ takes r events s }
+{}
+
+/// Where no check can go on, none can after a take: so a board looks at the opening and after a piece alone.
+pub fn takes_make_none_due()
+    ensures { (r : Rules) → AreLawful r → (request : List (List ℕ)) (events : List Event) (which : ℕ) →
+        AllOpen r (opening r request) events → NoneDue r (run r events (opening r request)) →
+        which < length (run r events (opening r request)).ready →
+        NoneDue r (happens r (run r events (opening r request)) (Take which)) }
+{}
+
+/// Where each script is begun, no check ever goes on, and looking changes nothing.
+pub fn nothing_is_due()
+    ensures none { (r : Rules) → KeepsNothing r → (s : State) → NoneDue r s }
+    ensures same { (r : Rules) → KeepsNothing r → (s t : State) → IsLookedOut r s t ↔ (t ≡ s) }
+{}
+
+/// A piece of a target that is out at its turn comes as far as the schedule says, whatever board its work is from; and
+/// so the scripts of two boards do, whatever their requests and their orders.
+pub fn pieces_are_alike()
+    ensures piece { (r : Rules) → AreLawful r → (request : List (List ℕ)) (events : List Event) (target : List ℕ)
+        (turn : ℕ) (now : Progress) → AllOpen r (opening r request) events →
+        (out : IsOutAt (run r events (opening r request)) target turn) → IsPiece r target turn now →
+        now ≡ advanced r (run r events (opening r request)).entries out.entry }
+    ensures boards { (r : Rules) → AreLawful r → (request other : List (List ℕ)) (events others : List Event)
+        (target : List ℕ) (turn : ℕ) → AllOpen r (opening r request) events → AllOpen r (opening r other) others →
+        (out : IsOutAt (run r events (opening r request)) target turn)
+        (there : IsOutAt (run r others (opening r other)) target turn) →
+        advanced r (run r others (opening r other)).entries there.entry ≡
+        advanced r (run r events (opening r request)).entries out.entry }
 {}
 
 /// How often each pair is counted in a list tells what was taken, and whether a pair stands twice.

@@ -1,10 +1,11 @@
 -- What holds of the entries of every state of the schedule.
-use Rattle.std.specs.Prelude.{◌≡◌, ℕ, ◌+◌, ◌<◌, false, List, [], ◌∷◌, Some, None, is_some, if◌then◌else◌}
+use Rattle.std.specs.Prelude.{◌≡◌, ℕ, ◌+◌, ◌<◌, Bool, true, false, List, [], ◌∷◌, Some, None, is_some, if◌then◌else◌}
 use Rattle.redo_record.specs.Paths.{IsAmong, AreDistinct}
 use Rattle.redo_build.specs.Rules.{Rules, operands}
 use Rattle.redo_build.specs.Outcomes.{outcome_at, needed_at}
-use Rattle.redo_build.specs.Schedule.{Entry, paths_of, entry_of, outcomes_of}
-use Rattle.redo_build.specs.inside.Turns.{deps_at_turn, CameTo}
+use Rattle.redo_build.specs.Schedule.{Entry, Phase, paths_of, entry_of, outcomes_of}
+use Rattle.redo_build.specs.Schedule.Phase.{Check, Script}
+use Rattle.redo_build.specs.inside.Turns.{deps_at_turn, begins_at, CameTo}
 use Rattle.redo_record.specs.declared.outcome.Outcome.{Outcome}
 
 -- how many entries are decided
@@ -22,10 +23,22 @@ abbrev pub IsDecidedAs : Rules → List Entry → Entry → Outcome → Type 0
 IsDecidedAs r es e o =
     (n : ℕ) × (n < decided_count es) × (r.progress e.path (outcome_at r n) ≡ record { outcome = Some o; deps = e.deps })
 
--- how an entry stands that isn't decided: its script came to its turn with what is decided
+-- whether it is the script that goes on
+abbrev pub is_script : Phase → Bool
+is_script Check = false
+is_script Script = true
+
+-- how often the entry stopped, in its check and in its script
+abbrev pub rounds : Entry → ℕ
+rounds e = e.looks + e.turn
+
+-- how an entry stands that isn't decided: its check or its script came to its turn with what is decided
 pub record IsUnderWay (r : Rules) (es : List Entry) (e : Entry) : Type 0 where
-  pub came : CameTo r e.path (outcomes_of es) e.turn
-  pub is : e.deps ≡ deps_at_turn r e.path (outcomes_of es) e.turn
+  pub came : CameTo r e.path (outcomes_of es) (rounds e)
+  pub is : e.deps ≡ deps_at_turn r e.path (outcomes_of es) (rounds e)
+  -- while its check stopped it wasn't begun, and it was where its script stopped
+  pub in_check : (k : ℕ) → k < e.looks → begins_at r e.path (outcomes_of es) k ≡ false
+  pub begun : 0 < e.turn → begins_at r e.path (outcomes_of es) e.looks ≡ true
 
 pub record AreStanding (r : Rules) (request : List (List ℕ)) (es : List Entry) : Type 0 where
   pub distinct : AreDistinct (paths_of es)

@@ -9,6 +9,6 @@ returns-clause-part c = λ r lawful request limit events all_open.
     is_part r lawful request (run r events (opening r request)) sound limit
 
 pub returns-clause-quiet : goal.returns-clause-quiet
-returns-clause-quiet c = λ r lawful request limit events all_open quiet few.
+returns-clause-quiet c = λ r lawful request limit events all_open quiet looked few.
     let sound = run-sound r lawful request (opening r request) events (opening-sound r lawful request) all_open in
-    shows r lawful request (run r events (opening r request)) sound limit quiet few
+    shows r lawful request (run r events (opening r request)) sound limit quiet looked few
