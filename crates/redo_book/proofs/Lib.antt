@@ -5,3 +5,4 @@ pub mod MadeLemmas
 pub mod RunLemmas
 pub mod TextLemmas
 pub mod WordLemmas
+pub mod WriteLemmas

@@ -89,6 +89,10 @@ pub record IsText (text : List ℕ) (book : List Record) : Type 0 where
   pub ordered : IsBook book
   pub whole : text ≡ text_of (book_lines book)
 
+-- the text so far of a book whose records so far are these: their lines, and not yet the last one
+abbrev pub IsWritten : List ℕ → List Record → Type 0
+IsWritten text records = text ≡ text_of (flat_map record_lines records)
+
 -- some book's text begins with these lines
 abbrev pub Begins : List (List ℕ) → Type 0
 Begins lines = (book : List Record) × (rest : List ℕ) × IsText (text_of lines ++ rest) book

@@ -117,12 +117,14 @@ impl Begun {
         }
     }
 
-    /// Puts the record that more entries might have followed with the whole ones.
+    /// Puts the record that more entries might have followed with the whole ones. From now on its entries take no more
+    /// room than they need.
     fn close(&mut self) -> Result<(), AllocError>
         ensures { OnOk result (made_of self.new ≡ record { done = records_of (made_of self.old); last = None }) }
     {
         if let Some(last) = self.last.take() {
-            let Last { begun, .. } = last;
+            let Last { mut begun, .. } = last;
+            begun.entries.shrink_to_fit();
             self.done.push(begun)?;
         }
         Ok(())

@@ -12,7 +12,7 @@ mod writing;
 pub use book::{Book, BookEntry, BookRecord};
 pub use faults::BookFault;
 pub use reading::read_book;
-pub use writing::book_text;
+pub use writing::{BookWriter, book_text};
 
 #[cfg(test)]
 mod tests;

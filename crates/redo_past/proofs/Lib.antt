@@ -2,6 +2,7 @@ pub mod CarryLemmas
 pub mod EntryLemmas
 pub mod FileLemmas
 pub mod ItemLemmas
+pub mod JoinLemmas
 pub mod LawLemmas
 pub mod LoopLemmas
 pub mod NewBookLemmas

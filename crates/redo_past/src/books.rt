@@ -1,29 +1,16 @@
-//! The order of the new book, and its place among files.
+//! The place of the new book among files.
 
 ghost use Rattle.std.specs.Prelude.{◌≡◌, OnOk, length, map};
 ghost use Rattle.std.specs.Cmp.Lexicographic.{slice_cmp};
-ghost use Rattle.std.specs.List.Sorted.{IsBinarySearchResult, IsPermutation, IsSearchInRange, IsSortedByKey};
+ghost use Rattle.std.specs.List.Sorted.{IsBinarySearchResult, IsSearchInRange};
 ghost use Rattle.std.specs.Ordering.{nat_cmp};
 ghost use Rattle.redo_report.specs.Reports.{AreAscending};
 ghost use Rattle.redo_past.specs.NewBook.{with_file};
 
-use redo_book::BookRecord;
 use redo_path::Path;
 use redo_tree::Content;
 use std::alloc::AllocError;
 use std::cmp::Ordering;
-
-/// Puts records in the order of their targets.
-pub(crate) fn sort(records: &mut Vec<BookRecord>)
-    ensures permutation { IsPermutation records.old.items records.new.items }
-    ensures sorted { IsSortedByKey (λ r. r.target) (slice_cmp nat_cmp) records.new.items }
-{
-    records.sort_unstable_by(
-        |left: &BookRecord, right: &BookRecord| -> Ordering
-            ensures { result ≡ slice_cmp nat_cmp left.now.target right.now.target }
-        { left.target.cmp(&right.target) },
-    );
-}
 
 /// The place of a path among files, or where it would stand.
 fn search(files: &[(Path, Content)], path: &Path) -> Result<usize, usize>

@@ -1,15 +1,19 @@
 //! The records of the last run that go over into the new book.
 
-ghost use Rattle.std.specs.Prelude.{◌≡◌, ◌++◌, IfOk, OnOk, map};
+ghost use Rattle.std.specs.Prelude.{◌≡◌, ◌++◌, IfOk, List, OnOk, filter, map};
+ghost use Rattle.std.specs.Cmp.Lexicographic.{slice_cmp};
+ghost use Rattle.std.specs.List.{prefix_len};
+ghost use Rattle.std.specs.List.Sorted.{IsStrictlySortedBy};
+ghost use Rattle.std.specs.Ordering.{nat_cmp};
 ghost use Rattle.redo_which.specs.Rule.{found_of, is_rule};
-ghost use Rattle.redo_book.specs.Book.{record_of};
-ghost use Rattle.redo_past.specs.inside.Books.{AreRows, carried_records, carries, has_built};
+ghost use Rattle.redo_book.specs.Book.{IsWritten, Record, record_of, targets_of};
+ghost use Rattle.redo_past.specs.inside.Books.{AreRows, carries, has_built, is_before, is_behind};
 ghost use Rattle.redo_past.specs.NewBook.{row_at};
 
 use crate::Past;
 use crate::records::is_built;
 use crate::states::find_row;
-use redo_book::BookRecord;
+use redo_book::{BookRecord, BookWriter};
 use redo_path::Path;
 use redo_report::Row;
 use redo_tree::Tree;
@@ -58,29 +62,64 @@ fn is_carried(
     has_rule(alloc, past.sources(), target)
 }
 
-/// A copy of a record.
-fn copied(record: &BookRecord) -> Result<BookRecord, AllocError>
-    ensures { IfOk result (λ copy. record_of copy ≡ record_of «record».now) }
-{
-    let copy = record.clone()?;
-    Ok(copy)
-}
-
-/// Puts copies of the records that go over into the new book behind others.
+/// Writes those of some old records that go over into the new book.
 pub(crate) fn carry(
     alloc: Global,
     past: &Past,
     rows: &[Row],
-    records: &mut Vec<BookRecord>,
+    records: &[BookRecord],
+    writer: &mut BookWriter,
 ) -> Result<(), AllocError>
     requires { AreRows rows.now }
-    ensures { OnOk result (map record_of records.new.items ≡
-        map record_of records.old.items ++ carried_records past.now rows.now) }
+    ensures { OnOk result ((written : List Record) → IsWritten writer.old written →
+        IsWritten writer.new (written ++ filter (carries past.now rows.now) (map record_of records.now))) }
 {
-    for record in past.book().records() {
+    for record in records {
         if is_carried(alloc, past, rows, record)? {
-            records.push(copied(record)?)?;
+            writer.write(record)?;
         }
     }
     Ok(())
+}
+
+/// Whether a record's target stands before a path.
+fn stands_before(record: &BookRecord, path: &Path) -> bool
+    ensures { result ≡ is_before path.now (record_of «record».now) }
+{
+    record.target < *path
+}
+
+/// How many records at the front stand before a path.
+fn count_before(records: &[BookRecord], path: &Path) -> usize
+    ensures { result ≡ prefix_len (λ r. is_before path.now (record_of r)) records.now }
+{
+    for at in 0..records.len() {
+        if !stands_before(&records[at], path) {
+            return at;
+        }
+    }
+    records.len()
+}
+
+/// Writes those of some old records that go over into the new book and stand before a path. The records that don't
+/// stand before it are answered.
+pub(crate) fn carry_before<'a>(
+    alloc: Global,
+    past: &Past,
+    rows: &[Row],
+    records: &'a [BookRecord],
+    path: &Path,
+    writer: &mut BookWriter,
+) -> Result<&'a [BookRecord], AllocError>
+    requires rows { AreRows rows.now }
+    requires sorted { IsStrictlySortedBy (slice_cmp nat_cmp) (targets_of (map record_of records.now)) }
+    ensures written { OnOk result ((written : List Record) → IsWritten writer.old written →
+        IsWritten writer.new (written ++
+        filter (carries past.now rows.now) (filter (is_before path.now) (map record_of records.now)))) }
+    ensures left { IfOk result (λ left. map record_of left.now ≡
+        filter (is_behind path.now) (map record_of records.now)) }
+{
+    let (front, left) = records.split_at(count_before(records, path));
+    carry(alloc, past, rows, front, writer)?;
+    Ok(left)
 }

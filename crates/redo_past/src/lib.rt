@@ -8,14 +8,16 @@
 //!
 //! - `past`: the tree, the sources and the book, and what a run leaves; `faults`: why a tree is refused;
 //! - `states`: what stands at a path when a run ends;
-//! - `records`: the records of targets that were built; `carrying`: those that are carried;
-//! - `books`: the order of the new book, and its place among files;
+//! - `records`: the records of targets that were built; `carrying`: those that are carried; `joining`: both in one
+//!   text;
+//! - `books`: the place of the new book among files;
 //! - [`laws`]: a tree has one past, and a run leaves one book.
 #![tactic(auto)]
 
 mod books;
 mod carrying;
 mod faults;
+mod joining;
 pub mod laws;
 mod past;
 mod records;

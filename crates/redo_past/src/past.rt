@@ -2,7 +2,7 @@
 
 ghost use Rattle.std.specs.Prelude.{◌≡◌, ◌∷◌, [], Some, None, IfErr, IfOk, MatchOption, map};
 ghost use Rattle.redo_report.specs.Reports.{AreAscending, row_paths};
-ghost use Rattle.redo_past.specs.NewBook.{IsNewBook, IsResultOf};
+ghost use Rattle.redo_past.specs.NewBook.{IsNewText, IsResultOf};
 ghost use Rattle.std.specs.Arc.{arc_value};
 ghost use Rattle.redo_tree.specs.Tree.{file_at};
 ghost use Rattle.redo_book.specs.Book.{record_of, IsText};
@@ -12,10 +12,9 @@ ghost use Rattle.redo_tree.specs.Tree.{without};
 ghost use Rattle.redo_which.specs.Candidates.{book_path as path_of_book};
 
 use crate::PastFault;
-use crate::books::{put_file, sort};
-use crate::carrying::carry;
-use crate::records::new_records;
-use redo_book::{Book, BookRecord, book_text, read_book};
+use crate::books::put_file;
+use crate::joining::joined_text;
+use redo_book::{Book, BookRecord, read_book};
 use redo_path::Path;
 use redo_report::{Report, Row};
 use redo_tree::laws::no_other_file_is_taken_out;
@@ -43,7 +42,8 @@ impl Model for Past {
 
     ghost view = { λ p. record { tree = arc_value p.tree; sources = arc_value p.sources; book = p.book } };
 
-    ghost invariant = { λ p. IsPast (record { tree = arc_value p.tree; sources = arc_value p.sources; book = p.book }) };
+    ghost invariant = { λ p.
+        IsPast (record { tree = arc_value p.tree; sources = arc_value p.sources; book = p.book }) };
 }
 
 /// The path of the book.
@@ -150,19 +150,16 @@ impl Past {
         &self.book
     }
 
-    /// The book that a run leaves, by the rows of its report. It has a record for each target that was built, with
-    /// the states of what this depended on, and the records of the old book whose targets have a rule, stand as the
-    /// last run left them and weren't built.
-    pub fn new_book(&self, alloc: Global, rows: &[Row]) -> Result<Book, AllocError>
+    /// The text of the book that a run leaves, by the rows of its report. It has a record for each target that was
+    /// built, with the states of what this depended on, and the records of the old book whose targets have a rule,
+    /// stand as the last run left them and weren't built. No two records stand in memory at once.
+    pub fn new_book_text(&self, alloc: Global, rows: &[Row]) -> Result<Vec<u8>, AllocError>
         requires { AreAscending (map (λ row. row.path) rows.now) }
-        ensures { IfOk result (IsNewBook self.now rows.now) }
+        ensures { IfOk result (λ text. IsNewText self.now rows.now text.items) }
     {
         self.tree().is_tree();
         no_other_file_is_taken_out();
-        let mut records = new_records(alloc, self.sources(), rows)?;
-        carry(alloc, self, rows, &mut records)?;
-        sort(&mut records);
-        Ok(Book::of_records(records))
+        joined_text(alloc, self, rows)
     }
 
     /// The report of a run with the text of the new book among its files.
@@ -171,8 +168,7 @@ impl Past {
         requires files { AreAscending (map (λ file. file.0) report.files.items) }
         ensures { IfOk result (λ whole. IsResultOf self.now report whole) }
     {
-        let book = self.new_book(alloc, &report.rows)?;
-        let text = Content::new(book_text(alloc, &book)?)?;
+        let text = Content::new(self.new_book_text(alloc, &report.rows)?)?;
         let Report {
             rows,
             mut files,

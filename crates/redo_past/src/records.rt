@@ -1,13 +1,12 @@
 //! The records of targets that were built.
 
-ghost use Rattle.std.specs.Prelude.{◌≡◌, ◌≢◌, ◌++◌, [], IfOk, IfSome, List, OnOk, map};
+ghost use Rattle.std.specs.Prelude.{◌≡◌, ◌≢◌, [], IfOk, IfSome, List};
 ghost use Rattle.redo_tree.specs.Tree.{Tree as Entries};
 ghost use Rattle.std.specs.List.{AllByRecursion, IsDistinct};
 ghost use Rattle.redo_book.specs.Book.{IsEntry, IsRecord, record_of, same_entry};
 ghost use Rattle.redo_past.specs.NewBook.{entry_as, is_built as was_built, new_record as record_for};
 ghost use Rattle.redo_past.specs.NewBook.{noted as entries_in};
-ghost use Rattle.redo_past.specs.inside.Books.{AreRows, AreStates, built_records, is_top as is_root};
-ghost use Rattle.redo_past.specs.inside.Books.{leaves_record};
+ghost use Rattle.redo_past.specs.inside.Books.{AreRows, AreStates, is_top as is_root, leaves_record};
 
 use crate::states::{built_state, state_at};
 use redo_book::{BookEntry, BookRecord};
@@ -34,7 +33,7 @@ fn is_top(path: &Path) -> bool
 }
 
 /// Whether a row's target has a record in the new book: it was built, which the top directory never is.
-fn has_record(row: &Row) -> bool
+pub(crate) fn has_record(row: &Row) -> bool
     ensures { result ≡ leaves_record row.now }
 {
     is_built(&row.outcome) && !is_top(&row.path)
@@ -105,7 +104,7 @@ fn entries_of(
 }
 
 /// The record of a target that was built.
-fn new_record(
+pub(crate) fn new_record(
     alloc: Global,
     sources: &Tree,
     rows: &[Row],
@@ -126,24 +125,4 @@ fn new_record(
         state: built_state(&row.outcome),
         entries,
     })
-}
-
-/// The records of the targets that were built, in path order.
-pub(crate) fn new_records(
-    alloc: Global,
-    sources: &Tree,
-    rows: &[Row],
-) -> Result<Vec<BookRecord>, AllocError>
-    requires { AreRows rows.now }
-    ensures value { IfOk result (λ made. map record_of made.items ≡ built_records sources.now rows.now) }
-    ensures each { IfOk result (λ made. AllByRecursion IsRecord (map record_of made.items)) }
-{
-    let mut states = PathMap::new(alloc);
-    let mut made = Vec::new(alloc);
-    for row in rows {
-        if has_record(row) {
-            made.push(new_record(alloc, sources, rows, &mut states, row)?)?;
-        }
-    }
-    Ok(made)
 }

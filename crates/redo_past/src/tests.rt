@@ -4,7 +4,6 @@ ghost use Rattle.std.specs.Prelude.{◌≡◌, IsTrue, map};
 ghost use Rattle.redo_report.specs.Reports.{AreAscending};
 
 use crate::{Past, PastFault};
-use redo_book::book_text;
 use redo_path::{Path, resolve};
 use redo_record::{Dep, DepKind, Deps, Outcome, Record, Why};
 use redo_report::{Report, Row};
@@ -280,8 +279,7 @@ fn left(alloc: Global, past: &Past, lines: &[Line]) -> Result<Vec<u8>, Fail> {
     if !are_ascending(&rows) {
         return Err(Fail::from("rows out of order"));
     }
-    let book = past.new_book(alloc, &rows)?;
-    Ok(book_text(alloc, &book)?)
+    Ok(past.new_book_text(alloc, &rows)?)
 }
 
 const CHANGE: DepKind = DepKind::Change;
@@ -327,7 +325,9 @@ const BOOKS: [(&str, &[(&str, &str)], &[Line], &str); 15] = [
             ("b", End::File("two"), &[]),
             ("n", End::NoFile, &[(CHANGE, "b")]),
         ],
-        "target ABC a\ncreate a.do\nchange SCRIPT default.do\nchange X s\ncreate c\nchange TWO b\nchange none n\nchange none c\ntarget TWO b\ncreate b.do\nchange SCRIPT default.do\ntarget none n\ncreate n.do\nchange SCRIPT default.do\nchange TWO b\nend\n",
+        "target ABC a\ncreate a.do\nchange SCRIPT default.do\nchange X s\ncreate c\nchange TWO b\nchange none n\n\
+        change none c\ntarget TWO b\ncreate b.do\nchange SCRIPT default.do\ntarget none n\ncreate n.do\n\
+        change SCRIPT default.do\nchange TWO b\nend\n",
     ),
     (
         "sources and targets that weren't built have no record",
@@ -419,7 +419,8 @@ const BOOKS: [(&str, &[(&str, &str)], &[Line], &str); 15] = [
             (".redo-book", "target TWO b\nend\n"),
         ],
         &[("a.x", End::NoFile, &[]), ("c.x", End::NoFile, &[])],
-        "target none a.x\ncreate a.x.do\nchange SCRIPT default.x.do\ntarget TWO b\ntarget none c.x\ncreate c.x.do\nchange SCRIPT default.x.do\nend\n",
+        "target none a.x\ncreate a.x.do\nchange SCRIPT default.x.do\ntarget TWO b\ntarget none c.x\ncreate c.x.do\n\
+        change SCRIPT default.x.do\nend\n",
     ),
 ];
 

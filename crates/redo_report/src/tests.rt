@@ -74,12 +74,16 @@ const TEXTS: [(&str, bool, &[u8]); 2] = [
     (
         "rows with their records, begun scripts, files as in a bundle, and the end",
         true,
-        b"built 2 d/a.x\ndep create d/a.x.do\ndep create d/default.x.do\ndep create d/default.do\ndep change default.x.do\ndep always\ndep change src\nfailed norule d/b\ndep create d/b.do\ndep create d/default.do\ndep create default.do\nsource src\nbegun d/a.x\nfile 2 d/a.x\na\n\nend\n",
+        b"built 2 d/a.x\ndep create d/a.x.do\ndep create d/default.x.do\ndep create d/default.do\n\
+        dep change default.x.do\ndep always\ndep change src\nfailed norule d/b\ndep create d/b.do\n\
+        dep create d/default.do\ndep create default.do\nsource src\nbegun d/a.x\nfile 2 d/a.x\na\n\nend\n",
     ),
     (
         "the files are left out where they are not wanted",
         false,
-        b"built 2 d/a.x\ndep create d/a.x.do\ndep create d/default.x.do\ndep create d/default.do\ndep change default.x.do\ndep always\ndep change src\nfailed norule d/b\ndep create d/b.do\ndep create d/default.do\ndep create default.do\nsource src\nbegun d/a.x\nend\n",
+        b"built 2 d/a.x\ndep create d/a.x.do\ndep create d/default.x.do\ndep create d/default.do\n\
+        dep change default.x.do\ndep always\ndep change src\nfailed norule d/b\ndep create d/b.do\n\
+        dep create d/default.do\ndep create default.do\nsource src\nbegun d/a.x\nend\n",
     ),
 ];
 

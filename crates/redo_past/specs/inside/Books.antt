@@ -1,7 +1,9 @@
 -- What the new book is made of.
-use Rattle.std.specs.Prelude.{◌≡◌, Bool, true, false, not, ◌&&◌, List, [], ◌∷◌, ℕ, Option, Some, None, if◌then◌else◌}
-use Rattle.std.specs.Prelude.{filter, filter_map, is_some, map, bytes_eq}
+use Rattle.std.specs.Prelude.{◌≡◌, Bool, true, false, not, ◌&&◌, List, [], ◌∷◌, ◌++◌, ℕ, Option, Some, None}
+use Rattle.std.specs.Prelude.{if◌then◌else◌, filter, filter_map, is_some, map, bytes_eq}
+use Rattle.std.specs.Cmp.Lexicographic.{slice_cmp}
 use Rattle.std.specs.Map.{lookup}
+use Rattle.std.specs.Ordering.{is_lt, nat_cmp}
 use Rattle.redo_digest.specs.Digest.{State}
 use Rattle.redo_tree.specs.Tree.{Tree, file_at}
 use Rattle.redo_which.specs.Rule.{found_of, is_rule}
@@ -53,6 +55,20 @@ carries past rows r =
     same_answer (is_some r.state) (is_some (file_at past.tree r.target)) && (not (has_built (row_at rows r.target)) &&
     is_rule (found_of past.sources r.target))
 
--- the records that go over into the new book
-abbrev pub carried_records : PastView → List Row → List Record
-carried_records past rows = filter (carries past rows) past.book
+-- whether a record's target stands before a path
+abbrev pub is_before : List ℕ → Record → Bool
+is_before path r = is_lt (slice_cmp nat_cmp r.target path)
+
+-- and whether it doesn't
+abbrev pub is_behind : List ℕ → Record → Bool
+is_behind path r = not (is_before path r)
+
+-- records that were built, and those of old ones that are kept, in one order
+abbrev pub joined : (Record → Bool) → List Record → List Record → List Record
+joined keeps [] old = filter keeps old
+joined keeps (r ∷ built) old =
+    filter keeps (filter (is_before r.target) old) ++ r ∷ joined keeps built (filter (is_behind r.target) old)
+
+-- the records of the new book
+abbrev pub new_records : PastView → List Row → List Record
+new_records past rows = joined (carries past rows) (built_records past.sources rows) past.book

@@ -1,0 +1,23 @@
+use Rattle.std.proofs.Common.{◌≡◌, ◌≤◌, ◌++◌, ◌∙◌, ap, drop, filter, length, map, subst, sym, take}
+use Rattle.std.proofs.lemmas.List.Sums.{prefix_len-le-length}
+use Rattle.redo_book.specs.Book.{IsWritten, record_of}
+use Rattle.redo_past.specs.inside.Books.{carries, is_before}
+use Rattle.redo_past.proofs.JoinLemmas.{back-left, front-kept}
+use Rattle.redo_past.proofs.carrying.carry_before.Goals as goal
+
+pub split_at-requires : goal.split_at-requires
+split_at-requires c =
+    subst (λ n. n ≤ length c.args.records.now) (sym c.count_before.ensures)
+    (prefix_len-le-length (λ r. is_before c.args.path.now (record_of r)) c.args.records.now)
+
+pub returns-clause-written : goal.returns-clause-written
+returns-clause-written c =
+    let front : map record_of c.split_at.result.0.now ≡ filter (is_before c.args.path.now) (map record_of c.args.records.now) =
+    ap (map record_of) (c.split_at.ensures.front ∙ ap (λ n. take n c.args.records.now) c.count_before.ensures)
+    ∙ front-kept c.args.path.now c.args.records.now c.requires.sorted in
+    λ written is. subst (λ rs. IsWritten c.carry.new.writer (written ++ filter (carries c.args.past.now c.args.rows.now) rs)) front (c.in_ok-carry.ensures written is)
+
+pub returns-clause-left : goal.returns-clause-left
+returns-clause-left c =
+    ap (map record_of) (c.split_at.ensures.back ∙ ap (λ n. drop n c.args.records.now) c.count_before.ensures)
+    ∙ back-left c.args.path.now c.args.records.now c.requires.sorted
