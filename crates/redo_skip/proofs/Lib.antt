@@ -1,0 +1,7 @@
+pub mod AgreeLemmas
+pub mod AskedLemmas
+pub mod CheckLemmas
+pub mod LawfulLemmas
+pub mod NewBookLemmas
+pub mod SkipExamples
+pub mod SkipLemmas

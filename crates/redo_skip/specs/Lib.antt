@@ -1,0 +1,4 @@
+pub mod Checks
+pub mod NewBook
+pub mod Sources
+pub mod Truth
