@@ -78,7 +78,7 @@ module _ (given : GivenView) (job : JobView) (facts : Facts) (work : IsWorkWith 
   work-fits = work.goes_on (told_in facts) (keeps-itself (job_setting job) job.state.entries (told_in facts))
 
   -- how far the target comes with what the work holds is how far it comes at its turn
-  at-turn : (rules_for given).progress job.target (told_in facts) ≡ progress_at_turn (rules_for given) job.target (outcome_at (rules_for given) work.is_work.depth) job.turn
+  at-turn : (rules_for given).progress job.target (told_in facts) ≡ progress_at_turn (rules_for given) job.target (outcome_at (rules_for given) work.is_work.depth) (work.is_work.looks + job.turn)
   at-turn =
       ((lawful_for given).each job.target).local (told_in facts) (only (operands r (job_deps job)) (outcome_at r work.is_work.depth)) (λ q m. work.exact q) ∙
       ap (λ (ds : List Dep). r.progress job.target (only (operands r ds) (outcome_at r work.is_work.depth))) work.is_work.is
@@ -91,7 +91,14 @@ module _ (given : GivenView) (job : JobView) (facts : Facts) (work : IsWorkWith 
   unfolding at-turn
   advanced-piece now e =
       let Q : List Dep → Type 0 = λ ds. (q : List ℕ) → IsAmong (operands r ds) q → outcome_at r work.is_work.depth q ≡ None → ⊥ in
-      record { depth = work.is_work.depth; came = work.is_work.came; fed = subst Q work.is_work.is work.is_work.fed; is = work-progress now e ∙ at-turn }
+      record {
+        depth = work.is_work.depth;
+        looks = work.is_work.looks;
+        begun = work.is_work.begun;
+        came = work.is_work.came;
+        fed = subst Q work.is_work.is work.is_work.fed;
+        is = work-progress now e ∙ at-turn;
+      }
 
   -- a script that ended gives a fact
   pub advanced-fact : (done : Done) → EndsAs (told_in facts) job done → IsFact (rules_for given) job.target done.outcome done.deps done.deps true
@@ -131,7 +138,7 @@ module _ (given : GivenView) (job : JobView) (facts : Facts) (work : IsWorkWith 
         work.is_work.fed q asked (sym (only-among (operands r (job_deps job)) (outcome_at r work.is_work.depth) q asked) ∙ sym (work.exact q) ∙ none)
 
     -- a script that asks for more is at its next turn
-    pub advanced-stopped : IsStopped given work.is_work.depth job.target job.turn later facts
+    pub advanced-stopped : IsStopped given work.is_work.depth work.is_work.looks job.target job.turn later facts
     advanced-stopped =
         let deps : List Dep → Type 0 = λ ds. (q : List ℕ) → told_in facts q ≡ only (operands r ds) (outcome_at r work.is_work.depth) q in
         record {

@@ -23,7 +23,7 @@ use Rattle.redo_core.specs.Build.{GivenView, rules_for}
 use Rattle.redo_core.specs.Views.{told_by}
 use Rattle.redo_core.specs.inside.Works.{known_in, IsWorkWith}
 use Rattle.redo_core.specs.declared.facts.Facts.{Facts}
-use Rattle.redo_core.proofs.LawfulTreeLemmas.{lawful_for}
+use Rattle.redo_core.proofs.LawfulTreeLemmas.{lawful_for, keeps_nothing}
 use Rattle.redo_step.specs.Limits.{LimitsView}
 
 -- without a rule no answer makes a difference
@@ -37,14 +37,16 @@ unruled-fact given p o deps none is =
 
 -- a job that was just begun is a work with no facts
 pub begun-work : (given : GivenView) (target : List ℕ) (rule : FoundRule) (parsed : Parsed) (facts : Facts) →
-    found_of given.tree target ≡ Rule rule.do_file rule.missing (arguments_view rule.args) →
-    parsed_of parsed ≡ script_in (unwrap_or (file_at given.tree rule.do_file) []) →
-    ((ask : Answers) → IsFit (begun given.tree target rule parsed given.limits) ask) → known_in facts ≡ [] → facts.gained ≡ 0 →
-    IsWorkWith given (begun given.tree target rule parsed given.limits) facts
+    found_of given.past.sources target ≡ Rule rule.do_file rule.missing (arguments_view rule.args) →
+    parsed_of parsed ≡ script_in (unwrap_or (file_at given.past.sources rule.do_file) []) →
+    ((ask : Answers) → IsFit (begun given.past.sources target rule parsed given.limits) ask) → known_in facts ≡ [] → facts.gained ≡ 0 →
+    IsWorkWith given (begun given.past.sources target rule parsed given.limits) facts
 begun-work given target rule parsed facts found script fits none gained = record {
   is_job = record { of_tree = refl; of_limits = refl; found = found; script = script };
   is_work = record {
     depth = 0;
+    looks = 0;
+    begun = record { in_check = λ k below. absurd (omega (arith, below)); begun = keeps_nothing given target nothing_known };
     came = record { answered = λ k q below m none'. absurd (omega (arith, below)); stopped = λ k below. absurd (omega (arith, below)) };
     is = refl;
     fed = λ q m none'. m;
@@ -58,13 +60,13 @@ begun-work given target rule parsed facts found script fits none gained = record
 
 -- a job that was begun on a shared tree is one of the tree
 pub begun-is : {E : Type 0} (given : GivenView) (own : Tree) (limits : LimitsView) (target : List ℕ) (rule : FoundRule) (parsed : Parsed) (result : Result JobView E) →
-    own ≡ given.tree → limits ≡ given.limits → found_of given.tree target ≡ Rule rule.do_file rule.missing (arguments_view rule.args) →
-    parsed_of parsed ≡ script_in (unwrap_or (file_at given.tree rule.do_file) []) →
+    own ≡ given.past.sources → limits ≡ given.limits → found_of given.past.sources target ≡ Rule rule.do_file rule.missing (arguments_view rule.args) →
+    parsed_of parsed ≡ script_in (unwrap_or (file_at given.past.sources rule.do_file) []) →
     IfOk result (λ job. job ≡ begun own target rule parsed limits) → IfOk result (λ job. (ask : Answers) → IsFit job ask) →
     IfOk result (IsBegunJob given target)
 begun-is given own limits target rule parsed (Ok job) same bounds found script is fits =
     let J : Tree → LimitsView → JobView = λ t l. begun t target rule parsed l in
-    let at : job ≡ J given.tree given.limits = is ∙ ap (λ t. J t limits) same ∙ ap (J given.tree) bounds in
+    let at : job ≡ J given.past.sources given.limits = is ∙ ap (λ t. J t limits) same ∙ ap (J given.past.sources) bounds in
     let F : JobView → Type 0 = λ j. (ask : Answers) → IsFit j ask in
     let fits' = subst F at fits in
     let P : JobView → Type 0 = IsBegunJob given target in

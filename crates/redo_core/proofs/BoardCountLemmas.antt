@@ -16,12 +16,12 @@ module _ (b : Inside) (kept : IsKept b) (on : is_some b.stopped ≡ false) where
     pub one_more : jobs_out (after view (Take which)) ≡ jobs_out view + 1
     one_more =
         let P : BoardView → Type 0 = λ v. jobs_out (after v (Take which)) ≡ jobs_out v + 1 in
-        subst P is (rw on (take-out (rules_inside b) (lawful_for b.build) b.request.items (state_of b) (sound-inside b kept) which below))
+        subst P is (rw on (take-out (rules_inside b) (lawful_for b.build) b.build.request (state_of b) (sound-inside b kept) which below))
 
     pub left_less : takes_left view.given.limits.targets (after view (Take which)).state < takes_left view.given.limits.targets view.state
     left_less =
         let P : BoardView → Type 0 = λ v. takes_left v.given.limits.targets (after v (Take which)).state < takes_left v.given.limits.targets v.state in
-        subst P is (take-left (rules_inside b) (lawful_for b.build) b.request.items (state_of b) (sound-inside b kept) which b.build.limits.targets below (length-entries b kept))
+        subst P is (take-left (rules_inside b) (lawful_for b.build) b.build.request (state_of b) (sound-inside b kept) which b.build.limits.targets below (length-entries b kept))
 
     pub work_out : (w : WorkView) → IsWorkTaken view which w → IsOutAt (after view (Take which)).state w.target w.turn
     work_out w taken =
@@ -32,7 +32,7 @@ module _ (b : Inside) (kept : IsKept b) (on : is_some b.stopped ≡ false) where
         here is_taken =
             let sound = sound-inside b kept in
             let fed = sound.queued.ready_fed w.target (slice_get-among (state_of b).ready which w.target is_taken.target) in
-            let out = take-at (rules_inside b) (lawful_for b.build) b.request.items (state_of b) sound which w.target fed.0 below is_taken.target fed.1 in
+            let out = take-at (rules_inside b) (lawful_for b.build) b.build.request (state_of b) sound which w.target fed.0 below is_taken.target fed.1 in
             let Q : ℕ → Type 0 = λ n. IsOutAt (happens (rules_inside b) (state_of b) (Take which)) w.target n in
             subst Q (sym (is_taken.turn fed.0 fed.1).0) out
 
@@ -41,10 +41,10 @@ module _ (b : Inside) (kept : IsKept b) (on : is_some b.stopped ≡ false) where
     pub one_fewer : jobs_out (record (view_of b) { state = new }) + 1 ≡ jobs_out view
     one_fewer =
         let P : BoardView → Type 0 = λ v. jobs_out (record (view_of b) { state = new }) + 1 ≡ jobs_out v in
-        subst P is (rw (on, next) (hand_in-out (rules_inside b) (lawful_for b.build) b.request.items (state_of b) (sound-inside b kept) target turn out))
+        subst P is (rw (on, next) (hand_in-out (rules_inside b) (lawful_for b.build) b.build.request (state_of b) (sound-inside b kept) target turn out))
 
     pub left_no_more : length new.entries ≤ b.build.limits.targets → takes_left b.build.limits.targets new ≤ takes_left view.given.limits.targets view.state
     left_no_more few =
         let P : BoardView → Type 0 = λ v. takes_left b.build.limits.targets new ≤ takes_left v.given.limits.targets v.state in
         let Q : State → Type 0 = λ s. length s.entries ≤ b.build.limits.targets → takes_left b.build.limits.targets s ≤ takes_left b.build.limits.targets (state_of b) in
-        subst P is ((subst Q (sym next) (hand_in-left (rules_inside b) (lawful_for b.build) b.request.items (state_of b) (sound-inside b kept) target turn b.build.limits.targets out)) few)
+        subst P is ((subst Q (sym next) (hand_in-left (rules_inside b) (lawful_for b.build) b.build.request (state_of b) (sound-inside b kept) target turn b.build.limits.targets out)) few)

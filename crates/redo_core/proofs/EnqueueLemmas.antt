@@ -19,6 +19,8 @@ use Rattle.redo_core.specs.inside.Slots.{AreEnqueued}
 use Rattle.redo_core.specs.declared.table.Slot.{Slot}
 use Rattle.redo_core.specs.declared.table.Table.{Table}
 use Rattle.redo_core.proofs.TableLemmas.{place-append, place-left, place-right}
+use Rattle.redo_build.proofs.LookingLemmas.{enqueued-able}
+use Rattle.redo_core.proofs.LawfulTreeLemmas.{keeps_nothing}
 use Rattle.redo_core.proofs.NewlyReadyLemmas.{newly_ready-paths}
 use Rattle.redo_core.proofs.SortingLemmas.{sorted-ascend, shuffled-to, shuffled-from, shuffled-once}
 
@@ -74,6 +76,7 @@ module _ (given : GivenView) (request : List (List ℕ)) (t u : Table) (newly_re
       let S : List (List ℕ) → State = λ qs. record { entries = table_entries r given.limits.targets t; ready = qs } in
       let first : table_state r given.limits.targets u ≡ S (map (path_at t.targets) (t.ready.items ++ w.sorted)) = rw (w.rest.0, w.rest.1, w.queue) refl in
       first ∙ ap S (map-append (path_at t.targets) t.ready.items w.sorted ∙ ap (λ qs. map (path_at t.targets) t.ready.items ++ qs) (sym paths))
+      ∙ sym (enqueued-able r (keeps_nothing given) (table_state r given.limits.targets t))
 
 take-whole : (xs : List Dep) (n : ℕ) → length xs ≤ n → take n xs ≡ xs
 take-whole [] zero h = refl

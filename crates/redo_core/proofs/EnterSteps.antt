@@ -48,18 +48,18 @@ slot_entries-push r a [] (s ∷ slots) p slot h = absurd (omega arith)
 slot_entries-push r a (q ∷ ps) [] p slot h = absurd (omega arith)
 slot_entries-push r a (q ∷ ps) (s ∷ slots) p slot h = ap (λ es. slot_entry r a q s ∷ es) (slot_entries-push r a ps slots p slot (omega arith))
 
-entry-ruled : (r : Rules) (p : List ℕ) → r.has_rule p ≡ true → new_entry r p ≡ record { path = p; turn = 0; deps = []; outcome = None; is_out = false }
+entry-ruled : (r : Rules) (p : List ℕ) → r.has_rule p ≡ true → new_entry r p ≡ record { path = p; looks = 0; turn = 0; deps = []; outcome = None; is_out = false }
 entry-ruled r p h = rw h refl
 
 entry-unruled : (r : Rules) (p : List ℕ) (o : Outcome) (ds : List Dep) → r.has_rule p ≡ false → r.progress p nothing_known ≡ record { outcome = Some o; deps = ds } →
-    new_entry r p ≡ record { path = p; turn = 0; deps = ds; outcome = Some o; is_out = false }
+    new_entry r p ≡ record { path = p; looks = 0; turn = 0; deps = ds; outcome = Some o; is_out = false }
 entry-unruled r p o ds h is = rw (h, is) refl
 
 begun-entry : (given : GivenView) (a : Ask) (p : List ℕ) (stage : Stage) → IsBegun given p stage →
-    record { path = p; turn = 0; deps = stage_deps (rules_for given) a p 0 stage; outcome = stage_outcome stage; is_out = is_stage_out stage } ≡ new_entry (rules_for given) p
+    record { path = p; looks = 0; turn = 0; deps = stage_deps (rules_for given) a p 0 stage; outcome = stage_outcome stage; is_out = is_stage_out stage } ≡ new_entry (rules_for given) p
 begun-entry given a p (Waiting parked) h = absurd h
 begun-entry given a p (Ready work) h =
-    let E : List Dep → Entry = λ ds. record { path = p; turn = 0; deps = ds; outcome = None; is_out = false } in
+    let E : List Dep → Entry = λ ds. record { path = p; looks = 0; turn = 0; deps = ds; outcome = None; is_out = false } in
     ap E h.1 ∙ sym (entry-ruled (rules_for given) p h.2)
 begun-entry given a p Out h = absurd h
 begun-entry given a p (Decided fact) h = sym (entry-unruled (rules_for given) p _ _ h.2 h.3)
@@ -166,7 +166,7 @@ module _ (given : GivenView) (t u : Table) (newly_ready newly_ready' : List ℕ)
 
   new-entry : slot_entry (rules_for given) (outcome_at (rules_for given) given.limits.targets) p w.new ≡ new_entry (rules_for given) p
   new-entry =
-      let P : ℕ → Type 0 = λ n. record { path = p; turn = n; deps = stage_deps r a p n w.new.stage; outcome = stage_outcome w.new.stage; is_out = is_stage_out w.new.stage } ≡ new_entry r p in
+      let P : ℕ → Type 0 = λ n. record { path = p; looks = 0; turn = n; deps = stage_deps r a p n w.new.stage; outcome = stage_outcome w.new.stage; is_out = is_stage_out w.new.stage } ≡ new_entry r p in
       subst P (sym w.turn) (begun-entry given a p w.new.stage w.begun)
 
   pushed : entries_from (rules_for given) given.limits.targets (t.targets ++ p ∷ []) (t.slots.items ++ w.new ∷ []) ≡ entered (rules_for given) (table_entries (rules_for given) given.limits.targets t) (p ∷ [])

@@ -42,7 +42,7 @@ module _ (b : Inside) (kept : IsKept b) (target : List ℕ) (turn at : ℕ) (o :
       let P : List ℕ → Type 0 = λ p. IsEndAt b.build p o.slot.turn end in
       let Q : ℕ → Type 0 = λ n. IsEndAt b.build target n end in
       record {
-        request = b.request.items;
+        request = b.build.request;
         reached = kept.reached;
         table = kept.table;
         watched = kept.watched;
@@ -60,18 +60,18 @@ module _ (b : Inside) (kept : IsKept b) (target : List ℕ) (turn at : ℕ) (o :
 
   pub taken-kept : (u : Table) → IsTakenIn b.build b.table u at → IsKept (record b { table = u })
   taken-kept u taken =
-      let P : State → Type 0 = IsReached (rules_inside b) b.request.items in
+      let P : State → Type 0 = IsReached (rules_inside b) b.build.request in
       record {
-        reached = subst P (sym (taken-state u taken)) (reached-more (rules_inside b) b.request.items (state_of b) (Hand_in target turn) kept.reached open-out);
+        reached = subst P (sym (taken-state u taken)) (reached-more (rules_inside b) b.build.request (state_of b) (Hand_in target turn) kept.reached open-out);
         table = taken.table;
         watched = taken.watched;
       }
 
-  pub too-many-after : b.build.limits.targets < length (state_after b.build b.table at).entries → IsTooMany (rules_inside b) b.request.items b.build.limits.targets
+  pub too-many-after : b.build.limits.targets < length (state_after b.build b.table at).entries → IsTooMany (rules_inside b) b.build.request b.build.limits.targets
   too-many-after many =
       let lawful = lawful_for b.build in
-      let sound = happens-sound (rules_inside b) lawful b.request.items (state_of b) (Hand_in target turn) (sound-inside b kept) open-out in
-      let part = is_part (rules_inside b) lawful b.request.items (happens (rules_inside b) (state_of b) (Hand_in target turn)) sound b.build.limits.targets in
+      let sound = happens-sound (rules_inside b) lawful b.build.request (state_of b) (Hand_in target turn) (sound-inside b kept) open-out in
+      let part = is_part (rules_inside b) lawful b.build.request (happens (rules_inside b) (state_of b) (Hand_in target turn)) sound b.build.limits.targets in
       let S : State → Type 0 = λ s. b.build.limits.targets < length s.entries in
       part.too_many (subst S after-is many)
 
@@ -99,6 +99,6 @@ none-stopped (Some s) h = absurd (h s refl)
 
 -- what a board that ran answers once it has stopped
 pub refused-after : (old new : BoardView) (piece : PieceView) (stop : Stop) → IsOutAt old.state piece.target piece.turn → IsSameBuild old new → new.stopped ≡ Some stop →
-    (stop ≡ TooMany → IsTooMany (rules_on old) old.request old.given.limits.targets) → RefusedRunning old new piece (fault_of stop)
+    (stop ≡ TooMany → IsTooMany (rules_on old) old.given.request old.given.limits.targets) → RefusedRunning old new piece (fault_of stop)
 refused-after old new piece TooMany out same is many = (same, is, many refl, out)
 refused-after old new piece Memory out same is many = (same, is, out)

@@ -63,7 +63,7 @@ module _ (given : GivenView) (t : Table) (newly_ready : List ℕ) (table : IsTab
   same-entry : slot_entry (rules_for given) (outcome_at (rules_for given) given.limits.targets) (path_at t.targets at) h.new ≡
       slot_entry (rules_for given) (outcome_at (rules_for given) given.limits.targets) (path_at t.targets at) slot
   same-entry =
-      let E : ℕ → List Dep → Entry = λ n ds. record { path = path_at t.targets at; turn = n; deps = ds; outcome = None; is_out = false } in
+      let E : ℕ → List Dep → Entry = λ n ds. record { path = path_at t.targets at; looks = 0; turn = n; deps = ds; outcome = None; is_out = false } in
       let D : ℕ → Stage → List Dep = λ n st. stage_deps r (outcome_at r given.limits.targets) (path_at t.targets at) n st in
       let one : slot_entry r (outcome_at r given.limits.targets) (path_at t.targets at) h.new ≡ E h.new.turn (D h.new.turn h.new.stage) = rw held-is refl in
       let two : slot_entry r (outcome_at r given.limits.targets) (path_at t.targets at) slot ≡ E slot.turn (D slot.turn slot.stage) = rw is refl in

@@ -17,17 +17,17 @@ use Rattle.redo_core.proofs.LawfulTreeLemmas.{fit_found, lawful_for}
 
 module _ (given : GivenView) (job : JobView) (is_job : IsJobOf given job) where
   -- the record of the search waits for the .do file alone, which is a source
-  pub found_sources : (q : List ℕ) → is_entered (found_deps job) Change q ≡ true → is_some (file_at given.tree q) ≡ true
+  pub found_sources : (q : List ℕ) → is_entered (found_deps job) Change q ≡ true → is_some (file_at given.past.sources q) ≡ true
   found_sources q h =
-      let P : Found → Type 0 = IsFit given.tree in
-      let fit : IsFit given.tree (Rule job.do_file job.missing job.arguments) = subst P is_job.found (fit_found given.tree job.target) in
-      let S : List ℕ → Type 0 = λ p. is_some (file_at given.tree p) ≡ true in
+      let P : Found → Type 0 = IsFit given.past.sources in
+      let fit : IsFit given.past.sources (Rule job.do_file job.missing job.arguments) = subst P is_job.found (fit_found given.past.sources job.target) in
+      let S : List ℕ → Type 0 = λ p. is_some (file_at given.past.sources p) ≡ true in
       subst S (search_enters job.missing job.do_file q h) fit
 
   -- what the record so far waits for, the script declared
   recorded_own : (q : List ℕ) → IsAmong (operands (rules_for given) (record_so_far job)) q → IsAmong (operands (rules_for given) job.state.entries) q
   recorded_own q m =
-      let target : is_some (file_at given.tree q) ≡ false = operand-target (rules_for given) (lawful_for given) (record_so_far job) q m in
+      let target : is_some (file_at given.past.sources q) ≡ false = operand-target (rules_for given) (lawful_for given) (record_so_far job) q m in
       elim (whole_cases (found_deps job) job.state.entries Change q (operand_entered (rules_for given).is_source (record_so_far job) q m)) [
         | inl first ↦ absurd (both_ways _ target (found_sources q first))
         | inr own ↦ entered_operand (rules_for given).is_source job.state.entries q target own

@@ -1,7 +1,8 @@
 -- The rules of a source tree are lawful.
 use Rattle.std.proofs.Common.{◌≡◌, ℕ, Bool, true, false, find, inl, inr, List, [], ◌∷◌, Option, Some, None, refl, ap}
+use Rattle.std.proofs.Common.{arith}
 use Rattle.std.specs.Prelude.{unwrap_or, option_and_then}
-use Rattle.std.proofs.lemmas.Bool.{cases_Bool}
+use Rattle.std.proofs.lemmas.Bool.{cases_Bool, cases_lt, both_ways}
 use Rattle.redo_script.specs.Texts.{script_in}
 use Rattle.redo_record.specs.declared.deps.DepKind.TheVariants.{Create}
 use Rattle.redo_record.specs.declared.outcome.Outcome.TheVariants.{Failed, Source as Is_source}
@@ -18,6 +19,9 @@ use Rattle.redo_which.specs.Candidates.{Place, candidates_of}
 use Rattle.redo_which.specs.Rule.{Outcome as Found, Source, Directory, NoDirectory, NoRule, Rule, is_file, missing_of}
 use Rattle.redo_which.specs.Rule.{chosen_of, arguments_of, found_of}
 use Rattle.redo_build.specs.Rules.{Ask, AreLawful, operands}
+use Rattle.redo_build.specs.Looking.{KeepsNothing}
+use Rattle.redo_build.specs.Pieces.{deps_at_turn, IsBegunAt}
+use Rattle.redo_build.specs.Schedule.{only}
 use Rattle.redo_core.specs.Build.{World, IsFit, IsWorld, progress_by, rules_in, world_of, GivenView, rules_for, rules_of}
 use Rattle.redo_step.specs.Limits.{LimitsView}
 
@@ -103,4 +107,20 @@ pub rules_lawful : (tree : Tree) (limits : LimitsView) → AreLawful (rules_of t
 rules_lawful tree limits = world-lawful (world_of tree limits) (record { fit = fit_found tree })
 
 pub lawful_for : (given : GivenView) → AreLawful (rules_for given)
-lawful_for given = rules_lawful given.tree given.limits
+lawful_for given = rules_lawful given.past.sources given.limits
+
+-- each script of a tree is begun
+pub rules_keep_nothing : (tree : Tree) (limits : LimitsView) → KeepsNothing (rules_of tree limits)
+rules_keep_nothing tree limits p ask = refl
+
+pub keeps_nothing : (given : GivenView) → KeepsNothing (rules_for given)
+keeps_nothing given = rules_keep_nothing given.past.sources given.limits
+
+-- so no check stopped before a script was begun
+pub no_looks : (given : GivenView) (p : List ℕ) (ask : Ask) (looks : ℕ) → IsBegunAt (rules_for given) p ask looks → looks ≡ 0
+no_looks given p ask looks begun = elim (cases_lt 0 looks) [
+  | inl some ↦
+      let known = only (operands (rules_for given) (deps_at_turn (rules_for given) p ask 0)) ask in
+      absurd (both_ways _ (begun.in_check 0 some) (keeps_nothing given p known))
+  | inr none ↦ omega arith
+]

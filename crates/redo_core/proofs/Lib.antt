@@ -1,6 +1,12 @@
+pub mod GivenLemmas
 pub mod BoardCountLemmas
 pub mod PlaceLemmas
 pub mod LawfulTreeLemmas
+pub mod AlikeTreeLemmas
+pub mod GoodTreeLemmas
+pub mod TrueBookLemmas
+pub mod LeftBookLemmas
+pub mod TreeSourceExamples
 pub mod JobLemmas
 pub mod Examples
 pub mod SlotLemmas

@@ -94,10 +94,11 @@ empty-watched given t keys slots = rw (keys, slots) (λ k x g h. absurd (nothing
     nothing : (k : ℕ) (x : Rattle.redo_core.specs.declared.table.Slot.Slot) → slice_get {X = Rattle.redo_core.specs.declared.table.Slot.Slot} [] k ≡ Some x → ⊥
     nothing k x g = cc
 
-pub first-is : (given : GivenView) (request : List (List ℕ)) (t u v : Table) (newly_ready : List ℕ) → t.targets ≡ [] → t.slots.items ≡ [] → t.ready.items ≡ [] →
-    AreEnteredInto given t u newly_ready (targets_in (rules_for given) request) → AreEnqueued u v newly_ready → IsFirstTable given request v
-first-is given request t u v newly_ready keys slots ready a w =
+pub first-is : (given : GivenView) (t u v : Table) (newly_ready : List ℕ) → t.targets ≡ [] → t.slots.items ≡ [] → t.ready.items ≡ [] →
+    AreEnteredInto given t u newly_ready (targets_in (rules_for given) given.request) → AreEnqueued u v newly_ready → IsFirstTable given v
+first-is given t u v newly_ready keys slots ready a w =
     let r = rules_for given in
+    let request = given.request in
     let none : table_entries r given.limits.targets t ≡ [] = rw keys refl in
     let entries : table_entries r given.limits.targets u ≡ (opening r request).entries = a.entries ∙ ap (λ es. entered r es (targets_in (rules_for given) request)) none ∙ sym (opening-entries given request) in
     let S : List Entry → Type 0 = AreStanding r request in
@@ -112,7 +113,7 @@ first-is given request t u v newly_ready keys slots ready a w =
     }
 
 -- a board with the first table keeps what it shows
-pub first-kept : (b : Inside) → IsFirstTable b.build b.request.items b.table → IsKept b
+pub first-kept : (b : Inside) → IsFirstTable b.build b.table → IsKept b
 first-kept b first = record {
   reached = record { events = []; all_open = tt; ends = first.state };
   table = first.table;

@@ -92,7 +92,7 @@ module _ (given : GivenView) (request : List (List ℕ)) (t : Table) (s : State)
     (shows : ShowsBuild (rules_for given) request given.limits.targets s)
     (one_each : length t.slots.items ≡ length t.targets) (distinct : AreDistinct t.targets)
     (fits : AllFit (rules_for given) given.limits.targets given t.targets t.slots.items)
-    (targets : (p : List ℕ) → IsAmong t.targets p → is_some (file_at given.tree p) ≡ false) where
+    (targets : (p : List ℕ) → IsAmong t.targets p → is_some (file_at given.past.sources p) ≡ false) where
   abbrev r : Rules
   r = rules_for given
 
@@ -109,17 +109,17 @@ module _ (given : GivenView) (request : List (List ℕ)) (t : Table) (s : State)
   needed-key p m = let P : List (List ℕ) → Type 0 = λ ps. IsAmong ps p in subst P keys ((shows.members p).1 m)
 
   -- a reported path is a needed target or a requested source
-  reported-from : (p : List ℕ) → IsAmong (reported_paths given.tree request t) p → IsAmong t.targets p ⊎ (IsAmong request p × (is_some (file_at given.tree p) ≡ true))
-  reported-from p m = elim (placed-from (placed [] t.targets) (sources_among given.tree request) p m) [
+  reported-from : (p : List ℕ) → IsAmong (reported_paths given.past.sources request t) p → IsAmong t.targets p ⊎ (IsAmong request p × (is_some (file_at given.past.sources p) ≡ true))
+  reported-from p m = elim (placed-from (placed [] t.targets) (sources_among given.past.sources request) p m) [
     | inl first ↦ elim (placed-from [] t.targets p first) [ inl none ↦ absurd none | inr key ↦ inl key ]
-    | inr source ↦ inr (filter-from (λ q. is_some (file_at given.tree q)) request p source, filter-passes (λ q. is_some (file_at given.tree q)) request p source)
+    | inr source ↦ inr (filter-from (λ q. is_some (file_at given.past.sources q)) request p source, filter-passes (λ q. is_some (file_at given.past.sources q)) request p source)
   ]
 
-  reported-key : (p : List ℕ) → IsAmong t.targets p → IsAmong (reported_paths given.tree request t) p
-  reported-key p m = placed-first (placed [] t.targets) (sources_among given.tree request) p (placed-second [] t.targets p m)
+  reported-key : (p : List ℕ) → IsAmong t.targets p → IsAmong (reported_paths given.past.sources request t) p
+  reported-key p m = placed-first (placed [] t.targets) (sources_among given.past.sources request) p (placed-second [] t.targets p m)
 
-  reported-source : (p : List ℕ) → IsAmong request p → is_some (file_at given.tree p) ≡ true → IsAmong (reported_paths given.tree request t) p
-  reported-source p m source = placed-second (placed [] t.targets) (sources_among given.tree request) p (filter-among (λ q. is_some (file_at given.tree q)) request p m source)
+  reported-source : (p : List ℕ) → IsAmong request p → is_some (file_at given.past.sources p) ≡ true → IsAmong (reported_paths given.past.sources request t) p
+  reported-source p m source = placed-second (placed [] t.targets) (sources_among given.past.sources request) p (filter-among (λ q. is_some (file_at given.past.sources q)) request p m source)
 
   abbrev IsRight : Row → Type 0
   IsRight row = (row.outcome ≡ final_outcome (rules_for given) given.limits.targets row.path) × (arc_value row.deps ≡ deps_of (rules_for given) given.limits.targets row.path)
@@ -134,21 +134,21 @@ module _ (given : GivenView) (request : List (List ℕ)) (t : Table) (s : State)
       let outcome : stage_outcome is.slot.stage ≡ outcome_at r given.limits.targets row.path = sym (ap outcome_of found) ∙ shows.outcomes row.path among in
       let deps : stage_deps r (outcome_at r given.limits.targets) row.path is.slot.turn is.slot.stage ≡ record_of r given.limits.targets row.path = shows.declared row.path (slot_entry r (outcome_at r given.limits.targets) row.path is.slot) found in
       let shown = stage-shown r (outcomes_of es) given row.path (path_at t.targets is.at) is.slot.turn is.slot.stage row.outcome (arc_value row.deps) (fits is.at is.slot is.there) is.shown (outcome_at r given.limits.targets) in
-      let source : is_some (file_at given.tree row.path) ≡ false = targets row.path key in
+      let source : is_some (file_at given.past.sources row.path) ≡ false = targets row.path key in
       (shown.0 ∙ ap (λ (o : Option Outcome). unwrap_or o Cyclic) outcome, shown.1 ∙ deps ∙ sym (rw source refl))
 
-  source-right : (row : Row) → is_some (file_at given.tree row.path) ≡ true → IsSourceRow t row → IsRight row
+  source-right : (row : Row) → is_some (file_at given.past.sources row.path) ≡ true → IsSourceRow t row → IsRight row
   source-right row source is =
       (is.outcome ∙ sym (ap (λ (o : Option Outcome). unwrap_or o Cyclic) (source-outcome r given.limits.targets row.path source)), is.deps ∙ sym (rw source refl))
 
-  module _ (report : Report) (made : IsReportOf given.tree request t report) where
-    row-reported : (row : Row) → IsItem report.rows.items row → IsAmong (reported_paths given.tree request t) row.path
+  module _ (report : Report) (made : IsReportOf given.past.sources request t report) where
+    row-reported : (row : Row) → IsItem report.rows.items row → IsAmong (reported_paths given.past.sources request t) row.path
     row-reported row m = let P : List (List ℕ) → Type 0 = λ ps. IsAmong ps row.path in subst P made.paths (row_path report.rows.items row m)
 
-    reported-row : (p : List ℕ) → IsAmong (reported_paths given.tree request t) p → IsAmong (row_paths report) p
+    reported-row : (p : List ℕ) → IsAmong (reported_paths given.past.sources request t) p → IsAmong (row_paths report) p
     reported-row p m = let P : List (List ℕ) → Type 0 = λ ps. IsAmong ps p in subst P (sym made.paths) m
 
-    row-cases : (p : List ℕ) → IsAmong (row_paths report) p → IsAmong t.targets p ⊎ (IsAmong request p × (is_some (file_at given.tree p) ≡ true))
+    row-cases : (p : List ℕ) → IsAmong (row_paths report) p → IsAmong t.targets p ⊎ (IsAmong request p × (is_some (file_at given.past.sources p) ≡ true))
     row-cases p m = reported-from p (let P : List (List ℕ) → Type 0 = λ ps. IsAmong ps p in subst P made.paths m)
 
     right : AllByRecursion IsRight report.rows.items
@@ -191,7 +191,7 @@ module _ (given : GivenView) (request : List (List ℕ)) (t : Table) (s : State)
         subst P found.2 (row_file report.rows.items found.0 bytes found.1 is)
 
     sorted : AreSorted (row_paths report)
-    sorted = let P : List (List ℕ) → Type 0 = AreSorted in subst P (sym made.paths) (placed-sorted (placed [] t.targets) (sources_among given.tree request) (placed-sorted [] t.targets tt))
+    sorted = let P : List (List ℕ) → Type 0 = AreSorted in subst P (sym made.paths) (placed-sorted (placed [] t.targets) (sources_among given.past.sources request) (placed-sorted [] t.targets tt))
 
     pub is-report : IsReport (rules_for given) request given.limits.targets report
     is-report =
@@ -216,18 +216,18 @@ module _ (given : GivenView) (request : List (List ℕ)) (t : Table) (s : State)
             λ m.
                 let G : List (List ℕ) → Type 0 = λ ps. IsAmong ps p in
                 let here = subst G made.begun m in
-                let rule = filter-passes (λ q. is_rule (found_of given.tree q)) (row_paths report) p here in
-                elim (row-cases p (filter-from (λ q. is_rule (found_of given.tree q)) (row_paths report) p here)) [
+                let rule = filter-passes (λ q. is_rule (found_of given.past.sources q)) (row_paths report) p here in
+                elim (row-cases p (filter-from (λ q. is_rule (found_of given.past.sources q)) (row_paths report) p here)) [
                   | inl key ↦ (key-needed p key, rule, refl)
-                  | inr source ↦ absurd (source-unruled given.tree p rule source.1)
+                  | inr source ↦ absurd (source-unruled given.past.sources p rule source.1)
                 ],
             λ m.
                 let G : List (List ℕ) → Type 0 = λ ps. IsAmong ps p in
-                subst G (sym made.begun) (filter-among (λ q. is_rule (found_of given.tree q)) (row_paths report) p (reported-row p (reported-key p (needed-key p m.0))) m.1),
+                subst G (sym made.begun) (filter-among (λ q. is_rule (found_of given.past.sources q)) (row_paths report) p (reported-row p (reported-key p (needed-key p m.0))) m.1),
           );
           rows_ordered = sorted-ascending (row_paths report) sorted;
           files_ordered = subst A (sym made.files) (sorted-ascending (map (λ file. file.0) (row_files report.rows.items)) (files_sorted report.rows.items sorted));
-          begun_ordered = subst B (sym made.begun) (sorted-ascending (row_begun given.tree report.rows.items) (filter-sorted (λ q. is_rule (found_of given.tree q)) (row_paths report) sorted));
+          begun_ordered = subst B (sym made.begun) (sorted-ascending (row_begun given.past.sources report.rows.items) (filter-sorted (λ q. is_rule (found_of given.past.sources q)) (row_paths report) sorted));
         }
 
 -- A quiet board
@@ -264,14 +264,14 @@ module _ (b : Inside) (kept : IsKept b) (quiet : IsQuiet (state_of b)) where
       (λ out. out-counted b.table.slots.items k slot there out
       (sym (out_count-slots (rules_inside b) (outcome_at (rules_inside b) b.build.limits.targets) b.table.targets b.table.slots.items kept.table.one_each) ∙ quiet.1))
 
-  target-keys : (p : List ℕ) → IsAmong b.table.targets p → is_some (file_at b.build.tree p) ≡ false
+  target-keys : (p : List ℕ) → IsAmong b.table.targets p → is_some (file_at b.build.past.sources p) ≡ false
   target-keys p m =
       let P : List (List ℕ) → Type 0 = λ ps. IsAmong ps p in
       (sound-inside b kept).standing.targets p
       (subst P (sym (paths_of-slots (rules_inside b) (outcome_at (rules_inside b) b.build.limits.targets) b.table.targets b.table.slots.items kept.table.one_each)) m)
 
-  pub report-inside : (report : Report) → IsReportOf b.build.tree b.request.items b.table report → IsReport (rules_inside b) b.request.items b.build.limits.targets report
-  report-inside report made = is-report b.build b.request.items b.table (state_of b) refl (shows-inside b kept quiet)
+  pub report-inside : (report : Report) → IsReportOf b.build.past.sources b.build.request b.table report → IsReport (rules_inside b) b.build.request b.build.limits.targets report
+  report-inside report made = is-report b.build b.build.request b.table (state_of b) refl (shows-inside b kept quiet)
       kept.table.one_each (distinct-inside b kept) kept.table.fits target-keys report made
 
 no_paths : (ps : List (List ℕ)) → length ps ≡ 0 → ps ≡ []
@@ -298,13 +298,13 @@ if_ok-more (Err e) P Q f h = tt
 
 -- the report of a quiet board's table is that of its build
 pub report-view : (b : Inside) (invariant : IsNone b.stopped → IsKept b) (view : BoardView) → view_of b ≡ view → IsQuietBoard view →
-    (tree : Tree) (request : List (List ℕ)) → tree ≡ b.build.tree → request ≡ b.request.items →
-    (report : Report) → IsReportOf tree request b.table report → IsReport (rules_on view) view.request view.given.limits.targets report
+    (tree : Tree) (request : List (List ℕ)) → tree ≡ b.build.past.sources → request ≡ b.build.request →
+    (report : Report) → IsReportOf tree request b.table report → IsReport (rules_on view) view.given.request view.given.limits.targets report
 report-view b invariant view is quiet tree request of_tree of_request report made =
     let q = quiet-inside b view is quiet in
     let T : Tree → Type 0 = λ x. IsReportOf x request b.table report in
-    let R : List (List ℕ) → Type 0 = λ x. IsReportOf b.build.tree x b.table report in
-    let V : BoardView → Type 0 = λ v. IsReport (rules_on v) v.request v.given.limits.targets report in
+    let R : List (List ℕ) → Type 0 = λ x. IsReportOf b.build.past.sources x b.table report in
+    let V : BoardView → Type 0 = λ v. IsReport (rules_on v) v.given.request v.given.limits.targets report in
     subst V is (report-inside b (invariant q.0) q.1 report (subst R of_request (subst T of_tree made)))
 
 -- whether a script was begun is whether there is a rule
@@ -315,15 +315,15 @@ begun-told tree p Out begun told is = absurd is
 begun-told tree p (Decided fact) begun told is =
     is.1 ∙ ap (λ t. is_rule (found_of t fact.value.target)) told.0 ∙ ap (λ q. is_rule (found_of tree q)) told.1
 
-told-stage : (r : Rules) (a : Ask) (given : GivenView) (p q : List ℕ) (turn : ℕ) (stage : Stage) → q ≡ p → Fits r a given q turn stage → IsTold given.tree p stage
+told-stage : (r : Rules) (a : Ask) (given : GivenView) (p q : List ℕ) (turn : ℕ) (stage : Stage) → q ≡ p → Fits r a given q turn stage → IsTold given.past.sources p stage
 told-stage r a given p q turn (Waiting parked) same fits =
-    ap (λ x. is_rule (found_of given.tree x)) (sym (fits.of_target ∙ same)) ∙ ap is_rule fits.is_job.found
+    ap (λ x. is_rule (found_of given.past.sources x)) (sym (fits.of_target ∙ same)) ∙ ap is_rule fits.is_job.found
 told-stage r a given p q turn (Ready work) same fits = tt
 told-stage r a given p q turn Out same fits = tt
-told-stage r a given p q turn (Decided fact) same fits = (ap (λ (g : GivenView). g.tree) fits.0, fits.1 ∙ same)
+told-stage r a given p q turn (Decided fact) same fits = (ap (λ (g : GivenView). g.past.sources) fits.0, fits.1 ∙ same)
 
 -- what a board's table holds is of its paths
-pub told-inside : (b : Inside) → IsKept b → (tree : Tree) → tree ≡ b.build.tree → AllTold tree b.table
+pub told-inside : (b : Inside) → IsKept b → (tree : Tree) → tree ≡ b.build.past.sources → AllTold tree b.table
 told-inside b kept tree same =
     let P : Tree → Type 0 = λ t. AllTold t b.table in
     subst P (sym same) (λ k slot p there at.

@@ -6,7 +6,7 @@ use Rattle.std.proofs.lemmas.Bool.{cases_Bool}
 use Rattle.redo_build.specs.Rules.{Ask, Rules, AreLawful}
 use Rattle.redo_build.specs.Outcomes.{outcome_at}
 use Rattle.redo_build.proofs.SeenLemmas.{entry_of-path, decided_count-length}
-use Rattle.redo_build.specs.inside.Standing.{decided_count, AreStanding}
+use Rattle.redo_build.specs.inside.Standing.{decided_count, AreStanding, rounds}
 use Rattle.redo_build.proofs.DepthLemmas.{deeper}
 use Rattle.redo_build.proofs.TurnLemmas.{deps_at_turn-more, Extends-trans'}
 use Rattle.redo_build.proofs.StandingLemmas.{outcomes_of-deep}
@@ -112,16 +112,20 @@ ready-job r a given p turn (Waiting work) h t = cc
 ready-job r a given p turn Out h t = cc
 ready-job r a given p turn (Decided fact) h t = cc
 
+-- the entry of a slot stopped at each of its turns, and at no look
+pub slot-rounds : (r : Rules) (a : Ask) (p : List ℕ) (slot : Slot) → rounds (slot_entry r a p slot) ≡ slot.turn
+slot-rounds r a p slot = omega arith
+
 -- an undecided entry's record is that of its turn under the build at any depth that is no less than the number of entries
 pub deps_deep : (r : Rules) (lawful : AreLawful r) (request : List (List ℕ)) (es : List Entry) (standing : AreStanding r request es) (n : ℕ) →
     length (paths_of es) ≤ n → (p : List ℕ) (e : Entry) → entry_of es p ≡ Some e → e.outcome ≡ None →
-    e.deps ≡ deps_at_turn r p (outcome_at r n) e.turn
+    e.deps ≡ deps_at_turn r p (outcome_at r n) (rounds e)
 deps_deep r lawful request es standing n within p e at open' =
     let way = standing.under_way p e at open' in
-    let P : List ℕ → Type 0 = λ x. e.deps ≡ deps_at_turn r x (outcome_at r n) e.turn in
+    let P : List ℕ → Type 0 = λ x. e.deps ≡ deps_at_turn r x (outcome_at r n) (rounds e) in
     let deep = Extends-trans' r (outcomes_of es) (outcome_at r (decided_count es)) (outcome_at r n) (outcomes_of-deep r lawful request es standing)
     (deeper r lawful (decided_count es) n (omega (arith, decided_count-length es, within))) in
-    subst P (entry_of-path es p e at) (way.is ∙ deps_at_turn-more r lawful e.path (outcomes_of es) (outcome_at r n) deep e.turn way.came)
+    subst P (entry_of-path es p e at) (way.is ∙ deps_at_turn-more r lawful e.path (outcomes_of es) (outcome_at r n) deep (rounds e) way.came)
 
 -- taking what stands at a place leaves the state after that event
 module _ (r : Rules) (lawful : AreLawful r) (n : ℕ) (request : List (List ℕ)) (ps : List (List ℕ)) (slots : List Slot) (ready : List ℕ)
@@ -145,16 +149,17 @@ module _ (r : Rules) (lawful : AreLawful r) (n : ℕ) (request : List (List ℕ)
   same_deps = deps_deep r lawful request (entries_from r n ps slots) sound.standing n
       (let paths = ap length (paths_of-slots r (outcome_at r n) ps slots one_each) in omega (arith, paths, one_each, within))
       p (slot_entry r (outcome_at r n) p slot) entry still_open
+      ∙ ap (deps_at_turn r p (outcome_at r n)) (slot-rounds r (outcome_at r n) p slot)
 
   abbrev out_slot : Slot
   out_slot = record slot { stage = Out }
 
   sent : slot_entry r (outcome_at r n) p out_slot ≡ sent_out (slot_entry r (outcome_at r n) p slot)
   sent =
-      let P : List Dep → Type 0 = λ ds. record { path = p; turn = slot.turn; deps = ds; outcome = None; is_out = true } ≡
+      let P : List Dep → Type 0 = λ ds. record { path = p; looks = 0; turn = slot.turn; deps = ds; outcome = None; is_out = true } ≡
       sent_out (slot_entry r (outcome_at r n) p slot) in
       let Q : Stage → Type 0 = λ stage. stage_outcome stage ≡ None in
-      let R : Option Outcome → Type 0 = λ o. record { path = p; turn = slot.turn; deps = stage_deps r (outcome_at r n) p slot.turn slot.stage; outcome = o; is_out = true } ≡
+      let R : Option Outcome → Type 0 = λ o. record { path = p; looks = 0; turn = slot.turn; deps = stage_deps r (outcome_at r n) p slot.turn slot.stage; outcome = o; is_out = true } ≡
       sent_out (slot_entry r (outcome_at r n) p slot) in
       subst P same_deps (subst R still_open refl)
 

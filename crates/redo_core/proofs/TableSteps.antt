@@ -7,7 +7,7 @@ use Rattle.redo_record.specs.Paths.{IsAmong, AreDistinct}
 use Rattle.redo_build.specs.Rules.{Ask, Rules, AreLawful, Extends, operands, changed}
 use Rattle.redo_build.specs.Outcomes.{outcome_at}
 use Rattle.redo_core.specs.Build.{GivenView, rules_for}
-use Rattle.redo_build.specs.Schedule.{Entry, outcome_of, outcomes_of, entry_of}
+use Rattle.redo_build.specs.Schedule.{Entry, known_to, outcome_of, outcomes_of, entry_of}
 use Rattle.redo_core.specs.inside.Slots.{table_entries, entries_from, slot_entries, slot_entry, stage_deps}
 use Rattle.redo_core.specs.inside.Slots.{stage_outcome, path_at, is_stage_out, is_stage_ready, is_stage_waiting}
 use Rattle.redo_core.specs.inside.Slots.{is_stage_decided, Fits, AllWatched, AllAnswered, AreDecidedFrom, AreNumbers}
@@ -25,7 +25,7 @@ use Rattle.redo_build.proofs.QueueLemmas.{filter-keeps, slice_get-among}
 use Rattle.redo_core.proofs.NumberLemmas.{numbers-number, numbers-path, numbered-set, among-place, drop-place}
 use Rattle.redo_core.proofs.NumberLemmas.{place-drop}
 use Rattle.redo_build.proofs.DepthLemmas.{cases_Option}
-use Rattle.redo_core.proofs.LawfulTreeLemmas.{lawful_for}
+use Rattle.redo_core.proofs.LawfulTreeLemmas.{lawful_for, keeps_nothing}
 use Rattle.redo_core.proofs.TableLemmas.{fits-set, place-slice_get, place-append, place-left, place-right}
 use Rattle.redo_core.proofs.TableLemmas.{get-set_cases, get-set_same, IsWatched-set, watchers-set}
 use Rattle.redo_build.proofs.HandoverLemmas.{taken-work, taken-deep}
@@ -297,14 +297,15 @@ module _ (given : GivenView) (t : Table) (newly_ready : List ℕ) (table : IsTab
       pub parked_fed : IsFed given t at
       parked_fed =
           let e = slot_entry r (outcome_at r given.limits.targets) (path_at t.targets at) slot in
+          let starts = keeps_nothing given e.path (known_to r es e) in
           let work : IsWork r (path_at t.targets at) slot.turn e.deps =
-          taken-work r lawful standing.0 es standing.1 (path_at t.targets at) e (entry_there at slot there) parked_open entry_answered in
+          taken-work r lawful standing.0 es standing.1 (path_at t.targets at) e (entry_there at slot there) parked_open entry_answered starts in
           let W : Type 0 = (work' : IsWork r parked.begun.value.job.target parked.begun.value.job.turn (job_deps parked.begun.value.job)) × Extends r (outcomes_of es) (outcome_at r work'.depth) in
           let A : List Dep → Type 0 = λ ds. (work' : IsWork r (path_at t.targets at) slot.turn ds) × Extends r (outcomes_of es) (outcome_at r work'.depth) in
           let B : List ℕ → Type 0 = λ p. (work' : IsWork r p slot.turn (job_deps parked.begun.value.job)) × Extends r (outcomes_of es) (outcome_at r work'.depth) in
           let C : ℕ → Type 0 = λ k. (work' : IsWork r parked.begun.value.job.target k (job_deps parked.begun.value.job)) × Extends r (outcomes_of es) (outcome_at r work'.depth) in
           let deep : W = subst C (sym parked_fits.at_turn) (subst B (sym parked_fits.of_target) (subst A parked_deps
-          (taken-deep r lawful standing.0 es standing.1 (path_at t.targets at) e (entry_there at slot there) parked_open entry_answered))) in
+          (taken-deep r lawful standing.0 es standing.1 (path_at t.targets at) e (entry_there at slot there) parked_open entry_answered starts))) in
           let below = turn-below r lawful standing.0 es standing.1 (path_at t.targets at) e (entry_there at slot there) parked_open entry_answered in
           let paths = ap length (paths_of-slots r (outcome_at r given.limits.targets) t.targets t.slots.items table.one_each) in (
             slot,
@@ -485,7 +486,7 @@ module _ (given : GivenView) (t : Table) (newly_ready : List ℕ) (table : IsTab
       newly_ready_entry : slot_entry (rules_for given) (outcome_at (rules_for given) given.limits.targets) (path_at t.targets at) f.new ≡
           slot_entry (rules_for given) (outcome_at (rules_for given) given.limits.targets) (path_at t.targets at) slot
       newly_ready_entry =
-          let E : ℕ → List Dep → Entry = λ n ds. record { path = path_at t.targets at; turn = n; deps = ds; outcome = None; is_out = false } in
+          let E : ℕ → List Dep → Entry = λ n ds. record { path = path_at t.targets at; looks = 0; turn = n; deps = ds; outcome = None; is_out = false } in
           let one : slot_entry r (outcome_at r given.limits.targets) (path_at t.targets at) f.new ≡ E f.new.turn f.work.deps = rw f.is refl in
           let two : slot_entry r (outcome_at r given.limits.targets) (path_at t.targets at) slot ≡ E slot.turn (job_deps parked.begun.value.job) = rw is refl in
           let turn : f.new.turn ≡ slot.turn = f.turn ∙ ap (λ (y : Slot). y.turn) was_parked.0 in

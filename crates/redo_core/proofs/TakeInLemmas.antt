@@ -17,7 +17,8 @@ use Rattle.redo_core.specs.Build.{GivenView, rules_for}
 use Rattle.redo_build.specs.Schedule.{Entry, State, outcomes_of, paths_of, entry_of, entered, put, only, advanced}
 use Rattle.redo_build.specs.Schedule.{moved_on, enqueued, IsOutAt}
 use Rattle.redo_build.specs.Schedule.Event.{Hand_in}
-use Rattle.redo_build.specs.inside.Standing.{decided_count}
+use Rattle.redo_build.specs.Schedule.Phase.{Script}
+use Rattle.redo_build.specs.inside.Standing.{decided_count, rounds}
 use Rattle.redo_build.specs.inside.Turns.{CameTo, deps_at_turn}
 use Rattle.redo_core.specs.Views.{FactView}
 use Rattle.redo_core.specs.inside.Works.{job_deps, told_in, IsStopped}
@@ -39,12 +40,12 @@ use Rattle.redo_core.specs.declared.work.End.TheVariants.{Ended, Stopped}
 use Rattle.redo_build.proofs.PathLemmas.{is_among-true, with_new-second, with_new-distinct}
 use Rattle.redo_build.proofs.DepthLemmas.{cases_Option, operand-target, deeper}
 use Rattle.redo_build.proofs.SeenLemmas.{outcomes_of-at, outcomes_of-entry, paths_of-entered, entry_of-entered_old}
-use Rattle.redo_core.proofs.LawfulTreeLemmas.{lawful_for}
+use Rattle.redo_core.proofs.LawfulTreeLemmas.{lawful_for, no_looks}
 use Rattle.redo_core.proofs.JobLemmas.{found_sources}
-use Rattle.redo_build.proofs.TurnLemmas.{only-some, deps_at_turn-more, Extends-trans'}
-use Rattle.redo_build.proofs.TurnBoundLemmas.{turn-below, asked-more}
+use Rattle.redo_build.proofs.TurnLemmas.{asked-more, only-some, deps_at_turn-more, Extends-trans'}
+use Rattle.redo_build.proofs.TurnBoundLemmas.{turn-below}
 use Rattle.redo_build.proofs.StandingLemmas.{outcomes_of-deep}
-use Rattle.redo_build.proofs.SoundLemmas.{IsSound, opening-sound, run-sound, happens-sound}
+use Rattle.redo_build.proofs.SoundLemmas.{IsSound, opening-sound, run-sound, happens-sound, out-parts}
 use Rattle.redo_build.proofs.HandoverLemmas.{piece-advanced}
 use Rattle.redo_core.proofs.SlotLemmas.{entry_of-slots, paths_of-slots, slice_get-from, slice_get-below_some}
 use Rattle.redo_core.proofs.TableSteps.{operand-entry}
@@ -62,19 +63,19 @@ count-some (x ∷ xs) (suc at) slot h out =
     elim (cases_Bool (is_stage_out x.stage)) [ inl t ↦ rw t (omega arith) | inr f ↦ rw f rest ]
 
 decided-shows : (r : Rules) (a : Ask) (fact : FactView) (p : List ℕ) (turn : ℕ) (stage : Stage) → IsDecidedStage fact stage →
-    ◌≡◌ {A = Entry} (record { path = p; turn = turn; deps = stage_deps r a p turn stage; outcome = stage_outcome stage; is_out = is_stage_out stage })
-    (record { path = p; turn = turn; deps = fact.deps; outcome = Some fact.outcome; is_out = false })
+    ◌≡◌ {A = Entry} (record { path = p; looks = 0; turn = turn; deps = stage_deps r a p turn stage; outcome = stage_outcome stage; is_out = is_stage_out stage })
+    (record { path = p; looks = 0; turn = turn; deps = fact.deps; outcome = Some fact.outcome; is_out = false })
 decided-shows r a fact p turn (Waiting parked) h = absurd h
 decided-shows r a fact p turn (Ready work) h = absurd h
 decided-shows r a fact p turn Out h = absurd h
 decided-shows r a fact p turn (Decided held) h =
-    let E : FactView → Entry = λ f. record { path = p; turn = turn; deps = f.deps; outcome = Some f.outcome; is_out = false } in ap E h
+    let E : FactView → Entry = λ f. record { path = p; looks = 0; turn = turn; deps = f.deps; outcome = Some f.outcome; is_out = false } in ap E h
 
 parked-shows : (r : Rules) (a : Ask) (begun : Box Begun Global) (numbers : Vec ℕ Global) (p : List ℕ) (turn : ℕ) (stage : Stage) → IsParkedStage begun numbers stage →
-    ◌≡◌ {A = Entry} (record { path = p; turn = turn; deps = stage_deps r a p turn stage; outcome = stage_outcome stage; is_out = is_stage_out stage })
-    (record { path = p; turn = turn; deps = job_deps begun.value.job; outcome = None; is_out = false })
+    ◌≡◌ {A = Entry} (record { path = p; looks = 0; turn = turn; deps = stage_deps r a p turn stage; outcome = stage_outcome stage; is_out = is_stage_out stage })
+    (record { path = p; looks = 0; turn = turn; deps = job_deps begun.value.job; outcome = None; is_out = false })
 parked-shows r a begun numbers p turn (Waiting parked) h =
-    let E : Parked → Entry = λ x. record { path = p; turn = turn; deps = job_deps x.begun.value.job; outcome = None; is_out = false } in ap E h
+    let E : Parked → Entry = λ x. record { path = p; looks = 0; turn = turn; deps = job_deps x.begun.value.job; outcome = None; is_out = false } in ap E h
 parked-shows r a begun numbers p turn (Ready work) h = absurd h
 parked-shows r a begun numbers p turn Out h = absurd h
 parked-shows r a begun numbers p turn (Decided held) h = absurd h
@@ -160,7 +161,8 @@ module _ (given : GivenView) (t : Table) (at : ℕ) (end : End) (may : MayTakeIn
       fed.3 q (subst P (sym same) m) none
 
   now-is : end_progress end ≡ advanced (rules_for given) (table_entries (rules_for given) given.limits.targets t) (slot_entry (rules_for given) (outcome_at (rules_for given) given.limits.targets) (path_at t.targets at) may.slot)
-  now-is = piece-advanced r lawful may.request es sound.standing target e entry-there e-open e-fed (end_progress end) may.is_end.is_piece
+  now-is = piece-advanced r lawful may.request es sound.standing target e entry-there e-open e-fed
+      (out-parts r lawful may.request s sound target e entry-there e-out).2 (end_progress end) may.is_end.is_piece
 
   open-event : IsOutAt (table_state (rules_for given) given.limits.targets t) (path_at t.targets at) may.slot.turn
   open-event = record { entry = e; at = entry-there; is_out = e-out; at_turn = refl }
@@ -170,12 +172,12 @@ module _ (given : GivenView) (t : Table) (at : ℕ) (end : End) (may : MayTakeIn
 
   pub moved : List Entry
   moved = put (entered (rules_for given) (table_entries (rules_for given) given.limits.targets t) (operands (rules_for given) (end_progress end).deps))
-      (moved_on (slot_entry (rules_for given) (outcome_at (rules_for given) given.limits.targets) (path_at t.targets at) may.slot) (end_progress end))
+      (moved_on Script (slot_entry (rules_for given) (outcome_at (rules_for given) given.limits.targets) (path_at t.targets at) may.slot) (end_progress end))
 
   pub after-state : state_after given t at ≡ enqueued (rules_for given) (record { entries = moved; ready = map (path_at t.targets) t.ready.items })
   unfolding moved
   after-state =
-      let N : Progress → State = λ now. enqueued r (record { entries = put (entered r es (operands r now.deps)) (moved_on e now); ready = map (path_at t.targets) t.ready.items }) in
+      let N : Progress → State = λ now. enqueued r (record { entries = put (entered r es (operands r now.deps)) (moved_on Script e now); ready = map (path_at t.targets) t.ready.items }) in
       let first : state_after given t at ≡ N (advanced r es e) = rw entry-there refl in
       first ∙ ap N (sym now-is)
 
@@ -218,14 +220,14 @@ module _ (given : GivenView) (t : Table) (at : ℕ) (end : End) (may : MayTakeIn
         let put-in = put-entries given t u [] may.table keys_distinct at d.old d.new d.put_back in
         let turn : d.new.turn ≡ may.slot.turn = d.turn ∙ ap (λ (y : Slot). y.turn) old-slot in
         let shows = decided-shows r (outcome_at r given.limits.targets) fact target d.new.turn d.new.stage d.stage in
-        let M : ℕ → Entry = λ n. record { path = target; turn = n; deps = fact.deps; outcome = Some fact.outcome; is_out = false } in
-        let E : End → List Entry = λ x. put (entered r es (operands r (end_progress x).deps)) (moved_on e (end_progress x)) in
+        let M : ℕ → Entry = λ n. record { path = target; looks = 0; turn = n; deps = fact.deps; outcome = Some fact.outcome; is_out = false } in
+        let E : End → List Entry = λ x. put (entered r es (operands r (end_progress x).deps)) (moved_on Script e (end_progress x)) in
         let seen = entered-seen r es (operands r fact.deps) asked-seen in
         put-in ∙ ap (put es) (shows ∙ ap M turn) ∙ sym (ap (λ xs. put xs (M may.slot.turn)) seen) ∙ ap E (sym ended)
 
     pub decided-put : IsPutBackThere given t u at [] pending
     decided-put =
-        let P : End → Type 0 = λ x. Rattle.redo_core.specs.inside.Ends.IsEndOf given may.is_end.is_piece.depth target may.slot.turn x in
+        let P : End → Type 0 = λ x. Rattle.redo_core.specs.inside.Ends.IsEndOf given may.is_end.is_piece.depth may.is_end.is_piece.looks target may.slot.turn x in
         let of_fact = subst P ended may.is_end.is_end in
         let len = ap length d.put_back.slots ∙ Rattle.std.proofs.Common.length-set t.slots.items at d.new in
         let K : List (List ℕ) → Type 0 = λ xs. (k : ℕ) (p : List ℕ) → slice_get t.targets k ≡ Some p → slice_get xs k ≡ Some p in
@@ -242,30 +244,36 @@ module _ (given : GivenView) (t : Table) (at : ℕ) (end : End) (may : MayTakeIn
 
   -- a script that stopped
   module _ (begun : Box Begun Global) (stopped : end ≡ Stopped begun) where
-    pub is_stopped : IsStopped given may.is_end.is_piece.depth (path_at t.targets at) may.slot.turn begun.value.job begun.value.facts
+    pub is_stopped : IsStopped given may.is_end.is_piece.depth may.is_end.is_piece.looks (path_at t.targets at) may.slot.turn begun.value.job begun.value.facts
     is_stopped =
-        let P : End → Type 0 = λ x. Rattle.redo_core.specs.inside.Ends.IsEndOf given may.is_end.is_piece.depth target may.slot.turn x in
+        let P : End → Type 0 = λ x. Rattle.redo_core.specs.inside.Ends.IsEndOf given may.is_end.is_piece.depth may.is_end.is_piece.looks target may.slot.turn x in
         subst P stopped may.is_end.is_end
 
-    way : CameTo (rules_for given) (path_at t.targets at) (outcomes_of (table_entries (rules_for given) given.limits.targets t)) may.slot.turn ×
+    way : CameTo (rules_for given) (path_at t.targets at) (outcomes_of (table_entries (rules_for given) given.limits.targets t)) (rounds (slot_entry (rules_for given) (outcome_at (rules_for given) given.limits.targets) (path_at t.targets at) may.slot)) ×
         (stage_deps (rules_for given) (outcome_at (rules_for given) given.limits.targets) (path_at t.targets at) may.slot.turn may.slot.stage ≡
-        deps_at_turn (rules_for given) (path_at t.targets at) (outcomes_of (table_entries (rules_for given) given.limits.targets t)) may.slot.turn)
+        deps_at_turn (rules_for given) (path_at t.targets at) (outcomes_of (table_entries (rules_for given) given.limits.targets t)) (rounds (slot_entry (rules_for given) (outcome_at (rules_for given) given.limits.targets) (path_at t.targets at) may.slot)))
     way =
         let w = sound.standing.under_way target e entry-there e-open in (w.came, w.is)
 
     deep : Extends (rules_for given) (outcomes_of (table_entries (rules_for given) given.limits.targets t)) (outcome_at (rules_for given) (decided_count (table_entries (rules_for given) given.limits.targets t)))
     deep = outcomes_of-deep r lawful may.request es sound.standing
 
+    -- the script was begun behind as many looks as the schedule says
+    same-rounds : rounds (slot_entry (rules_for given) (outcome_at (rules_for given) given.limits.targets) (path_at t.targets at) may.slot) ≡ may.is_end.is_piece.looks + may.slot.turn
+    same-rounds =
+        let piece = may.is_end.is_piece in
+        omega (arith, no_looks given target (outcome_at r piece.depth) piece.looks piece.begun)
+
     -- the record at its turn is the same under the outcomes that the job held
     same-deps : stage_deps (rules_for given) (outcome_at (rules_for given) given.limits.targets) (path_at t.targets at) may.slot.turn may.slot.stage ≡
-        deps_at_turn (rules_for given) (path_at t.targets at) (outcome_at (rules_for given) may.is_end.is_piece.depth) may.slot.turn
+        deps_at_turn (rules_for given) (path_at t.targets at) (outcome_at (rules_for given) may.is_end.is_piece.depth) (may.is_end.is_piece.looks + may.slot.turn)
     same-deps =
         let n = may.is_end.is_piece.depth in
         let m = max n (decided_count es) in
         let one = deps_at_turn-more r lawful target (outcomes_of es) (outcome_at r m)
-        (Extends-trans' r (outcomes_of es) (outcome_at r (decided_count es)) (outcome_at r m) deep (deeper r lawful (decided_count es) m (omega arith))) may.slot.turn way.0 in
-        let two = deps_at_turn-more r lawful target (outcome_at r n) (outcome_at r m) (deeper r lawful n m (omega arith)) may.slot.turn may.is_end.is_piece.came in
-        way.1 ∙ one ∙ sym two
+        (Extends-trans' r (outcomes_of es) (outcome_at r (decided_count es)) (outcome_at r m) deep (deeper r lawful (decided_count es) m (omega arith))) (rounds e) way.0 in
+        let two = deps_at_turn-more r lawful target (outcome_at r n) (outcome_at r m) (deeper r lawful n m (omega arith)) (may.is_end.is_piece.looks + may.slot.turn) may.is_end.is_piece.came in
+        way.1 ∙ one ∙ ap (deps_at_turn r target (outcome_at r m)) same-rounds ∙ sym two
 
     -- what it held is known, and it had asked for it
     held-known : (q : List ℕ) (o : Outcome) → told_in begun.value.facts q ≡ Some o →
@@ -274,11 +282,11 @@ module _ (given : GivenView) (t : Table) (at : ℕ) (end : End) (may : MayTakeIn
     held-known q o h =
         let n = may.is_end.is_piece.depth in
         let m = max n (decided_count es) in
-        let held : only (operands r (deps_at_turn r target (outcome_at r n) may.slot.turn)) (outcome_at r n) q ≡ Some o = sym (is_stopped.exact q) ∙ h in
-        let value = only-some (operands r (deps_at_turn r target (outcome_at r n) may.slot.turn)) (outcome_at r n) q o held in
-        elim (cases_Bool (is_among (operands r (deps_at_turn r target (outcome_at r n) may.slot.turn)) q)) [
+        let held : only (operands r (deps_at_turn r target (outcome_at r n) (may.is_end.is_piece.looks + may.slot.turn))) (outcome_at r n) q ≡ Some o = sym (is_stopped.exact q) ∙ h in
+        let value = only-some (operands r (deps_at_turn r target (outcome_at r n) (may.is_end.is_piece.looks + may.slot.turn))) (outcome_at r n) q o held in
+        elim (cases_Bool (is_among (operands r (deps_at_turn r target (outcome_at r n) (may.is_end.is_piece.looks + may.slot.turn))) q)) [
           | inl yes' ↦
-              let there = is_among-true (operands r (deps_at_turn r target (outcome_at r n) may.slot.turn)) q yes' in
+              let there = is_among-true (operands r (deps_at_turn r target (outcome_at r n) (may.is_end.is_piece.looks + may.slot.turn))) q yes' in
               let D : List Dep → Type 0 = λ ds. IsAmong (operands r ds) q in
               let asked = subst D (sym same-deps) there in
               let source = operand-target r lawful e.deps q asked in
@@ -323,7 +331,7 @@ module _ (given : GivenView) (t : Table) (at : ℕ) (end : End) (may : MayTakeIn
     unfolding moved
     after-length =
         let wide = entered r es (operands r (end_progress end).deps) in
-        ap length enters-same ∙ sym (ap length after-entries ∙ length-put wide (moved_on e (end_progress end)))
+        ap length enters-same ∙ sym (ap length after-entries ∙ length-put wide (moved_on Script e (end_progress end)))
       where
         length-put : (xs : List Entry) (x : Entry) → length (put xs x) ≡ length xs
         length-put [] x = refl
@@ -377,7 +385,7 @@ module _ (given : GivenView) (t : Table) (at : ℕ) (end : End) (may : MayTakeIn
           let n = may.is_end.is_piece.depth in
           let D : List Dep → Type 0 = λ ds. IsAmong (operands r ds) q in
           let before = subst D same-deps (held-known q o h).0 in
-          let more = asked-more r lawful target (outcome_at r n) may.slot.turn may.is_end.is_piece.came q before in
+          let more = asked-more r lawful target (outcome_at r n) (may.is_end.is_piece.looks + may.slot.turn) may.is_end.is_piece.came q before in
           subst D (sym (job-record ∙ ap (λ (x : Progress). x.deps) may.is_end.is_piece.is)) more
 
       module _ (u : Table) (numbers : Vec ℕ Global) (are : AreNumbers v.targets numbers.items (waited_by (rules_for given) begun.value)) (d : IsParkedAt v u at begun numbers) where
@@ -406,11 +414,11 @@ module _ (given : GivenView) (t : Table) (at : ℕ) (end : End) (may : MayTakeIn
         parked-moved =
             let put-in = put-entries given v u newly_ready a.table wider-distinct at d.old d.new d.put_back in
             let shows = parked-shows r (outcome_at r given.limits.targets) begun numbers (path_at v.targets at) d.new.turn d.new.stage d.stage in
-            let M : List ℕ → ℕ → List Dep → Entry = λ p n ds. record { path = p; turn = n; deps = ds; outcome = None; is_out = false } in
+            let M : List ℕ → ℕ → List Dep → Entry = λ p n ds. record { path = p; looks = 0; turn = n; deps = ds; outcome = None; is_out = false } in
             let entry' = shows ∙ ap (λ p. M p d.new.turn (job_deps begun.value.job)) path-still ∙ ap (λ n. M target n (job_deps begun.value.job)) new-turn ∙ ap (M target (may.slot.turn + 1)) job-record in
-            let N : End → Type 0 = λ x. M target (may.slot.turn + 1) (end_progress x).deps ≡ moved_on e (end_progress x) in
-            let last : M target (may.slot.turn + 1) (end_progress end).deps ≡ moved_on e (end_progress end) = subst N (sym stopped) refl in
-            put-in ∙ ap (put (table_entries r given.limits.targets v)) (entry' ∙ last) ∙ ap (λ xs. put xs (moved_on e (end_progress end))) wider-entries
+            let N : End → Type 0 = λ x. M target (may.slot.turn + 1) (end_progress x).deps ≡ moved_on Script e (end_progress x) in
+            let last : M target (may.slot.turn + 1) (end_progress end).deps ≡ moved_on Script e (end_progress end) = subst N (sym stopped) refl in
+            put-in ∙ ap (put (table_entries r given.limits.targets v)) (entry' ∙ last) ∙ ap (λ xs. put xs (moved_on Script e (end_progress end))) wider-entries
 
         pub parked-put : IsPutBackThere given t u at newly_ready (at ∷ [])
         parked-put =

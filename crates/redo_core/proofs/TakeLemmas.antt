@@ -25,7 +25,8 @@ use Rattle.redo_core.specs.declared.table.Slot.{Slot}
 use Rattle.redo_core.specs.declared.table.Stage.TheVariants.{Ready, Out}
 use Rattle.redo_core.specs.declared.work.Work.{Work}
 use Rattle.redo_core.proofs.HoldingLemmas.{same-answers}
-use Rattle.redo_core.proofs.LawfulTreeLemmas.{lawful_for}
+use Rattle.redo_core.proofs.LawfulTreeLemmas.{lawful_for, keeps_nothing}
+use Rattle.redo_build.proofs.LookingLemmas.{nothing-due}
 use Rattle.redo_build.proofs.QuietLemmas.{is_part, shows}
 use Rattle.redo_build.specs.Theorems.{IsPartOfBuild, ShowsBuild}
 use Rattle.redo_build.proofs.TurnBoundLemmas.{turn-below}
@@ -33,13 +34,13 @@ use Rattle.redo_build.proofs.SoundLemmas.{IsSound, opening-sound, run-sound}
 use Rattle.redo_core.proofs.SlotLemmas.{map-remove, slice_get-from, slice_get-item, slice_get-map, ready-job, entry}
 use Rattle.redo_core.proofs.SlotLemmas.{state_taken, paths_of-slots, length-filter_le}
 
-pub sound-inside : (b : Inside) → IsKept b → IsSound (rules_inside b) b.request.items (state_of b)
+pub sound-inside : (b : Inside) → IsKept b → IsSound (rules_inside b) b.build.request (state_of b)
 sound-inside b kept =
     let r = rules_inside b in
     let lawful = lawful_for b.build in
-    let P : State → Type 0 = IsSound r b.request.items in
+    let P : State → Type 0 = IsSound r b.build.request in
     subst P (sym kept.reached.ends)
-    (run-sound r lawful b.request.items (opening r b.request.items) kept.reached.events (opening-sound r lawful b.request.items) kept.reached.all_open)
+    (run-sound r lawful b.build.request (opening r b.build.request) kept.reached.events (opening-sound r lawful b.build.request) kept.reached.all_open)
 
 abbrev lawful_inside : (b : Inside) → AreLawful (rules_inside b)
 lawful_inside b = lawful_for b.build
@@ -70,7 +71,7 @@ module _ (b : Inside) (kept : IsKept b) (which at : ℕ) (slot : Slot)
 
   pub taken_state : state_from (rules_inside b) b.build.limits.targets b.table.targets (slice_set b.table.slots.items at (record slot { stage = Out })) (remove b.table.ready.items which) ≡
       happens (rules_inside b) (state_of b) (Take which)
-  taken_state = state_taken (rules_inside b) (lawful_inside b) b.build.limits.targets b.request.items b.table.targets b.table.slots.items b.table.ready.items (sound-inside b kept) kept.table.one_each kept.table.within_limit
+  taken_state = state_taken (rules_inside b) (lawful_inside b) b.build.limits.targets b.build.request b.table.targets b.table.slots.items b.table.ready.items (sound-inside b kept) kept.table.one_each kept.table.within_limit
       which at found_path.0 slot found_job.0 first found_path.1 there found_job.1
 
   pub work_taken : (view : BoardView) → (view.given ≡ b.build) → (view.state ≡ state_of b) →
@@ -93,7 +94,7 @@ module _ (b : Inside) (kept : IsKept b) (which at : ℕ) (slot : Slot)
             let R : State → Type 0 = λ s. entry_of s.entries work.target ≡ Some e in
             let S : List ℕ → Type 0 = λ x. entry_of (state_of b).entries x ≡ Some e in
             let now = subst S target (subst R state h) in
-            let known = entry (rules_inside b) (lawful_inside b) b.build.limits.targets b.request.items b.table.targets b.table.slots.items b.table.ready.items (sound-inside b kept) kept.table.one_each kept.table.within_limit
+            let known = entry (rules_inside b) (lawful_inside b) b.build.limits.targets b.build.request b.table.targets b.table.slots.items b.table.ready.items (sound-inside b kept) kept.table.one_each kept.table.within_limit
             which at path.0 slot work first path.1 there is in
             let e_is : slot_entry (rules_inside b) (outcome_at (rules_inside b) b.build.limits.targets) path.0 slot ≡ e = let both = sym known ∙ now in cc in (
               parked.2 ∙ ap (λ (x : Entry). x.turn) e_is,
@@ -106,7 +107,7 @@ module _ (b : Inside) (kept : IsKept b) (which at : ℕ) (slot : Slot)
             let H : Rules → Type 0 = λ x. AllAnswered x (outcome_at x holds.depth) work.deps in
             let K : Rules → Type 0 = λ x. told_by work.known q ≡ only (operands x work.deps) (outcome_at x holds.depth) q in
             let A : WorkView → Type 0 = λ w. AllAnswered r (outcomes_of es) w.deps in
-            let same_answers = same-answers r (lawful_inside b) b.request.items es (sound-inside b kept).standing holds.depth work.deps (subst H own holds.fed) (subst A same job.3) q in
+            let same_answers = same-answers r (lawful_inside b) b.build.request es (sound-inside b kept).standing holds.depth work.deps (subst H own holds.fed) (subst A same job.3) q in
             let shown : rules_on view ≡ r = ap rules_for given in
             let S : State → Type 0 = λ s. told_by work.known q ≡ only (operands r work.deps) (outcomes_of s.entries) q in
             let R : Rules → Type 0 = λ x. told_by work.known q ≡ only (operands x work.deps) (outcomes_of view.state.entries) q in
@@ -128,18 +129,18 @@ pub run-append : (r : Rules) (events : List Event) (event : Event) (s : State) �
 run-append r [] event s = refl
 run-append r (e ∷ events) event s = run-append r events event (happens r s e)
 
-pub AllOpen-append : (r : Rules) (events : List Event) (event : Event) (s : State) → AllOpen r s events → IsOpen (run r events s) event →
+pub AllOpen-append : (r : Rules) (events : List Event) (event : Event) (s : State) → AllOpen r s events → IsOpen r (run r events s) event →
     AllOpen r s (events ++ event ∷ [])
 AllOpen-append r [] event s all open' = (open', tt)
 AllOpen-append r (e ∷ events) event s all open' = (all.0, AllOpen-append r events event (happens r s e) all.1 open')
 
 -- one more open event leads to a state that is reached
-pub reached-more : (r : Rules) (request : List (List ℕ)) (s : State) (event : Event) → IsReached r request s → IsOpen s event →
+pub reached-more : (r : Rules) (request : List (List ℕ)) (s : State) (event : Event) → IsReached r request s → IsOpen r s event →
     IsReached r request (happens r s event)
 reached-more r request s event reached open' = record {
   events = reached.events ++ event ∷ [];
   all_open = AllOpen-append r reached.events event (opening r request) reached.all_open
-      (let P : State → Type 0 = λ x. IsOpen x event in subst P reached.ends open');
+      (let P : State → Type 0 = λ x. IsOpen r x event in subst P reached.ends open');
   ends = ap (λ x. happens r x event) reached.ends ∙ sym (run-append r reached.events event (opening r request));
 }
 
@@ -205,9 +206,9 @@ module _ (b : Inside) (kept : IsKept b) (which at : ℕ) (slot : Slot)
       ap (λ x. state_from r b.build.limits.targets b.table.targets x ready.items) is_slots ∙
       ap (state_from r b.build.limits.targets b.table.targets (slice_set b.table.slots.items at (record slot { stage = Out }))) is_ready ∙
       taken_state b kept which at slot first there in
-      let more = reached-more r b.request.items (state_of b) (Take which) kept.reached
+      let more = reached-more r b.build.request (state_of b) (Take which) kept.reached
       (omega (arith, below, length-map (path_at b.table.targets) b.table.ready.items)) in
-      let P : State → Type 0 = IsReached r b.request.items in
+      let P : State → Type 0 = IsReached r b.build.request in
       let len = length-set b.table.slots.items at new in
       let open_stage : (stage_outcome slot.stage ≡ None) × (is_stage_out slot.stage ≡ false) = (rw job.1 refl, rw job.1 refl) in
       let S : List Slot → Type 0 = λ xs. IsTable r b.build b.table.targets xs ready.items (b.table.out + 1) [] in
@@ -257,22 +258,22 @@ turn_small b kept which at slot first there work is =
     let path = found_path b kept which at slot first there in
     let job = found_job b kept which at slot first there in
     let same : job.0 ≡ work = let both : Ready job.0 ≡ Ready work = sym job.1 ∙ is in cc in
-    let known = entry r (lawful_inside b) b.build.limits.targets b.request.items b.table.targets b.table.slots.items b.table.ready.items sound kept.table.one_each kept.table.within_limit
+    let known = entry r (lawful_inside b) b.build.limits.targets b.build.request b.table.targets b.table.slots.items b.table.ready.items sound kept.table.one_each kept.table.within_limit
     which at path.0 slot work first path.1 there is in
     let at_path : path_at b.table.targets at ≡ path.0 = rw path.1 refl in
     let spot : slice_get (state_of b).ready which ≡ Some path.0 =
     slice_get-map (path_at b.table.targets) b.table.ready.items which at first ∙ ap Some at_path in
     let fed = sound.queued.ready_fed path.0 (slice_get-among (state_of b).ready which path.0 spot) in
     let entry_is : fed.0 ≡ slot_entry r (outcome_at (rules_inside b) b.build.limits.targets) path.0 slot = let both = sym fed.1 ∙ known in cc in
-    let below = turn-below r (lawful_for b.build) b.request.items (state_of b).entries sound.standing path.0 fed.0 fed.1 fed.2 fed.3 in
+    let below = turn-below r (lawful_for b.build) b.build.request (state_of b).entries sound.standing path.0 fed.0 fed.1 fed.2 fed.3 in
     let turn = ap (λ (x : Entry). x.turn) entry_is in
     let work_turn = ap (λ (w : WorkView). w.turn) same in
     let paths = ap length (paths_of-slots r (outcome_at (rules_inside b) b.build.limits.targets) b.table.targets b.table.slots.items kept.table.one_each) in
     omega (arith, below, turn, work_turn, job.2.2, paths, kept.table.one_each, kept.table.within_limit)
 
 -- what a running board keeps is a part of its build
-pub part-inside : (b : Inside) → IsKept b → IsPartOfBuild (rules_inside b) b.request.items b.build.limits.targets (state_of b)
-part-inside b kept = is_part (rules_inside b) (lawful_for b.build) b.request.items (state_of b) (sound-inside b kept) b.build.limits.targets
+pub part-inside : (b : Inside) → IsKept b → IsPartOfBuild (rules_inside b) b.build.request b.build.limits.targets (state_of b)
+part-inside b kept = is_part (rules_inside b) (lawful_for b.build) b.build.request (state_of b) (sound-inside b kept) b.build.limits.targets
 
 slots-length : (r : Rules) (a : Ask) (ps : List (List ℕ)) (slots : List Slot) → length slots ≡ length ps → length (slot_entries r a ps slots) ≡ length slots
 slots-length r a [] [] h = refl
@@ -285,22 +286,23 @@ pub length-entries : (b : Inside) → IsKept b → length (state_of b).entries �
 length-entries b kept = omega (arith, kept.table.within_limit, slots-length (rules_inside b) (outcome_at (rules_inside b) b.build.limits.targets) b.table.targets b.table.slots.items kept.table.one_each)
 
 -- a quiet board shows the build
-pub shows-inside : (b : Inside) → IsKept b → IsQuiet (state_of b) → ShowsBuild (rules_inside b) b.request.items b.build.limits.targets (state_of b)
+pub shows-inside : (b : Inside) → IsKept b → IsQuiet (state_of b) → ShowsBuild (rules_inside b) b.build.request b.build.limits.targets (state_of b)
 shows-inside b kept quiet =
-    shows (rules_inside b) (lawful_for b.build) b.request.items (state_of b) (sound-inside b kept) b.build.limits.targets quiet
+    shows (rules_inside b) (lawful_for b.build) b.build.request (state_of b) (sound-inside b kept) b.build.limits.targets quiet
+    (nothing-due (rules_inside b) (keeps_nothing b.build) (state_of b))
     (omega (arith, kept.table.within_limit, slots-length (rules_inside b) (outcome_at (rules_inside b) b.build.limits.targets) b.table.targets b.table.slots.items kept.table.one_each))
 
 abbrev pub view_of : Inside → BoardView
-view_of b = record { given = b.build; request = b.request.items; state = state_of b; stopped = b.stopped }
+view_of b = record { given = b.build; state = state_of b; stopped = b.stopped }
 
 no_paths : (ps : List (List ℕ)) → length ps ≡ 0 → ps ≡ []
 no_paths [] h = refl
 no_paths (p ∷ ps) h = absurd (omega arith)
 
 pub shows-view : (b : Inside) → IsBoard b → (view : BoardView) → view_of b ≡ view → is_some b.stopped ≡ false →
-    ready_count view ≡ 0 → jobs_out view ≡ 0 → ShowsBuild (rules_on view) view.request view.given.limits.targets view.state
+    ready_count view ≡ 0 → jobs_out view ≡ 0 → ShowsBuild (rules_on view) view.given.request view.given.limits.targets view.state
 shows-view b invariant view is on none_ready none_out =
-    let P : BoardView → Type 0 = λ v. ShowsBuild (rules_on v) v.request v.given.limits.targets v.state in
+    let P : BoardView → Type 0 = λ v. ShowsBuild (rules_on v) v.given.request v.given.limits.targets v.state in
     let Q : BoardView → Type 0 = λ v. ready_count v ≡ 0 in
     let R : BoardView → Type 0 = λ v. jobs_out v ≡ 0 in
     let ready = rw on at (subst Q (sym is) none_ready) in

@@ -1,12 +1,12 @@
 -- What a board has taken, one event further, and in the end.
 use Rattle.std.proofs.Common.{◌≡◌, ℕ, ◌<◌, cond, is_some, length, List, [], ◌∷◌, ◌++◌, Option, Some, None, slice_get}
-use Rattle.std.proofs.Common.{option_and_then, append_assoc, append-nil, refl, sym, ap, subst, ◌∙◌, arith}
+use Rattle.std.proofs.Common.{true, option_and_then, append_assoc, append-nil, refl, sym, ap, subst, ◌∙◌, arith}
 use Rattle.std.specs.Prelude.{IsNone}
 use Rattle.redo_record.specs.Paths.{IsAmong}
 use Rattle.redo_build.specs.Rules.{Rules}
 use Rattle.redo_build.specs.Schedule.{Entry, State, Event, IsOpen, IsQuiet, entry_of, happens, opening, out_count, paths_of}
-use Rattle.redo_build.specs.Schedule.{run}
-use Rattle.redo_build.specs.Schedule.Event.{Take, Hand_in}
+use Rattle.redo_build.specs.Schedule.{outcomes_of, run}
+use Rattle.redo_build.specs.Schedule.Event.{Take, Hand_in, Look}
 use Rattle.redo_build.specs.Takes.{takes, place_of, AreBegun, AreCountedOnce, AreOnce, IsTaken}
 use Rattle.redo_build.specs.Theorems.{ShowsBuild}
 use Rattle.redo_report.specs.Reports.{IsReport}
@@ -15,9 +15,10 @@ use Rattle.redo_core.specs.Taken.{HasTaken}
 use Rattle.redo_core.specs.Views.{BoardView, WorkView, IsQuietBoard, IsWorkTaken, after, ready_count}
 use Rattle.redo_core.specs.Views.{rules_on}
 use Rattle.redo_build.proofs.SeenLemmas.{entry_of-path}
-use Rattle.redo_core.proofs.LawfulTreeLemmas.{lawful_for}
+use Rattle.redo_core.proofs.LawfulTreeLemmas.{lawful_for, keeps_nothing}
 use Rattle.redo_build.proofs.BegunLemmas.{begun-seen}
 use Rattle.redo_build.proofs.CountedLemmas.{once-counted}
+use Rattle.redo_build.proofs.LookingLemmas.{nothing-due}
 use Rattle.redo_build.proofs.OnceLemmas.{takes-once}
 use Rattle.redo_build.proofs.QueueLemmas.{slice_get-among}
 use Rattle.redo_build.proofs.SoundLemmas.{IsSound, opening-sound, run-sound}
@@ -32,19 +33,20 @@ takes-append r (Take which ∷ events) event s =
     let next = happens r s (Take which) in
     ap (λ xs. here ++ xs) (takes-append r events event next) ∙ sym (append_assoc here (takes r events next) (takes r (event ∷ []) (run r events next)))
 takes-append r (Hand_in target turn ∷ events) event s = takes-append r events event (happens r s (Hand_in target turn))
+takes-append r (Look target ∷ events) event s = takes-append r events event (happens r s (Look target))
 
 below-length : {A : Type 0} (stopped : Option A) (n which : ℕ) → which < cond (is_some stopped) 0 n → which < n
 below-length None n which h = h
 below-length (Some stop) n which h = absurd (omega (arith, h))
 
 -- one more open event adds what it takes
-pub taken-more : (b : BoardView) (taken more : List ((List ℕ) × ℕ)) (event : Event) → HasTaken b taken → IsOpen b.state event →
+pub taken-more : (b : BoardView) (taken more : List ((List ℕ) × ℕ)) (event : Event) → HasTaken b taken → IsOpen (rules_on b) b.state event →
     takes (rules_on b) (event ∷ []) b.state ≡ more → HasTaken (after b event) (taken ++ more)
 taken-more b taken more event had open' one =
     let r = rules_on b in
-    let first = opening r b.request in
+    let first = opening r b.given.request in
     let events = had.reached.events in
-    let P : State → Type 0 = λ s. IsOpen s event in
+    let P : State → Type 0 = λ s. IsOpen r s event in
     let there : takes r (event ∷ []) (run r events first) ≡ more = ap (takes r (event ∷ [])) (sym had.reached.ends) ∙ one in
     record {
       reached = record {
@@ -55,13 +57,13 @@ taken-more b taken more event had open' one =
       is = ap (λ xs. xs ++ more) had.is ∙ ap (λ xs. takes r events first ++ xs) (sym there) ∙ sym (takes-append r events event first);
     }
 
-pub sound-taken : (b : BoardView) (taken : List ((List ℕ) × ℕ)) → HasTaken b taken → IsSound (rules_on b) b.request b.state
+pub sound-taken : (b : BoardView) (taken : List ((List ℕ) × ℕ)) → HasTaken b taken → IsSound (rules_on b) b.given.request b.state
 sound-taken b taken had =
     let r = rules_on b in
     let lawful = lawful_for b.given in
-    let first = opening r b.request in
-    let P : State → Type 0 = IsSound r b.request in
-    subst P (sym had.reached.ends) (run-sound r lawful b.request first had.reached.events (opening-sound r lawful b.request) had.reached.all_open)
+    let first = opening r b.given.request in
+    let P : State → Type 0 = IsSound r b.given.request in
+    subst P (sym had.reached.ends) (run-sound r lawful b.given.request first had.reached.events (opening-sound r lawful b.given.request) had.reached.all_open)
 
 -- a take adds its work's target and turn
 pub taken-take : (b : BoardView) (taken : List ((List ℕ) × ℕ)) (which : ℕ) (w : WorkView) → HasTaken b taken → which < ready_count b →
@@ -79,7 +81,7 @@ taken-take b taken which w had below work =
 
 -- what is handed in adds nothing
 pub taken-hand_in : (b : BoardView) (taken : List ((List ℕ) × ℕ)) (target : List ℕ) (turn : ℕ) → HasTaken b taken →
-    IsOpen b.state (Hand_in target turn) → HasTaken (after b (Hand_in target turn)) taken
+    IsOpen (rules_on b) b.state (Hand_in target turn) → HasTaken (after b (Hand_in target turn)) taken
 taken-hand_in b taken target turn had open' =
     let P : List ((List ℕ) × ℕ) → Type 0 = HasTaken (after b (Hand_in target turn)) in
     subst P (append-nil taken) (taken-more b taken [] (Hand_in target turn) had open' refl)
@@ -89,7 +91,7 @@ taken-once b taken had =
     let r = rules_on b in
     let lawful = lawful_for b.given in
     let P : List ((List ℕ) × ℕ) → Type 0 = AreOnce in
-    subst P (sym had.is) (takes-once r lawful b.request had.reached.events (opening r b.request) (opening-sound r lawful b.request) had.reached.all_open)
+    subst P (sym had.is) (takes-once r lawful b.given.request had.reached.events (opening r b.given.request) (opening-sound r lawful b.given.request) had.reached.all_open)
 
 pub taken-counted : (b : BoardView) (taken : List ((List ℕ) × ℕ)) → HasTaken b taken → AreCountedOnce taken
 taken-counted b taken had = once-counted taken (taken-once b taken had)
@@ -104,24 +106,29 @@ no-paths (p ∷ ps) h = absurd (omega arith)
 
 -- once a board is quiet, what was taken at turn 0 is what its report says was begun
 pub taken-begun : (b : BoardView) (taken : List ((List ℕ) × ℕ)) (report : Report) → HasTaken b taken → IsQuietBoard b →
-    ShowsBuild (rules_on b) b.request b.given.limits.targets b.state →
-    IsReport (rules_on b) b.request b.given.limits.targets report → AreBegun taken report.begun.items
+    ShowsBuild (rules_on b) b.given.request b.given.limits.targets b.state →
+    IsReport (rules_on b) b.given.request b.given.limits.targets report → AreBegun taken report.begun.items
 taken-begun b taken report had quiet shown told p =
     let r = rules_on b in
-    let first = opening r b.request in
+    let first = opening r b.given.request in
     let events = had.reached.events in
     let Q : State → Type 0 = IsQuiet in
     let still : IsQuiet b.state = (
       no-paths b.state.ready (on-board b.stopped (length b.state.ready) quiet.0 quiet.1),
       on-board b.stopped (out_count b.state) quiet.0 quiet.2,
     ) in
-    let seen = begun-seen r (lawful_for b.given) b.request events had.reached.all_open (subst Q had.reached.ends still) p in
+    let seen = begun-seen r (lawful_for b.given) b.given.request events had.reached.all_open (subst Q had.reached.ends still)
+    (nothing-due r (keeps_nothing b.given) (run r events first)) p in
     let M : List ((List ℕ) × ℕ) → Type 0 = λ xs. IsTaken xs p 0 in
-    let S : State → Type 0 = λ s. IsAmong (paths_of s.entries) p in (
+    let S : State → Type 0 = λ s. IsAmong (paths_of s.entries) p in
+    let B : State → Type 0 = λ s. r.begins p (outcomes_of s.entries) ≡ true in (
       λ m.
           let both = seen.0 (subst M had.is m) in
-          (told.begun p).1 ((shown.members p).0 (subst S (sym had.reached.ends) both.0), both.1, refl),
+          let member = subst S (sym had.reached.ends) both.0 in
+          (told.begun p).1 ((shown.members p).0 member, both.1, sym (shown.begun p member) ∙ subst B (sym had.reached.ends) both.2),
       λ listed.
           let both = (told.begun p).0 listed in
-          subst M (sym had.is) (seen.1 (subst S had.reached.ends ((shown.members p).1 both.0), both.1)),
+          let member = (shown.members p).1 both.0 in
+          subst M (sym had.is)
+          (seen.1 (subst S had.reached.ends member, both.1, subst B had.reached.ends (shown.begun p member ∙ both.2))),
     )

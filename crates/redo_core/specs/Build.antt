@@ -12,6 +12,7 @@ use Rattle.redo_record.specs.Progress.{Progress, at_once}
 use Rattle.redo_step.specs.Results.{by_script}
 use Rattle.redo_step.specs.Setting.{is_rule, setting_by}
 use Rattle.redo_build.specs.Rules.{Ask, Rules}
+use Rattle.redo_past.specs.Past.{PastView}
 use Rattle.redo_step.specs.Limits.{LimitsView}
 
 -- a tree, what the search finds in it for each path, and the limit of a file's bytes
@@ -56,9 +57,11 @@ rules_in w = record {
 abbrev pub world_of : Tree → LimitsView → World
 world_of tree limits = record { tree = tree; found = found_of tree; limit = limits.file_bytes }
 
--- what a build is given: a tree of sources, and limits
+-- what a build is given: a tree as it was read, with the sources in it and the book of the last run, a request, and
+-- limits
 pub record GivenView : Type 0 where
-  pub tree : Tree
+  pub past : PastView
+  pub request : List (List ℕ)
   pub limits : LimitsView
 
 -- the rules of a source tree
@@ -67,4 +70,4 @@ rules_of tree limits = rules_in (world_of tree limits)
 
 -- the rules of a build that is given this
 abbrev pub rules_for : GivenView → Rules
-rules_for given = rules_of given.tree given.limits
+rules_for given = rules_of given.past.sources given.limits

@@ -2,7 +2,7 @@
 use Rattle.std.specs.Prelude.{◌≡◌, Some, MatchOption}
 use Rattle.redo_build.specs.Outcomes.{IsTooMany}
 use Rattle.redo_build.specs.Schedule.{IsOutAt}
-use Rattle.redo_core.specs.Views.{BoardView, PieceView, rules_on, limit_on}
+use Rattle.redo_core.specs.Views.{BoardView, PieceView, limit_on, request_on, rules_on}
 use Rattle.redo_core.specs.declared.board.Stop.{Stop}
 use Rattle.redo_core.specs.declared.board.Stop.TheVariants.{TooMany as Stopped_at_limit, Memory as Stopped_for_memory}
 use Rattle.redo_core.specs.declared.opening.OpenFault.{OpenFault}
@@ -31,7 +31,7 @@ past_fault_of pasts.Memory = Opened_without_memory
 
 -- the board is of the same build
 abbrev pub IsSameBuild : BoardView → BoardView → Type 0
-IsSameBuild old new = (new.given ≡ old.given) × (new.request ≡ old.request)
+IsSameBuild old new = new.given ≡ old.given
 
 -- a board that ran: exactly a piece whose target isn't out at its turn is a stranger, comes back and changes nothing;
 -- after any other fault the board has stopped
@@ -40,7 +40,7 @@ RefusedRunning old new piece (Stranger back) =
     (back ≡ piece) × (new ≡ old) × (IsOutAt old.state piece.target piece.turn → ⊥)
 RefusedRunning old new piece TooMany =
     IsSameBuild old new × (new.stopped ≡ Some Stopped_at_limit) ×
-    IsTooMany (rules_on old) old.request (limit_on old) × IsOutAt old.state piece.target piece.turn
+    IsTooMany (rules_on old) (request_on old) (limit_on old) × IsOutAt old.state piece.target piece.turn
 RefusedRunning old new piece Memory =
     IsSameBuild old new × (new.stopped ≡ Some Stopped_for_memory) × IsOutAt old.state piece.target piece.turn
 

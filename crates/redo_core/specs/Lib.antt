@@ -3,4 +3,5 @@ pub mod Views
 pub mod Faults
 pub mod Taken
 pub mod Results
+pub mod TreeSources
 pub mod inside

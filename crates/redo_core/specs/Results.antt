@@ -1,7 +1,8 @@
--- What a run comes to whose tree holds what a run before has left.
+-- What a build is opened for, and what it comes to.
 use Rattle.std.specs.Prelude.{◌≡◌, ℕ, List}
 use Rattle.redo_build.specs.Outcomes.{IsTooMany}
-use Rattle.redo_core.specs.Build.{rules_of}
+use Rattle.redo_core.specs.Build.{GivenView, rules_for}
+use Rattle.redo_core.specs.Views.{BoardView, opened}
 use Rattle.redo_past.specs.NewBook.{IsResultOf}
 use Rattle.redo_past.specs.Past.{IsPast, PastView, RefusesBook}
 use Rattle.redo_past.specs.declared.faults.PastFault.TheVariants.{Book}
@@ -15,21 +16,33 @@ pub record IsOfTree (tree : Tree) (past : PastView) : Type 0 where
   pub is_past : IsPast past
   pub of_tree : past.tree ≡ tree
 
+-- the build is given this tree as it was read, this request and these limits
+pub record IsGiven (tree : Tree) (request : List (List ℕ)) (limits : LimitsView) (given : GivenView) : Type 0 where
+  pub of_tree : IsOfTree tree given.past
+  pub requested : given.request ≡ request
+  pub within : given.limits ≡ limits
+
 -- line n of the tree's book is the first at fault
 abbrev pub IsRefused : Tree → ℕ → Type 0
 IsRefused tree n = RefusesBook (Book n) tree
 
+-- the board of the build that is given this, before the first event
+pub record IsOpened (tree : Tree) (request : List (List ℕ)) (limits : LimitsView) (b : BoardView) : Type 0 where
+  pub given : IsGiven tree request limits b.given
+  pub is : b ≡ opened b.given
+
 -- the report of the build of the sources, with the new book among its files
-pub record IsResult (past : PastView) (request : List (List ℕ)) (limits : LimitsView) (result : Report) : Type 0 where
+pub record IsResult (given : GivenView) (result : Report) : Type 0 where
   pub report : Report
-  pub built : IsReport (rules_of past.sources limits) request limits.targets report
-  pub with_book : IsResultOf past report result
+  pub built : IsReport (rules_for given) given.request given.limits.targets report
+  pub with_book : IsResultOf given.past report result
 
 -- the same of the tree
 abbrev pub IsResultOn : Tree → List (List ℕ) → LimitsView → Report → Type 0
-IsResultOn tree request limits result = (past : PastView) × IsOfTree tree past × IsResult past request limits result
+IsResultOn tree request limits result = (given : GivenView) × IsGiven tree request limits given × IsResult given result
 
 -- the build of the tree's sources needs more targets than the limit
 abbrev pub NeedsTooMany : Tree → List (List ℕ) → LimitsView → Type 0
 NeedsTooMany tree request limits =
-    (past : PastView) × IsOfTree tree past × IsTooMany (rules_of past.sources limits) request limits.targets
+    (given : GivenView) × IsGiven tree request limits given ×
+    IsTooMany (rules_for given) given.request given.limits.targets

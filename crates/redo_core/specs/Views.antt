@@ -4,14 +4,12 @@ use Rattle.std.specs.Prelude.{bytes_eq}
 use Rattle.std.specs.Map.{lookup}
 use Rattle.redo_record.specs.Progress.{Progress}
 use Rattle.redo_build.specs.Rules.{Ask, Rules, operands}
-use Rattle.redo_tree.specs.Tree.{Tree}
-use Rattle.redo_core.specs.Build.{GivenView, rules_of, rules_for}
+use Rattle.redo_core.specs.Build.{GivenView, rules_for}
 use Rattle.redo_build.specs.Schedule.{Entry, State, Event, AllOpen, entry_of, outcomes_of, only, opening, run, happens}
 use Rattle.redo_build.specs.Schedule.{out_count}
 use Rattle.redo_record.specs.declared.deps.Dep.{Dep}
 use Rattle.redo_record.specs.declared.outcome.Outcome.{Outcome}
 use Rattle.redo_core.specs.declared.board.Stop.{Stop}
-use Rattle.redo_step.specs.Limits.{LimitsView}
 
 -- a decided target of a build with its outcome, its record and whether its script was begun
 pub record FactView : Type 0 where
@@ -43,12 +41,15 @@ pub record PieceView : Type 0 where
 
 pub record BoardView : Type 0 where
   pub given : GivenView
-  pub request : List (List ℕ)
   pub state : State
   pub stopped : Option Stop
 
 abbrev pub rules_on : BoardView → Rules
 rules_on b = rules_for b.given
+
+-- what is requested
+abbrev pub request_on : BoardView → List (List ℕ)
+request_on b = b.given.request
 
 -- the most targets that a build may need
 abbrev pub limit_on : BoardView → ℕ
@@ -68,13 +69,9 @@ pub record IsReached (r : Rules) (request : List (List ℕ)) (s : State) : Type 
   pub all_open : AllOpen r (opening r request) events
   pub ends : s ≡ run r events (opening r request)
 
-abbrev pub opened : Tree → List (List ℕ) → LimitsView → BoardView
-opened tree request limits = record {
-  given = record { tree = tree; limits = limits };
-  request = request;
-  state = opening (rules_of tree limits) request;
-  stopped = None;
-}
+-- the board of a build that is given this, before the first event
+abbrev pub opened : GivenView → BoardView
+opened given = record { given = given; state = opening (rules_for given) given.request; stopped = None }
 
 -- the board after an event
 abbrev pub after : BoardView → Event → BoardView
@@ -83,13 +80,9 @@ after b event = record b { state = happens (rules_on b) b.state event }
 abbrev pub IsQuietBoard : BoardView → Type 0
 IsQuietBoard b = IsNone b.stopped × (ready_count b ≡ 0) × (jobs_out b ≡ 0)
 
--- the piece is of what the board was given
+-- the piece is of the build that the board is of
 abbrev pub Belongs : BoardView → PieceView → Type 0
 Belongs b piece = piece.given ≡ b.given
-
--- the board is that of this tree, request and limits
-abbrev pub IsFor : BoardView → Tree → List (List ℕ) → LimitsView → Type 0
-IsFor b tree request limits = (b.given ≡ record { tree = tree; limits = limits }) × (b.request ≡ request)
 
 -- the work is of the target at that place, at its turn, and holds the decided outcomes of all that it asked for, and no
 -- others

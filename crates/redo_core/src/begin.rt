@@ -25,7 +25,7 @@ pub(crate) fn begin(
     requires { number < build.now.limits.targets }
     ensures { IfOk result (IsBegun build.now path.now) }
 {
-    let (outcome, deps) = match lookup::find(alloc, build.given().tree(), path)? {
+    let (outcome, deps) = match lookup::find(alloc, build.given().sources(), path)? {
         Found::Rule(rule) => return ready(alloc, path, build, rule),
         Found::Source => (Outcome::Source, Record::none(alloc)),
         Found::Directory => (Outcome::Failed(Why::Directory), Record::none(alloc)),
@@ -44,7 +44,7 @@ pub(crate) fn begin(
 
 /// A target with a rule: its script is read when it is advanced.
 fn ready(alloc: Global, path: &Path, build: &Build, rule: Rule) -> Result<Stage, AllocError>
-    requires { found_of build.now.tree path.now ≡ IsRule rule.do_file rule.missing (arguments_view rule.args) }
+    requires { found_of build.now.past.sources path.now ≡ IsRule rule.do_file rule.missing (arguments_view rule.args) }
     ensures { IfOk result (IsBegun build.now path.now) }
 {
     let own = build.share()?;

@@ -3,25 +3,26 @@
 //! A caller opens a board, takes works and hands their pieces in, in whatever order, until the board is quiet or has
 //! stopped. Nothing here runs a script or waits: that is left to the caller, on one thread or on many.
 ghost use Rattle.std.specs.Prelude.{◌≡◌, ◌↔◌, ◌<◌, ◌≤◌, ◌+◌, ◌*◌, IsTrue, IsNone, IfOk, IfErr, OnOk, OnErr, length};
-ghost use Rattle.std.specs.Prelude.{slice_get, Some, None};
+ghost use Rattle.std.specs.Prelude.{slice_get, Err, Some, None, ℕ};
 ghost use Rattle.std.specs.Arc.{arc_value};
-ghost use Rattle.redo_core.specs.Views.{ready_count, jobs_out, opened, after, rules_on, limit_on, IsQuietBoard, Belongs, IsFor};
-ghost use Rattle.redo_core.specs.Views.{IsWorkTaken};
+ghost use Rattle.redo_core.specs.Views.{ready_count, jobs_out, after, rules_on, request_on, limit_on, IsQuietBoard};
+ghost use Rattle.redo_core.specs.Views.{Belongs, IsWorkTaken};
+ghost use Rattle.redo_core.specs.Results.{IsGiven, IsOpened, IsRefused, IsResult, NeedsTooMany};
 ghost use Rattle.redo_build.specs.Outcomes.{IsTooMany};
-ghost use Rattle.redo_core.specs.Build.{rules_of};
 ghost use Rattle.redo_build.specs.Schedule.{Event, IsOutAt, IsOpen};
 ghost use Rattle.redo_build.specs.Schedule.Event.{Take, Hand_in};
 ghost use Rattle.redo_core.specs.Faults.{Refused};
-ghost use Rattle.redo_report.specs.Reports.{IsReport};
 ghost use Rattle.redo_build.specs.TakesLeft.{takes_left};
 ghost use Rattle.redo_build.specs.Theorems.{IsPartOfBuild, ShowsBuild};
 
 use crate::build::Build;
 use crate::finish::report_of;
-use crate::moves::{copied, first_table, take_in};
-use crate::same::are_same_paths;
+use crate::given::Given;
+use crate::moves::{first_table, take_in};
+use crate::opening::OpenFault;
 use crate::table::{Stage, Table, out_at};
 use crate::work::{Piece, Work};
+use redo_past::Past;
 use redo_path::Path;
 use redo_report::Report;
 use redo_step::Limits;
@@ -60,15 +61,14 @@ impl<T: Drop> From<AllocFailed<T>> for Stop {
     }
 }
 
-/// The entries of a build, and what may happen to them next. In a contract it is what it was given, its request, the
-/// state of its entries, and why it has stopped. Of whatever value of this type that hasn't stopped, the state is one
+/// The entries of a build, and what may happen to them next. In a contract it is what it was given, the state of its
+/// entries, and why it has stopped. Of whatever value of this type that hasn't stopped, the state is one
 /// that some run of takes and hand-ins led to, so what is proved of runs holds for it wherever it comes from. Of one
 /// that has stopped only this is known: where it has stopped at the limit, the build needs too many targets.
 #[derive(Drop)]
 pub struct Board {
     alloc: Global,
     build: Build,
-    request: Vec<Path>,
     table: Table,
     stopped: Option<Stop>,
 }
@@ -82,7 +82,6 @@ impl Model for Board {
 
     ghost view = { λ b. record {
       given = b.build;
-      request = b.request.items;
       state = state_of b;
       stopped = b.stopped;
     } };
@@ -115,29 +114,30 @@ impl From<Stop> for HandFault {
 }
 
 impl Board {
-    /// A board with the requested targets entered, over a tree of sources. [`open`](crate::opening::open) is for a tree that
-    /// holds what a run before has left.
+    /// A board with the requested targets entered, over a tree as it was read. The tree may hold what a run before has
+    /// left, its book and the files that it generated: they are set aside, and the build is that of the sources. A book
+    /// that is refused is told before targets that are too many.
     pub fn open(
         alloc: Global,
         tree: Arc<Tree>,
         request: &[Path],
         limits: Limits,
-    ) -> Result<Board, Stop>
-        ensures ok { IfOk result (λ b. b ≡ opened (arc_value tree) request.now limits) }
+    ) -> Result<Board, OpenFault>
+        ensures ok { IfOk result (IsOpened (arc_value tree) request.now limits) }
         ensures within { IfOk result (λ b. length b.state.entries ≤ limits.targets) }
-        ensures part { IfOk result (λ b. IsPartOfBuild (rules_on b) b.request (limit_on b) b.state) }
+        ensures part { IfOk result (λ b. IsPartOfBuild (rules_on b) (request_on b) (limit_on b) b.state) }
         ensures none_out { IfOk result (λ b. jobs_out b ≡ 0) }
         ensures left { IfOk result (λ b. takes_left (limit_on b) b.state ≤ limit_on b * limit_on b) }
-        ensures too_many { result ≡ Err Stop.TooMany →
-            IsTooMany (rules_of (arc_value tree) limits) request.now limits.targets }
+        ensures book { (n : ℕ) → result ≡ Err (OpenFault.Book n) → IsRefused (arc_value tree) n }
+        ensures too_many { result ≡ Err OpenFault.TooMany → NeedsTooMany (arc_value tree) request.now limits }
     {
-        let request = copied(alloc, request)?;
-        let build = Build::new(alloc, tree, limits)?;
-        let table = first_table(alloc, &request, &build)?;
+        let past = Past::open(alloc, tree)?;
+        let given = Given::new(alloc, past, request, limits)?;
+        let build = Build::new(alloc, given)?;
+        let table = first_table(alloc, &build)?;
         Ok(Board {
             alloc,
             build,
-            request,
             table,
             stopped: None,
         })
@@ -159,7 +159,7 @@ impl Board {
     pub fn stopped(&self) -> Option<Stop>
         ensures value { result ≡ self.now.stopped }
         ensures too_many { result ≡ Some Stop.TooMany →
-            IsTooMany (rules_on self.now) self.now.request (limit_on self.now) }
+            IsTooMany (rules_on self.now) (request_on self.now) (limit_on self.now) }
     {
         self.stopped
     }
@@ -183,7 +183,7 @@ impl Board {
         ensures one_more { OnOk result (jobs_out self.new ≡ jobs_out self.old + 1) }
         ensures left { OnOk result (
             takes_left (limit_on self.new) self.new.state < takes_left (limit_on self.old) self.old.state) }
-        ensures part { OnOk result (IsPartOfBuild (rules_on self.new) self.new.request (limit_on self.new)
+        ensures part { OnOk result (IsPartOfBuild (rules_on self.new) (request_on self.new) (limit_on self.new)
             self.new.state) }
         ensures err { OnErr result (self.new ≡ self.old) }
     {
@@ -202,13 +202,13 @@ impl Board {
     /// Takes back what a job came to. A piece whose target isn't out at its turn comes back, and nothing has changed.
     pub fn hand_in(&mut self, piece: Piece) -> Result<(), HandFault>
         requires { Belongs self.old piece }
-        ensures open { OnOk result (IsOpen self.old.state (Hand_in piece.target piece.turn)) }
+        ensures open { OnOk result (IsOpen (rules_on self.old) self.old.state (Hand_in piece.target piece.turn)) }
         ensures ok { OnOk result (self.new ≡ after self.old (Hand_in piece.target piece.turn)) }
         ensures within { OnOk result (length self.new.state.entries ≤ (limit_on self.new)) }
         ensures one_fewer { OnOk result (jobs_out self.new + 1 ≡ jobs_out self.old) }
         ensures left { OnOk result (
             takes_left (limit_on self.new) self.new.state ≤ takes_left (limit_on self.old) self.old.state) }
-        ensures part { OnOk result (IsPartOfBuild (rules_on self.new) self.new.request (limit_on self.new)
+        ensures part { OnOk result (IsPartOfBuild (rules_on self.new) (request_on self.new) (limit_on self.new)
             self.new.state) }
         ensures err { IfErr result (Refused self.old self.new piece) }
     {
@@ -250,41 +250,39 @@ impl Board {
     pub fn quiet(&self) -> bool
         ensures quiet { IsTrue result ↔ IsQuietBoard self.now }
         ensures shows { IsTrue result →
-            ShowsBuild (rules_on self.now) self.now.request (limit_on self.now) self.now.state }
+            ShowsBuild (rules_on self.now) (request_on self.now) (limit_on self.now) self.now.state }
     {
         self.stopped.is_none() && self.ready() == 0 && self.out() == 0
     }
 
     /// What the build came to, of a quiet board alone: only then it is sure that a target that still waits never ends,
     /// and so is cyclic. As with redo -k, a target that failed doesn't keep the others from being built. On want of
-    /// memory the board is lost.
+    /// memory the board is lost. Among the files of the report is the book that the run leaves to the next.
     pub fn finish(self) -> Result<Report, AllocError>
         requires { IsQuietBoard self }
-        ensures { IfOk result (IsReport (rules_on self) self.request (limit_on self)) }
+        ensures { IfOk result (IsResult self.given) }
     {
-        report_of(
-            self.alloc,
-            self.build.given().tree(),
-            &self.request,
-            &self.table,
-        )
+        let given = self.build.given();
+        let report = report_of(self.alloc, given.sources(), given.request(), &self.table)?;
+        given.past().with_book(self.alloc, report)
     }
 
-    /// Whether a piece is of the board's tree and limits, as `hand_in` asks. It compares by value, in the time of the
-    /// tree's bytes. It is for a piece of which nothing but its type is known. A runner that knows which work its piece
-    /// came from needs no test, nor does a parallel one whose messages say so by their own type.
+    /// Whether a piece is of the board's tree, request and limits, as `hand_in` asks. It compares by value, in the time
+    /// of the tree's bytes. It is for a piece of which nothing but its type is known. A runner that knows which work
+    /// its piece came from needs no test, nor does a parallel one whose messages say so by their own type.
     pub fn belongs(&self, piece: &Piece) -> bool
         ensures { IsTrue result ↔ Belongs self.now piece.now }
     {
         piece.is_of(self.build.given())
     }
 
-    /// Whether the board is that of this tree, request and limits, and so its report is theirs. It compares by value,
-    /// in the time of the tree's bytes. It is for a board that is known by its type alone, as one that a lock gave; who
-    /// opened the board, or keeps it under an invariant that says so, needs no test.
+    /// Whether the board is that of this tree as it was read, this request and these limits, and so its report is
+    /// theirs. It compares by value, in the time of the tree's bytes. It is for a board that is known by its type
+    /// alone, as one that a lock gave; who opened the board, or keeps it under an invariant that says so, needs no
+    /// test.
     pub fn is_for(&self, tree: &Tree, request: &[Path], limits: Limits) -> bool
-        ensures { IsTrue result ↔ IsFor self.now tree.now request.now limits }
+        ensures { IsTrue result ↔ IsGiven tree.now request.now limits self.now.given }
     {
-        are_same_paths(&self.request, request) && self.build.given().is(tree, limits)
+        self.build.given().is(tree, request, limits)
     }
 }

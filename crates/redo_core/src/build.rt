@@ -4,9 +4,7 @@ ghost use Rattle.std.specs.Arc.{arc_value};
 
 use crate::fact::Fact;
 use crate::given::Given;
-use redo_step::Limits;
 use redo_sync::{Cells, Known};
-use redo_tree::Tree;
 use std::alloc::{AllocError, Global};
 use std::marker::Model;
 use std::sync::Arc;
@@ -55,11 +53,10 @@ impl Model for Build {
 }
 
 impl Build {
-    /// A build of a tree under limits, of which nothing is decided.
-    pub(crate) fn new(alloc: Global, tree: Arc<Tree>, limits: Limits) -> Result<Build, AllocError>
-        ensures { IfOk result (λ b. b ≡ record { tree = arc_value tree; limits = limits }) }
+    /// A build that is given this, of which nothing is decided.
+    pub(crate) fn new(alloc: Global, given: Arc<Given>) -> Result<Build, AllocError>
+        ensures { IfOk result (λ b. b ≡ arc_value given) }
     {
-        let given = Given::new(alloc, tree, limits)?;
         let blocks = Cells::new(alloc, BLOCKS)?;
         Ok(Build {
             given,

@@ -2,9 +2,12 @@
 ghost use Rattle.std.specs.Prelude.{◌≡◌, ◌↔◌, IfOk, IsTrue, not};
 ghost use Rattle.std.specs.Arc.{arc_value};
 ghost use Rattle.redo_core.specs.Build.{rules_for};
+ghost use Rattle.redo_core.specs.Results.{IsGiven};
 
 use crate::reading::Reading;
-use crate::same::is_same_tree;
+use crate::same::{are_same_paths, is_same_tree};
+use redo_past::Past;
+use redo_past::laws::a_tree_has_one_past;
 use redo_path::Path;
 use redo_step::Limits;
 use redo_sync::{Cells, Known};
@@ -13,12 +16,15 @@ use std::alloc::{AllocError, Global};
 use std::marker::Model;
 use std::sync::Arc;
 
-/// The tree and the limits of a build. Its board shares them with all works, pieces and facts.
+/// What a run before has left, with the sources of a build, its request and its limits. Its board shares them with all
+/// works, pieces and facts.
 #[derive(Drop)]
 pub(crate) struct Given {
-    tree: Arc<Tree>,
+    past: Past,
+    request: Vec<Path>,
     limits: Limits,
-    /// A cell for each entry of the tree, by its number: what reading a script came to that may make several targets.
+    /// A cell for each entry of the sources, by its number: what reading a script came to that may make several
+    /// targets.
     readings: Arc<Cells<Reading>>,
 }
 
@@ -28,25 +34,29 @@ impl Model for Given {
 
     ghost Value = { GivenView };
 
-    ghost view = { λ g. record { tree = arc_value g.tree; limits = g.limits } };
+    ghost view = { λ g. record { past = g.past; request = g.request.items; limits = g.limits } };
 
     ghost use Rattle.std.specs.Prelude.{◌≡◌, length};
 
-    ghost invariant = { λ g. length (arc_value g.readings) ≡ length (arc_value g.tree) };
+    ghost invariant = { λ g. length (arc_value g.readings) ≡ length g.past.sources };
 }
 
 impl Given {
-    /// A build's tree and limits, to be shared.
+    /// What a build is given, to be shared.
     pub(crate) fn new(
         alloc: Global,
-        tree: Arc<Tree>,
+        past: Past,
+        request: &[Path],
         limits: Limits,
     ) -> Result<Arc<Given>, AllocError>
-        ensures { IfOk result (λ g. arc_value g ≡ record { tree = arc_value tree; limits = limits }) }
+        ensures { IfOk result (λ g. arc_value g ≡
+            record { past = past; request = request.now; limits = limits }) }
     {
-        let readings = Cells::new(alloc, tree.len())?;
+        let request = copied(alloc, request)?;
+        let readings = Cells::new(alloc, past.sources().len())?;
         let given = Given {
-            tree,
+            past,
+            request,
             limits,
             readings,
         };
@@ -55,7 +65,7 @@ impl Given {
 
     /// What reading a script came to, if that is kept. It takes no memory.
     pub(crate) fn reading(&self, do_file: &Path) -> Result<Option<Known<Reading>>, AllocError> {
-        match self.tree.number_of(do_file) {
+        match self.sources().number_of(do_file) {
             Some(number) => Cells::look(&self.readings, number),
             None => Ok(None),
         }
@@ -63,7 +73,7 @@ impl Given {
 
     /// Keeps what reading a script came to, unless something is kept already.
     pub(crate) fn keep(&self, do_file: &Path, reading: Reading) -> Result<(), AllocError> {
-        let Some(number) = self.tree.number_of(do_file) else {
+        let Some(number) = self.sources().number_of(do_file) else {
             return Ok(());
         };
         match Cells::publish(&self.readings, number, reading) {
@@ -72,11 +82,25 @@ impl Given {
         }
     }
 
-    /// The tree of sources.
-    pub(crate) fn tree(&self) -> &Arc<Tree>
-        ensures { arc_value result.now ≡ self.now.tree }
+    /// What a run before has left.
+    pub(crate) fn past(&self) -> &Past
+        ensures { result.now ≡ self.now.past }
     {
-        &self.tree
+        &self.past
+    }
+
+    /// The tree of sources.
+    pub(crate) fn sources(&self) -> &Arc<Tree>
+        ensures { arc_value result.now ≡ self.now.past.sources }
+    {
+        self.past.sources()
+    }
+
+    /// What is requested.
+    pub(crate) fn request(&self) -> &[Path]
+        ensures { result.now ≡ self.now.request }
+    {
+        &self.request
     }
 
     /// The limits of the build.
@@ -90,7 +114,7 @@ impl Given {
     pub(crate) fn is_source(&self, path: &Path) -> bool
         ensures { result ≡ (rules_for self.now).is_source path.now }
     {
-        self.tree.file(path).is_some()
+        self.sources().file(path).is_some()
     }
 
     /// Whether a path is a target, that is no source.
@@ -100,10 +124,32 @@ impl Given {
         !self.is_source(path)
     }
 
-    /// Whether it is this tree with these limits. It compares by value, in the time of the tree's bytes.
-    pub(crate) fn is(&self, tree: &Tree, limits: Limits) -> bool
-        ensures { IsTrue result ↔ (self.now ≡ record { tree = tree.now; limits = limits }) }
+    /// Whether it is this tree as it was read, this request and these limits. It compares by value, in the time of the
+    /// tree's bytes.
+    pub(crate) fn is(&self, tree: &Tree, request: &[Path], limits: Limits) -> bool
+        ensures { IsTrue result ↔ IsGiven tree.now request.now limits self.now }
     {
-        self.limits == limits && is_same_tree(&self.tree, tree)
+        self.limits == limits
+            && are_same_paths(&self.request, request)
+            && is_same_tree(self.past.tree(), tree)
     }
+
+    /// Whether it is the same. A tree has one book, and so the sources needn't be compared.
+    pub(crate) fn is_same(&self, other: &Given) -> bool
+        ensures { IsTrue result ↔ (self.now ≡ other.now) }
+    {
+        a_tree_has_one_past();
+        self.is(other.past.tree(), &other.request, other.limits)
+    }
+}
+
+/// Copies of some paths.
+fn copied(alloc: Global, paths: &[Path]) -> Result<Vec<Path>, AllocError>
+    ensures { IfOk result (λ copies. copies.items ≡ paths.now) }
+{
+    let mut copies = Vec::new(alloc);
+    for path in paths {
+        copies.push(path.clone()?)?;
+    }
+    Ok(copies)
 }

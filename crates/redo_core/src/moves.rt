@@ -147,17 +147,6 @@ pub(crate) fn take_in(
     Ok(())
 }
 
-/// Copies of some paths.
-pub(crate) fn copied(alloc: Global, paths: &[Path]) -> Result<Vec<Path>, AllocError>
-    ensures { IfOk result (λ copies. copies.items ≡ paths.now) }
-{
-    let mut copies = Vec::new(alloc);
-    for path in paths {
-        copies.push(path.clone()?)?;
-    }
-    Ok(copies)
-}
-
 /// Enters the requested paths that are no sources.
 fn enter_requested(
     table: &mut Table,
@@ -183,10 +172,10 @@ fn enter_requested(
 }
 
 /// The table at the opening.
-pub(crate) fn first_table(alloc: Global, request: &[Path], build: &Build) -> Result<Table, Stop>
-    ensures ok { IfOk result (λ t. IsFirstTable build.now request.now t) }
+pub(crate) fn first_table(alloc: Global, build: &Build) -> Result<Table, Stop>
+    ensures ok { IfOk result (IsFirstTable build.now) }
     ensures too_many { result ≡ Err Stop.TooMany →
-        build.now.limits.targets < length (opening (rules_for build.now) request.now).entries }
+        build.now.limits.targets < length (opening (rules_for build.now) build.now.request).entries }
 {
     let most = build.given().limits().targets();
     prove!(most <= 65_536);
@@ -197,6 +186,7 @@ pub(crate) fn first_table(alloc: Global, request: &[Path], build: &Build) -> Res
         out: 0,
     };
     let mut newly_ready = Vec::new(alloc);
+    let request = build.given().request();
     enter_requested(&mut table, alloc, request, build, &mut newly_ready)?;
     enqueue(&mut table, newly_ready)?;
     Ok(table)

@@ -1,19 +1,9 @@
-//! The opening of a build over a tree as it was read.
-//!
-//! A tree may hold what a run before has left: its book, and the files that it generated. They are set aside, and the
-//! board is opened over the sources alone.
-ghost use Rattle.std.specs.Prelude.{◌≡◌, Err, IfOk, ℕ};
-ghost use Rattle.std.specs.Arc.{arc_value};
-ghost use Rattle.redo_core.specs.Results.{IsOfTree, IsRefused, NeedsTooMany};
-ghost use Rattle.redo_core.specs.Views.{jobs_out, opened};
+//! Why no build was opened.
+ghost use Rattle.std.specs.Prelude.{◌≡◌};
 
-use crate::board::{Board, Stop};
-use redo_past::{Past, PastFault};
-use redo_path::Path;
-use redo_step::Limits;
-use redo_tree::Tree;
-use std::alloc::{AllocError, Global};
-use std::sync::Arc;
+use crate::board::Stop;
+use redo_past::PastFault;
+use std::alloc::AllocError;
 use thiserror::Error;
 
 /// Why no build was opened. The book is looked at first.
@@ -64,23 +54,4 @@ impl From<AllocError> for OpenFault {
     fn from(_error: AllocError) -> OpenFault {
         OpenFault::Memory
     }
-}
-
-/// Sets aside what a run before has left in a tree, and opens a board over the sources.
-pub fn open(
-    alloc: Global,
-    tree: Arc<Tree>,
-    request: &[Path],
-    limits: Limits,
-) -> Result<(Past, Board), OpenFault>
-    ensures past { IfOk result (λ o. IsOfTree (arc_value tree) o.0) }
-    ensures board { IfOk result (λ o. o.1 ≡ opened o.0.sources request.now limits) }
-    ensures none_out { IfOk result (λ o. jobs_out o.1 ≡ 0) }
-    ensures book { (n : ℕ) → result ≡ Err (OpenFault.Book n) → IsRefused (arc_value tree) n }
-    ensures too_many { result ≡ Err OpenFault.TooMany → NeedsTooMany (arc_value tree) request.now limits }
-{
-    let past = Past::open(alloc, tree)?;
-    let sources = Arc::try_clone(past.sources())?;
-    let board = Board::open(alloc, sources, request, limits)?;
-    Ok((past, board))
 }

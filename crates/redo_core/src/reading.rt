@@ -94,11 +94,11 @@ pub(crate) fn begun(
     target: Path,
     rule: Rule,
 ) -> Result<Job, AllocError>
-    requires { found_of (arc_value given.now).tree target ≡
+    requires { found_of (arc_value given.now).past.sources target ≡
         IsRule rule.do_file rule.missing (arguments_view rule.args) }
     ensures { IfOk result (IsBegunJob (arc_value given.now) target) }
 {
-    let tree = Arc::try_clone(given.tree())?;
+    let tree = Arc::try_clone(given.sources())?;
     let text = tree.file(&rule.do_file).unwrap_or(b"");
     let parsed = script(alloc, given, &rule.do_file, text)?;
     Job::begin(alloc, tree, target, rule, parsed, given.limits())

@@ -115,7 +115,7 @@ impl Work {
         target: Path,
         rule: Rule,
     ) -> Result<Work, AllocError>
-        requires found { found_of (arc_value given).tree target ≡
+        requires found { found_of (arc_value given).past.sources target ≡
             IsRule rule.do_file rule.missing (arguments_view rule.args) }
         ensures { IfOk result (λ w. w ≡
             record { given = arc_value given; target = target; turn = 0; deps = []; known = [] }) }
@@ -286,7 +286,7 @@ impl Piece {
     pub(crate) fn is_of(&self, given: &Given) -> bool
         ensures { IsTrue result ↔ (self.now.given ≡ given.now) }
     {
-        self.given.is(given.tree(), given.limits())
+        self.given.is_same(given)
     }
 
     /// How the script came to stand.

@@ -11,6 +11,7 @@ use Rattle.redo_names.proofs.map.PathMap.TheSendSync as maps
 use Rattle.redo_bytes.proofs.Bytes.TheSendSync as bytes
 use Rattle.redo_path.proofs.Path.TheSendSync as path
 use Rattle.redo_tree.proofs.entries.Tree.TheSendSync as tree
+use Rattle.redo_past.proofs.past.Past.TheSendSync as past
 use Rattle.redo_which.proofs.Rule.TheSendSync as rule
 use Rattle.redo_script.proofs.ast.Stmt.TheLaws.TheKnot as stmt
 use Rattle.redo_script.proofs.ast.Word.TheSendSync as word
@@ -64,10 +65,10 @@ pub reading_sync : IsSync (Reading.the_field).row
 reading_sync = search (parsed_send, parsed_sync, sendable, heap.crosses) depth 20
 
 pub given_send : IsSend (Given.the_field).row
-given_send = search (reading_send, reading_sync, cells.the_send, cells.the_sync, tree.the_send, tree.the_sync, limits.the_send, sendable, heap.crosses) depth 20
+given_send = search (reading_send, reading_sync, cells.the_send, cells.the_sync, past.the_send, path.the_send, limits.the_send, sendable, heap.crosses) depth 20
 
 pub given_sync : IsSync (Given.the_field).row
-given_sync = search (reading_send, reading_sync, cells.the_send, cells.the_sync, tree.the_send, tree.the_sync, limits.the_sync, sendable, heap.crosses) depth 20
+given_sync = search (reading_send, reading_sync, cells.the_send, cells.the_sync, past.the_sync, path.the_sync, limits.the_sync, sendable, heap.crosses) depth 20
 
 pub fact_send : IsSend (Fact.the_field).row
 fact_send = search (given_send, given_sync, path.the_send, outcome.the_field_send, records.the_send, records.the_sync, sendable, heap.crosses) depth 20

@@ -49,7 +49,7 @@ one_back us ts u t same e =
     ∙ sym (map-append relay_of ts (t ∷ []))
 
 -- a build that met want of memory answers so
-pub without_memory : (given : GivenView) (request : List (List ℕ)) (answer : Result (Report × Shares) Stop) → answer ≡ Err Memory → IsAnswerTo given request answer
-without_memory given request answer is =
-    let P : Result (Report × Shares) Stop → Type 0 = IsAnswerTo given request in
+pub without_memory : (given : GivenView) (answer : Result (Report × Shares) Stop) → answer ≡ Err Memory → IsAnswerTo given answer
+without_memory given answer is =
+    let P : Result (Report × Shares) Stop → Type 0 = IsAnswerTo given in
     subst P (sym is) record { report = tt; none_left = tt; once = tt; begun = tt; too_many = λ e. absurd cc }

@@ -1,7 +1,7 @@
 pub mod DrivingLemmas
 pub mod ExitLemmas
 pub mod LedgerLemmas
-pub mod OverSourcesLemmas
+pub mod OpenedLemmas
 pub mod RefusalLemmas
 pub mod StaysOutLemmas
 pub mod ToldLemmas

@@ -16,7 +16,7 @@ running (Some stop) h = cc
 
 -- after a take, too many targets are needed where the board says so
 pub too_many_after_take : (b old new : BoardView) (which : ℕ) (piece : PieceView) (fault : HandFault) → old ≡ after b (Take which) → IsNone b.stopped →
-    Refused old new piece fault → fault ≡ TooMany → IsTooMany (rules_on b) b.request b.given.limits.targets
+    Refused old new piece fault → fault ≡ TooMany → IsTooMany (rules_on b) b.given.request b.given.limits.targets
 too_many_after_take b old new which piece fault next on refused is =
     let P : BoardView → Type 0 = λ v. Refused v new piece fault in
     let Q : HandFault → Type 0 = λ f. Refused (after b (Take which)) new piece f in
@@ -31,7 +31,7 @@ module _ (b new : BoardView) (piece : PieceView) (on : IsNone b.stopped) where
       subst R (running b.stopped on) (subst Q same refused)
 
   -- a board that runs says so only where too many targets are needed
-  pub too_many_running : (fault : HandFault) → Refused b new piece fault → fault ≡ TooMany → IsTooMany (rules_on b) b.request b.given.limits.targets
+  pub too_many_running : (fault : HandFault) → Refused b new piece fault → fault ≡ TooMany → IsTooMany (rules_on b) b.given.request b.given.limits.targets
   too_many_running fault refused same = (refused-running fault TooMany refused same).2
 
   -- a piece whose target is out at its turn is no stranger

@@ -10,6 +10,7 @@ use Rattle.redo_build.specs.Rules.{Rules, operands}
 use Rattle.redo_build.specs.Schedule.{Entry, State, entry_of, advanced, moved_on, entered, handed_in, happens, put}
 use Rattle.redo_build.specs.Schedule.{sent_out, taken, IsOutAt}
 use Rattle.redo_build.specs.Schedule.Event.{Take, Hand_in}
+use Rattle.redo_build.specs.Schedule.Phase.{Script}
 use Rattle.redo_core.specs.Views.{BoardView, PieceView, WorkView, IsWorkTaken, after, jobs_out, rules_on}
 use Rattle.redo_build.proofs.DepthLemmas.{cases_Option}
 use Rattle.redo_build.proofs.SeenLemmas.{entry_of-path, entry_of-among, entry_of-put_same, entry_of-put_other}
@@ -47,7 +48,7 @@ stays-taken r s which q turn out = elim (cases_Option (slice_get s.ready which))
 
 -- as another is handed in
 pub stays-handed : (r : Rules) (s : State) (target q : List ℕ) (turn : ℕ) → (target ≡ q → ⊥) → IsOutAt s q turn →
-    IsOutAt (handed_in r s (entry_of s.entries target)) q turn
+    IsOutAt (handed_in r Script s (entry_of s.entries target)) q turn
 stays-handed r s target q turn other out = elim (cases_Option (entry_of s.entries target)) [
   | inl none ↦ rw none out
   | inr found ↦
@@ -57,7 +58,7 @@ stays-handed r s target q turn other out = elim (cases_Option (entry_of s.entrie
       let old = entry_of-entered_old r s.entries (operands r now.deps) q out.entry out.at in
       rw found.1 (record {
         entry = out.entry;
-        at = entry_of-put_other (entered r s.entries (operands r now.deps)) (moved_on e now) q (λ h. other (sym own ∙ h)) ∙ old;
+        at = entry_of-put_other (entered r s.entries (operands r now.deps)) (moved_on Script e now) q (λ h. other (sym own ∙ h)) ∙ old;
         is_out = out.is_out;
         at_turn = out.at_turn;
       })
@@ -213,15 +214,15 @@ module _ (b : BoardView) (works : List WorkView) (which : ℕ) (w : WorkView) (o
       subst P (sym same.1) (subst Q (sym same.2) on.is_out)
 
   module _ (c : BoardView) (rest : List WorkView) (left : rest ≡ remove works which) (next : c ≡ after b (Hand_in piece.target piece.turn)) where
-    handed-state : c.state ≡ handed_in (rules_on b) b.state (entry_of b.state.entries w.target)
-    handed-state = ap (λ (v : BoardView). v.state) next ∙ ap (λ p. handed_in (rules_on b) b.state (entry_of b.state.entries p)) same.1
+    handed-state : c.state ≡ handed_in (rules_on b) Script b.state (entry_of b.state.entries w.target)
+    handed-state = ap (λ (v : BoardView). v.state) next ∙ ap (λ p. handed_in (rules_on b) Script b.state (entry_of b.state.entries p)) same.1
 
     pub handed-picked : option_map (with_handed_in (rules_on b) (driven_on b works) which) (slice_get (targets_of works) which) ≡ Some (driven_on c rest)
     handed-picked =
         let got = targets-get works which w there in
         let outs : targets_of rest ≡ remove (targets_of works) which = ap targets_of left ∙ targets-remove works which in
         let to : with_handed_in (rules_on b) (driven_on b works) which w.target ≡ driven_on c rest =
-        ap (λ ps. record { state = handed_in (rules_on b) b.state (entry_of b.state.entries w.target); out = ps }) (sym outs) ∙
+        ap (λ ps. record { state = handed_in (rules_on b) Script b.state (entry_of b.state.entries w.target); out = ps }) (sym outs) ∙
         ap (λ s. record { state = s; out = targets_of rest }) (sym handed-state) in
         ap (option_map (with_handed_in (rules_on b) (driven_on b works) which)) got ∙ ap (λ d. Some d) to
 

@@ -3,8 +3,8 @@ use Rattle.std.proofs.Common.{rules, ◌≡◌, ◌↔◌, ◌∙◌, [], ◌∷
 use Rattle.std.proofs.Common.{option_map, true, false, sym, subst, refl}
 use Rattle.std.specs.Prelude.{IfSome, IsSome, Err}
 use Rattle.std.specs.Io.KnownBytes.{Appends}
-use Rattle.redo_core.specs.Build.{rules_of}
-use Rattle.redo_core.specs.Results.{IsRefused, IsResult, IsResultOn, NeedsTooMany}
+use Rattle.redo_core.specs.Build.{GivenView}
+use Rattle.redo_core.specs.Results.{IsGiven, IsRefused, IsResultOn, NeedsTooMany}
 use Rattle.redo_report.specs.ReportText.{report_text}
 use Rattle.redo_report.specs.declared.report.Report.{Report}
 use Rattle.redo_bundle.specs.Bundle.{IsBundle, Writes}
@@ -16,7 +16,7 @@ use Rattle.redo_run.specs.declared.fault.RunIoFault.TheVariants as run
 use Rattle.redo_run.specs.declared.exit.Exit.{Exit}
 use Rattle.redo_run.specs.declared.run_fault.RunFault.{RunFault}
 use Rattle.redo_run.specs.declared.run_fault.RunFault.TheVariants as build
-use Rattle.redo_run.specs.Exits.{IsExit}
+use Rattle.redo_run.specs.Exits.{IsExitOf}
 use Rattle.redo_run.specs.Directories.{ReportsTree, with_book_last}
 use Rattle.redo_run.specs.Faults.{of_build}
 use Rattle.redo_run.specs.Runs.{Explains, ExplainsList, Lists, Reports, request_in, request_of}
@@ -67,18 +67,18 @@ module _ (options : Options) (tree : Tree) (request : List (List ℕ)) (named : 
   pub reports : (left old new : Option (List ℕ)) (report : Report) (written : List ℕ) (exit : Exit) →
       IfSome left (λ text. IsBundle text tree) → (is : IsResultOn tree request options.limits report) →
       written ≡ report_text report true → Appends old new written →
-      IsExit (rules_of is.0.sources options.limits) options.limits.targets request exit →
+      IsExitOf is.0 exit →
       IfSome left (λ text. Reports options text old new exit)
   reports None old new report written exit bundle is made h good = tt
   reports (Some text) old new report written exit bundle is made h good = record {
     tree = tree;
     bundle = bundle;
-    past = is.0;
-    of_tree = is.1;
+    given = is.0;
+    is_given = moved (λ ps. IsGiven tree ps options.limits is.0) is.1;
     report = report;
-    is = moved (λ ps. IsResult is.0 ps options.limits report) is.2;
+    is = is.2;
     written = subst (Appends old new) made h;
-    good = moved (λ ps. IsExit (rules_of is.0.sources options.limits) options.limits.targets ps exit) good;
+    good = good;
   }
 
   -- the whole report of a directory was written
@@ -86,18 +86,18 @@ module _ (options : Options) (tree : Tree) (request : List (List ℕ)) (named : 
       IsLoaded tree run.passed → (is : IsResultOn tree request options.limits report) →
       run.stored ≡ places_in dir (with_book_last report.files.items) →
       written ≡ report_text report false → Appends old new written →
-      IsExit (rules_of is.0.sources options.limits) options.limits.targets request run.exit →
+      IsExitOf is.0 run.exit →
       ReportsTree options dir old new run
   reports_tree dir old new report written run loaded is stored made h good = record {
     tree = tree;
     loaded = loaded;
-    past = is.0;
-    of_tree = is.1;
+    given = is.0;
+    is_given = moved (λ ps. IsGiven tree ps options.limits is.0) is.1;
     report = report;
-    is = moved (λ ps. IsResult is.0 ps options.limits report) is.2;
+    is = is.2;
     stored = stored;
     written = subst (Appends old new) made h;
-    good = moved (λ ps. IsExit (rules_of is.0.sources options.limits) options.limits.targets ps run.exit) good;
+    good = good;
   }
 
 -- what a search looked at is the list of the target's candidates

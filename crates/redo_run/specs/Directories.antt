@@ -3,8 +3,8 @@
 use Rattle.std.specs.Prelude.{◌≡◌, ◌↔◌, ◌++◌, Bool, false, not, IsTrue, IsSome, ℕ, List, Option, Result, Ok, Err}
 use Rattle.std.specs.Prelude.{bytes_eq, filter}
 use Rattle.std.specs.Io.KnownBytes.{Appends}
-use Rattle.redo_core.specs.Results.{IsOfTree, IsRefused, IsResult, NeedsTooMany as TreeNeedsTooMany}
-use Rattle.redo_past.specs.Past.{PastView}
+use Rattle.redo_core.specs.Build.{GivenView}
+use Rattle.redo_core.specs.Results.{IsGiven, IsRefused, IsResult, NeedsTooMany as TreeNeedsTooMany}
 use Rattle.redo_report.specs.ReportText.{report_text}
 use Rattle.redo_report.specs.declared.report.Report.{Report}
 use Rattle.redo_tree.specs.Tree.{Tree}
@@ -16,7 +16,8 @@ use Rattle.redo_run.specs.declared.options.Options.{Options}
 use Rattle.redo_run.specs.declared.dir_fault.RunDirFault.{RunDirFault}
 use Rattle.redo_run.specs.declared.dir_fault.RunDirFault.TheVariants.{Load, Book, TooMany, Store, Device, Memory}
 use Rattle.redo_run.specs.Candidates.{candidate_text}
-use Rattle.redo_run.specs.Runs.{IsExitOf, request_in}
+use Rattle.redo_run.specs.Exits.{IsExitOf}
+use Rattle.redo_run.specs.Runs.{request_in}
 
 -- files, the book behind all others
 abbrev pub with_book_last : List (List ℕ × List ℕ) → List (List ℕ × List ℕ)
@@ -28,13 +29,13 @@ with_book_last files =
 pub record ReportsTree (options : Options) (dir : List ℕ) (old new : Option (List ℕ)) (run : DirRun) : Type 0 where
   pub tree : Tree
   pub loaded : IsLoaded tree run.passed
-  pub past : PastView
-  pub of_tree : IsOfTree tree past
+  pub given : GivenView
+  pub is_given : IsGiven tree (request_in options) options.limits given
   pub report : Report
-  pub is : IsResult past (request_in options) options.limits report
+  pub is : IsResult given report
   pub stored : run.stored ≡ places_in dir (with_book_last report.files.items)
   pub written : Appends old new (report_text report false)
-  pub good : IsExitOf options past run.exit
+  pub good : IsExitOf given run.exit
 
 -- a tree needs too many targets
 abbrev pub NeedsTooMany : Options → Type 0

@@ -6,6 +6,7 @@ use Rattle.std.specs.Ordering.{nat_cmp, is_eq}
 use Rattle.redo_build.specs.Outcomes.{final_outcome}
 use Rattle.redo_record.specs.Paths.{IsAmong}
 use Rattle.redo_build.specs.Rules.{Rules}
+use Rattle.redo_core.specs.Build.{GivenView, rules_for}
 use Rattle.redo_report.specs.declared.report.Row.{Row}
 use Rattle.redo_run.specs.declared.exit.Exit.{Exit}
 use Rattle.redo_run.specs.declared.exit.Exit.TheVariants.{Good}
@@ -26,6 +27,10 @@ AllAreMade r limit request = (p : List ℕ) → IsAmong request p → is_made (f
 -- a run is good exactly where every requested path is
 abbrev pub IsExit : Rules → ℕ → List (List ℕ) → Exit → Type 0
 IsExit r limit request exit = (exit ≡ Good) ↔ AllAreMade r limit request
+
+-- the same of a build that is given this
+abbrev pub IsExitOf : GivenView → Exit → Type 0
+IsExitOf given exit = IsExit (rules_for given) given.limits.targets given.request exit
 
 -- the path is one of the keys
 abbrev pub is_listed : List (List ℕ) → List ℕ → Bool

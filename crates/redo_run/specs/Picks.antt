@@ -1,14 +1,14 @@
 -- An order of a build, said by places: which ready target is taken next, and which of the jobs that are out is handed
 -- in.
 use Rattle.std.specs.Prelude.{◌≡◌, ℕ, ◌+◌, List, [], ◌∷◌, ◌++◌, Option, Some, None, slice_get, remove, map, option_map}
-use Rattle.redo_core.specs.Build.{rules_of}
-use Rattle.redo_core.specs.Results.{IsOfTree}
+use Rattle.redo_core.specs.Build.{GivenView, rules_for}
+use Rattle.redo_core.specs.Results.{IsGiven}
 use Rattle.redo_build.specs.Rules.{Rules}
 use Rattle.redo_build.specs.Schedule.{State, entry_of, happens, handed_in, opening}
 use Rattle.redo_build.specs.Schedule.Event.{Take}
+use Rattle.redo_build.specs.Schedule.Phase.{Script}
 use Rattle.redo_core.specs.Views.{BoardView, WorkView}
 use Rattle.redo_tree.specs.Tree.{Tree}
-use Rattle.redo_past.specs.Past.{PastView}
 use Rattle.redo_run.specs.declared.picks.Pick.{Pick}
 use Rattle.redo_run.specs.declared.picks.Pick.TheVariants.{Take as TakeAt, HandIn as HandInAt}
 use Rattle.redo_step.specs.Limits.{LimitsView}
@@ -25,7 +25,7 @@ with_taken r d which target = record { state = happens r d.state (Take which); o
 -- the job of the target at a place is handed in
 abbrev pub with_handed_in : Rules → Driven → ℕ → List ℕ → Driven
 with_handed_in r d which target =
-    record { state = handed_in r d.state (entry_of d.state.entries target); out = remove d.out which }
+    record { state = handed_in r Script d.state (entry_of d.state.entries target); out = remove d.out which }
 
 -- what a pick leads to; nothing where it isn't open
 abbrev pub picked : Rules → Driven → Pick → Option Driven
@@ -42,20 +42,19 @@ driven r d (pick ∷ picks) =
     ]
 
 -- the opening, where nothing is out
-abbrev pub at_opening : Tree → List (List ℕ) → LimitsView → Driven
-at_opening sources request limits = record { state = opening (rules_of sources limits) request; out = [] }
+abbrev pub at_opening : GivenView → Driven
+at_opening given = record { state = opening (rules_for given) given.request; out = [] }
 
--- the board is that of the picks over these sources, which were done up to the first that isn't open
-abbrev pub IsDrivenOver : Tree → List (List ℕ) → LimitsView → List Pick → BoardView → ℕ → Type 0
-IsDrivenOver sources request limits picks board done =
-    let end = driven (rules_of sources limits) (at_opening sources request limits) picks in
-    (board ≡ record { given = record { tree = sources; limits = limits }; request = request; state = end.0.state; stopped = None }) ×
-    (done ≡ end.1)
+-- the board is that of the picks in a build that is given this, which were done up to the first that isn't open
+abbrev pub IsDrivenOver : GivenView → List Pick → BoardView → ℕ → Type 0
+IsDrivenOver given picks board done =
+    let end = driven (rules_for given) (at_opening given) picks in
+    (board ≡ record { given = given; state = end.0.state; stopped = None }) × (done ≡ end.1)
 
--- the same over the sources of a tree
+-- the same of a tree, a request and limits
 abbrev pub IsDriven : Tree → List (List ℕ) → LimitsView → List Pick → BoardView → ℕ → Type 0
 IsDriven tree request limits picks board done =
-    (past : PastView) × IsOfTree tree past × IsDrivenOver past.sources request limits picks board done
+    (given : GivenView) × IsGiven tree request limits given × IsDrivenOver given picks board done
 
 abbrev pub targets_of : List WorkView → List (List ℕ)
 targets_of works = map (λ w. w.target) works

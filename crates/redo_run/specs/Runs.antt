@@ -2,9 +2,8 @@
 use Rattle.std.specs.Prelude.{◌≡◌, ◌↔◌, ◌++◌, ◌∷◌, [], ℕ, Bool, true, IsTrue, IsSome, List, Option, Result, Ok, Err}
 use Rattle.std.specs.Prelude.{codes}
 use Rattle.std.specs.Io.KnownBytes.{Appends}
-use Rattle.redo_core.specs.Build.{rules_of}
-use Rattle.redo_core.specs.Results.{IsOfTree, IsRefused, IsResult, IsResultOn, NeedsTooMany as TreeNeedsTooMany}
-use Rattle.redo_past.specs.Past.{PastView}
+use Rattle.redo_core.specs.Build.{GivenView}
+use Rattle.redo_core.specs.Results.{IsGiven, IsRefused, IsResult, IsResultOn, NeedsTooMany as TreeNeedsTooMany}
 use Rattle.redo_report.specs.ReportText.{report_text}
 use Rattle.redo_report.specs.declared.report.Report.{Report}
 use Rattle.redo_bundle.specs.Bundle.{IsBundle, Reads}
@@ -15,7 +14,7 @@ use Rattle.redo_run.specs.declared.options.Options.{Options}
 use Rattle.redo_run.specs.declared.fault.RunIoFault.{RunIoFault}
 use Rattle.redo_run.specs.declared.fault.RunIoFault.TheVariants.{Bundle, Book, TooMany, Device, Memory}
 use Rattle.redo_run.specs.Candidates.{candidate_text}
-use Rattle.redo_run.specs.Exits.{IsExit}
+use Rattle.redo_run.specs.Exits.{IsExitOf}
 
 -- `all`, where no target is given
 abbrev pub request_of : List (List ℕ) → List (List ℕ)
@@ -29,21 +28,16 @@ request_in options = request_of options.targets.items
 abbrev pub IsReportFor : Options → Tree → Report → Type 0
 IsReportFor options tree report = IsResultOn tree (request_in options) options.limits report
 
--- the exit of the build of a tree's sources
-abbrev pub IsExitOf : Options → PastView → Exit → Type 0
-IsExitOf options past exit =
-    IsExit (rules_of past.sources options.limits) options.limits.targets (request_in options) exit
-
 -- the text is a bundle of a tree, and the writer took the report of its build, and nothing else
 pub record Reports (options : Options) (text : List ℕ) (old new : Option (List ℕ)) (exit : Exit) : Type 0 where
   pub tree : Tree
   pub bundle : IsBundle text tree
-  pub past : PastView
-  pub of_tree : IsOfTree tree past
+  pub given : GivenView
+  pub is_given : IsGiven tree (request_in options) options.limits given
   pub report : Report
-  pub is : IsResult past (request_in options) options.limits report
+  pub is : IsResult given report
   pub written : Appends old new (report_text report true)
-  pub good : IsExitOf options past exit
+  pub good : IsExitOf given exit
 
 -- the text is a bundle of a tree that needs too many targets
 abbrev pub NeedsTooMany : Options → List ℕ → Type 0

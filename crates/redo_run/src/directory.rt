@@ -1,7 +1,8 @@
 //! Runs over a directory of the system.
 
 ghost use Rattle.std.specs.Prelude.{◌≡◌, ◌↔◌, false, IfOk, IsErrOf, true, ℕ, bytes_eq};
-ghost use Rattle.redo_run.specs.Directories.{FallsInList, IsUnwritten, ListsTree, ReportsTree, NeedsTooMany, RefusesBook};
+ghost use Rattle.redo_run.specs.Directories.{FallsInList, IsUnwritten, ListsTree, NeedsTooMany, RefusesBook};
+ghost use Rattle.redo_run.specs.Directories.{ReportsTree};
 ghost use Rattle.redo_run.specs.Directories.{with_book_last as in_order_of_storing};
 ghost use Rattle.redo_dir.specs.Directory.{IsLoaded, places_in};
 ghost use Rattle.redo_which.specs.Candidates.{book_path};
@@ -79,8 +80,8 @@ fn is_book(path: &Path) -> bool
     path.text() == BOOK
 }
 
-/// The files as they are stored: in path order, but the book behind all others. So where storing breaks off the old book
-/// still stands, and tells of each file that was not stored yet what it told before.
+/// The files as they are stored: in path order, but the book behind all others. So where storing breaks off the old
+/// book still stands, and tells of each file that was not stored yet what it told before.
 fn with_book_last(
     alloc: Global,
     files: Vec<(Path, Content)>,

@@ -2,12 +2,10 @@
 
 ghost use Rattle.std.specs.Prelude.{◌≡◌, [], IfOk};
 ghost use Rattle.std.specs.List.{list_any};
-ghost use Rattle.redo_core.specs.Build.{rules_of};
-ghost use Rattle.redo_past.specs.Past.{PastView};
-ghost use Rattle.redo_step.specs.Limits.{LimitsView};
+ghost use Rattle.redo_core.specs.Build.{GivenView};
 ghost use Rattle.redo_core.specs.Results.{IsResult};
 ghost use Rattle.redo_core.specs.inside.Reported.{placed};
-ghost use Rattle.redo_run.specs.Exits.{IsExit, fails, is_made};
+ghost use Rattle.redo_run.specs.Exits.{IsExitOf, fails, is_made};
 
 use redo_path::Path;
 use redo_record::Outcome;
@@ -53,8 +51,8 @@ pub(crate) fn exit_after(
     report: &Report,
     request: &[Path],
 ) -> Result<Exit, AllocError>
-    ensures { (past : PastView) (limits : LimitsView) → IsResult past request.now limits report.now →
-        IfOk result (IsExit (rules_of past.sources limits) limits.targets request.now) }
+    ensures { (given : GivenView) → given.request ≡ request.now → IsResult given report.now →
+        IfOk result (IsExitOf given) }
 {
     let wanted = set_of(alloc, request)?;
     if has_failed(&wanted, &report.rows) {

@@ -1,10 +1,10 @@
 //! How many workers look for a job without having been called.
 //!
 //! A call wakes a thread, which costs more than a short script. So a worker that has done its job looks into the relay
-//! for a while before it sleeps, and the owner doesn't call where a worker looks. Each that looks leaves a token, and the
-//! owner takes one away for each job that it gives; where there is none, it calls. One that gives up looking takes a
-//! token back; where there is none, a job was given for it. So those that look and the calls that nobody heard yet are as
-//! many as the tokens and the jobs that wait: no job waits for ever, and nobody looks for ever.
+//! for a while before it sleeps, and the owner doesn't call where a worker looks. Each that looks leaves a token, and
+//! the owner takes one away for each job that it gives; where there is none, it calls. One that gives up looking takes
+//! a token back; where there is none, a job was given for it. So those that look and the calls that nobody heard yet
+//! are as many as the tokens and the jobs that wait: no job waits for ever, and nobody looks for ever.
 
 use std::sync::atomic::AtomicU64;
 use std::sync::atomic::Ordering::SeqCst;

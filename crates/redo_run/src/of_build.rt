@@ -20,9 +20,14 @@ pub trait Build {
 }
 
 impl Build for Brand {
+    ghost use Rattle.std.specs.Prelude.{[]};
     ghost use Rattle.redo_tree.specs.Tree.{top};
 
-    ghost given = { record { tree = top; limits = record { targets = 1; file_bytes = 1 } } };
+    ghost given = { record {
+      past = record { tree = top; sources = top; book = [] };
+      request = [];
+      limits = record { targets = 1; file_bytes = 1 };
+    } };
 }
 
 /// A job of this build, on its way to a worker.

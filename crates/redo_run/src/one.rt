@@ -5,11 +5,10 @@ ghost use Rattle.redo_core.specs.Results.{IsRefused, IsResultOn, NeedsTooMany};
 ghost use Rattle.redo_core.specs.Faults.{IsSameBuild};
 ghost use Rattle.redo_build.specs.Outcomes.{IsTooMany};
 ghost use Rattle.redo_build.specs.TakesLeft.{takes_left};
-ghost use Rattle.redo_core.specs.Views.{jobs_out, limit_on, ready_count, rules_on};
+ghost use Rattle.redo_core.specs.Views.{jobs_out, limit_on, ready_count, request_on, rules_on};
 
 use crate::RunFault;
 use redo_core::board::{Board, HandFault, Stop};
-use redo_core::opening::open;
 use redo_path::Path;
 use redo_report::Report;
 use redo_step::Limits;
@@ -26,9 +25,10 @@ fn advance_newest(board: &mut Board) -> Result<(), Stop>
     ensures build { OnOk result (IsSameBuild board.old board.new) }
     ensures none_out { OnOk result (jobs_out board.new ≡ 0) }
     ensures running { OnOk result (IsNone board.new.stopped) }
-    ensures left { OnOk result (takes_left (limit_on board.new) board.new.state < takes_left (limit_on board.old) board.old.state) }
+    ensures left { OnOk result (
+        takes_left (limit_on board.new) board.new.state < takes_left (limit_on board.old) board.old.state) }
     ensures too_many { result ≡ Err Stop.TooMany →
-        IsTooMany (rules_on board.old) board.old.request (limit_on board.old) }
+        IsTooMany (rules_on board.old) (request_on board.old) (limit_on board.old) }
 {
     let work = board.take(board.ready() - 1)?;
     let piece = work.advance()?;
@@ -40,8 +40,8 @@ fn advance_newest(board: &mut Board) -> Result<(), Stop>
     }
 }
 
-/// Builds the requested targets and all that they need, one script after another, and keeps going where one fails. Among
-/// the files of the report is the new book.
+/// Builds the requested targets and all that they need, one script after another, and keeps going where one fails.
+/// Among the files of the report is the new book.
 pub fn build_one(
     alloc: Global,
     tree: Tree,
@@ -52,10 +52,9 @@ pub fn build_one(
     ensures book { (n : ℕ) → result ≡ Err (RunFault.Book n) → IsRefused tree n }
     ensures too_many { result ≡ Err RunFault.TooMany → NeedsTooMany tree request.now limits }
 {
-    let (past, mut board) = open(alloc, Arc::new(alloc, tree)?, request, limits)?;
+    let mut board = Board::open(alloc, Arc::new(alloc, tree)?, request, limits)?;
     while board.ready() > 0 {
         advance_newest(&mut board)?;
     }
-    let report = board.finish()?;
-    Ok(past.with_book(alloc, report)?)
+    Ok(board.finish()?)
 }

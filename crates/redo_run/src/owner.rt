@@ -4,7 +4,7 @@ ghost use Rattle.std.specs.Prelude.{◌≡◌, ◌<◌, Err, IsNone, OnOk};
 ghost use Rattle.redo_build.specs.Outcomes.{IsTooMany};
 ghost use Rattle.redo_core.specs.Faults.{IsSameBuild};
 ghost use Rattle.redo_core.specs.Taken.{HasTaken};
-ghost use Rattle.redo_core.specs.Views.{limit_on, ready_count, rules_on};
+ghost use Rattle.redo_core.specs.Views.{limit_on, ready_count, request_on, rules_on};
 ghost use Rattle.redo_run.specs.inside.Workers.{HasTakenOn, IsSameSource};
 
 use crate::crew::{Call, Lines, job_of_owner};
@@ -52,7 +52,7 @@ fn hand_in<B: Build, R: Wait>(rt: &R, board: &mut Board, piece: PieceOf<B>) -> R
     ensures running { OnOk result (IsNone board.new.stopped) }
     ensures taken { OnOk result (HasTakenOn board.old board.new) }
     ensures too_many { result ≡ Err Stop.TooMany →
-        IsTooMany (rules_on board.old) board.old.request (limit_on board.old) }
+        IsTooMany (rules_on board.old) (request_on board.old) (limit_on board.old) }
 {
     what_was_taken();
     match board.hand_in(piece.into_piece()) {
@@ -103,7 +103,7 @@ fn advance_newest<B: Build, R: Wait, G: Gate>(
     ensures running { OnOk result (IsNone board.new.stopped) }
     ensures taken { OnOk result (HasTaken board.old source.old.given → HasTaken board.new source.new.given) }
     ensures too_many { result ≡ Err Stop.TooMany →
-        IsTooMany (rules_on board.old) board.old.request (limit_on board.old) }
+        IsTooMany (rules_on board.old) (request_on board.old) (limit_on board.old) }
 {
     lines.lookers.add();
     call_for_newest(rt, board, source, lines)?;
@@ -126,7 +126,7 @@ fn receive<B: Build, R: Wait>(
     ensures running { OnOk result (IsNone board.new.stopped) }
     ensures taken { OnOk result (HasTakenOn board.old board.new) }
     ensures too_many { result ≡ Err Stop.TooMany →
-        IsTooMany (rules_on board.old) board.old.request (limit_on board.old) }
+        IsTooMany (rules_on board.old) (request_on board.old) (limit_on board.old) }
 {
     match messages.recv(rt) {
         Ok(message) => {
@@ -159,7 +159,7 @@ pub(crate) fn own<B: Build, R: Wait, G: Gate>(
     ensures build { IsSameBuild board.old board.new }
     ensures taken { OnOk result (HasTaken board.old source.old.given → HasTaken board.new source.new.given) }
     ensures too_many { result ≡ Err Stop.TooMany →
-        IsTooMany (rules_on board.old) board.old.request (limit_on board.old) }
+        IsTooMany (rules_on board.old) (request_on board.old) (limit_on board.old) }
 {
     'turns: for _ in rt.forever() {
         if board.ready() == 0 && board.out() == 0 {

@@ -7,13 +7,12 @@ ghost use Rattle.std.specs.Prelude.{◌≡◌, Err, IfOk, IsNone, MatchBool, Non
 ghost use Rattle.redo_core.specs.Results.{IsRefused, NeedsTooMany};
 ghost use Rattle.redo_core.specs.Faults.{IsSameBuild};
 ghost use Rattle.redo_build.specs.Outcomes.{IsTooMany};
-ghost use Rattle.redo_core.specs.Views.{limit_on, rules_on};
+ghost use Rattle.redo_core.specs.Views.{limit_on, request_on, rules_on};
 ghost use Rattle.redo_run.specs.Picks.{IsDriven, driven_on, picked};
 ghost use Rattle.redo_run.specs.inside.Driving.{AreOut, IsPicked};
 
 use crate::RunFault;
 use redo_core::board::{Board, HandFault, Stop};
-use redo_core::opening::open;
 use redo_core::work::Work;
 use redo_path::Path;
 use redo_step::Limits;
@@ -56,7 +55,7 @@ fn hand_in_at(board: &mut Board, out: &mut Vec<Work>, which: usize) -> Result<bo
     ensures running { OnOk result (IsNone board.new.stopped) }
     ensures out { OnOk result (AreOut board.new out.new.items) }
     ensures too_many { result ≡ Err Stop.TooMany →
-        IsTooMany (rules_on board.old) board.old.request (limit_on board.old) }
+        IsTooMany (rules_on board.old) (request_on board.old) (limit_on board.old) }
 {
     if which >= out.len() {
         return Ok(false);
@@ -79,7 +78,7 @@ fn perform(board: &mut Board, out: &mut Vec<Work>, pick: Pick) -> Result<bool, S
     ensures running { OnOk result (IsNone board.new.stopped) }
     ensures out { OnOk result (AreOut board.new out.new.items) }
     ensures too_many { result ≡ Err Stop.TooMany →
-        IsTooMany (rules_on board.old) board.old.request (limit_on board.old) }
+        IsTooMany (rules_on board.old) (request_on board.old) (limit_on board.old) }
 {
     match pick {
         Pick::Take(which) => take_at(board, out, which),
@@ -87,9 +86,9 @@ fn perform(board: &mut Board, out: &mut Vec<Work>, pick: Pick) -> Result<bool, S
     }
 }
 
-/// Opens a board over a tree's sources and performs the picks one after another, up to the first that isn't open: a place where nothing is
-/// ready, or nothing is out. Answers the board, whatever is left to do on it, and how many picks were done. With the
-/// works that are still out the board is left as it is; they are lost.
+/// Opens a board over a tree and performs the picks one after another, up to the first that isn't open: a place where
+/// nothing is ready, or nothing is out. Answers the board, whatever is left to do on it, and how many picks were done.
+/// With the works that are still out the board is left as it is; they are lost.
 pub fn drive(
     alloc: Global,
     tree: Tree,
@@ -101,7 +100,7 @@ pub fn drive(
     ensures book { (n : ℕ) → result ≡ Err (RunFault.Book n) → IsRefused tree n }
     ensures too_many { result ≡ Err RunFault.TooMany → NeedsTooMany tree request.now limits }
 {
-    let (_past, mut board) = open(alloc, Arc::new(alloc, tree)?, request, limits)?;
+    let mut board = Board::open(alloc, Arc::new(alloc, tree)?, request, limits)?;
     let mut out = Vec::new(alloc);
     for (done, pick) in picks.iter().enumerate() {
         if !perform(&mut board, &mut out, *pick)? {

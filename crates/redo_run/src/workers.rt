@@ -9,13 +9,13 @@ ghost use Rattle.std.specs.Prelude.{◌≡◌, ◌≤◌, Err, [], IfOk, IsNone,
 ghost use Rattle.redo_build.specs.Outcomes.{IsTooMany};
 ghost use Rattle.redo_build.specs.Takes.{AreBegun, AreCountedOnce};
 ghost use Rattle.redo_core.specs.Results.{IsRefused, IsResultOn, NeedsTooMany};
-ghost use Rattle.redo_core.specs.Faults.{IsSameBuild};
 ghost use Rattle.redo_core.specs.Taken.{HasTaken};
-ghost use Rattle.redo_core.specs.Views.{limit_on, rules_on};
+ghost use Rattle.redo_core.specs.Views.{limit_on, request_on, rules_on};
 ghost use Rattle.redo_sync.specs.Relay.{SharesOut, taken_by};
 ghost use Rattle.redo_run.specs.inside.Workers.{IsAnswerTo, IsStaffed};
 
 use crate::crew::{join_all, lines_for, start_all};
+use crate::desk::{Desk, EndedDesk, hand_out};
 use crate::gate::Gate;
 use crate::lookers::Lookers;
 use crate::of_build::{Build, JobOf};
@@ -24,26 +24,17 @@ use crate::run_fault::RunFault;
 use redo_build::laws::counts_tell;
 use redo_core::board::{Board, Stop};
 use redo_core::laws::what_was_taken;
-use redo_core::opening::open;
 use redo_core::work::Work;
 use redo_path::Path;
 use redo_report::Report;
 use redo_step::Limits;
-use redo_sync::{JobSource, JobTaker, Ledger, gather, relay};
+use redo_sync::{Ledger, gather, relay};
 use redo_tree::Tree;
 use std::alloc::Global;
 use std::marker::Brand;
 use std::sync::{Arc, Wait};
 use std::thread;
 use std::thread::{Scope, Threads};
-
-/// The board of a build, with both ends of its relay. The last taker is the owner's own, the others are for workers.
-#[derive(Drop)]
-struct Desk<B: Build> {
-    board: Board,
-    source: JobSource<JobOf<B>>,
-    takers: Vec<JobTaker<JobOf<B>>>,
-}
 
 /// Whether no job is left.
 fn is_all_taken<B: Build>(ledger: &Ledger<JobOf<B>>) -> bool
@@ -56,15 +47,13 @@ fn is_all_taken<B: Build>(ledger: &Ledger<JobOf<B>>) -> bool
 fn answer_of<B: Build, R: Wait>(
     rt: &R,
     alloc: Global,
-    desk: Desk<B>,
+    desk: EndedDesk<B>,
 ) -> Result<(Report, Ledger<Work>), Stop>
-    requires staffed { IsStaffed desk.source desk.takers.items }
-    requires taken { HasTaken desk.board desk.source.given }
-    ensures { IsAnswerTo desk.board.given desk.board.request result }
+    ensures { IsAnswerTo B.given result }
 {
     what_was_taken();
     counts_tell();
-    let Desk {
+    let EndedDesk {
         board,
         source,
         takers,
@@ -88,17 +77,14 @@ fn run_crew<'s, E, B: Build + Send + Sync + 's, R: Threads + Wait + Sync, G: Gat
     lookers: &'s Lookers,
     alloc: Global,
     desk: Desk<B>,
-) -> Result<Desk<B>, Stop>
+) -> Result<EndedDesk<B>, Stop>
     requires of_build { desk.board.given ≡ B.given }
     requires running { IsNone desk.board.stopped }
     requires some { 1 ≤ desk.source.takers }
     requires staffed { IsStaffed desk.source desk.takers.items }
     requires taken { HasTaken desk.board desk.source.given }
-    ensures staffed { IfOk result (λ d. IsStaffed d.source d.takers.items) }
-    ensures taken { IfOk result (λ d. HasTaken d.board d.source.given) }
-    ensures build { IfOk result (λ d. IsSameBuild desk.board d.board) }
     ensures too_many { result ≡ Err Stop.TooMany →
-        IsTooMany (rules_on desk.board) desk.board.request (limit_on desk.board) }
+        IsTooMany (rules_on desk.board) (request_on desk.board) (limit_on desk.board) }
 {
     let Desk {
         mut board,
@@ -120,44 +106,49 @@ fn run_crew<'s, E, B: Build + Send + Sync + 's, R: Threads + Wait + Sync, G: Gat
     let mut takers = join_all(rt, hands, back);
     ended?;
     takers.push(taker)?;
-    Ok(Desk {
+    Ok(EndedDesk {
         board,
         source,
         takers,
     })
 }
 
-/// The same in a scope of threads: all have ended when it returns.
+/// The same in a scope of threads: all have ended when it returns. What the run has left comes out of the scope through
+/// a channel.
 fn run_in_scope<B: Build + Send + Sync, R: Threads + Wait + Sync, G: Gate>(
     rt: &R,
     gate: &G,
     lookers: &Lookers,
     alloc: Global,
     desk: Desk<B>,
-) -> Result<Desk<B>, Stop>
+) -> Result<EndedDesk<B>, Stop>
     requires of_build { desk.board.given ≡ B.given }
     requires running { IsNone desk.board.stopped }
     requires some { 1 ≤ desk.source.takers }
     requires staffed { IsStaffed desk.source desk.takers.items }
     requires taken { HasTaken desk.board desk.source.given }
-    ensures staffed { IfOk result (λ d. IsStaffed d.source d.takers.items) }
-    ensures taken { IfOk result (λ d. HasTaken d.board d.source.given) }
-    ensures build { IfOk result (λ d. IsSameBuild desk.board d.board) }
     ensures too_many { result ≡ Err Stop.TooMany →
-        IsTooMany (rules_on desk.board) desk.board.request (limit_on desk.board) }
+        IsTooMany (rules_on desk.board) (request_on desk.board) (limit_on desk.board) }
 {
+    let (out, ended) = crossbeam_channel::bounded(alloc, 1)?;
     thread::scope(
         thread::scope_env(),
         rt,
-        move |scope| -> Result<Desk<B>, Stop>
+        move |scope| -> Result<(), Stop>
             requires { (desk.board.given ≡ B.given) × IsNone desk.board.stopped × (1 ≤ desk.source.takers) ×
                 IsStaffed desk.source desk.takers.items × HasTaken desk.board desk.source.given }
-            ensures { IfOk result (λ d. IsStaffed d.source d.takers.items × HasTaken d.board d.source.given ×
-                IsSameBuild desk.board d.board) ×
-                (result ≡ Err Stop.TooMany →
-                IsTooMany (rules_on desk.board) desk.board.request (limit_on desk.board)) }
-        { run_crew(scope, rt, gate, lookers, alloc, desk) },
-    )
+            ensures { result ≡ Err Stop.TooMany →
+                IsTooMany (rules_on desk.board) (request_on desk.board) (limit_on desk.board) }
+        {
+            let desk = run_crew(scope, rt, gate, lookers, alloc, desk)?;
+            hand_out(rt, &out, desk);
+            Ok(())
+        },
+    )?;
+    match ended.recv(rt) {
+        Ok(desk) => Ok(desk),
+        Err(_) => never(rt),
+    }
 }
 
 /// How many threads are started: with one worker the owner does it all.
@@ -180,7 +171,7 @@ fn run_build<B: Build + Send + Sync, R: Threads + Wait + Sync, G: Gate>(
     requires opened { HasTaken board [] }
     requires some { 1 ≤ workers }
     requires few { workers ≤ 64 }
-    ensures { IsAnswerTo board.given board.request result }
+    ensures { IsAnswerTo board.given result }
 {
     let (source, takers) = relay(alloc, threads_for(workers) + 1)?;
     let desk = Desk::<B> {
@@ -193,10 +184,10 @@ fn run_build<B: Build + Send + Sync, R: Threads + Wait + Sync, G: Gate>(
 }
 
 /// Builds the requested targets by so many workers side by side, each in a thread of its own; the caller's thread has
-/// the board meanwhile, and hands out the jobs. It advances a script itself where no other can go on. With one worker no
-/// thread is started: the caller does it all. The report is that of the recursive build in one thread, whatever the
-/// workers do when, with the new book among its files, and the ledger shows that each job was taken once. All threads have ended when it answers. It
-/// answers `Memory` too where a thread could not be started.
+/// the board meanwhile, and hands out the jobs. It advances a script itself where no other can go on. With one worker
+/// no thread is started: the caller does it all. The report is that of the recursive build in one thread, whatever the
+/// workers do when, with the new book among its files, and the ledger shows that each job was taken once. All threads
+/// have ended when it answers. It answers `Memory` too where a thread could not be started.
 pub fn build_many<R: Threads + Wait + Sync, G: Gate>(
     rt: &R,
     alloc: Global,
@@ -217,7 +208,6 @@ pub fn build_many<R: Threads + Wait + Sync, G: Gate>(
 {
     what_was_taken();
     let tree = Arc::new(alloc, tree)?;
-    let (past, board) = open(alloc, tree, request, limits)?;
-    let (report, ledger) = run_build::<Brand, R, G>(rt, alloc, board, workers, gate)?;
-    Ok((past.with_book(alloc, report)?, ledger))
+    let board = Board::open(alloc, tree, request, limits)?;
+    Ok(run_build::<Brand, R, G>(rt, alloc, board, workers, gate)?)
 }

@@ -13,13 +13,13 @@ end_progress (Ended fact) = record { outcome = Some fact.outcome; deps = fact.de
 end_progress (Stopped begun) = record { outcome = None; deps = record_so_far begun.value.job }
 
 -- what an end holds is of its target
-abbrev pub IsEndOf : GivenView → ℕ → List ℕ → ℕ → End → Type 0
-IsEndOf given depth target turn (Ended fact) =
+abbrev pub IsEndOf : GivenView → ℕ → ℕ → List ℕ → ℕ → End → Type 0
+IsEndOf given depth looks target turn (Ended fact) =
     (fact.given ≡ given) × (fact.target ≡ target)
-IsEndOf given depth target turn (Stopped begun) =
-    IsStopped given depth target turn begun.value.job begun.value.facts
+IsEndOf given depth looks target turn (Stopped begun) =
+    IsStopped given depth looks target turn begun.value.job begun.value.facts
 
 -- the end says how far the script of a target comes at a turn, and holds what is left of it
 pub record IsEndAt (given : GivenView) (target : List ℕ) (turn : ℕ) (end : End) : Type 0 where
   pub is_piece : IsPiece (rules_for given) target turn (end_progress end)
-  pub is_end : IsEndOf given is_piece.depth target turn end
+  pub is_end : IsEndOf given is_piece.depth is_piece.looks target turn end

@@ -63,7 +63,7 @@ abbrev pub IsTold : Tree → List ℕ → Stage → Type 0
 IsTold tree p (Waiting parked) = is_rule (found_of tree p) ≡ true
 IsTold tree p (Ready work) = Unit {0}
 IsTold tree p Out = Unit {0}
-IsTold tree p (Decided fact) = (fact.value.given.tree ≡ tree) × (fact.value.target ≡ p)
+IsTold tree p (Decided fact) = (fact.value.given.past.sources ≡ tree) × (fact.value.target ≡ p)
 
 abbrev pub AllTold : Tree → Table → Type 0
 AllTold tree t =
@@ -77,7 +77,7 @@ IsBegunAs (Waiting parked) begun = begun ≡ true
 IsBegunAs (Ready work) begun = ⊥
 IsBegunAs Out begun = ⊥
 IsBegunAs (Decided fact) begun =
-    (begun ≡ fact.value.begun) × (begun ≡ is_rule (found_of fact.value.given.tree fact.value.target))
+    (begun ≡ fact.value.begun) × (begun ≡ is_rule (found_of fact.value.given.past.sources fact.value.target))
 
 -- the row is that of a target of the table
 pub record IsTargetRow (t : Table) (row : Row) : Type 0 where

@@ -32,7 +32,7 @@ script_known (Begun begun) = known_in begun.value.facts
 -- an unread script has the rule that the search finds; a job has the outcomes of all that it asked for
 abbrev pub IsScriptOf : GivenView → Script → Type 0
 IsScriptOf given (Unread unread) =
-    found_of given.tree unread.value.target ≡
+    found_of given.past.sources unread.value.target ≡
     Rule unread.value.rule.do_file unread.value.rule.missing (arguments_view unread.value.rule.args)
 IsScriptOf given (Begun begun) = IsWorkWith given begun.value.job begun.value.facts
 

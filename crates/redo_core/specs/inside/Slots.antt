@@ -15,6 +15,7 @@ use Rattle.redo_record.specs.Paths.{IsAmong, AreDistinct}
 use Rattle.redo_core.specs.declared.board.Stop.TheVariants.{TooMany}
 use Rattle.redo_build.specs.Outcomes.{outcome_at, IsTooMany}
 use Rattle.redo_build.specs.Schedule.{Entry, State, outcomes_of, entry_of, nothing_known, entered, handed_in, opening}
+use Rattle.redo_build.specs.Schedule.Phase.{Script}
 use Rattle.redo_core.specs.inside.Ends.{IsEndAt}
 use Rattle.redo_core.specs.declared.work.End.{End}
 use Rattle.redo_core.specs.declared.table.Table.{Table}
@@ -55,6 +56,7 @@ stage_deps r a p turn (Decided fact) = fact.value.deps
 abbrev pub slot_entry : Rules → Ask → List ℕ → Slot → Entry
 slot_entry r a p slot = record {
   path = p;
+  looks = 0;
   turn = slot.turn;
   deps = stage_deps r a p slot.turn slot.stage;
   outcome = stage_outcome slot.stage;
@@ -219,14 +221,14 @@ IsTableOf given t newly_ready =
 
 -- what a board keeps: a state that is reached, and a table with nothing left to do
 pub record IsKept (b : Inside) : Type 0 where
-  pub reached : IsReached (rules_inside b) b.request.items (state_of b)
+  pub reached : IsReached (rules_inside b) b.build.request (state_of b)
   pub table : IsTableOf b.build b.table []
   pub watched : AllWatched (rules_inside b) b.build.limits.targets b.table.targets b.table.slots.items []
 
 -- a board keeps what it shows while it runs, and has stopped at the limit only where the build needs too many
 pub record IsBoard (b : Inside) : Type 0 where
   pub kept : IsNone b.stopped → IsKept b
-  pub too_many : b.stopped ≡ Some TooMany → IsTooMany (rules_inside b) b.request.items b.build.limits.targets
+  pub too_many : b.stopped ≡ Some TooMany → IsTooMany (rules_inside b) b.build.request b.build.limits.targets
 
 abbrev pub is_stage_decided : Stage → Bool
 is_stage_decided (Waiting parked) = false
@@ -489,7 +491,7 @@ table_state r depth t = state_from r depth t.targets t.slots.items t.ready.items
 -- the state after what is out at a number is handed in
 abbrev pub state_after : GivenView → Table → ℕ → State
 state_after given t at =
-    handed_in (rules_for given) (table_state (rules_for given) given.limits.targets t)
+    handed_in (rules_for given) Script (table_state (rules_for given) given.limits.targets t)
     (entry_of (table_entries (rules_for given) given.limits.targets t) (path_at t.targets at))
 
 -- the table is that of a state that is reached, with nothing left to do, and the end is that of the job that is out at
@@ -532,7 +534,7 @@ abbrev pub targets_in : Rules → List (List ℕ) → List (List ℕ)
 targets_in r paths = filter (λ p. not (r.is_source p)) paths
 
 -- the table shows the opening, with nothing left to do
-pub record IsFirstTable (given : GivenView) (request : List (List ℕ)) (t : Table) : Type 0 where
+pub record IsFirstTable (given : GivenView) (t : Table) : Type 0 where
   pub table : IsTableOf given t []
   pub watched : AllWatched (rules_for given) given.limits.targets t.targets t.slots.items []
-  pub state : table_state (rules_for given) given.limits.targets t ≡ opening (rules_for given) request
+  pub state : table_state (rules_for given) given.limits.targets t ≡ opening (rules_for given) given.request

@@ -54,10 +54,10 @@ IsOperand r d q = (changed d.kind d.path ≡ Some q) × (r.is_source q ≡ false
 
 -- the job is that of its target: with the rule that the search finds, on the script that the .do file holds
 pub record IsJobOf (given : GivenView) (job : JobView) : Type 0 where
-  pub of_tree : job.tree ≡ given.tree
+  pub of_tree : job.tree ≡ given.past.sources
   pub of_limits : job.limits ≡ given.limits
-  pub found : found_of given.tree job.target ≡ Rule job.do_file job.missing job.arguments
-  pub script : whole_of job ≡ script_in (unwrap_or (file_at given.tree job.do_file) [])
+  pub found : found_of given.past.sources job.target ≡ Rule job.do_file job.missing job.arguments
+  pub script : whole_of job ≡ script_in (unwrap_or (file_at given.past.sources job.do_file) [])
 
 -- the job can go on under each ask that keeps these answers to what it declared
 abbrev pub GoesOn : JobView → Ask → Type 0
@@ -82,16 +82,16 @@ pub record IsWorkWith (given : GivenView) (job : JobView) (facts : Facts) : Type
   pub gained : facts.gained ≡ length job.state.entries
   pub few : job.turn < 65536
 
--- a job that stopped at a turn: it is at the next, with the outcomes of the build at this depth for all that it had
--- asked for before
-pub record IsStopped (given : GivenView) (depth : ℕ) (target : List ℕ) (turn : ℕ) (job : JobView) (facts : Facts)
+-- a job that stopped at a turn, behind so many looks: it is at the next, with the outcomes of the build at this depth
+-- for all that it had asked for before
+pub record IsStopped (given : GivenView) (depth looks : ℕ) (target : List ℕ) (turn : ℕ) (job : JobView) (facts : Facts)
     : Type 0 where
   pub is_job : IsJobOf given job
   pub of_target : job.target ≡ target
   pub at_turn : job.turn ≡ turn + 1
   pub exact : (q : List ℕ) → told_in facts q ≡
-      only (operands (rules_for given) (deps_at_turn (rules_for given) target (outcome_at (rules_for given) depth) turn))
-      (outcome_at (rules_for given) depth) q
+      (let r = rules_for given in let a = outcome_at r depth in
+      only (operands r (deps_at_turn r target a (looks + turn))) a q)
   pub goes_on : GoesOn job (told_in facts)
   pub within : facts.gained ≤ length job.state.entries
   pub gained : AreKnownBelow (rules_for given) job (told_in facts) facts.gained

@@ -1,6 +1,7 @@
 //! Boards that are driven by hand over a diamond: `top` asks for `left` and `right`, and both ask for `base`.
 
 use crate::board::{Board, HandFault, Stop};
+use crate::opening::OpenFault;
 use crate::work::{Piece, Work};
 use redo_path::{Path, resolve};
 use redo_report::report_text;
@@ -17,8 +18,26 @@ const DIAMOND: [(&[u8], &[u8]); 4] = [
     (b"base.do", b"echo b\n"),
 ];
 
+/// The report of `top`: four targets, what they depend on, and the files, of which the first is the book.
 pub(crate) const REPORT: &[u8] =
-    b"built 2 base\ndep change base.do\nbuilt 2 left\ndep change left.do\ndep change base\nbuilt 2 right\ndep change right.do\ndep change base\nbuilt 4 top\ndep change top.do\ndep change left\ndep change right\nbegun base\nbegun left\nbegun right\nbegun top\nfile 2 base\nb\n\nfile 2 left\nb\n\nfile 2 right\nb\n\nfile 4 top\nb\nb\n\nend\n";
+    b"built 2 base\ndep change base.do\nbuilt 2 left\ndep change left.do\ndep change base\n\
+    built 2 right\ndep change right.do\ndep change base\nbuilt 4 top\ndep change top.do\n\
+    dep change left\ndep change right\nbegun base\nbegun left\nbegun right\nbegun top\n\
+    file 941 .redo-book\n\
+    target 0263829989b6fd954f72baaf2fc64bc2e2f01d692d4de72986ea808f6e99813f base\n\
+    change 256931e5627bfa46347df35ae1c25649073ce5630975d0cdf9d301d32836a118 base.do\n\
+    target 0263829989b6fd954f72baaf2fc64bc2e2f01d692d4de72986ea808f6e99813f left\n\
+    change 8f639ce0d3801bedf41167f8fb40a5588ddc8c9d4177a68521e59c7323dd8efd left.do\n\
+    change 0263829989b6fd954f72baaf2fc64bc2e2f01d692d4de72986ea808f6e99813f base\n\
+    target 0263829989b6fd954f72baaf2fc64bc2e2f01d692d4de72986ea808f6e99813f right\n\
+    change 8f639ce0d3801bedf41167f8fb40a5588ddc8c9d4177a68521e59c7323dd8efd right.do\n\
+    change 0263829989b6fd954f72baaf2fc64bc2e2f01d692d4de72986ea808f6e99813f base\n\
+    target f288623ee73a16eb4e2e51ed403847b534ca46ba1d2062ed641fe946f627f7a1 top\n\
+    change 68b0d0e4cf6b51adef1630c179acb109d714d6a0769c6f7ae611a8f0bea6e5ea top.do\n\
+    change 0263829989b6fd954f72baaf2fc64bc2e2f01d692d4de72986ea808f6e99813f left\n\
+    change 0263829989b6fd954f72baaf2fc64bc2e2f01d692d4de72986ea808f6e99813f right\nend\n\n\
+    file 2 base\nb\n\nfile 2 left\nb\n\nfile 2 right\nb\n\n\
+    file 4 top\nb\nb\n\nend\n";
 
 pub(crate) fn path(alloc: Global, word: &[u8]) -> Result<Path, Fail> {
     let root = Path::root();
@@ -36,7 +55,7 @@ pub(crate) fn tree(alloc: Global, scripts: usize) -> Result<Arc<Tree>, Fail> {
 }
 
 /// Opens a board of the diamond for these words, with a limit of targets.
-fn open(alloc: Global, words: &[&[u8]], targets: u32) -> Result<Result<Board, Stop>, Fail> {
+fn open(alloc: Global, words: &[&[u8]], targets: u32) -> Result<Result<Board, OpenFault>, Fail> {
     let mut request = Vec::new(alloc);
     for word in words {
         request.push(path(alloc, word)?)?;
@@ -83,9 +102,14 @@ fn go(board: &mut Board, steps: usize) -> Result<(), Fail> {
     Ok(())
 }
 
-/// The first piece of another board of the diamond.
+/// The first piece of another board of the diamond for `top`.
 pub(crate) fn first_piece(alloc: Global, targets: u32) -> Result<Piece, Fail> {
-    let mut other = board(alloc, &[b"top"], targets)?;
+    first_piece_of(alloc, &[b"top"], targets)
+}
+
+/// The first piece of another board of the diamond for these words.
+fn first_piece_of(alloc: Global, words: &[&[u8]], targets: u32) -> Result<Piece, Fail> {
+    let mut other = board(alloc, words, targets)?;
     let work = take(&mut other, 0)?;
     Ok(work.advance()?)
 }
@@ -174,14 +198,14 @@ fn nothing_requested_is_built_at_once(rt: HostRuntime) -> Result<(), Fail> {
     let board = board(rt.alloc(), &[], 1)?;
     assert!(rt; counts(&board) == (0, 0, true));
     let text = finished(rt.alloc(), board)?;
-    assert!(rt; text.as_slice() == b"end\n".as_slice());
+    assert!(rt; text.as_slice() == b"file 4 .redo-book\nend\n\nend\n".as_slice());
     Ok(())
 }
 
 #[test]
 fn a_request_beyond_the_limit_opens_no_board(rt: HostRuntime) -> Result<(), Fail> {
     let refused = open(rt.alloc(), &[b"left", b"right"], 1)?;
-    assert!(rt; refused.err() == Some(Stop::TooMany));
+    assert!(rt; refused.err() == Some(OpenFault::TooMany));
     Ok(())
 }
 
@@ -234,11 +258,19 @@ fn a_board_is_for_its_own_build(rt: HostRuntime) -> Result<(), Fail> {
     Ok(())
 }
 
+/// The requested words and the limit of targets of another board, and whether its piece is of this one's build.
+const PIECES: [(&[&[u8]], u32, bool); 4] = [
+    (&[b"left"], 100, true),
+    (&[b"left"], 99, false),
+    (&[b"top"], 100, false),
+    (&[b"left", b"left"], 100, false),
+];
+
 #[test]
-fn a_piece_belongs_by_its_tree_and_limits(rt: HostRuntime) -> Result<(), Fail> {
+fn a_piece_belongs_by_its_tree_request_and_limits(rt: HostRuntime) -> Result<(), Fail> {
     let board = board(rt.alloc(), &[b"left"], 100)?;
-    for (targets, answer) in [(100, true), (99, false)] {
-        let piece = first_piece(rt.alloc(), targets)?;
+    for (words, targets, answer) in PIECES {
+        let piece = first_piece_of(rt.alloc(), words, targets)?;
         assert!(rt; board.belongs(&piece) == answer);
     }
     Ok(())

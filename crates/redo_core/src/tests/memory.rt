@@ -2,6 +2,7 @@
 
 use super::board::{REPORT, answer, counts, first_piece, path, tree};
 use crate::board::{Board, HandFault, Stop};
+use crate::opening::OpenFault;
 use crate::work::{Piece, Work};
 use redo_path::Path;
 use redo_report::report_text;
@@ -21,8 +22,9 @@ fn opened(alloc: Global, tree: &Arc<Tree>) -> Result<Option<Board>, Fail> {
     let limits = Limits::new(100, 100).ok_or("limits")?;
     match Board::open(alloc, Arc::try_clone(tree)?, &request, limits) {
         Ok(board) => Ok(Some(board)),
-        Err(Stop::Memory) => Ok(None),
-        Err(Stop::TooMany) => Err("too many targets")?,
+        Err(OpenFault::Memory) => Ok(None),
+        Err(OpenFault::TooMany) => Err("too many targets")?,
+        Err(OpenFault::Book(_)) => Err("a book in a tree without one")?,
     }
 }
 

@@ -2,8 +2,7 @@
 
 use super::board::{counts, path};
 use crate::board::Board;
-use crate::opening::{OpenFault, open};
-use redo_past::Past;
+use crate::opening::OpenFault;
 use redo_step::Limits;
 use redo_tree::Tree;
 use std::alloc::Global;
@@ -34,30 +33,49 @@ fn opened(
     book: &[u8],
     words: &[&[u8]],
     targets: u32,
-) -> Result<Result<(Past, Board), OpenFault>, Fail> {
+) -> Result<Result<Board, OpenFault>, Fail> {
     let mut request = Vec::new(alloc);
     for word in words {
         request.push(path(alloc, word)?)?;
     }
     let limits = Limits::new(targets, 100).ok_or("limits")?;
-    Ok(open(alloc, tree_with(alloc, book)?, &request, limits))
+    Ok(Board::open(alloc, tree_with(alloc, book)?, &request, limits))
 }
 
+/// A rule, a book, and how many targets are ready, are out, and whether the board is quiet, where `hello` is requested.
+const OPENED: [(&str, &[u8], (usize, usize, bool)); 2] = [
+    ("what a run left is set aside", BOOK, (1, 0, false)),
+    (
+        "what a book doesn't know is a source",
+        b"end\n",
+        (0, 0, true),
+    ),
+];
+
 #[test]
-fn what_a_run_left_is_set_aside(rt: HostRuntime) -> Result<(), Fail> {
-    let (past, board) = opened(rt.alloc(), BOOK, &[b"hello"], 1)??;
-    assert_eq!(rt; past.tree().len(), 4, "the top, and three files");
-    assert_eq!(rt; past.sources().len(), 2, "the top, and the rule");
-    assert_eq!(rt; past.book().records().len(), 1);
-    assert!(rt; counts(&board) == (1, 0, false));
+fn a_board_is_opened_over_the_sources(rt: HostRuntime) -> Result<(), Fail> {
+    for (rule, book, expected) in OPENED {
+        let board = opened(rt.alloc(), book, &[b"hello"], 1)??;
+        assert!(rt; counts(&board) == expected, "{rule}");
+    }
     Ok(())
 }
 
+/// A rule, the book of the tree that is compared, and whether a board that was opened with the first book is for it.
+const COMPARED: [(&str, &[u8], bool); 2] = [
+    ("the tree as it was read", BOOK, true),
+    ("the same sources with another book", b"end\n", false),
+];
+
 #[test]
-fn what_a_book_does_not_know_is_a_source(rt: HostRuntime) -> Result<(), Fail> {
-    let (past, board) = opened(rt.alloc(), b"end\n", &[b"hello"], 1)??;
-    assert_eq!(rt; past.sources().len(), 3, "the top, the rule, and the file");
-    assert!(rt; counts(&board) == (0, 0, true));
+fn a_board_is_for_the_tree_as_it_was_read(rt: HostRuntime) -> Result<(), Fail> {
+    let board = opened(rt.alloc(), BOOK, &[b"hello"], 1)??;
+    let request = [path(rt.alloc(), b"hello")?];
+    let limits = Limits::new(1, 100).ok_or("limits")?;
+    for (rule, book, expected) in COMPARED {
+        let tree = tree_with(rt.alloc(), book)?;
+        assert!(rt; board.is_for(&tree, &request, limits) == expected, "{rule}");
+    }
     Ok(())
 }
 

@@ -2,6 +2,7 @@
 
 use crate::given::Given;
 use crate::reading::script;
+use redo_past::Past;
 use redo_path::{Path, resolve};
 use redo_step::Limits;
 use redo_tree::Tree;
@@ -16,8 +17,8 @@ fn given(alloc: Global, name: &[u8]) -> Result<(Arc<Given>, Path), Fail> {
     let mut tree = Tree::new(alloc)?;
     tree.add_file(&do_file, b"echo a\n".to_vec(alloc)?)?;
     let limits = Limits::new(1, 1).ok_or("limits")?;
-    let tree = Arc::new(alloc, tree)?;
-    Ok((Given::new(alloc, tree, limits)?, do_file))
+    let past = Past::open(alloc, Arc::new(alloc, tree)?)?;
+    Ok((Given::new(alloc, past, &[], limits)?, do_file))
 }
 
 /// Reads these texts as that of a script, one after another, and tells how many then hold what the last one came to.

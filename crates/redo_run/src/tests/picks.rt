@@ -1,19 +1,12 @@
 //! Builds in an order that is given beforehand.
 
-use super::workers::{DIAMOND, paths_of, tree_of};
+use super::workers::{DIAMOND, DIAMOND_REPORT, paths_of, tree_of};
 use crate::{Pick, RunFault, drive};
 use redo_core::board::Board;
 use redo_report::report_text;
 use redo_step::Limits;
 use std::alloc::Global;
 use std::test::Fail;
-
-/// What the board of a diamond comes to. The new book isn't among its files.
-const REPORT: &[u8] =
-    b"built 2 base\ndep change base.do\nbuilt 2 left\ndep change left.do\ndep change base\n\
-    built 2 right\ndep change right.do\ndep change base\nbuilt 4 top\ndep change top.do\n\
-    dep change left\ndep change right\nbegun base\nbegun left\nbegun right\nbegun top\n\
-    file 2 base\nb\n\nfile 2 left\nb\n\nfile 2 right\nb\n\nfile 4 top\nb\nb\n\nend\n";
 
 /// The whole build of a diamond, in which `right` comes before `left`, and both are out at once.
 const WHOLE: [Pick; 14] = [
@@ -65,7 +58,7 @@ fn every_order_comes_to_the_report(rt: HostRuntime) -> Result<(), Fail> {
         return Err("not quiet".into());
     }
     let text = report_text(alloc, &board.finish()?, true)?;
-    assert_eq!(rt; text.as_slice(), REPORT);
+    assert_eq!(rt; text.as_slice(), DIAMOND_REPORT);
     Ok(())
 }
 

@@ -3,7 +3,7 @@ use Rattle.redo_core.proofs.TakenSteps.{taken-begun, taken-counted, taken-hand_i
 use Rattle.redo_core.proofs.laws.what_was_taken.Goals as goal
 
 pub returns-clause-opened : goal.returns-clause-opened
-returns-clause-opened c = λ tree request limits. record { reached = record { events = []; all_open = tt; ends = refl }; is = refl }
+returns-clause-opened c = λ given. record { reached = record { events = []; all_open = tt; ends = refl }; is = refl }
 
 pub returns-clause-take : goal.returns-clause-take
 returns-clause-take c = λ b taken which work. taken-take b taken which work

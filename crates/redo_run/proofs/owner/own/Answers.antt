@@ -7,7 +7,7 @@ turns-preserved-then-is_for_owner g c =
     let i = c.turns.invariant in let s = c.advance_newest.ensures.source in let b = c.advance_newest.ensures.build in (
       c.in_ok-advance_newest.ensures.running,
       (s.0 ∙ i.1.0, s.1 ∙ i.1.1),
-      (b.0 ∙ i.2.0, b.1 ∙ i.2.1),
+      b ∙ i.2,
       c.advance_newest.ensures.taker ∙ i.3,
       λ had. c.in_ok-advance_newest.ensures.taken (i.4 had),
     )
@@ -19,7 +19,7 @@ turns-preserved-then-out-lines g c =
     let b = c.call_for_newest.ensures.build in (
       c.in_ok-call_for_newest.ensures.running,
       (s.0 ∙ i.1.0, s.1 ∙ i.1.1),
-      (b.0 ∙ i.2.0, b.1 ∙ i.2.1),
+      b ∙ i.2,
       i.3,
       λ had. c.in_ok-call_for_newest.ensures.taken (i.4 had),
     )
@@ -30,7 +30,7 @@ turns-preserved g c =
     let i = c.turns.invariant in let b = c.receive.ensures.build in (
       c.in_ok-receive.ensures.running,
       i.1,
-      (b.0 ∙ i.2.0, b.1 ∙ i.2.1),
+      b ∙ i.2,
       i.3,
       λ had. c.in_ok-receive.ensures.taken _ (i.4 had),
     )

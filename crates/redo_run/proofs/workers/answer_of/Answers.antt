@@ -1,37 +1,43 @@
-use Rattle.std.proofs.Common.{rules, ◌≡◌, [], List, sym, subst}
+use Rattle.std.proofs.Common.{rules, ◌≡◌, [], ℕ, List, sym, subst}
 use Rattle.redo_build.specs.Takes.{AreBegun, AreCountedOnce}
 use Rattle.redo_build.specs.Theorems.{ShowsBuild}
-use Rattle.redo_core.specs.Views.{IsQuietBoard, limit_on, rules_on}
+use Rattle.redo_core.specs.Build.{GivenView}
+use Rattle.redo_core.specs.Results.{IsResult}
+use Rattle.redo_core.specs.Views.{IsQuietBoard, limit_on, request_on, rules_on}
 use Rattle.redo_sync.specs.Relay.{Pair, Shares, SharesOut}
 use Rattle.redo_run.proofs.LedgerLemmas.{begun_shared, once_shared, without_memory}
 use Rattle.redo_run.proofs.workers.answer_of.Goals as goal
 
 pub returns-in_err-ledger : goal.returns-in_err-ledger
-returns-in_err-ledger g c = without_memory _ _ _ (search rules)
+returns-in_err-ledger g c = without_memory _ _ (search rules)
 
 pub returns-in_err-ledger-2 : goal.returns-in_err-ledger-2
-returns-in_err-ledger-2 g c = without_memory _ _ _ (search rules)
+returns-in_err-ledger-2 g c = without_memory _ _ (search rules)
 
 -- what the takers took is what the board had taken
 pub returns : goal.returns
 returns g c =
-    let b = c.args.desk.board in let given = c.args.desk.source.given in let report = c.in_ok-finish.field-0 in
+    let b = c.desk.inside.board in let given = c.desk.inside.source.given in let result = c.in_ok-finish.field-0 in
+    let ended = c.desk.invariant in
     let ledger = c.in_ok-ledger.ledger in
     let none : (ledger.left ≡ []) × SharesOut ledger.given ledger.taken [] = search rules in
     let Q : List Pair → Type 0 = λ l. SharesOut l ledger.taken [] in
     let out : SharesOut given ledger.taken [] = subst Q c.in_ok-ledger.ensures.given none.1 in
     let quiet : IsQuietBoard b = search rules in
-    let shows : ShowsBuild (rules_on b) b.request (limit_on b) b.state = search rules in
-    let once = once_shared given ledger.taken out (c.what_was_taken.ensures.counted b given c.requires.taken) in
-    let of_given = c.what_was_taken.ensures.begun b given report c.requires.taken quiet shows c.in_ok-finish.ensures in
-    let begun = begun_shared given ledger.taken out report.begun.items c.counts_tell.ensures.taken of_given in
+    let shows : ShowsBuild (rules_on b) (request_on b) (limit_on b) b.state = search rules in
+    let once = once_shared given ledger.taken out (c.what_was_taken.ensures.counted b given ended.taken) in
+    let is : IsResult b.given result = c.in_ok-finish.ensures in
+    let of_given = c.what_was_taken.ensures.begun b given is.report ended.taken quiet shows is.built in
+    let begun = begun_shared given ledger.taken out is.report.begun.items c.counts_tell.ensures.taken of_given in
     let None : Shares → Type 0 = λ s. s.left ≡ [] in
     let Once : Shares → Type 0 = λ s. AreCountedOnce s.taken in
-    let Begun : Shares → Type 0 = λ s. AreBegun s.taken report.begun.items in
+    let Begun : Shares → Type 0 = λ s. AreBegun s.taken result.begun.items in
+    let B : List (List ℕ) → Type 0 = AreBegun ledger.taken in
+    let G : GivenView → Type 0 = λ v. IsResult v result in
     record {
-      report = c.in_ok-finish.ensures;
+      report = subst G ended.of_build is;
       none_left = subst None (sym c.in_ok-ledger-2.ensures) none.0;
       once = subst Once (sym c.in_ok-ledger-2.ensures) once;
-      begun = subst Begun (sym c.in_ok-ledger-2.ensures) begun;
+      begun = subst Begun (sym c.in_ok-ledger-2.ensures) (subst B (sym is.with_book.begun) begun);
       too_many = λ e. absurd cc;
     }

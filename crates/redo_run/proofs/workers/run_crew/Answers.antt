@@ -1,4 +1,4 @@
-use Rattle.std.proofs.Common.{◌≡◌, ◌∙◌, List, ap, arith, map, rules, sym, subst, Result}
+use Rattle.std.proofs.Common.{◌≡◌, ◌∙◌, List, ap, arith, map, sym, subst, Result}
 use Rattle.std.specs.Prelude.{OnOk}
 use Rattle.redo_core.specs.Taken.{HasTaken}
 use Rattle.redo_core.specs.Views.{BoardView}
@@ -14,9 +14,10 @@ unreachable-requires g c =
     let none = c.in_default.ensures.cases.0 in let all = c.requires.staffed.0 in
     absurd (omega (arith, none, all, c.requires.some, c.args.desk.takers.ok))
 
--- the takers that came back are those that went out
-pub returns-clause-staffed : goal.returns-clause-staffed
-returns-clause-staffed g c =
+-- the board is of the build, the takers that came back are those that went out, and what the owner gave is what the
+-- board has taken
+pub invariant_of-result : goal.invariant_of-result
+invariant_of-result g c =
     let relays : List Taker → List RelayId = λ l. map (λ t. t.relay) l in
     elim c.match-start_all.branch [
       | in-Ok w ↦
@@ -27,21 +28,16 @@ returns-clause-staffed g c =
           let back : relays c.push.new.self.items ≡ relays c.args.desk.takers.items =
           ap relays c.in_ok-push.ensures.items ∙ one_back _ _ _ _ others own ∙ sym (ap relays c.in-Some.ensures.items) in
           let kept = w.own-ended.ensures.source in
-          same_relays _ _ c.args.desk.source c.match-start_all.source back
-          (ap (λ s. s.relay) w.source-is ∙ kept.0, ap (λ s. s.takers) w.source-is ∙ kept.1) c.requires.staffed
-      | in-Err w ↦ search rules
-    ]
-
--- what the owner gave is what the board has taken
-pub returns-clause-taken : goal.returns-clause-taken
-returns-clause-taken g c =
-    elim c.match-start_all.branch [
-      | in-Ok w ↦
           let b = w.own-ended.new.board in let s = w.own-ended.new.source in
           let Taken : Result Unit Stop → Type 0 = λ r. OnOk r (HasTaken c.args.desk.board c.args.desk.source.given → HasTaken b s.given) in
           let had = subst Taken (sym w.ended-is ∙ c.in_ok-ended.was) w.own-ended.ensures.taken c.requires.taken in
           let P : BoardView → Type 0 = λ v. HasTaken v s.given in
           let Q : Source → Type 0 = λ t. HasTaken c.match-start_all.board t.given in
-          subst Q (sym w.source-is) (subst P (sym w.board-is) had)
-      | in-Err w ↦ search rules
+          record {
+            of_build = ap (λ (v : BoardView). v.given) w.board-is ∙ w.own-ended.ensures.build ∙ c.requires.of_build;
+            staffed = same_relays _ _ c.args.desk.source c.match-start_all.source back
+                (ap (λ s. s.relay) w.source-is ∙ kept.0, ap (λ s. s.takers) w.source-is ∙ kept.1) c.requires.staffed;
+            taken = subst Q (sym w.source-is) (subst P (sym w.board-is) had);
+          }
+      | in-Err w ↦ absurd (let never = sym w.ended-is ∙ c.in_ok-ended.was in cc)
     ]

@@ -1,10 +1,13 @@
-use Rattle.redo_core.specs.inside.Reported.{IsReportOf}
-use Rattle.redo_report.specs.Reports.{IsReport}
-use Rattle.std.proofs.Common.{◌∙◌, ap}
+use Rattle.std.proofs.Common.{◌≡◌, ℕ, List, ap, subst, ◌∙◌}
 use Rattle.redo_core.specs.Build.{GivenView}
-use Rattle.redo_core.specs.Views.{rules_on}
+use Rattle.redo_core.specs.Results.{IsResult}
+use Rattle.redo_core.specs.Views.{BoardView, request_on, limit_on, rules_on}
+use Rattle.redo_past.specs.NewBook.{IsResultOf}
+use Rattle.redo_past.specs.Past.{PastView}
+use Rattle.redo_report.specs.Reports.{IsReport}
 use Rattle.redo_core.proofs.ReportedLemmas.{if_ok-more, quiet-inside, report-view, settled-inside, told-inside}
 use Rattle.redo_core.proofs.board.Board.finish.Goals as goal
+use Rattle.redo_core.proofs.board.Board.finish.Goals.{In_ok-report}
 
 pub report_of-requires-clause-settled : goal.report_of-requires-clause-settled
 report_of-requires-clause-settled c =
@@ -16,12 +19,32 @@ report_of-requires-clause-one_each c =
     let quiet = quiet-inside c.self.inside c.args.self c.self.view_is c.requires in
     (c.self.invariant.kept quiet.0).table.one_each
 
-pub returns : goal.returns
-returns c = if_ok-more c.report_of.result (IsReportOf c.deref.result.now c.deref-2.result.now c.self.inside.table) (IsReport (rules_on c.args.self) c.args.self.request c.args.self.given.limits.targets)
-    (λ report made. report-view c.self.inside c.self.invariant.kept c.args.self c.self.view_is c.requires c.deref.result.now c.deref-2.result.now (c.deref.ensures ∙ c.tree.ensures ∙ ap (λ (g : GivenView). g.tree) c.given.ensures) c.deref-2.ensures.value report made)
-    c.report_of.ensures
-
 pub report_of-requires-clause-told : goal.report_of-requires-clause-told
 report_of-requires-clause-told c =
     let quiet = quiet-inside c.self.inside c.args.self c.self.view_is c.requires in
-    told-inside c.self.inside (c.self.invariant.kept quiet.0) c.deref.result.now (c.deref.ensures ∙ c.tree.ensures ∙ ap (λ (g : GivenView). g.tree) c.given.ensures)
+    told-inside c.self.inside (c.self.invariant.kept quiet.0) c.deref.result.now
+    (c.deref.ensures ∙ c.sources.ensures ∙ ap (λ (g : GivenView). g.past.sources) c.given-given.ensures)
+
+-- what the table comes to is the report of the board's build
+built : (c : In_ok-report) → IsReport (rules_on c.args.self) (request_on c.args.self) (limit_on c.args.self) c.in_ok-report.report
+built c =
+    report-view c.self.inside c.self.invariant.kept c.args.self c.self.view_is c.requires c.deref.result.now c.request.result.now
+    (c.deref.ensures ∙ c.sources.ensures ∙ ap (λ (g : GivenView). g.past.sources) c.given-given.ensures)
+    (c.request.ensures ∙ ap (λ (g : GivenView). g.request) c.given-given.ensures) c.in_ok-report.report c.in_ok-report.ensures
+
+pub with_book-requires-clause-rows : goal.with_book-requires-clause-rows
+with_book-requires-clause-rows c = (built (goal.at-with_book-requires-clause-rows c).In_ok-report).rows_ordered
+
+pub with_book-requires-clause-files : goal.with_book-requires-clause-files
+with_book-requires-clause-files c = (built (goal.at-with_book-requires-clause-files c).In_ok-report).files_ordered
+
+pub returns : goal.returns
+returns c =
+    let d = (goal.at-returns c).In_ok-report in
+    let past : c.past.result.now ≡ c.args.self.given.past =
+    c.past.ensures ∙ ap (λ (g : GivenView). g.past) d.given-given.ensures ∙ ap (λ (v : BoardView). v.given.past) c.self.view_is in
+    if_ok-more c.with_book.result (IsResultOf c.past.result.now c.in_ok-report.report) (IsResult c.args.self.given)
+    (λ whole made.
+    let P : PastView → Type 0 = λ p. IsResultOf p c.in_ok-report.report whole in
+    record { report = c.in_ok-report.report; built = built d; with_book = subst P past made })
+    c.with_book.ensures

@@ -102,7 +102,7 @@ returns-in-Err-clause-err c =
     let b = c.self.inside in
     let new : BoardView = view_of (record b { table = c.take_in.new.table; stopped = Some c.in-Err.stop }) in
     let out = open-out b (kept d) c.args.piece.target c.args.piece.turn c.in-Some-out_at.at (slot e) in
-    let running = refused-after (view_of b) new c.args.piece c.in-Err.stop out (refl, refl) refl (λ is.
+    let running = refused-after (view_of b) new c.args.piece c.in-Err.stop out refl refl (λ is.
     too-many-after b (kept d) c.args.piece.target c.args.piece.turn c.in-Some-out_at.at (slot e) (c.in-Err.ensures.too_many (ap Err is))) in
     let F : HandFault → Type 0 = λ f. Refused c.args.self.now new c.args.piece f in
     let P : BoardView → Type 0 = λ v. Refused v new c.args.piece (fault_of c.in-Err.stop) in

@@ -1,4 +1,4 @@
-use Rattle.std.proofs.Common.{rules, ◌≡◌, ◌<◌, ℕ, List, cond, map, is_some, length, slice_get, Some, refl, ap, subst}
+use Rattle.std.proofs.Common.{◌≡◌, ◌<◌, ℕ, List, cond, map, is_some, length, slice_get, Some, refl, ap, subst}
 use Rattle.std.proofs.Common.{◌∙◌, arith}
 use Rattle.redo_core.specs.inside.Slots.{IsKept, path_at}
 use Rattle.redo_core.specs.Views.{BoardView}

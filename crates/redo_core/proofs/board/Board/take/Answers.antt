@@ -59,7 +59,7 @@ returns-clause-ok c =
     let d = (goal.at-returns-clause-ok c).After-replace-stage in
     let b = d.self.inside in
     rw (← c.self.view_is) (rw (c.replace-stage.ensures.after, c.in-Some.ensures.items)
-    (ap (λ s. record { given = b.build; request = b.request.items; state = s; stopped = b.stopped })
+    (ap (λ s. record { given = b.build; state = s; stopped = b.stopped })
     (taken_state b (kept d) d.args.which d.in-Some.at d.index_mut-slot.result.now (first d) (there d))))
 
 pub returns-clause-turn : goal.returns-clause-turn

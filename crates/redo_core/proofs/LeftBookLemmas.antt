@@ -1,0 +1,303 @@
+-- The book that a build of a tree leaves is true of trees where the last one was.
+use Rattle.std.proofs.Common.{◌≡◌, ℕ, zero, suc, Bool, true, false, not, ◌||◌, cond, inl, inr, Option, Some, None}
+use Rattle.std.proofs.Common.{List, [], ◌∷◌, is_some, map, refl, sym, ap, ◌∙◌, subst}
+use Rattle.std.specs.Prelude.{All, Contains, IsSome, option_and_then, unwrap_or}
+use Rattle.std.specs.Arc.{arc_value}
+use Rattle.std.specs.List.{AllByRecursion}
+use Rattle.std.specs.Option.{option_or}
+use Rattle.std.specs.Str.{bytes_eq}
+use Rattle.std.proofs.lemmas.Bool.{both_ways, cases_Bool}
+use Rattle.std.proofs.lemmas.List.Elements.{All-cons, All-contains, All-contains_itself, All-head, All-nil, All-tail}
+use Rattle.std.proofs.lemmas.List.Elements.{All-weaker}
+use Rattle.std.proofs.lemmas.Slice.Eq.{bytes_eq-Decides}
+use Rattle.redo_digest.specs.Digest.{state_of}
+use Rattle.redo_tree.specs.Tree.{Tree, IsTree, file_at}
+use Rattle.redo_which.specs.Candidates.{is_do_file}
+use Rattle.redo_record.specs.declared.deps.Dep.{Dep}
+use Rattle.redo_record.specs.declared.deps.DepKind.{DepKind}
+use Rattle.redo_record.specs.declared.deps.DepKind.TheVariants as kinds
+use Rattle.redo_record.specs.declared.outcome.Outcome.{Outcome}
+use Rattle.redo_record.specs.declared.outcome.Outcome.TheVariants as outcomes
+use Rattle.redo_record.specs.Answers.{file_in}
+use Rattle.redo_record.specs.Entries.{is_entered}
+use Rattle.redo_record.specs.Paths.{IsAmong, Path, is_among}
+use Rattle.redo_record.specs.Progress.{Progress}
+use Rattle.redo_record.proofs.Public.{entered_operand}
+use Rattle.redo_book.specs.declared.book.BookEntry.{BookEntry}
+use Rattle.redo_book.specs.declared.book.BookEntry.TheVariants.{Change}
+use Rattle.redo_book.specs.Book.{Record, record_at}
+use Rattle.redo_build.specs.Rules.{Ask, Rules, AreLawful}
+use Rattle.redo_build.specs.Outcomes.{final_outcome, needed_at, outcome_at}
+use Rattle.redo_build.proofs.DepthLemmas.{cases_Option, outcome_at-step, outcome_at-zero, settled}
+use Rattle.redo_build.proofs.PathLemmas.{is_among-from}
+use Rattle.redo_step.specs.Limits.{LimitsView}
+use Rattle.redo_skip.specs.Checks.{Checks, built, known_file, told}
+use Rattle.redo_skip.specs.NewBook as skip
+use Rattle.redo_skip.specs.NewBook.{CanBeNoted, LastRun, checks_of}
+use Rattle.redo_skip.specs.Sources.{File, Sources}
+use Rattle.redo_skip.specs.Truth.{IsWitness}
+use Rattle.redo_skip.proofs.NewBookLemmas.{all-here}
+use Rattle.redo_report.specs.Reports.{IsReport, deps_of}
+use Rattle.redo_report.specs.declared.report.Report.{Report}
+use Rattle.redo_report.specs.declared.report.Row.{Row}
+use Rattle.redo_past.specs.NewBook as past
+use Rattle.redo_past.specs.NewBook.{IsNewBook, is_built, row_at}
+use Rattle.redo_core.specs.Build.{GivenView, rules_for, rules_of}
+use Rattle.redo_core.specs.TreeSources.{IsTrueOfTrees, sources_for, sources_of}
+use Rattle.redo_core.proofs.AlikeTreeLemmas.{entered-here, entered-later}
+use Rattle.redo_core.proofs.GoodTreeLemmas.{built-at, built-ended, lines, source-outcome, trees-good}
+use Rattle.redo_core.proofs.LawfulTreeLemmas.{rules_lawful}
+
+-- Rows
+
+listed-all : (rows : List Row) → All (λ row. IsAmong (map (λ row. row.path) rows) row.path) rows
+listed-all [] = All-nil (λ (row : Row). IsAmong [] row.path)
+listed-all (x ∷ xs) =
+    All-cons (λ row. IsAmong (map (λ row. row.path) (x ∷ xs)) row.path) x xs (inl refl)
+    (All-weaker (λ row. IsAmong (map (λ row. row.path) xs) row.path)
+    (λ row. IsAmong (map (λ row. row.path) (x ∷ xs)) row.path) (λ row m. inr m) xs (listed-all xs))
+
+-- what holds of each row holds of that of a path
+row-found : (P : Row → Type 0) (rows : List Row) (q : Path) → All P rows → IsAmong (map (λ row. row.path) rows) q →
+    (row : Row) × (row_at rows q ≡ Some row) × (row.path ≡ q) × P row
+row-found P [] q all m = absurd m
+row-found P (x ∷ xs) q all m = elim (cases_Bool (bytes_eq x.path q)) [
+  | inl t ↦ (x, rw t refl, (bytes_eq-Decides x.path q).0 t, All-head P x xs all)
+  | inr f ↦ elim m [
+    | inl here ↦ absurd (let bad : true ≡ false = sym ((bytes_eq-Decides x.path q).1 here) ∙ f in cc)
+    | inr later ↦
+        let rest = row-found P xs q (All-tail P x xs all) later in
+        (rest.0, rw f rest.1, rest.2, rest.3)
+  ]
+]
+
+records-same : (p : Path) (f g : File) (es fs : List BookEntry) → f ≡ g → es ≡ fs →
+    ◌≡◌ {A = Record} (record { target = p; state = state_of f; entries = es })
+    (record { target = p; state = state_of g; entries = fs })
+records-same p f g es fs files entries =
+    ap (λ (x : File). record { target = p; state = state_of x; entries = es }) files
+    ∙ ap (λ (xs : List BookEntry). record { target = p; state = state_of g; entries = xs }) entries
+
+-- States
+
+-- a file that is known of what is no source is told of
+known-told : (o : Option (List ℕ)) (by_name : Bool) (answer : Option Outcome) (file : File) → is_some o ≡ false →
+    cond (not (is_some o || by_name)) (told answer) (cond (is_some o) (Some o) None) ≡ Some file →
+    told answer ≡ Some file
+known-told (Some bytes) by_name answer file none e = absurd cc
+known-told None true answer file none e = absurd cc
+known-told None false answer file none e = e
+
+-- and it is the one in the outcome
+told-final : (answer : Option Outcome) (file : File) → told answer ≡ Some file →
+    file_in (unwrap_or answer outcomes.Cyclic) ≡ file
+told-final None file e = absurd cc
+told-final (Some outcomes.Source) file e = cc
+told-final (Some (outcomes.Built other)) file e = cc
+told-final (Some (outcomes.Failed why)) file e = absurd cc
+told-final (Some outcomes.Cyclic) file e = absurd cc
+
+source-parts : (o : Option (List ℕ)) → is_some o ≡ true → (bytes : List ℕ) × (o ≡ Some bytes)
+source-parts (Some bytes) e = (bytes, refl)
+source-parts None e = absurd cc
+
+no-source : (o : Option (List ℕ)) → is_some o ≡ false → o ≡ None
+no-source (Some bytes) e = absurd cc
+no-source None e = refl
+
+source-told : (o : Option (List ℕ)) (by_name : Bool) (answer : Option Outcome) (file : File) → is_some o ≡ true →
+    cond (not (is_some o || by_name)) (told answer) (cond (is_some o) (Some o) None) ≡ Some file → o ≡ file
+source-told (Some bytes) by_name answer file some e = cc
+source-told None by_name answer file some e = absurd cc
+
+-- nothing was left by a last run
+abbrev no_run : LastRun
+no_run = record { book = []; file = λ p. None }
+
+module _ (tree : Tree) (limits : LimitsView) (is_tree : IsTree tree) (request : List Path) (limit : ℕ)
+    (report : Report) (is : IsReport (rules_of tree limits) request limit report) where
+  abbrev r : Rules
+  r = rules_of tree limits
+
+  abbrev s : Sources
+  s = sources_of tree limits
+
+  abbrev end : Ask
+  end = outcome_at r limit
+
+  abbrev rows : List Row
+  rows = report.rows.items
+
+  lawful : AreLawful r
+  lawful = rules_lawful tree limits
+
+  -- the file that is known of a path is the one of which a book notes the state
+  state-noted : (q : Path) (file : File) → (r.is_source q ≡ false → IsAmong (needed_at r request limit) q) →
+      known_file s end q ≡ Some file → past.state_at tree rows q ≡ state_of file
+  state-noted q file reached e = elim (cases_Bool (r.is_source q)) [
+    | inl some ↦
+        let bytes = source-parts (file_at tree q) some in
+        let same : file_at tree q ≡ file = source-told (file_at tree q) (is_do_file q) (end q) file some e in
+        ap (λ (o : Option (List ℕ)). state_of (option_or o (past.built_at rows q))) bytes.1
+        ∙ ap (λ (o : File). state_of o) (sym bytes.1 ∙ same)
+    | inr made ↦
+        let told_file : told (end q) ≡ Some file =
+        known-told (file_at tree q) (is_do_file q) (end q) file made e in
+        let row = row-found (λ row. (row.outcome ≡ final_outcome r limit row.path) ×
+        (arc_value row.deps ≡ deps_of r limit row.path)) rows q is.outcomes ((is.rows q).1 (inl (reached made))) in
+        let outcome : row.0.outcome ≡ final_outcome r limit q =
+        row.3.0 ∙ ap (λ (p : Path). final_outcome r limit p) row.2 in
+        let at : past.built_at rows q ≡ file =
+        ap (λ (o : Option Row). option_and_then (λ (x : Row). file_in x.outcome) o) row.1
+        ∙ ap file_in outcome ∙ told-final (end q) file told_file in
+        ap (λ (o : Option (List ℕ)). state_of (option_or o (past.built_at rows q)))
+        (no-source (file_at tree q) made) ∙ ap (λ (o : File). state_of o) at
+  ]
+
+  -- an entry as the new book has it
+  entry-noted : (k : DepKind) (q : Path) → (k ≡ kinds.Change → r.is_source q ≡ false →
+      IsAmong (needed_at r request limit) q) → IsSome (past.entry_as tree rows k q) → CanBeNoted s end k q →
+      past.entry_as tree rows k q ≡ Some (skip.entry_as s end k q)
+  entry-noted kinds.Change [] reached line can = absurd cc
+  entry-noted kinds.Change (byte ∷ bytes) reached line can =
+      let q : Path = byte ∷ bytes in
+      let now : past.state_at tree rows q ≡ state_of can.0 = state-noted q can.0 (reached refl) can.1 in
+      let then : skip.state_at s end q ≡ state_of can.0 = ap (λ (o : Option File). option_and_then state_of o) can.1 in
+      ap (λ state. Some (Change state q)) (now ∙ sym then)
+  entry-noted kinds.Create [] reached line can = absurd cc
+  entry-noted kinds.Create (byte ∷ bytes) reached line can = refl
+  entry-noted kinds.Always [] reached line can = refl
+  entry-noted kinds.Always (byte ∷ bytes) reached line can = absurd cc
+
+  record IsNotable (d : Dep) : Type 0 where
+    reached : d.kind ≡ kinds.Change → r.is_source d.path ≡ false → IsAmong (needed_at r request limit) d.path
+    line : IsSome (past.entry_as tree rows d.kind d.path)
+    can : CanBeNoted s end d.kind d.path
+
+  all-noted : (ds : List Dep) → AllByRecursion IsNotable ds → past.noted tree rows ds ≡ skip.noted s end ds
+  all-noted [] all = refl
+  all-noted (d ∷ ds) all =
+      let here = entry-noted d.kind d.path all.0.reached all.0.line all.0.can in
+      rw here (ap (λ (es : List BookEntry). skip.entry_as s end d.kind d.path ∷ es) (all-noted ds all.1))
+
+  notable : (ds : List Dep) → ((q : Path) → is_entered ds kinds.Change q ≡ true → r.is_source q ≡ false →
+      IsAmong (needed_at r request limit) q) →
+      AllByRecursion (λ d. IsSome (past.entry_as tree rows d.kind d.path)) ds →
+      AllByRecursion (λ d. CanBeNoted s end d.kind d.path) ds → AllByRecursion IsNotable ds
+  notable [] reached line can = tt
+  notable (d ∷ ds) reached line can = (
+    record {
+      reached = λ change made. reached d.path (subst (λ (j : DepKind). is_entered (d ∷ ds) j d.path ≡ true) change
+          (entered-here d ds)) made;
+      line = line.0;
+      can = can.0;
+    },
+    notable ds (λ q h made. reached q (entered-later d ds kinds.Change q h) made) line.1 can.1,
+  )
+
+  not_source : (p : Path) (file : File) → end p ≡ Some (outcomes.Built file) → r.is_source p ≡ false
+  not_source p file e = elim (cases_Bool (r.is_source p)) [
+    | inl source ↦ absurd (let bad : ◌≡◌ {A = Option Outcome} (Some outcomes.Source) (Some (outcomes.Built file)) =
+        sym (source-outcome tree limits is_tree limit p source) ∙ e in cc)
+    | inr made ↦ made
+  ]
+
+  -- no build comes to a .do file that isn't there
+  sane-at : (n : ℕ) (q : Path) → is_do_file q ≡ true → r.is_source q ≡ false → told (outcome_at r n q) ≡ None
+  sane-at zero q named made = ap told (outcome_at-zero r lawful q made)
+  sane-at (suc n) q named made =
+      ap told (outcome_at-step r lawful n q made)
+      ∙ elim (cases_Option (told (r.progress q (outcome_at r n)).outcome)) [
+        | inl none ↦ none
+        | inr some ↦
+            let good = trees-good tree limits in
+            absurd (both_ways _ (good.scripts q named) (good.ruled q (outcome_at r n) some.0 made some.1))
+      ]
+
+  built_eta : (x : Progress) (file : File) → x.outcome ≡ Some (outcomes.Built file) → x ≡ built file x.deps
+  built_eta x file e = ap (λ (o : Option Outcome). record { outcome = o; deps = x.deps }) e
+
+  -- a needed target that was built is the witness of what is noted of it
+  built-witness : (p : Path) (file : File) → IsAmong (needed_at r request limit) p →
+      end p ≡ Some (outcomes.Built file) →
+      IsWitness (skip.new_record s end p file (r.progress p end).deps) s end
+  built-witness p file m e =
+      let k : Checks = checks_of s no_run request in
+      let needed : List Path = needed_at r request limit in
+      let built_file : (cond (is_among needed p) (option_and_then skip.built_with (end p)) None) ≡ Some file =
+      ap (λ (v : Bool). cond v (option_and_then skip.built_with (end p)) None) (is_among-from needed p m)
+      ∙ ap (λ (o : Option Outcome). option_and_then skip.built_with o) e in
+      let noted : skip.new_book s no_run request limit p ≡
+      Some (skip.new_record s end p file (r.progress p end).deps) =
+      ap (λ (o : Option File). skip.record_with s no_run k limit p o) built_file in
+      elim (all-here s no_run request limit lawful (trees-good tree limits) is.within p
+      (skip.new_record s end p file (r.progress p end).deps) noted) [
+        | inl here ↦ here
+        | inr old ↦ absurd cc
+      ]
+
+  -- the record of a row
+  pub row-true : (row : Row) → Contains rows row → is_built row.outcome ≡ true →
+      IsWitness (past.new_record tree rows row) s end
+  row-true row listed was_built =
+      let p : Path = row.path in
+      let was = All-contains (λ row. (row.outcome ≡ final_outcome r limit row.path) ×
+      (arc_value row.deps ≡ deps_of r limit row.path)) rows row is.outcomes listed in
+      let came = built-at tree limits is_tree (end p) (ap is_built (sym was.0) ∙ was_built) in
+      let file : File = came.0 in
+      let made : r.is_source p ≡ false = not_source p file came.1 in
+      let m : IsAmong (needed_at r request limit) p = elim ((is.rows p).0
+      (All-contains (λ row. IsAmong (map (λ row. row.path) rows) row.path) rows row (listed-all rows) listed)) [
+        | inl among ↦ among
+        | inr source ↦ absurd (both_ways _ made source.1)
+      ] in
+      let ended = built-ended tree limits is_tree limit p file made came.1 in
+      let ds : List Dep = (r.progress p end).deps in
+      let same : arc_value row.deps ≡ ds = was.1 ∙ ap (λ (v : Bool). cond v [] ds) made in
+      let can = (trees-good tree limits).notable p end file ds (λ q named out. sane-at limit q named out)
+      (built_eta (r.progress p end) file ended) in
+      let reach : (q : Path) → is_entered ds kinds.Change q ≡ true → r.is_source q ≡ false →
+      IsAmong (needed_at r request limit) q = λ q h out.
+      (settled r lawful request limit is.within).closed limit p q m (entered_operand r.is_source ds q out h) in
+      let entries : past.noted tree rows (arc_value row.deps) ≡ skip.noted s end ds =
+      ap (λ (es : List Dep). past.noted tree rows es) same
+      ∙ all-noted ds (notable ds reach (lines tree limits is_tree rows p limit file ended) can) in
+      let made_file : file_in row.outcome ≡ file = ap file_in was.0 ∙ told-final (end p) file (ap told came.1) in
+      let new : past.new_record tree rows row ≡ skip.new_record s end p file ds =
+      records-same p (file_in row.outcome) file (past.noted tree rows (arc_value row.deps)) (skip.noted s end ds)
+      made_file entries in
+      subst (λ (x : Record). IsWitness x s end) (sym new) (built-witness p file m came.1)
+
+-- The whole book
+
+pub looked-up : (P : Record → Type 0) (book : List Record) → All P book → (p : Path) (r : Record) →
+    record_at book p ≡ Some r → P r
+looked-up P [] all p r e = absurd cc
+looked-up P (x ∷ xs) all p r e = elim (cases_Bool (bytes_eq x.target p)) [
+  | inl t ↦
+      let this : Some x ≡ Some r = rw t at e in
+      let same : x ≡ r = cc in
+      subst P same (All-head P x xs all)
+  | inr f ↦ looked-up P xs (All-tail P x xs all) p r (rw f at e)
+]
+
+pub book-true : (given : GivenView) (report : Report) (book : List Record) → IsTree given.past.sources →
+    IsReport (rules_for given) given.request given.limits.targets report →
+    IsNewBook given.past report.rows.items book → All (IsTrueOfTrees given.limits.file_bytes) given.past.book →
+    All (IsTrueOfTrees given.limits.file_bytes) book
+book-true given report book is_tree is new old =
+    All-weaker (Contains book) (IsTrueOfTrees given.limits.file_bytes)
+    (λ r at. elim ((new.records r).0 at) [
+      | inl here ↦
+          let witness = row-true given.past.sources given.limits is_tree given.request given.limits.targets report is
+          here.row here.listed here.built in
+          record {
+            tree = given.past.sources;
+            limits = given.limits;
+            same_limit = refl;
+            ask = outcome_at (rules_for given) given.limits.targets;
+            witness = subst (λ (x : Record). IsWitness x (sources_for given)
+                (outcome_at (rules_for given) given.limits.targets)) (sym here.is) witness;
+          }
+      | inr carried ↦ All-contains (IsTrueOfTrees given.limits.file_bytes) given.past.book r old carried.known
+    ]) book (All-contains_itself book)

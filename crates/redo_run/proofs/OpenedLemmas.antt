@@ -1,0 +1,45 @@
+-- What the board of a build that was opened says of the tree, the request and the limits.
+use Rattle.std.proofs.Common.{rules, ◌≡◌, ℕ, List, None, refl, sym, subst}
+use Rattle.std.specs.Prelude.{IsNone}
+use Rattle.redo_build.specs.Outcomes.{IsTooMany}
+use Rattle.redo_core.specs.Build.{GivenView}
+use Rattle.redo_core.specs.Results.{IsGiven, IsOpened, IsResult, IsResultOn, NeedsTooMany}
+use Rattle.redo_core.specs.Taken.{HasTaken}
+use Rattle.redo_core.specs.Views.{BoardView, limit_on, opened, request_on, rules_on}
+use Rattle.redo_core.specs.declared.board.Stop.{Stop}
+use Rattle.redo_core.specs.declared.board.Stop.TheVariants as stops
+use Rattle.redo_report.specs.declared.report.Report.{Report}
+use Rattle.redo_run.specs.RunFaults.{of_stop}
+use Rattle.redo_run.specs.declared.run_fault.RunFault.TheVariants.{Book, TooMany}
+use Rattle.redo_step.specs.Limits.{LimitsView}
+use Rattle.redo_tree.specs.Tree.{Tree}
+
+-- a board that has stopped is no fault of a book
+pub never_book : (stop : Stop) (n : ℕ) → Book n ≡ of_stop stop → ⊥
+never_book stops.TooMany n h = cc
+never_book stops.Memory n h = cc
+
+pub stopped_at_limit : (stop : Stop) → TooMany ≡ of_stop stop → stop ≡ stops.TooMany
+stopped_at_limit stops.TooMany h = refl
+stopped_at_limit stops.Memory h = cc
+
+-- a board that was just opened runs
+pub runs : (b : BoardView) → b ≡ opened b.given → IsNone b.stopped
+runs b is = let P : BoardView → Type 0 = λ v. IsNone v.stopped in subst P (sym is) (search rules)
+
+module _ (tree read : Tree) (same_tree : read ≡ tree) (request : List (List ℕ)) (limits : LimitsView) (first : BoardView)
+    (opened_so : IsOpened read request limits first) (b : BoardView) (same : b.given ≡ first.given) where
+  -- what the board is given is the tree, the request and the limits
+  pub given_to : IsGiven tree request limits b.given
+  given_to =
+      let P : Tree → Type 0 = λ t. IsGiven t request limits first.given in
+      let Q : GivenView → Type 0 = IsGiven tree request limits in
+      subst Q (sym same) (subst P same_tree opened_so.given)
+
+  -- too many targets of the board are too many of the tree
+  pub too_many_of : IsTooMany (rules_on b) (request_on b) (limit_on b) → NeedsTooMany tree request limits
+  too_many_of many = (b.given, given_to, many)
+
+  -- the board's report is the tree's
+  pub result_of : (result : Report) → IsResult b.given result → IsResultOn tree request limits result
+  result_of result is = (b.given, given_to, is)

@@ -1,0 +1,47 @@
+//! The board of a build with both ends of its relay, as a run begins and once it has ended.
+
+use crate::of_build::{Build, JobOf};
+use crate::owner::never;
+use crossbeam_channel::Sender;
+use redo_core::board::Board;
+use redo_sync::{JobSource, JobTaker};
+use std::marker::Model;
+use std::sync::Wait;
+
+/// The board of a build, with both ends of its relay. The last taker is the owner's own, the others are for workers.
+#[derive(Drop)]
+pub(crate) struct Desk<B: Build> {
+    pub board: Board,
+    pub source: JobSource<JobOf<B>>,
+    pub takers: Vec<JobTaker<JobOf<B>>>,
+}
+
+/// What a run has left once all workers are in.
+#[derive(Drop)]
+pub(crate) struct EndedDesk<B: Build> {
+    pub board: Board,
+    pub source: JobSource<JobOf<B>>,
+    pub takers: Vec<JobTaker<JobOf<B>>>,
+}
+
+impl<B: Build> Model for EndedDesk<B> {
+    ghost use Rattle.std.specs.Prelude.{List};
+    ghost use Rattle.redo_core.specs.Views.{BoardView};
+    ghost use Rattle.redo_sync.specs.Relay.{Source, Taker};
+
+    ghost Value = { BoardView × Source × List Taker };
+
+    ghost view = { λ d. (d.board, d.source, d.takers.items) };
+
+    ghost use Rattle.redo_run.specs.inside.Workers.{IsEnded};
+
+    ghost invariant = { λ d. IsEnded B.given d.board d.source d.takers.items };
+}
+
+/// Hands what a run has left out of the scope of its threads. The channel has room for it, and its receiver waits
+/// outside.
+pub(crate) fn hand_out<B: Build, R: Wait>(rt: &R, out: &Sender<EndedDesk<B>>, desk: EndedDesk<B>) {
+    if out.send(rt, desk).is_err() {
+        never(rt)
+    }
+}
