@@ -262,9 +262,12 @@ impl Board {
         requires { IsQuietBoard self }
         ensures { IfOk result (IsResult self.given) }
     {
-        let given = self.build.given();
-        let report = report_of(self.alloc, given.sources(), given.request(), &self.table)?;
-        given.past().with_book(self.alloc, report)
+        let alloc = self.alloc;
+        let given = self.build.share()?;
+        let report = report_of(alloc, given.sources(), given.request(), &self.table)?;
+        // The table makes room for the text of the book.
+        drop(self);
+        given.past().with_book(alloc, report)
     }
 
     /// Whether a piece is of the board's tree, request and limits, as `hand_in` asks. It compares by value, in the time
