@@ -14,6 +14,7 @@
 //!   workers look for a job; `of_build`: what they send each other; `gate`: who is told of each job; `picks`: a build
 //!   in an order that is given beforehand;
 //! - `run_fault`: why a build has no report; `exit`: whether all that was requested is there;
+//! - `laws`: what the definitions say, as contracts of functions that do nothing;
 //! - `bundle`: the two calls over bundles; `options` and `fault`: what they take and refuse; `directory` and
 //!   `dir_fault`: the same over a directory; `request` and `candidates`: what both share.
 #![tactic(auto)]
@@ -28,6 +29,7 @@ mod directory;
 mod exit;
 mod fault;
 mod gate;
+pub mod laws;
 mod lookers;
 mod of_build;
 mod one;
