@@ -3,11 +3,12 @@ use Rattle.std.proofs.Common.{◌≡◌, ℕ, zero, suc, ◌<◌, ◌≤◌, tru
 use Rattle.std.proofs.Common.{◌∙◌, inl, inr, Some, None, length, map, arith, slice_index_or}
 use Rattle.std.proofs.lemmas.Bool.{cases_lt}
 use Rattle.std.proofs.lemmas.Map.Text.{is_eq-slice_cmp}
+use Rattle.std.proofs.lemmas.Option.{slice_get-get_or, slice_get-map}
 use Rattle.std.specs.Cmp.Lexicographic.{nat_list_cmp_total, slice_cmp}
 use Rattle.std.specs.List.{AllByRecursion}
 use Rattle.std.specs.List.Sorted.{IsBinarySearchResult, IsNonDecreasingBy, IsStrictlySortedBy}
 use Rattle.std.specs.Ordering.{is_eq, nat_cmp, ordering_index, ordering_reverse}
-use Rattle.std.specs.Prelude.{Err}
+use Rattle.std.specs.Prelude.{Err, option_map, slice_get}
 use Rattle.std.specs.Str.{bytes_eq}
 use Rattle.std.specs.declared.cmp.Ordering.{Ordering}
 use Rattle.std.specs.declared.cmp.Ordering.TheVariants.{Less, Equal, Greater}
@@ -68,7 +69,7 @@ not_found rs t n h s =
     ])
 
 -- and where it finds one, the record there is that of the target
-pub was_found : (rs : List BookRecord) (t : List ℕ) (n : ℕ) (d : BookRecord) → IsStrictlySortedBy (slice_cmp nat_cmp) (targets_of (map record_of rs)) → order (slice_index_or rs n d).target t ≡ Equal → n < length rs → record_at (map record_of rs) t ≡ Some (record_of (slice_index_or rs n d))
+was_found : (rs : List BookRecord) (t : List ℕ) (n : ℕ) (d : BookRecord) → IsStrictlySortedBy (slice_cmp nat_cmp) (targets_of (map record_of rs)) → order (slice_index_or rs n d).target t ≡ Equal → n < length rs → record_at (map record_of rs) t ≡ Some (record_of (slice_index_or rs n d))
 unfolding IsStrictlySortedBy
 was_found [] t n d h e l = absurd (omega arith)
 was_found (r ∷ rs) t zero d h e l = let same : bytes_eq r.target t ≡ true = sym (is_eq-slice_cmp r.target t) ∙ ap is_eq e in rw same refl
@@ -77,3 +78,10 @@ was_found (r ∷ rs) t (suc n) d h e l =
     let same : it.target ≡ t = same_bytes it.target t (sym (is_eq-slice_cmp it.target t) ∙ ap is_eq e) in
     let less : order r.target t ≡ Less = subst (λ u. order r.target u ≡ Less) same (at_all r.target rs n d h.0 (omega arith)) in
     rw (other_less r.target t less) (was_found rs t n d h.1 e (omega arith))
+
+-- the same by its number
+pub at_place : (rs : List BookRecord) (t : List ℕ) (n : ℕ) → IsStrictlySortedBy (slice_cmp nat_cmp) (targets_of (map record_of rs)) → n < length rs → ((d : BookRecord) → order (slice_index_or rs n d).target t ≡ Equal) → slice_get (map record_of rs) n ≡ record_at (map record_of rs) t
+at_place [] t n h l e = absurd (omega arith)
+at_place (r ∷ rs) t n h l e =
+    slice_get-map record_of (r ∷ rs) n ∙ ap (option_map record_of) (slice_get-get_or (r ∷ rs) n r l) ∙
+    sym (was_found (r ∷ rs) t n r h (e r) l)

@@ -1,6 +1,7 @@
 //! Books and their records.
 
-ghost use Rattle.std.specs.Prelude.{◌≡◌, ◌++◌, ◌∷◌, [], OnErr, OnOk, length, map, option_copied, option_map};
+ghost use Rattle.std.specs.Prelude.{◌≡◌, ◌<◌, ◌++◌, ◌∷◌, [], IfSome, OnErr, OnOk, length, map, option_and_then};
+ghost use Rattle.std.specs.Prelude.{option_copied, option_map, slice_get};
 ghost use Rattle.std.specs.Cmp.Lexicographic.{slice_cmp};
 ghost use Rattle.std.specs.List.Sorted.{IsBinarySearchResult, IsSearchInRange};
 ghost use Rattle.std.specs.Ordering.{nat_cmp};
@@ -91,13 +92,24 @@ impl Book {
         Ok(())
     }
 
+    /// The number of a target's record in the order of their targets, from 0, if there is one.
+    pub fn number_of(&self, target: &Path) -> Option<usize>
+        ensures found { option_and_then (λ n. slice_get self.now n) result ≡ record_at self.now target.now }
+        ensures within { IfSome result (λ n. n < length self.now) }
+    {
+        match search(&self.records, target) {
+            Ok(at) => Some(at),
+            Err(_) => None,
+        }
+    }
+
     /// The record of a target, if there is one.
     pub fn find(&self, target: &Path) -> Option<&BookRecord>
         ensures { option_map record_of (option_copied result) ≡ record_at self.now target.now }
     {
-        match search(&self.records, target) {
-            Ok(at) => Some(&self.records[at]),
-            Err(_) => None,
+        match self.number_of(target) {
+            Some(at) => Some(&self.records[at]),
+            None => None,
         }
     }
 

@@ -215,6 +215,11 @@ fn a_record_is_found_by_its_target(rt: HostRuntime) -> Result<(), Fail> {
             found,
             "{word}"
         );
+        let number = book.number_of(&target);
+        assert_eq!(rt; number.is_some(), found.is_some(), "{word}");
+        for (at, record) in book.records().iter().enumerate() {
+            assert_eq!(rt; number == Some(at), record.target == target, "{word}");
+        }
     }
     Ok(())
 }

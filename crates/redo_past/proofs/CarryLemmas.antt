@@ -1,13 +1,17 @@
 -- Which records go over into the new book.
 use Rattle.std.proofs.Common.{◌≡◌, ◌&&◌, Bool, true, false, cond, not, ◌⊎◌, inl, inr, ℕ, List, [], ◌∷◌, Option, Some, None}
-use Rattle.std.proofs.Common.{filter, map, refl, sym, ap, subst, ◌∙◌}
+use Rattle.std.proofs.Common.{◌<◌, filter, length, slice_index_or, map, refl, sym, ap, subst, ◌∙◌}
+use Rattle.std.specs.Bool.{beq}
+use Rattle.std.proofs.lemmas.List.{length-map}
 use Rattle.std.proofs.lemmas.Bool.{cases_Bool}
+use Rattle.std.proofs.lemmas.Option.{slice_get-map, slice_get_read}
 use Rattle.std.proofs.lemmas.Slice.Eq.{bytes_eq-Decides}
 use Rattle.std.specs.Cmp.Lexicographic.{slice_cmp}
 use Rattle.std.specs.List.Sorted.{IsStrictlySortedBy}
 use Rattle.std.specs.Ordering.{nat_cmp}
 use Rattle.std.specs.declared.cmp.Ordering.TheVariants.{Less}
-use Rattle.std.specs.Prelude.{Contains, find, is_some, option_and_then}
+use Rattle.std.specs.Prelude.{Contains, find, if◌then◌else◌, is_some, option_and_then, option_map, slice_get}
+use Rattle.std.specs.Option.{option_eq}
 use Rattle.std.specs.Str.{bytes_eq}
 use Rattle.sha2.specs.Sha256.{sha256}
 use Rattle.redo_path.proofs.ApartLemmas.{apart}
@@ -16,10 +20,11 @@ use Rattle.redo_digest.specs.Digest.{State, state_of}
 use Rattle.redo_path.specs.Names.{parent_of}
 use Rattle.redo_tree.specs.Tree.{Directory as Is_directory, File, Tree, bytes_of, file_at, node_at}
 use Rattle.redo_which.specs.Rule.{chosen_of, found_of, is_rule}
-use Rattle.redo_book.specs.Book.{Record, targets_of}
+use Rattle.redo_book.specs.declared.book.BookRecord.{BookRecord}
+use Rattle.redo_book.specs.Book.{Record, record_at, record_of, targets_of}
 use Rattle.redo_report.specs.declared.report.Row.{Row}
 use Rattle.redo_past.specs.NewBook.{IsCarried, is_built, row_at}
-use Rattle.redo_past.specs.Past.{IsPast, PastView, has_digest, is_generated, set_aside}
+use Rattle.redo_past.specs.Past.{IsPast, PastView, has_digest, intact_record, is_generated, is_intact, set_aside}
 use Rattle.redo_tree.specs.Tree.{without}
 use Rattle.redo_which.specs.Candidates.{book_path}
 use Rattle.redo_past.specs.inside.Books.{carries, has_built, same_answer}
@@ -157,6 +162,15 @@ same-left None (Some digest) e = apart cc
 same-left (Some bytes) None e = apart cc
 same-left (Some bytes) (Some digest) e = refl
 
+-- so whether there is a file tells whether it stands so
+same-intact : (file : Option (List ℕ)) (state : State) → (has_digest file state ≡ true) ⊎ (file ≡ None) → same_answer (is_some state) (is_some file) ≡ option_eq bytes_eq (state_of file) state
+same-intact None state (inl made) = apart cc
+same-intact (Some bytes) None (inl made) = apart cc
+same-intact (Some bytes) (Some digest) (inl made) = sym made
+same-intact None None (inr none) = refl
+same-intact None (Some digest) (inr none) = refl
+same-intact (Some bytes) state (inr none) = apart cc
+
 -- which files the sources have
 abbrev pub Without : PastView → Type 0
 Without past =
@@ -183,6 +197,10 @@ module _ (past : PastView) (rows : List Row) (r : Record) where
         ]
       ]
 
+  -- whether the target of a record stands as the last run left it
+  pub told-intact : IsPast past → IsStrictlySortedBy (slice_cmp nat_cmp) (targets_of past.book) → Without past → ((tree : Tree) → is_rule (found_of tree book_path) ≡ false) → IsItem past.book r → is_rule (found_of past.sources r.target) ≡ true → same_answer (is_some r.state) (is_some (file_at past.tree r.target)) ≡ is_intact past r
+  told-intact is sorted law no-rule known rule = same-intact (file_at past.tree r.target) r.state (left-file is sorted law no-rule known rule)
+
   abbrev Sorted : Type 0
   Sorted = IsStrictlySortedBy (slice_cmp nat_cmp) (map (λ row. row.path) rows)
 
@@ -202,3 +220,37 @@ module _ (past : PastView) (rows : List Row) (r : Record) where
   carries-it ascending c =
       let unbuilt : has_built (row_at rows r.target) ≡ false = none-built rows ascending r.target (row_at rows r.target) refl c.unbuilt in
       rw (same-left (file_at past.tree r.target) r.state c.intact, unbuilt, c.rule) refl
+
+-- ---- the record of a target that stands as the last run left it
+
+if-so : (f : Record → Bool) (o : Option Record) (r : Record) → o ≡ Some r → f r ≡ true → option_and_then (λ q. if f q then Some q else None) o ≡ Some r
+if-so f o r is h = rw (is, h) refl
+
+if-not : (f : Record → Bool) (o : Option Record) (r : Record) → o ≡ Some r → f r ≡ false → option_and_then (λ q. if f q then Some q else None) o ≡ None
+if-not f o r is h = rw (is, h) refl
+
+module _ (past : PastView) (t : List ℕ) (is : IsPast past) (sorted : IsStrictlySortedBy (slice_cmp nat_cmp) (targets_of past.book)) (law : Without past) (rule : is_rule (found_of past.sources t) ≡ true) where
+  -- whether the record that was found is one
+  found-intact : (r : Record) → record_at past.book t ≡ Some r → same_answer (is_some r.state) (is_some (file_at past.tree t)) ≡ is_intact past r
+  found-intact r at =
+      let found = found-item (λ (q : Record). q.target) past.book t r at in
+      subst (λ p. same_answer (is_some r.state) (is_some (file_at past.tree p)) ≡ is_intact past r) found.1
+      (told-intact past [] r is sorted law no-rule found.0 (subst (λ p. is_rule (found_of past.sources p) ≡ true) (sym found.1) rule))
+
+  pub is-found : (r : Record) → record_at past.book t ≡ Some r → same_answer (is_some r.state) (is_some (file_at past.tree t)) ≡ true → intact_record past t ≡ Some r
+  is-found r at h = if-so (is_intact past) (record_at past.book t) r at (sym (found-intact r at) ∙ h)
+
+  pub none-found : (r : Record) → record_at past.book t ≡ Some r → same_answer (is_some r.state) (is_some (file_at past.tree t)) ≡ false → intact_record past t ≡ None
+  none-found r at h = if-not (is_intact past) (record_at past.book t) r at (sym (found-intact r at) ∙ h)
+
+-- a record that was read at its number
+pub was-read : (rs : List BookRecord) (book : List Record) (n : ℕ) (x : BookRecord) → map record_of rs ≡ book → n < length book → x ≡ slice_index_or rs n x → slice_get book n ≡ Some (record_of x)
+was-read rs book n x same within is =
+    let inside : n < length rs = subst (λ k. n < k) (ap length (sym same) ∙ length-map rs record_of) within in
+    ap (λ b. slice_get b n) (sym same) ∙ slice_get-map record_of rs n ∙ ap (option_map record_of) (slice_get_read rs (length rs) n x refl inside is)
+
+pub same-beq : (a b c d : Bool) → a ≡ c → b ≡ d → same_answer a b ≡ beq c d
+same-beq true true c d e f = rw (sym e, sym f) refl
+same-beq true false c d e f = rw (sym e, sym f) refl
+same-beq false true c d e f = rw (sym e, sym f) refl
+same-beq false false c d e f = rw (sym e, sym f) refl

@@ -25,6 +25,7 @@ mod states;
 
 pub use faults::PastFault;
 pub use past::Past;
+pub use states::has_state;
 
 #[cfg(test)]
 mod tests;

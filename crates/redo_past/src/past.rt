@@ -1,12 +1,14 @@
 //! The tree that was read, the sources in it, and the book of the last run.
 
-ghost use Rattle.std.specs.Prelude.{◌≡◌, ◌∷◌, [], Some, None, IfErr, IfOk, MatchOption, map};
+ghost use Rattle.std.specs.Prelude.{◌≡◌, ◌<◌, ◌∷◌, [], true, Some, None, IfErr, IfOk, IfSome, MatchOption, length, map};
+ghost use Rattle.std.specs.Prelude.{option_and_then, slice_get};
+ghost use Rattle.redo_which.specs.Rule.{found_of, is_rule};
 ghost use Rattle.redo_report.specs.Reports.{AreAscending, row_paths};
 ghost use Rattle.redo_past.specs.NewBook.{IsNewText, IsResultOf};
 ghost use Rattle.std.specs.Arc.{arc_value};
 ghost use Rattle.redo_tree.specs.Tree.{file_at};
 ghost use Rattle.redo_book.specs.Book.{record_of, IsText};
-ghost use Rattle.redo_past.specs.Past.{HasNoPast, IsPast, RefusesBook, is_generated as was_generated};
+ghost use Rattle.redo_past.specs.Past.{HasNoPast, IsPast, RefusesBook, intact_record, is_generated as was_generated};
 ghost use Rattle.redo_past.specs.Past.{set_aside as aside_of};
 ghost use Rattle.redo_tree.specs.Tree.{without};
 ghost use Rattle.redo_which.specs.Candidates.{book_path as path_of_book};
@@ -148,6 +150,24 @@ impl Past {
         ensures past { IsPast self.now }
     {
         &self.book
+    }
+
+    /// The number of the record of a target that stands as the last run left it, if there is one. A target with a rule
+    /// is no source, so its file, where there is one, is the one that the record speaks of; it isn't digested again.
+    pub fn intact(&self, target: &Path) -> Option<usize>
+        requires rule { is_rule (found_of self.now.sources target.now) ≡ true }
+        ensures found { option_and_then (λ n. slice_get self.now.book n) result ≡ intact_record self.now target.now }
+        ensures within { IfSome result (λ n. n < length self.now.book) }
+    {
+        self.tree().is_tree();
+        no_other_file_is_taken_out();
+        let number = self.book.number_of(target)?;
+        let state = &self.book.records()[number].state;
+        if state.is_some() == self.tree.file(target).is_some() {
+            Some(number)
+        } else {
+            None
+        }
     }
 
     /// The text of the book that a run leaves, by the rows of its report. It has a record for each target that was

@@ -3,7 +3,8 @@
 ghost use Rattle.std.specs.Prelude.{◌≡◌, IsTrue, map};
 ghost use Rattle.redo_report.specs.Reports.{AreAscending};
 
-use crate::{Past, PastFault};
+use crate::{Past, PastFault, has_state};
+use redo_digest::Digest;
 use redo_path::{Path, resolve};
 use redo_record::{Dep, DepKind, Deps, Outcome, Record, Why};
 use redo_report::{Report, Row};
@@ -173,6 +174,88 @@ fn the_book_and_generated_files_are_no_sources(rt: HostRuntime) -> Result<(), Fa
             files.len().checked_add(1),
             "{rule}"
         );
+    }
+    Ok(())
+}
+
+/// A rule, the files of a tree, and whether the target a stands as the last run left it.
+const INTACT: [(&str, &[(&str, &str)], bool); 7] = [
+    (
+        "its file is as it was",
+        &[
+            ("a", "abc"),
+            ("a.do", "#"),
+            (".redo-book", "target ABC a\nend\n"),
+        ],
+        true,
+    ),
+    (
+        "one without bytes too",
+        &[
+            ("a", ""),
+            ("a.do", "#"),
+            (".redo-book", "target NOTHING a\nend\n"),
+        ],
+        true,
+    ),
+    (
+        "it made none and has none",
+        &[("a.do", "#"), (".redo-book", "target none a\nend\n")],
+        true,
+    ),
+    (
+        "its file is gone",
+        &[("a.do", "#"), (".redo-book", "target ABC a\nend\n")],
+        false,
+    ),
+    (
+        "its file was changed by hand",
+        &[
+            ("a", "abd"),
+            ("a.do", "#"),
+            (".redo-book", "target ABC a\nend\n"),
+        ],
+        false,
+    ),
+    (
+        "the book has no record of it",
+        &[("a.do", "#"), (".redo-book", "target none b\nend\n")],
+        false,
+    ),
+    ("there is no book", &[("a.do", "#")], false),
+];
+
+#[test]
+fn a_target_stands_where_its_file_is_as_it_was(rt: HostRuntime) -> Result<(), Fail> {
+    let alloc = rt.alloc();
+    let target = path(alloc, "a")?;
+    for (rule, files, meant) in INTACT {
+        let past = Past::open(alloc, tree(alloc, files)?)?;
+        let number = match lookup::find(alloc, past.sources(), &target)? {
+            Found::Rule(_) => past.intact(&target),
+            _ => None,
+        };
+        assert_eq!(rt; number, if meant { Some(0) } else { None }, "{rule}");
+    }
+    Ok(())
+}
+
+#[test]
+fn a_state_is_compared_with_what_stands_there(rt: HostRuntime) -> Result<(), Fail> {
+    let alloc = rt.alloc();
+    let mut bytes = Vec::new(alloc);
+    bytes.extend_from_slice(b"abc")?;
+    let content = Content::new(bytes)?;
+    let same = Some(Digest::of(b"abc"));
+    let other = Some(Digest::of(b""));
+    for (content, state, meant) in [
+        (Some(&content), same, true),
+        (Some(&content), other, false),
+        (Some(&content), None, false),
+        (None, same, false),
+        (None, None, true),
+    ] {
+        assert_eq!(rt; has_state(content, &state), meant);
     }
     Ok(())
 }

@@ -98,6 +98,18 @@ impl Record {
         })
     }
 
+    /// The record with these entries, which are taken over. It keeps each of them, also those of a search.
+    pub fn of_entries(entries: Deps) -> Record
+        ensures { result ≡ entries }
+    {
+        entries.each_once();
+        Record {
+            missing: Missing::none(),
+            do_file: None,
+            own: entries,
+        }
+    }
+
     /// What it is made of.
     pub fn parts(&self) -> Parts<'_>
         ensures { self.now ≡ entries_of result.missing.now (option_copied result.do_file) result.own.now }
