@@ -1,13 +1,13 @@
 -- A work that is advanced comes to what its piece says.
-use Rattle.std.proofs.Common.{◌≡◌, ℕ, suc, ◌+◌, ◌<◌, ◌≤◌, ◌↔◌, List, [], ◌∷◌, filter, Option, Some, None, inl, inr}
-use Rattle.std.proofs.Common.{true, false, refl, sym, ap, subst, ◌∙◌, arith, length, slice_get, Global}
+use Rattle.std.proofs.Common.{◌≡◌, ℕ, ◌+◌, ◌<◌, ◌↔◌, List, [], ◌∷◌, filter, Option, Some, None, inl, inr}
+use Rattle.std.proofs.Common.{Bool, true, refl, sym, ap, subst, ◌∙◌, arith, length, slice_get, Global}
 use Rattle.std.specs.Prelude.{is_none, Box}
-use Rattle.std.proofs.lemmas.Bool.{cases_Bool}
+use Rattle.std.proofs.lemmas.Bool.{and_from, cases_Bool}
 use Rattle.redo_record.specs.declared.deps.Dep.{Dep}
 use Rattle.redo_record.specs.declared.outcome.Outcome.{Outcome}
 use Rattle.redo_step.specs.declared.job.Done.{Done}
 use Rattle.redo_record.specs.Progress.{Progress}
-use Rattle.redo_step.specs.Setting.{Setting}
+use Rattle.redo_step.specs.Setting.{Setting, is_rule}
 use Rattle.redo_step.specs.Reach.{Keeps}
 use Rattle.redo_step.specs.JobView.{JobView, job_setting, progress_of, record_so_far, IsFit}
 use Rattle.redo_step.specs.Job.{AsksFor, EndsAs, with_rest}
@@ -16,8 +16,9 @@ use Rattle.redo_build.specs.Rules.{Ask, Rules, AreLawful, asked_under, operands}
 use Rattle.redo_build.specs.Outcomes.{outcome_at}
 use Rattle.redo_build.specs.Schedule.{only}
 use Rattle.redo_core.specs.Build.{GivenView, rules_for}
-use Rattle.redo_build.specs.inside.Turns.{IsFact, IsPiece, progress_at_turn}
-use Rattle.redo_core.specs.inside.Works.{IsWorkWith, IsJobOf, IsStopped, AreKnownBelow, job_deps, told_in}
+use Rattle.redo_build.specs.inside.Turns.{IsPiece, progress_at_turn}
+use Rattle.redo_core.specs.inside.Works.{IsWorkWith, IsJobOf, IsStopped, AreKnownBelow, all_asked, job_deps, told_in}
+use Rattle.redo_core.specs.inside.Decided.{IsDecided}
 use Rattle.redo_build.specs.Lacking.{lacking_under}
 use Rattle.redo_core.specs.inside.Ends.{IsEndAt, end_progress}
 use Rattle.redo_core.specs.Views.{FactView}
@@ -26,24 +27,24 @@ use Rattle.redo_core.specs.declared.work.End.TheVariants.{Ended, Stopped}
 use Rattle.redo_core.specs.declared.work.Begun.{Begun}
 use Rattle.redo_core.specs.declared.facts.Facts.{Facts}
 use Rattle.redo_build.proofs.DepthLemmas.{cases_Option}
-use Rattle.redo_build.proofs.HandoverLemmas.{piece-fact}
-use Rattle.redo_core.proofs.JobLemmas.{job_progress}
+use Rattle.redo_build.proofs.HandoverLemmas.{piece-begun, piece-fact}
+use Rattle.redo_core.proofs.AllAskedLemmas.{asked-first, asked-second}
+use Rattle.redo_core.proofs.JobLemmas.{entry-operand, job_progress}
 use Rattle.redo_core.proofs.LawfulTreeLemmas.{lawful_for}
-use Rattle.redo_record.specs.Entries.{IsBeginning}
+use Rattle.redo_record.specs.Entries.{IsBeginning, with_all}
 use Rattle.redo_core.proofs.PrefixLemmas.{asks-begins, beginning-get, beginning-length, keeps-itself}
-use Rattle.redo_build.proofs.TurnLemmas.{only-among}
-use Rattle.redo_core.proofs.TableSteps.{entry-operand}
+use Rattle.redo_build.proofs.TurnLemmas.{only-among, only-some}
 
 -- What lacks
 
-none_passes : (f : List ℕ → Rattle.std.proofs.Common.Bool) (ps : List (List ℕ)) → ((q : List ℕ) → IsAmong ps q → f q ≡ true → ⊥) → filter f ps ≡ []
+none_passes : (f : List ℕ → Bool) (ps : List (List ℕ)) → ((q : List ℕ) → IsAmong ps q → f q ≡ true → ⊥) → filter f ps ≡ []
 none_passes f [] h = refl
 none_passes f (p ∷ ps) h = elim (cases_Bool (f p)) [
   | inl t ↦ absurd (h p (inl refl) t)
   | inr not_it ↦ rw not_it (none_passes f ps (λ q m t. h q (inr m) t))
 ]
 
-one_passes : (f : List ℕ → Rattle.std.proofs.Common.Bool) (ps : List (List ℕ)) (q : List ℕ) → IsAmong ps q → f q ≡ true → filter f ps ≡ [] → ⊥
+one_passes : (f : List ℕ → Bool) (ps : List (List ℕ)) (q : List ℕ) → IsAmong ps q → f q ≡ true → filter f ps ≡ [] → ⊥
 one_passes f [] q m t e = m
 one_passes f (p ∷ ps) q m t e = elim (cases_Bool (f p)) [
   | inl passes ↦ let now = rw passes at e in cc
@@ -69,9 +70,18 @@ ended-lacks r lawful p ask = (
       one_passes (λ q. is_none (ask q)) (asked_under r p ask) found.0 found.1 (rw found.2 refl) nothing,
 )
 
+-- how far a target comes as its script does, which is begun behind a check that asked for these
+abbrev pub behind_asked : List Dep → Progress → Progress
+behind_asked asked now = record { outcome = now.outcome; deps = with_all asked now.deps }
+
 module _ (given : GivenView) (job : JobView) (facts : Facts) (work : IsWorkWith given job facts) where
   abbrev r : Rules
   r = rules_for given
+
+  -- it has all that its target asked for
+  has-all : (q : List ℕ) → IsAmong (operands (rules_for given) (all_asked job facts)) q → told_in facts q ≡ None → ⊥
+  has-all q asked none =
+      work.is_work.fed q asked (sym (only-among (operands r (all_asked job facts)) (outcome_at r work.is_work.depth) q asked) ∙ sym (work.exact q) ∙ none)
 
   -- it can go on
   pub work-fits : IsFit job (told_in facts)
@@ -80,14 +90,16 @@ module _ (given : GivenView) (job : JobView) (facts : Facts) (work : IsWorkWith 
   -- how far the target comes with what the work holds is how far it comes at its turn
   at-turn : (rules_for given).progress job.target (told_in facts) ≡ progress_at_turn (rules_for given) job.target (outcome_at (rules_for given) work.is_work.depth) (work.is_work.looks + job.turn)
   at-turn =
-      ((lawful_for given).each job.target).local (told_in facts) (only (operands r (job_deps job)) (outcome_at r work.is_work.depth)) (λ q m. work.exact q) ∙
+      ((lawful_for given).each job.target).local (told_in facts) (only (operands r (all_asked job facts)) (outcome_at r work.is_work.depth)) (λ q m. work.exact q) ∙
       ap (λ (ds : List Dep). r.progress job.target (only (operands r ds) (outcome_at r work.is_work.depth))) work.is_work.is
 
-  pub work-progress : (now : Progress) → progress_of job (told_in facts) ≡ now → now ≡ (rules_for given).progress job.target (told_in facts)
-  work-progress now e = sym e ∙ job_progress given job work.is_job (told_in facts)
+  -- it comes as far as its script does, and asked for what its check asked for first
+  pub work-progress : (now : Progress) → progress_of job (told_in facts) ≡ now → behind_asked facts.asked now ≡ (rules_for given).progress job.target (told_in facts)
+  work-progress now e =
+      ap (behind_asked facts.asked) (sym e ∙ job_progress given job work.is_job (told_in facts)) ∙ sym (work.behind.progress (told_in facts) (λ q m. refl))
 
   -- what it comes to is a piece
-  unfoldable pub advanced-piece : (now : Progress) → progress_of job (told_in facts) ≡ now → IsPiece (rules_for given) job.target job.turn now
+  unfoldable pub advanced-piece : (now : Progress) → progress_of job (told_in facts) ≡ now → IsPiece (rules_for given) job.target job.turn (behind_asked facts.asked now)
   unfolding at-turn
   advanced-piece now e =
       let Q : List Dep → Type 0 = λ ds. (q : List ℕ) → IsAmong (operands r ds) q → outcome_at r work.is_work.depth q ≡ None → ⊥ in
@@ -100,17 +112,69 @@ module _ (given : GivenView) (job : JobView) (facts : Facts) (work : IsWorkWith 
         is = work-progress now e ∙ at-turn;
       }
 
-  -- a script that ended gives a fact
-  pub advanced-fact : (done : Done) → EndsAs (told_in facts) job done → IsFact (rules_for given) job.target done.outcome done.deps done.deps true
-  advanced-fact done ends =
-      let piece = advanced-piece (record { outcome = Some done.outcome; deps = done.deps }) ends in
-      let fact = piece-fact r (lawful_for given) job.target job.turn done.deps done.outcome piece in
-      record {
-        depth = fact.depth;
-        is = fact.is;
-        recorded = ap (λ (x : Progress). x.deps) (sym fact.is);
-        begun = rw work.is_job.found refl;
-      }
+  module _ (done : Done) (ends : EndsAs (told_in facts) job done) where
+    abbrev own : Progress
+    own = record { outcome = Some done.outcome; deps = done.deps }
+
+    -- a script that ended asked for nothing that the build doesn't tell alike
+    alike : (q : List ℕ) → IsAmong (asked_under (rules_for given) job.target (told_in facts)) q →
+        told_in facts q ≡ outcome_at (rules_for given) work.is_work.depth q
+    alike q m = elim (cases_Option (told_in facts q)) [
+      | inl none ↦
+          let ended : (r.progress job.target (told_in facts)).outcome ≡ Some done.outcome =
+          ap (λ (x : Progress). x.outcome) (sym (work-progress own ends)) in
+          absurd (((lawful_for given).each job.target).answered q (told_in facts) done.outcome ended m none)
+      | inr some ↦ some.1 ∙ sym (only-some (operands r (all_asked job facts)) (outcome_at r work.is_work.depth) q some.0 (sym (work.exact q) ∙ some.1))
+    ]
+
+    -- its record is what the script declared
+    shown : (rules_for given).recorded job.target (outcome_at (rules_for given) work.is_work.depth) ≡ done.deps
+    shown =
+        sym ((lawful_for given).recorded_local job.target (told_in facts) (outcome_at r work.is_work.depth) alike) ∙
+        work.behind.recorded (told_in facts) (λ q m. refl) ∙
+        ap (λ (x : Progress). x.deps) (sym (job_progress given job work.is_job (told_in facts)) ∙ ends)
+
+    -- a script that ended gives a fact
+    pub advanced-fact : IsDecided given job.target done.outcome done.deps true
+    unfolding advanced-piece
+    advanced-fact =
+        let piece = advanced-piece own ends in
+        let fact = piece-fact r (lawful_for given) job.target job.turn (with_all facts.asked done.deps) done.outcome piece in
+        let ruled : r.has_rule job.target ≡ true = ap is_rule work.is_job.found in (
+          with_all facts.asked done.deps,
+          record {
+            depth = fact.depth;
+            is = fact.is;
+            recorded = sym shown ∙ fact.recorded;
+            begun = sym (and_from (r.has_rule job.target) (r.begins job.target (outcome_at r piece.depth)) ruled
+                (piece-begun r (lawful_for given) job.target job.turn (behind_asked facts.asked own) piece)) ∙ fact.begun;
+          },
+        )
+
+    -- the same, of a fact that is still to be made
+    pub fact-parts : (other : GivenView) (path : List ℕ) (deps : List Dep) → other ≡ given → path ≡ job.target → deps ≡ done.deps →
+        IsDecided other path done.outcome deps true
+    fact-parts other path deps of_given of_target of_deps =
+        let P : GivenView → Type 0 = λ x. IsDecided x path done.outcome deps true in
+        let Q : List ℕ → Type 0 = λ x. IsDecided given x done.outcome deps true in
+        let R : List Dep → Type 0 = λ x. IsDecided given job.target done.outcome x true in
+        subst P (sym of_given) (subst Q (sym of_target) (subst R (sym of_deps) advanced-fact))
+
+    module _ (fact : FactView) (asked : List Dep) (outcome : fact.outcome ≡ done.outcome) (deps : fact.deps ≡ done.deps) (first : asked ≡ facts.asked) where
+      -- a fact of what it came to is the end of a piece that ended
+      pub ended-end : fact.given ≡ given → fact.target ≡ job.target → IsEndAt given job.target job.turn (Ended fact asked)
+      ended-end of_given of_target =
+          let P : List Dep → Type 0 = λ ds. IsEndAt given job.target job.turn (Ended fact ds) in
+          subst P (sym first) (record {
+            is_piece = advanced-piece (record { outcome = Some fact.outcome; deps = fact.deps }) (ends ∙ rw (outcome, deps) refl);
+            is_end = (of_given, of_target);
+          })
+
+      -- what an end says is how far the target comes with what the work holds
+      pub ended-progress : end_progress (Ended fact asked) ≡ (rules_for given).progress job.target (told_in facts)
+      ended-progress =
+          ap (λ ds. end_progress (Ended fact ds)) first ∙
+          work-progress (record { outcome = Some fact.outcome; deps = fact.deps }) (ends ∙ rw (outcome, deps) refl)
 
   module _ (later : JobView) (paths : List (List ℕ)) (asks : AsksFor (told_in facts) job later paths) where
     still_job : IsJobOf given later
@@ -134,8 +198,8 @@ module _ (given : GivenView) (job : JobView) (facts : Facts) (work : IsWorkWith 
     still_known k d q below get is none =
         let within : k < length job.state.entries = omega (arith, below, work.gained) in
         let before : slice_get job.state.entries k ≡ Some d = sym (beginning-get job.state.entries later.state.entries begins k within) ∙ get in
-        let asked = work.declared q (entry-operand r job.state.entries k d q before is) in
-        work.is_work.fed q asked (sym (only-among (operands r (job_deps job)) (outcome_at r work.is_work.depth) q asked) ∙ sym (work.exact q) ∙ none)
+        let asked = asked-second r facts.asked (job_deps job) q (work.declared q (entry-operand r job.state.entries k d q before is)) in
+        has-all q asked none
 
     -- a script that asks for more is at its next turn
     pub advanced-stopped : IsStopped given work.is_work.depth work.is_work.looks job.target job.turn later facts
@@ -146,9 +210,12 @@ module _ (given : GivenView) (job : JobView) (facts : Facts) (work : IsWorkWith 
           of_target = ap (λ (j : JobView). j.target) asks.same;
           at_turn = ap (λ (j : JobView). j.turn) asks.same;
           exact = subst deps work.is_work.is work.exact;
+          behind = work.behind;
+          checked = λ q m none. has-all q (asked-first r facts.asked (job_deps job) q m) none;
           goes_on = λ ask keeps. asks.fits ask (subst (λ (x : Setting). Keeps x later.state.entries (told_in facts) ask) still_set keeps);
           within = omega (arith, work.gained, beginning-length job.state.entries later.state.entries begins);
           gained = still_known;
+          own = sym (job_progress given job work.is_job (told_in facts)) ∙ asks.progress;
         }
 
     -- it is the end of a piece that stopped
@@ -162,30 +229,6 @@ module _ (given : GivenView) (job : JobView) (facts : Facts) (work : IsWorkWith 
 
     pub asks-progress : (begun : Box Begun Global) → begun.value ≡ record { job = later; facts = facts } → end_progress (Stopped begun) ≡ (rules_for given).progress job.target (told_in facts)
     asks-progress begun is = rw is (work-progress (record { outcome = None; deps = record_so_far later }) asks.progress)
-
-  -- a fact of what it came to is the end of a piece that ended
-  pub ended-end : (done : Done) → EndsAs (told_in facts) job done → (fact : FactView) → fact.given ≡ given →
-      fact.target ≡ job.target → fact.outcome ≡ done.outcome → fact.deps ≡ done.deps →
-      IsEndAt given job.target job.turn (Ended fact)
-  ended-end done ends fact of_given of_target outcome deps = record {
-    is_piece = advanced-piece (record { outcome = Some fact.outcome; deps = fact.deps }) (ends ∙ rw (outcome, deps) refl);
-    is_end = (of_given, of_target);
-  }
-
-  -- what an end says is how far the target comes with what the work holds
-  pub ended-progress : (done : Done) → EndsAs (told_in facts) job done → (fact : FactView) → fact.outcome ≡ done.outcome →
-      fact.deps ≡ done.deps → end_progress (Ended fact) ≡ (rules_for given).progress job.target (told_in facts)
-  ended-progress done ends fact outcome deps =
-      work-progress (record { outcome = Some fact.outcome; deps = fact.deps }) (ends ∙ rw (outcome, deps) refl)
-
-  -- the same, of a fact that is still to be made
-  pub fact-parts : (done : Done) → EndsAs (told_in facts) job done → (own : GivenView) (path : List ℕ) (deps : List Dep) → own ≡ given → path ≡ job.target → deps ≡ done.deps →
-      IsFact (rules_for own) path done.outcome deps deps true
-  fact-parts done ends own path deps of_given of_target of_deps =
-      let P : GivenView → Type 0 = λ x. IsFact (rules_for x) path done.outcome deps deps true in
-      let Q : List ℕ → Type 0 = λ x. IsFact (rules_for given) x done.outcome deps deps true in
-      let R : List Dep → Type 0 = λ x. IsFact (rules_for given) job.target done.outcome x x true in
-      subst P (sym of_given) (subst Q (sym of_target) (subst R (sym of_deps) (advanced-fact done ends)))
 
   -- what the piece says has an outcome exactly where the work lacks nothing
   pub end-lacks : (end : End) → end_progress end ≡ (rules_for given).progress job.target (told_in facts) →

@@ -34,7 +34,7 @@ use Rattle.redo_skip.specs.Checks.{built, is_asked, told}
 use Rattle.redo_skip.specs.Sources.{File, Sources, without_book}
 use Rattle.redo_skip.specs.Truth.{Agrees, AllAgree, IsAlike}
 use Rattle.redo_core.specs.Build.{IsFit, progress_by, world_of}
-use Rattle.redo_core.specs.TreeSources.{is_free, sources_of}
+use Rattle.redo_core.specs.Build.{is_free, sources_of}
 use Rattle.redo_core.proofs.LawfulTreeLemmas.{fit_found}
 
 -- Entries

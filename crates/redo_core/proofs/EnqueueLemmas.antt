@@ -1,6 +1,6 @@
 -- The newly ready numbers go into the queue, and the table shows what the schedule enqueues.
 use Rattle.std.proofs.Common.{map, slice_get, take, drop, ◌-◌, ◌≤◌, ◌≡◌, ℕ, zero, suc, ◌+◌, ◌<◌, List, [], ◌∷◌, ◌++◌}
-use Rattle.std.proofs.Common.{append-nil, length, filter, Option, Some, None, inl, inr, ◌⊎◌, refl, sym, ap, subst, ◌∙◌}
+use Rattle.std.proofs.Common.{append-nil, length, inl, inr, ◌⊎◌, refl, sym, ap, subst, ◌∙◌}
 use Rattle.std.proofs.Common.{arith}
 use Rattle.std.proofs.lemmas.List.{map-append}
 use Rattle.redo_record.specs.Paths.{AreDistinct}
@@ -10,17 +10,13 @@ use Rattle.redo_core.specs.Build.{GivenView, rules_for}
 use Rattle.redo_build.specs.Schedule.{Entry, State, enqueued}
 use Rattle.redo_build.specs.inside.Standing.{AreStanding}
 use Rattle.redo_record.specs.declared.deps.Dep.{Dep}
-use Rattle.redo_core.specs.declared.work.End.{End}
-use Rattle.redo_core.proofs.TakeInLemmas.{after-sound, after-state, after-entries, moved}
 use Rattle.redo_core.proofs.SlotLemmas.{slice_get-from, paths_of-slots}
-use Rattle.redo_core.specs.inside.Slots.{MayTakeIn, IsPutBackThere, IsTakenIn, IsLookedAt, AreLookedAt, table_entries}
+use Rattle.redo_core.specs.inside.Slots.{IsPutBackThere, IsTakenIn, IsLookedAt, AreLookedAt, table_entries}
 use Rattle.redo_core.specs.inside.Slots.{table_state, path_at, IsPlace, IsQueue, IsTable, IsTableOf, AllWatched}
 use Rattle.redo_core.specs.inside.Slots.{AreEnqueued}
 use Rattle.redo_core.specs.declared.table.Slot.{Slot}
 use Rattle.redo_core.specs.declared.table.Table.{Table}
 use Rattle.redo_core.proofs.TableLemmas.{place-append, place-left, place-right}
-use Rattle.redo_build.proofs.LookingLemmas.{enqueued-able}
-use Rattle.redo_core.proofs.LawfulTreeLemmas.{keeps_nothing}
 use Rattle.redo_core.proofs.NewlyReadyLemmas.{newly_ready-paths}
 use Rattle.redo_core.proofs.SortingLemmas.{sorted-ascend, shuffled-to, shuffled-from, shuffled-once}
 
@@ -54,7 +50,7 @@ module _ (given : GivenView) (request : List (List ℕ)) (t u : Table) (newly_re
 
   pub enqueued-table : IsTableOf given u []
   enqueued-table =
-      let raw : IsTable r given t.targets t.slots.items (t.ready.items ++ w.sorted) t.out [] = record {
+      let raw : IsTable r given t.targets t.slots.items (t.ready.items ++ w.sorted) t.due.keys t.out [] = record {
         one_each = table.one_each;
         within_limit = table.within_limit;
         few = table.few;
@@ -62,9 +58,10 @@ module _ (given : GivenView) (request : List (List ℕ)) (t u : Table) (newly_re
         fits = table.fits;
         numbered = table.numbered;
         queue = queue-enqueued t.slots.items t.ready.items newly_ready w.sorted (shuffled-to newly_ready w.sorted w.shuffled) (shuffled-from newly_ready w.sorted w.shuffled) table.queue;
+        due_listed = table.due_listed;
         watchers_below = table.watchers_below;
       } in
-      rw (w.rest.0, w.rest.1, w.rest.2, w.queue) raw
+      rw (w.rest.0, w.rest.1, w.rest.2, w.rest.3, w.queue) raw
 
   pub enqueued-watched : AllWatched (rules_for given) given.limits.targets u.targets u.slots.items []
   enqueued-watched = rw (w.rest.0, w.rest.1) watched
@@ -76,7 +73,6 @@ module _ (given : GivenView) (request : List (List ℕ)) (t u : Table) (newly_re
       let S : List (List ℕ) → State = λ qs. record { entries = table_entries r given.limits.targets t; ready = qs } in
       let first : table_state r given.limits.targets u ≡ S (map (path_at t.targets) (t.ready.items ++ w.sorted)) = rw (w.rest.0, w.rest.1, w.queue) refl in
       first ∙ ap S (map-append (path_at t.targets) t.ready.items w.sorted ∙ ap (λ qs. map (path_at t.targets) t.ready.items ++ qs) (sym paths))
-      ∙ sym (enqueued-able r (keeps_nothing given) (table_state r given.limits.targets t))
 
 take-whole : (xs : List Dep) (n : ℕ) → length xs ≤ n → take n xs ≡ xs
 take-whole [] zero h = refl
@@ -95,9 +91,9 @@ map-same f g (x ∷ xs) h =
     ap (λ y. y ∷ map f xs) (h x (inl refl)) ∙ ap (λ ys. g x ∷ ys) rest
 
 -- the numbers left are looked at
-pub looked-put : (given : GivenView) (t u v : Table) (at : ℕ) (newly_ready newly_ready' pending : List ℕ) →
-    IsPutBackThere given t u at newly_ready pending → IsTableOf given v newly_ready' → AreLookedAt given u v pending → IsPutBackThere given t v at newly_ready' []
-looked-put given t u v at newly_ready newly_ready' pending put table looked =
+pub looked-put : (given : GivenView) (after : State) (t u v : Table) (newly_ready newly_ready' pending : List ℕ) →
+    IsPutBackThere given after t u newly_ready pending → IsTableOf given v newly_ready' → AreLookedAt given u v pending → IsPutBackThere given after t v newly_ready' []
+looked-put given after t u v newly_ready newly_ready' pending put table looked =
     let P : List ℕ → Type 0 = λ xs. AllWatched (rules_for given) given.limits.targets u.targets u.slots.items xs in
     record {
       table = table;
@@ -112,23 +108,25 @@ looked-put given t u v at newly_ready newly_ready' pending put table looked =
 pub looked-one : (given : GivenView) (t u : Table) (at : ℕ) → IsLookedAt given t u at → AreLookedAt given t u (at ∷ [])
 looked-one given t u at one = record { entries = one.entries; rest = one.rest; slots = one.slots; watched = one.watched }
 
--- all the steps together
-pub taken-in : (given : GivenView) (t u v : Table) (at : ℕ) (end : End) (newly_ready : List ℕ) (may : MayTakeIn given t at end) →
-    IsPutBackThere given t u at newly_ready [] → AreEnqueued u v newly_ready → IsTakenIn given t v at
-taken-in given t u v at end newly_ready may put released' =
+-- all the steps together, where the state enqueues what may run among these entries
+pub taken-in : (given : GivenView) (request : List (List ℕ)) (after : State) (es : List Entry) (t u v : Table) (newly_ready table_ready : List ℕ) →
+    IsTableOf given t table_ready → AreStanding (rules_for given) request after.entries →
+    after ≡ enqueued (rules_for given) (record { entries = es; ready = map (path_at t.targets) t.ready.items }) → after.entries ≡ es →
+    IsPutBackThere given after t u newly_ready [] → AreEnqueued u v newly_ready → IsTakenIn given after v
+taken-in given request after es t u v newly_ready table_ready table stands is same put released' =
     let r = rules_for given in
-    let S : List Entry → Type 0 = AreStanding r may.request in
-    let standing = subst S (sym put.entries) (after-sound given t at end may).standing in
+    let S : List Entry → Type 0 = AreStanding r request in
+    let standing = subst S (sym put.entries) stands in
     let T : List Entry → List (List ℕ) → State = λ xs ps. record { entries = xs; ready = ps } in
     let names : map (path_at u.targets) u.ready.items ≡ map (path_at t.targets) t.ready.items =
     (let one : map (path_at u.targets) u.ready.items ≡ map (path_at u.targets) t.ready.items = rw put.ready refl in
     one ∙ map-same (path_at u.targets) (path_at t.targets) t.ready.items (λ k m.
-    let found = slice_get-from t.targets k (omega (arith, may.table.one_each, may.table.queue.ready_below k m)) in
+    let found = slice_get-from t.targets k (omega (arith, table.one_each, table.queue.ready_below k m)) in
     rw (put.keys_kept k found.0 found.1, found.1) refl)) in
-    let before : table_state r given.limits.targets u ≡ T (moved given t at end may) (map (path_at t.targets) t.ready.items) =
-    ap (λ xs. T xs (map (path_at u.targets) u.ready.items)) (put.entries ∙ after-entries given t at end may) ∙ ap (T (moved given t at end may)) names in
+    let before : table_state r given.limits.targets u ≡ T es (map (path_at t.targets) t.ready.items) =
+    ap (λ xs. T xs (map (path_at u.targets) u.ready.items)) (put.entries ∙ same) ∙ ap (T es) names in
     record {
-      table = enqueued-table given may.request u v newly_ready put.table standing put.watched released';
-      watched = enqueued-watched given may.request u v newly_ready put.table standing put.watched released';
-      state = enqueued-state given may.request u v newly_ready put.table standing put.watched released' ∙ ap (enqueued r) before ∙ sym (after-state given t at end may);
+      table = enqueued-table given request u v newly_ready put.table standing put.watched released';
+      watched = enqueued-watched given request u v newly_ready put.table standing put.watched released';
+      state = enqueued-state given request u v newly_ready put.table standing put.watched released' ∙ ap (enqueued r) before ∙ sym is;
     }

@@ -7,22 +7,27 @@ use Rattle.redo_record.specs.Paths.{IsAmong, is_among}
 use Rattle.redo_build.specs.Rules.{Ask, Rules, Extends, operands}
 use Rattle.redo_build.specs.Outcomes.{outcome_at}
 use Rattle.redo_core.specs.Build.{GivenView, rules_for}
-use Rattle.redo_build.specs.Schedule.{Entry, outcomes_of, paths_of, entered, new_entry, nothing_known}
-use Rattle.redo_core.specs.inside.Slots.{table_entries, entries_from, slot_entries, slot_entry, stage_deps}
-use Rattle.redo_core.specs.inside.Slots.{stage_outcome, path_at, is_stage_out, is_stage_ready, is_stage_waiting, Fits}
+use Rattle.redo_build.specs.Schedule.{Entry, only, outcomes_of, paths_of, entered, new_entry, nothing_known}
+use Rattle.std.specs.Ordering.{nat_cmp}
+use Rattle.std.specs.BTreeSet.{insert_key}
+use Rattle.redo_record.specs.Progress.{Progress}
+use Rattle.redo_core.specs.inside.Slots.{rounds_of, table_entries, entries_from, slot_entries, slot_entry, stage_deps}
+use Rattle.redo_core.specs.inside.Slots.{stage_outcome, path_at, is_stage_due, is_stage_out, is_stage_ready, Fits}
+use Rattle.redo_core.specs.inside.Slots.{is_stage_waiting}
 use Rattle.redo_core.specs.inside.Slots.{AllFit, AllWatched, AllWatchersBelow, IsWatched, IsPlace, IsQueue, IsTable}
 use Rattle.redo_core.specs.inside.Slots.{IsTableOf, IsNumbered, AllNumbered, IsBegun, IsPushed, IsEnteredInto, IsFull}
 use Rattle.redo_core.specs.declared.table.Slot.{Slot}
 use Rattle.redo_core.specs.declared.table.Table.{Table}
 use Rattle.redo_core.specs.declared.table.Stage.{Stage}
-use Rattle.redo_core.specs.declared.table.Stage.TheVariants.{Waiting, Ready, Out, Decided}
+use Rattle.redo_core.specs.declared.table.Stage.TheVariants.{Due, Checking, Waiting, Ready, Out, Decided}
 use Rattle.redo_core.proofs.NumberLemmas.{numbered-kept, numbered-still}
 use Rattle.redo_build.proofs.PathLemmas.{is_among-true, is_among-from}
 use Rattle.redo_build.proofs.SeenLemmas.{outcomes_of-entry, outcomes_of-at, entry_of-entered_old}
 use Rattle.redo_core.proofs.SlotLemmas.{paths_of-slots, slice_get-below_some, slice_get-from}
 use Rattle.redo_core.proofs.TableLemmas.{Fits-more, place-append, place-left, place-right}
+use Rattle.redo_core.proofs.DueSteps.{due-push}
 use Rattle.redo_core.proofs.TableSteps.{once-push}
-use Rattle.redo_core.proofs.LawfulTreeLemmas.{lawful_for}
+use Rattle.redo_core.proofs.BeginLemmas.{unruled-same}
 use Rattle.redo_record.specs.declared.deps.Dep.{Dep}
 use Rattle.redo_record.specs.declared.outcome.Outcome.{Outcome}
 
@@ -51,26 +56,40 @@ slot_entries-push r a (q ∷ ps) (s ∷ slots) p slot h = ap (λ es. slot_entry 
 entry-ruled : (r : Rules) (p : List ℕ) → r.has_rule p ≡ true → new_entry r p ≡ record { path = p; looks = 0; turn = 0; deps = []; outcome = None; is_out = false }
 entry-ruled r p h = rw h refl
 
-entry-unruled : (r : Rules) (p : List ℕ) (o : Outcome) (ds : List Dep) → r.has_rule p ≡ false → r.progress p nothing_known ≡ record { outcome = Some o; deps = ds } →
-    new_entry r p ≡ record { path = p; looks = 0; turn = 0; deps = ds; outcome = Some o; is_out = false }
-entry-unruled r p o ds h is = rw (h, is) refl
+entry-unruled : (r : Rules) (p : List ℕ) (o : Outcome) → r.has_rule p ≡ false → (r.progress p nothing_known).outcome ≡ Some o →
+    new_entry r p ≡ record { path = p; looks = 0; turn = 0; deps = (r.progress p nothing_known).deps; outcome = Some o; is_out = false }
+entry-unruled r p o h is = rw (h, is) refl
 
 begun-entry : (given : GivenView) (a : Ask) (p : List ℕ) (stage : Stage) → IsBegun given p stage →
     record { path = p; looks = 0; turn = 0; deps = stage_deps (rules_for given) a p 0 stage; outcome = stage_outcome stage; is_out = is_stage_out stage } ≡ new_entry (rules_for given) p
+begun-entry given a p (Due held) h =
+    let E : List Dep → Entry = λ ds. record { path = p; looks = 0; turn = 0; deps = ds; outcome = None; is_out = false } in
+    ap E h.1 ∙ sym (entry-ruled (rules_for given) p h.2)
+begun-entry given a p (Checking awaiting) h = absurd h
 begun-entry given a p (Waiting parked) h = absurd h
 begun-entry given a p (Ready work) h =
     let E : List Dep → Entry = λ ds. record { path = p; looks = 0; turn = 0; deps = ds; outcome = None; is_out = false } in
     ap E h.1 ∙ sym (entry-ruled (rules_for given) p h.2)
 begun-entry given a p Out h = absurd h
-begun-entry given a p (Decided fact) h = sym (entry-unruled (rules_for given) p _ _ h.2 h.3)
+begun-entry given a p (Decided fact) h =
+    let E : Progress → Entry = λ x. record { path = p; looks = 0; turn = 0; deps = x.deps; outcome = Some fact.value.outcome; is_out = false } in
+    ap E (sym (unruled-same given p a h.2)) ∙ sym (entry-unruled (rules_for given) p fact.value.outcome h.2 h.3)
 
-begun-fits : (given : GivenView) (r : Rules) (a : Ask) (p : List ℕ) (stage : Stage) → IsBegun given p stage → Fits r a given p 0 stage
-begun-fits given r a p (Waiting parked) h = absurd h
-begun-fits given r a p (Ready work) h = (h.0, λ q m none. let P : List Dep → Type 0 = λ ds. IsAmong (operands r ds) q in absurd (subst P h.1 m))
-begun-fits given r a p Out h = absurd h
-begun-fits given r a p (Decided fact) h = (h.0, h.1)
+begun-fits : (given : GivenView) (a : Ask) (p : List ℕ) (stage : Stage) → IsBegun given p stage → Fits (rules_for given) a given p 0 stage
+begun-fits given a p (Due held) h = h.0 a
+begun-fits given a p (Checking awaiting) h = absurd h
+begun-fits given a p (Waiting parked) h = absurd h
+begun-fits given a p (Ready work) h = (
+  h.0,
+  λ q m none. let P : List Dep → Type 0 = λ ds. IsAmong (operands (rules_for given) ds) q in absurd (subst P h.1 m),
+  h.3 (only (operands (rules_for given) work.deps) a),
+)
+begun-fits given a p Out h = absurd h
+begun-fits given a p (Decided fact) h = (h.0, h.1)
 
 begun-inside : (given : GivenView) (p : List ℕ) (stage : Stage) → IsBegun given p stage → (is_stage_out stage ≡ false) × (is_stage_waiting stage ≡ false)
+begun-inside given p (Due held) h = (refl, refl)
+begun-inside given p (Checking awaiting) h = absurd h
 begun-inside given p (Waiting parked) h = absurd h
 begun-inside given p (Ready work) h = (refl, refl)
 begun-inside given p Out h = absurd h
@@ -166,8 +185,10 @@ module _ (given : GivenView) (t u : Table) (newly_ready newly_ready' : List ℕ)
 
   new-entry : slot_entry (rules_for given) (outcome_at (rules_for given) given.limits.targets) p w.new ≡ new_entry (rules_for given) p
   new-entry =
-      let P : ℕ → Type 0 = λ n. record { path = p; looks = 0; turn = n; deps = stage_deps r a p n w.new.stage; outcome = stage_outcome w.new.stage; is_out = is_stage_out w.new.stage } ≡ new_entry r p in
-      subst P (sym w.turn) (begun-entry given a p w.new.stage w.begun)
+      let P : ℕ → ℕ → Type 0 = λ m n. record { path = p; looks = m; turn = n; deps = stage_deps r a p (m + n) w.new.stage; outcome = stage_outcome w.new.stage; is_out = is_stage_out w.new.stage } ≡ new_entry r p in
+      let Q : ℕ → Type 0 = λ m. P m 0 in
+      let R : ℕ → Type 0 = λ n. P w.new.looks n in
+      subst R (sym w.turn) (subst Q (sym w.looks) (begun-entry given a p w.new.stage w.begun))
 
   pushed : entries_from (rules_for given) given.limits.targets (t.targets ++ p ∷ []) (t.slots.items ++ w.new ∷ []) ≡ entered (rules_for given) (table_entries (rules_for given) given.limits.targets t) (p ∷ [])
   pushed =
@@ -193,11 +214,11 @@ module _ (given : GivenView) (t u : Table) (newly_ready newly_ready' : List ℕ)
             let P : List ℕ → Type 0 = λ q. Fits r b given q x.turn x.stage in
             let Q : Slot → Type 0 = λ y. Fits r b given p y.turn y.stage in
             let R : ℕ → Type 0 = λ n. Fits r b given p n w.new.stage in
-            subst P (sym path) (subst Q here.1 (subst R (sym w.turn) (begun-fits given r b p w.new.stage w.begun)))
+            subst P (sym path) (subst Q here.1 (subst R (sym w.turn) (begun-fits given b p w.new.stage w.begun)))
         | inr old ↦
             let path = path_at-old t.targets p k (omega (arith, slice_get-below_some t.slots.items k x old, table.one_each)) in
             let P : List ℕ → Type 0 = λ q. Fits r b given q x.turn x.stage in
-            subst P (sym path) (Fits-more r (lawful_for given) (outcomes_of es) b given (path_at t.targets k) x.turn x.stage more (table.fits k x old))
+            subst P (sym path) (Fits-more given (outcomes_of es) b (path_at t.targets k) x.turn x.stage more (table.fits k x old))
       ]
 
   numbered-push : AllNumbered (rules_for given) (t.targets ++ p ∷ []) (t.slots.items ++ w.new ∷ [])
@@ -218,7 +239,8 @@ module _ (given : GivenView) (t u : Table) (newly_ready newly_ready' : List ℕ)
         | inr old ↦ omega (arith, table.watchers_below i k x old m, len)
       ]
 
-  table-push : IsTable (rules_for given) given (t.targets ++ p ∷ []) (t.slots.items ++ w.new ∷ []) t.ready.items t.out
+  table-push : IsTable (rules_for given) given (t.targets ++ p ∷ []) (t.slots.items ++ w.new ∷ []) t.ready.items
+      (cond (is_stage_due w.new.stage) (insert_key nat_cmp t.due.keys (length t.slots.items)) t.due.keys) t.out
       (newly_ready ++ cond (is_stage_ready w.new.stage) (length t.slots.items ∷ []) [])
   table-push =
       let len : length (t.slots.items ++ w.new ∷ []) ≡ length t.slots.items + 1 = length-append t.slots.items (w.new ∷ []) in
@@ -231,6 +253,7 @@ module _ (given : GivenView) (t u : Table) (newly_ready newly_ready' : List ℕ)
         fits = fits-push;
         numbered = numbered-push;
         queue = queue-push t.slots.items t.ready.items newly_ready w.new table.queue;
+        due_listed = due-push t.slots.items t.due.keys w.new table.due_listed;
         watchers_below = below-push;
       }
 
@@ -244,8 +267,8 @@ module _ (given : GivenView) (t u : Table) (newly_ready newly_ready' : List ℕ)
           | inl l ↦ inl l
           | inr v ↦
               let there = path_at-old t.targets p v.at (omega (arith, slice_get-below_some t.slots.items v.at v.other v.there, table.one_each)) in
-              let P : List ℕ → Type 0 = λ q. IsWatched r (t.targets ++ p ∷ []) (t.slots.items ++ w.new ∷ []) k (stage_deps r a q x.turn x.stage) in
-              let Q : List ℕ → Type 0 = λ q. IsAmong (operands r (stage_deps r a (path_at t.targets k) x.turn x.stage)) q in
+              let P : List ℕ → Type 0 = λ q. IsWatched r (t.targets ++ p ∷ []) (t.slots.items ++ w.new ∷ []) k (stage_deps r a q (rounds_of x) x.stage) in
+              let Q : List ℕ → Type 0 = λ q. IsAmong (operands r (stage_deps r a (path_at t.targets k) (rounds_of x) x.stage)) q in
               inr (subst P (sym path) (record {
                 at = v.at;
                 other = v.other;
@@ -259,7 +282,7 @@ module _ (given : GivenView) (t u : Table) (newly_ready newly_ready' : List ℕ)
 
   pub entered-new : IsEnteredInto given t u newly_ready' p
   entered-new = record {
-    table = rw (w.keys, w.slots, w.rest.0, w.rest.1, w.newly_ready_is) table-push;
+    table = rw (w.keys, w.slots, w.rest.0, w.rest.1, w.newly_ready_is, w.due_is) table-push;
     entries = rw (w.keys, w.slots) pushed;
     rest = w.rest;
     keys_kept = λ k q h. rw w.keys (get-push_old t.targets p q k h);

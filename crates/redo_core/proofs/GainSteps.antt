@@ -15,23 +15,26 @@ use Rattle.redo_core.specs.declared.facts.Facts.{Facts}
 use Rattle.redo_core.specs.declared.table.Table.{Table}
 use Rattle.redo_core.specs.declared.table.Slot.{Slot}
 use Rattle.redo_core.specs.declared.table.Stage.{Stage}
-use Rattle.redo_core.specs.declared.table.Stage.TheVariants.{Waiting, Ready, Out, Decided}
+use Rattle.redo_core.specs.declared.table.Stage.TheVariants.{Due, Checking, Waiting, Ready, Out, Decided}
 use Rattle.redo_core.proofs.FactLemmas.{insert-told, first_of, lookup-append, map-push, either-way}
 use Rattle.redo_build.proofs.DepthLemmas.{cases_Option}
 
 pub decided-fact : (stage : Stage) → is_stage_decided stage ≡ true → (fact : Shown FactView) × (stage ≡ Decided fact)
+decided-fact (Due d) h = cc
+decided-fact (Checking c) h = cc
 decided-fact (Waiting p) h = cc
 decided-fact (Ready w) h = cc
 decided-fact Out h = cc
 decided-fact (Decided f) h = (f, refl)
 
 -- a fact that was put to the others, behind some of them
-pub adds-fact : (fact : FactView) (old new : Facts) (ks ms : List (List ℕ × Outcome)) → new.gained ≡ old.gained →
+pub adds-fact : (fact : FactView) (old new : Facts) (ks ms : List (List ℕ × Outcome)) → new.gained ≡ old.gained → new.asked ≡ old.asked →
     ((q : List ℕ) → told_in old q ≡ first_of (lookup (bytes_eq q) ks) (lookup (bytes_eq q) ms)) →
     ((q : List ℕ) → told_in new q ≡ first_of (lookup (bytes_eq q) ks) (cond (bytes_eq fact.target q) (Some fact.outcome) (lookup (bytes_eq q) ms))) →
     AddsFact fact old new
-adds-fact fact old new ks ms same was now = record {
+adds-fact fact old new ks ms same asked was now = record {
   same = same;
+  asked = asked;
   kept = λ q none. elim (cases_Option (lookup (bytes_eq q) ks)) [
     | inl no_few ↦ elim (cases_Bool (bytes_eq fact.target q)) [
       | inl yes' ↦ absurd (let known = now q in let bad = sym (rw (no_few, yes') at known) ∙ none in cc)
@@ -66,29 +69,29 @@ put-first : (b : Bool) (o : Outcome) (x y : Option Outcome) → first_of (cond b
 put-first true o x y = refl
 put-first false o x y = refl
 
-pub adds-few : (fact : Shown FactView) (old new : Facts) → new.gained ≡ old.gained → more_known new.more ≡ more_known old.more → new.few.items ≡ old.few.items ++ fact ∷ [] →
+pub adds-few : (fact : Shown FactView) (old new : Facts) → new.gained ≡ old.gained → new.asked ≡ old.asked → more_known new.more ≡ more_known old.more → new.few.items ≡ old.few.items ++ fact ∷ [] →
     AddsFact fact.value old new
-adds-few fact old new same more few =
+adds-few fact old new same asked more few =
     let key = fact.value.target in
     let outcome = fact.value.outcome in
     let ks = few_known old.few.items in
     let ms = more_known old.more in
     let both = ap few_known few ∙ map-push old.few.items fact in
-    adds-fact fact.value old new (ms ++ ks) [] same
+    adds-fact fact.value old new (ms ++ ks) [] same asked
     (λ q. sym (first-alone (lookup (bytes_eq q) (ms ++ ks))))
     (λ q. ap (λ xs. lookup (bytes_eq q) (more_known new.more ++ xs)) both ∙ ap (λ xs. lookup (bytes_eq q) (xs ++ (ks ++ (key, outcome) ∷ []))) more ∙
     ap (lookup (bytes_eq q)) (sym (append_assoc ms ks ((key, outcome) ∷ []))) ∙ lookup-append (bytes_eq q) (ms ++ ks) ((key, outcome) ∷ []) ∙
     ap (λ b. first_of (lookup (bytes_eq q) (ms ++ ks)) (cond b (Some outcome) None)) (either-way key q))
 
-pub adds-more : (fact : Shown FactView) (old new : Facts) → new.gained ≡ old.gained → new.few ≡ old.few →
+pub adds-more : (fact : Shown FactView) (old new : Facts) → new.gained ≡ old.gained → new.asked ≡ old.asked → new.few ≡ old.few →
     ((q : List ℕ) → lookup (bytes_eq q) (more_known new.more) ≡ cond (bytes_eq fact.value.target q) (Some fact.value.outcome) (lookup (bytes_eq q) (more_known old.more))) →
     AddsFact fact.value old new
-adds-more fact old new same few more =
+adds-more fact old new same asked few more =
     let key = fact.value.target in
     let outcome = fact.value.outcome in
     let ks = few_known old.few.items in
     let ms = more_known old.more in
-    adds-fact fact.value old new [] (ms ++ ks) same (λ q. refl)
+    adds-fact fact.value old new [] (ms ++ ks) same asked (λ q. refl)
     (λ q. ap (λ (v : Vec (Shown FactView) Global). lookup (bytes_eq q) (more_known new.more ++ few_known v.items)) few ∙ lookup-append (bytes_eq q) (more_known new.more) ks ∙
     ap (λ a. first_of a (lookup (bytes_eq q) ks)) (more q) ∙ put-first (bytes_eq key q) outcome (lookup (bytes_eq q) ms) (lookup (bytes_eq q) ks) ∙
     ap (cond (bytes_eq key q) (Some outcome)) (sym (lookup-append (bytes_eq q) ms ks)))
@@ -110,6 +113,7 @@ same-fact t n f g a b =
 
 pub gains-begin : (t : Table) (ns : List ℕ) (facts : Facts) → GainsBelow t ns facts facts 0
 gains-begin t ns facts = record {
+  asked = refl;
   kept = λ q h. h;
   origin = λ q o h. inl h;
   known = λ k n fact below. absurd (omega (arith, below));
@@ -119,6 +123,7 @@ gains-begin t ns facts = record {
 pub gains-step : (t : Table) (ns : List ℕ) (old mid new : Facts) (i n : ℕ) → slice_get ns i ≡ Some n →
     GainsBelow t ns old mid i → GainsOne t n mid new → GainsBelow t ns old new (i + 1)
 gains-step t ns old mid new i n get before one = record {
+  asked = one.2.asked ∙ before.asked;
   kept = λ q none. before.kept q (one.2.kept q none);
   origin = λ q o h. elim (one.2.origin q o h) [
     | inl m ↦ before.origin q o m
@@ -139,6 +144,8 @@ gains-step t ns old mid new i n get before one = record {
 }
 
 pub out-stage : (stage : Stage) → is_stage_out stage ≡ true → stage ≡ Out
+out-stage (Due d) h = cc
+out-stage (Checking c) h = cc
 out-stage (Waiting p) h = cc
 out-stage (Ready w) h = cc
 out-stage Out h = refl

@@ -1,8 +1,8 @@
 -- What a build is given: one value for each tree, request and limits.
-use Rattle.std.proofs.Common.{◌≡◌, ℕ, List, refl, sym, ap, subst, ◌∙◌}
+use Rattle.std.proofs.Common.{◌≡◌, ℕ, List, refl, sym, subst}
 use Rattle.redo_core.specs.Build.{GivenView}
 use Rattle.redo_core.specs.Faults.{opening_fault_of}
-use Rattle.redo_core.specs.Results.{IsGiven, IsOfTree}
+use Rattle.redo_core.specs.Results.{IsGiven}
 use Rattle.redo_core.specs.declared.board.Stop.{Stop}
 use Rattle.redo_core.specs.declared.board.Stop.TheVariants as stops
 use Rattle.redo_core.specs.declared.opening.OpenFault.TheVariants as faults

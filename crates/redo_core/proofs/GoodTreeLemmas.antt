@@ -1,12 +1,11 @@
--- What a build with a book asks of its sources holds of every tree, and a book can have each entry of a built target.
-use Rattle.std.proofs.Common.{◌≡◌, ℕ, zero, suc, Bool, true, false, not, ◌||◌, cond, find, inl, inr, Option, Some}
+-- What a build with a book asks of its sources holds of every tree, and a book can have each entry that the script of
+-- a built target declared.
+use Rattle.std.proofs.Common.{◌≡◌, ℕ, Bool, true, false, not, ◌||◌, cond, find, inl, inr, Option, Some}
 use Rattle.std.proofs.Common.{None, Result, List, [], ◌∷◌, is_some, refl, sym, ap, ◌∙◌, subst}
-use Rattle.std.specs.Prelude.{All, IsSome, option_and_then, unwrap_or}
-use Rattle.std.specs.Arc.{arc_value}
+use Rattle.std.specs.Prelude.{IsSome, option_and_then, unwrap_or}
 use Rattle.std.specs.List.{AllByRecursion}
 use Rattle.std.proofs.lemmas.Bool.{both_ways, cases_Bool, or_left}
 use Rattle.std.specs.Str.{bytes_eq}
-use Rattle.std.proofs.lemmas.List.Elements.{All-weaker}
 use Rattle.redo_path.specs.Names.{name_of, parent_of}
 use Rattle.redo_script.specs.declared.fault.ScriptFault.{ScriptFault}
 use Rattle.redo_script.specs.Syntax.{Script}
@@ -26,9 +25,7 @@ use Rattle.redo_record.specs.Entries.{is_entered, search_deps}
 use Rattle.redo_record.specs.Paths.{Path}
 use Rattle.redo_record.specs.Progress.{Progress}
 use Rattle.redo_record.proofs.Public.{search_enters}
-use Rattle.redo_build.specs.Rules.{Ask, Rules}
-use Rattle.redo_build.specs.Outcomes.{final_outcome, outcome_at}
-use Rattle.redo_build.proofs.DepthLemmas.{deeper_once, ended_stays, outcome_at-step, outcome_at-zero}
+use Rattle.redo_build.specs.Rules.{Ask}
 use Rattle.redo_step.specs.Agreeing.{held_in}
 use Rattle.redo_step.specs.Limits.{LimitsView}
 use Rattle.redo_step.specs.Results.{by_script}
@@ -37,14 +34,11 @@ use Rattle.redo_step.proofs.Public.{always_at_top, recorded_met, top_not_created
 use Rattle.redo_skip.specs.Checks.{built, known_file, told}
 use Rattle.redo_skip.specs.NewBook.{CanBeNoted, IsGood}
 use Rattle.redo_skip.specs.Sources.{File, Sources}
-use Rattle.redo_report.specs.Reports.{IsReport, deps_of}
-use Rattle.redo_report.specs.declared.report.Report.{Report}
 use Rattle.redo_report.specs.declared.report.Row.{Row}
 use Rattle.redo_past.specs.NewBook.{entry_as, is_built}
-use Rattle.redo_core.specs.Build.{World, IsFit, progress_by, rules_of, world_of}
-use Rattle.redo_core.specs.TreeSources.{IsNotedWhole, sources_of}
+use Rattle.redo_core.specs.Build.{World, IsFit, progress_by, sources_of, world_of}
 use Rattle.redo_core.proofs.AlikeTreeLemmas.{entered-all}
-use Rattle.redo_core.proofs.LawfulTreeLemmas.{fit_found, rules_lawful}
+use Rattle.redo_core.proofs.LawfulTreeLemmas.{fit_found}
 
 -- What is found, by cases
 
@@ -252,90 +246,35 @@ trees-good tree limits = record {
   scripts = λ p named. script-unruled tree p named;
 }
 
--- The new book has a line for each entry
+-- The new book has a line for each entry that the script of a built target declared
 
-top-source : (tree : Tree) → IsTree tree → is_some (file_at tree []) ≡ false
+pub top-source : (tree : Tree) → IsTree tree → is_some (file_at tree []) ≡ false
 top-source tree is_tree = ap (λ (n : Option Node). is_some (option_and_then bytes_of n)) is_tree.root
 
-top-found : (tree : Tree) → IsTree tree → found_of tree [] ≡ Directory
+pub top-found : (tree : Tree) → IsTree tree → found_of tree [] ≡ Directory
 top-found tree is_tree =
     ap (λ (n : Option Node). elim n as (λ _. Found) [
       | Some node ↦ elim node as (λ _. Found) [ tree_words.Directory ↦ Directory | tree_words.File bytes ↦ Source ]
       | None ↦ NoDirectory
     ]) is_tree.root
 
--- no build makes the top directory
-top-nothing : (tree : Tree) (limits : LimitsView) (n : ℕ) → IsTree tree →
-    held_in None (outcome_at (rules_of tree limits) n []) ≡ None
-top-nothing tree limits zero is_tree =
-    ap (held_in None) (outcome_at-zero (rules_of tree limits) (rules_lawful tree limits) [] (top-source tree is_tree))
-top-nothing tree limits (suc n) is_tree =
-    let r : Rules = rules_of tree limits in
-    ap (held_in None) (outcome_at-step r (rules_lawful tree limits) n [] (top-source tree is_tree))
-    ∙ ap (λ (f : Found). held_in None (progress_by (world_of tree limits) [] f (outcome_at r n)).outcome)
-    (top-found tree is_tree)
+pub lines : (tree : Tree) (limits : LimitsView) → IsTree tree → (rows : List Row) (p : Path) (a : Ask) (file : File) →
+    told (a []) ≡ None → ((sources_of tree limits).progress p a).outcome ≡ Some (outcomes.Built file) →
+    AllByRecursion (λ d. IsSome (entry_as tree rows d.kind d.path)) ((sources_of tree limits).progress p a).deps
+lines tree limits is_tree rows p a file nothing ended =
+    let w : World = world_of tree limits in
+    let P : Found → Type 0 = λ f. (k : DepKind) (q : Path) → is_entered (progress_by w p f a).deps k q ≡ true →
+    IsSome (entry_as tree rows k q) in
+    let each : P (found_of tree p) = built-ruled tree limits p a (found_of tree p) file P
+    (λ do_file missing arguments found k q h. has_line tree limits p a do_file missing arguments found rows is_tree
+    (told-held (a []) ∙ nothing) file k q
+    (subst (λ (f : Found). (progress_by w p f a).outcome ≡ Some (outcomes.Built file)) found ended) h) ended in
+    entered-all (λ k q. IsSome (entry_as tree rows k q)) ((sources_of tree limits).progress p a).deps each
 
-module _ (tree : Tree) (limits : LimitsView) (is_tree : IsTree tree) where
-  abbrev r : Rules
-  r = rules_of tree limits
-
-  pub lines : (rows : List Row) (p : Path) (n : ℕ) (file : File) →
-      (r.progress p (outcome_at r n)).outcome ≡ Some (outcomes.Built file) →
-      AllByRecursion (λ d. IsSome (entry_as tree rows d.kind d.path)) (r.progress p (outcome_at r n)).deps
-  lines rows p n file ended =
-      let w : World = world_of tree limits in
-      let a : Ask = outcome_at r n in
-      let P : Found → Type 0 = λ f. (k : DepKind) (q : Path) → is_entered (progress_by w p f a).deps k q ≡ true →
-      IsSome (entry_as tree rows k q) in
-      let each : P (found_of tree p) = built-ruled tree limits p a (found_of tree p) file P
-      (λ do_file missing arguments found k q h. has_line tree limits p a do_file missing arguments found rows is_tree
-      (top-nothing tree limits n is_tree) file k q
-      (subst (λ (f : Found). (progress_by w p f a).outcome ≡ Some (outcomes.Built file)) found ended) h) ended in
-      entered-all (λ k q. IsSome (entry_as tree rows k q)) (r.progress p a).deps each
-
-  pub built-at : (o : Option Outcome) → is_built (unwrap_or o outcomes.Cyclic) ≡ true →
-      (file : File) × (o ≡ Some (outcomes.Built file))
-  built-at None e = absurd cc
-  built-at (Some outcomes.Source) e = absurd cc
-  built-at (Some (outcomes.Built file)) e = (file, refl)
-  built-at (Some (outcomes.Failed why)) e = absurd cc
-  built-at (Some outcomes.Cyclic) e = absurd cc
-
-  -- what was built ended with the answers at the limit
-  pub built-ended : (limit : ℕ) (p : Path) (file : File) → r.is_source p ≡ false →
-      outcome_at r limit p ≡ Some (outcomes.Built file) →
-      (r.progress p (outcome_at r limit)).outcome ≡ Some (outcomes.Built file)
-  built-ended zero p file made e = absurd (let none : ◌≡◌ {A = Option Outcome} None (Some (outcomes.Built file)) =
-      rw made at e in cc)
-  built-ended (suc n) p file made e =
-      let lawful = rules_lawful tree limits in
-      let before : (r.progress p (outcome_at r n)).outcome ≡ Some (outcomes.Built file) = rw made at e in
-      sym (ap (λ (x : Progress). x.outcome) (ended_stays r lawful p (outcome_at r n) (outcome_at r (suc n))
-      (outcomes.Built file) (deeper_once r lawful n) before)) ∙ before
-
-  pub source-outcome : (limit : ℕ) (p : Path) → r.is_source p ≡ true → outcome_at r limit p ≡ Some outcomes.Source
-  source-outcome zero p is = rw is refl
-  source-outcome (suc n) p is = rw is refl
-
-  row-whole : (rows : List Row) (limit : ℕ) (row : Row) →
-      (row.outcome ≡ final_outcome r limit row.path) × (arc_value row.deps ≡ deps_of r limit row.path) →
-      IsNotedWhole tree rows row
-  row-whole rows limit row is was =
-      let p : Path = row.path in
-      let end = built-at (outcome_at r limit p) (ap is_built (sym is.0) ∙ was) in
-      elim (cases_Bool (r.is_source p)) [
-        | inl source ↦ absurd (let bad : ◌≡◌ {A = Option Outcome} (Some outcomes.Source) (Some (outcomes.Built end.0)) =
-            sym (source-outcome limit p source) ∙ end.1 in cc)
-        | inr made ↦
-            let deps : arc_value row.deps ≡ (r.progress p (outcome_at r limit)).deps =
-            is.1 ∙ ap (λ (v : Bool). cond v [] (r.progress p (outcome_at r limit)).deps) made in
-            subst (λ (ds : List Dep). AllByRecursion (λ d. IsSome (entry_as tree rows d.kind d.path)) ds) (sym deps)
-            (lines rows p limit end.0 (built-ended limit p end.0 made end.1))
-      ]
-
-  pub report-whole : (request : List Path) (limit : ℕ) (report : Report) → IsReport r request limit report →
-      All (IsNotedWhole tree report.rows.items) report.rows.items
-  report-whole request limit report is =
-      All-weaker (λ row. (row.outcome ≡ final_outcome r limit row.path) ×
-      (arc_value row.deps ≡ deps_of r limit row.path)) (IsNotedWhole tree report.rows.items)
-      (λ row was. row-whole report.rows.items limit row was) report.rows.items is.outcomes
+pub built-at : (o : Option Outcome) → is_built (unwrap_or o outcomes.Cyclic) ≡ true →
+    (file : File) × (o ≡ Some (outcomes.Built file))
+built-at None e = absurd cc
+built-at (Some outcomes.Source) e = absurd cc
+built-at (Some (outcomes.Built file)) e = (file, refl)
+built-at (Some (outcomes.Failed why)) e = absurd cc
+built-at (Some outcomes.Cyclic) e = absurd cc

@@ -2,25 +2,84 @@
 use Rattle.std.proofs.Common.{slice_get, ◌≡◌, ℕ, ◌<◌, ◌≤◌, List, [], length, Option, Some, None, refl, sym, ap, subst}
 use Rattle.std.proofs.Common.{◌∙◌, arith}
 use Rattle.redo_build.specs.Outcomes.{outcome_at, IsTooMany}
-use Rattle.redo_build.specs.Schedule.{Entry, State, entry_of, happens, IsOutAt}
+use Rattle.redo_build.specs.Schedule.{Entry, Event, State, entry_of, happens, IsOutAt}
 use Rattle.redo_build.specs.Schedule.Event.{Hand_in}
-use Rattle.redo_core.specs.Views.{IsReached, BoardView, PieceView, rules_on}
+use Rattle.redo_build.specs.Schedule.Phase.{Script}
+use Rattle.redo_build.specs.Looking.{IsLookedOut, looked}
+use Rattle.redo_core.specs.Views.{BoardView, IsReached, PieceView, rules_on}
 use Rattle.redo_core.specs.Faults.{fault_of, IsSameBuild, RefusedRunning}
 use Rattle.redo_core.specs.declared.board.Stop.{Stop}
 use Rattle.redo_core.specs.declared.board.Stop.TheVariants.{TooMany, Memory}
 use Rattle.redo_core.specs.inside.Ends.{IsEndAt}
 use Rattle.redo_core.specs.inside.Slots.{rules_inside, state_of, path_at, slot_entry, is_stage_out, IsKept, IsOutSlotAt}
-use Rattle.redo_core.specs.inside.Slots.{MayTakeIn, IsTakenIn, state_after}
+use Rattle.redo_core.specs.inside.Slots.{MayTakeIn, IsAtRest, IsLookedOn, IsMovedOn, IsTakenIn, state_after, table_state}
+use Rattle.redo_core.specs.Build.{GivenView, rules_for}
+use Rattle.redo_record.specs.Paths.{AreDistinct}
+use Rattle.redo_build.proofs.SoundLemmas.{IsSound, happens-sound}
+use Rattle.redo_build.proofs.QuietLemmas.{is_part}
+use Rattle.redo_core.proofs.LawfulTreeLemmas.{lawful_for}
+use Rattle.redo_core.proofs.LookedLemmas.{reached-sound}
 use Rattle.redo_core.specs.declared.board.Board.TheInside.{Inside}
 use Rattle.redo_core.specs.declared.table.Table.{Table}
 use Rattle.redo_core.specs.declared.table.Stage.TheVariants.{Out}
 use Rattle.redo_core.specs.declared.work.End.{End}
-use Rattle.redo_core.proofs.LawfulTreeLemmas.{lawful_for}
-use Rattle.redo_build.proofs.SoundLemmas.{happens-sound}
-use Rattle.redo_build.proofs.QuietLemmas.{is_part}
-use Rattle.redo_core.proofs.SlotLemmas.{entry_of-slots}
+use Rattle.redo_core.proofs.LookLemmas.{none_due}
+use Rattle.redo_core.proofs.SlotLemmas.{entry_of-slots, paths_of-slots, slice_get-below_some, slice_get-from}
 use Rattle.redo_core.proofs.MakeReadySteps.{slot-of-path}
-use Rattle.redo_core.proofs.TakeLemmas.{sound-inside, distinct-inside, reached-more}
+use Rattle.redo_core.proofs.TakeLemmas.{distinct-inside, reached-more}
+
+-- what was out is taken in: the table is at rest, or the build needs too many
+module _ (given : GivenView) (t : Table) (at : ℕ) (end : End) (may : MayTakeIn given t at end) where
+  abbrev before : State
+  before = table_state (rules_for given) given.limits.targets t
+
+  before-sound : IsSound (rules_for given) given.request before
+  before-sound = reached-sound (rules_for given) (lawful_for given) given.request before may.reached
+
+  abbrev out-slot : Entry
+  out-slot = slot_entry (rules_for given) (outcome_at (rules_for given) given.limits.targets) (path_at t.targets at) may.slot
+
+  was-out : IsOutAt before (path_at t.targets at) may.slot.turn
+  was-out =
+      let r = rules_for given in
+      let a = outcome_at r given.limits.targets in
+      let D : List (List ℕ) → Type 0 = AreDistinct in
+      let distinct = subst D (paths_of-slots r a t.targets t.slots.items may.table.one_each) before-sound.standing.distinct in
+      let found = slice_get-from t.targets at (omega (arith, may.table.one_each, slice_get-below_some t.slots.items at may.slot may.there)) in
+      let is : path_at t.targets at ≡ found.0 = rw found.1 refl in
+      record {
+        entry = out-slot;
+        at = entry_of-slots r a t.targets t.slots.items at (path_at t.targets at) may.slot distinct (found.1 ∙ ap Some (sym is)) may.there;
+        is_out = ap is_stage_out may.is_out;
+        at_turn = refl;
+      }
+
+  pub taken-in-rest : (u : Table) → IsTakenIn given (state_after given Script t at) u → IsAtRest given u
+  taken-in-rest u taken =
+      let P : State → Type 0 = IsReached (rules_for given) given.request in
+      record {
+        reached = subst P (sym taken.state) (reached-more (rules_for given) given.request before
+            (Hand_in (path_at t.targets at) may.slot.turn) may.reached was-out);
+        table = taken.table;
+        watched = taken.watched;
+      }
+
+  pub too-many-taken : given.limits.targets < length (state_after given Script t at).entries →
+      IsTooMany (rules_for given) given.request given.limits.targets
+  too-many-taken many =
+      let r = rules_for given in
+      let event : Event = Hand_in (path_at t.targets at) may.slot.turn in
+      let sound = happens-sound r (lawful_for given) given.request before event before-sound was-out in
+      (is_part r (lawful_for given) given.request (happens r before event) sound given.limits.targets).too_many many
+
+pub moved-on : (given : GivenView) (after : State) (u v : Table) → IsTakenIn given after u → IsLookedOn given u v → v.due.keys ≡ [] →
+    IsMovedOn given after v
+moved-on given after u v taken ahead none = record {
+  at_rest = ahead.at_rest;
+  looks = ahead.looks;
+  state = ahead.state ∙ ap (looked (rules_for given) ahead.looks) taken.state;
+  none_due = none;
+}
 
 module _ (b : Inside) (kept : IsKept b) (target : List ℕ) (turn at : ℕ) (o : IsOutSlotAt b.table target turn at) where
   path-is : path_at b.table.targets at ≡ target
@@ -42,7 +101,6 @@ module _ (b : Inside) (kept : IsKept b) (target : List ℕ) (turn at : ℕ) (o :
       let P : List ℕ → Type 0 = λ p. IsEndAt b.build p o.slot.turn end in
       let Q : ℕ → Type 0 = λ n. IsEndAt b.build target n end in
       record {
-        request = b.build.request;
         reached = kept.reached;
         table = kept.table;
         watched = kept.watched;
@@ -52,28 +110,30 @@ module _ (b : Inside) (kept : IsKept b) (target : List ℕ) (turn at : ℕ) (o :
         is_end = subst P (sym path-is) (subst Q (sym o.at_turn) is);
       }
 
-  pub after-is : state_after b.build b.table at ≡ happens (rules_inside b) (state_of b) (Hand_in target turn)
+  pub after-is : state_after b.build Script b.table at ≡ happens (rules_inside b) (state_of b) (Hand_in target turn)
   after-is = let H : List ℕ → State = λ p. happens (rules_inside b) (state_of b) (Hand_in p turn) in ap H path-is
 
-  pub taken-state : (u : Table) → IsTakenIn b.build b.table u at → state_of (record b { table = u }) ≡ happens (rules_inside b) (state_of b) (Hand_in target turn)
-  taken-state u taken = taken.state ∙ after-is
+  pub moved-state : (u : Table) (moved : IsMovedOn b.build (state_after b.build Script b.table at) u) →
+      state_of (record b { table = u }) ≡
+      looked (rules_inside b) moved.looks (happens (rules_inside b) (state_of b) (Hand_in target turn))
+  moved-state u moved = moved.state ∙ ap (looked (rules_inside b) moved.looks) after-is
 
-  pub taken-kept : (u : Table) → IsTakenIn b.build b.table u at → IsKept (record b { table = u })
-  taken-kept u taken =
-      let P : State → Type 0 = IsReached (rules_inside b) b.build.request in
-      record {
-        reached = subst P (sym (taken-state u taken)) (reached-more (rules_inside b) b.build.request (state_of b) (Hand_in target turn) kept.reached open-out);
-        table = taken.table;
-        watched = taken.watched;
-      }
+  pub moved-kept : (u : Table) → IsMovedOn b.build (state_after b.build Script b.table at) u → IsKept (record b { table = u })
+  moved-kept u moved = record {
+    reached = moved.at_rest.reached;
+    table = moved.at_rest.table;
+    watched = moved.at_rest.watched;
+    none_due = moved.none_due;
+  }
 
-  pub too-many-after : b.build.limits.targets < length (state_after b.build b.table at).entries → IsTooMany (rules_inside b) b.build.request b.build.limits.targets
-  too-many-after many =
-      let lawful = lawful_for b.build in
-      let sound = happens-sound (rules_inside b) lawful b.build.request (state_of b) (Hand_in target turn) (sound-inside b kept) open-out in
-      let part = is_part (rules_inside b) lawful b.build.request (happens (rules_inside b) (state_of b) (Hand_in target turn)) sound b.build.limits.targets in
-      let S : State → Type 0 = λ s. b.build.limits.targets < length s.entries in
-      part.too_many (subst S after-is many)
+  -- the board is behind the piece, with nothing more to look at
+  pub moved-looked : (u : Table) → IsMovedOn b.build (state_after b.build Script b.table at) u →
+      IsLookedOut (rules_inside b) (happens (rules_inside b) (state_of b) (Hand_in target turn)) (state_of (record b { table = u }))
+  moved-looked u moved = record {
+    looks = moved.looks;
+    is = moved-state u moved;
+    none_due = none_due b.build u moved.at_rest moved.none_due;
+  }
 
 -- where no slot is out for a piece, its target isn't out
 pub stranger : (b : Inside) (kept : IsKept b) (target : List ℕ) (turn : ℕ) → ((at : ℕ) → IsOutSlotAt b.table target turn at → ⊥) → IsOutAt (state_of b) target turn → ⊥
@@ -88,6 +148,8 @@ stranger b kept target turn none out =
     })
   where
     out-stage : (stage : Rattle.redo_core.specs.declared.table.Stage.Stage) → is_stage_out stage ≡ Rattle.std.proofs.Common.true → stage ≡ Out
+    out-stage (Rattle.redo_core.specs.declared.table.Stage.TheVariants.Due held) h = cc
+    out-stage (Rattle.redo_core.specs.declared.table.Stage.TheVariants.Checking a) h = cc
     out-stage (Rattle.redo_core.specs.declared.table.Stage.TheVariants.Waiting p) h = cc
     out-stage (Rattle.redo_core.specs.declared.table.Stage.TheVariants.Ready w) h = cc
     out-stage Out h = refl

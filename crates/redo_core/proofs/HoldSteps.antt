@@ -1,6 +1,6 @@
 -- Noting how far a parked job was looked at keeps the entries.
 use Rattle.std.proofs.Common.{slice_get, slice_set, ◌≡◌, ℕ, ◌<◌, ◌≤◌, inl, inr, ◌⊎◌, List, ◌∷◌, ◌++◌, length}
-use Rattle.std.proofs.Common.{length-set, true, false, Some, None, refl, sym, ap, subst, ◌∙◌, arith}
+use Rattle.std.proofs.Common.{length-set, false, Some, None, refl, sym, ap, subst, ◌∙◌, arith}
 use Rattle.std.proofs.lemmas.Bool.{cases_lt}
 use Rattle.redo_record.specs.declared.deps.Dep.{Dep}
 use Rattle.redo_build.specs.Rules.{Rules}
@@ -8,8 +8,8 @@ use Rattle.redo_build.specs.Outcomes.{outcome_at}
 use Rattle.redo_core.specs.Build.{GivenView, rules_for}
 use Rattle.redo_build.specs.Schedule.{Entry, outcomes_of}
 use Rattle.redo_build.specs.inside.Standing.{AreStanding}
-use Rattle.redo_core.specs.inside.Slots.{table_entries, slot_entry, stage_deps, stage_outcome, is_stage_ready}
-use Rattle.redo_core.specs.inside.Slots.{is_stage_waiting, is_stage_decided, path_at, Fits, AllWatched, IsPlace}
+use Rattle.redo_core.specs.inside.Slots.{rounds_of, table_entries, slot_entry, stage_deps, stage_outcome, is_stage_due, is_stage_ready}
+use Rattle.redo_core.specs.inside.Slots.{path_at, Fits, AllWatched, IsPlace}
 use Rattle.redo_core.specs.inside.Slots.{AreNumbers, IsNumbered, waited_by, IsTable, IsTableOf, IsStandingTable}
 use Rattle.redo_core.specs.inside.Slots.{IsWaitingWith, IsLackingAt, IsHeldAt, IsWatchAdded, IsLookedAt}
 use Rattle.redo_core.specs.declared.table.Parked.{Parked}
@@ -19,8 +19,9 @@ use Rattle.redo_core.specs.declared.table.Stage.TheVariants.{Waiting}
 use Rattle.redo_core.specs.declared.table.Table.{Table}
 use Rattle.redo_core.proofs.NumberLemmas.{numbers-path}
 use Rattle.redo_core.proofs.TableLemmas.{cases_place, get-set_same, get-set_other, watched-set, IsWatched-set}
+use Rattle.redo_core.proofs.DueSteps.{due-same}
 use Rattle.redo_core.proofs.TableSteps.{number-decided, parked_numbered, decided-known, entries-same, table-same}
-use Rattle.redo_core.proofs.TableSteps.{queue-same, watch-table, watch-looked}
+use Rattle.redo_core.proofs.TableSteps.{lacking-asked, lacking-open, queue-same, watch-table, watch-looked}
 
 module _ (given : GivenView) (t : Table) (newly_ready : List ℕ) (table : IsTableOf given t newly_ready) (standing : IsStandingTable given t)
     (at : ℕ) (slot : Slot) (parked : Parked) (there : slice_get t.slots.items at ≡ Some slot) (is : slot.stage ≡ Waiting parked)
@@ -51,11 +52,15 @@ module _ (given : GivenView) (t : Table) (newly_ready : List ℕ) (table : IsTab
   old-open : stage_outcome slot.stage ≡ None
   old-open = rw is refl
 
-  deps-same : (p : List ℕ) → stage_deps (rules_for given) (outcome_at (rules_for given) given.limits.targets) p h.new.turn h.new.stage ≡ stage_deps (rules_for given) (outcome_at (rules_for given) given.limits.targets) p slot.turn slot.stage
+  looks-same : h.new.looks ≡ slot.looks
+  looks-same = h.looks ∙ ap (λ (y : Slot). y.looks) same-slot
+
+  deps-same : (p : List ℕ) → stage_deps (rules_for given) (outcome_at (rules_for given) given.limits.targets) p (rounds_of h.new) h.new.stage ≡ stage_deps (rules_for given) (outcome_at (rules_for given) given.limits.targets) p (rounds_of slot) slot.stage
   unfolding held
   deps-same p =
-      let D : Stage → Type 0 = λ st. stage_deps r (outcome_at r given.limits.targets) p h.new.turn st ≡ Rattle.redo_core.specs.inside.Works.job_deps parked.begun.value.job in
-      let E : Stage → Type 0 = λ st. stage_deps r (outcome_at r given.limits.targets) p slot.turn st ≡ Rattle.redo_core.specs.inside.Works.job_deps parked.begun.value.job in
+      let asked = Rattle.redo_core.specs.inside.Works.all_asked parked.begun.value.job parked.begun.value.facts in
+      let D : Stage → Type 0 = λ st. stage_deps r (outcome_at r given.limits.targets) p (rounds_of h.new) st ≡ asked in
+      let E : Stage → Type 0 = λ st. stage_deps r (outcome_at r given.limits.targets) p (rounds_of slot) st ≡ asked in
       let one = subst D (sym held-is) refl in
       let two = subst E (sym is) refl in
       one ∙ sym two
@@ -63,11 +68,12 @@ module _ (given : GivenView) (t : Table) (newly_ready : List ℕ) (table : IsTab
   same-entry : slot_entry (rules_for given) (outcome_at (rules_for given) given.limits.targets) (path_at t.targets at) h.new ≡
       slot_entry (rules_for given) (outcome_at (rules_for given) given.limits.targets) (path_at t.targets at) slot
   same-entry =
-      let E : ℕ → List Dep → Entry = λ n ds. record { path = path_at t.targets at; looks = 0; turn = n; deps = ds; outcome = None; is_out = false } in
+      let E : ℕ → ℕ → List Dep → Entry = λ m n ds. record { path = path_at t.targets at; looks = m; turn = n; deps = ds; outcome = None; is_out = false } in
       let D : ℕ → Stage → List Dep = λ n st. stage_deps r (outcome_at r given.limits.targets) (path_at t.targets at) n st in
-      let one : slot_entry r (outcome_at r given.limits.targets) (path_at t.targets at) h.new ≡ E h.new.turn (D h.new.turn h.new.stage) = rw held-is refl in
-      let two : slot_entry r (outcome_at r given.limits.targets) (path_at t.targets at) slot ≡ E slot.turn (D slot.turn slot.stage) = rw is refl in
-      one ∙ ap (λ n. E n (D h.new.turn h.new.stage)) turn-same ∙ ap (E slot.turn) (deps-same (path_at t.targets at)) ∙ sym two
+      let one : slot_entry r (outcome_at r given.limits.targets) (path_at t.targets at) h.new ≡ E h.new.looks h.new.turn (D (rounds_of h.new) h.new.stage) = rw held-is refl in
+      let two : slot_entry r (outcome_at r given.limits.targets) (path_at t.targets at) slot ≡ E slot.looks slot.turn (D (rounds_of slot) slot.stage) = rw is refl in
+      one ∙ ap (λ m. E m h.new.turn (D (rounds_of h.new) h.new.stage)) looks-same ∙ ap (λ n. E slot.looks n (D (rounds_of h.new) h.new.stage)) turn-same ∙
+      ap (E slot.looks slot.turn) (deps-same (path_at t.targets at)) ∙ sym two
 
   numbers : AreNumbers t.targets parked.operands.items (waited_by (rules_for given) parked.begun.value)
   numbers = parked_numbered given t newly_ready table standing at slot parked there is
@@ -96,6 +102,9 @@ module _ (given : GivenView) (t : Table) (newly_ready : List ℕ) (table : IsTab
               decided-known given t newly_ready table standing q (number-decided t q number.0 number.2 (l.before k number.0 after' below number.1)) none
         ];
         told = w.told;
+        behind = w.behind;
+        checked = w.checked;
+        own = w.own;
         goes_on = w.goes_on;
         gained_within = w.gained_within;
         gained = w.gained;
@@ -105,11 +114,13 @@ module _ (given : GivenView) (t : Table) (newly_ready : List ℕ) (table : IsTab
   held-table =
       let list = ap (λ (y : Rattle.std.specs.declared.vec.Vec.Vec ℕ Rattle.std.proofs.Common.Global). y.items) (h.watchers ∙ ap (λ (y : Slot). y.watchers) same-slot) in
       let ready : is_stage_ready h.new.stage ≡ is_stage_ready slot.stage = ap is_stage_ready held-is ∙ sym (ap is_stage_ready is) in
-      let raw = table-same given t newly_ready table standing at slot h.new there old-open new-open same-entry newly_ready
+      let due : is_stage_due h.new.stage ≡ is_stage_due slot.stage = ap is_stage_due held-is ∙ sym (ap is_stage_due is) in
+      let raw = table-same given t newly_ready table standing at slot h.new there old-open new-open same-entry newly_ready t.due.keys
       (queue-same t.slots.items t.ready.items newly_ready at slot h.new there table.queue ready)
+      (due-same t.slots.items t.due.keys at slot h.new there table.due_listed due)
       (λ k m. let L : List ℕ → Type 0 = λ xs. IsPlace xs k in table.watchers_below at k slot there (subst L list m)) held-fits held-numbered in
-      let S : List Slot → Type 0 = λ xs. IsTable r given t.targets xs t.ready.items t.out newly_ready in
-      rw (h.rest.0, h.rest.1, h.rest.2) (subst S (sym h.slots) raw)
+      let S : List Slot → Type 0 = λ xs. IsTable r given t.targets xs t.ready.items t.due.keys t.out newly_ready in
+      rw (h.rest.0, h.rest.1, h.rest.2, h.rest.3) (subst S (sym h.slots) raw)
 
   pub held-entries : table_entries (rules_for given) given.limits.targets v ≡ table_entries (rules_for given) given.limits.targets t
   held-entries = rw (h.rest.0, h.slots) (entries-same given t newly_ready table standing at slot h.new there old-open new-open same-entry)
@@ -157,11 +168,14 @@ module _ (given : GivenView) (t : Table) (newly_ready : List ℕ) (table : IsTab
 
   module _ (u : Table) (w : IsWatchAdded v u at place) where
     pub held-watch-table : IsTableOf given u newly_ready
-    held-watch-table = watch-table given v newly_ready held-table held-standing at h.new held held-there held-is u place i i w held-lacks
+    held-watch-table = watch-table given v newly_ready held-table held-standing at h.new held-there u place w
+        (lacking-open given v newly_ready held-table held-standing at h.new held held-there held-is u place i i w held-lacks)
 
     pub held-watch-looked : IsLookedAt given t u at
     held-watch-looked =
-        let looked = watch-looked given v newly_ready held-table held-standing at h.new held held-there held-is u place i i w held-lacks in
+        let looked = watch-looked given v newly_ready held-table held-standing at h.new held-there u place w
+        (lacking-open given v newly_ready held-table held-standing at h.new held held-there held-is u place i i w held-lacks)
+        (lacking-asked given v newly_ready held-table held-standing at h.new held held-there held-is u place i i w held-lacks) in
         record {
           entries = looked.entries ∙ held-entries;
           rest = (looked.rest.0 ∙ h.rest.0, looked.rest.1 ∙ h.rest.1, looked.rest.2 ∙ h.rest.2);

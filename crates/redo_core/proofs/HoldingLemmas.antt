@@ -19,7 +19,7 @@ use Rattle.redo_core.specs.Build.{GivenView}
 
 pub script-holds : (given : GivenView) (s : Script) → IsScriptOf given s →
     HoldsOutcomes (record { given = given; target = script_target s; turn = script_turn s; deps = script_deps s; known = script_known s })
-script-holds given (Unread unread) is = record { depth = 0; fed = λ q m none. m; exact = λ q. refl }
+script-holds given (Unread unread) work = record { depth = work.is_work.depth; fed = work.is_work.fed; exact = work.exact }
 script-holds given (Begun begun) work = record { depth = work.is_work.depth; fed = work.is_work.fed; exact = work.exact }
 
 -- where the build at a depth and the entries both have all the answers, these are the same

@@ -1,8 +1,7 @@
 -- The rules of a source tree are lawful.
 use Rattle.std.proofs.Common.{◌≡◌, ℕ, Bool, true, false, find, inl, inr, List, [], ◌∷◌, Option, Some, None, refl, ap}
-use Rattle.std.proofs.Common.{arith}
 use Rattle.std.specs.Prelude.{unwrap_or, option_and_then}
-use Rattle.std.proofs.lemmas.Bool.{cases_Bool, cases_lt, both_ways}
+use Rattle.std.proofs.lemmas.Bool.{cases_Bool}
 use Rattle.redo_script.specs.Texts.{script_in}
 use Rattle.redo_record.specs.declared.deps.DepKind.TheVariants.{Create}
 use Rattle.redo_record.specs.declared.outcome.Outcome.TheVariants.{Failed, Source as Is_source}
@@ -20,9 +19,10 @@ use Rattle.redo_which.specs.Rule.{Outcome as Found, Source, Directory, NoDirecto
 use Rattle.redo_which.specs.Rule.{chosen_of, arguments_of, found_of}
 use Rattle.redo_build.specs.Rules.{Ask, AreLawful, operands}
 use Rattle.redo_build.specs.Looking.{KeepsNothing}
-use Rattle.redo_build.specs.Pieces.{deps_at_turn, IsBegunAt}
-use Rattle.redo_build.specs.Schedule.{only}
-use Rattle.redo_core.specs.Build.{World, IsFit, IsWorld, progress_by, rules_in, world_of, GivenView, rules_for, rules_of}
+use Rattle.redo_core.specs.Build.{World, IsFit, IsWorld, progress_by, rules_in, world_of, GivenView, checks_for}
+use Rattle.redo_core.specs.Build.{last_run_of, plain_rules_for, rules_for, rules_of, sources_for}
+use Rattle.redo_skip.proofs.LawfulLemmas.{with_book-lawful}
+use Rattle.redo_skip.proofs.NewBookLemmas.{are-checks}
 use Rattle.redo_step.specs.Limits.{LimitsView}
 
 -- All that the search may find
@@ -106,21 +106,15 @@ module _ (tree : Tree) (p : List ℕ) where
 pub rules_lawful : (tree : Tree) (limits : LimitsView) → AreLawful (rules_of tree limits)
 rules_lawful tree limits = world-lawful (world_of tree limits) (record { fit = fit_found tree })
 
-pub lawful_for : (given : GivenView) → AreLawful (rules_for given)
-lawful_for given = rules_lawful given.past.sources given.limits
+pub plain_lawful : (given : GivenView) → AreLawful (plain_rules_for given)
+plain_lawful given = rules_lawful given.past.sources given.limits
 
--- each script of a tree is begun
+-- with the book of the last run the rules stay lawful
+pub lawful_for : (given : GivenView) → AreLawful (rules_for given)
+lawful_for given =
+    with_book-lawful (sources_for given) (checks_for given) (plain_lawful given)
+    (are-checks (sources_for given) (last_run_of given.past) given.request)
+
+-- each script of a tree is begun, where there is no book
 pub rules_keep_nothing : (tree : Tree) (limits : LimitsView) → KeepsNothing (rules_of tree limits)
 rules_keep_nothing tree limits p ask = refl
-
-pub keeps_nothing : (given : GivenView) → KeepsNothing (rules_for given)
-keeps_nothing given = rules_keep_nothing given.past.sources given.limits
-
--- so no check stopped before a script was begun
-pub no_looks : (given : GivenView) (p : List ℕ) (ask : Ask) (looks : ℕ) → IsBegunAt (rules_for given) p ask looks → looks ≡ 0
-no_looks given p ask looks begun = elim (cases_lt 0 looks) [
-  | inl some ↦
-      let known = only (operands (rules_for given) (deps_at_turn (rules_for given) p ask 0)) ask in
-      absurd (both_ways _ (begun.in_check 0 some) (keeps_nothing given p known))
-  | inr none ↦ omega arith
-]

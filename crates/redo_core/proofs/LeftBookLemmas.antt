@@ -1,4 +1,4 @@
--- The book that a build of a tree leaves is true of trees where the last one was.
+-- The book that a build with a book leaves is true of trees where the last one was.
 use Rattle.std.proofs.Common.{◌≡◌, ℕ, zero, suc, Bool, true, false, not, ◌||◌, cond, inl, inr, Option, Some, None}
 use Rattle.std.proofs.Common.{List, [], ◌∷◌, is_some, map, refl, sym, ap, ◌∙◌, subst}
 use Rattle.std.specs.Prelude.{All, Contains, IsSome, option_and_then, unwrap_or}
@@ -24,29 +24,34 @@ use Rattle.redo_record.specs.Paths.{IsAmong, Path, is_among}
 use Rattle.redo_record.specs.Progress.{Progress}
 use Rattle.redo_record.proofs.Public.{entered_operand}
 use Rattle.redo_book.specs.declared.book.BookEntry.{BookEntry}
-use Rattle.redo_book.specs.declared.book.BookEntry.TheVariants.{Change}
+use Rattle.redo_book.specs.declared.book.BookEntry.TheVariants.{Change, Create, Always}
 use Rattle.redo_book.specs.Book.{Record, record_at}
-use Rattle.redo_build.specs.Rules.{Ask, Rules, AreLawful}
-use Rattle.redo_build.specs.Outcomes.{final_outcome, needed_at, outcome_at}
+use Rattle.redo_build.specs.Rules.{Ask, Rules, AreLawful, operands}
+use Rattle.redo_build.specs.Outcomes.{final_outcome, needed_at, outcome_at, record_of}
 use Rattle.redo_build.proofs.DepthLemmas.{cases_Option, outcome_at-step, outcome_at-zero, settled}
 use Rattle.redo_build.proofs.PathLemmas.{is_among-from}
-use Rattle.redo_step.specs.Limits.{LimitsView}
-use Rattle.redo_skip.specs.Checks.{Checks, built, known_file, told}
+use Rattle.redo_skip.specs.Checks.{Check, Checks, Finding, stands, built, finding, is_asked, known_file}
+use Rattle.redo_skip.specs.Checks.{progress_checked, record_checked, standing, told}
 use Rattle.redo_skip.specs.NewBook as skip
-use Rattle.redo_skip.specs.NewBook.{CanBeNoted, LastRun, checks_of}
+use Rattle.redo_skip.specs.NewBook.{CanBeNoted}
 use Rattle.redo_skip.specs.Sources.{File, Sources}
-use Rattle.redo_skip.specs.Truth.{IsWitness}
-use Rattle.redo_skip.proofs.NewBookLemmas.{all-here}
+use Rattle.redo_skip.specs.Truth.{IsWitness, shown_all}
+use Rattle.redo_skip.proofs.AgreeLemmas.{finding-seen, stands-file}
+use Rattle.redo_skip.proofs.AskedLemmas.{asked-check, asked-script, progress-falls, progress-lacks}
+use Rattle.redo_skip.proofs.CheckLemmas.{among-asks, cases_Standing, finding-target, found-first, found-later, found-stands}
+use Rattle.redo_skip.proofs.CheckLemmas.{known-fixed}
+use Rattle.redo_skip.proofs.NewBookLemmas.{all-here, are-checks}
 use Rattle.redo_report.specs.Reports.{IsReport, deps_of}
 use Rattle.redo_report.specs.declared.report.Report.{Report}
 use Rattle.redo_report.specs.declared.report.Row.{Row}
 use Rattle.redo_past.specs.NewBook as past
 use Rattle.redo_past.specs.NewBook.{IsNewBook, is_built, row_at}
-use Rattle.redo_core.specs.Build.{GivenView, rules_for, rules_of}
-use Rattle.redo_core.specs.TreeSources.{IsTrueOfTrees, sources_for, sources_of}
+use Rattle.redo_core.specs.Build.{GivenView, checks_for, last_run_of, rules_for, sources_for}
+use Rattle.redo_core.specs.TreeSources.{IsTrueOfTrees}
 use Rattle.redo_core.proofs.AlikeTreeLemmas.{entered-here, entered-later}
-use Rattle.redo_core.proofs.GoodTreeLemmas.{built-at, built-ended, lines, source-outcome, trees-good}
-use Rattle.redo_core.proofs.LawfulTreeLemmas.{rules_lawful}
+use Rattle.redo_core.proofs.GoodTreeLemmas.{built-at, trees-good}
+use Rattle.redo_core.proofs.LawfulTreeLemmas.{lawful_for, plain_lawful}
+use Rattle.redo_core.proofs.WholeBookLemmas.{built-ended, built-target, lines-checked, top-nothing}
 
 -- Rows
 
@@ -110,17 +115,22 @@ source-told : (o : Option (List ℕ)) (by_name : Bool) (answer : Option Outcome)
 source-told (Some bytes) by_name answer file some e = cc
 source-told None by_name answer file some e = absurd cc
 
--- nothing was left by a last run
-abbrev no_run : LastRun
-no_run = record { book = []; file = λ p. None }
-
-module _ (tree : Tree) (limits : LimitsView) (is_tree : IsTree tree) (request : List Path) (limit : ℕ)
-    (report : Report) (is : IsReport (rules_of tree limits) request limit report) where
+module _ (given : GivenView) (is_tree : IsTree given.past.sources) (report : Report)
+    (is : IsReport (rules_for given) given.request given.limits.targets report) where
   abbrev r : Rules
-  r = rules_of tree limits
+  r = rules_for given
 
   abbrev s : Sources
-  s = sources_of tree limits
+  s = sources_for given
+
+  abbrev tree : Tree
+  tree = given.past.sources
+
+  abbrev request : List Path
+  request = given.request
+
+  abbrev limit : ℕ
+  limit = given.limits.targets
 
   abbrev end : Ask
   end = outcome_at r limit
@@ -129,7 +139,7 @@ module _ (tree : Tree) (limits : LimitsView) (is_tree : IsTree tree) (request : 
   rows = report.rows.items
 
   lawful : AreLawful r
-  lawful = rules_lawful tree limits
+  lawful = lawful_for given
 
   -- the file that is known of a path is the one of which a book notes the state
   state-noted : (q : Path) (file : File) → (r.is_source q ≡ false → IsAmong (needed_at r request limit) q) →
@@ -195,78 +205,151 @@ module _ (tree : Tree) (limits : LimitsView) (is_tree : IsTree tree) (request : 
     notable ds (λ q h made. reached q (entered-later d ds kinds.Change q h) made) line.1 can.1,
   )
 
-  not_source : (p : Path) (file : File) → end p ≡ Some (outcomes.Built file) → r.is_source p ≡ false
-  not_source p file e = elim (cases_Bool (r.is_source p)) [
-    | inl source ↦ absurd (let bad : ◌≡◌ {A = Option Outcome} (Some outcomes.Source) (Some (outcomes.Built file)) =
-        sym (source-outcome tree limits is_tree limit p source) ∙ e in cc)
-    | inr made ↦ made
+  unchecked : (q : Path) → s.has_rule q ≡ false → checks_for given q ≡ None
+  unchecked q unruled = elim (cases_Option (checks_for given q)) [
+    | inl none ↦ none
+    | inr some ↦ absurd (
+        both_ways _ unruled ((are-checks s (last_run_of given.past) request).ruled q some.0 some.1))
   ]
 
   -- no build comes to a .do file that isn't there
   sane-at : (n : ℕ) (q : Path) → is_do_file q ≡ true → r.is_source q ≡ false → told (outcome_at r n q) ≡ None
   sane-at zero q named made = ap told (outcome_at-zero r lawful q made)
   sane-at (suc n) q named made =
+      let good = trees-good tree given.limits in
+      let a : Ask = outcome_at r n in
       ap told (outcome_at-step r lawful n q made)
-      ∙ elim (cases_Option (told (r.progress q (outcome_at r n)).outcome)) [
+      ∙ ap (λ (o : Option Check). told (progress_checked s q o a).outcome) (unchecked q (good.scripts q named))
+      ∙ elim (cases_Option (told (s.progress q a).outcome)) [
         | inl none ↦ none
-        | inr some ↦
-            let good = trees-good tree limits in
-            absurd (both_ways _ (good.scripts q named) (good.ruled q (outcome_at r n) some.0 made some.1))
+        | inr some ↦ absurd (both_ways _ (good.scripts q named) (good.ruled q a some.0 made some.1))
       ]
 
   built_eta : (x : Progress) (file : File) → x.outcome ≡ Some (outcomes.Built file) → x ≡ built file x.deps
   built_eta x file e = ap (λ (o : Option Outcome). record { outcome = o; deps = x.deps }) e
 
-  -- a needed target that was built is the witness of what is noted of it
-  built-witness : (p : Path) (file : File) → IsAmong (needed_at r request limit) p →
-      end p ≡ Some (outcomes.Built file) →
-      IsWitness (skip.new_record s end p file (r.progress p end).deps) s end
-  built-witness p file m e =
-      let k : Checks = checks_of s no_run request in
-      let needed : List Path = needed_at r request limit in
-      let built_file : (cond (is_among needed p) (option_and_then skip.built_with (end p)) None) ≡ Some file =
-      ap (λ (v : Bool). cond v (option_and_then skip.built_with (end p)) None) (is_among-from needed p m)
-      ∙ ap (λ (o : Option Outcome). option_and_then skip.built_with o) e in
-      let noted : skip.new_book s no_run request limit p ≡
-      Some (skip.new_record s end p file (r.progress p end).deps) =
-      ap (λ (o : Option File). skip.record_with s no_run k limit p o) built_file in
-      elim (all-here s no_run request limit lawful (trees-good tree limits) is.within p
-      (skip.new_record s end p file (r.progress p end).deps) noted) [
-        | inl here ↦ here
-        | inr old ↦ absurd cc
+  -- of a needed target, what the build says of it at the limit
+  reached : (p q : Path) (o : Option Check) → checks_for given p ≡ o → IsAmong (needed_at r request limit) p →
+      IsAmong (operands r (progress_checked s p o end).deps) q → IsAmong (needed_at r request limit) q
+  reached p q o checked m asked =
+      let P : Option Check → Type 0 = λ x. IsAmong (operands r (progress_checked s p x end).deps) q in
+      (settled r lawful request limit is.within).closed limit p q m (subst P (sym checked) asked)
+
+  -- what a script declared can be noted
+  script-notable : (p : Path) (file : File) (ds : List Dep) → s.progress p end ≡ built file ds →
+      ((q : Path) → IsAmong (operands r ds) q → IsAmong (needed_at r request limit) q) →
+      AllByRecursion (λ d. IsSome (past.entry_as tree rows d.kind d.path)) ds → AllByRecursion IsNotable ds
+  script-notable p file ds came reach line =
+      notable ds (λ q h out. reach q (entered_operand r.is_source ds q out h)) line
+      ((trees-good tree given.limits).notable p end file ds (λ q named made. sane-at limit q named made) came)
+
+  -- and so can the entries of a record that all stand
+  stood-notable : (es : List BookEntry) → (finding s end es).standing ≡ stands →
+      ((q : Path) → IsAmong (finding s end es).asked q → IsAmong (needed_at r request limit) q) →
+      AllByRecursion (λ d. IsSome (past.entry_as tree rows d.kind d.path)) (shown_all es) →
+      AllByRecursion IsNotable (shown_all es)
+  stood-notable [] t reach line = tt
+  stood-notable (Change state q ∷ es) t reach line =
+      let e : BookEntry = Change state q in
+      let both = found-stands s e (standing s end e) (finding s end es) t in
+      let has = stands-file s state q end both.0 in (
+        record {
+          reached = λ change made. elim (cases_Bool (is_asked s q)) [
+            | inl asked ↦
+                reach q (found-first s e (standing s end e) (finding s end es) q (among-asks s state q asked))
+            | inr fixed ↦ absurd (
+                let none : known_file s end q ≡ None =
+                known-fixed s end q fixed ∙ ap (λ (v : Bool). cond v (Some (s.file q)) None) made in
+                let bad : ◌≡◌ {A = Option File} None (Some has.0) = sym none ∙ has.1 in cc)
+          ];
+          line = line.0;
+          can = (has.0, has.1);
+        },
+        stood-notable es both.1
+            (λ x m. reach x (found-later s e (standing s end e) (finding s end es) x both.0 m)) line.1,
+      )
+  stood-notable (Create q ∷ es) t reach line =
+      let e : BookEntry = Create q in
+      let both = found-stands s e (standing s end e) (finding s end es) t in (
+        record { reached = λ change. absurd (let bad : kinds.Create ≡ kinds.Change = change in cc); line = line.0; can = tt },
+        stood-notable es both.1
+            (λ x m. reach x (found-later s e (standing s end e) (finding s end es) x both.0 m)) line.1,
+      )
+  stood-notable (Always ∷ es) t reach line = absurd cc
+
+  -- all that is in the record of a target that was built can be noted
+  row-notable : (p : Path) (file : File) (o : Option Check) →
+      (progress_checked s p o end).outcome ≡ Some (outcomes.Built file) →
+      ((q : Path) → IsAmong (operands r (progress_checked s p o end).deps) q → IsAmong (needed_at r request limit) q) →
+      AllByRecursion (λ d. IsSome (past.entry_as tree rows d.kind d.path)) (record_checked s p o end) →
+      AllByRecursion IsNotable (record_checked s p o end)
+  row-notable p file None e reach line =
+      script-notable p file (s.progress p end).deps (built_eta (s.progress p end) file e) reach line
+  row-notable p file (Some c) e reach line =
+      let found : Finding = finding s end c.entries in
+      let own : Progress = s.progress p end in
+      let L : List Dep → Type 0 = AllByRecursion (λ d. IsSome (past.entry_as tree rows d.kind d.path)) in
+      elim (cases_Standing found.standing) [
+        | inl t ↦
+            let seen = finding-seen s c.entries end t in
+            let N : List Dep → Type 0 = AllByRecursion IsNotable in
+            let line' : L (shown_all c.entries) = subst L seen (rw t at line) in
+            let asks : (q : Path) → IsAmong found.asked q → IsAmong (needed_at r request limit) q =
+            λ q m. reach q (asked-check r.is_source c.file found own q (finding-target s c.entries end q m) m) in
+            rw t (subst N (sym seen) (stood-notable c.entries t asks line'))
+        | inr other ↦ elim other [
+          | inl l ↦ absurd (let bad : ◌≡◌ {A = Option Outcome} None (Some (outcomes.Built file)) =
+              sym (progress-lacks c.file found own l) ∙ e in cc)
+          | inr f ↦
+              let came = built_eta own file (sym (progress-falls c.file found own f) ∙ e) in
+              let asks : (q : Path) → IsAmong (operands r own.deps) q → IsAmong (needed_at r request limit) q =
+              λ q m. reach q (asked-script r.is_source c.file found own q f m) in
+              rw f (script-notable p file own.deps came asks (rw f at line))
+        ]
       ]
 
-  -- the record of a row
-  pub row-true : (row : Row) → Contains rows row → is_built row.outcome ≡ true →
-      IsWitness (past.new_record tree rows row) s end
-  row-true row listed was_built =
+  -- the record of a row is the one that the new book has of its target
+  row-noted : (row : Row) → Contains rows row → is_built row.outcome ≡ true →
+      skip.new_book s (last_run_of given.past) request limit row.path ≡ Some (past.new_record tree rows row)
+  row-noted row listed was_built =
       let p : Path = row.path in
+      let k : Checks = checks_for given in
       let was = All-contains (λ row. (row.outcome ≡ final_outcome r limit row.path) ×
       (arc_value row.deps ≡ deps_of r limit row.path)) rows row is.outcomes listed in
-      let came = built-at tree limits is_tree (end p) (ap is_built (sym was.0) ∙ was_built) in
+      let came = built-at (end p) (ap is_built (sym was.0) ∙ was_built) in
       let file : File = came.0 in
-      let made : r.is_source p ≡ false = not_source p file came.1 in
+      let made : r.is_source p ≡ false = built-target given is_tree limit p file came.1 in
       let m : IsAmong (needed_at r request limit) p = elim ((is.rows p).0
       (All-contains (λ row. IsAmong (map (λ row. row.path) rows) row.path) rows row (listed-all rows) listed)) [
         | inl among ↦ among
         | inr source ↦ absurd (both_ways _ made source.1)
       ] in
-      let ended = built-ended tree limits is_tree limit p file made came.1 in
-      let ds : List Dep = (r.progress p end).deps in
+      let ds : List Dep = record_of r limit p in
       let same : arc_value row.deps ≡ ds = was.1 ∙ ap (λ (v : Bool). cond v [] ds) made in
-      let can = (trees-good tree limits).notable p end file ds (λ q named out. sane-at limit q named out)
-      (built_eta (r.progress p end) file ended) in
-      let reach : (q : Path) → is_entered ds kinds.Change q ≡ true → r.is_source q ≡ false →
-      IsAmong (needed_at r request limit) q = λ q h out.
-      (settled r lawful request limit is.within).closed limit p q m (entered_operand r.is_source ds q out h) in
+      let L : List Dep → Type 0 = AllByRecursion (λ d. IsSome (past.entry_as tree rows d.kind d.path)) in
+      let line : L ds = lines-checked given is_tree rows p end file (k p) (top-nothing given is_tree limit)
+      (built-ended given is_tree limit p file made came.1) in
       let entries : past.noted tree rows (arc_value row.deps) ≡ skip.noted s end ds =
       ap (λ (es : List Dep). past.noted tree rows es) same
-      ∙ all-noted ds (notable ds reach (lines tree limits is_tree rows p limit file ended) can) in
+      ∙ all-noted ds (row-notable p file (k p) (built-ended given is_tree limit p file made came.1)
+      (λ q asked. reached p q (k p) refl m asked) line) in
       let made_file : file_in row.outcome ≡ file = ap file_in was.0 ∙ told-final (end p) file (ap told came.1) in
       let new : past.new_record tree rows row ≡ skip.new_record s end p file ds =
       records-same p (file_in row.outcome) file (past.noted tree rows (arc_value row.deps)) (skip.noted s end ds)
       made_file entries in
-      subst (λ (x : Record). IsWitness x s end) (sym new) (built-witness p file m came.1)
+      let needed : List Path = needed_at r request limit in
+      let built_file : (cond (is_among needed p) (option_and_then skip.built_with (end p)) None) ≡ Some file =
+      ap (λ (v : Bool). cond v (option_and_then skip.built_with (end p)) None) (is_among-from needed p m)
+      ∙ ap (λ (o : Option Outcome). option_and_then skip.built_with o) came.1 in
+      ap (λ (o : Option File). skip.record_with s (last_run_of given.past) k limit p o) built_file
+      ∙ ap (λ (x : Record). Some x) (sym new)
+
+  -- it is one of this run, or that of the last book
+  pub row-true : (row : Row) → Contains rows row → is_built row.outcome ≡ true →
+      skip.IsOfRun s (last_run_of given.past) request limit row.path (past.new_record tree rows row)
+  row-true row listed was_built =
+      all-here s (last_run_of given.past) request limit (plain_lawful given) (trees-good tree given.limits) is.within
+      row.path (past.new_record tree rows row) (row-noted row listed was_built)
 
 -- The whole book
 
@@ -288,16 +371,19 @@ pub book-true : (given : GivenView) (report : Report) (book : List Record) → I
 book-true given report book is_tree is new old =
     All-weaker (Contains book) (IsTrueOfTrees given.limits.file_bytes)
     (λ r at. elim ((new.records r).0 at) [
-      | inl here ↦
-          let witness = row-true given.past.sources given.limits is_tree given.request given.limits.targets report is
-          here.row here.listed here.built in
-          record {
-            tree = given.past.sources;
-            limits = given.limits;
-            same_limit = refl;
-            ask = outcome_at (rules_for given) given.limits.targets;
-            witness = subst (λ (x : Record). IsWitness x (sources_for given)
-                (outcome_at (rules_for given) given.limits.targets)) (sym here.is) witness;
-          }
+      | inl here ↦ elim (row-true given is_tree report is here.row here.listed here.built) [
+        | inl witness ↦ record {
+          tree = given.past.sources;
+          limits = given.limits;
+          same_limit = refl;
+          ask = outcome_at (rules_for given) given.limits.targets;
+          witness = subst (λ (x : Record). IsWitness x (sources_for given)
+              (outcome_at (rules_for given) given.limits.targets)) (sym here.is) witness;
+        }
+        | inr known ↦
+            subst (IsTrueOfTrees given.limits.file_bytes) (sym here.is)
+            (looked-up (IsTrueOfTrees given.limits.file_bytes) given.past.book old here.row.path
+            (past.new_record given.past.sources report.rows.items here.row) known)
+      ]
       | inr carried ↦ All-contains (IsTrueOfTrees given.limits.file_bytes) given.past.book r old carried.known
     ]) book (All-contains_itself book)

@@ -6,21 +6,27 @@ use Rattle.std.proofs.lemmas.Slice.Eq.{bytes_eq-Decides}
 use Rattle.redo_record.specs.declared.outcome.Outcome.{Outcome}
 use Rattle.redo_sync.specs.Shown.{Shown}
 use Rattle.redo_step.specs.JobView.{JobView}
-use Rattle.redo_record.specs.Paths.{IsAmong, is_among}
+use Rattle.redo_record.specs.Paths.{AreDistinct, IsAmong, is_among}
 use Rattle.redo_build.specs.Rules.{Ask, Rules, operands}
 use Rattle.redo_build.specs.Outcomes.{outcome_at}
 use Rattle.redo_core.specs.Build.{GivenView, rules_for}
 use Rattle.redo_build.specs.Schedule.{Entry, outcome_of, outcomes_of, entry_of, only}
-use Rattle.redo_core.specs.inside.Works.{job_deps, told_in, IsWorkWith}
+use Rattle.redo_core.specs.inside.Works.{all_asked, job_deps, told_in, IsWorkWith}
+use Rattle.redo_core.specs.inside.Checking.{IsBegunBehind, TellsAlike}
+use Rattle.redo_build.specs.inside.Turns.{IsWork}
+use Rattle.redo_core.proofs.AllAskedLemmas.{asked-cases, asked-second}
+use Rattle.redo_core.proofs.CheckingLemmas.{behind-moves}
+use Rattle.redo_record.specs.Entries.{with_all}
+use Rattle.redo_record.specs.declared.deps.Dep.{Dep}
 use Rattle.redo_core.specs.inside.Slots.{path_at, table_entries, slot_entries, slot_entry, stage_outcome}
-use Rattle.redo_core.specs.inside.Slots.{is_stage_decided, Fits, IsDecidedSlot, IsDecidedNumber, IsFactAt, waited_by}
+use Rattle.redo_core.specs.inside.Slots.{is_stage_decided, AllFit, Fits, IsDecidedSlot, IsDecidedNumber, IsFactAt, waited_by}
 use Rattle.redo_core.specs.inside.Slots.{IsFed, IsFedAs, Gains}
 use Rattle.redo_core.specs.declared.facts.Facts.{Facts}
 use Rattle.redo_core.specs.declared.table.Parked.{Parked}
 use Rattle.redo_core.specs.declared.table.Slot.{Slot}
 use Rattle.redo_core.specs.declared.table.Stage.{Stage}
 use Rattle.redo_core.specs.declared.table.Table.{Table}
-use Rattle.redo_core.specs.declared.table.Stage.TheVariants.{Waiting, Ready, Out, Decided}
+use Rattle.redo_core.specs.declared.table.Stage.TheVariants.{Due, Checking, Waiting, Ready, Out, Decided}
 use Rattle.redo_build.proofs.PathLemmas.{is_among-true}
 use Rattle.redo_build.proofs.DepthLemmas.{cases_Option, operand-target}
 use Rattle.redo_core.proofs.LawfulTreeLemmas.{lawful_for}
@@ -52,6 +58,8 @@ slot-of-path r a (p ∷ ps) (s ∷ slots) q e h = elim (cases_Bool (bytes_eq p q
 ]
 
 decided-stage : (stage : Stage) (o : Outcome) → stage_outcome stage ≡ Some o → is_stage_decided stage ≡ true
+decided-stage (Due d) o h = cc
+decided-stage (Checking c) o h = cc
 decided-stage (Waiting p) o h = cc
 decided-stage (Ready w) o h = cc
 decided-stage Out o h = cc
@@ -73,6 +81,40 @@ known-decided r n t q o h =
       there = found.3;
       decided = decided-stage found.1.stage o (sym (ap (λ (x : Entry). x.outcome) found.4) ∙ e.2);
     }
+
+-- while an undecided slot is out, what is decided stays so
+pub number-kept : (t u : Table) (at : ℕ) (slot gone : Slot) → slice_get t.slots.items at ≡ Some slot → is_stage_decided slot.stage ≡ false →
+    u.slots.items ≡ slice_set t.slots.items at gone → (n : ℕ) → IsDecidedNumber t n → IsDecidedNumber u n
+number-kept t u at slot gone there undecided slots n d =
+    let other : n ≡ at → ⊥ = λ e.
+    (let P : ℕ → Type 0 = λ j. slice_get t.slots.items j ≡ Some d.0 in
+    let both : Some d.0 ≡ Some slot = sym (subst P e d.1) ∙ there in
+    let same : d.0 ≡ slot = cc in
+    both_ways _ undecided (sym (ap (λ (y : Slot). is_stage_decided y.stage) same) ∙ d.2)) in
+    (d.0, rw slots (get-set_other t.slots.items at n gone other ∙ d.1), d.2)
+
+-- and a fact there is that of the number's path, with an outcome that is known
+pub fact-kept : (given : GivenView) (t u : Table) (at : ℕ) (gone : Slot) → gone.stage ≡ Out → u.slots.items ≡ slice_set t.slots.items at gone →
+    AreDistinct t.targets → AllFit (rules_for given) given.limits.targets given t.targets t.slots.items →
+    (n : ℕ) (q : List ℕ) (fact : Shown FactView) → slice_get t.targets n ≡ Some q → IsFactAt u n fact →
+    (fact.value.target ≡ q) × (outcomes_of (table_entries (rules_for given) given.limits.targets t) q ≡ Some fact.value.outcome)
+fact-kept given t u at gone out slots distinct all n q fact path there =
+    let r = rules_for given in
+    let a = outcomes_of (table_entries r given.limits.targets t) in
+    let get : slice_get (slice_set t.slots.items at gone) n ≡ Some there.0 = sym (ap (λ xs. slice_get xs n) slots) ∙ there.1 in
+    elim (get-set_cases t.slots.items at n gone there.0 get) [
+      | inl here ↦ absurd (
+          let decided : gone.stage ≡ Decided fact = ap (λ (y : Slot). y.stage) here.1 ∙ there.2 in
+          let bad : Out ≡ Decided fact = sym out ∙ decided in
+          cc)
+      | inr old ↦
+          let F : Stage → Type 0 = Fits r a given (path_at t.targets n) there.0.turn in
+          let fits : Fits r a given (path_at t.targets n) there.0.turn (Decided fact) = subst F there.2 (all n there.0 old.1) in
+          let is : path_at t.targets n ≡ q = rw path refl in (
+            fits.1 ∙ is,
+            ap outcome_of (entry_of-slots r (outcome_at r given.limits.targets) t.targets t.slots.items n q there.0 distinct path old.1) ∙ ap stage_outcome there.2,
+          )
+    ]
 
 module _ (given : GivenView) (t : Table) (at : ℕ) (slot : Slot) (parked : Parked) where
   -- what was fed is this job
@@ -96,14 +138,7 @@ module _ (given : GivenView) (t : Table) (at : ℕ) (slot : Slot) (parked : Park
 
     -- a decided number is another than that of the job
     number-still : (n : ℕ) → IsDecidedNumber t n → IsDecidedNumber u n
-    number-still n d =
-        let other : n ≡ at → ⊥ = λ e.
-        (let P : ℕ → Type 0 = λ j. slice_get t.slots.items j ≡ Some d.0 in
-        let both : Some d.0 ≡ Some slot = sym (subst P e d.1) ∙ fed.there in
-        let same : d.0 ≡ slot = cc in
-        let no : is_stage_decided d.0.stage ≡ false = ap (λ (y : Slot). is_stage_decided y.stage) same ∙ ap is_stage_decided fed.was in
-        both_ways _ no d.2) in
-        (d.0, rw slots (get-set_other t.slots.items at n gone other ∙ d.1), d.2)
+    number-still = number-kept t u at slot gone fed.there (ap is_stage_decided fed.was) slots
 
     -- a path that is known is decided at its number
     known-number : (n : ℕ) (q : List ℕ) → slice_get t.targets n ≡ Some q → IsDecidedSlot t q → IsDecidedNumber t n
@@ -123,48 +158,38 @@ module _ (given : GivenView) (t : Table) (at : ℕ) (slot : Slot) (parked : Park
       | inr after' ↦ fed.rest k n after' (slice_get-below_some parked.operands.items k n get) get
     ])
 
-    -- a fact there is that of the number's path, with an outcome that is known
     fact-known : (n : ℕ) (q : List ℕ) (fact : Shown FactView) → slice_get t.targets n ≡ Some q → IsFactAt u n fact →
         (fact.value.target ≡ q) × (outcomes_of (table_entries (rules_for given) given.limits.targets t) q ≡ Some fact.value.outcome)
-    fact-known n q fact path there =
-        let get : slice_get (slice_set t.slots.items at gone) n ≡ Some there.0 = sym (ap (λ xs. slice_get xs n) slots) ∙ there.1 in
-        elim (get-set_cases t.slots.items at n gone there.0 get) [
-          | inl here ↦ absurd (
-              let decided : gone.stage ≡ Decided fact = ap (λ (y : Slot). y.stage) here.1 ∙ there.2 in
-              let bad : Out ≡ Decided fact = sym out ∙ decided in
-              cc)
-          | inr old ↦
-              let F : Stage → Type 0 = Fits r a given (path_at t.targets n) there.0.turn in
-              let fits : Fits r a given (path_at t.targets n) there.0.turn (Decided fact) = subst F there.2 (fed.fits n there.0 old.1) in
-              let is : path_at t.targets n ≡ q = rw path refl in (
-                fits.1 ∙ is,
-                ap outcome_of (entry_of-slots r (outcome_at r given.limits.targets) t.targets t.slots.items n q there.0 fed.distinct path old.1) ∙ ap stage_outcome there.2,
-              )
-        ]
+    fact-known = fact-kept given t u at gone out slots fed.distinct fed.fits
 
     module _ (facts : Facts) (g : Gains u parked.operands.items parked.begun.value.job parked.begun.value.facts facts) where
       abbrev job : JobView
       job = parked.begun.value.job
 
+      abbrev asked : List Dep
+      asked = all_asked parked.begun.value.job parked.begun.value.facts
+
       -- what it holds is known, and asked for
-      told : (q : List ℕ) (o : Outcome) → told_in facts q ≡ Some o → IsAmong (operands (rules_for given) (job_deps parked.begun.value.job)) q × (outcomes_of (table_entries (rules_for given) given.limits.targets t) q ≡ Some o)
+      told : (q : List ℕ) (o : Outcome) → told_in facts q ≡ Some o →
+          IsAmong (operands (rules_for given) (all_asked parked.begun.value.job parked.begun.value.facts)) q × (outcomes_of (table_entries (rules_for given) given.limits.targets t) q ≡ Some o)
       told q o h = elim (g.below.origin q o h) [
         | inl old ↦ fed.waits.told q o old
         | inr new ↦
             let path = numbers-number t.targets parked.operands.items (waited_by r parked.begun.value) new.k new.n fed.numbered new.number in
             let known = fact-known new.n path.0 new.fact path.2 new.there in
             let same : path.0 ≡ q = sym known.0 ∙ new.target in
-            let P : List ℕ → Type 0 = λ x. IsAmong (operands r (job_deps parked.begun.value.job)) x × (a x ≡ Some o) in
+            let P : List ℕ → Type 0 = λ x. IsAmong (operands r asked) x × (a x ≡ Some o) in
             subst P same (
-              asked_of_job given parked.begun.value.job fed.waits.is_job (omega (arith, fed.waits.at_turn, fed.waits.stopped)) path.0
-                  (waited-declared r parked.begun.value.job.state.entries parked.begun.value.facts.gained path.0 (slice_get-among (waited_by r parked.begun.value) new.k path.0 path.1)),
+              asked-second r parked.begun.value.facts.asked (job_deps parked.begun.value.job) path.0
+                  (asked_of_job given parked.begun.value.job fed.waits.is_job (omega (arith, fed.waits.at_turn, fed.waits.stopped)) path.0
+                  (waited-declared r parked.begun.value.job.state.entries parked.begun.value.facts.gained path.0 (slice_get-among (waited_by r parked.begun.value) new.k path.0 path.1))),
               known.1 ∙ ap Some new.outcome,
             )
       ]
 
-      -- it holds all that is asked for
-      complete : (q : List ℕ) → IsAmong (operands (rules_for given) (job_deps parked.begun.value.job)) q → told_in facts q ≡ None → ⊥
-      complete q m none =
+      -- it holds all that the job asked for
+      own_complete : (q : List ℕ) → IsAmong (operands (rules_for given) (job_deps parked.begun.value.job)) q → told_in facts q ≡ None → ⊥
+      own_complete q m none =
           let entries = parked.begun.value.job.state.entries in
           let found = operand-entry r entries q (asked_by_job given parked.begun.value.job fed.waits.is_job q m) in
           elim (cases_lt found.0 parked.begun.value.facts.gained) [
@@ -181,23 +206,57 @@ module _ (given : GivenView) (t : Table) (at : ℕ) (slot : Slot) (parked : Park
                 g.below.known place.0 number.0 fact.0 (slice_get-below_some parked.operands.items place.0 number.0 number.1) number.1 there lost
           ]
 
-      exact : (q : List ℕ) → told_in facts q ≡ only (operands (rules_for given) (job_deps parked.begun.value.job)) (outcome_at (rules_for given) fed.is_work.depth) q
+      -- and all that the check did
+      complete : (q : List ℕ) → IsAmong (operands (rules_for given) (all_asked parked.begun.value.job parked.begun.value.facts)) q → told_in facts q ≡ None → ⊥
+      complete q m none = elim (asked-cases r parked.begun.value.facts.asked (job_deps parked.begun.value.job) q m) [
+        | inl first ↦ fed.waits.checked q first (g.below.kept q none)
+        | inr second ↦ own_complete q second none
+      ]
+
+      exact : (q : List ℕ) → told_in facts q ≡
+          only (operands (rules_for given) (all_asked parked.begun.value.job parked.begun.value.facts)) (outcome_at (rules_for given) fed.is_work.depth) q
       exact q = elim (cases_Option (told_in facts q)) [
-        | inl none ↦ elim (cases_Bool (is_among (operands r (job_deps parked.begun.value.job)) q)) [
-          | inl t' ↦ absurd (complete q (is_among-true (operands r (job_deps parked.begun.value.job)) q t') none)
+        | inl none ↦ elim (cases_Bool (is_among (operands r asked) q)) [
+          | inl t' ↦ absurd (complete q (is_among-true (operands r asked) q t') none)
           | inr f ↦ none ∙ sym (rw f refl)
         ]
         | inr some ↦
             let known = told q some.0 some.1 in
-            some.1 ∙ sym (fed.deep q some.0 (operand-target r (lawful_for given) (job_deps parked.begun.value.job) q known.0) known.1) ∙
-            sym (only-among (operands r (job_deps parked.begun.value.job)) (outcome_at r fed.is_work.depth) q known.0)
+            some.1 ∙ sym (fed.deep q some.0 (operand-target r (lawful_for given) asked q known.0) known.1) ∙
+            sym (only-among (operands r asked) (outcome_at r fed.is_work.depth) q known.0)
       ]
+
+      -- what it held it still holds
+      held-alike : TellsAlike (rules_for given) parked.begun.value.facts.asked (told_in parked.begun.value.facts) (told_in facts)
+      held-alike q m = elim (cases_Option (told_in parked.begun.value.facts q)) [
+        | inl lost ↦ absurd (fed.waits.checked q m lost)
+        | inr some ↦ elim (cases_Option (told_in facts q)) [
+          | inl none ↦ absurd (let was = g.below.kept q none in let bad = sym was ∙ some.1 in cc)
+          | inr now ↦ some.1 ∙ sym (fed.waits.told q some.0 some.1).1 ∙ (told q now.0 now.1).1 ∙ sym now.1
+        ]
+      ]
+
+      behind : IsBegunBehind given parked.begun.value.job.target facts.asked (told_in facts)
+      behind =
+          let one = behind-moves given (path_at t.targets at) parked.begun.value.facts.asked (told_in parked.begun.value.facts) (told_in facts) fed.waits.behind held-alike in
+          let P : List ℕ → Type 0 = λ p. IsBegunBehind given p parked.begun.value.facts.asked (told_in facts) in
+          let Q : List Dep → Type 0 = λ ds. IsBegunBehind given parked.begun.value.job.target ds (told_in facts) in
+          subst Q (sym g.below.asked) (subst P (sym fed.waits.of_target) one)
+
+      -- it holds the outcomes of a work of all that was asked for
+      fits-work : (work : IsWork (rules_for given) parked.begun.value.job.target parked.begun.value.job.turn (all_asked parked.begun.value.job facts)) ×
+          ((q : List ℕ) → told_in facts q ≡ only (operands (rules_for given) (all_asked parked.begun.value.job facts)) (outcome_at (rules_for given) work.depth) q)
+      fits-work =
+          let P : List Dep → Type 0 = λ ds. (work : IsWork r parked.begun.value.job.target parked.begun.value.job.turn ds) ×
+          ((q : List ℕ) → told_in facts q ≡ only (operands r ds) (outcome_at r work.depth) q) in
+          subst P (ap (λ ds. with_all ds (job_deps parked.begun.value.job)) (sym g.below.asked)) (fed.is_work, exact)
 
       pub fed-work : IsWorkWith given parked.begun.value.job facts
       fed-work = record {
         is_job = fed.waits.is_job;
-        is_work = fed.is_work;
-        exact = exact;
+        is_work = fits-work.0;
+        exact = fits-work.1;
+        behind = behind;
         declared = λ q m. asked_of_job given parked.begun.value.job fed.waits.is_job (omega (arith, fed.waits.at_turn, fed.waits.stopped)) q m;
         goes_on = λ later keeps. fed.waits.goes_on later (record {
           same = λ p o none entered known. elim (cases_Option (told_in facts p)) [

@@ -7,17 +7,25 @@ use Rattle.redo_record.specs.Paths.{IsAmong, AreDistinct, is_among}
 use Rattle.redo_build.specs.Rules.{Ask, Rules, operands}
 use Rattle.redo_build.specs.Outcomes.{outcome_at}
 use Rattle.redo_core.specs.Build.{GivenView, rules_for}
-use Rattle.redo_build.specs.Schedule.{Entry, State, outcome_of, outcomes_of, paths_of, is_able_to_go_on, lacks_none}
-use Rattle.redo_core.specs.inside.Slots.{state_from, slot_entries, slot_entry, stage_deps, stage_outcome, path_at}
+use Rattle.redo_build.specs.Schedule.{Entry, State, outcome_of, outcomes_of, paths_of, known_to, may_run, lacks_none, only}
+use Rattle.redo_core.specs.inside.Slots.{rounds_of, state_from, slot_entries, slot_entry, stage_deps, stage_outcome, path_at}
 use Rattle.redo_core.specs.inside.Slots.{is_stage_out, is_stage_ready, is_stage_waiting, AllWatched, AllAnswered}
 use Rattle.redo_core.specs.inside.Slots.{IsPlace, IsTableOf}
+use Rattle.redo_core.specs.inside.Slots.{Fits, IsDueWith}
+use Rattle.redo_core.specs.inside.Checking.{IsDueCheck, asks_next}
+use Rattle.redo_core.specs.declared.check.Check.{Check}
+use Rattle.redo_core.specs.declared.table.InCheck.{InCheck}
 use Rattle.redo_core.specs.declared.table.Slot.{Slot}
+use Rattle.redo_core.proofs.CheckingLemmas.{due-asks, due-kept}
+use Rattle.redo_build.proofs.DepthLemmas.{cases_Option}
+use Rattle.std.specs.Prelude.{Box}
+use Rattle.std.proofs.Common.{Global}
 use Rattle.redo_core.specs.declared.table.Table.{Table}
 use Rattle.redo_core.specs.declared.table.Stage.{Stage}
-use Rattle.redo_core.specs.declared.table.Stage.TheVariants.{Waiting, Ready, Out, Decided}
+use Rattle.redo_core.specs.declared.table.Stage.TheVariants.{Due, Checking, Waiting, Ready, Out, Decided}
 use Rattle.redo_build.proofs.PathLemmas.{is_among-true, is_among-from, IsAmong-same}
 use Rattle.redo_build.proofs.QueueLemmas.{slice_get-among}
-use Rattle.redo_build.proofs.SoundLemmas.{is_able_to_go_on-parts, lacks_none-true}
+use Rattle.redo_build.proofs.SoundLemmas.{may_run-parts, lacks_none-true}
 use Rattle.redo_core.proofs.SlotLemmas.{entry_of-slots, slice_get-from, slice_get-below_some, ready-job}
 use Rattle.redo_core.proofs.PlaceLemmas.{AscendFrom, filter-places}
 use Rattle.redo_record.specs.declared.deps.Dep.{Dep}
@@ -29,25 +37,25 @@ distinct-place (x ∷ ps) zero (suc j) p d h g = absurd (let is : p ≡ x = cc i
 distinct-place (x ∷ ps) (suc i) zero p d h g = absurd (let is : p ≡ x = cc in d.0 (IsAmong-same ps p x is (slice_get-among ps i p h)))
 distinct-place (x ∷ ps) (suc i) (suc j) p d h g = ap suc (distinct-place ps i j p d.1 h g)
 
-slot-of-entry : (r : Rules) (a : Ask) (ps : List (List ℕ)) (slots : List Slot) (i : ℕ) (e : Entry) → slice_get (slot_entries r a ps slots) i ≡ Some e →
+pub slot-of-entry : (r : Rules) (a : Ask) (ps : List (List ℕ)) (slots : List Slot) (i : ℕ) (e : Entry) → slice_get (slot_entries r a ps slots) i ≡ Some e →
     (slot : Slot) × (p : List ℕ) × (slice_get slots i ≡ Some slot) × (slice_get ps i ≡ Some p) × (slot_entry r a p slot ≡ e)
 slot-of-entry r a [] slots i e h = cc
 slot-of-entry r a (p ∷ ps) [] i e h = cc
 slot-of-entry r a (p ∷ ps) (s ∷ slots) zero e h = (s, p, refl, refl, (cc))
 slot-of-entry r a (p ∷ ps) (s ∷ slots) (suc i) e h = slot-of-entry r a ps slots i e h
 
-among-map : (f : ℕ → List ℕ) (xs : List ℕ) (p : List ℕ) → IsAmong (map f xs) p → (k : ℕ) × IsPlace xs k × (f k ≡ p)
+pub among-map : (f : ℕ → List ℕ) (xs : List ℕ) (p : List ℕ) → IsAmong (map f xs) p → (k : ℕ) × IsPlace xs k × (f k ≡ p)
 among-map f [] p m = absurd m
 among-map f (x ∷ xs) p m = elim m [
   | inl here ↦ (x, inl refl, here)
   | inr later ↦ let found = among-map f xs p later in (found.0, inr found.1, found.2)
 ]
 
-map-among : (f : ℕ → List ℕ) (xs : List ℕ) (k : ℕ) → IsPlace xs k → IsAmong (map f xs) (f k)
+pub map-among : (f : ℕ → List ℕ) (xs : List ℕ) (k : ℕ) → IsPlace xs k → IsAmong (map f xs) (f k)
 map-among f [] k m = absurd m
 map-among f (x ∷ xs) k m = elim m [ inl here ↦ inl (ap f here) | inr later ↦ inr (map-among f xs k later) ]
 
-none-lacks : (f : List ℕ → Option Rattle.redo_record.specs.declared.outcome.Outcome.Outcome) (qs : List (List ℕ)) → ((q : List ℕ) → IsAmong qs q → f q ≡ None → ⊥) → list_any (λ q. is_none (f q)) qs ≡ false
+pub none-lacks : (f : List ℕ → Option Rattle.redo_record.specs.declared.outcome.Outcome.Outcome) (qs : List (List ℕ)) → ((q : List ℕ) → IsAmong qs q → f q ≡ None → ⊥) → list_any (λ q. is_none (f q)) qs ≡ false
 none-lacks f [] h = refl
 none-lacks f (q ∷ qs) h =
     let rest = none-lacks f qs (λ x m. h x (inr m)) in
@@ -61,6 +69,14 @@ length-slots r a [] [] h = refl
 length-slots r a [] (slot ∷ slots) h = absurd (omega arith)
 length-slots r a (p ∷ ps) [] h = refl
 length-slots r a (p ∷ ps) (slot ∷ slots) h = ap suc (length-slots r a ps slots (omega arith))
+
+-- the script of a target isn't begun while its check can go on
+pub due-begins : (given : GivenView) (p : List ℕ) (a : Ask) (c : Check) → IsDueCheck given p a c →
+    (rules_for given).begins p (only (operands (rules_for given) c.asked) a) ≡ false
+due-begins given p a c due = elim (cases_Option (asks_next given c)) [
+  | inl none ↦ (due-kept given p a c due none).1
+  | inr some ↦ (due-asks given p a c some.0 due some.1).1
+]
 
 module _ (given : GivenView) (t : Table) (newly_ready sorted : List ℕ) (table : IsTableOf given t newly_ready) (distinct : AreDistinct t.targets)
     (watched : AllWatched (rules_for given) given.limits.targets t.targets t.slots.items [])
@@ -80,7 +96,7 @@ module _ (given : GivenView) (t : Table) (newly_ready sorted : List ℕ) (table 
       let is : path_at t.targets k ≡ found.0 = rw found.1 refl in
       found.1 ∙ ap Some (sym is)
 
-  make_ready-there : (i : ℕ) (e : Entry) → slice_get s.entries i ≡ Some e → IsPlace newly_ready i → is_able_to_go_on (rules_for given) s e ≡ true
+  make_ready-there : (i : ℕ) (e : Entry) → slice_get s.entries i ≡ Some e → IsPlace newly_ready i → may_run (rules_for given) s e ≡ true
   make_ready-there i e h m =
       let found = slot-of-entry r a t.targets t.slots.items i e h in
       let slot = found.0 in
@@ -90,7 +106,7 @@ module _ (given : GivenView) (t : Table) (newly_ready sorted : List ℕ) (table 
       let outcome : e.outcome ≡ None = sym (ap (λ (x : Entry). x.outcome) found.4) ∙ (let O : Stage → Type 0 = λ st. stage_outcome st ≡ None in subst O (sym job.1) refl) in
       let inside : e.is_out ≡ false = sym (ap (λ (x : Entry). x.is_out) found.4) ∙ (let I : Stage → Type 0 = λ st. is_stage_out st ≡ false in subst I (sym job.1) refl) in
       let work = job.0 in
-      let D : Stage → Type 0 = λ st. stage_deps r a p slot.turn st ≡ work.deps in
+      let D : Stage → Type 0 = λ st. stage_deps r a p (rounds_of slot) st ≡ work.deps in
       let deps : e.deps ≡ job.0.deps = sym (ap (λ (x : Entry). x.deps) found.4) ∙ subst D (sym job.1) refl in
       let path : e.path ≡ p = sym (ap (λ (x : Entry). x.path) found.4) in
       let P : List Dep → Type 0 = λ ds. AllAnswered r (outcomes_of s.entries) ds in
@@ -103,14 +119,19 @@ module _ (given : GivenView) (t : Table) (newly_ready sorted : List ℕ) (table 
             table.queue.apart at.0 at.1 (let Q : ℕ → Type 0 = IsPlace newly_ready in subst Q (sym same) m))
         | inr f ↦ f
       ] in
-      and_from _ _ (and_from _ _ (and_from _ _ (let o : is_none e.outcome ≡ true = rw outcome refl in o) all) (not_from_false _ inside)) (not_from_false _ away)
+      let here : path_at t.targets i ≡ e.path = (let same : path_at t.targets i ≡ p = rw found.3 refl in same) ∙ sym path in
+      let B : List ℕ → List Dep → Type 0 = λ q ds. r.begins q (only (operands r ds) (outcomes_of s.entries)) ≡ true in
+      let A : List ℕ → Type 0 = λ q. B q work.deps in
+      let C : List Dep → Type 0 = λ ds. B e.path ds in
+      let begun : r.begins e.path (known_to r s.entries e) ≡ true = subst C (sym deps) (subst A here job.4) in
+      and_from _ _ (and_from _ _ (and_from _ _ (and_from _ _ (let o : is_none e.outcome ≡ true = rw outcome refl in o) all) (not_from_false _ inside)) (not_from_false _ away)) begun
 
-  make_ready-alone : (i : ℕ) (e : Entry) → slice_get s.entries i ≡ Some e → is_able_to_go_on (rules_for given) s e ≡ true → IsPlace newly_ready i
+  make_ready-alone : (i : ℕ) (e : Entry) → slice_get s.entries i ≡ Some e → may_run (rules_for given) s e ≡ true → IsPlace newly_ready i
   make_ready-alone i e h free =
       let found = slot-of-entry r a t.targets t.slots.items i e h in
       let slot = found.0 in
       let p = found.1 in
-      let parts = is_able_to_go_on-parts r s e free in
+      let parts = may_run-parts r s e free in
       let path : e.path ≡ p = sym (ap (λ (x : Entry). x.path) found.4) in
       let here : path_at t.targets i ≡ p = rw found.3 refl in
       let outcome : stage_outcome slot.stage ≡ None = ap (λ (x : Entry). x.outcome) found.4 ∙ parts.0 in
@@ -122,25 +143,40 @@ module _ (given : GivenView) (t : Table) (newly_ready sorted : List ℕ) (table 
               let q = path_at t.targets v.at in
               let known = ap outcome_of (entry_of-slots r a t.targets t.slots.items v.at q v.other distinct
               (key-at v.at (slice_get-below_some t.slots.items v.at v.other v.there)) v.there) in
-              let D : List ℕ → Type 0 = λ x. IsAmong (operands r (stage_deps r a x slot.turn slot.stage)) q in
+              let D : List ℕ → Type 0 = λ x. IsAmong (operands r (stage_deps r a x (rounds_of slot) slot.stage)) q in
               let E : Entry → Type 0 = λ x. IsAmong (operands r x.deps) q in
               lacks_none-true r s.entries e parts.1 q (subst E found.4 (subst D here v.asked)) (known ∙ v.is_open)
         ])
-        | inr ready ↦ elim (table.queue.ready_in i slot found.2 ready) [
-          | inl queued ↦ absurd (both_ways _ parts.3 (is_among-from s.ready e.path
-              (IsAmong-same s.ready (path_at t.targets i) e.path (here ∙ sym path) (map-among (path_at t.targets) t.ready.items i queued))))
-          | inr f ↦ f
+        | inr other ↦ elim other [
+          | inl ready ↦ elim (table.queue.ready_in i slot found.2 ready) [
+            | inl queued ↦ absurd (both_ways _ parts.3 (is_among-from s.ready e.path
+                (IsAmong-same s.ready (path_at t.targets i) e.path (here ∙ sym path) (map-among (path_at t.targets) t.ready.items i queued))))
+            | inr f ↦ f
+          ]
+          | inr due ↦ absurd (
+              let F : Stage → Type 0 = Fits r (outcomes_of s.entries) given (path_at t.targets i) slot.turn in
+              let fits : IsDueWith r (outcomes_of s.entries) given (path_at t.targets i) slot.turn due.0.value = subst F due.1 (table.fits i slot found.2) in
+              let D : Stage → Type 0 = λ st. stage_deps r a p (rounds_of slot) st ≡ due.0.value.check.asked in
+              let deps : e.deps ≡ due.0.value.check.asked = sym (ap (λ (x : Entry). x.deps) found.4) ∙ subst D (sym due.1) refl in
+              let B : List ℕ → List Dep → Type 0 = λ q ds. r.begins q (only (operands r ds) (outcomes_of s.entries)) ≡ true in
+              let A : List ℕ → Type 0 = λ q. B q due.0.value.check.asked in
+              let C : List Dep → Type 0 = λ ds. B e.path ds in
+              both_ways _ (due-begins given (path_at t.targets i) (outcomes_of s.entries) due.0.value.check fits.is_due)
+              (subst A (path ∙ sym here) (subst C deps parts.4)))
         ]
       ]
     where
-      three : (stage : Stage) → stage_outcome stage ≡ None → is_stage_out stage ≡ false → (is_stage_waiting stage ≡ true) ⊎ (is_stage_ready stage ≡ true)
+      three : (stage : Stage) → stage_outcome stage ≡ None → is_stage_out stage ≡ false →
+          (is_stage_waiting stage ≡ true) ⊎ ((is_stage_ready stage ≡ true) ⊎ ((held : Box InCheck Global) × (stage ≡ Due held)))
+      three (Due held) o i' = inr (inr (held, refl))
+      three (Checking awaiting) o i' = inl refl
       three (Waiting parked) o i' = inl refl
-      three (Ready work) o i' = inr refl
+      three (Ready work) o i' = inr (inl refl)
       three Out o i' = cc
       three (Decided fact) o i' = cc
 
-  pub newly_ready-paths : paths_of (filter (is_able_to_go_on (rules_for given) s) s.entries) ≡ map (path_at t.targets) sorted
-  newly_ready-paths = filter-places (is_able_to_go_on r s) (path_at t.targets) 0 s.entries sorted (record {
+  pub newly_ready-paths : paths_of (filter (may_run (rules_for given) s) s.entries) ≡ map (path_at t.targets) sorted
+  newly_ready-paths = filter-places (may_run r s) (path_at t.targets) 0 s.entries sorted (record {
     ascending = ascends;
     within = λ k m. omega (arith, table.queue.newly_ready_below k (in' k m), length-slots r a t.targets t.slots.items table.one_each);
     passes = λ i e h m. let P : ℕ → Type 0 = IsPlace sorted in let same : 0 + i ≡ i = omega arith in make_ready-there i e h (in' i (subst P same m));

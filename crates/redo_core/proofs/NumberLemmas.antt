@@ -7,7 +7,7 @@ use Rattle.redo_build.specs.Rules.{Rules}
 use Rattle.redo_core.specs.inside.Slots.{AreNumbers, IsNumbered, AllNumbered, is_stage_waiting, waited_by}
 use Rattle.redo_core.specs.declared.table.Slot.{Slot}
 use Rattle.redo_core.specs.declared.table.Stage.{Stage}
-use Rattle.redo_core.specs.declared.table.Stage.TheVariants.{Waiting, Ready, Out, Decided}
+use Rattle.redo_core.specs.declared.table.Stage.TheVariants.{Due, Checking, Waiting, Ready, Out, Decided}
 use Rattle.redo_core.proofs.TableLemmas.{get-set_cases}
 
 module _ (ps : List (List ℕ)) where
@@ -47,6 +47,8 @@ module _ (ps : List (List ℕ)) where
     numbers-kept (n ∷ ns) (q ∷ qs) h = (kept n q h.0, numbers-kept ns qs h.1)
 
     pub numbered-kept : (r : Rules) (stage : Stage) → IsNumbered r ps stage → IsNumbered r us stage
+    numbered-kept r (Due held) h = tt
+    numbered-kept r (Checking awaiting) h = kept awaiting.at awaiting.path h
     numbered-kept r (Waiting parked) h = numbers-kept parked.operands.items (waited_by r parked.begun.value) h
     numbered-kept r (Ready work) h = tt
     numbered-kept r Out h = tt
@@ -54,6 +56,8 @@ module _ (ps : List (List ℕ)) where
 
 -- what doesn't wait has no numbers
 pub numbered-still : (r : Rules) (ps : List (List ℕ)) (stage : Stage) → is_stage_waiting stage ≡ false → IsNumbered r ps stage
+numbered-still r ps (Due held) h = tt
+numbered-still r ps (Checking awaiting) h = cc
 numbered-still r ps (Waiting parked) h = cc
 numbered-still r ps (Ready work) h = tt
 numbered-still r ps Out h = tt

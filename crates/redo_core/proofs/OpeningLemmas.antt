@@ -1,5 +1,5 @@
 -- The opening of a build on the table.
-use Rattle.std.proofs.Common.{slice_get, ◌≡◌, ℕ, zero, suc, ◌+◌, ◌<◌, ◌≤◌, Bool, true, false, cond, not, List, [], ◌∷◌}
+use Rattle.std.proofs.Common.{slice_get, ◌≡◌, ℕ, zero, suc, ◌+◌, ◌*◌, ◌<◌, ◌≤◌, Bool, true, false, cond, not, List, [], ◌∷◌}
 use Rattle.std.proofs.Common.{◌++◌, Some, inl, inr, length, take, drop, take-append-drop, refl, sym, ap, subst}
 use Rattle.std.proofs.Common.{◌∙◌, arith}
 use Rattle.std.proofs.lemmas.Bool.{cases_Bool}
@@ -8,17 +8,23 @@ use Rattle.redo_record.specs.Paths.{IsAmong, is_among, with_new}
 use Rattle.redo_build.specs.Rules.{Rules}
 use Rattle.redo_build.specs.Outcomes.{IsTooMany}
 use Rattle.redo_core.specs.Build.{GivenView, rules_for}
-use Rattle.redo_build.specs.Schedule.{Entry, State, paths_of, entered, enqueued, opening}
+use Rattle.redo_build.specs.Schedule.{Entry, State, paths_of, entered, enqueued, opening, out_count}
 use Rattle.redo_build.specs.inside.Standing.{AreStanding}
 use Rattle.redo_core.specs.declared.board.Board.TheInside.{Inside}
 use Rattle.redo_build.proofs.QuietLemmas.{is_part}
-use Rattle.redo_core.specs.inside.Slots.{IsKept, table_entries, table_state, targets_in, IsTableOf, AllWatched}
-use Rattle.redo_core.specs.inside.Slots.{AreEnteredInto, AreEnqueued, IsFirstTable}
+use Rattle.redo_build.specs.Looking.{IsLookedOut, looked}
+use Rattle.redo_build.specs.TakesLeft.{takes_left}
+use Rattle.redo_build.proofs.CountLemmas.{opening-left, opening-out}
+use Rattle.redo_build.proofs.StillLemmas.{looked-count}
+use Rattle.redo_core.specs.inside.Slots.{IsAtRest, IsKept, table_entries, table_state, targets_in, IsTableOf, AllWatched}
+use Rattle.redo_core.specs.inside.Slots.{AreEnteredInto, AreEnqueued, IsFirstTable, IsLookedOn, rules_inside, state_of}
+use Rattle.redo_core.proofs.LookLemmas.{none_due}
+use Rattle.redo_core.proofs.LookedLemmas.{looked-left, looked-longer}
 use Rattle.redo_core.specs.declared.table.Table.{Table}
 use Rattle.redo_build.proofs.PathLemmas.{is_among-true, with_new-second}
 use Rattle.redo_build.proofs.SeenLemmas.{paths_of-entered, entered-longer}
 use Rattle.redo_core.proofs.LawfulTreeLemmas.{lawful_for}
-use Rattle.redo_build.proofs.SoundLemmas.{opening-sound}
+use Rattle.redo_build.proofs.SoundLemmas.{IsSound, opening-sound}
 use Rattle.redo_core.proofs.EnterAllLemmas.{entered-append, entered-seen}
 use Rattle.redo_core.proofs.EnqueueLemmas.{enqueued-table, enqueued-watched, enqueued-state}
 
@@ -66,8 +72,9 @@ entered-new r es ps (q ∷ qs) =
 pub opening-entries : (given : GivenView) (request : List (List ℕ)) → (opening (rules_for given) request).entries ≡ entered (rules_for given) [] (targets_in (rules_for given) request)
 opening-entries given request = entered-new (rules_for given) [] [] (targets_in (rules_for given) request)
 
-pub empty-table : (given : GivenView) (t : Table) → t.targets ≡ [] → t.slots.items ≡ [] → t.ready.items ≡ [] → t.out ≡ 0 → given.limits.targets ≤ 65536 → IsTableOf given t []
-empty-table given t keys slots ready out few = rw (keys, slots, ready, out) (record {
+pub empty-table : (given : GivenView) (t : Table) → t.targets ≡ [] → t.slots.items ≡ [] → t.ready.items ≡ [] → t.due.keys ≡ [] → t.out ≡ 0 →
+    given.limits.targets ≤ 65536 → IsTableOf given t []
+empty-table given t keys slots ready due out few = rw (keys, slots, ready, due, out) (record {
   one_each = refl;
   within_limit = omega arith;
   few = few;
@@ -81,6 +88,11 @@ empty-table given t keys slots ready out few = rw (keys, slots, ready, out) (rec
     ready_in = λ k x g h. absurd (nothing k x g);
     apart = λ k m n. n;
     once = tt;
+  };
+  due_listed = record {
+    below = λ k m. absurd m;
+    due_is = λ k x m g. absurd (nothing k x g);
+    due_in = λ k x g h. absurd (nothing k x g);
   };
   watchers_below = λ i k x g m. absurd (nothing i x g);
 })
@@ -112,13 +124,53 @@ first-is given t u v newly_ready keys slots ready a w =
       state = enqueued-state given request u v newly_ready a.table standing watched w ∙ ap (enqueued r) before;
     }
 
--- a board with the first table keeps what it shows
-pub first-kept : (b : Inside) → IsFirstTable b.build b.table → IsKept b
-first-kept b first = record {
+-- the first table is at rest
+pub first-at_rest : (given : GivenView) (t : Table) → IsFirstTable given t → IsAtRest given t
+first-at_rest given t first = record {
   reached = record { events = []; all_open = tt; ends = first.state };
   table = first.table;
   watched = first.watched;
 }
+
+-- what a board has come to that was opened and has looked ahead
+module _ (b : Inside) (t : Table) (first : IsFirstTable b.build t) (ahead : IsLookedOn b.build t b.table) (none : b.table.due.keys ≡ []) where
+  pub opened-kept : IsKept b
+  opened-kept = record {
+    reached = ahead.at_rest.reached;
+    table = ahead.at_rest.table;
+    watched = ahead.at_rest.watched;
+    none_due = none;
+  }
+
+  pub opened-state : state_of b ≡ looked (rules_inside b) ahead.looks (opening (rules_inside b) b.build.request)
+  opened-state = ahead.state ∙ ap (looked (rules_inside b) ahead.looks) first.state
+
+  pub opened-looked : IsLookedOut (rules_inside b) (opening (rules_inside b) b.build.request) (state_of b)
+  opened-looked = record { looks = ahead.looks; is = opened-state; none_due = none_due b.build b.table ahead.at_rest none }
+
+  first-sound : IsSound (rules_inside b) b.build.request (opening (rules_inside b) b.build.request)
+  first-sound = opening-sound (rules_inside b) (lawful_for b.build) b.build.request
+
+  pub opened-out : out_count (state_of b) ≡ 0
+  opened-out =
+      let r = rules_inside b in
+      ap out_count opened-state
+      ∙ looked-count r (lawful_for b.build) b.build.request ahead.looks (opening r b.build.request) first-sound
+      ∙ opening-out r b.build.request
+
+  pub opened-left : length (state_of b).entries ≤ b.build.limits.targets →
+      takes_left b.build.limits.targets (state_of b) ≤ b.build.limits.targets * b.build.limits.targets
+  opened-left few =
+      let r = rules_inside b in
+      let limit : ℕ = b.build.limits.targets in
+      let start : State = opening r b.build.request in
+      let P : State → Type 0 = λ s. length s.entries ≤ limit → takes_left limit s ≤ limit * limit in
+      let whole : P (looked r ahead.looks start) = λ within.
+      let behind = looked-left r (lawful_for b.build) b.build.request limit ahead.looks start first-sound within in
+      let longer = looked-longer r ahead.looks start in
+      let before = opening-left r b.build.request limit (omega (arith, within, longer)) in
+      omega (arith, behind, before) in
+      (subst P (sym opened-state) whole) few
 
 pub opening-many : (given : GivenView) (request : List (List ℕ)) → given.limits.targets < length (opening (rules_for given) request).entries → IsTooMany (rules_for given) request given.limits.targets
 opening-many given request many =

@@ -1,6 +1,5 @@
 -- Paths in path order.
-use Rattle.std.proofs.Common.{◌≡◌, ℕ, Bool, ◌⊎◌, inl, inr, List, [], ◌∷◌, filter, refl, sym, ap, subst, ◌∙◌}
-use Rattle.std.proofs.lemmas.Bool.{cases_Bool}
+use Rattle.std.proofs.Common.{◌≡◌, ℕ, ◌⊎◌, inl, inr, List, [], ◌∷◌, refl, sym, ap, subst, ◌∙◌}
 use Rattle.std.proofs.lemmas.Cmp.{nat_list_cmp_total}
 use Rattle.std.proofs.lemmas.Map.Text.{is_eq-slice_cmp}
 use Rattle.std.proofs.lemmas.Slice.Eq.{bytes_eq-Decides}
@@ -12,7 +11,6 @@ use Rattle.std.specs.declared.cmp.Ordering.TheVariants.{Less, Equal, Greater}
 use Rattle.redo_record.specs.Paths.{IsAmong}
 use Rattle.redo_core.specs.inside.Reported.{placed}
 use Rattle.redo_report.specs.Reports.{AreAscending}
-use Rattle.redo_build.proofs.PathLemmas.{filter-from}
 
 same_text : (p q : List ℕ) → slice_cmp nat_cmp p q ≡ Equal → p ≡ q
 same_text p q e = (bytes_eq-Decides p q).0 (sym (is_eq-slice_cmp p q) ∙ ap is_eq e)
@@ -33,13 +31,6 @@ pub sorted-ascending : (ps : List (List ℕ)) → AreSorted ps → AreAscending 
 sorted-ascending [] s = tt
 sorted-ascending (p ∷ []) s = tt
 sorted-ascending (p ∷ q ∷ ps) s = (s.0 q (inl refl), sorted-ascending (q ∷ ps) s.1)
-
-pub filter-sorted : (f : List ℕ → Bool) (ps : List (List ℕ)) → AreSorted ps → AreSorted (filter f ps)
-filter-sorted f [] s = tt
-filter-sorted f (p ∷ ps) s = elim (cases_Bool (f p)) [
-  | inl t ↦ rw t (λ q m. s.0 q (filter-from f ps q m), filter-sorted f ps s.1)
-  | inr out ↦ rw out (filter-sorted f ps s.1)
-]
 
 insert-from : (ks : List (List ℕ)) (p q : List ℕ) → IsAmong (insert_key (slice_cmp nat_cmp) ks p) q → (p ≡ q) ⊎ IsAmong ks q
 insert-from [] p q m = m

@@ -1,97 +1,63 @@
 -- A quiet board's table makes the report of its build.
-use Rattle.std.proofs.Common.{◌≡◌, ℕ, Bool, zero, suc, ◌<◌, true, false, ◌⊎◌, inl, inr, List, [], ◌∷◌, length, map}
+use Rattle.std.proofs.Common.{◌≡◌, ℕ, Bool, ◌&&◌, zero, suc, ◌<◌, true, false, ◌⊎◌, inl, inr, List, [], ◌∷◌, length, map}
 use Rattle.std.proofs.Common.{filter, Option, Some, None, IsNone, Result, Ok, Err, IfOk, is_some, slice_get, refl, sym}
 use Rattle.std.proofs.Common.{ap, subst, ◌∙◌, arith}
 use Rattle.std.specs.Arc.{arc_value}
 use Rattle.std.specs.List.{AllByRecursion}
-use Rattle.std.specs.Prelude.{Contains, unwrap_or, option_and_then}
-use Rattle.std.proofs.lemmas.Bool.{cases_Bool}
-use Rattle.redo_tree.specs.Tree as tree_words
-use Rattle.redo_tree.specs.Tree.{Tree, Node, bytes_of, node_at, file_at}
-use Rattle.redo_path.specs.Names.{parent_of}
-use Rattle.redo_which.specs.Rule.{Source, Directory, NoDirectory, NoRule, Rule, chosen_of, missing_of, arguments_of}
-use Rattle.redo_which.specs.Rule.{found_of}
-use Rattle.redo_step.specs.Setting.{is_rule}
-use Rattle.redo_step.specs.JobView.{JobView, record_so_far}
+use Rattle.std.specs.Prelude.{Contains, unwrap_or}
+use Rattle.std.proofs.lemmas.Bool.{and_from, and_parts, cases_Bool}
+use Rattle.redo_tree.specs.Tree.{file_at}
 use Rattle.redo_record.specs.declared.deps.Dep.{Dep}
 use Rattle.redo_record.specs.declared.outcome.Outcome.{Outcome}
 use Rattle.redo_record.specs.declared.outcome.Outcome.TheVariants.{Built, Cyclic, Source as Is_source}
 use Rattle.redo_core.specs.Build.{GivenView, rules_for}
 use Rattle.redo_build.specs.Outcomes.{outcome_at, needed_at, final_outcome, record_of}
 use Rattle.redo_record.specs.Paths.{IsAmong, AreDistinct}
-use Rattle.redo_core.specs.inside.Reported.{reported_paths, placed, sources_among, row_files, row_begun, IsShown}
-use Rattle.redo_core.specs.inside.Reported.{IsBegunAs, IsTold, AllTold, IsTargetRow, IsSourceRow, IsRowOf, IsReportOf}
+use Rattle.redo_core.specs.inside.Reported.{reported_paths, placed, sources_among, row_files, row_begun}
+use Rattle.redo_core.specs.inside.Reported.{IsTold, AllTold, IsTargetRow, IsSourceRow, IsRowOf, IsReportOf}
 use Rattle.redo_core.specs.inside.Reported.{is_settled, AllSettled}
 use Rattle.redo_report.specs.Reports.{AreAscending, IsReport, row_paths, deps_of}
-use Rattle.redo_build.specs.Rules.{Ask, Rules}
-use Rattle.redo_build.specs.Schedule.{Entry, IsQuiet, State, entry_of, outcome_of, outcomes_of, paths_of}
-use Rattle.redo_core.specs.inside.Slots.{AllFit, Fits, IsKept, IsPlace, entries_from, is_stage_out, is_stage_ready}
-use Rattle.redo_core.specs.inside.Slots.{path_at, rules_inside, slot_entry, stage_deps, stage_outcome, state_of}
+use Rattle.redo_build.specs.Rules.{Ask, Rules, operands}
+use Rattle.redo_build.specs.Schedule.{Entry, IsQuiet, State, outcome_of, outcomes_of, paths_of}
+use Rattle.redo_core.specs.inside.Slots.{AllWatched, Fits, IsKept, IsPlace, IsTableOf, IsWatched, entries_from, is_stage_due}
+use Rattle.redo_core.specs.inside.Slots.{is_stage_out, is_stage_ready, is_stage_waiting, path_at, rounds_of, rules_inside}
+use Rattle.redo_core.specs.inside.Slots.{slot_entries, stage_deps, stage_outcome, state_of}
+use Rattle.redo_core.specs.inside.Works.{all_asked}
 use Rattle.redo_core.specs.Views.{BoardView, IsQuietBoard, rules_on}
 use Rattle.redo_core.specs.declared.board.Board.TheInside.{Inside}
 use Rattle.redo_build.specs.Theorems.{ShowsBuild}
-use Rattle.redo_core.specs.inside.Works.{job_deps}
 use Rattle.redo_report.specs.declared.report.Report.{Report}
 use Rattle.redo_report.specs.declared.report.Row.{Row}
 use Rattle.redo_core.specs.declared.table.Slot.{Slot}
 use Rattle.redo_core.specs.declared.table.Stage.{Stage}
-use Rattle.redo_core.specs.declared.table.Stage.TheVariants.{Waiting, Ready, Out, Decided}
+use Rattle.redo_core.specs.declared.table.Stage.TheVariants.{Due, Checking, Waiting, Ready, Out, Decided}
 use Rattle.redo_core.specs.declared.table.Table.{Table}
-use Rattle.redo_core.proofs.OrderLemmas.{AreSorted, sorted-ascending, filter-sorted, placed-sorted, placed-from}
+use Rattle.redo_core.proofs.CheckingLemmas.{number-within}
+use Rattle.redo_core.proofs.OrderLemmas.{AreSorted, sorted-ascending, placed-sorted, placed-from}
 use Rattle.redo_core.proofs.OrderLemmas.{placed-first, placed-second}
 use Rattle.redo_build.proofs.PathLemmas.{filter-from, filter-passes}
 use Rattle.redo_build.proofs.QueueLemmas.{slice_get-among}
-use Rattle.redo_core.proofs.RowLemmas.{IsItem, item-contained, contained-item, all_rows, of_item, all_from, path_row}
-use Rattle.redo_core.proofs.RowLemmas.{row_path, filter-among, files_sorted, file_row, row_file}
-use Rattle.redo_core.proofs.SlotLemmas.{paths_of-slots, entry_of-slots, out_count-slots}
+use Rattle.redo_core.proofs.RowLemmas.{IsItem, item-contained, contained-item, all_rows, of_item, path_row, row_path}
+use Rattle.redo_core.proofs.RowLemmas.{begun-from, begun-sorted, begun-to, file_row, files_sorted, filter-among, row_file}
+use Rattle.redo_core.proofs.RowLemmas.{rows-all}
+use Rattle.redo_core.proofs.ShownLemmas.{IsOfBuild, LacksOne, stage-shown}
+use Rattle.redo_core.proofs.SlotLemmas.{paths_of-slots, entry_of-slots, out_count-slots, slice_get-below_some, slice_get-from}
 use Rattle.redo_core.proofs.TakeLemmas.{distinct-inside, shows-inside, sound-inside, view_of}
-
--- a source has no rule
-source-unruled : (tree : Tree) (p : List ℕ) → is_rule (found_of tree p) ≡ true → is_some (file_at tree p) ≡ true → ⊥
-source-unruled tree p = elim (node_at tree p) as (λ (n : Option Node). is_rule (elim n [
-  | Some node ↦ elim node [ tree_words.Directory ↦ Directory | tree_words.File bytes ↦ Source ]
-  | None ↦ elim (option_and_then (node_at tree) (parent_of p)) [
-    | Some node ↦ elim node [
-      | tree_words.Directory ↦ elim (chosen_of tree p) [
-        | None ↦ NoRule (missing_of tree p)
-        | Some place ↦ Rule place.do_file (missing_of tree p) (arguments_of p place)
-      ]
-      | tree_words.File bytes ↦ NoDirectory
-    ]
-    | None ↦ NoDirectory
-  ]
-]) ≡ true → is_some (option_and_then bytes_of n) ≡ true → ⊥) [
-  | Some node ↦ elim node as (λ (x : Node). is_rule (elim x [ tree_words.Directory ↦ Directory | tree_words.File bytes ↦ Source ]) ≡ true → is_some (option_and_then bytes_of (Some x)) ≡ true → ⊥) [
-    | tree_words.Directory ↦ λ rule file. absurd (let bad : false ≡ true = rule in cc)
-    | tree_words.File bytes ↦ λ rule file. absurd (let bad : false ≡ true = rule in cc)
-  ]
-  | None ↦ λ rule file. absurd (let bad : false ≡ true = file in cc)
-]
-
-later_deps : (job : JobView) → 0 < job.turn → record_so_far job ≡ job_deps job
-later_deps job h = (elim (job.turn) as (λ (n : ℕ). 0 < n → record_so_far job ≡ elim n [ zero ↦ [] | suc k ↦ record_so_far job ]) [
-  | zero ↦ λ none. absurd (omega (arith, none))
-  | suc k ↦ λ some. refl
-]) h
-
--- what a stage comes to is its outcome and record
-stage-shown : (r : Rules) (a : Ask) (given : GivenView) (p q : List ℕ) (turn : ℕ) (stage : Stage) (o : Outcome) (deps : List Dep) →
-    Fits r a given q turn stage → IsShown stage o deps → (b : Ask) → (o ≡ unwrap_or (stage_outcome stage) Cyclic) × (deps ≡ stage_deps r b p turn stage)
-stage-shown r a given p q turn (Waiting parked) o deps fits shown b =
-    (shown.0, shown.1 ∙ later_deps parked.begun.value.job (omega (arith, fits.at_turn, fits.stopped)))
-stage-shown r a given p q turn (Ready work) o deps fits shown b = absurd shown
-stage-shown r a given p q turn Out o deps fits shown b = absurd shown
-stage-shown r a given p q turn (Decided fact) o deps fits shown b = (shown.0, shown.1)
 
 source-outcome : (r : Rules) (n : ℕ) (p : List ℕ) → r.is_source p ≡ true → outcome_at r n p ≡ Some Is_source
 source-outcome r zero p s = rw s refl
 source-outcome r (suc n) p s = rw s refl
 
-module _ (given : GivenView) (request : List (List ℕ)) (t : Table) (s : State)
+-- the outcome of a slot's target
+slot-outcome : (r : Rules) (a : Ask) (ps : List (List ℕ)) (slots : List Slot) (k : ℕ) (p : List ℕ) (slot : Slot) → AreDistinct ps →
+    slice_get ps k ≡ Some p → slice_get slots k ≡ Some slot → outcomes_of (slot_entries r a ps slots) p ≡ stage_outcome slot.stage
+slot-outcome r a ps slots k p slot distinct path there = ap outcome_of (entry_of-slots r a ps slots k p slot distinct path there)
+
+module _ (given : GivenView) (t : Table) (s : State)
     (entries : s.entries ≡ entries_from (rules_for given) given.limits.targets t.targets t.slots.items)
-    (shows : ShowsBuild (rules_for given) request given.limits.targets s)
-    (one_each : length t.slots.items ≡ length t.targets) (distinct : AreDistinct t.targets)
-    (fits : AllFit (rules_for given) given.limits.targets given t.targets t.slots.items)
+    (shows : ShowsBuild (rules_for given) given.request given.limits.targets s)
+    (table : IsTableOf given t []) (watched : AllWatched (rules_for given) given.limits.targets t.targets t.slots.items [])
+    (distinct : AreDistinct t.targets)
     (targets : (p : List ℕ) → IsAmong t.targets p → is_some (file_at given.past.sources p) ≡ false) where
   abbrev r : Rules
   r = rules_for given
@@ -100,70 +66,131 @@ module _ (given : GivenView) (request : List (List ℕ)) (t : Table) (s : State)
   es = entries_from (rules_for given) given.limits.targets t.targets t.slots.items
 
   keys : paths_of s.entries ≡ t.targets
-  keys = ap paths_of entries ∙ paths_of-slots r (outcome_at r given.limits.targets) t.targets t.slots.items one_each
+  keys = ap paths_of entries ∙ paths_of-slots r (outcome_at r given.limits.targets) t.targets t.slots.items table.one_each
 
-  key-needed : (p : List ℕ) → IsAmong t.targets p → IsAmong (needed_at (rules_for given) request given.limits.targets) p
+  key-needed : (p : List ℕ) → IsAmong t.targets p → IsAmong (needed_at (rules_for given) given.request given.limits.targets) p
   key-needed p m = (shows.members p).0 (let P : List (List ℕ) → Type 0 = λ ps. IsAmong ps p in subst P (sym keys) m)
 
-  needed-key : (p : List ℕ) → IsAmong (needed_at (rules_for given) request given.limits.targets) p → IsAmong t.targets p
+  needed-key : (p : List ℕ) → IsAmong (needed_at (rules_for given) given.request given.limits.targets) p → IsAmong t.targets p
   needed-key p m = let P : List (List ℕ) → Type 0 = λ ps. IsAmong ps p in subst P keys ((shows.members p).1 m)
 
   -- a reported path is a needed target or a requested source
-  reported-from : (p : List ℕ) → IsAmong (reported_paths given.past.sources request t) p → IsAmong t.targets p ⊎ (IsAmong request p × (is_some (file_at given.past.sources p) ≡ true))
-  reported-from p m = elim (placed-from (placed [] t.targets) (sources_among given.past.sources request) p m) [
+  reported-from : (p : List ℕ) → IsAmong (reported_paths given.past.sources given.request t) p → IsAmong t.targets p ⊎ (IsAmong given.request p × (is_some (file_at given.past.sources p) ≡ true))
+  reported-from p m = elim (placed-from (placed [] t.targets) (sources_among given.past.sources given.request) p m) [
     | inl first ↦ elim (placed-from [] t.targets p first) [ inl none ↦ absurd none | inr key ↦ inl key ]
-    | inr source ↦ inr (filter-from (λ q. is_some (file_at given.past.sources q)) request p source, filter-passes (λ q. is_some (file_at given.past.sources q)) request p source)
+    | inr source ↦ inr (filter-from (λ q. is_some (file_at given.past.sources q)) given.request p source, filter-passes (λ q. is_some (file_at given.past.sources q)) given.request p source)
   ]
 
-  reported-key : (p : List ℕ) → IsAmong t.targets p → IsAmong (reported_paths given.past.sources request t) p
-  reported-key p m = placed-first (placed [] t.targets) (sources_among given.past.sources request) p (placed-second [] t.targets p m)
+  reported-key : (p : List ℕ) → IsAmong t.targets p → IsAmong (reported_paths given.past.sources given.request t) p
+  reported-key p m = placed-first (placed [] t.targets) (sources_among given.past.sources given.request) p (placed-second [] t.targets p m)
 
-  reported-source : (p : List ℕ) → IsAmong request p → is_some (file_at given.past.sources p) ≡ true → IsAmong (reported_paths given.past.sources request t) p
-  reported-source p m source = placed-second (placed [] t.targets) (sources_among given.past.sources request) p (filter-among (λ q. is_some (file_at given.past.sources q)) request p m source)
+  reported-source : (p : List ℕ) → IsAmong given.request p → is_some (file_at given.past.sources p) ≡ true → IsAmong (reported_paths given.past.sources given.request t) p
+  reported-source p m source = placed-second (placed [] t.targets) (sources_among given.past.sources given.request) p (filter-among (λ q. is_some (file_at given.past.sources q)) given.request p m source)
 
   abbrev IsRight : Row → Type 0
   IsRight row = (row.outcome ≡ final_outcome (rules_for given) given.limits.targets row.path) × (arc_value row.deps ≡ deps_of (rules_for given) given.limits.targets row.path)
 
-  target-right : (row : Row) → IsTargetRow t row → IsRight row
-  target-right row is =
-      let key = slice_get-among t.targets is.at row.path is.path in
-      let P : List Entry → Type 0 = λ xs. entry_of xs row.path ≡ Some (slot_entry r (outcome_at r given.limits.targets) row.path is.slot) in
-      let found : entry_of s.entries row.path ≡ Some (slot_entry r (outcome_at r given.limits.targets) row.path is.slot) = subst P (sym entries)
-      (entry_of-slots r (outcome_at r given.limits.targets) t.targets t.slots.items is.at row.path is.slot distinct is.path is.there) in
-      let among : IsAmong (paths_of s.entries) row.path = let Q : List (List ℕ) → Type 0 = λ ps. IsAmong ps row.path in subst Q (sym keys) key in
-      let outcome : stage_outcome is.slot.stage ≡ outcome_at r given.limits.targets row.path = sym (ap outcome_of found) ∙ shows.outcomes row.path among in
-      let deps : stage_deps r (outcome_at r given.limits.targets) row.path is.slot.turn is.slot.stage ≡ record_of r given.limits.targets row.path = shows.declared row.path (slot_entry r (outcome_at r given.limits.targets) row.path is.slot) found in
-      let shown = stage-shown r (outcomes_of es) given row.path (path_at t.targets is.at) is.slot.turn is.slot.stage row.outcome (arc_value row.deps) (fits is.at is.slot is.there) is.shown (outcome_at r given.limits.targets) in
-      let source : is_some (file_at given.past.sources row.path) ≡ false = targets row.path key in
-      (shown.0 ∙ ap (λ (o : Option Outcome). unwrap_or o Cyclic) outcome, shown.1 ∙ deps ∙ sym (rw source refl))
+  -- the watched path is one that lacks
+  lacking : (k : ℕ) (deps : List Dep) → IsWatched (rules_for given) t.targets t.slots.items k deps →
+      (q : List ℕ) × IsAmong (operands (rules_for given) deps) q × (outcomes_of (entries_from (rules_for given) given.limits.targets t.targets t.slots.items) q ≡ None)
+  lacking k deps w =
+      let below : w.at < length t.targets = omega (arith, slice_get-below_some t.slots.items w.at w.other w.there, table.one_each) in
+      let path = slice_get-from t.targets w.at below in
+      let at : path_at t.targets w.at ≡ path.0 = ap (λ (o : Option (List ℕ)). unwrap_or o []) path.1 in (
+        path_at t.targets w.at,
+        w.asked,
+        ap (outcomes_of es) at
+            ∙ slot-outcome r (outcome_at r given.limits.targets) t.targets t.slots.items w.at path.0 w.other distinct path.1 w.there
+            ∙ w.is_open,
+      )
 
-  source-right : (row : Row) → is_some (file_at given.past.sources row.path) ≡ true → IsSourceRow t row → IsRight row
-  source-right row source is =
+  -- what waits is watched at one
+  lacks-one : (k : ℕ) (p : List ℕ) (turn : ℕ) (stage : Stage) →
+      (is_stage_waiting stage ≡ true → IsWatched (rules_for given) t.targets t.slots.items k (stage_deps (rules_for given) (outcome_at (rules_for given) given.limits.targets) p turn stage)) →
+      LacksOne (rules_for given) (outcomes_of (entries_from (rules_for given) given.limits.targets t.targets t.slots.items)) p stage
+  lacks-one k p turn (Due held) w = tt
+  lacks-one k p turn (Checking awaiting) w = lacking k awaiting.held.value.check.asked (w refl)
+  lacks-one k p turn (Waiting parked) w = lacking k (all_asked parked.begun.value.job parked.begun.value.facts) (w refl)
+  lacks-one k p turn (Ready work) w = tt
+  lacks-one k p turn Out w = tt
+  lacks-one k p turn (Decided fact) w = tt
+
+  target-shown : (row : Row) (bit : Bool) (is : IsTargetRow given t row bit) →
+      IsOfBuild given row.path is.slot.stage row.outcome (arc_value row.deps) bit ×
+      (stage_outcome is.slot.stage ≡ outcome_at (rules_for given) given.limits.targets row.path)
+  target-shown row bit is =
+      let p = row.path in
+      let stage = is.slot.stage in
+      let key = slice_get-among t.targets is.at p is.path in
+      let among : IsAmong (paths_of s.entries) p = let Q : List (List ℕ) → Type 0 = λ ps. IsAmong ps p in subst Q (sym keys) key in
+      let same : outcomes_of s.entries ≡ outcomes_of es = ap outcomes_of entries in
+      let R : Ask → Type 0 = λ a. r.recorded p a ≡ record_of r given.limits.targets p in
+      let B : Ask → Type 0 = λ a. r.begins p a ≡ r.begins p (outcome_at r given.limits.targets) in
+      let A : Ask → Type 0 = λ a. a p ≡ outcome_at r given.limits.targets p in
+      let known = slot-outcome r (outcome_at r given.limits.targets) t.targets t.slots.items is.at p is.slot distinct is.path is.there in
+      let outcome : stage_outcome stage ≡ outcome_at r given.limits.targets p = sym known ∙ subst A same (shows.outcomes p among) in
+      let at : path_at t.targets is.at ≡ p = ap (λ (o : Option (List ℕ)). unwrap_or o []) is.path in
+      let F : List ℕ → Type 0 = λ x. Fits r (outcomes_of es) given x is.slot.turn stage in
+      let W : List ℕ → Type 0 = λ x. is_stage_waiting stage ≡ true →
+      IsWatched r t.targets t.slots.items is.at (stage_deps r (outcome_at r given.limits.targets) x (rounds_of is.slot) stage) in
+      let waits : W (path_at t.targets is.at) = λ w. elim (watched is.at is.slot is.there w) [ inl none ↦ absurd none | inr there ↦ there ] in (
+        stage-shown given p (outcomes_of es) (subst R same (shows.records p among)) (subst B same (shows.begun p among)) (targets p key)
+            is.slot.turn stage row.outcome (arc_value row.deps) bit (subst F at (table.fits is.at is.slot is.there)) is.shown is.begun
+            (lacks-one is.at p (rounds_of is.slot) stage (subst W at waits)) outcome,
+        outcome,
+      )
+
+  target-right : (row : Row) (bit : Bool) → IsTargetRow given t row bit → IsRight row
+  target-right row bit is =
+      let shown = target-shown row bit is in
+      let source : is_some (file_at given.past.sources row.path) ≡ false = targets row.path (slice_get-among t.targets is.at row.path is.path) in
+      (shown.0.outcome_is ∙ ap (λ (o : Option Outcome). unwrap_or o Cyclic) shown.1, shown.0.deps_is ∙ sym (rw source refl))
+
+  source-right : (row : Row) (bit : Bool) → is_some (file_at given.past.sources row.path) ≡ true → IsSourceRow t row bit → IsRight row
+  source-right row bit source is =
       (is.outcome ∙ sym (ap (λ (o : Option Outcome). unwrap_or o Cyclic) (source-outcome r given.limits.targets row.path source)), is.deps ∙ sym (rw source refl))
 
-  module _ (report : Report) (made : IsReportOf given.past.sources request t report) where
-    row-reported : (row : Row) → IsItem report.rows.items row → IsAmong (reported_paths given.past.sources request t) row.path
+  abbrev IsBegunPath : List ℕ → Type 0
+  IsBegunPath p = IsAmong (needed_at (rules_for given) given.request given.limits.targets) p × ((rules_for given).has_rule p ≡ true) ×
+      ((rules_for given).begins p (outcome_at (rules_for given) given.limits.targets) ≡ true)
+
+  -- a row whose script was begun is that of a needed target with a rule that begins
+  begun-row : (row : Row) → IsRowOf given t row true → IsBegunPath row.path
+  begun-row row (inl is) =
+      let both : (r.has_rule row.path && r.begins row.path (outcome_at r given.limits.targets)) ≡ true = sym (target-shown row true is).0.begun_is in
+      let parts = and_parts (r.has_rule row.path) (r.begins row.path (outcome_at r given.limits.targets)) both in
+      (key-needed row.path (slice_get-among t.targets is.at row.path is.path), parts.0, parts.1)
+  begun-row row (inr is) = let bad : true ≡ false = is.begun in cc
+
+  -- and the row of such a target says so
+  row-begun : (row : Row) → IsBegunPath row.path → (bit : Bool) → IsRowOf given t row bit → bit ≡ true
+  row-begun row is bit (inl there) = (target-shown row bit there).0.begun_is ∙
+      and_from (r.has_rule row.path) (r.begins row.path (outcome_at r given.limits.targets)) is.1 is.2
+  row-begun row is bit (inr other) = absurd (other.absent (needed-key row.path is.0))
+
+  module _ (report : Report) (made : IsReportOf given t report) where
+    row-reported : (row : Row) → IsItem report.rows.items row → IsAmong (reported_paths given.past.sources given.request t) row.path
     row-reported row m = let P : List (List ℕ) → Type 0 = λ ps. IsAmong ps row.path in subst P made.paths (row_path report.rows.items row m)
 
-    reported-row : (p : List ℕ) → IsAmong (reported_paths given.past.sources request t) p → IsAmong (row_paths report) p
+    reported-row : (p : List ℕ) → IsAmong (reported_paths given.past.sources given.request t) p → IsAmong (row_paths report) p
     reported-row p m = let P : List (List ℕ) → Type 0 = λ ps. IsAmong ps p in subst P (sym made.paths) m
 
-    row-cases : (p : List ℕ) → IsAmong (row_paths report) p → IsAmong t.targets p ⊎ (IsAmong request p × (is_some (file_at given.past.sources p) ≡ true))
+    row-cases : (p : List ℕ) → IsAmong (row_paths report) p → IsAmong t.targets p ⊎ (IsAmong given.request p × (is_some (file_at given.past.sources p) ≡ true))
     row-cases p m = reported-from p (let P : List (List ℕ) → Type 0 = λ ps. IsAmong ps p in subst P made.paths m)
 
     right : AllByRecursion IsRight report.rows.items
-    right = all_from (IsRowOf t) IsRight report.rows.items made.rows (λ row m is. elim is [
-      | inl target ↦ target-right row target
+    right = rows-all given t IsRight report.rows.items made.bits made.rows (λ row bit m is. elim is [
+      | inl target ↦ target-right row bit target
       | inr other ↦ elim (reported-from row.path (row-reported row m)) [
         | inl key ↦ absurd (other.absent key)
-        | inr source ↦ source-right row source.1 other
+        | inr source ↦ source-right row bit source.1 other
       ]
     ])
 
     right-row : (row : Row) → IsItem report.rows.items row → IsRight row
     right-row row m = of_item IsRight report.rows.items row right m
 
-    built-needed : (p bytes : List ℕ) → IsAmong (row_paths report) p → final_outcome (rules_for given) given.limits.targets p ≡ Built (Some bytes) → IsAmong (needed_at (rules_for given) request given.limits.targets) p
+    built-needed : (p bytes : List ℕ) → IsAmong (row_paths report) p → final_outcome (rules_for given) given.limits.targets p ≡ Built (Some bytes) → IsAmong (needed_at (rules_for given) given.request given.limits.targets) p
     built-needed p bytes m built = elim (row-cases p m) [
       | inl key ↦ key-needed p key
       | inr source ↦
@@ -173,17 +200,17 @@ module _ (given : GivenView) (request : List (List ℕ)) (t : Table) (s : State)
     ]
 
     abbrev IsFile : List ℕ × List ℕ → Type 0
-    IsFile f = IsAmong (needed_at (rules_for given) request given.limits.targets) f.0 × (final_outcome (rules_for given) given.limits.targets f.0 ≡ Built (Some f.1))
+    IsFile f = IsAmong (needed_at (rules_for given) given.request given.limits.targets) f.0 × (final_outcome (rules_for given) given.limits.targets f.0 ≡ Built (Some f.1))
 
     file-from : (f : List ℕ × List ℕ) → IsItem (row_files report.rows.items) f → IsFile f
     file-from f m =
         let found = file_row report.rows.items f m in
         let built : final_outcome r given.limits.targets found.0.path ≡ Built (Some f.1) = sym (right-row found.0 found.1).0 ∙ found.2 in
         let there = built-needed found.0.path f.1 (row_path report.rows.items found.0 found.1) built in
-        let P : List ℕ → Type 0 = λ p. IsAmong (needed_at r request given.limits.targets) p × (final_outcome r given.limits.targets p ≡ Built (Some f.1)) in
+        let P : List ℕ → Type 0 = λ p. IsAmong (needed_at r given.request given.limits.targets) p × (final_outcome r given.limits.targets p ≡ Built (Some f.1)) in
         subst P found.3 (there, built)
 
-    file-to : (p bytes : List ℕ) → IsAmong (needed_at (rules_for given) request given.limits.targets) p → final_outcome (rules_for given) given.limits.targets p ≡ Built (Some bytes) → IsItem (row_files report.rows.items) (p, bytes)
+    file-to : (p bytes : List ℕ) → IsAmong (needed_at (rules_for given) given.request given.limits.targets) p → final_outcome (rules_for given) given.limits.targets p ≡ Built (Some bytes) → IsItem (row_files report.rows.items) (p, bytes)
     file-to p bytes m built =
         let found = path_row report.rows.items p (reported-row p (reported-key p (needed-key p m))) in
         let is : found.0.outcome ≡ Built (Some bytes) = (right-row found.0 found.1).0 ∙ ap (final_outcome r given.limits.targets) found.2 ∙ built in
@@ -191,9 +218,9 @@ module _ (given : GivenView) (request : List (List ℕ)) (t : Table) (s : State)
         subst P found.2 (row_file report.rows.items found.0 bytes found.1 is)
 
     sorted : AreSorted (row_paths report)
-    sorted = let P : List (List ℕ) → Type 0 = AreSorted in subst P (sym made.paths) (placed-sorted (placed [] t.targets) (sources_among given.past.sources request) (placed-sorted [] t.targets tt))
+    sorted = let P : List (List ℕ) → Type 0 = AreSorted in subst P (sym made.paths) (placed-sorted (placed [] t.targets) (sources_among given.past.sources given.request) (placed-sorted [] t.targets tt))
 
-    pub is-report : IsReport (rules_for given) request given.limits.targets report
+    pub is-report : IsReport (rules_for given) given.request given.limits.targets report
     is-report =
         let A : List (List ℕ × List ℕ) → Type 0 = λ fs. AreAscending (map (λ file. file.0) fs) in
         let B : List (List ℕ) → Type 0 = AreAscending in
@@ -215,28 +242,28 @@ module _ (given : GivenView) (request : List (List ℕ)) (t : Table) (s : State)
           begun = λ p. (
             λ m.
                 let G : List (List ℕ) → Type 0 = λ ps. IsAmong ps p in
-                let here = subst G made.begun m in
-                let rule = filter-passes (λ q. is_rule (found_of given.past.sources q)) (row_paths report) p here in
-                elim (row-cases p (filter-from (λ q. is_rule (found_of given.past.sources q)) (row_paths report) p here)) [
-                  | inl key ↦ (key-needed p key, rule, refl)
-                  | inr source ↦ absurd (source-unruled given.past.sources p rule source.1)
-                ],
+                begun-from given t IsBegunPath report.rows.items made.bits made.rows (λ row i is. begun-row row is) p (subst G made.begun m),
             λ m.
                 let G : List (List ℕ) → Type 0 = λ ps. IsAmong ps p in
-                subst G (sym made.begun) (filter-among (λ q. is_rule (found_of given.past.sources q)) (row_paths report) p (reported-row p (reported-key p (needed-key p m.0))) m.1),
+                let found = path_row report.rows.items p (reported-row p (reported-key p (needed-key p m.0))) in
+                let there : IsBegunPath found.0.path = subst IsBegunPath (sym found.2) m in
+                let H : List ℕ → Type 0 = λ x. IsAmong (row_begun report.rows.items made.bits) x in
+                subst G (sym made.begun) (subst H found.2 (begun-to given t report.rows.items made.bits made.rows found.0 found.1 (row-begun found.0 there))),
           );
           rows_ordered = sorted-ascending (row_paths report) sorted;
           files_ordered = subst A (sym made.files) (sorted-ascending (map (λ file. file.0) (row_files report.rows.items)) (files_sorted report.rows.items sorted));
-          begun_ordered = subst B (sym made.begun) (sorted-ascending (row_begun given.past.sources report.rows.items) (filter-sorted (λ q. is_rule (found_of given.past.sources q)) (row_paths report) sorted));
+          begun_ordered = subst B (sym made.begun) (sorted-ascending (row_begun report.rows.items made.bits) (begun-sorted report.rows.items made.bits sorted));
         }
 
 -- A quiet board
 
-settled-stage : (stage : Stage) → (is_stage_ready stage ≡ true → ⊥) → (is_stage_out stage ≡ true → ⊥) → is_settled stage ≡ true
-settled-stage (Waiting parked) ready out = refl
-settled-stage (Ready work) ready out = absurd (ready refl)
-settled-stage Out ready out = absurd (out refl)
-settled-stage (Decided fact) ready out = refl
+settled-stage : (stage : Stage) → (is_stage_ready stage ≡ true → ⊥) → (is_stage_due stage ≡ true → ⊥) → (is_stage_out stage ≡ true → ⊥) → is_settled stage ≡ true
+settled-stage (Due held) ready due out = absurd (due refl)
+settled-stage (Checking awaiting) ready due out = refl
+settled-stage (Waiting parked) ready due out = refl
+settled-stage (Ready work) ready due out = absurd (ready refl)
+settled-stage Out ready due out = absurd (out refl)
+settled-stage (Decided fact) ready due out = refl
 
 none-placed : (f : ℕ → List ℕ) (xs : List ℕ) (k : ℕ) → map f xs ≡ [] → IsPlace xs k → ⊥
 none-placed f [] k e m = m
@@ -261,6 +288,7 @@ module _ (b : Inside) (kept : IsKept b) (quiet : IsQuiet (state_of b)) where
         | inl placed ↦ none-placed (path_at b.table.targets) b.table.ready.items k quiet.0 placed
         | inr none ↦ none
       ])
+      (λ due. let P : List ℕ → Type 0 = λ xs. IsPlace xs k in subst P kept.none_due (kept.table.due_listed.due_in k slot there due))
       (λ out. out-counted b.table.slots.items k slot there out
       (sym (out_count-slots (rules_inside b) (outcome_at (rules_inside b) b.build.limits.targets) b.table.targets b.table.slots.items kept.table.one_each) ∙ quiet.1))
 
@@ -270,9 +298,9 @@ module _ (b : Inside) (kept : IsKept b) (quiet : IsQuiet (state_of b)) where
       (sound-inside b kept).standing.targets p
       (subst P (sym (paths_of-slots (rules_inside b) (outcome_at (rules_inside b) b.build.limits.targets) b.table.targets b.table.slots.items kept.table.one_each)) m)
 
-  pub report-inside : (report : Report) → IsReportOf b.build.past.sources b.build.request b.table report → IsReport (rules_inside b) b.build.request b.build.limits.targets report
-  report-inside report made = is-report b.build b.build.request b.table (state_of b) refl (shows-inside b kept quiet)
-      kept.table.one_each (distinct-inside b kept) kept.table.fits target-keys report made
+  pub report-inside : (report : Report) → IsReportOf b.build b.table report → IsReport (rules_inside b) b.build.request b.build.limits.targets report
+  report-inside report made = is-report b.build b.table (state_of b) refl (shows-inside b kept quiet)
+      kept.table kept.watched (distinct-inside b kept) target-keys report made
 
 no_paths : (ps : List (List ℕ)) → length ps ≡ 0 → ps ≡ []
 no_paths [] h = refl
@@ -298,34 +326,21 @@ if_ok-more (Err e) P Q f h = tt
 
 -- the report of a quiet board's table is that of its build
 pub report-view : (b : Inside) (invariant : IsNone b.stopped → IsKept b) (view : BoardView) → view_of b ≡ view → IsQuietBoard view →
-    (tree : Tree) (request : List (List ℕ)) → tree ≡ b.build.past.sources → request ≡ b.build.request →
-    (report : Report) → IsReportOf tree request b.table report → IsReport (rules_on view) view.given.request view.given.limits.targets report
-report-view b invariant view is quiet tree request of_tree of_request report made =
+    (report : Report) → IsReportOf b.build b.table report → IsReport (rules_on view) view.given.request view.given.limits.targets report
+report-view b invariant view is quiet report made =
     let q = quiet-inside b view is quiet in
-    let T : Tree → Type 0 = λ x. IsReportOf x request b.table report in
-    let R : List (List ℕ) → Type 0 = λ x. IsReportOf b.build.past.sources x b.table report in
     let V : BoardView → Type 0 = λ v. IsReport (rules_on v) v.given.request v.given.limits.targets report in
-    subst V is (report-inside b (invariant q.0) q.1 report (subst R of_request (subst T of_tree made)))
+    subst V is (report-inside b (invariant q.0) q.1 report made)
 
--- whether a script was begun is whether there is a rule
-pub begun-told : (tree : Tree) (p : List ℕ) (stage : Stage) (begun : Bool) → IsTold tree p stage → IsBegunAs stage begun → begun ≡ is_rule (found_of tree p)
-begun-told tree p (Waiting parked) begun told is = is ∙ sym told
-begun-told tree p (Ready work) begun told is = absurd is
-begun-told tree p Out begun told is = absurd is
-begun-told tree p (Decided fact) begun told is =
-    is.1 ∙ ap (λ t. is_rule (found_of t fact.value.target)) told.0 ∙ ap (λ q. is_rule (found_of tree q)) told.1
+told-stage : (r : Rules) (a : Ask) (given : GivenView) (p : List ℕ) (turn : ℕ) (stage : Stage) → Fits r a given p turn stage → IsTold given stage
+told-stage r a given p turn (Due held) fits = tt
+told-stage r a given p turn (Checking awaiting) fits = number-within given p awaiting.held.value.check.number fits.waits.in_check
+told-stage r a given p turn (Waiting parked) fits = tt
+told-stage r a given p turn (Ready work) fits = tt
+told-stage r a given p turn Out fits = tt
+told-stage r a given p turn (Decided fact) fits = tt
 
-told-stage : (r : Rules) (a : Ask) (given : GivenView) (p q : List ℕ) (turn : ℕ) (stage : Stage) → q ≡ p → Fits r a given q turn stage → IsTold given.past.sources p stage
-told-stage r a given p q turn (Waiting parked) same fits =
-    ap (λ x. is_rule (found_of given.past.sources x)) (sym (fits.of_target ∙ same)) ∙ ap is_rule fits.is_job.found
-told-stage r a given p q turn (Ready work) same fits = tt
-told-stage r a given p q turn Out same fits = tt
-told-stage r a given p q turn (Decided fact) same fits = (ap (λ (g : GivenView). g.past.sources) fits.0, fits.1 ∙ same)
-
--- what a board's table holds is of its paths
-pub told-inside : (b : Inside) → IsKept b → (tree : Tree) → tree ≡ b.build.past.sources → AllTold tree b.table
-told-inside b kept tree same =
-    let P : Tree → Type 0 = λ t. AllTold t b.table in
-    subst P (sym same) (λ k slot p there at.
-    told-stage (rules_inside b) (outcomes_of (state_of b).entries) b.build p (path_at b.table.targets k) slot.turn slot.stage
-    (rw at refl) (kept.table.fits k slot there))
+-- the checks of a board's table that wait are of records in its book
+pub told-inside : (b : Inside) → IsKept b → AllTold b.build b.table
+told-inside b kept k slot there =
+    told-stage (rules_inside b) (outcomes_of (state_of b).entries) b.build (path_at b.table.targets k) slot.turn slot.stage (kept.table.fits k slot there)

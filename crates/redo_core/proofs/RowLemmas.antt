@@ -3,8 +3,8 @@ use Rattle.std.proofs.Common.{◌≡◌, ℕ, zero, suc, ◌<◌, Bool, true, fa
 use Rattle.std.proofs.Common.{map, filter, if◌then◌else◌, Some, None, refl, sym, ap, subst, ◌∙◌, arith}
 use Rattle.std.proofs.lemmas.Bool.{cases_Bool}
 use Rattle.std.proofs.lemmas.Grind.{flat_map-append}
-use Rattle.std.proofs.lemmas.List.{append-nil, map-append}
-use Rattle.std.proofs.lemmas.List.Elements.{All-nil, All-cons, filter-append}
+use Rattle.std.proofs.lemmas.List.{append-nil, append_assoc}
+use Rattle.std.proofs.lemmas.List.Elements.{All-nil, All-cons}
 use Rattle.std.proofs.lemmas.List.Kept.{IsStrictlySortedBy-dedup}
 use Rattle.std.proofs.lemmas.List.Sorted.{Contains-permutation, IsPermutation-sym}
 use Rattle.std.proofs.lemmas.Map.Text.{is_eq-slice_cmp}
@@ -16,13 +16,12 @@ use Rattle.std.specs.Ordering.{nat_cmp, eq_by_cmp}
 use Rattle.std.specs.Prelude.{All, Contains, slice_index_or}
 use Rattle.std.specs.declared.cmp.Ordering.{Ordering}
 use Rattle.std.specs.declared.cmp.Ordering.TheVariants.{Less}
-use Rattle.redo_tree.specs.Tree.{Tree}
-use Rattle.redo_which.specs.Rule.{found_of}
-use Rattle.redo_step.specs.Setting.{is_rule}
 use Rattle.redo_record.specs.declared.outcome.Outcome.{Outcome}
 use Rattle.redo_record.specs.declared.outcome.Outcome.TheVariants.{Source, Built, Failed, Cyclic}
 use Rattle.redo_record.specs.Paths.{IsAmong}
-use Rattle.redo_core.specs.inside.Reported.{file_of, placed, row_files, row_begun}
+use Rattle.redo_core.specs.Build.{GivenView}
+use Rattle.redo_core.specs.declared.table.Table.{Table}
+use Rattle.redo_core.specs.inside.Reported.{AreRowsOf, IsRowOf, file_of, placed, row_files, row_begun}
 use Rattle.redo_report.specs.declared.report.Row.{Row}
 use Rattle.redo_core.proofs.OrderLemmas.{IsBefore, AreSorted, placed-from, placed-second, placed-sorted, sorted-unique}
 
@@ -55,10 +54,6 @@ module _ {X : Type 0} where
   of_item P [] x h m = absurd m
   of_item P (y ∷ ys) x h m = elim m [ inl here ↦ subst P here h.0 | inr later ↦ of_item P ys x h.1 later ]
 
-  pub all_from : (P Q : X → Type 0) (xs : List X) → AllByRecursion P xs → ((x : X) → IsItem xs x → P x → Q x) → AllByRecursion Q xs
-  all_from P Q [] h f = tt
-  all_from P Q (x ∷ xs) h f = (f x (inl refl) h.0, all_from P Q xs h.1 (λ y m. f y (inr m)))
-
 pub path_row : (rows : List Row) (p : List ℕ) → IsAmong (map (λ row. row.path) rows) p → (row : Row) × IsItem rows row × (row.path ≡ p)
 path_row [] p m = absurd m
 path_row (row ∷ rows) p m = elim m [
@@ -82,23 +77,75 @@ filter-among f (x ∷ ps) p m t = elim (cases_Bool (f x)) [
 
 -- One row more
 
-pub rows-added : (P : Row → Type 0) (rows : List Row) (row : Row) → AllByRecursion P rows → P row → AllByRecursion P (rows ++ row ∷ [])
-rows-added P [] row h is = (is, tt)
-rows-added P (x ∷ rows) row h is = (h.0, rows-added P rows row h.1 is)
+module _ (given : GivenView) (t : Table) where
+  pub rows-added : (rows : List Row) (bits : List Bool) (row : Row) (bit : Bool) → AreRowsOf given t rows bits → IsRowOf given t row bit →
+      AreRowsOf given t (rows ++ row ∷ []) (bits ++ bit ∷ [])
+  rows-added [] [] row bit h is = (is, tt)
+  rows-added [] (b ∷ bits) row bit h is = absurd h
+  rows-added (x ∷ rows) [] row bit h is = absurd h
+  rows-added (x ∷ rows) (b ∷ bits) row bit h is = (h.0, rows-added rows bits row bit h.1 is)
+
+  pub begun-added : (rows : List Row) (bits : List Bool) (row : Row) (bit : Bool) → AreRowsOf given t rows bits →
+      row_begun (rows ++ row ∷ []) (bits ++ bit ∷ []) ≡ row_begun rows bits ++ (if bit then row.path ∷ [] else [])
+  begun-added [] [] row bit h = append-nil (if bit then row.path ∷ [] else [])
+  begun-added [] (b ∷ bits) row bit h = absurd h
+  begun-added (x ∷ rows) [] row bit h = absurd h
+  begun-added (x ∷ rows) (b ∷ bits) row bit h =
+      let first : List (List ℕ) = if b then x.path ∷ [] else [] in
+      ap (λ ps. first ++ ps) (begun-added rows bits row bit h.1)
+      ∙ sym (append_assoc first (row_begun rows bits) (if bit then row.path ∷ [] else []))
+
+  -- what is true of each row
+  pub rows-all : (Q : Row → Type 0) (rows : List Row) (bits : List Bool) → AreRowsOf given t rows bits →
+      ((row : Row) (bit : Bool) → IsItem rows row → IsRowOf given t row bit → Q row) → AllByRecursion Q rows
+  rows-all Q [] bits h f = tt
+  rows-all Q (x ∷ rows) [] h f = absurd h
+  rows-all Q (x ∷ rows) (b ∷ bits) h f = (f x b (inl refl) h.0, rows-all Q rows bits h.1 (λ row bit m is. f row bit (inr m) is))
+
+  -- a path that is listed as begun is that of a row whose script was begun
+  pub begun-from : (Q : List ℕ → Type 0) (rows : List Row) (bits : List Bool) → AreRowsOf given t rows bits →
+      ((row : Row) → IsItem rows row → IsRowOf given t row true → Q row.path) → (p : List ℕ) → IsAmong (row_begun rows bits) p → Q p
+  begun-from Q [] bits h f p m = absurd m
+  begun-from Q (x ∷ rows) [] h f p m = absurd h
+  begun-from Q (x ∷ rows) (true ∷ bits) h f p m = elim m [
+    | inl here ↦ subst Q here (f x (inl refl) h.0)
+    | inr later ↦ begun-from Q rows bits h.1 (λ row i is. f row (inr i) is) p later
+  ]
+  begun-from Q (x ∷ rows) (false ∷ bits) h f p m = begun-from Q rows bits h.1 (λ row i is. f row (inr i) is) p m
+
+  -- each such row has its path there
+  pub begun-to : (rows : List Row) (bits : List Bool) → AreRowsOf given t rows bits → (row : Row) → IsItem rows row →
+      ((bit : Bool) → IsRowOf given t row bit → bit ≡ true) → IsAmong (row_begun rows bits) row.path
+  begun-to [] bits h row m f = absurd m
+  begun-to (x ∷ rows) [] h row m f = absurd h
+  begun-to (x ∷ rows) (true ∷ bits) h row m f = elim m [
+    | inl here ↦ inl (ap (λ (y : Row). y.path) here)
+    | inr later ↦ inr (begun-to rows bits h.1 row later f)
+  ]
+  begun-to (x ∷ rows) (false ∷ bits) h row m f = elim m [
+    | inl here ↦
+        let P : Row → Type 0 = λ y. IsRowOf given t y false in
+        let bad : false ≡ true = f false (subst P here h.0) in
+        cc
+    | inr later ↦ begun-to rows bits h.1 row later f
+  ]
+
+begun-paths : (rows : List Row) (bits : List Bool) (p : List ℕ) → IsAmong (row_begun rows bits) p → IsAmong (map (λ row. row.path) rows) p
+begun-paths [] bits p m = absurd m
+begun-paths (x ∷ rows) [] p m = absurd m
+begun-paths (x ∷ rows) (true ∷ bits) p m = elim m [ inl here ↦ inl here | inr later ↦ inr (begun-paths rows bits p later) ]
+begun-paths (x ∷ rows) (false ∷ bits) p m = inr (begun-paths rows bits p m)
+
+pub begun-sorted : (rows : List Row) (bits : List Bool) → AreSorted (map (λ row. row.path) rows) → AreSorted (row_begun rows bits)
+begun-sorted [] bits s = tt
+begun-sorted (x ∷ rows) [] s = tt
+begun-sorted (x ∷ rows) (true ∷ bits) s = (λ q m. s.0 q (begun-paths rows bits q m), begun-sorted rows bits s.1)
+begun-sorted (x ∷ rows) (false ∷ bits) s = begun-sorted rows bits s.1
 
 pub files-added : (rows : List Row) (row : Row) → row_files (rows ++ row ∷ []) ≡ row_files rows ++ file_of row.path row.outcome
 files-added rows row =
     flat_map-append (λ x. file_of x.path x.outcome) rows (row ∷ [])
     ∙ ap (λ fs. row_files rows ++ fs) (append-nil (file_of row.path row.outcome))
-
-pub begun-added : (tree : Tree) (rows : List Row) (row : Row) (begun : Bool) → begun ≡ is_rule (found_of tree row.path) → row_begun tree (rows ++ row ∷ []) ≡ row_begun tree rows ++ (if begun then row.path ∷ [] else [])
-begun-added tree rows row begun is =
-    ap (filter (λ p. is_rule (found_of tree p))) (map-append (λ (x : Row). x.path) rows (row ∷ []))
-    ∙ filter-append (λ p. is_rule (found_of tree p)) (map (λ x. x.path) rows) (row.path ∷ [])
-    ∙ ap (λ ps. row_begun tree rows ++ ps) ((elim begun as (λ b. b ≡ is_rule (found_of tree row.path) → filter (λ p. is_rule (found_of tree p)) (row.path ∷ []) ≡ (if b then row.path ∷ [] else [])) [
-      | true ↦ λ t. rw (sym t) refl
-      | false ↦ λ f. rw (sym f) refl
-    ]) is)
 
 -- Paths in order, each once
 

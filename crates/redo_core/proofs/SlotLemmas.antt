@@ -3,19 +3,19 @@ use Rattle.std.proofs.Common.{map, remove, slice_get, slice_set, slice_index_or,
 use Rattle.std.proofs.Common.{◌<◌, ◌≤◌, Bool, true, false, inl, inr, List, [], ◌∷◌, length, filter, Option, Some, None}
 use Rattle.std.proofs.Common.{is_some, IsNone, rules, refl, sym, ap, subst, ◌∙◌, arith, bytes_eq}
 use Rattle.std.proofs.lemmas.Bool.{cases_Bool}
-use Rattle.redo_build.specs.Rules.{Ask, Rules, AreLawful}
+use Rattle.redo_build.specs.Rules.{Ask, Rules, AreLawful, operands}
 use Rattle.redo_build.specs.Outcomes.{outcome_at}
 use Rattle.redo_build.proofs.SeenLemmas.{entry_of-path, decided_count-length}
 use Rattle.redo_build.specs.inside.Standing.{decided_count, AreStanding, rounds}
 use Rattle.redo_build.proofs.DepthLemmas.{deeper}
 use Rattle.redo_build.proofs.TurnLemmas.{deps_at_turn-more, Extends-trans'}
 use Rattle.redo_build.proofs.StandingLemmas.{outcomes_of-deep}
-use Rattle.redo_build.specs.Schedule.{Entry, paths_of, entry_of, outcomes_of, State, put, sent_out, taken, happens}
-use Rattle.redo_core.specs.inside.Slots.{slot_entries, stage_outcome, is_stage_out, is_stage_ready, Fits, AllAnswered}
+use Rattle.redo_build.specs.Schedule.{Entry, paths_of, entry_of, only, outcomes_of, State, put, sent_out, taken, happens}
+use Rattle.redo_core.specs.inside.Slots.{rounds_of, slot_entries, stage_outcome, is_stage_out, is_stage_ready, Fits, AllAnswered}
 use Rattle.redo_core.specs.inside.Slots.{entries_from, slot_entry, stage_deps, path_at, state_from, IsParked}
 use Rattle.redo_core.specs.declared.table.Slot.{Slot}
 use Rattle.redo_core.specs.declared.table.Stage.{Stage}
-use Rattle.redo_core.specs.declared.table.Stage.TheVariants.{Waiting, Ready, Out, Decided}
+use Rattle.redo_core.specs.declared.table.Stage.TheVariants.{Due, Checking, Waiting, Ready, Out, Decided}
 use Rattle.redo_core.specs.declared.work.Work.{Work}
 use Rattle.redo_record.specs.Paths.{AreDistinct}
 use Rattle.redo_build.specs.Schedule.Event.{Take}
@@ -106,15 +106,18 @@ length-filter_le f (x ∷ xs) = elim (cases_Bool (f x)) [
 
 -- a ready slot has its job
 pub ready-job : (r : Rules) (a : Ask) (given : GivenView) (p : List ℕ) (turn : ℕ) (stage : Stage) → Fits r a given p turn stage →
-    is_stage_ready stage ≡ true → (work : Work) × (stage ≡ Ready work) × IsParked given p turn work × AllAnswered r a work.deps
-ready-job r a given p turn (Ready work) h t = (work, refl, h.0, h.1)
+    is_stage_ready stage ≡ true → (work : Work) × (stage ≡ Ready work) × IsParked given p turn work × AllAnswered r a work.deps ×
+    (r.begins p (only (operands r work.deps) a) ≡ true)
+ready-job r a given p turn (Due held) h t = cc
+ready-job r a given p turn (Checking awaiting) h t = cc
+ready-job r a given p turn (Ready work) h t = (work, refl, h.0, h.1, h.2)
 ready-job r a given p turn (Waiting work) h t = cc
 ready-job r a given p turn Out h t = cc
 ready-job r a given p turn (Decided fact) h t = cc
 
--- the entry of a slot stopped at each of its turns, and at no look
-pub slot-rounds : (r : Rules) (a : Ask) (p : List ℕ) (slot : Slot) → rounds (slot_entry r a p slot) ≡ slot.turn
-slot-rounds r a p slot = omega arith
+-- the entry of a slot stopped at each of its looks and turns
+pub slot-rounds : (r : Rules) (a : Ask) (p : List ℕ) (slot : Slot) → rounds (slot_entry r a p slot) ≡ rounds_of slot
+slot-rounds r a p slot = refl
 
 -- an undecided entry's record is that of its turn under the build at any depth that is no less than the number of entries
 pub deps_deep : (r : Rules) (lawful : AreLawful r) (request : List (List ℕ)) (es : List Entry) (standing : AreStanding r request es) (n : ℕ) →
@@ -145,7 +148,7 @@ module _ (r : Rules) (lawful : AreLawful r) (n : ℕ) (request : List (List ℕ)
   still_open = rw parked refl
 
   -- a job that goes out keeps its record
-  pub same_deps : stage_deps r (outcome_at r n) p slot.turn slot.stage ≡ deps_at_turn r p (outcome_at r n) slot.turn
+  pub same_deps : stage_deps r (outcome_at r n) p (rounds_of slot) slot.stage ≡ deps_at_turn r p (outcome_at r n) (rounds_of slot)
   same_deps = deps_deep r lawful request (entries_from r n ps slots) sound.standing n
       (let paths = ap length (paths_of-slots r (outcome_at r n) ps slots one_each) in omega (arith, paths, one_each, within))
       p (slot_entry r (outcome_at r n) p slot) entry still_open
@@ -156,10 +159,10 @@ module _ (r : Rules) (lawful : AreLawful r) (n : ℕ) (request : List (List ℕ)
 
   sent : slot_entry r (outcome_at r n) p out_slot ≡ sent_out (slot_entry r (outcome_at r n) p slot)
   sent =
-      let P : List Dep → Type 0 = λ ds. record { path = p; looks = 0; turn = slot.turn; deps = ds; outcome = None; is_out = true } ≡
+      let P : List Dep → Type 0 = λ ds. record { path = p; looks = slot.looks; turn = slot.turn; deps = ds; outcome = None; is_out = true } ≡
       sent_out (slot_entry r (outcome_at r n) p slot) in
       let Q : Stage → Type 0 = λ stage. stage_outcome stage ≡ None in
-      let R : Option Outcome → Type 0 = λ o. record { path = p; looks = 0; turn = slot.turn; deps = stage_deps r (outcome_at r n) p slot.turn slot.stage; outcome = o; is_out = true } ≡
+      let R : Option Outcome → Type 0 = λ o. record { path = p; looks = slot.looks; turn = slot.turn; deps = stage_deps r (outcome_at r n) p (rounds_of slot) slot.stage; outcome = o; is_out = true } ≡
       sent_out (slot_entry r (outcome_at r n) p slot) in
       subst P same_deps (subst R still_open refl)
 

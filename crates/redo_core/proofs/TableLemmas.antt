@@ -2,23 +2,27 @@
 use Rattle.std.proofs.Common.{drop, remove, slice_get, slice_set, ◌≡◌, ℕ, zero, suc, ◌<◌, true, ◌⊎◌, inl, inr, List, []}
 use Rattle.std.proofs.Common.{◌∷◌, ◌++◌, length, length-set, Some, None, refl, sym, ap, subst, ◌∙◌, arith, bytes_eq}
 use Rattle.std.proofs.lemmas.Bool.{cases_Bool, both_ways}
-use Rattle.redo_record.specs.Paths.{IsAmong, AreDistinct}
+use Rattle.redo_record.specs.Paths.{IsAmong, AreDistinct, is_among}
 use Rattle.redo_build.specs.Rules.{Ask, Rules, AreLawful, Extends, operands}
 use Rattle.redo_build.proofs.SeenLemmas.{entry_of-put_other}
 use Rattle.redo_record.specs.declared.deps.Dep.{Dep}
 use Rattle.redo_build.specs.Outcomes.{outcome_at}
-use Rattle.redo_build.specs.Schedule.{outcome_of, outcomes_of}
-use Rattle.redo_core.specs.inside.Slots.{entries_from, slot_entry, stage_deps, stage_outcome, path_at, is_stage_waiting}
-use Rattle.redo_core.specs.inside.Slots.{Fits, AllFit, waited_by, AllWatched, AllWatchersBelow, IsWatched, IsPlace}
-use Rattle.redo_core.specs.inside.Works.{job_deps}
+use Rattle.redo_build.specs.Schedule.{only, outcome_of, outcomes_of}
+use Rattle.redo_core.specs.inside.Slots.{rounds_of, entries_from, slot_entry, stage_deps, stage_outcome, path_at, is_stage_waiting}
+use Rattle.redo_core.specs.inside.Slots.{Fits, AllAnswered, AllFit, waited_by, AllWatched, AllWatchersBelow, IsWatched, IsPlace}
+use Rattle.redo_core.specs.inside.Works.{all_asked}
+use Rattle.redo_core.specs.inside.Checking.{TellsAlike}
 use Rattle.redo_core.specs.declared.table.Slot.{Slot}
 use Rattle.redo_core.specs.declared.table.Stage.{Stage}
-use Rattle.redo_core.specs.declared.table.Stage.TheVariants.{Waiting, Ready, Out, Decided}
+use Rattle.redo_core.specs.declared.table.Stage.TheVariants.{Due, Checking, Waiting, Ready, Out, Decided}
 use Rattle.redo_build.proofs.DepthLemmas.{cases_Option, operand-target}
 use Rattle.redo_build.proofs.QueueLemmas.{slice_get-among}
 use Rattle.redo_core.proofs.SlotLemmas.{entry_of-slots, slot_entries-set}
 use Rattle.std.proofs.lemmas.Slice.Eq.{bytes_eq-Decides}
-use Rattle.redo_core.specs.Build.{GivenView}
+use Rattle.redo_build.proofs.PathLemmas.{is_among-true}
+use Rattle.redo_core.proofs.CheckingLemmas.{due-moves, waiting-moves}
+use Rattle.redo_core.proofs.LawfulTreeLemmas.{lawful_for}
+use Rattle.redo_core.specs.Build.{GivenView, rules_for}
 
 pub slice_get-place : (xs : List ℕ) (i k : ℕ) → slice_get xs i ≡ Some k → IsPlace xs k
 slice_get-place [] i k h = cc
@@ -90,33 +94,86 @@ cases_place zero (suc at) = inr (λ e. absurd (omega arith))
 cases_place (suc i) zero = inr (λ e. absurd (omega arith))
 cases_place (suc i) (suc at) = elim (cases_place i at) [ inl e ↦ inl (ap suc e) | inr n ↦ inr (λ e. n (let f : i ≡ at = omega arith in f)) ]
 
-pub Fits-more : (r : Rules) (lawful : AreLawful r) (a b : Ask) (given : GivenView) (p : List ℕ) (turn : ℕ) (stage : Stage) → Extends r a b →
-    Fits r a given p turn stage → Fits r b given p turn stage
-Fits-more r lawful a b given p turn (Waiting parked) more h = record {
-  is_job = h.is_job;
-  of_target = h.of_target;
-  at_turn = h.at_turn;
-  stopped = h.stopped;
-  answered = λ k q below at none. elim (cases_Option (a q)) [
-    | inl no_answer ↦ h.answered k q below at no_answer
-    | inr some ↦
-        let target = operand-target r lawful (drop parked.begun.value.facts.gained parked.begun.value.job.state.entries) q (slice_get-among (waited_by r parked.begun.value) k q at) in
-        let also = more q some.0 target some.1 in cc
-  ];
-  told = λ q o known. let was = h.told q o known in (was.0, more q o (operand-target r lawful (job_deps parked.begun.value.job) q was.0) was.1);
-  goes_on = h.goes_on;
-  gained_within = h.gained_within;
-  gained = h.gained;
-}
-Fits-more r lawful a b given p turn (Ready work) more h = (
-  h.0,
-  λ q m none. elim (cases_Option (a q)) [
-    | inl no_answer ↦ h.1 q m no_answer
-    | inr some ↦ let also = more q some.0 (operand-target r lawful work.deps q m) some.1 in cc
-  ],
-)
-Fits-more r lawful a b given p turn Out more h = h
-Fits-more r lawful a b given p turn (Decided fact) more h = h
+-- with more answers those to these entries stay as they are
+pub answered-alike : (r : Rules) (lawful : AreLawful r) (a b : Ask) (ds : List Dep) → Extends r a b → AllAnswered r a ds → TellsAlike r ds a b
+answered-alike r lawful a b ds more all q m = elim (cases_Option (a q)) [
+  | inl none ↦ absurd (all q m none)
+  | inr some ↦ some.1 ∙ sym (more q some.0 (operand-target r lawful ds q m) some.1)
+]
+
+-- and stay answers
+pub answered-more : (r : Rules) (lawful : AreLawful r) (a b : Ask) (ds : List Dep) → Extends r a b → AllAnswered r a ds → AllAnswered r b ds
+answered-more r lawful a b ds more all q m none = all q m (answered-alike r lawful a b ds more all q m ∙ none)
+
+-- where two asks tell alike of some paths, they do so of those alone
+pub only-alike : (qs : List (List ℕ)) (a b : Ask) → ((q : List ℕ) → IsAmong qs q → a q ≡ b q) → (q : List ℕ) → only qs a q ≡ only qs b q
+only-alike qs a b alike q = elim (cases_Bool (is_among qs q)) [
+  | inl t ↦ rw t (alike q (is_among-true qs q t))
+  | inr f ↦ rw f refl
+]
+
+pub Fits-more : (given : GivenView) (a b : Ask) (p : List ℕ) (turn : ℕ) (stage : Stage) → Extends (rules_for given) a b →
+    Fits (rules_for given) a given p turn stage → Fits (rules_for given) b given p turn stage
+Fits-more given a b p turn (Due held) more h =
+    let r = rules_for given in
+    let lawful = lawful_for given in
+    let alike = answered-alike r lawful a b held.value.check.asked more h.answered in
+    record {
+      is_held = h.is_held;
+      is_due = due-moves given p a b held.value.check h.is_due alike;
+      answered = answered-more r lawful a b held.value.check.asked more h.answered;
+      exact = λ q. h.exact q ∙ only-alike (operands r held.value.check.asked) a b alike q;
+    }
+Fits-more given a b p turn (Checking awaiting) more h =
+    let r = rules_for given in
+    let lawful = lawful_for given in
+    let check = awaiting.held.value.check in
+    let alike : (x : List ℕ) → IsAmong (operands r check.asked) x → (awaiting.path ≡ x → ⊥) → a x ≡ b x = λ x m other. elim (cases_Option (a x)) [
+      | inl none ↦ absurd (h.answered x m other none)
+      | inr some ↦ some.1 ∙ sym (more x some.0 (operand-target r lawful check.asked x m) some.1)
+    ] in
+    record {
+      is_held = h.is_held;
+      waits = waiting-moves given p a b awaiting.path check h.waits (λ x m other. alike x m (λ e. other (sym e)));
+      answered = λ q m other none. h.answered q m other (alike q m other ∙ none);
+      exact = λ q other. h.exact q other ∙ elim (cases_Bool (is_among (operands r check.asked) q)) as
+          (λ _. only (operands r check.asked) a q ≡ only (operands r check.asked) b q) [
+            | inl t ↦ rw t (alike q (is_among-true (operands r check.asked) q t) other)
+            | inr f ↦ rw f refl
+          ];
+      lacks = h.lacks;
+    }
+Fits-more given a b p turn (Waiting parked) more h =
+    let r = rules_for given in
+    let lawful = lawful_for given in
+    record {
+      is_job = h.is_job;
+      of_target = h.of_target;
+      at_turn = h.at_turn;
+      stopped = h.stopped;
+      answered = λ k q below at none. elim (cases_Option (a q)) [
+        | inl no_answer ↦ h.answered k q below at no_answer
+        | inr some ↦
+            let target = operand-target r lawful (drop parked.begun.value.facts.gained parked.begun.value.job.state.entries) q (slice_get-among (waited_by r parked.begun.value) k q at) in
+            let also = more q some.0 target some.1 in cc
+      ];
+      told = λ q o known. let was = h.told q o known in (was.0, more q o (operand-target r lawful (all_asked parked.begun.value.job parked.begun.value.facts) q was.0) was.1);
+      behind = h.behind;
+      checked = h.checked;
+      own = h.own;
+      goes_on = h.goes_on;
+      gained_within = h.gained_within;
+      gained = h.gained;
+    }
+Fits-more given a b p turn (Ready work) more h =
+    let r = rules_for given in
+    let lawful = lawful_for given in
+    let qs = operands r work.deps in
+    let alike = answered-alike r lawful a b work.deps more h.1 in
+    let here : Extends r (only qs a) (only qs b) = λ q o source some. sym (only-alike qs a b alike q) ∙ some in
+    (h.0, answered-more r lawful a b work.deps more h.1, lawful.begins_stays p (only qs a) (only qs b) here h.2)
+Fits-more given a b p turn Out more h = h
+Fits-more given a b p turn (Decided fact) more h = h
 
 module _ (r : Rules) (lawful : AreLawful r) (n : ℕ) (ps : List (List ℕ)) (slots : List Slot) (at : ℕ) (p : List ℕ) (old new : Slot) (distinct : AreDistinct ps)
     (path : slice_get ps at ≡ Some p) (there : slice_get slots at ≡ Some old) where
@@ -150,16 +207,18 @@ module _ (r : Rules) (lawful : AreLawful r) (n : ℕ) (ps : List (List ℕ)) (sl
     | inr f ↦ outcomes-other q (λ is. both_ways _ f ((bytes_eq-Decides p q).1 is)) ∙ h
   ]
 
-  pub fits-set : (given : GivenView) → Extends r (outcomes_of (entries_from r n ps slots)) (outcomes_of (entries_from r n ps (slice_set slots at new))) →
+  pub fits-set : (given : GivenView) → (r ≡ rules_for given) → Extends r (outcomes_of (entries_from r n ps slots)) (outcomes_of (entries_from r n ps (slice_set slots at new))) →
       AllFit r n given ps slots →
       Fits r (outcomes_of (entries_from r n ps (slice_set slots at new))) given (path_at ps at) new.turn new.stage →
       AllFit r n given ps (slice_set slots at new)
-  fits-set given more fits fit k x g = elim (get-set_cases slots at k new x g) [
+  fits-set given same more fits fit k x g = elim (get-set_cases slots at k new x g) [
     | inl here ↦
         let P : Slot → Type 0 = λ y. Fits r (outcomes_of (entries_from r n ps (slice_set slots at new))) given (path_at ps k) y.turn y.stage in
         let Q : ℕ → Type 0 = λ j. Fits r (outcomes_of (entries_from r n ps (slice_set slots at new))) given (path_at ps j) new.turn new.stage in
         subst P here.1 (subst Q (sym here.0) fit)
-    | inr before ↦ Fits-more r lawful (outcomes_of (entries_from r n ps slots)) (outcomes_of (entries_from r n ps (slice_set slots at new))) given (path_at ps k) x.turn x.stage more
+    | inr before ↦
+        let M : Rules → Type 0 = λ x. (a b : Ask) (q : List ℕ) (turn : ℕ) (stage : Stage) → Extends x a b → Fits x a given q turn stage → Fits x b given q turn stage in
+        subst M (sym same) (Fits-more given) (outcomes_of (entries_from r n ps slots)) (outcomes_of (entries_from r n ps (slice_set slots at new))) (path_at ps k) x.turn x.stage more
         (fits k x before.1)
   ]
 
@@ -202,19 +261,19 @@ module _ (slots : List Slot) (at : ℕ) (old new : Slot) (there : slice_get slot
   -- what waited is still watched, where the slot is still open
   pub watched-set : (r : Rules) (n : ℕ) (ps : List (List ℕ)) (pending : List ℕ) → stage_outcome new.stage ≡ None →
       ((j : ℕ) → IsPlace old.watchers.items j → IsPlace new.watchers.items j) →
-      (is_stage_waiting new.stage ≡ true → IsPlace pending at ⊎ IsWatched r ps (slice_set slots at new) at (stage_deps r (outcome_at r n) (path_at ps at) new.turn new.stage)) →
+      (is_stage_waiting new.stage ≡ true → IsPlace pending at ⊎ IsWatched r ps (slice_set slots at new) at (stage_deps r (outcome_at r n) (path_at ps at) (rounds_of new) new.stage)) →
       ((k : ℕ) (x : Slot) → (k ≡ at → ⊥) → slice_get slots k ≡ Some x → is_stage_waiting x.stage ≡ true →
-      IsPlace pending k ⊎ IsWatched r ps slots k (stage_deps r (outcome_at r n) (path_at ps k) x.turn x.stage)) →
+      IsPlace pending k ⊎ IsWatched r ps slots k (stage_deps r (outcome_at r n) (path_at ps k) (rounds_of x) x.stage)) →
       AllWatched r n ps (slice_set slots at new) pending
   watched-set r n ps pending open' more mine all k x g t = elim (get-set_cases slots at k new x g) [
     | inl here ↦
-        let P : ℕ → Slot → Type 0 = λ j y. IsPlace pending j ⊎ IsWatched r ps (slice_set slots at new) j (stage_deps r (outcome_at r n) (path_at ps j) y.turn y.stage) in
+        let P : ℕ → Slot → Type 0 = λ j y. IsPlace pending j ⊎ IsWatched r ps (slice_set slots at new) j (stage_deps r (outcome_at r n) (path_at ps j) (rounds_of y) y.stage) in
         let A : Slot → Type 0 = λ y. P k y in
         let B : ℕ → Type 0 = λ j. P j new in
         subst A here.1 (subst B (sym here.0) (mine (ap (λ (y : Slot). is_stage_waiting y.stage) here.1 ∙ t)))
     | inr before ↦ elim (all k x before.0 before.1 t) [
       | inl m ↦ inl m
-      | inr w ↦ inr (IsWatched-set r ps k (stage_deps r (outcome_at r n) (path_at ps k) x.turn x.stage) open' more w)
+      | inr w ↦ inr (IsWatched-set r ps k (stage_deps r (outcome_at r n) (path_at ps k) (rounds_of x) x.stage) open' more w)
     ]
   ]
 

@@ -1,41 +1,45 @@
 -- Looking again at what waits keeps the entries.
-use Rattle.std.proofs.Common.{map, remove, slice_get, slice_set, ◌≡◌, ℕ, zero, suc, ◌+◌, ◌<◌, ◌≤◌, Bool, true, false}
-use Rattle.std.proofs.Common.{◌⊎◌, inl, inr, List, [], ◌∷◌, ◌++◌, length, length-set, filter, filter_map, drop, Option}
-use Rattle.std.proofs.Common.{Some, None, not, refl, sym, ap, subst, ◌∙◌, arith, bytes_eq}
-use Rattle.std.proofs.lemmas.Bool.{cases_Bool, both_ways, not-true, not_from_false}
+use Rattle.std.proofs.Common.{slice_get, slice_set, ◌≡◌, ℕ, zero, suc, ◌+◌, ◌<◌, ◌≤◌, Bool, true, false}
+use Rattle.std.proofs.Common.{◌⊎◌, inl, inr, List, [], ◌∷◌, ◌++◌, length, length-set, filter, filter_map, drop}
+use Rattle.std.proofs.Common.{Some, None, not, refl, sym, ap, subst, ◌∙◌, arith}
+use Rattle.std.proofs.lemmas.Bool.{cases_Bool, both_ways, not-true}
 use Rattle.redo_record.specs.Paths.{IsAmong, AreDistinct}
 use Rattle.redo_build.specs.Rules.{Ask, Rules, AreLawful, Extends, operands, changed}
 use Rattle.redo_build.specs.Outcomes.{outcome_at}
 use Rattle.redo_core.specs.Build.{GivenView, rules_for}
-use Rattle.redo_build.specs.Schedule.{Entry, known_to, outcome_of, outcomes_of, entry_of}
-use Rattle.redo_core.specs.inside.Slots.{table_entries, entries_from, slot_entries, slot_entry, stage_deps}
-use Rattle.redo_core.specs.inside.Slots.{stage_outcome, path_at, is_stage_out, is_stage_ready, is_stage_waiting}
+use Rattle.redo_build.specs.Schedule.{Entry, known_to, only, outcome_of, outcomes_of, entry_of}
+use Rattle.redo_core.specs.inside.Slots.{rounds_of, table_entries, entries_from, slot_entries, slot_entry, stage_deps}
+use Rattle.redo_core.specs.inside.Slots.{stage_outcome, path_at, is_stage_due, is_stage_out, is_stage_ready}
+use Rattle.redo_core.specs.inside.Slots.{is_stage_waiting}
 use Rattle.redo_core.specs.inside.Slots.{is_stage_decided, Fits, AllWatched, AllAnswered, AreDecidedFrom, AreNumbers}
 use Rattle.redo_core.specs.inside.Slots.{IsNumbered, waited_by, IsDecidedNumber, IsOperand, IsWatched, IsPlace}
-use Rattle.redo_core.specs.inside.Slots.{ArePlacesOnce, IsQueue, IsTable, IsTableOf, IsParked, IsLookedAt, IsLackingAt}
+use Rattle.redo_core.specs.inside.Slots.{ArePlacesOnce, AreDue, IsQueue, IsTable, IsTableOf, IsParked, IsLookedAt, IsLackingAt}
 use Rattle.redo_core.specs.inside.Slots.{IsWatchAdded, IsMadeReadyAt, IsFed, IsStandingTable, IsDecidedSlot}
-use Rattle.redo_core.specs.inside.Works.{job_deps, told_in}
+use Rattle.redo_core.specs.inside.Works.{all_asked, job_deps, told_in}
 use Rattle.redo_core.specs.declared.table.Slot.{Slot}
 use Rattle.redo_core.specs.declared.table.Table.{Table}
 use Rattle.redo_core.specs.declared.table.Parked.{Parked}
 use Rattle.redo_core.specs.declared.table.Stage.{Stage}
-use Rattle.redo_core.specs.declared.table.Stage.TheVariants.{Waiting, Ready, Out, Decided}
+use Rattle.redo_core.specs.declared.table.Stage.TheVariants.{Due, Checking, Waiting, Ready, Out, Decided}
 use Rattle.redo_build.proofs.PathLemmas.{filter-passes, filter-from}
-use Rattle.redo_build.proofs.QueueLemmas.{filter-keeps, slice_get-among}
+use Rattle.redo_build.proofs.QueueLemmas.{slice_get-among}
 use Rattle.redo_core.proofs.NumberLemmas.{numbers-number, numbers-path, numbered-set, among-place, drop-place}
 use Rattle.redo_core.proofs.NumberLemmas.{place-drop}
 use Rattle.redo_build.proofs.DepthLemmas.{cases_Option}
-use Rattle.redo_core.proofs.LawfulTreeLemmas.{lawful_for, keeps_nothing}
+use Rattle.redo_core.proofs.LawfulTreeLemmas.{lawful_for}
+use Rattle.redo_core.proofs.AllAskedLemmas.{asked-cases, asked-second, first-alike, told-alike}
+use Rattle.redo_core.proofs.DueSteps.{due-same}
 use Rattle.redo_core.proofs.TableLemmas.{fits-set, place-slice_get, place-append, place-left, place-right}
 use Rattle.redo_core.proofs.TableLemmas.{get-set_cases, get-set_same, IsWatched-set, watchers-set}
 use Rattle.redo_build.proofs.HandoverLemmas.{taken-work, taken-deep}
 use Rattle.redo_build.proofs.TurnBoundLemmas.{turn-below}
-use Rattle.redo_core.proofs.JobLemmas.{asked_of_job, asked_by_job}
+use Rattle.redo_core.proofs.JobLemmas.{asked_of_job, asked_by_job, entry-operand}
 use Rattle.redo_build.specs.inside.Turns.{IsWork}
 use Rattle.redo_record.specs.declared.deps.DepKind.{DepKind}
 use Rattle.redo_record.specs.declared.deps.DepKind.TheVariants.{Change, Create, Always}
 use Rattle.redo_core.proofs.SlotLemmas.{entry_of-slots, paths_of-slots, slice_get-from, slice_get-below_some}
 use Rattle.redo_record.specs.declared.deps.Dep.{Dep}
+use Rattle.redo_record.specs.declared.outcome.Outcome.{Outcome}
 
 changed-path : (kind : DepKind) (p q : List ℕ) → changed kind p ≡ Some q → p ≡ q
 changed-path Change p q h = cc
@@ -58,16 +62,6 @@ changes-entry (d ∷ ds) q m =
       ]
     ]
 
-entry-changes : (ds : List Dep) (k : ℕ) (d : Dep) (q : List ℕ) → slice_get ds k ≡ Some d → changed d.kind d.path ≡ Some q → IsAmong (filter_map (λ x. changed x.kind x.path) ds) q
-entry-changes [] k d q at is = cc
-entry-changes (x ∷ ds) zero d q at is =
-    let same : x ≡ d = cc in
-    let here : changed x.kind x.path ≡ Some q = ap (λ (y : Dep). changed y.kind y.path) same ∙ is in
-    rw here (inl refl)
-entry-changes (x ∷ ds) (suc k) d q at is =
-    let rest = entry-changes ds k d q at is in
-    elim (cases_Option (changed x.kind x.path)) [ inl none ↦ rw none rest | inr some ↦ rw some.1 (inr rest) ]
-
 -- what a record waits for stands in it
 pub operand-entry : (r : Rules) (ds : List Dep) (q : List ℕ) → IsAmong (operands r ds) q → (k : ℕ) × (d : Dep) × (slice_get ds k ≡ Some d) × IsOperand r d q
 operand-entry r ds q m =
@@ -75,17 +69,17 @@ operand-entry r ds q m =
     let found = changes-entry ds q (filter-from (λ p. not (r.is_source p)) (filter_map (λ d. changed d.kind d.path) ds) q m) in
     (found.0, found.1, found.2, (found.3, not-true (r.is_source q) passes))
 
-pub entry-operand : (r : Rules) (ds : List Dep) (k : ℕ) (d : Dep) (q : List ℕ) → slice_get ds k ≡ Some d → IsOperand r d q → IsAmong (operands r ds) q
-entry-operand r ds k d q at is =
-    filter-keeps (λ p. not (r.is_source p)) (filter_map (λ x. changed x.kind x.path) ds) q (entry-changes ds k d q at is.0) (not_from_false (r.is_source q) is.1)
-
 pub open-outcome : (stage : Stage) → is_stage_decided stage ≡ false → stage_outcome stage ≡ None
+open-outcome (Due d) h = refl
+open-outcome (Checking c) h = refl
 open-outcome (Waiting p) h = refl
 open-outcome (Ready w) h = refl
 open-outcome Out h = refl
 open-outcome (Decided f) h = cc
 
 decided-outcome : (stage : Stage) → is_stage_decided stage ≡ true → stage_outcome stage ≡ None → ⊥
+decided-outcome (Due d) h n = cc
+decided-outcome (Checking c) h n = cc
 decided-outcome (Waiting p) h n = cc
 decided-outcome (Ready w) h n = cc
 decided-outcome Out h n = cc
@@ -236,15 +230,44 @@ module _ (given : GivenView) (t : Table) (newly_ready : List ℕ) (table : IsTab
     parked_fits : Fits r (outcomes_of es) given (path_at t.targets at) slot.turn (Waiting parked)
     parked_fits = let P : Stage → Type 0 = Fits r (outcomes_of es) given (path_at t.targets at) slot.turn in subst P is (table.fits at slot there)
 
-    pub parked_deps : stage_deps (rules_for given) (outcome_at (rules_for given) given.limits.targets) (path_at t.targets at) slot.turn slot.stage ≡ job_deps parked.begun.value.job
+    pub parked_deps : stage_deps (rules_for given) (outcome_at (rules_for given) given.limits.targets) (path_at t.targets at) (rounds_of slot) slot.stage ≡ all_asked parked.begun.value.job parked.begun.value.facts
     parked_deps = rw is refl
 
-    -- what the job declared is what its record waits for
-    pub own_asked : (q : List ℕ) → IsAmong (operands (rules_for given) parked.begun.value.job.state.entries) q → IsAmong (operands (rules_for given) (job_deps parked.begun.value.job)) q
-    own_asked q m = asked_of_job given parked.begun.value.job parked_fits.is_job (omega (arith, parked_fits.at_turn, parked_fits.stopped)) q m
+    -- what the job declared it asked for
+    pub own_asked : (q : List ℕ) → IsAmong (operands (rules_for given) parked.begun.value.job.state.entries) q →
+        IsAmong (operands (rules_for given) (all_asked parked.begun.value.job parked.begun.value.facts)) q
+    own_asked q m =
+        asked-second r parked.begun.value.facts.asked (job_deps parked.begun.value.job) q
+        (asked_of_job given parked.begun.value.job parked_fits.is_job (omega (arith, parked_fits.at_turn, parked_fits.stopped)) q m)
 
-    pub own_from : (q : List ℕ) → IsAmong (operands (rules_for given) (job_deps parked.begun.value.job)) q → IsAmong (operands (rules_for given) parked.begun.value.job.state.entries) q
-    own_from q m = asked_by_job given parked.begun.value.job parked_fits.is_job q m
+    -- what it asked for its check did, or the job declared
+    pub own_from : (q : List ℕ) → IsAmong (operands (rules_for given) (all_asked parked.begun.value.job parked.begun.value.facts)) q →
+        IsAmong (operands (rules_for given) parked.begun.value.facts.asked) q ⊎ IsAmong (operands (rules_for given) parked.begun.value.job.state.entries) q
+    own_from q m = elim (asked-cases r parked.begun.value.facts.asked (job_deps parked.begun.value.job) q m) [
+      | inl first ↦ inl first
+      | inr second ↦ inr (asked_by_job given parked.begun.value.job parked_fits.is_job q second)
+    ]
+
+    -- the answers that it holds
+    parked_told : (q : List ℕ) (o : Outcome) → told_in parked.begun.value.facts q ≡ Some o → outcomes_of (table_entries (rules_for given) given.limits.targets t) q ≡ Some o
+    parked_told q o known = (parked_fits.told q o known).1
+
+    parked_held : (q : List ℕ) → (told_in parked.begun.value.facts q ≡ None → ⊥) → outcomes_of (table_entries (rules_for given) given.limits.targets t) q ≡ None → ⊥
+    parked_held q has none = elim (cases_Option (told_in parked.begun.value.facts q)) [
+      | inl lost ↦ has lost
+      | inr some ↦ let known = parked_told q some.0 some.1 in let bad = sym known ∙ none in cc
+    ]
+
+    -- its script is begun with all that it asked for
+    pub parked_begins : (rules_for given).begins (path_at t.targets at)
+        (only (operands (rules_for given) (all_asked parked.begun.value.job parked.begun.value.facts)) (outcomes_of (table_entries (rules_for given) given.limits.targets t))) ≡ true
+    parked_begins =
+        let asked = parked.begun.value.facts.asked in
+        let known = told_in parked.begun.value.facts in
+        let here = told-alike r known (outcomes_of es) asked parked_told parked_fits.checked in
+        let there' = first-alike r (outcomes_of es) asked (job_deps parked.begun.value.job) in
+        parked_fits.behind.begins (only (operands r (all_asked parked.begun.value.job parked.begun.value.facts)) (outcomes_of es))
+        (λ q m. here q m ∙ there' q m)
 
     pub parked_numbered : AreNumbers t.targets parked.operands.items (waited_by (rules_for given) parked.begun.value)
     parked_numbered = let P : Stage → Type 0 = IsNumbered r t.targets in subst P is (table.numbered at slot there)
@@ -256,20 +279,19 @@ module _ (given : GivenView) (t : Table) (newly_ready : List ℕ) (table : IsTab
         omega (arith, table.one_each, slice_get-below_some t.targets k path.0 path.2)
 
     -- what is waited for is asked for
-    pub waited_asked : (q : List ℕ) → IsAmong (waited_by (rules_for given) parked.begun.value) q → IsAmong (operands (rules_for given) (job_deps parked.begun.value.job)) q
+    pub waited_asked : (q : List ℕ) → IsAmong (waited_by (rules_for given) parked.begun.value) q →
+        IsAmong (operands (rules_for given) (all_asked parked.begun.value.job parked.begun.value.facts)) q
     waited_asked q m = own_asked q (waited-declared r parked.begun.value.job.state.entries parked.begun.value.facts.gained q m)
 
     -- nothing from the first operand that was not looked at on is undecided
     module _ (rest : AreDecidedFrom t parked.operands.items parked.held (length parked.operands.items)) where
-      pub parked_answered : AllAnswered (rules_for given) (outcomes_of (table_entries (rules_for given) given.limits.targets t)) (job_deps parked.begun.value.job)
-      parked_answered q m none =
+      declared_answered : (q : List ℕ) → IsAmong (operands (rules_for given) parked.begun.value.job.state.entries) q →
+          outcomes_of (table_entries (rules_for given) given.limits.targets t) q ≡ None → ⊥
+      declared_answered q m none =
           let entries = parked.begun.value.job.state.entries in
-          let found = operand-entry r entries q (own_from q m) in
+          let found = operand-entry r entries q m in
           elim (Rattle.std.proofs.lemmas.Bool.cases_lt found.0 parked.begun.value.facts.gained) [
-            | inl before ↦ elim (cases_Option (told_in parked.begun.value.facts q)) [
-              | inl lost ↦ parked_fits.gained found.0 found.1 q before found.2 found.3 lost
-              | inr some ↦ let known = (parked_fits.told q some.0 some.1).1 in let bad = sym known ∙ none in cc
-            ]
+            | inl before ↦ parked_held q (parked_fits.gained found.0 found.1 q before found.2 found.3) none
             | inr after' ↦
                 let place = waited-place r entries parked.begun.value.facts.gained found.0 found.1 q after' found.2 found.3 in
                 elim (Rattle.std.proofs.lemmas.Bool.cases_lt place.0 parked.held) [
@@ -280,6 +302,13 @@ module _ (given : GivenView) (t : Table) (newly_ready : List ℕ) (table : IsTab
                       (rest place.0 number.0 later (slice_get-below_some parked.operands.items place.0 number.0 number.1) number.1)) none
                 ]
           ]
+
+      pub parked_answered : AllAnswered (rules_for given) (outcomes_of (table_entries (rules_for given) given.limits.targets t))
+          (all_asked parked.begun.value.job parked.begun.value.facts)
+      parked_answered q m none = elim (own_from q m) [
+        | inl first ↦ parked_held q (parked_fits.checked q first) none
+        | inr own ↦ declared_answered q own none
+      ]
 
       parked_entry : Entry
       parked_entry = slot_entry (rules_for given) (outcome_at (rules_for given) given.limits.targets) (path_at t.targets at) slot
@@ -297,13 +326,14 @@ module _ (given : GivenView) (t : Table) (newly_ready : List ℕ) (table : IsTab
       pub parked_fed : IsFed given t at
       parked_fed =
           let e = slot_entry r (outcome_at r given.limits.targets) (path_at t.targets at) slot in
-          let starts = keeps_nothing given e.path (known_to r es e) in
+          let S : List Dep → Type 0 = λ ds. r.begins (path_at t.targets at) (only (operands r ds) (outcomes_of es)) ≡ true in
+          let starts : r.begins e.path (known_to r es e) ≡ true = subst S (sym parked_deps) parked_begins in
           let work : IsWork r (path_at t.targets at) slot.turn e.deps =
           taken-work r lawful standing.0 es standing.1 (path_at t.targets at) e (entry_there at slot there) parked_open entry_answered starts in
-          let W : Type 0 = (work' : IsWork r parked.begun.value.job.target parked.begun.value.job.turn (job_deps parked.begun.value.job)) × Extends r (outcomes_of es) (outcome_at r work'.depth) in
+          let W : Type 0 = (work' : IsWork r parked.begun.value.job.target parked.begun.value.job.turn (all_asked parked.begun.value.job parked.begun.value.facts)) × Extends r (outcomes_of es) (outcome_at r work'.depth) in
           let A : List Dep → Type 0 = λ ds. (work' : IsWork r (path_at t.targets at) slot.turn ds) × Extends r (outcomes_of es) (outcome_at r work'.depth) in
-          let B : List ℕ → Type 0 = λ p. (work' : IsWork r p slot.turn (job_deps parked.begun.value.job)) × Extends r (outcomes_of es) (outcome_at r work'.depth) in
-          let C : ℕ → Type 0 = λ k. (work' : IsWork r parked.begun.value.job.target k (job_deps parked.begun.value.job)) × Extends r (outcomes_of es) (outcome_at r work'.depth) in
+          let B : List ℕ → Type 0 = λ p. (work' : IsWork r p slot.turn (all_asked parked.begun.value.job parked.begun.value.facts)) × Extends r (outcomes_of es) (outcome_at r work'.depth) in
+          let C : ℕ → Type 0 = λ k. (work' : IsWork r parked.begun.value.job.target k (all_asked parked.begun.value.job parked.begun.value.facts)) × Extends r (outcomes_of es) (outcome_at r work'.depth) in
           let deep : W = subst C (sym parked_fits.at_turn) (subst B (sym parked_fits.of_target) (subst A parked_deps
           (taken-deep r lawful standing.0 es standing.1 (path_at t.targets at) e (entry_there at slot there) parked_open entry_answered starts))) in
           let below = turn-below r lawful standing.0 es standing.1 (path_at t.targets at) e (entry_there at slot there) parked_open entry_answered in
@@ -342,9 +372,13 @@ module _ (given : GivenView) (t : Table) (newly_ready : List ℕ) (table : IsTab
     ];
   }
 
-  moved : (u : Table) → u.targets ≡ t.targets → u.ready ≡ t.ready → u.out ≡ t.out → (newly_ready' : List ℕ) →
-      IsTable (rules_for given) given t.targets u.slots.items t.ready.items t.out newly_ready' → IsTableOf given u newly_ready'
+  pub moved : (u : Table) → u.targets ≡ t.targets → u.ready ≡ t.ready → u.out ≡ t.out → (newly_ready' : List ℕ) →
+      IsTable (rules_for given) given t.targets u.slots.items t.ready.items u.due.keys t.out newly_ready' → IsTableOf given u newly_ready'
   moved u a b c newly_ready' h = rw (a, b, c) h
+
+  moved-on : (u : Table) → (u.targets ≡ t.targets) × (u.ready ≡ t.ready) × (u.out ≡ t.out) × (u.due ≡ t.due) → (newly_ready' : List ℕ) →
+      IsTable (rules_for given) given t.targets u.slots.items t.ready.items t.due.keys t.out newly_ready' → IsTableOf given u newly_ready'
+  moved-on u same newly_ready' h = rw (same.0, same.1, same.2, same.3) h
 
   -- a slot is replaced by one that stands for the same entry
   module _ (at : ℕ) (old new : Slot) (there : slice_get t.slots.items at ≡ Some old) (open' : stage_outcome old.stage ≡ None) (still : stage_outcome new.stage ≡ None)
@@ -353,12 +387,13 @@ module _ (given : GivenView) (t : Table) (newly_ready : List ℕ) (table : IsTab
     pub entries-same : entries_from (rules_for given) given.limits.targets t.targets (slice_set t.slots.items at new) ≡ table_entries (rules_for given) given.limits.targets t
     entries-same = slot_entries-same r (outcome_at r given.limits.targets) t.targets t.slots.items at (path_at t.targets at) old new (path_there at old there) there same
 
-    pub table-same : (newly_ready' : List ℕ) → IsQueue (slice_set t.slots.items at new) t.ready.items newly_ready' →
+    pub table-same : (newly_ready' due' : List ℕ) → IsQueue (slice_set t.slots.items at new) t.ready.items newly_ready' →
+        AreDue (slice_set t.slots.items at new) due' →
         ((k : ℕ) → IsPlace new.watchers.items k → k < length t.slots.items) →
         Fits (rules_for given) (outcomes_of (table_entries (rules_for given) given.limits.targets t)) given (path_at t.targets at) new.turn new.stage →
         IsNumbered (rules_for given) t.targets new.stage →
-        IsTable (rules_for given) given t.targets (slice_set t.slots.items at new) t.ready.items t.out newly_ready'
-    table-same newly_ready' queue below fit numbers =
+        IsTable (rules_for given) given t.targets (slice_set t.slots.items at new) t.ready.items due' t.out newly_ready'
+    table-same newly_ready' due' queue due_listed below fit numbers =
         let len = length-set t.slots.items at new in
         let P : List Entry → Type 0 = λ xs. Extends r (outcomes_of es) (outcomes_of xs) in
         let F : List Entry → Type 0 = λ xs. Fits r (outcomes_of xs) given (path_at t.targets at) new.turn new.stage in
@@ -367,28 +402,23 @@ module _ (given : GivenView) (t : Table) (newly_ready : List ℕ) (table : IsTab
           within_limit = omega (arith, len, table.within_limit);
           few = table.few;
           out_counted = table.out_counted ∙ sym (count-same t.slots.items at old new there (ap (λ (e : Entry). e.is_out) same));
-          fits = fits-set r lawful given.limits.targets t.targets t.slots.items at (path_at t.targets at) old new distinct_keys (path_there at old there) there given
+          fits = fits-set r lawful given.limits.targets t.targets t.slots.items at (path_at t.targets at) old new distinct_keys (path_there at old there) there given refl
               (subst P (sym entries-same) (λ q o s h. h)) table.fits (subst F (sym entries-same) fit);
           numbered = numbered-set r t.targets t.slots.items at new numbers table.numbered;
           queue = queue;
+          due_listed = due_listed;
           watchers_below = watchers-set t.slots.items at old new there below table.watchers_below;
         }
 
-  module _ (at : ℕ) (slot : Slot) (parked : Parked) (there : slice_get t.slots.items at ≡ Some slot) (is : slot.stage ≡ Waiting parked) (u : Table) where
-    -- a watcher is added
-    module _ (place from i : ℕ) (w : IsWatchAdded t u at place) (l : IsLackingAt t parked.operands.items from i place) where
-      other_open : stage_outcome w.other.stage ≡ None
-      other_open =
-          let both : Some w.other ≡ Some l.slot = sym w.there ∙ l.there in
-          let same : l.slot ≡ w.other = cc in
-          sym (ap (λ (y : Slot). stage_outcome y.stage) same) ∙ open-outcome l.slot.stage l.is_open
-
+  module _ (at : ℕ) (slot : Slot) (there : slice_get t.slots.items at ≡ Some slot) (u : Table) where
+    -- a watcher is added at a slot that is open
+    module _ (place : ℕ) (w : IsWatchAdded t u at place) (other_open : stage_outcome w.other.stage ≡ None) where
       new_open : stage_outcome w.new.stage ≡ None
       new_open = ap stage_outcome w.stage ∙ other_open
 
       same_entry : slot_entry (rules_for given) (outcome_at (rules_for given) given.limits.targets) (path_at t.targets place) w.new ≡
           slot_entry (rules_for given) (outcome_at (rules_for given) given.limits.targets) (path_at t.targets place) w.other
-      same_entry = rw (w.turn, w.stage) refl
+      same_entry = rw (w.looks, w.turn, w.stage) refl
 
       watch_below : (k : ℕ) → IsPlace w.new.watchers.items k → k < length t.slots.items
       watch_below k m = elim (place-append w.other.watchers.items (at ∷ []) k (rw w.listed at m)) [
@@ -407,69 +437,92 @@ module _ (given : GivenView) (t : Table) (newly_ready : List ℕ) (table : IsTab
 
       pub watch-table : IsTableOf given u newly_ready
       watch-table =
-          let new = table-same place w.other w.new w.there other_open new_open same_entry newly_ready
-          (queue-same t.slots.items t.ready.items newly_ready place w.other w.new w.there table.queue (ap is_stage_ready w.stage)) watch_below watch_fits watch_numbered in
-          let S : List Slot → Type 0 = λ xs. IsTable r given t.targets xs t.ready.items t.out newly_ready in
-          moved u w.rest.0 w.rest.1 w.rest.2 newly_ready (subst S (sym w.slots) new)
+          let new = table-same place w.other w.new w.there other_open new_open same_entry newly_ready t.due.keys
+          (queue-same t.slots.items t.ready.items newly_ready place w.other w.new w.there table.queue (ap is_stage_ready w.stage))
+          (due-same t.slots.items t.due.keys place w.other w.new w.there table.due_listed (ap is_stage_due w.stage)) watch_below watch_fits watch_numbered in
+          let S : List Slot → Type 0 = λ xs. IsTable r given t.targets xs t.ready.items t.due.keys t.out newly_ready in
+          moved-on u w.rest newly_ready (subst S (sym w.slots) new)
 
       old-slot : (k : ℕ) (x : Slot) → slice_get (slice_set t.slots.items place w.new) k ≡ Some x →
-          (y : Slot) × (slice_get t.slots.items k ≡ Some y) × (x.stage ≡ y.stage) × (x.turn ≡ y.turn)
+          (y : Slot) × (slice_get t.slots.items k ≡ Some y) × (x.stage ≡ y.stage) × (rounds_of x ≡ rounds_of y)
       old-slot k x g = elim (get-set_cases t.slots.items place k w.new x g) [
         | inl here ↦
             let P : ℕ → Type 0 = λ j. slice_get t.slots.items j ≡ Some w.other in
-            (w.other, subst P (sym here.0) w.there, sym (ap (λ (y : Slot). y.stage) here.1) ∙ w.stage, sym (ap (λ (y : Slot). y.turn) here.1) ∙ w.turn)
+            let rounds' : rounds_of w.new ≡ rounds_of w.other = rw (w.looks, w.turn) refl in
+            (w.other, subst P (sym here.0) w.there, sym (ap (λ (y : Slot). y.stage) here.1) ∙ w.stage, sym (ap (λ (y : Slot). rounds_of y) here.1) ∙ rounds')
         | inr before ↦ (x, before.1, refl, refl)
       ]
 
-      watched_here : IsWatched (rules_for given) t.targets (slice_set t.slots.items place w.new) at (job_deps parked.begun.value.job)
-      watched_here =
+      abbrev own_deps : List Dep
+      own_deps = stage_deps (rules_for given) (outcome_at (rules_for given) given.limits.targets) (path_at t.targets at) (rounds_of slot) slot.stage
+
+      module _ (asked : IsAmong (operands (rules_for given) (stage_deps (rules_for given) (outcome_at (rules_for given) given.limits.targets) (path_at t.targets at) (rounds_of slot) slot.stage)) (path_at t.targets place)) where
+        watched_here : IsWatched (rules_for given) t.targets (slice_set t.slots.items place w.new) at own_deps
+        watched_here =
+            let Q : List ℕ → Type 0 = λ xs. IsPlace xs at in
+            record {
+              at = place;
+              other = w.new;
+              there = get-set_same t.slots.items place w.other w.new w.there;
+              is_open = new_open;
+              listed = subst Q (sym w.listed) (place-right w.other.watchers.items (at ∷ []) at (inl refl));
+              asked = asked;
+            }
+
+        watch-watched : (pending : List ℕ) → AllWatched (rules_for given) given.limits.targets t.targets t.slots.items (at ∷ pending) →
+            AllWatched (rules_for given) given.limits.targets t.targets (slice_set t.slots.items place w.new) pending
+        watch-watched pending all k x g m =
+            let old = old-slot k x g in
+            let D : ℕ → Stage → ℕ → List Dep = λ j st n. stage_deps r (outcome_at r given.limits.targets) (path_at t.targets j) n st in
+            let A : Stage → Type 0 = λ st. D k x.stage (rounds_of x) ≡ D k st (rounds_of x) in
+            let B : ℕ → Type 0 = λ n. D k x.stage (rounds_of x) ≡ D k old.0.stage n in
+            let same : D k x.stage (rounds_of x) ≡ D k old.0.stage (rounds_of old.0) = subst B old.3 (subst A old.2 refl) in
+            let W : List Dep → Type 0 = λ ds. IsWatched r t.targets (slice_set t.slots.items place w.new) k ds in
+            let more : (j : ℕ) → IsPlace w.other.watchers.items j → IsPlace w.new.watchers.items j = λ j p.
+            rw w.listed (place-left w.other.watchers.items (at ∷ []) j p) in
+            elim (all k old.0 old.1 (ap is_stage_waiting (sym old.2) ∙ m)) [
+              | inl p ↦ elim p [
+                | inl here ↦
+                    let P : ℕ → Type 0 = λ j. slice_get t.slots.items j ≡ Some old.0 in
+                    let both : Some slot ≡ Some old.0 = sym there ∙ subst P (sym here) old.1 in
+                    let is_slot : old.0 ≡ slot = cc in
+                    let C : Slot → Type 0 = λ y. D k old.0.stage (rounds_of old.0) ≡ D k y.stage (rounds_of y) in
+                    let E : ℕ → Type 0 = λ j. D k old.0.stage (rounds_of old.0) ≡ D j slot.stage (rounds_of slot) in
+                    let deps : D k old.0.stage (rounds_of old.0) ≡ own_deps = subst E (sym here) (subst C is_slot refl) in
+                    let V : ℕ → Type 0 = λ j. IsWatched r t.targets (slice_set t.slots.items place w.new) j own_deps in
+                    inr (subst W (sym (same ∙ deps)) (subst V here watched_here))
+                | inr later ↦ inl later
+              ]
+              | inr old_watch ↦ inr (subst W (sym same)
+                  (IsWatched-set t.slots.items place w.other w.new w.there r t.targets k (D k old.0.stage (rounds_of old.0)) new_open more old_watch))
+            ]
+
+        pub watch-looked : IsLookedAt given t u at
+        watch-looked = record {
+          entries = rw (w.rest.0, w.slots) (entries-same place w.other w.new w.there other_open new_open same_entry);
+          rest = (w.rest.0, w.rest.1, w.rest.2);
+          slots = ap length w.slots ∙ length-set t.slots.items place w.new;
+          watched = λ pending all. rw (w.rest.0, w.slots) (watch-watched pending all);
+        }
+
+  module _ (at : ℕ) (slot : Slot) (parked : Parked) (there : slice_get t.slots.items at ≡ Some slot) (is : slot.stage ≡ Waiting parked) (u : Table) where
+    -- the operand that a parked job lacks is open, and it asked for it
+    module _ (place from i : ℕ) (w : IsWatchAdded t u at place) (l : IsLackingAt t parked.operands.items from i place) where
+      pub lacking-open : stage_outcome w.other.stage ≡ None
+      lacking-open =
+          let both : Some w.other ≡ Some l.slot = sym w.there ∙ l.there in
+          let same : l.slot ≡ w.other = cc in
+          sym (ap (λ (y : Slot). stage_outcome y.stage) same) ∙ open-outcome l.slot.stage l.is_open
+
+      pub lacking-asked : IsAmong (operands (rules_for given)
+          (stage_deps (rules_for given) (outcome_at (rules_for given) given.limits.targets) (path_at t.targets at) (rounds_of slot) slot.stage)) (path_at t.targets place)
+      lacking-asked =
           let number = numbers-number t.targets parked.operands.items (waited_by r parked.begun.value) i place (parked_numbered at slot parked there is) l.number in
           let path : path_at t.targets place ≡ number.0 = rw number.2 refl in
-          let P : List ℕ → Type 0 = λ x. IsAmong (operands r (job_deps parked.begun.value.job)) x in
-          let Q : List ℕ → Type 0 = λ xs. IsPlace xs at in
-          record {
-            at = place;
-            other = w.new;
-            there = get-set_same t.slots.items place w.other w.new w.there;
-            is_open = new_open;
-            listed = subst Q (sym w.listed) (place-right w.other.watchers.items (at ∷ []) at (inl refl));
-            asked = subst P (sym path) (waited_asked at slot parked there is number.0 (slice_get-among (waited_by r parked.begun.value) i number.0 number.1));
-          }
-
-      watch-watched : (pending : List ℕ) → AllWatched (rules_for given) given.limits.targets t.targets t.slots.items (at ∷ pending) →
-          AllWatched (rules_for given) given.limits.targets t.targets (slice_set t.slots.items place w.new) pending
-      watch-watched pending all k x g m =
-          let old = old-slot k x g in
-          let D : Stage → ℕ → List Dep = λ st n. stage_deps r (outcome_at r given.limits.targets) (path_at t.targets k) n st in
-          let A : Stage → Type 0 = λ st. D x.stage x.turn ≡ D st x.turn in
-          let B : ℕ → Type 0 = λ n. D x.stage x.turn ≡ D old.0.stage n in
-          let same : D x.stage x.turn ≡ D old.0.stage old.0.turn = subst B old.3 (subst A old.2 refl) in
-          let W : List Dep → Type 0 = λ ds. IsWatched r t.targets (slice_set t.slots.items place w.new) k ds in
-          let more : (j : ℕ) → IsPlace w.other.watchers.items j → IsPlace w.new.watchers.items j = λ j p.
-          rw w.listed (place-left w.other.watchers.items (at ∷ []) j p) in
-          elim (all k old.0 old.1 (ap is_stage_waiting (sym old.2) ∙ m)) [
-            | inl p ↦ elim p [
-              | inl here ↦
-                  let P : ℕ → Type 0 = λ j. slice_get t.slots.items j ≡ Some old.0 in
-                  let both : Some slot ≡ Some old.0 = sym there ∙ subst P (sym here) old.1 in
-                  let is_slot : old.0 ≡ slot = cc in
-                  let C : Stage → Type 0 = λ st. D st old.0.turn ≡ job_deps parked.begun.value.job in
-                  let deps : D old.0.stage old.0.turn ≡ job_deps parked.begun.value.job = subst C (sym (ap (λ (y : Slot). y.stage) is_slot ∙ is)) refl in
-                  let V : ℕ → Type 0 = λ j. IsWatched r t.targets (slice_set t.slots.items place w.new) j (job_deps parked.begun.value.job) in
-                  inr (subst W (sym (same ∙ deps)) (subst V here watched_here))
-              | inr later ↦ inl later
-            ]
-            | inr old_watch ↦ inr (subst W (sym same)
-                (IsWatched-set t.slots.items place w.other w.new w.there r t.targets k (D old.0.stage old.0.turn) new_open more old_watch))
-          ]
-
-      pub watch-looked : IsLookedAt given t u at
-      watch-looked = record {
-        entries = rw (w.rest.0, w.slots) (entries-same place w.other w.new w.there other_open new_open same_entry);
-        rest = w.rest;
-        slots = ap length w.slots ∙ length-set t.slots.items place w.new;
-        watched = λ pending all. rw (w.rest.0, w.slots) (watch-watched pending all);
-      }
+          let P : List Dep → Type 0 = λ ds. IsAmong (operands r ds) (path_at t.targets place) in
+          let Q : List ℕ → Type 0 = λ x. IsAmong (operands r (all_asked parked.begun.value.job parked.begun.value.facts)) x in
+          subst P (sym (parked_deps at slot parked there is)) (subst Q (sym path)
+          (waited_asked at slot parked there is number.0 (slice_get-among (waited_by r parked.begun.value) i number.0 number.1)))
 
     -- the job is a work
     module _ (f : IsMadeReadyAt given t u at) (all_held : AreDecidedFrom t parked.operands.items parked.held (length parked.operands.items)) where
@@ -480,17 +533,19 @@ module _ (given : GivenView) (t : Table) (newly_ready : List ℕ) (table : IsTab
           let stages : Waiting f.parked ≡ Waiting parked = sym f.was ∙ ap (λ (y : Slot). y.stage) same ∙ is in
           (same, (cc))
 
-      deps_parked : f.work.deps ≡ job_deps parked.begun.value.job
-      deps_parked = f.same.3 ∙ ap (λ (x : Parked). job_deps x.begun.value.job) was_parked.1
+      deps_parked : f.work.deps ≡ all_asked parked.begun.value.job parked.begun.value.facts
+      deps_parked = f.same.3 ∙ ap (λ (x : Parked). all_asked x.begun.value.job x.begun.value.facts) was_parked.1
 
       newly_ready_entry : slot_entry (rules_for given) (outcome_at (rules_for given) given.limits.targets) (path_at t.targets at) f.new ≡
           slot_entry (rules_for given) (outcome_at (rules_for given) given.limits.targets) (path_at t.targets at) slot
       newly_ready_entry =
-          let E : ℕ → List Dep → Entry = λ n ds. record { path = path_at t.targets at; looks = 0; turn = n; deps = ds; outcome = None; is_out = false } in
-          let one : slot_entry r (outcome_at r given.limits.targets) (path_at t.targets at) f.new ≡ E f.new.turn f.work.deps = rw f.is refl in
-          let two : slot_entry r (outcome_at r given.limits.targets) (path_at t.targets at) slot ≡ E slot.turn (job_deps parked.begun.value.job) = rw is refl in
+          let asked = all_asked parked.begun.value.job parked.begun.value.facts in
+          let E : ℕ → ℕ → List Dep → Entry = λ m n ds. record { path = path_at t.targets at; looks = m; turn = n; deps = ds; outcome = None; is_out = false } in
+          let one : slot_entry r (outcome_at r given.limits.targets) (path_at t.targets at) f.new ≡ E f.new.looks f.new.turn f.work.deps = rw f.is refl in
+          let two : slot_entry r (outcome_at r given.limits.targets) (path_at t.targets at) slot ≡ E slot.looks slot.turn asked = rw is refl in
+          let looks : f.new.looks ≡ slot.looks = f.looks ∙ ap (λ (y : Slot). y.looks) was_parked.0 in
           let turn : f.new.turn ≡ slot.turn = f.turn ∙ ap (λ (y : Slot). y.turn) was_parked.0 in
-          let mid : E f.new.turn f.work.deps ≡ E slot.turn (job_deps parked.begun.value.job) = rw (turn, deps_parked) refl in
+          let mid : E f.new.looks f.new.turn f.work.deps ≡ E slot.looks slot.turn asked = rw (looks, turn, deps_parked) refl in
           one ∙ mid ∙ sym two
 
       slot_open : stage_outcome slot.stage ≡ None
@@ -510,17 +565,20 @@ module _ (given : GivenView) (t : Table) (newly_ready : List ℕ) (table : IsTab
           let target = f.same.1 ∙ ap (λ (x : Parked). x.begun.value.job.target) was_parked.1 ∙ fits.of_target in
           let at_turn = f.same.2 ∙ ap (λ (x : Parked). x.begun.value.job.turn) was_parked.1 ∙ fits.at_turn ∙ sym turn in
           let parts : IsParked given (path_at t.targets at) f.new.turn f.work = (f.same.0, target, at_turn) in
-          let A : List Dep → Type 0 = AllAnswered r (outcomes_of es) in
+          let A : List Dep → Type 0 = λ ds. AllAnswered r (outcomes_of es) ds × (r.begins (path_at t.targets at) (only (operands r ds) (outcomes_of es)) ≡ true) in
           let P : Stage → Type 0 = Fits r (outcomes_of es) given (path_at t.targets at) f.new.turn in
-          subst P (sym f.is) (parts, subst A (sym deps_parked) (parked_answered at slot parked there is all_held))
+          let both = subst A (sym deps_parked) (parked_answered at slot parked there is all_held, parked_begins at slot parked there is) in
+          subst P (sym f.is) (parts, both.0, both.1)
 
       pub newly_ready-table : IsTableOf given u (newly_ready ++ at ∷ [])
       newly_ready-table =
-          let new = table-same at slot f.new there slot_open newly_ready_open newly_ready_entry (newly_ready ++ at ∷ [])
+          let due : is_stage_due f.new.stage ≡ is_stage_due slot.stage = ap is_stage_due f.is ∙ sym (ap is_stage_due is) in
+          let new = table-same at slot f.new there slot_open newly_ready_open newly_ready_entry (newly_ready ++ at ∷ []) t.due.keys
           (queue-newly_ready t.slots.items t.ready.items newly_ready at slot f.new there table.queue (rw is refl) (rw f.is refl))
+          (due-same t.slots.items t.due.keys at slot f.new there table.due_listed due)
           (λ k m. table.watchers_below at k slot there (rw same_watchers at m)) newly_ready_fits (rw f.is tt) in
-          let S : List Slot → Type 0 = λ xs. IsTable r given t.targets xs t.ready.items t.out (newly_ready ++ at ∷ []) in
-          moved u f.rest.0 f.rest.1 f.rest.2 (newly_ready ++ at ∷ []) (subst S (sym f.slots) new)
+          let S : List Slot → Type 0 = λ xs. IsTable r given t.targets xs t.ready.items t.due.keys t.out (newly_ready ++ at ∷ []) in
+          moved-on u f.rest (newly_ready ++ at ∷ []) (subst S (sym f.slots) new)
 
       newly_ready-watched : (pending : List ℕ) → AllWatched (rules_for given) given.limits.targets t.targets t.slots.items (at ∷ pending) →
           AllWatched (rules_for given) given.limits.targets t.targets (slice_set t.slots.items at f.new) pending
@@ -530,7 +588,7 @@ module _ (given : GivenView) (t : Table) (newly_ready : List ℕ) (table : IsTab
             both_ways _ no (ap (λ (y : Slot). is_stage_waiting y.stage) here.1 ∙ m))
         | inr before ↦ elim (all k x before.1 m) [
           | inl p ↦ elim p [ inl here ↦ absurd (before.0 (sym here)) | inr later ↦ inl later ]
-          | inr w ↦ inr (IsWatched-set t.slots.items at slot f.new there r t.targets k (stage_deps r (outcome_at r given.limits.targets) (path_at t.targets k) x.turn x.stage)
+          | inr w ↦ inr (IsWatched-set t.slots.items at slot f.new there r t.targets k (stage_deps r (outcome_at r given.limits.targets) (path_at t.targets k) (rounds_of x) x.stage)
               newly_ready_open (λ j p. rw same_watchers p) w)
         ]
       ]
@@ -538,7 +596,7 @@ module _ (given : GivenView) (t : Table) (newly_ready : List ℕ) (table : IsTab
       pub newly_ready-looked : IsLookedAt given t u at
       newly_ready-looked = record {
         entries = rw (f.rest.0, f.slots) (entries-same at slot f.new there slot_open newly_ready_open newly_ready_entry);
-        rest = f.rest;
+        rest = (f.rest.0, f.rest.1, f.rest.2);
         slots = ap length f.slots ∙ length-set t.slots.items at f.new;
         watched = λ pending all. rw (f.rest.0, f.slots) (newly_ready-watched pending all);
       }

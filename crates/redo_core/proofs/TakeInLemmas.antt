@@ -1,8 +1,8 @@
 -- What a handed in piece does to the table is what the schedule says.
-use Rattle.std.proofs.Common.{map, slice_get, slice_set, ◌≡◌, ℕ, zero, suc, ◌+◌, ◌<◌, ◌≤◌, max, Bool, true, false, cond}
+use Rattle.std.proofs.Common.{map, slice_get, ◌≡◌, ℕ, zero, suc, ◌+◌, ◌<◌, ◌≤◌, max, Bool, true, false, cond}
 use Rattle.std.proofs.Common.{◌&&◌, ◌⊎◌, inl, inr, List, [], ◌∷◌, ◌++◌, length, take, drop, take-append-drop, filter}
-use Rattle.std.proofs.Common.{Option, Some, None, is_some, refl, sym, ap, subst, ◌∙◌, arith, Global}
-use Rattle.std.proofs.lemmas.Bool.{cases_Bool}
+use Rattle.std.proofs.Common.{Option, Some, None, refl, sym, ap, subst, ◌∙◌, arith, Global}
+use Rattle.std.proofs.lemmas.Bool.{cases_Bool, cases_lt}
 use Rattle.redo_record.specs.declared.deps.Dep.{Dep}
 use Rattle.redo_record.specs.declared.deps.DepKind.TheVariants.{Change}
 use Rattle.redo_record.specs.declared.outcome.Outcome.{Outcome}
@@ -13,19 +13,20 @@ use Rattle.redo_record.specs.Paths.{IsAmong, AreDistinct, is_among}
 use Rattle.redo_record.proofs.Public.{entered_operand, one_entered, operand_entered, sources_alone}
 use Rattle.redo_build.specs.Rules.{Ask, Rules, AreLawful, Extends, operands}
 use Rattle.redo_build.specs.Outcomes.{outcome_at}
-use Rattle.redo_core.specs.Build.{GivenView, rules_for}
+use Rattle.redo_core.specs.Build.{GivenView, rules_for, sources_for}
 use Rattle.redo_build.specs.Schedule.{Entry, State, outcomes_of, paths_of, entry_of, entered, put, only, advanced}
 use Rattle.redo_build.specs.Schedule.{moved_on, enqueued, IsOutAt}
 use Rattle.redo_build.specs.Schedule.Event.{Hand_in}
 use Rattle.redo_build.specs.Schedule.Phase.{Script}
-use Rattle.redo_build.specs.inside.Standing.{decided_count, rounds}
-use Rattle.redo_build.specs.inside.Turns.{CameTo, deps_at_turn}
+use Rattle.redo_build.specs.inside.Standing.{decided_count, rounds, AreStanding}
+use Rattle.redo_build.specs.inside.Turns.{CameTo, IsBegunAt, begins_at, deps_at_turn}
 use Rattle.redo_core.specs.Views.{FactView}
-use Rattle.redo_core.specs.inside.Works.{job_deps, told_in, IsStopped}
+use Rattle.redo_core.specs.inside.Works.{all_asked, job_deps, told_in, IsStopped}
+use Rattle.redo_core.specs.inside.Checking.{IsBegunBehind}
 use Rattle.redo_core.specs.inside.Ends.{end_progress}
-use Rattle.redo_core.specs.inside.Slots.{table_entries, table_state, slot_entry, stage_deps, stage_outcome}
-use Rattle.redo_core.specs.inside.Slots.{is_stage_out, path_at, IsPlace, AreNumbers, waited_by, IsWaitingWith}
-use Rattle.redo_core.specs.inside.Slots.{AreEnteredInto, IsDecidedStage, IsDecidedAt, IsParkedStage, IsParkedAt}
+use Rattle.redo_core.specs.inside.Slots.{rounds_of, table_entries, table_state, slot_entry, stage_deps, stage_outcome}
+use Rattle.redo_core.specs.inside.Slots.{is_stage_out, path_at, AreNumbers, waited_by, IsWaitingWith}
+use Rattle.redo_core.specs.inside.Slots.{AreEnteredInto, IsParkedStage, IsParkedAt, MayConclude, IsConcludedAt, concluded_entry}
 use Rattle.redo_core.specs.inside.Slots.{IsOutThere, MayTakeIn, IsPutBackThere, state_after}
 use Rattle.std.specs.Prelude.{Box}
 use Rattle.std.specs.declared.vec.Vec.{Vec}
@@ -33,23 +34,23 @@ use Rattle.redo_core.specs.declared.table.Parked.{Parked}
 use Rattle.redo_core.specs.declared.work.Begun.{Begun}
 use Rattle.redo_core.specs.declared.table.Slot.{Slot}
 use Rattle.redo_core.specs.declared.table.Stage.{Stage}
-use Rattle.redo_core.specs.declared.table.Stage.TheVariants.{Waiting, Ready, Out, Decided}
+use Rattle.redo_core.specs.declared.table.Stage.TheVariants.{Due, Checking, Waiting, Ready, Out, Decided}
 use Rattle.redo_core.specs.declared.table.Table.{Table}
 use Rattle.redo_core.specs.declared.work.End.{End}
 use Rattle.redo_core.specs.declared.work.End.TheVariants.{Ended, Stopped}
 use Rattle.redo_build.proofs.PathLemmas.{is_among-true, with_new-second, with_new-distinct}
-use Rattle.redo_build.proofs.DepthLemmas.{cases_Option, operand-target, deeper}
-use Rattle.redo_build.proofs.SeenLemmas.{outcomes_of-at, outcomes_of-entry, paths_of-entered, entry_of-entered_old}
-use Rattle.redo_core.proofs.LawfulTreeLemmas.{lawful_for, no_looks}
+use Rattle.redo_build.proofs.DepthLemmas.{cases_Option, ended_stays, operand-target, deeper}
+use Rattle.redo_build.proofs.SeenLemmas.{decided_count-length, outcomes_of-at, outcomes_of-entry, paths_of-entered, entry_of-entered_old}
+use Rattle.redo_core.proofs.LawfulTreeLemmas.{lawful_for}
 use Rattle.redo_core.proofs.JobLemmas.{found_sources}
-use Rattle.redo_build.proofs.TurnLemmas.{asked-more, only-some, deps_at_turn-more, Extends-trans'}
+use Rattle.redo_build.proofs.TurnLemmas.{asked-more, only-some, only-Extends, deps_at_turn-more, Extends-trans'}
 use Rattle.redo_build.proofs.TurnBoundLemmas.{turn-below}
 use Rattle.redo_build.proofs.StandingLemmas.{outcomes_of-deep}
 use Rattle.redo_build.proofs.SoundLemmas.{IsSound, opening-sound, run-sound, happens-sound, out-parts}
-use Rattle.redo_build.proofs.HandoverLemmas.{piece-advanced}
+use Rattle.redo_build.proofs.HandoverLemmas.{looks_agree, piece-advanced}
 use Rattle.redo_core.proofs.SlotLemmas.{entry_of-slots, paths_of-slots, slice_get-from, slice_get-below_some}
 use Rattle.redo_core.proofs.TableSteps.{operand-entry}
-use Rattle.redo_core.proofs.PutSteps.{put-entries, decided-table, decided-watched, parked-table, parked-watched}
+use Rattle.redo_core.proofs.PutSteps.{put-entries, parked-table, parked-watched}
 use Rattle.redo_core.proofs.EnterAllLemmas.{entered-append, entered-seen, operands-append}
 
 count-some : (xs : List Slot) (at : ℕ) (slot : Slot) → slice_get xs at ≡ Some slot → is_stage_out slot.stage ≡ true → 0 < length (filter (λ y. is_stage_out y.stage) xs)
@@ -62,29 +63,26 @@ count-some (x ∷ xs) (suc at) slot h out =
     let rest = count-some xs at slot h out in
     elim (cases_Bool (is_stage_out x.stage)) [ inl t ↦ rw t (omega arith) | inr f ↦ rw f rest ]
 
-decided-shows : (r : Rules) (a : Ask) (fact : FactView) (p : List ℕ) (turn : ℕ) (stage : Stage) → IsDecidedStage fact stage →
-    ◌≡◌ {A = Entry} (record { path = p; looks = 0; turn = turn; deps = stage_deps r a p turn stage; outcome = stage_outcome stage; is_out = is_stage_out stage })
-    (record { path = p; looks = 0; turn = turn; deps = fact.deps; outcome = Some fact.outcome; is_out = false })
-decided-shows r a fact p turn (Waiting parked) h = absurd h
-decided-shows r a fact p turn (Ready work) h = absurd h
-decided-shows r a fact p turn Out h = absurd h
-decided-shows r a fact p turn (Decided held) h =
-    let E : FactView → Entry = λ f. record { path = p; looks = 0; turn = turn; deps = f.deps; outcome = Some f.outcome; is_out = false } in ap E h
-
-parked-shows : (r : Rules) (a : Ask) (begun : Box Begun Global) (numbers : Vec ℕ Global) (p : List ℕ) (turn : ℕ) (stage : Stage) → IsParkedStage begun numbers stage →
-    ◌≡◌ {A = Entry} (record { path = p; looks = 0; turn = turn; deps = stage_deps r a p turn stage; outcome = stage_outcome stage; is_out = is_stage_out stage })
-    (record { path = p; looks = 0; turn = turn; deps = job_deps begun.value.job; outcome = None; is_out = false })
-parked-shows r a begun numbers p turn (Waiting parked) h =
-    let E : Parked → Entry = λ x. record { path = p; looks = 0; turn = turn; deps = job_deps x.begun.value.job; outcome = None; is_out = false } in ap E h
-parked-shows r a begun numbers p turn (Ready work) h = absurd h
-parked-shows r a begun numbers p turn Out h = absurd h
-parked-shows r a begun numbers p turn (Decided held) h = absurd h
+parked-shows : (r : Rules) (a : Ask) (begun : Box Begun Global) (numbers : Vec ℕ Global) (p : List ℕ) (slot : Slot) → IsParkedStage begun numbers slot.stage →
+    slot_entry r a p slot ≡ record { path = p; looks = slot.looks; turn = slot.turn; deps = all_asked begun.value.job begun.value.facts; outcome = None; is_out = false }
+parked-shows r a begun numbers p slot h = by-stage slot.looks slot.turn slot.stage h
+  where
+    by-stage : (looks turn : ℕ) (stage : Stage) → IsParkedStage begun numbers stage →
+        ◌≡◌ {A = Entry} (record { path = p; looks = looks; turn = turn; deps = stage_deps r a p (looks + turn) stage; outcome = stage_outcome stage; is_out = is_stage_out stage })
+        (record { path = p; looks = looks; turn = turn; deps = all_asked begun.value.job begun.value.facts; outcome = None; is_out = false })
+    by-stage looks turn (Due held) h' = absurd h'
+    by-stage looks turn (Checking awaiting) h' = absurd h'
+    by-stage looks turn (Waiting parked) h' =
+        let E : Parked → Entry = λ x. record { path = p; looks = looks; turn = turn; deps = all_asked x.begun.value.job x.begun.value.facts; outcome = None; is_out = false } in ap E h'
+    by-stage looks turn (Ready work) h' = absurd h'
+    by-stage looks turn Out h' = absurd h'
+    by-stage looks turn (Decided held) h' = absurd h'
 
 job_deps-stopped : (job : JobView) (n : ℕ) → job.turn ≡ suc n → job_deps job ≡ record_so_far job
 job_deps-stopped job n e = rw e refl
 
 -- entering what a record asks for is entering what each of its parts asks for
-all-entered : (r : Rules) (es : List Entry) (ds xs : List Dep) → entered r es (operands r (with_all ds xs)) ≡ entered r (entered r es (operands r ds)) (operands r xs)
+pub all-entered : (r : Rules) (es : List Entry) (ds xs : List Dep) → entered r es (operands r (with_all ds xs)) ≡ entered r (entered r es (operands r ds)) (operands r xs)
 all-entered r es ds [] = refl
 all-entered r es ds (x ∷ xs) =
     all-entered r es (with_entry ds x.kind x.path) xs ∙ ap (λ us. entered r us (operands r xs)) one ∙
@@ -126,10 +124,10 @@ module _ (given : GivenView) (t : Table) (at : ℕ) (end : End) (may : MayTakeIn
   lawful : AreLawful (rules_for given)
   lawful = lawful_for given
 
-  sound : IsSound (rules_for given) may.request (table_state (rules_for given) given.limits.targets t)
+  sound : IsSound (rules_for given) given.request (table_state (rules_for given) given.limits.targets t)
   sound =
-      let P : State → Type 0 = IsSound r may.request in
-      subst P (sym may.reached.ends) (run-sound r lawful may.request _ may.reached.events (opening-sound r lawful may.request) may.reached.all_open)
+      let P : State → Type 0 = IsSound r given.request in
+      subst P (sym may.reached.ends) (run-sound r lawful given.request _ may.reached.events (opening-sound r lawful given.request) may.reached.all_open)
 
   pub keys_distinct : AreDistinct t.targets
   keys_distinct =
@@ -151,7 +149,7 @@ module _ (given : GivenView) (t : Table) (at : ℕ) (end : End) (may : MayTakeIn
   e-open : stage_outcome may.slot.stage ≡ None
   e-open = ap stage_outcome may.is_out
 
-  e-fed : (q : List ℕ) → IsAmong (operands (rules_for given) (stage_deps (rules_for given) (outcome_at (rules_for given) given.limits.targets) (path_at t.targets at) may.slot.turn may.slot.stage)) q →
+  e-fed : (q : List ℕ) → IsAmong (operands (rules_for given) (stage_deps (rules_for given) (outcome_at (rules_for given) given.limits.targets) (path_at t.targets at) (rounds_of may.slot) may.slot.stage)) q →
       outcomes_of (table_entries (rules_for given) given.limits.targets t) q ≡ None → ⊥
   e-fed q m none =
       let fed = sound.queued.out_fed target e entry-there e-out in
@@ -161,85 +159,111 @@ module _ (given : GivenView) (t : Table) (at : ℕ) (end : End) (may : MayTakeIn
       fed.3 q (subst P (sym same) m) none
 
   now-is : end_progress end ≡ advanced (rules_for given) (table_entries (rules_for given) given.limits.targets t) (slot_entry (rules_for given) (outcome_at (rules_for given) given.limits.targets) (path_at t.targets at) may.slot)
-  now-is = piece-advanced r lawful may.request es sound.standing target e entry-there e-open e-fed
-      (out-parts r lawful may.request s sound target e entry-there e-out).2 (end_progress end) may.is_end.is_piece
+  now-is = piece-advanced r lawful given.request es sound.standing target e entry-there e-open e-fed
+      (out-parts r lawful given.request s sound target e entry-there e-out).2 (end_progress end) may.is_end.is_piece
 
   open-event : IsOutAt (table_state (rules_for given) given.limits.targets t) (path_at t.targets at) may.slot.turn
   open-event = record { entry = e; at = entry-there; is_out = e-out; at_turn = refl }
 
-  pub after-sound : IsSound (rules_for given) may.request (state_after given t at)
-  after-sound = happens-sound r lawful may.request s (Hand_in target may.slot.turn) sound open-event
+  pub after-sound : IsSound (rules_for given) given.request (state_after given Script t at)
+  after-sound = happens-sound r lawful given.request s (Hand_in target may.slot.turn) sound open-event
 
   pub moved : List Entry
   moved = put (entered (rules_for given) (table_entries (rules_for given) given.limits.targets t) (operands (rules_for given) (end_progress end).deps))
       (moved_on Script (slot_entry (rules_for given) (outcome_at (rules_for given) given.limits.targets) (path_at t.targets at) may.slot) (end_progress end))
 
-  pub after-state : state_after given t at ≡ enqueued (rules_for given) (record { entries = moved; ready = map (path_at t.targets) t.ready.items })
+  pub after-state : state_after given Script t at ≡ enqueued (rules_for given) (record { entries = moved; ready = map (path_at t.targets) t.ready.items })
   unfolding moved
   after-state =
       let N : Progress → State = λ now. enqueued r (record { entries = put (entered r es (operands r now.deps)) (moved_on Script e now); ready = map (path_at t.targets) t.ready.items }) in
-      let first : state_after given t at ≡ N (advanced r es e) = rw entry-there refl in
+      let first : state_after given Script t at ≡ N (advanced r es e) = rw entry-there refl in
       first ∙ ap N (sym now-is)
 
-  pub after-entries : (state_after given t at).entries ≡ moved
+  pub after-entries : (state_after given Script t at).entries ≡ moved
   after-entries = ap (λ (x : State). x.entries) after-state
 
   pub out-there : IsOutThere t at
   out-there =
-      let below = turn-below r lawful may.request es sound.standing target e entry-there e-open e-fed in
+      let below = turn-below r lawful given.request es sound.standing target e entry-there e-open e-fed in
       let paths = ap length (paths_of-slots r (outcome_at r given.limits.targets) t.targets t.slots.items may.table.one_each) in (
         omega (arith, may.table.out_counted, count-some t.slots.items at may.slot may.there e-out),
         (may.slot, may.there, may.is_out, omega (arith, below, paths, may.table.one_each, may.table.within_limit, may.table.few)),
       )
 
+  -- what is decided is the build's at the limit
+  deep-limit : Extends (rules_for given) (outcomes_of (table_entries (rules_for given) given.limits.targets t)) (outcome_at (rules_for given) given.limits.targets)
+  deep-limit =
+      let paths = ap length (paths_of-slots r (outcome_at r given.limits.targets) t.targets t.slots.items may.table.one_each) in
+      Extends-trans' r (outcomes_of es) (outcome_at r (decided_count es)) (outcome_at r given.limits.targets) (outcomes_of-deep r lawful given.request es sound.standing)
+      (deeper r lawful (decided_count es) given.limits.targets (omega (arith, decided_count-length es, paths, may.table.one_each, may.table.within_limit)))
+
   pub small : at < 65536
   small = omega (arith, slice_get-below_some t.slots.items at may.slot may.there, may.table.within_limit, may.table.few)
 
   -- a script that ended asked for what is decided alone
-  module _ (fact : FactView) (ended : end ≡ Ended fact) (u : Table) (pending : List ℕ) (d : IsDecidedAt t u at fact pending) where
-    old-slot : d.old ≡ may.slot
-    old-slot = let both : Some d.old ≡ Some may.slot = sym d.put_back.there ∙ may.there in cc
-
-    fact-now : record { outcome = Some fact.outcome; deps = fact.deps } ≡ advanced (rules_for given) (table_entries (rules_for given) given.limits.targets t) (slot_entry (rules_for given) (outcome_at (rules_for given) given.limits.targets) (path_at t.targets at) may.slot)
+  module _ (fact : FactView) (asked : List Dep) (ended : end ≡ Ended fact asked) where
+    fact-now : record { outcome = Some fact.outcome; deps = with_all asked fact.deps } ≡ advanced (rules_for given) (table_entries (rules_for given) given.limits.targets t) (slot_entry (rules_for given) (outcome_at (rules_for given) given.limits.targets) (path_at t.targets at) may.slot)
     fact-now = let P : End → Type 0 = λ x. end_progress x ≡ advanced r es e in subst P ended now-is
 
-    asked-seen : (q : List ℕ) → IsAmong (operands (rules_for given) fact.deps) q → IsAmong (paths_of (table_entries (rules_for given) given.limits.targets t)) q
+    asked-seen : (q : List ℕ) → IsAmong (operands (rules_for given) (with_all asked fact.deps)) q → IsAmong (paths_of (table_entries (rules_for given) given.limits.targets t)) q
     asked-seen q m =
         let ask : Ask = only (operands r e.deps) (outcomes_of es) in
         let outcome : (r.progress target ask).outcome ≡ Some fact.outcome = ap (λ (x : Progress). x.outcome) (sym fact-now) in
         let D : Progress → Type 0 = λ x. IsAmong (operands r x.deps) q in
-        let asked = subst D fact-now m in
+        let asked' = subst D fact-now m in
         elim (cases_Bool (is_among (operands r e.deps) q)) [
           | inl yes' ↦ sound.standing.closed target q e entry-there (is_among-true (operands r e.deps) q yes')
-          | inr no' ↦ absurd ((lawful.each target).answered q ask fact.outcome outcome asked (rw no' refl))
+          | inr no' ↦ absurd ((lawful.each target).answered q ask fact.outcome outcome asked' (rw no' refl))
         ]
 
-    decided-moved : table_entries (rules_for given) given.limits.targets u ≡ moved
-    unfolding moved
-    decided-moved =
-        let put-in = put-entries given t u [] may.table keys_distinct at d.old d.new d.put_back in
-        let turn : d.new.turn ≡ may.slot.turn = d.turn ∙ ap (λ (y : Slot). y.turn) old-slot in
-        let shows = decided-shows r (outcome_at r given.limits.targets) fact target d.new.turn d.new.stage d.stage in
-        let M : ℕ → Entry = λ n. record { path = target; looks = 0; turn = n; deps = fact.deps; outcome = Some fact.outcome; is_out = false } in
-        let E : End → List Entry = λ x. put (entered r es (operands r (end_progress x).deps)) (moved_on Script e (end_progress x)) in
-        let seen = entered-seen r es (operands r fact.deps) asked-seen in
-        put-in ∙ ap (put es) (shows ∙ ap M turn) ∙ sym (ap (λ xs. put xs (M may.slot.turn)) seen) ∙ ap E (sym ended)
+    -- under all that the build decides it asked for the same
+    decided_deps : with_all asked fact.deps ≡ ((rules_for given).progress (path_at t.targets at) (outcome_at (rules_for given) given.limits.targets)).deps
+    decided_deps =
+        let ask : Ask = only (operands r e.deps) (outcomes_of es) in
+        let outcome : (r.progress target ask).outcome ≡ Some fact.outcome = ap (λ (x : Progress). x.outcome) (sym fact-now) in
+        let far = Extends-trans' r ask (outcomes_of es) (outcome_at r given.limits.targets) (only-Extends r (operands r e.deps) (outcomes_of es) (outcomes_of es) (λ q o s h. h)) deep-limit in
+        ap (λ (x : Progress). x.deps) (fact-now ∙ ended_stays r lawful target ask (outcome_at r given.limits.targets) fact.outcome far outcome)
 
-    pub decided-put : IsPutBackThere given t u at [] pending
-    decided-put =
+    concluded-moved : put (table_entries (rules_for given) given.limits.targets t) (concluded_entry given (path_at t.targets at) may.slot fact) ≡ moved
+    unfolding moved
+    concluded-moved =
+        let M : List Dep → Entry = λ ds. record { path = target; looks = may.slot.looks; turn = may.slot.turn; deps = ds; outcome = Some fact.outcome; is_out = false } in
+        let E : End → List Entry = λ x. put (entered r es (operands r (end_progress x).deps)) (moved_on Script e (end_progress x)) in
+        let seen = entered-seen r es (operands r (with_all asked fact.deps)) asked-seen in
+        ap (λ ds. put es (M ds)) (sym decided_deps) ∙ sym (ap (λ xs. put xs (M (with_all asked fact.deps))) seen) ∙ ap E (sym ended)
+
+    concluded-after : put (table_entries (rules_for given) given.limits.targets t) (concluded_entry given (path_at t.targets at) may.slot fact) ≡ (state_after given Script t at).entries
+    concluded-after = concluded-moved ∙ sym after-entries
+
+    pub may-conclude : MayConclude given t at fact
+    may-conclude =
         let P : End → Type 0 = λ x. Rattle.redo_core.specs.inside.Ends.IsEndOf given may.is_end.is_piece.depth may.is_end.is_piece.looks target may.slot.turn x in
-        let of_fact = subst P ended may.is_end.is_end in
-        let len = ap length d.put_back.slots ∙ Rattle.std.proofs.Common.length-set t.slots.items at d.new in
-        let K : List (List ℕ) → Type 0 = λ xs. (k : ℕ) (p : List ℕ) → slice_get t.targets k ≡ Some p → slice_get xs k ≡ Some p in
+        let S : List Entry → Type 0 = AreStanding r given.request in
         record {
-          table = decided-table given t u [] may.table keys_distinct at fact pending d of_fact.0 of_fact.1;
-          entries = decided-moved ∙ sym after-entries;
-          ready = d.put_back.rest.1;
-          keys_kept = λ k p h. rw d.put_back.rest.0 h;
-          within = λ k m.
-              let L : List ℕ → Type 0 = λ xs. IsPlace xs k in
-              omega (arith, len, may.table.watchers_below at k d.old d.put_back.there (subst L d.pending_is m));
-          watched = decided-watched given t u [] may.table keys_distinct at fact pending d of_fact.0 of_fact.1 may.watched;
+          table = may.table;
+          watched = may.watched;
+          distinct = keys_distinct;
+          is_out = out-there;
+          of_build = subst P ended may.is_end.is_end;
+          request = given.request;
+          standing = λ slot there.
+              let both : Some slot ≡ Some may.slot = sym there ∙ may.there in
+              let same : slot ≡ may.slot = cc in
+              let Q : Slot → Type 0 = λ x. S (put es (concluded_entry given target x fact)) in
+              subst Q (sym same) (subst S (sym concluded-after) after-sound.standing);
+        }
+
+    pub concluded-put : (u : Table) (newly_ready : List ℕ) → IsConcludedAt given t u at fact newly_ready → IsPutBackThere given (state_after given Script t at) t u newly_ready []
+    concluded-put u newly_ready c =
+        let both : Some c.slot ≡ Some may.slot = sym c.there ∙ may.there in
+        let same : c.slot ≡ may.slot = cc in
+        record {
+          table = c.table;
+          entries = c.entries ∙ ap (λ (x : Slot). put es (concluded_entry given target x fact)) same ∙ concluded-after;
+          ready = c.ready;
+          keys_kept = λ k p h. rw c.targets h;
+          within = λ k m. absurd m;
+          watched = c.watched;
         }
 
   -- a script that stopped
@@ -250,22 +274,46 @@ module _ (given : GivenView) (t : Table) (at : ℕ) (end : End) (may : MayTakeIn
         subst P stopped may.is_end.is_end
 
     way : CameTo (rules_for given) (path_at t.targets at) (outcomes_of (table_entries (rules_for given) given.limits.targets t)) (rounds (slot_entry (rules_for given) (outcome_at (rules_for given) given.limits.targets) (path_at t.targets at) may.slot)) ×
-        (stage_deps (rules_for given) (outcome_at (rules_for given) given.limits.targets) (path_at t.targets at) may.slot.turn may.slot.stage ≡
+        (stage_deps (rules_for given) (outcome_at (rules_for given) given.limits.targets) (path_at t.targets at) (rounds_of may.slot) may.slot.stage ≡
         deps_at_turn (rules_for given) (path_at t.targets at) (outcomes_of (table_entries (rules_for given) given.limits.targets t)) (rounds (slot_entry (rules_for given) (outcome_at (rules_for given) given.limits.targets) (path_at t.targets at) may.slot)))
     way =
         let w = sound.standing.under_way target e entry-there e-open in (w.came, w.is)
 
     deep : Extends (rules_for given) (outcomes_of (table_entries (rules_for given) given.limits.targets t)) (outcome_at (rules_for given) (decided_count (table_entries (rules_for given) given.limits.targets t)))
-    deep = outcomes_of-deep r lawful may.request es sound.standing
+    deep = outcomes_of-deep r lawful given.request es sound.standing
+
+    begun-here : IsBegunAt (rules_for given) (path_at t.targets at) (outcomes_of (table_entries (rules_for given) given.limits.targets t)) may.slot.looks
+    begun-here =
+        let w = sound.standing.under_way target e entry-there e-open in
+        let starts = (out-parts r lawful given.request s sound target e entry-there e-out).2 in
+        record {
+          in_check = w.in_check;
+          begun = elim (cases_lt 0 may.slot.turn) [
+            | inl later ↦ w.begun later
+            | inr now ↦
+                let same : rounds e ≡ may.slot.looks = omega arith in
+                let P : ℕ → Type 0 = λ k. begins_at r target (outcomes_of es) k ≡ true in
+                let Q : List Dep → Type 0 = λ ds. r.begins target (only (operands r ds) (outcomes_of es)) ≡ true in
+                subst P same (subst Q w.is starts)
+          ];
+        }
 
     -- the script was begun behind as many looks as the schedule says
-    same-rounds : rounds (slot_entry (rules_for given) (outcome_at (rules_for given) given.limits.targets) (path_at t.targets at) may.slot) ≡ may.is_end.is_piece.looks + may.slot.turn
-    same-rounds =
+    same-looks : may.slot.looks ≡ may.is_end.is_piece.looks
+    same-looks =
         let piece = may.is_end.is_piece in
-        omega (arith, no_looks given target (outcome_at r piece.depth) piece.looks piece.begun)
+        let depth = max piece.depth (decided_count es) in
+        let far = Extends-trans' r (outcomes_of es) (outcome_at r (decided_count es)) (outcome_at r depth) deep (deeper r lawful (decided_count es) depth (omega arith)) in
+        let F : List Dep → Type 0 = λ ds. (q : List ℕ) → IsAmong (operands r ds) q → outcomes_of es q ≡ None → ⊥ in
+        sym (looks_agree r lawful target (outcome_at r piece.depth) (outcomes_of es) (outcome_at r depth)
+        (deeper r lawful piece.depth depth (omega arith)) far
+        piece.looks may.slot.looks may.slot.turn may.slot.turn piece.came way.0 piece.fed (subst F way.1 e-fed) piece.begun begun-here)
+
+    same-rounds : rounds (slot_entry (rules_for given) (outcome_at (rules_for given) given.limits.targets) (path_at t.targets at) may.slot) ≡ may.is_end.is_piece.looks + may.slot.turn
+    same-rounds = ap (λ n. n + may.slot.turn) same-looks
 
     -- the record at its turn is the same under the outcomes that the job held
-    same-deps : stage_deps (rules_for given) (outcome_at (rules_for given) given.limits.targets) (path_at t.targets at) may.slot.turn may.slot.stage ≡
+    same-deps : stage_deps (rules_for given) (outcome_at (rules_for given) given.limits.targets) (path_at t.targets at) (rounds_of may.slot) may.slot.stage ≡
         deps_at_turn (rules_for given) (path_at t.targets at) (outcome_at (rules_for given) may.is_end.is_piece.depth) (may.is_end.is_piece.looks + may.slot.turn)
     same-deps =
         let n = may.is_end.is_piece.depth in
@@ -277,7 +325,7 @@ module _ (given : GivenView) (t : Table) (at : ℕ) (end : End) (may : MayTakeIn
 
     -- what it held is known, and it had asked for it
     held-known : (q : List ℕ) (o : Outcome) → told_in begun.value.facts q ≡ Some o →
-        IsAmong (operands (rules_for given) (stage_deps (rules_for given) (outcome_at (rules_for given) given.limits.targets) (path_at t.targets at) may.slot.turn may.slot.stage)) q ×
+        IsAmong (operands (rules_for given) (stage_deps (rules_for given) (outcome_at (rules_for given) given.limits.targets) (path_at t.targets at) (rounds_of may.slot) may.slot.stage)) q ×
         (outcomes_of (table_entries (rules_for given) given.limits.targets t) q ≡ Some o)
     held-known q o h =
         let n = may.is_end.is_piece.depth in
@@ -308,7 +356,13 @@ module _ (given : GivenView) (t : Table) (at : ℕ) (end : End) (may : MayTakeIn
         let old = take begun.value.facts.gained begun.value.job.state.entries in
         let new = drop begun.value.facts.gained begun.value.job.state.entries in
         let none = sources_alone (rules_for given).is_source (found_deps begun.value.job) (found_sources given begun.value.job is_stopped.is_job) in
-        let whole = all-entered r es (found_deps begun.value.job) begun.value.job.state.entries ∙ ap (λ qs. entered r (entered r es qs) (operands r begun.value.job.state.entries)) none in
+        let checked = entered-seen r es (operands r begun.value.facts.asked) (λ q m. elim (cases_Option (told_in begun.value.facts q)) [
+          | inl lost ↦ absurd (is_stopped.checked q m lost)
+          | inr some ↦ sound.standing.closed target q e entry-there (held-known q some.0 some.1).0
+        ]) in
+        let whole = all-entered r es begun.value.facts.asked (record_so_far begun.value.job)
+        ∙ ap (λ xs. entered r xs (operands r (record_so_far begun.value.job))) checked
+        ∙ all-entered r es (found_deps begun.value.job) begun.value.job.state.entries ∙ ap (λ qs. entered r (entered r es qs) (operands r begun.value.job.state.entries)) none in
         let parts = ap (operands r) (sym (take-append-drop begun.value.facts.gained begun.value.job.state.entries)) ∙ operands-append r old new in
         let seen = entered-seen r es (operands r old) (λ q m.
         let found = operand-entry r old q m in
@@ -327,7 +381,7 @@ module _ (given : GivenView) (t : Table) (at : ℕ) (end : End) (may : MayTakeIn
         take-get (y ∷ xs) (suc n) zero x h = (omega arith, h)
         take-get (y ∷ xs) (suc n) (suc k) x h = let rest = take-get xs n k x h in (omega (arith, rest.0), rest.1)
 
-    pub after-length : length (entered (rules_for given) (table_entries (rules_for given) given.limits.targets t) (operands (rules_for given) (drop begun.value.facts.gained begun.value.job.state.entries))) ≡ length (state_after given t at).entries
+    pub after-length : length (entered (rules_for given) (table_entries (rules_for given) given.limits.targets t) (operands (rules_for given) (drop begun.value.facts.gained begun.value.job.state.entries))) ≡ length (state_after given Script t at).entries
     unfolding moved
     after-length =
         let wide = entered r es (operands r (end_progress end).deps) in
@@ -344,12 +398,12 @@ module _ (given : GivenView) (t : Table) (at : ℕ) (end : End) (may : MayTakeIn
       pub out-still : IsOutThere v at
       out-still = (omega (arith, out-there.0, a.rest.1), (may.slot, there-still, may.is_out, out-fits))
         where
-          out-fits : may.slot.turn < 65536
+          out-fits : rounds_of may.slot < 65536
           out-fits =
               let was = out-there.1 in
               let both : Some was.0 ≡ Some may.slot = sym was.1 ∙ may.there in
               let same : was.0 ≡ may.slot = cc in
-              let P : Slot → Type 0 = λ y. y.turn < 65536 in
+              let P : Slot → Type 0 = λ y. rounds_of y < 65536 in
               subst P same was.3
 
       path-still : path_at v.targets at ≡ path_at t.targets at
@@ -375,12 +429,12 @@ module _ (given : GivenView) (t : Table) (at : ℕ) (end : End) (may : MayTakeIn
       one-more : begun.value.job.turn ≡ suc may.slot.turn
       one-more = omega (arith, is_stopped.at_turn)
 
-      job-record : job_deps begun.value.job ≡ (end_progress end).deps
+      job-record : all_asked begun.value.job begun.value.facts ≡ (end_progress end).deps
       job-record =
-          let P : End → Type 0 = λ x. job_deps begun.value.job ≡ (end_progress x).deps in
-          subst P (sym stopped) (job_deps-stopped begun.value.job may.slot.turn one-more)
+          let P : End → Type 0 = λ x. all_asked begun.value.job begun.value.facts ≡ (end_progress x).deps in
+          subst P (sym stopped) (ap (with_all begun.value.facts.asked) (job_deps-stopped begun.value.job may.slot.turn one-more))
 
-      asked-still : (q : List ℕ) (o : Outcome) → told_in begun.value.facts q ≡ Some o → IsAmong (operands (rules_for given) (job_deps begun.value.job)) q
+      asked-still : (q : List ℕ) (o : Outcome) → told_in begun.value.facts q ≡ Some o → IsAmong (operands (rules_for given) (all_asked begun.value.job begun.value.facts)) q
       asked-still q o h =
           let n = may.is_end.is_piece.depth in
           let D : List Dep → Type 0 = λ ds. IsAmong (operands r ds) q in
@@ -395,6 +449,9 @@ module _ (given : GivenView) (t : Table) (at : ℕ) (end : End) (may : MayTakeIn
         new-turn : d.new.turn ≡ may.slot.turn + 1
         new-turn = d.turn ∙ ap (λ (y : Slot). y.turn + 1) old-there
 
+        new-looks : d.new.looks ≡ may.slot.looks
+        new-looks = d.looks ∙ ap (λ (y : Slot). y.looks) old-there
+
         waits : IsWaitingWith (rules_for given) (outcomes_of (table_entries (rules_for given) given.limits.targets v)) given (path_at v.targets at) d.new.turn
             (record { begun = begun; operands = numbers; held = 0 })
         waits = record {
@@ -404,6 +461,9 @@ module _ (given : GivenView) (t : Table) (at : ℕ) (end : End) (may : MayTakeIn
           stopped = omega (arith, new-turn);
           answered = λ k q below get none. absurd (omega (arith, below));
           told = λ q o h. (asked-still q o h, wider-known q o (held-known q o h).1);
+          behind = (let B : List ℕ → Type 0 = λ p. IsBegunBehind given p begun.value.facts.asked (told_in begun.value.facts) in subst B (sym path-still) is_stopped.behind);
+          checked = is_stopped.checked;
+          own = (let B : List ℕ → Type 0 = λ p. (sources_for given).progress p (told_in begun.value.facts) ≡ record { outcome = None; deps = record_so_far begun.value.job } in subst B (sym path-still) is_stopped.own);
           goes_on = is_stopped.goes_on;
           gained_within = is_stopped.within;
           gained = is_stopped.gained;
@@ -413,14 +473,16 @@ module _ (given : GivenView) (t : Table) (at : ℕ) (end : End) (may : MayTakeIn
         unfolding moved
         parked-moved =
             let put-in = put-entries given v u newly_ready a.table wider-distinct at d.old d.new d.put_back in
-            let shows = parked-shows r (outcome_at r given.limits.targets) begun numbers (path_at v.targets at) d.new.turn d.new.stage d.stage in
-            let M : List ℕ → ℕ → List Dep → Entry = λ p n ds. record { path = p; looks = 0; turn = n; deps = ds; outcome = None; is_out = false } in
-            let entry' = shows ∙ ap (λ p. M p d.new.turn (job_deps begun.value.job)) path-still ∙ ap (λ n. M target n (job_deps begun.value.job)) new-turn ∙ ap (M target (may.slot.turn + 1)) job-record in
-            let N : End → Type 0 = λ x. M target (may.slot.turn + 1) (end_progress x).deps ≡ moved_on Script e (end_progress x) in
-            let last : M target (may.slot.turn + 1) (end_progress end).deps ≡ moved_on Script e (end_progress end) = subst N (sym stopped) refl in
+            let shows = parked-shows r (outcome_at r given.limits.targets) begun numbers (path_at v.targets at) d.new d.stage in
+            let M : List ℕ → ℕ → ℕ → List Dep → Entry = λ p k n ds. record { path = p; looks = k; turn = n; deps = ds; outcome = None; is_out = false } in
+            let asked = all_asked begun.value.job begun.value.facts in
+            let entry' = shows ∙ ap (λ p. M p d.new.looks d.new.turn asked) path-still ∙ ap (λ k. M target k d.new.turn asked) new-looks
+            ∙ ap (λ n. M target may.slot.looks n asked) new-turn ∙ ap (M target may.slot.looks (may.slot.turn + 1)) job-record in
+            let N : End → Type 0 = λ x. M target may.slot.looks (may.slot.turn + 1) (end_progress x).deps ≡ moved_on Script e (end_progress x) in
+            let last : M target may.slot.looks (may.slot.turn + 1) (end_progress end).deps ≡ moved_on Script e (end_progress end) = subst N (sym stopped) refl in
             put-in ∙ ap (put (table_entries r given.limits.targets v)) (entry' ∙ last) ∙ ap (λ xs. put xs (moved_on Script e (end_progress end))) wider-entries
 
-        pub parked-put : IsPutBackThere given t u at newly_ready (at ∷ [])
+        pub parked-put : IsPutBackThere given (state_after given Script t at) t u newly_ready (at ∷ [])
         parked-put =
             let len = ap length d.put_back.slots ∙ Rattle.std.proofs.Common.length-set v.slots.items at d.new in
             record {

@@ -11,9 +11,9 @@ use Rattle.std.specs.declared.collections.VecDeque.{VecDeque}
 use Rattle.redo_build.specs.Schedule.{Entry, State, Event, IsOpen, AllOpen, entry_of, opening, run, happens}
 use Rattle.redo_build.specs.Schedule.{outcomes_of, only, IsQuiet}
 use Rattle.redo_build.specs.Schedule.Event.{Take}
-use Rattle.redo_core.specs.inside.Slots.{stage_outcome, rules_inside, state_of, state_from, slot_entry, path_at}
+use Rattle.redo_core.specs.inside.Slots.{rounds_of, stage_outcome, rules_inside, state_of, state_from, slot_entry, path_at}
 use Rattle.redo_core.specs.inside.Slots.{is_stage_out, is_stage_ready, AllAnswered, IsKept, IsBoard, IsParked, IsPlace}
-use Rattle.redo_core.specs.inside.Slots.{IsQueue, IsTable, AllWatched, stage_deps, slot_entries}
+use Rattle.redo_core.specs.inside.Slots.{AreDue, IsQueue, IsTable, AllWatched, is_stage_due, stage_deps, slot_entries}
 use Rattle.redo_build.specs.Outcomes.{outcome_at}
 use Rattle.redo_core.proofs.TableLemmas.{slice_get-place, place-slice_get, remove-place, remove-place_cases}
 use Rattle.redo_core.proofs.TableLemmas.{get-set_cases, fits-set, outcomes-more, watchers-set, watched-set}
@@ -25,22 +25,19 @@ use Rattle.redo_core.specs.declared.table.Slot.{Slot}
 use Rattle.redo_core.specs.declared.table.Stage.TheVariants.{Ready, Out}
 use Rattle.redo_core.specs.declared.work.Work.{Work}
 use Rattle.redo_core.proofs.HoldingLemmas.{same-answers}
-use Rattle.redo_core.proofs.LawfulTreeLemmas.{lawful_for, keeps_nothing}
-use Rattle.redo_build.proofs.LookingLemmas.{nothing-due}
+use Rattle.redo_core.proofs.LawfulTreeLemmas.{lawful_for}
+use Rattle.redo_core.proofs.LookLemmas.{none_due}
+use Rattle.redo_core.proofs.LookedLemmas.{reached-sound}
+use Rattle.redo_build.specs.Looking.{NoneDue}
 use Rattle.redo_build.proofs.QuietLemmas.{is_part, shows}
 use Rattle.redo_build.specs.Theorems.{IsPartOfBuild, ShowsBuild}
 use Rattle.redo_build.proofs.TurnBoundLemmas.{turn-below}
-use Rattle.redo_build.proofs.SoundLemmas.{IsSound, opening-sound, run-sound}
+use Rattle.redo_build.proofs.SoundLemmas.{IsSound}
 use Rattle.redo_core.proofs.SlotLemmas.{map-remove, slice_get-from, slice_get-item, slice_get-map, ready-job, entry}
 use Rattle.redo_core.proofs.SlotLemmas.{state_taken, paths_of-slots, length-filter_le}
 
 pub sound-inside : (b : Inside) → IsKept b → IsSound (rules_inside b) b.build.request (state_of b)
-sound-inside b kept =
-    let r = rules_inside b in
-    let lawful = lawful_for b.build in
-    let P : State → Type 0 = IsSound r b.build.request in
-    subst P (sym kept.reached.ends)
-    (run-sound r lawful b.build.request (opening r b.build.request) kept.reached.events (opening-sound r lawful b.build.request) kept.reached.all_open)
+sound-inside b kept = reached-sound (rules_inside b) (lawful_for b.build) b.build.request (state_of b) kept.reached
 
 abbrev lawful_inside : (b : Inside) → AreLawful (rules_inside b)
 lawful_inside b = lawful_for b.build
@@ -114,7 +111,7 @@ module _ (b : Inside) (kept : IsKept b) (which at : ℕ) (slot : Slot)
             subst R (sym shown) (subst S (sym state) (subst K own (holds.exact q) ∙ same_answers));
       }
     where
-      deps_parked : (p : List ℕ) → stage_deps (rules_inside b) (outcome_at (rules_inside b) b.build.limits.targets) p slot.turn slot.stage ≡ work.deps
+      deps_parked : (p : List ℕ) → stage_deps (rules_inside b) (outcome_at (rules_inside b) b.build.limits.targets) p (rounds_of slot) slot.stage ≡ work.deps
       deps_parked p = rw is refl
 
 pub running : {A : Type 0} (stopped : Option A) (n which : ℕ) → which < cond (is_some stopped) 0 n → is_some stopped ≡ false
@@ -194,8 +191,24 @@ module _ (b : Inside) (kept : IsKept b) (which at : ℕ) (slot : Slot)
         once = tt;
       }
 
+  -- nothing is due, and what goes out isn't
+  due-taken : AreDue (slice_set b.table.slots.items at (record slot { stage = Out })) b.table.due.keys
+  due-taken =
+      let new : Slot = record slot { stage = Out } in
+      let N : List ℕ → Type 0 = λ ks. AreDue (slice_set b.table.slots.items at new) ks in
+      subst N (sym kept.none_due) (record {
+        below = λ k m. absurd m;
+        due_is = λ k x m g. absurd m;
+        due_in = λ k x g t. elim (get-set_cases b.table.slots.items at k new x g) [
+          | inl here ↦ absurd (let is = ap (λ (y : Slot). is_stage_due y.stage) here.1 ∙ t in cc)
+          | inr before ↦
+              let P : List ℕ → Type 0 = λ ks. IsPlace ks k in
+              absurd (subst P kept.none_due (kept.table.due_listed.due_in k x before.1 t))
+        ];
+      })
+
   pub kept-taken : (slots : Vec Slot Global) (ready : VecDeque ℕ Global) → slots.items ≡ slice_set b.table.slots.items at (record slot { stage = Out }) → ready.items ≡ remove b.table.ready.items which →
-      IsKept (record b { table = record { targets = b.table.targets; slots = slots; ready = ready; out = b.table.out + 1 } })
+      IsKept (record b { table = record { targets = b.table.targets; slots = slots; ready = ready; due = b.table.due; out = b.table.out + 1 } })
   kept-taken slots ready is_slots is_ready =
       let r = rules_inside b in
       let new : Slot = record slot { stage = Out } in
@@ -211,8 +224,8 @@ module _ (b : Inside) (kept : IsKept b) (which at : ℕ) (slot : Slot)
       let P : State → Type 0 = IsReached r b.build.request in
       let len = length-set b.table.slots.items at new in
       let open_stage : (stage_outcome slot.stage ≡ None) × (is_stage_out slot.stage ≡ false) = (rw job.1 refl, rw job.1 refl) in
-      let S : List Slot → Type 0 = λ xs. IsTable r b.build b.table.targets xs ready.items (b.table.out + 1) [] in
-      let Q : List ℕ → Type 0 = λ xs. IsTable r b.build b.table.targets slots' xs (b.table.out + 1) [] in
+      let S : List Slot → Type 0 = λ xs. IsTable r b.build b.table.targets xs ready.items b.table.due.keys (b.table.out + 1) [] in
+      let Q : List ℕ → Type 0 = λ xs. IsTable r b.build b.table.targets slots' xs b.table.due.keys (b.table.out + 1) [] in
       let W : List Slot → Type 0 = λ xs. AllWatched r b.build.limits.targets b.table.targets xs [] in
       record {
         reached = subst P (sym state) more;
@@ -222,13 +235,15 @@ module _ (b : Inside) (kept : IsKept b) (which at : ℕ) (slot : Slot)
           few = kept.table.few;
           out_counted = ap (λ n. n + 1) kept.table.out_counted ∙ sym (count-set b.table.slots.items at slot new there open_stage.1 refl);
           fits = fits-set r (lawful_inside b) b.build.limits.targets b.table.targets b.table.slots.items at path.0 slot new (distinct-inside b kept) path.1 there
-              b.build
+              b.build refl
               (outcomes-more r (lawful_inside b) b.build.limits.targets b.table.targets b.table.slots.items at path.0 slot new (distinct-inside b kept) path.1 there open_stage.0) kept.table.fits tt;
           numbered = numbered-set r b.table.targets b.table.slots.items at new tt kept.table.numbered;
           queue = queue-taken;
+          due_listed = due-taken;
           watchers_below = watchers-set b.table.slots.items at slot new there (λ k m. kept.table.watchers_below at k slot there m) kept.table.watchers_below;
         }));
         watched = subst W (sym is_slots) (watched-set b.table.slots.items at slot new there r b.build.limits.targets b.table.targets [] refl (λ k m. m) (λ t. absurd (let is : false ≡ true = t in cc)) (λ k x other. kept.watched k x));
+        none_due = kept.none_due;
       }
 
 pub slice_get-number : (xs : List ℕ) (i x : ℕ) → i < length xs → x ≡ slice_index_or xs i x → slice_get xs i ≡ Some x
@@ -285,12 +300,16 @@ slots-length r a (p ∷ ps) (slot ∷ slots) h = ap suc (slots-length r a ps slo
 pub length-entries : (b : Inside) → IsKept b → length (state_of b).entries ≤ b.build.limits.targets
 length-entries b kept = omega (arith, kept.table.within_limit, slots-length (rules_inside b) (outcome_at (rules_inside b) b.build.limits.targets) b.table.targets b.table.slots.items kept.table.one_each)
 
+-- between two calls no check can go on
+pub none_due-inside : (b : Inside) → IsKept b → NoneDue (rules_inside b) (state_of b)
+none_due-inside b kept =
+    none_due b.build b.table (record { reached = kept.reached; table = kept.table; watched = kept.watched }) kept.none_due
+
 -- a quiet board shows the build
 pub shows-inside : (b : Inside) → IsKept b → IsQuiet (state_of b) → ShowsBuild (rules_inside b) b.build.request b.build.limits.targets (state_of b)
 shows-inside b kept quiet =
     shows (rules_inside b) (lawful_for b.build) b.build.request (state_of b) (sound-inside b kept) b.build.limits.targets quiet
-    (nothing-due (rules_inside b) (keeps_nothing b.build) (state_of b))
-    (omega (arith, kept.table.within_limit, slots-length (rules_inside b) (outcome_at (rules_inside b) b.build.limits.targets) b.table.targets b.table.slots.items kept.table.one_each))
+    (none_due-inside b kept) (length-entries b kept)
 
 abbrev pub view_of : Inside → BoardView
 view_of b = record { given = b.build; state = state_of b; stopped = b.stopped }

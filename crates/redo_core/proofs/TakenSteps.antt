@@ -5,23 +5,27 @@ use Rattle.std.specs.Prelude.{IsNone}
 use Rattle.redo_record.specs.Paths.{IsAmong}
 use Rattle.redo_build.specs.Rules.{Rules}
 use Rattle.redo_build.specs.Schedule.{Entry, State, Event, IsOpen, IsQuiet, entry_of, happens, opening, out_count, paths_of}
-use Rattle.redo_build.specs.Schedule.{outcomes_of, run}
+use Rattle.redo_build.specs.Schedule.{AllOpen, outcomes_of, run}
 use Rattle.redo_build.specs.Schedule.Event.{Take, Hand_in, Look}
 use Rattle.redo_build.specs.Takes.{takes, place_of, AreBegun, AreCountedOnce, AreOnce, IsTaken}
 use Rattle.redo_build.specs.Theorems.{ShowsBuild}
 use Rattle.redo_report.specs.Reports.{IsReport}
 use Rattle.redo_report.specs.declared.report.Report.{Report}
 use Rattle.redo_core.specs.Taken.{HasTaken}
-use Rattle.redo_core.specs.Views.{BoardView, WorkView, IsQuietBoard, IsWorkTaken, after, ready_count}
-use Rattle.redo_core.specs.Views.{rules_on}
+use Rattle.redo_core.specs.Views.{BoardView, WorkView, IsFirstBoard, IsHandedIn, IsLookedAhead, IsQuietBoard, IsWorkTaken}
+use Rattle.redo_core.specs.Views.{after, opened, ready_count, rules_on}
+use Rattle.redo_core.specs.Build.{GivenView}
+use Rattle.redo_build.specs.Looking.{NoneDue}
 use Rattle.redo_build.proofs.SeenLemmas.{entry_of-path}
-use Rattle.redo_core.proofs.LawfulTreeLemmas.{lawful_for, keeps_nothing}
+use Rattle.redo_core.proofs.LawfulTreeLemmas.{lawful_for}
 use Rattle.redo_build.proofs.BegunLemmas.{begun-seen}
 use Rattle.redo_build.proofs.CountedLemmas.{once-counted}
-use Rattle.redo_build.proofs.LookingLemmas.{nothing-due}
+use Rattle.redo_build.proofs.LookingLemmas.{looks-lead}
 use Rattle.redo_build.proofs.OnceLemmas.{takes-once}
 use Rattle.redo_build.proofs.QueueLemmas.{slice_get-among}
-use Rattle.redo_build.proofs.SoundLemmas.{IsSound, opening-sound, run-sound}
+use Rattle.redo_build.proofs.SoundLemmas.{IsSound, opening-sound}
+use Rattle.redo_build.proofs.StillLemmas.{AllOpen-behind, run-behind, takes-looks}
+use Rattle.redo_core.proofs.LookedLemmas.{reached-sound, shown-none_due}
 use Rattle.redo_core.proofs.TakeLemmas.{run-append, AllOpen-append}
 
 -- what one more event takes stands behind the others
@@ -58,12 +62,7 @@ taken-more b taken more event had open' one =
     }
 
 pub sound-taken : (b : BoardView) (taken : List ((List ℕ) × ℕ)) → HasTaken b taken → IsSound (rules_on b) b.given.request b.state
-sound-taken b taken had =
-    let r = rules_on b in
-    let lawful = lawful_for b.given in
-    let first = opening r b.given.request in
-    let P : State → Type 0 = IsSound r b.given.request in
-    subst P (sym had.reached.ends) (run-sound r lawful b.given.request first had.reached.events (opening-sound r lawful b.given.request) had.reached.all_open)
+sound-taken b taken had = reached-sound (rules_on b) (lawful_for b.given) b.given.request b.state had.reached
 
 -- a take adds its work's target and turn
 pub taken-take : (b : BoardView) (taken : List ((List ℕ) × ℕ)) (which : ℕ) (w : WorkView) → HasTaken b taken → which < ready_count b →
@@ -79,12 +78,37 @@ taken-take b taken which w had below work =
     taken-more b taken ((w.target, w.turn) ∷ []) (Take which) had (below-length b.stopped (length b.state.ready) which below)
     (subst P (sym work.target) (subst Q (sym fed.1) here))
 
+-- looking ahead adds nothing
+taken-looked : (first next : BoardView) (taken : List ((List ℕ) × ℕ)) → HasTaken first taken → IsLookedAhead first next → HasTaken next taken
+taken-looked first next taken had ahead =
+    let r = rules_on first in
+    let start : State = opening r first.given.request in
+    let events = had.reached.events in
+    let led = looks-lead r (lawful_for first.given) first.given.request ahead.looked.looks first.state (sound-taken first taken had) in
+    let A : State → Type 0 = λ s. AllOpen r s led.looks in
+    let G : GivenView → Type 0 = λ g. HasTaken (record { given = g; state = next.state; stopped = next.stopped }) taken in
+    let here : G first.given = record {
+      reached = record {
+        events = events ++ led.looks;
+        all_open = AllOpen-behind r events led.looks start had.reached.all_open (subst A had.reached.ends led.all_open);
+        ends = ahead.looked.is ∙ led.is ∙ ap (run r led.looks) had.reached.ends ∙ sym (run-behind r events led.looks start);
+      };
+      is = had.is ∙ sym (takes-looks r events led.looks start led.are_looks);
+    } in
+    subst G (sym ahead.given) here
+
+-- at the opening nothing was taken
+pub taken-opened : (given : GivenView) (b : BoardView) → IsFirstBoard given b → HasTaken b []
+taken-opened given b first =
+    taken-looked (opened given) b [] (record { reached = record { events = []; all_open = tt; ends = refl }; is = refl }) first
+
 -- what is handed in adds nothing
-pub taken-hand_in : (b : BoardView) (taken : List ((List ℕ) × ℕ)) (target : List ℕ) (turn : ℕ) → HasTaken b taken →
-    IsOpen (rules_on b) b.state (Hand_in target turn) → HasTaken (after b (Hand_in target turn)) taken
-taken-hand_in b taken target turn had open' =
+pub taken-hand_in : (b next : BoardView) (taken : List ((List ℕ) × ℕ)) (target : List ℕ) (turn : ℕ) → HasTaken b taken →
+    IsOpen (rules_on b) b.state (Hand_in target turn) → IsHandedIn b target turn next → HasTaken next taken
+taken-hand_in b next taken target turn had open' handed =
     let P : List ((List ℕ) × ℕ) → Type 0 = HasTaken (after b (Hand_in target turn)) in
-    subst P (append-nil taken) (taken-more b taken [] (Hand_in target turn) had open' refl)
+    taken-looked (after b (Hand_in target turn)) next taken
+    (subst P (append-nil taken) (taken-more b taken [] (Hand_in target turn) had open' refl)) handed
 
 pub taken-once : (b : BoardView) (taken : List ((List ℕ) × ℕ)) → HasTaken b taken → AreOnce taken
 taken-once b taken had =
@@ -117,8 +141,10 @@ taken-begun b taken report had quiet shown told p =
       no-paths b.state.ready (on-board b.stopped (length b.state.ready) quiet.0 quiet.1),
       on-board b.stopped (out_count b.state) quiet.0 quiet.2,
     ) in
+    let D : State → Type 0 = NoneDue r in
+    let none = shown-none_due r (lawful_for b.given) b.given.request b.given.limits.targets b.state (sound-taken b taken had) shown in
     let seen = begun-seen r (lawful_for b.given) b.given.request events had.reached.all_open (subst Q had.reached.ends still)
-    (nothing-due r (keeps_nothing b.given) (run r events first)) p in
+    (subst D had.reached.ends none) p in
     let M : List ((List ℕ) × ℕ) → Type 0 = λ xs. IsTaken xs p 0 in
     let S : State → Type 0 = λ s. IsAmong (paths_of s.entries) p in
     let B : State → Type 0 = λ s. r.begins p (outcomes_of s.entries) ≡ true in (

@@ -15,7 +15,8 @@ use Rattle.redo_step.specs.Statements.{meaning, run}
 use Rattle.redo_step.specs.Setting.{setting_by}
 use Rattle.redo_skip.specs.Sources.{Sources}
 use Rattle.redo_skip.specs.Truth.{IsWitness}
-use Rattle.redo_core.specs.TreeSources.{IsTrueOfTrees, sources_of}
+use Rattle.redo_core.specs.Build.{sources_of}
+use Rattle.redo_core.specs.TreeSources.{IsTrueOfTrees}
 
 abbrev line : List ℕ → List ℕ
 line bytes = bytes ++ 10 ∷ []

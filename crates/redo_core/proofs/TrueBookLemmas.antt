@@ -12,9 +12,9 @@ use Rattle.redo_skip.specs.Truth.{IsSkipping, NoneCyclic}
 use Rattle.redo_skip.proofs.LawfulLemmas.{with_book-lawful}
 use Rattle.redo_skip.proofs.NewBookLemmas.{all-here, are-checks, honest-checks}
 use Rattle.redo_skip.proofs.SkipLemmas.{skips}
-use Rattle.redo_core.specs.Build.{GivenView, rules_for, rules_of}
-use Rattle.redo_core.specs.TreeSources.{AreTrueOfTrees, HasHonestBook, IsTrueOfTrees, IsUnconfused, book_rules_for}
-use Rattle.redo_core.specs.TreeSources.{checks_for, last_run_of, sources_for, sources_of}
+use Rattle.redo_core.specs.Build.{GivenView, checks_for, last_run_of, plain_rules_for, rules_for, rules_of}
+use Rattle.redo_core.specs.Build.{sources_for, sources_of}
+use Rattle.redo_core.specs.TreeSources.{AreTrueOfTrees, HasHonestBook, IsTrueOfTrees, IsUnconfused}
 use Rattle.redo_core.proofs.AlikeTreeLemmas.{trees-alike-within}
 use Rattle.redo_core.proofs.GoodTreeLemmas.{trees-good}
 use Rattle.redo_core.proofs.LawfulTreeLemmas.{rules_lawful}
@@ -26,43 +26,38 @@ pub checks-lawful : (tree : Tree) (limits : LimitsView) (k : Checks) → AreChec
     AreLawful (with_book (sources_of tree limits) k)
 checks-lawful tree limits k are = with_book-lawful (sources_of tree limits) k (rules_lawful tree limits) are
 
-pub book-lawful : (given : GivenView) → AreLawful (book_rules_for given)
-book-lawful given =
-    checks-lawful given.past.sources given.limits (checks_for given)
-    (are-checks (sources_for given) (last_run_of given.past) given.request)
-
 module _ (given : GivenView) where
   abbrev lawful : AreLawful (without_book (sources_for given))
   lawful = rules_lawful given.past.sources given.limits
 
   -- a record that is true of trees is honest
   honest-record : (r : Record) (truth : IsTrueOfTrees given.limits.file_bytes r) → IsUnconfused given r truth →
-      IsHonestRecord (sources_for given) (last_run_of given.past) (outcome_at (rules_for given) given.limits.targets) r
+      IsHonestRecord (sources_for given) (last_run_of given.past) (outcome_at (plain_rules_for given) given.limits.targets) r
   honest-record r truth apart = record {
     truth = record { sources = sources_of truth.tree truth.limits; ask = truth.ask; witness = truth.witness };
     alike =
         trees-alike-within truth.tree given.past.sources truth.limits given.limits truth.same_limit truth.ask
-        (outcome_at (rules_for given) given.limits.targets) r.target;
+        (outcome_at (plain_rules_for given) given.limits.targets) r.target;
     result = apart.made;
     apart = apart.met;
   }
 
   honest-records : HasHonestBook given →
-      AreHonestRecords (sources_for given) (last_run_of given.past) (outcome_at (rules_for given) given.limits.targets)
+      AreHonestRecords (sources_for given) (last_run_of given.past) (outcome_at (plain_rules_for given) given.limits.targets)
   honest-records all p r e = let one = all p r e in honest-record r one.0 one.1
 
   pub skips-soundly :
-      length (needed_at (rules_for given) given.request given.limits.targets) ≤ given.limits.targets →
-      NoneCyclic (rules_for given) given.request given.limits.targets → HasHonestBook given →
+      length (needed_at (plain_rules_for given) given.request given.limits.targets) ≤ given.limits.targets →
+      NoneCyclic (plain_rules_for given) given.request given.limits.targets → HasHonestBook given →
       IsSkipping (sources_for given) (checks_for given) given.request given.limits.targets
   skips-soundly few decided true_book =
       skips (sources_for given) (checks_for given) lawful
       (are-checks (sources_for given) (last_run_of given.past) given.request) given.request given.limits.targets few
       (honest-checks (sources_for given) (last_run_of given.past) given.request
-      (outcome_at (rules_for given) given.limits.targets) (honest-records true_book)) decided
+      (outcome_at (plain_rules_for given) given.limits.targets) (honest-records true_book)) decided
 
   pub stays-true :
-      length (needed_at (book_rules_for given) given.request given.limits.targets) ≤ given.limits.targets →
+      length (needed_at (rules_for given) given.request given.limits.targets) ≤ given.limits.targets →
       AreTrueOfTrees given.limits.file_bytes (record_at given.past.book) →
       AreTrueOfTrees given.limits.file_bytes
       (new_book (sources_for given) (last_run_of given.past) given.request given.limits.targets)
@@ -73,7 +68,7 @@ module _ (given : GivenView) where
           tree = given.past.sources;
           limits = given.limits;
           same_limit = refl;
-          ask = outcome_at (book_rules_for given) given.limits.targets;
+          ask = outcome_at (rules_for given) given.limits.targets;
           witness = here;
         }
         | inr old ↦ true_book p r old

@@ -1,17 +1,21 @@
--- The rules of a source tree: what the tree, the search for rules, the grammar of scripts and their meaning say
--- together of how far each target comes under an ask.
-use Rattle.std.specs.Prelude.{◌≡◌, ℕ, true, List, [], is_some, unwrap_or}
+-- The rules of a build: what its sources, the search for rules, the grammar of scripts and their meaning say together
+-- of how far each target comes under an ask, and what the book of the last run lets it keep.
+use Rattle.std.specs.Prelude.{◌≡◌, ℕ, Bool, true, ◌&&◌, not, List, [], is_some, is_none, unwrap_or}
 use Rattle.redo_script.specs.Texts.{script_in}
 use Rattle.redo_record.specs.declared.deps.DepKind.TheVariants.{Create}
 use Rattle.redo_record.specs.declared.outcome.Outcome.TheVariants.{Failed, Source as Is_source}
 use Rattle.redo_record.specs.declared.outcome.Why.TheVariants as why
-use Rattle.redo_tree.specs.Tree.{Tree, file_at}
+use Rattle.redo_tree.specs.Tree.{Tree, file_at, node_at}
+use Rattle.redo_which.specs.Candidates.{is_do_file}
 use Rattle.redo_which.specs.Rule.{Outcome as Found, Source, Directory, NoDirectory, NoRule, Rule, found_of}
 use Rattle.redo_record.specs.Entries.{with_entries, search_deps}
 use Rattle.redo_record.specs.Progress.{Progress, at_once}
 use Rattle.redo_step.specs.Results.{by_script}
 use Rattle.redo_step.specs.Setting.{is_rule, setting_by}
 use Rattle.redo_build.specs.Rules.{Ask, Rules}
+use Rattle.redo_skip.specs.Checks.{Checks, with_book}
+use Rattle.redo_skip.specs.NewBook.{LastRun, checks_of}
+use Rattle.redo_skip.specs.Sources.{Sources}
 use Rattle.redo_past.specs.Past.{PastView}
 use Rattle.redo_step.specs.Limits.{LimitsView}
 
@@ -68,6 +72,39 @@ pub record GivenView : Type 0 where
 abbrev pub rules_of : Tree → LimitsView → Rules
 rules_of tree limits = rules_in (world_of tree limits)
 
+-- nothing stands at the path, and nothing has a rule to be made there
+abbrev pub is_free : Tree → List ℕ → Bool
+is_free tree p = is_none (node_at tree p) && not (is_rule (found_of tree p))
+
+-- a tree of sources, as a build with a book sees it
+abbrev pub sources_of : Tree → LimitsView → Sources
+sources_of tree limits =
+    let rules = rules_of tree limits in
+    record {
+      is_source = rules.is_source;
+      has_rule = rules.has_rule;
+      progress = rules.progress;
+      file = file_at tree;
+      is_free = is_free tree;
+      is_script = is_do_file;
+    }
+
+-- what the last run left in a tree: its book, and each file of the tree as it was read
+abbrev pub last_run_of : PastView → LastRun
+last_run_of past = record { book = past.book; file = file_at past.tree }
+
+-- the sources of a build
+abbrev pub sources_for : GivenView → Sources
+sources_for given = sources_of given.past.sources given.limits
+
+-- the checks of a build by the book of the last run
+abbrev pub checks_for : GivenView → Checks
+checks_for given = checks_of (sources_for given) (last_run_of given.past) given.request
+
+-- the rules of a build that is given this, had it no book
+abbrev pub plain_rules_for : GivenView → Rules
+plain_rules_for given = rules_of given.past.sources given.limits
+
 -- the rules of a build that is given this
 abbrev pub rules_for : GivenView → Rules
-rules_for given = rules_of given.past.sources given.limits
+rules_for given = with_book (sources_for given) (checks_for given)

@@ -2,7 +2,7 @@
 use Rattle.std.specs.Prelude.{◌≡◌, ℕ, List}
 use Rattle.redo_build.specs.Outcomes.{IsTooMany}
 use Rattle.redo_core.specs.Build.{GivenView, rules_for}
-use Rattle.redo_core.specs.Views.{BoardView, opened}
+use Rattle.redo_core.specs.Views.{BoardView, IsFirstBoard}
 use Rattle.redo_past.specs.NewBook.{IsResultOf}
 use Rattle.redo_past.specs.Past.{IsPast, PastView, RefusesBook}
 use Rattle.redo_past.specs.declared.faults.PastFault.TheVariants.{Book}
@@ -26,10 +26,10 @@ pub record IsGiven (tree : Tree) (request : List (List ℕ)) (limits : LimitsVie
 abbrev pub IsRefused : Tree → ℕ → Type 0
 IsRefused tree n = RefusesBook (Book n) tree
 
--- the board of the build that is given this, before the first event
+-- the board of the build that is given this, before the first take
 pub record IsOpened (tree : Tree) (request : List (List ℕ)) (limits : LimitsView) (b : BoardView) : Type 0 where
   pub given : IsGiven tree request limits b.given
-  pub is : b ≡ opened b.given
+  pub is : IsFirstBoard b.given b
 
 -- the report of the build of the sources, with the new book among its files
 pub record IsResult (given : GivenView) (result : Report) : Type 0 where

@@ -7,6 +7,8 @@ use Rattle.redo_build.specs.Rules.{Ask, Rules, operands}
 use Rattle.redo_core.specs.Build.{GivenView, rules_for}
 use Rattle.redo_build.specs.Schedule.{Entry, State, Event, AllOpen, entry_of, outcomes_of, only, opening, run, happens}
 use Rattle.redo_build.specs.Schedule.{out_count}
+use Rattle.redo_build.specs.Schedule.Event.{Hand_in}
+use Rattle.redo_build.specs.Looking.{IsLookedOut}
 use Rattle.redo_record.specs.declared.deps.Dep.{Dep}
 use Rattle.redo_record.specs.declared.outcome.Outcome.{Outcome}
 use Rattle.redo_core.specs.declared.board.Stop.{Stop}
@@ -73,9 +75,23 @@ pub record IsReached (r : Rules) (request : List (List ℕ)) (s : State) : Type 
 abbrev pub opened : GivenView → BoardView
 opened given = record { given = given; state = opening (rules_for given) given.request; stopped = None }
 
+-- the first board with its checks looked at until none can go on
+pub record IsLookedAhead (first board : BoardView) : Type 0 where
+  pub given : board.given ≡ first.given
+  pub stopped : board.stopped ≡ first.stopped
+  pub looked : IsLookedOut (rules_on first) first.state board.state
+
+-- the board of a build that is given this, before the first take
+abbrev pub IsFirstBoard : GivenView → BoardView → Type 0
+IsFirstBoard given board = IsLookedAhead (opened given) board
+
 -- the board after an event
 abbrev pub after : BoardView → Event → BoardView
 after b event = record b { state = happens (rules_on b) b.state event }
+
+-- the board once what a target that was out came to is taken in
+abbrev pub IsHandedIn : BoardView → List ℕ → ℕ → BoardView → Type 0
+IsHandedIn old target turn new = IsLookedAhead (after old (Hand_in target turn)) new
 
 abbrev pub IsQuietBoard : BoardView → Type 0
 IsQuietBoard b = IsNone b.stopped × (ready_count b ≡ 0) × (jobs_out b ≡ 0)

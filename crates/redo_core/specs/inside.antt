@@ -1,3 +1,5 @@
+pub mod Checking
+pub mod Decided
 pub mod Ends
 pub mod Reported
 pub mod Scripts

@@ -1,12 +1,14 @@
 //! What a path is once it is seen for the first time.
 ghost use Rattle.std.specs.Prelude.{◌≡◌, ◌<◌, IfOk};
-ghost use Rattle.redo_which.specs.Rule.{Rule as IsRule, found_of};
-ghost use Rattle.redo_which.specs.Views.{arguments_view};
+ghost use Rattle.redo_which.specs.Rule.{found_of};
 ghost use Rattle.redo_core.specs.inside.Slots.{IsBegun};
+ghost use Rattle.redo_core.specs.inside.Works.{found_as};
 
 use crate::build::Build;
+use crate::check::Check;
 use crate::fact::Fact;
-use crate::table::Stage;
+use crate::facts::Facts;
+use crate::table::{InCheck, Stage};
 use crate::work::Work;
 use redo_path::Path;
 use redo_record::{Outcome, Record, Why};
@@ -15,7 +17,7 @@ use std::alloc::{AllocError, Global};
 use std::sync::Arc;
 
 /// What a path that is seen for the first time, as the target of a number, is at once: decided where it has no rule,
-/// else ready.
+/// else in check or ready.
 pub(crate) fn begin(
     alloc: Global,
     path: &Path,
@@ -26,7 +28,7 @@ pub(crate) fn begin(
     ensures { IfOk result (IsBegun build.now path.now) }
 {
     let (outcome, deps) = match lookup::find(alloc, build.given().sources(), path)? {
-        Found::Rule(rule) => return ready(alloc, path, build, rule),
+        Found::Rule(rule) => return ruled(alloc, path, build, rule),
         Found::Source => (Outcome::Source, Record::none(alloc)),
         Found::Directory => (Outcome::Failed(Why::Directory), Record::none(alloc)),
         Found::NoDirectory => (Outcome::Failed(Why::NoDirectory), Record::none(alloc)),
@@ -42,13 +44,19 @@ pub(crate) fn begin(
     Ok(Stage::Decided(build.publish(number, fact)?))
 }
 
-/// A target with a rule: its script is read when it is advanced.
-fn ready(alloc: Global, path: &Path, build: &Build, rule: Rule) -> Result<Stage, AllocError>
-    requires { found_of build.now.past.sources path.now ≡ IsRule rule.do_file rule.missing (arguments_view rule.args) }
+/// A target with a rule. Its check can go on, if it is in check and no entry falls before one asks for a path; else its
+/// script is read when it is advanced.
+fn ruled(alloc: Global, path: &Path, build: &Build, rule: Rule) -> Result<Stage, AllocError>
+    requires { found_of build.now.past.sources path.now ≡ found_as rule }
     ensures { IfOk result (IsBegun build.now path.now) }
 {
+    let facts = Facts::new(alloc);
+    if let Some(check) = Check::begin(alloc, build.given(), path)? {
+        let held = Box::new(alloc, InCheck { rule, check, facts })?;
+        return Ok(Stage::Due(held));
+    }
     let own = build.share()?;
     let target = path.clone()?;
-    let work = Work::unread(alloc, own, target, rule)?;
+    let work = Work::unread(alloc, own, target, rule, facts)?;
     Ok(Stage::Ready(work))
 }

@@ -6,7 +6,7 @@ ghost use Rattle.std.specs.Prelude.{◌≡◌, ◌↔◌, ◌<◌, ◌≤◌, �
 ghost use Rattle.std.specs.Prelude.{slice_get, Err, Some, None, ℕ};
 ghost use Rattle.std.specs.Arc.{arc_value};
 ghost use Rattle.redo_core.specs.Views.{ready_count, jobs_out, after, rules_on, request_on, limit_on, IsQuietBoard};
-ghost use Rattle.redo_core.specs.Views.{Belongs, IsWorkTaken};
+ghost use Rattle.redo_core.specs.Views.{Belongs, IsHandedIn, IsWorkTaken};
 ghost use Rattle.redo_core.specs.Results.{IsGiven, IsOpened, IsRefused, IsResult, NeedsTooMany};
 ghost use Rattle.redo_build.specs.Outcomes.{IsTooMany};
 ghost use Rattle.redo_build.specs.Schedule.{Event, IsOutAt, IsOpen};
@@ -18,7 +18,7 @@ ghost use Rattle.redo_build.specs.Theorems.{IsPartOfBuild, ShowsBuild};
 use crate::build::Build;
 use crate::finish::report_of;
 use crate::given::Given;
-use crate::moves::{first_table, take_in};
+use crate::moves::{first_table, look_ahead, move_on};
 use crate::opening::OpenFault;
 use crate::table::{Stage, Table, out_at};
 use crate::work::{Piece, Work};
@@ -62,9 +62,9 @@ impl<T: Drop> From<AllocFailed<T>> for Stop {
 }
 
 /// The entries of a build, and what may happen to them next. In a contract it is what it was given, the state of its
-/// entries, and why it has stopped. Of whatever value of this type that hasn't stopped, the state is one
-/// that some run of takes and hand-ins led to, so what is proved of runs holds for it wherever it comes from. Of one
-/// that has stopped only this is known: where it has stopped at the limit, the build needs too many targets.
+/// entries, and why it has stopped. Of whatever value of this type that hasn't stopped, the state is one that some run
+/// of takes, hand-ins and looks led to, so what is proved of runs holds for it wherever it comes from. Of one that has
+/// stopped only this is known: where it has stopped at the limit, the build needs too many targets.
 #[derive(Drop)]
 pub struct Board {
     alloc: Global,
@@ -134,7 +134,8 @@ impl Board {
         let past = Past::open(alloc, tree)?;
         let given = Given::new(alloc, past, request, limits)?;
         let build = Build::new(alloc, given)?;
-        let table = first_table(alloc, &build)?;
+        let mut table = first_table(alloc, &build)?;
+        look_ahead(&mut table, alloc, &build)?;
         Ok(Board {
             alloc,
             build,
@@ -203,7 +204,7 @@ impl Board {
     pub fn hand_in(&mut self, piece: Piece) -> Result<(), HandFault>
         requires { Belongs self.old piece }
         ensures open { OnOk result (IsOpen (rules_on self.old) self.old.state (Hand_in piece.target piece.turn)) }
-        ensures ok { OnOk result (self.new ≡ after self.old (Hand_in piece.target piece.turn)) }
+        ensures ok { OnOk result (IsHandedIn self.old piece.target piece.turn self.new) }
         ensures within { OnOk result (length self.new.state.entries ≤ (limit_on self.new)) }
         ensures one_fewer { OnOk result (jobs_out self.new + 1 ≡ jobs_out self.old) }
         ensures left { OnOk result (
@@ -218,7 +219,7 @@ impl Board {
         let Some(at) = out_at(&self.table, piece.number(), piece.target(), piece.turn()) else {
             return Err(HandFault::Stranger(piece));
         };
-        match take_in(
+        match move_on(
             &mut self.table,
             self.alloc,
             at,
@@ -245,8 +246,7 @@ impl Board {
     }
 
     /// Whether nothing more can happen: nothing is ready, nothing is out, and the board hasn't stopped. It is the test
-    /// for
-    /// `finish`.
+    /// for `finish`.
     pub fn quiet(&self) -> bool
         ensures quiet { IsTrue result ↔ IsQuietBoard self.now }
         ensures shows { IsTrue result →
@@ -264,7 +264,7 @@ impl Board {
     {
         let alloc = self.alloc;
         let given = self.build.share()?;
-        let report = report_of(alloc, given.sources(), given.request(), &self.table)?;
+        let report = report_of(alloc, &given, &self.table)?;
         // The table makes room for the text of the book.
         drop(self);
         given.past().with_book(alloc, report)

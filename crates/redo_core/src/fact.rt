@@ -1,8 +1,8 @@
 //! Decided targets, each with what became of it.
-ghost use Rattle.std.specs.Prelude.{◌≡◌};
+ghost use Rattle.std.specs.Prelude.{◌≡◌, IsTrue, true};
 ghost use Rattle.std.specs.Arc.{arc_value};
 ghost use Rattle.redo_core.specs.Build.{rules_for};
-ghost use Rattle.redo_build.specs.inside.Turns.{IsFact};
+ghost use Rattle.redo_core.specs.inside.Decided.{IsDecided};
 
 use crate::given::Given;
 use redo_path::Path;
@@ -27,9 +27,7 @@ impl Model for Fact {
 
     ghost Value = { FactView };
 
-    ghost use Rattle.std.specs.Prelude.{◌≡◌};
-    ghost use Rattle.redo_build.specs.inside.Turns.{IsFact};
-    ghost use Rattle.redo_core.specs.Build.{rules_for};
+    ghost use Rattle.redo_core.specs.inside.Decided.{IsDecided};
 
     ghost view = { λ f. record {
       given = arc_value f.given;
@@ -39,9 +37,7 @@ impl Model for Fact {
       begun = f.begun;
     } };
 
-    // All that it asked for is its record.
-    ghost invariant = { λ f.
-        IsFact (rules_for (arc_value f.given)) f.target f.outcome (arc_value f.deps) (arc_value f.deps) f.begun };
+    ghost invariant = { λ f. IsDecided (arc_value f.given) f.target f.outcome (arc_value f.deps) f.begun };
 }
 
 impl Fact {
@@ -53,7 +49,7 @@ impl Fact {
         deps: Arc<Record>,
         begun: bool,
     ) -> Fact
-        requires { IsFact (rules_for (arc_value given)) target outcome (arc_value deps) (arc_value deps) begun }
+        requires { IsDecided (arc_value given) target outcome (arc_value deps) begun }
         ensures { result ≡ record {
           given = arc_value given;
           target = target;
@@ -92,11 +88,19 @@ impl Fact {
         &self.deps
     }
 
-    /// Whether its script was begun.
+    /// Whether its script was begun. It wasn't where the target has no rule, and where it is kept as the last run left
+    /// it.
     pub fn was_begun(&self) -> bool
         ensures begun { result ≡ self.now.begun }
-        ensures ruled { result ≡ (rules_for self.now.given).has_rule self.now.target }
+        ensures ruled { IsTrue result → (rules_for self.now.given).has_rule self.now.target ≡ true }
     {
         self.begun
+    }
+
+    /// That it was decided so. It does nothing.
+    pub(crate) fn is_decided(&self)
+        ensures { IsDecided self.now.given self.now.target self.now.outcome self.now.deps self.now.begun }
+    {
+        let _ = &self.begun;
     }
 }

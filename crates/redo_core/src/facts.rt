@@ -6,7 +6,7 @@ ghost use Rattle.redo_core.specs.inside.Works.{told_in, known_in, few_known, Add
 use crate::fact::Fact;
 use redo_names::PathMap;
 use redo_path::Path;
-use redo_record::Outcome;
+use redo_record::{Deps, Outcome};
 use redo_step::Answers;
 use redo_sync::Known;
 use std::alloc::{AllocError, Global};
@@ -19,6 +19,8 @@ const FEW: usize = 8;
 pub(crate) struct Facts {
     few: Vec<Known<Fact>>,
     more: Option<Box<PathMap<Known<Fact>>>>,
+    /// What the target's check asked for, before its script was begun. Of each there is a fact.
+    pub(crate) asked: Deps,
     /// Of so many of the entries that the script declared first, each that is waited for has its fact here.
     pub(crate) gained: usize,
 }
@@ -28,10 +30,12 @@ impl Facts {
     pub(crate) fn new(alloc: Global) -> Facts
         ensures empty { known_in result ≡ [] }
         ensures gained { result.gained ≡ 0 }
+        ensures asked { result.asked ≡ [] }
     {
         Facts {
             few: Vec::new(alloc),
             more: None,
+            asked: Deps::new(alloc),
             gained: 0,
         }
     }
@@ -41,10 +45,18 @@ impl Facts {
         *self.few.allocator()
     }
 
+    /// What the target's check asked for.
+    pub(crate) fn into_asked(self) -> Deps
+        ensures { result ≡ self.asked }
+    {
+        self.asked
+    }
+
     /// Makes room for so many more facts, as far as they are among the first few.
     pub(crate) fn reserve(&mut self, additional: usize) -> Result<(), AllocError>
         ensures known { known_in self.new ≡ known_in self.old }
         ensures gained { self.new.gained ≡ self.old.gained }
+        ensures asked { self.new.asked ≡ self.old.asked }
     {
         let room = FEW.saturating_sub(self.few.len());
         self.few.reserve(additional.min(room))

@@ -1,42 +1,35 @@
 //! What a table comes to where nothing more can happen.
 ghost use Rattle.std.specs.Prelude.{◌≡◌, ◌++◌, [], true, All, IfOk, OnOk, length};
 ghost use Rattle.std.specs.Arc.{arc_value};
-ghost use Rattle.redo_which.specs.Rule.{found_of};
-ghost use Rattle.redo_step.specs.Setting.{is_rule};
 ghost use Rattle.redo_record.specs.declared.outcome.Outcome.TheVariants.{Source};
 ghost use Rattle.redo_core.specs.inside.Reported.{placed, sources_among, listed_paths, IsNumberOf, is_settled, IsShown};
-ghost use Rattle.redo_core.specs.inside.Reported.{IsBegunAs, IsRowOf, AllSettled, AllTold, AddsRow, IsReportOf};
+ghost use Rattle.redo_core.specs.inside.Reported.{IsBegunAs, IsRowOf, IsTold, AllSettled, AllTold, AddsRow, IsReportOf};
 
+use crate::given::Given;
 use crate::table::{Stage, Table, find};
 use redo_names::PathSet;
 use redo_path::Path;
 use redo_record::{Outcome, Record};
 use redo_report::{Report, Row};
 use redo_tree::Tree;
-use redo_which::{Found, lookup};
 use std::alloc::{AllocError, Global};
 use std::sync::Arc;
 
 /// The report of the targets of a table and of the requested sources. What still waits is cyclic.
-pub(crate) fn report_of(
-    alloc: Global,
-    tree: &Tree,
-    request: &[Path],
-    table: &Table,
-) -> Result<Report, AllocError>
+pub(crate) fn report_of(alloc: Global, given: &Given, table: &Table) -> Result<Report, AllocError>
     requires one_each { length table.now.slots.items ≡ length table.now.targets }
     requires settled { AllSettled table.now }
-    requires told { AllTold tree.now table.now }
-    ensures { IfOk result (IsReportOf tree.now request.now table.now) }
+    requires told { AllTold given.now table.now }
+    ensures { IfOk result (IsReportOf given.now table.now) }
 {
     let mut report = Report {
         rows: Vec::new(alloc),
         files: Vec::new(alloc),
         begun: Vec::new(alloc),
     };
-    let listed = in_order(alloc, tree, request, &table.targets)?;
+    let listed = in_order(alloc, given.sources(), given.request(), &table.targets)?;
     for &(path, at) in &listed {
-        let (row, begun) = row_of(alloc, tree, table, path, at)?;
+        let (row, begun) = row_of(alloc, given, table, path, at)?;
         add_row(row, begun, &mut report)?;
     }
     Ok(report)
@@ -96,24 +89,23 @@ fn add_sources<'a>(
 /// The row of a path, which is the target of a number or else a source, and whether its script was begun.
 fn row_of(
     alloc: Global,
-    tree: &Tree,
+    given: &Given,
     table: &Table,
     path: &Path,
     at: Option<usize>,
 ) -> Result<(Row, bool), AllocError>
     requires one_each { length table.now.slots.items ≡ length table.now.targets }
     requires settled { AllSettled table.now }
-    requires told { AllTold tree.now table.now }
+    requires told { AllTold given.now table.now }
     requires number { IsNumberOf table.now.targets path.now at }
-    ensures row { IfOk result (λ told. IsRowOf table.now told.0) }
+    ensures row { IfOk result (λ told. IsRowOf given.now table.now told.0 told.1) }
     ensures path { IfOk result (λ told. told.0.path ≡ path.now) }
-    ensures begun { IfOk result (λ told. told.1 ≡ is_rule (found_of tree.now path.now)) }
 {
     let Some(at) = at else {
-        return source_row(alloc, tree, path);
+        return Ok((source_row(alloc, path)?, false));
     };
     let stage = &table.slots[at].stage;
-    let (outcome, deps) = came_to(alloc, stage)?;
+    let (outcome, deps) = came_to(alloc, given, stage)?;
     let begun = was_begun(stage);
     let path = path.clone()?;
     Ok((
@@ -126,20 +118,17 @@ fn row_of(
     ))
 }
 
-/// The row of a source, and whether it has a rule.
-fn source_row(alloc: Global, tree: &Tree, path: &Path) -> Result<(Row, bool), AllocError>
-    ensures path { IfOk result (λ told. told.0.path ≡ path.now) }
-    ensures outcome { IfOk result (λ told. told.0.outcome ≡ Source) }
-    ensures deps { IfOk result (λ told. arc_value told.0.deps ≡ []) }
-    ensures begun { IfOk result (λ told. told.1 ≡ is_rule (found_of tree.now path.now)) }
+/// The row of a source.
+fn source_row(alloc: Global, path: &Path) -> Result<Row, AllocError>
+    ensures path { IfOk result (λ row. row.path ≡ path.now) }
+    ensures outcome { IfOk result (λ row. row.outcome ≡ Source) }
+    ensures deps { IfOk result (λ row. arc_value row.deps ≡ []) }
 {
-    let begun = has_rule(alloc, tree, path)?;
-    let row = Row {
+    Ok(Row {
         path: path.clone()?,
         outcome: Outcome::Source,
         deps: Arc::new(alloc, Record::none(alloc))?,
-    };
-    Ok((row, begun))
+    })
 }
 
 /// Whether the script of a target was begun, where it waits or is decided.
@@ -148,16 +137,26 @@ fn was_begun(stage: &Stage) -> bool
     ensures { IsBegunAs stage.now result }
 {
     match stage {
-        Stage::Decided(fact) => fact.read().was_begun(),
+        Stage::Decided(fact) => {
+            let fact = fact.read();
+            fact.is_decided();
+            fact.was_begun()
+        }
         Stage::Waiting(_) => true,
-        Stage::Ready(_) | Stage::Out => unreachable!(),
+        Stage::Checking(_) => false,
+        Stage::Due(_) | Stage::Ready(_) | Stage::Out => unreachable!(),
     }
 }
 
 /// What a target came to, and its record.
-fn came_to(alloc: Global, stage: &Stage) -> Result<(Outcome, Arc<Record>), AllocError>
-    requires { is_settled stage.now ≡ true }
-    ensures { IfOk result (λ shown. IsShown stage.now shown.0 (arc_value shown.1)) }
+fn came_to(
+    alloc: Global,
+    given: &Given,
+    stage: &Stage,
+) -> Result<(Outcome, Arc<Record>), AllocError>
+    requires settled { is_settled stage.now ≡ true }
+    requires told { IsTold given.now stage.now }
+    ensures { IfOk result (λ shown. IsShown given.now stage.now shown.0 (arc_value shown.1)) }
 {
     match stage {
         Stage::Decided(fact) => {
@@ -168,7 +167,11 @@ fn came_to(alloc: Global, stage: &Stage) -> Result<(Outcome, Arc<Record>), Alloc
             Outcome::Cyclic,
             Arc::new(alloc, parked.begun.job.record()?)?,
         )),
-        Stage::Ready(_) | Stage::Out => unreachable!(),
+        Stage::Checking(awaiting) => {
+            let seen = awaiting.held.check.seen(alloc, given)?;
+            Ok((Outcome::Cyclic, Arc::new(alloc, seen)?))
+        }
+        Stage::Due(_) | Stage::Ready(_) | Stage::Out => unreachable!(),
     }
 }
 
@@ -197,14 +200,4 @@ fn add_row(row: Row, begun: bool, report: &mut Report) -> Result<(), AllocError>
     }
     report.rows.push(row)?;
     Ok(())
-}
-
-/// Whether a path has a rule.
-fn has_rule(alloc: Global, tree: &Tree, path: &Path) -> Result<bool, AllocError>
-    ensures { IfOk result (λ answer. answer ≡ is_rule (found_of tree.now path.now)) }
-{
-    match lookup::find(alloc, tree, path)? {
-        Found::Rule(_) => Ok(true),
-        _ => Ok(false),
-    }
 }

@@ -5,19 +5,26 @@ ghost use Rattle.redo_build.specs.Rules.{operands};
 ghost use Rattle.redo_core.specs.inside.Slots.{IsPlace, AreNumbers, IsTableOf, IsStandingTable, AreEnteredInto};
 ghost use Rattle.redo_core.specs.inside.Slots.{AreTooMany, AreLookedAt, AreEnqueued, MayTakeIn, IsPutBackThere};
 ghost use Rattle.redo_core.specs.inside.Slots.{IsTakenIn, IsFirstTable, targets_in, table_entries, state_after};
+ghost use Rattle.redo_core.specs.inside.Slots.{MayConclude, IsConcludedAt, MayLook, IsDrawn, IsLookedOnce, IsAtRest};
+ghost use Rattle.redo_core.specs.inside.Slots.{IsLookedOn, IsMovedOn};
+ghost use Rattle.redo_build.specs.Outcomes.{IsTooMany};
 ghost use Rattle.redo_build.specs.Schedule.{opening};
-ghost use Rattle.redo_tree.specs.Tree.{file_at};
+ghost use Rattle.redo_build.specs.Schedule.Phase.{Check, Script};
+ghost use Rattle.redo_core.specs.inside.Checking.{asks_next};
 
 use crate::board::Stop;
 use crate::build::Build;
 use crate::fact::Fact;
-use crate::table::{Table, decide, enter, is_operand, park, settle};
+use crate::table::{
+    Awaiting, InCheck, Table, await_answer, decide, enter, is_operand, park, settle, take_out,
+};
 use crate::work::{Begun, End};
 use redo_names::PathSet;
 use redo_path::Path;
 use redo_record::Dep;
 use std::alloc::{AllocError, Global};
-use std::collections::VecDeque;
+use std::collections::{BTreeSet, VecDeque};
+use std::sync::Arc;
 
 /// Enters what some entries of a record wait for, as far as it is new, and gives the numbers.
 pub(crate) fn enter_all(
@@ -50,6 +57,7 @@ pub(crate) fn enter_all(
 /// Looks again at some numbers.
 pub(crate) fn settle_all(
     table: &mut Table,
+    alloc: Global,
     pending: &[u32],
     build: &Build,
     newly_ready: &mut Vec<u32>,
@@ -61,7 +69,7 @@ pub(crate) fn settle_all(
     ensures looked { OnOk result (AreLookedAt build.now table.old table.new pending.now) }
 {
     for at in pending {
-        settle(table, *at, build, newly_ready)?;
+        settle(table, alloc, *at, build, newly_ready)?;
     }
     Ok(())
 }
@@ -86,7 +94,7 @@ fn asked(begun: &Begun) -> &[Dep]
     &begun.job.declared().as_slice()[begun.facts.gained..]
 }
 
-/// Notes the fact that a job that was out ended with, and looks again at what watches its target.
+/// Notes the fact that a target which was out comes to, and looks again at what watches it.
 fn conclude(
     table: &mut Table,
     alloc: Global,
@@ -95,13 +103,13 @@ fn conclude(
     build: &Build,
     newly_ready: &mut Vec<u32>,
 ) -> Result<(), AllocError>
-    requires may { MayTakeIn build.now table.old at (End.Ended fact) }
+    requires may { MayConclude build.now table.old at fact }
     requires none_newly_ready { newly_ready.old.items ≡ [] }
-    ensures { OnOk result (IsPutBackThere build.now table.old table.new at newly_ready.new.items []) }
+    ensures { OnOk result (IsConcludedAt build.now table.old table.new at fact newly_ready.new.items) }
 {
     let known = build.publish(at, fact)?;
     let watchers = decide(table, alloc, at, known);
-    settle_all(table, &watchers, build, newly_ready)
+    settle_all(table, alloc, &watchers, build, newly_ready)
 }
 
 /// Parks a job that was out and stopped, with what it asks for entered, and looks at it.
@@ -115,13 +123,14 @@ fn suspend(
 ) -> Result<(), Stop>
     requires may { MayTakeIn build.now table.old at (End.Stopped begun) }
     requires none_newly_ready { newly_ready.old.items ≡ [] }
-    ensures ok { OnOk result (IsPutBackThere build.now table.old table.new at newly_ready.new.items []) }
+    ensures ok { OnOk result (IsPutBackThere build.now (state_after build.now Script table.old at) table.old table.new
+        newly_ready.new.items []) }
     ensures too_many { result ≡ Err Stop.TooMany →
-        build.now.limits.targets < length (state_after build.now table.old at).entries }
+        build.now.limits.targets < length (state_after build.now Script table.old at).entries }
 {
     let operands = enter_all(table, alloc, asked(&begun), build, newly_ready)?;
     park(table, at, begun, operands);
-    settle(table, at as u32, build, newly_ready)?;
+    settle(table, alloc, at as u32, build, newly_ready)?;
     Ok(())
 }
 
@@ -134,13 +143,13 @@ pub(crate) fn take_in(
     build: &Build,
 ) -> Result<(), Stop>
     requires { MayTakeIn build.now table.old at end }
-    ensures ok { OnOk result (IsTakenIn build.now table.old table.new at) }
+    ensures ok { OnOk result (IsTakenIn build.now (state_after build.now Script table.old at) table.new) }
     ensures too_many { result ≡ Err Stop.TooMany →
-        build.now.limits.targets < length (state_after build.now table.old at).entries }
+        build.now.limits.targets < length (state_after build.now Script table.old at).entries }
 {
     let mut newly_ready = Vec::new(alloc);
     match end {
-        End::Ended(fact) => conclude(table, alloc, at, fact, build, &mut newly_ready)?,
+        End::Ended(fact, _asked) => conclude(table, alloc, at, fact, build, &mut newly_ready)?,
         End::Stopped(begun) => suspend(table, alloc, at, begun, build, &mut newly_ready)?,
     }
     enqueue(table, newly_ready)?;
@@ -183,6 +192,7 @@ pub(crate) fn first_table(alloc: Global, build: &Build) -> Result<Table, Stop>
         targets: PathSet::new(alloc),
         slots: Vec::new(alloc),
         ready: VecDeque::new(alloc),
+        due: BTreeSet::new(alloc),
         out: 0,
     };
     let mut newly_ready = Vec::new(alloc);
@@ -190,4 +200,111 @@ pub(crate) fn first_table(alloc: Global, build: &Build) -> Result<Table, Stop>
     enter_requested(&mut table, alloc, request, build, &mut newly_ready)?;
     enqueue(&mut table, newly_ready)?;
     Ok(table)
+}
+
+/// Keeps a target all of whose recorded entries stand, as the last run left it.
+fn keep(
+    table: &mut Table,
+    alloc: Global,
+    at: usize,
+    held: Box<InCheck>,
+    build: &Build,
+    newly_ready: &mut Vec<u32>,
+) -> Result<(), AllocError>
+    requires may { MayLook build.now table.old at held }
+    requires stands { asks_next build.now held.value.check ≡ None }
+    requires none_newly_ready { newly_ready.old.items ≡ [] }
+    ensures { OnOk result (IsPutBackThere build.now (state_after build.now Check table.old at) table.old table.new
+        newly_ready.new.items []) }
+{
+    let (outcome, deps) = held.check.kept(alloc, build.given())?;
+    let own = build.share()?;
+    let target = table.targets.at(at).clone()?;
+    let fact = Fact::of(own, target, outcome, Arc::new(alloc, deps)?, false);
+    conclude(table, alloc, at, fact, build, newly_ready)
+}
+
+/// Lets a check ask for the next path, which is entered, and looks at it.
+fn ask(
+    table: &mut Table,
+    alloc: Global,
+    at: usize,
+    mut held: Box<InCheck>,
+    path: Path,
+    build: &Build,
+    newly_ready: &mut Vec<u32>,
+) -> Result<(), Stop>
+    requires may { MayLook build.now table.old at held }
+    requires asks { asks_next build.now held.value.check ≡ Some path }
+    requires none_newly_ready { newly_ready.old.items ≡ [] }
+    ensures ok { OnOk result (IsPutBackThere build.now (state_after build.now Check table.old at) table.old table.new
+        newly_ready.new.items []) }
+    ensures too_many { result ≡ Err Stop.TooMany →
+        build.now.limits.targets < length (state_after build.now Check table.old at).entries }
+{
+    let place = enter(table, alloc, &path, build, newly_ready)?;
+    held.check.ask(&path)?;
+    await_answer(
+        table,
+        at,
+        Awaiting {
+            held,
+            path,
+            at: place,
+        },
+    );
+    settle(table, alloc, at as u32, build, newly_ready)?;
+    Ok(())
+}
+
+/// Looks at the check of a target, the first by first sight that can go on: the target is kept, or its check asks for the
+/// next path.
+fn look(table: &mut Table, alloc: Global, at: usize, build: &Build) -> Result<(), Stop>
+    requires { IsDrawn build.now table.old at }
+    ensures ok { OnOk result (IsLookedOnce build.now table.old table.new) }
+    ensures too_many { result ≡ Err Stop.TooMany → IsTooMany (rules_for build.now) build.now.request
+        build.now.limits.targets }
+{
+    let mut newly_ready = Vec::new(alloc);
+    let held = take_out(table, at);
+    match held.check.next(build.given()) {
+        Some(path) => {
+            let path = path.clone()?;
+            ask(table, alloc, at, held, path, build, &mut newly_ready)?;
+        }
+        None => keep(table, alloc, at, held, build, &mut newly_ready)?,
+    }
+    enqueue(table, newly_ready)?;
+    Ok(())
+}
+
+/// Looks at checks until none can go on.
+pub(crate) fn look_ahead(table: &mut Table, alloc: Global, build: &Build) -> Result<(), Stop>
+    requires { IsAtRest build.now table.old }
+    ensures ok { OnOk result (IsLookedOn build.now table.old table.new) }
+    ensures none_due { OnOk result (table.new.due.keys ≡ []) }
+    ensures too_many { result ≡ Err Stop.TooMany → IsTooMany (rules_for build.now) build.now.request
+        build.now.limits.targets }
+{
+    while let Some(at) = table.due.pop_first() {
+        look(table, alloc, at as usize, build)?;
+    }
+    Ok(())
+}
+
+/// Takes in what a job that was out came to, and looks at checks until none can go on.
+pub(crate) fn move_on(
+    table: &mut Table,
+    alloc: Global,
+    at: usize,
+    end: End,
+    build: &Build,
+) -> Result<(), Stop>
+    requires { MayTakeIn build.now table.old at end }
+    ensures ok { OnOk result (IsMovedOn build.now (state_after build.now Script table.old at) table.new) }
+    ensures too_many { result ≡ Err Stop.TooMany → IsTooMany (rules_for build.now) build.now.request
+        build.now.limits.targets }
+{
+    take_in(table, alloc, at, end, build)?;
+    look_ahead(table, alloc, build)
 }

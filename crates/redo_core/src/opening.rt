@@ -12,7 +12,7 @@ pub enum OpenFault {
     /// The book of the last run is refused, for its line of this number, counted from 1.
     #[error("line {0} of the book of the last run is at fault")]
     Book(u64),
-    /// More targets are requested than the limit allows.
+    /// More targets are needed than the limit allows: those requested, and those that the board's first looks ask for.
     #[error("more targets are needed than the limit allows")]
     TooMany,
     /// A growth was refused.

@@ -8,11 +8,14 @@ ghost use Rattle.redo_core.specs.inside.Slots.{AreDecidedFrom, is_stage_decided,
 ghost use Rattle.redo_core.specs.inside.Slots.{IsOutSlotAt, IsWaitingThere, IsHeldAt, IsTableOf, IsStandingTable};
 ghost use Rattle.redo_core.specs.inside.Slots.{IsWatchAdded, IsMadeReadyAt, IsFed, IsLookedAt, IsBegun, IsPushed};
 ghost use Rattle.redo_core.specs.inside.Slots.{IsEnteredInto, IsFull, table_entries, IsDecidedAt, IsParkedAt};
-ghost use Rattle.redo_core.specs.inside.Slots.{IsOutThere, Gains};
+ghost use Rattle.redo_core.specs.inside.Slots.{IsOutThere, Gains, IsAnswered, IsResumedAt, GoesOnWith, IsFallen};
+ghost use Rattle.redo_core.specs.inside.Slots.{IsAskedAt, IsTakenOut, is_stage_due, IsDueThere};
+ghost use Rattle.redo_core.specs.inside.Works.{known_in};
 
 use crate::begin::begin;
 use crate::board::Stop;
 use crate::build::Build;
+use crate::check::Check;
 use crate::fact::Fact;
 use crate::facts::Facts;
 use crate::work::{Begun, Work};
@@ -21,17 +24,38 @@ use redo_path::Path;
 use redo_record::{Dep, DepKind};
 use redo_step::Job;
 use redo_sync::Known;
+use redo_which::Rule;
 use std::alloc::{AllocError, Global};
-use std::collections::VecDeque;
+use std::collections::{BTreeSet, VecDeque};
 use std::mem;
 
 /// How far a target has come.
 #[derive(Drop)]
 pub enum Stage {
+    /// Its check can go on.
+    Due(Box<InCheck>),
+    /// Its check waits.
+    Checking(Awaiting),
     Waiting(Parked),
     Ready(Work),
     Out,
     Decided(Known<Fact>),
+}
+
+/// A target in check, with the rule of its script, which is begun if an entry falls, and the facts of what it asked for.
+#[derive(Drop)]
+pub struct InCheck {
+    pub rule: Rule,
+    pub check: Check,
+    pub facts: Facts,
+}
+
+/// A check that waits for a path, with the path's number.
+#[derive(Drop)]
+pub struct Awaiting {
+    pub held: Box<InCheck>,
+    pub path: Path,
+    pub at: u32,
 }
 
 /// A job that waits.
@@ -44,20 +68,24 @@ pub struct Parked {
     pub held: usize,
 }
 
-/// A target that was seen. Its watchers are to be looked at again once it is decided.
+/// A target that was seen, with how often its check and its script stopped. Its watchers are to be looked at again once
+/// it is decided.
 #[derive(Drop)]
 pub struct Slot {
+    pub looks: u64,
     pub turn: u64,
     pub watchers: Vec<u32>,
     pub stage: Stage,
 }
 
-/// The targets that were seen, in order of first sight, with the numbers of those ready.
+/// The targets that were seen, in order of first sight, with the numbers of those ready, and of those whose checks can
+/// go on.
 #[derive(Drop)]
 pub struct Table {
     pub targets: PathSet,
     pub slots: Vec<Slot>,
     pub ready: VecDeque<u32>,
+    pub due: BTreeSet<u32>,
     pub out: usize,
 }
 
@@ -88,6 +116,13 @@ pub(crate) fn is_ready(stage: &Stage) -> bool
     ensures { result ≡ is_stage_ready stage.now }
 {
     matches!(stage, Stage::Ready(_))
+}
+
+/// Whether the check of a target can go on.
+pub(crate) fn is_due(stage: &Stage) -> bool
+    ensures { result ≡ is_stage_due stage.now }
+{
+    matches!(stage, Stage::Due(_))
 }
 
 /// Whether the job of a slot is out.
@@ -210,9 +245,96 @@ pub(crate) fn make_ready(table: &mut Table, at: usize, build: &Build) -> Result<
     Ok(())
 }
 
-/// Looks again at a target: if it waits, it becomes ready or is watched at the next path that it lacks.
+/// Gives a check the answer that it waited for: it can go on, or an entry falls and the script of its target is begun.
+pub(crate) fn resume(
+    table: &mut Table,
+    alloc: Global,
+    at: u32,
+    build: &Build,
+    newly_ready: &mut Vec<u32>,
+) -> Result<(), AllocError>
+    requires one_each { length table.old.slots.items ≡ length table.old.targets }
+    requires answered { IsAnswered build.now table.old at }
+    ensures { OnOk result (IsResumedAt build.now table.old table.new at newly_ready.old.items newly_ready.new.items) }
+{
+    let stage = mem::replace(&mut table.slots[at as usize].stage, Stage::Out);
+    let Stage::Checking(awaiting) = stage else {
+        unreachable!()
+    };
+    let Awaiting {
+        mut held,
+        path: _,
+        at: place,
+    } = awaiting;
+    let InCheck {
+        rule: _,
+        check,
+        facts,
+    } = &mut *held;
+    gain_one(table, place, facts)?;
+    let stands = goes_on(table, alloc, place, check, build)?;
+    let stage = if stands {
+        table.due.insert(at)?;
+        Stage::Due(held)
+    } else {
+        let target = table.targets.at(at as usize).clone()?;
+        newly_ready.push(at)?;
+        Stage::Ready(fallen(alloc, target, held, build)?)
+    };
+    table.slots[at as usize].stage = stage;
+    Ok(())
+}
+
+/// Whether a check stands with the answer of a decided target, and so can go on.
+fn goes_on(
+    table: &Table,
+    alloc: Global,
+    place: u32,
+    check: &mut Check,
+    build: &Build,
+) -> Result<bool, AllocError>
+    requires decided { IsDecidedNumber table.now place }
+    requires within { check.old.number < length build.now.past.book }
+    ensures { IfOk result (λ stands. GoesOnWith build.now table.now place check.old check.new stands) }
+{
+    let slot = &table.slots[place as usize];
+    let Stage::Decided(fact) = &slot.stage else {
+        unreachable!()
+    };
+    check.go_on(alloc, build.given(), fact.read().outcome())
+}
+
+/// The work of a target whose check fell: it has the facts of all that the check asked for.
+fn fallen(
+    alloc: Global,
+    target: Path,
+    held: Box<InCheck>,
+    build: &Build,
+) -> Result<Work, AllocError>
+    requires { IsFallen build.now target held.value }
+    ensures { IfOk result (λ w. w ≡
+        record {
+          given = build.now;
+          target = target;
+          turn = 0;
+          deps = held.value.check.asked;
+          known = known_in held.value.facts;
+        }) }
+{
+    let InCheck {
+        rule,
+        check,
+        mut facts,
+    } = Box::into_inner(held);
+    facts.asked = check.asked;
+    Work::unread(alloc, build.share()?, target, rule, facts)
+}
+
+/// Looks again at a target: if its script waits, it becomes ready or is watched at the next path that it lacks; if its
+/// check waits, it goes on or falls once it has its answer.
 pub(crate) fn settle(
     table: &mut Table,
+    alloc: Global,
     at: u32,
     build: &Build,
     newly_ready: &mut Vec<u32>,
@@ -223,19 +345,25 @@ pub(crate) fn settle(
     ensures table { OnOk result (IsTableOf build.now table.new newly_ready.new.items) }
     ensures looked { OnOk result (IsLookedAt build.now table.old table.new at) }
 {
-    let slot = &table.slots[at as usize];
-    let Stage::Waiting(parked) = &slot.stage else {
-        return Ok(());
-    };
-    match next_lacking(table, &parked.operands, parked.held) {
-        Some((held, place)) => {
-            hold(table, at as usize, held);
+    match &table.slots[at as usize].stage {
+        Stage::Waiting(parked) => match next_lacking(table, &parked.operands, parked.held) {
+            Some((held, place)) => {
+                hold(table, at as usize, held);
+                watch(table, at, place)
+            }
+            None => {
+                newly_ready.push(at)?;
+                make_ready(table, at as usize, build)
+            }
+        },
+        Stage::Checking(awaiting) => {
+            let place = awaiting.at as usize;
+            if is_decided(&table.slots[place]) {
+                return resume(table, alloc, at, build, newly_ready);
+            }
             watch(table, at, place)
         }
-        None => {
-            newly_ready.push(at)?;
-            make_ready(table, at as usize, build)
-        }
+        _ => Ok(()),
     }
 }
 
@@ -285,9 +413,13 @@ pub(crate) fn enter_new(
     if is_ready(&stage) {
         newly_ready.push(table.slots.len() as u32)?;
     }
+    if is_due(&stage) {
+        table.due.insert(table.slots.len() as u32)?;
+    }
     table.targets.insert(path.clone()?)?;
     let watchers = Vec::new(alloc);
     table.slots.push(Slot {
+        looks: 0,
         turn: 0,
         watchers,
         stage,
@@ -319,5 +451,30 @@ pub(crate) fn park(table: &mut Table, at: usize, begun: Box<Begun>, operands: Ve
         operands,
         held: 0,
     });
+    table.out -= 1;
+}
+
+/// Takes out the check of a target that is due, for a look.
+pub(crate) fn take_out(table: &mut Table, at: usize) -> Box<InCheck>
+    requires { IsDueThere table.old at }
+    ensures { IsTakenOut table.old table.new at result }
+{
+    let slot = &mut table.slots[at];
+    let stage = mem::replace(&mut slot.stage, Stage::Out);
+    table.out += 1;
+    match stage {
+        Stage::Due(held) => held,
+        _ => unreachable!(),
+    }
+}
+
+/// Notes what a check that was taken out waits for. Its own number is to be looked at.
+pub(crate) fn await_answer(table: &mut Table, at: usize, awaiting: Awaiting)
+    requires { IsOutThere table.old at }
+    ensures { IsAskedAt table.old table.new at awaiting }
+{
+    let slot = &mut table.slots[at];
+    slot.looks += 1;
+    slot.stage = Stage::Checking(awaiting);
     table.out -= 1;
 }

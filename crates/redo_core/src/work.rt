@@ -4,9 +4,8 @@ ghost use Rattle.std.specs.Arc.{arc_value};
 ghost use Rattle.redo_build.specs.Lacking.{lacking_under};
 ghost use Rattle.redo_core.specs.Build.{rules_for};
 ghost use Rattle.redo_core.specs.Views.{told_by};
-ghost use Rattle.redo_core.specs.inside.Works.{IsWorkWith, HoldsOutcomes, job_deps, known_in, told_in};
-ghost use Rattle.redo_which.specs.Rule.{Rule as IsRule, found_of};
-ghost use Rattle.redo_which.specs.Views.{arguments_view};
+ghost use Rattle.redo_core.specs.inside.Works.{IsUnreadWork, IsWorkWith, HoldsOutcomes, all_asked, found_as, known_in};
+ghost use Rattle.redo_core.specs.inside.Works.{told_in};
 ghost use Rattle.redo_core.specs.inside.Ends.{IsEndAt};
 
 use crate::fact::Fact;
@@ -14,6 +13,7 @@ use crate::facts::Facts;
 use crate::given::Given;
 use crate::reading::begun;
 use redo_path::Path;
+use redo_record::Deps;
 use redo_step::{Job, Step};
 use redo_sync::Numbered;
 use redo_which::Rule;
@@ -39,11 +39,12 @@ pub(crate) enum Script {
     Begun(Box<Begun>),
 }
 
-/// A target whose script wasn't read yet, with the rule that names it.
+/// A target whose script wasn't read yet, with the rule that names it and the facts of what its check asked for.
 #[derive(Drop)]
 pub(crate) struct Unread {
     target: Path,
     rule: Rule,
+    facts: Facts,
 }
 
 /// A script that was begun, with the facts of what it asked for.
@@ -82,10 +83,11 @@ pub struct Piece {
     pub(crate) end: End,
 }
 
-/// How a script came to stand: it ended, or it stopped with what is left of it.
+/// How a script came to stand: it ended, and its target's check had asked for something before it was begun, or it
+/// stopped with what is left of it.
 #[derive(Drop)]
 pub(crate) enum End {
-    Ended(Fact),
+    Ended(Fact, Deps),
     Stopped(Box<Begun>),
 }
 
@@ -108,19 +110,33 @@ impl Model for Piece {
 }
 
 impl Work {
-    /// A target whose script wasn't read yet, with the rule that the search finds for it.
+    /// A target whose script wasn't read yet, with the rule that the search finds for it and the facts of what its check
+    /// asked for.
     pub(crate) fn unread(
         alloc: Global,
         given: Arc<Given>,
         target: Path,
         rule: Rule,
+        facts: Facts,
     ) -> Result<Work, AllocError>
-        requires found { found_of (arc_value given).past.sources target ≡
-            IsRule rule.do_file rule.missing (arguments_view rule.args) }
+        requires { IsUnreadWork (arc_value given) target (found_as rule) facts }
         ensures { IfOk result (λ w. w ≡
-            record { given = arc_value given; target = target; turn = 0; deps = []; known = [] }) }
+            record {
+              given = arc_value given;
+              target = target;
+              turn = 0;
+              deps = facts.asked;
+              known = known_in facts;
+            }) }
     {
-        let unread = Box::new(alloc, Unread { target, rule })?;
+        let unread = Box::new(
+            alloc,
+            Unread {
+                target,
+                rule,
+                facts,
+            },
+        )?;
         Ok(Work {
             given,
             number: 0,
@@ -136,7 +152,7 @@ impl Work {
               given = arc_value given;
               target = begun.value.job.target;
               turn = begun.value.job.turn;
-              deps = job_deps begun.value.job;
+              deps = all_asked begun.value.job begun.value.facts;
               known = known_in begun.value.facts;
             } }
     {
@@ -202,9 +218,13 @@ impl Work {
         match script {
             Script::Unread(unread) => {
                 let alloc = *Box::allocator(&unread);
-                let Unread { target, rule } = Box::into_inner(unread);
+                let Unread {
+                    target,
+                    rule,
+                    facts,
+                } = Box::into_inner(unread);
                 let job = begun(alloc, &given, target, rule)?;
-                advance_job(given, number, job, Facts::new(alloc))
+                advance_job(given, number, job, facts)
             }
             Script::Begun(begun) => {
                 let Begun { job, facts } = Box::into_inner(begun);
@@ -249,7 +269,7 @@ fn advance_job(given: Arc<Given>, number: u32, job: Job, facts: Facts) -> Result
             // Here it is done side by side with other scripts.
             outcome.keep_digest();
             let fact = Fact::of(own, path, outcome, deps, true);
-            End::Ended(fact)
+            End::Ended(fact, facts.into_asked())
         }
         Step::Asks { job, paths: _paths } => End::Stopped(Box::new(alloc, Begun { job, facts })?),
     };
@@ -300,6 +320,6 @@ impl Piece {
     pub fn ended(&self) -> bool
         ensures { result ≡ is_some self.now.progress.outcome }
     {
-        matches!(self.end, End::Ended(_))
+        matches!(self.end, End::Ended(_, _))
     }
 }

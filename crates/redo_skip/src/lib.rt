@@ -6,9 +6,8 @@
 //! says. The laws say more. Where the book's records are true, no digest confuses two files and no needed target is
 //! cyclic, a build with it comes to the same targets, outcomes and records as one without it, and begins no other
 //! scripts. The records of the book that a run leaves are true where those of the last one were. Nothing here is
-//! run, and the program doesn't skip yet: it builds each needed target. The crate stands on redo_build for builds,
-//! on redo_book and redo_digest for books and the states in them, on redo_record for entries and outcomes, and on
-//! redo_path for paths.
+//! run: redo_core keeps and begins targets by these rules. The crate stands on redo_build for builds, on redo_book and
+//! redo_digest for books and the states in them, on redo_record for entries and outcomes, and on redo_path for paths.
 //!
 //! - `laws`: what holds of every build with a book, as contracts of functions that do nothing.
 #![tactic(auto)]

@@ -1,6 +1,7 @@
 -- How far a piece says that its job came.
 use Rattle.std.specs.Prelude.{◌≡◌, ℕ, List, Some, None}
 use Rattle.redo_step.specs.JobView.{record_so_far}
+use Rattle.redo_record.specs.Entries.{with_all}
 use Rattle.redo_record.specs.Progress.{Progress}
 use Rattle.redo_core.specs.Build.{GivenView, rules_for}
 use Rattle.redo_build.specs.inside.Turns.{IsPiece}
@@ -9,12 +10,13 @@ use Rattle.redo_core.specs.declared.work.End.{End}
 use Rattle.redo_core.specs.declared.work.End.TheVariants.{Ended, Stopped}
 
 abbrev pub end_progress : End → Progress
-end_progress (Ended fact) = record { outcome = Some fact.outcome; deps = fact.deps }
-end_progress (Stopped begun) = record { outcome = None; deps = record_so_far begun.value.job }
+end_progress (Ended fact asked) = record { outcome = Some fact.outcome; deps = with_all asked fact.deps }
+end_progress (Stopped begun) =
+    record { outcome = None; deps = with_all begun.value.facts.asked (record_so_far begun.value.job) }
 
 -- what an end holds is of its target
 abbrev pub IsEndOf : GivenView → ℕ → ℕ → List ℕ → ℕ → End → Type 0
-IsEndOf given depth looks target turn (Ended fact) =
+IsEndOf given depth looks target turn (Ended fact asked) =
     (fact.given ≡ given) × (fact.target ≡ target)
 IsEndOf given depth looks target turn (Stopped begun) =
     IsStopped given depth looks target turn begun.value.job begun.value.facts

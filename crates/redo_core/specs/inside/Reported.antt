@@ -1,15 +1,12 @@
 -- How a table whose targets wait or are decided makes a report.
-use Rattle.std.specs.Prelude.{◌≡◌, ◌⊎◌, Bool, true, false, ℕ, List, [], ◌∷◌, ◌++◌, Option, Some, None, MatchOption}
+use Rattle.std.specs.Prelude.{◌≡◌, ◌⊎◌, Bool, true, false, ℕ, List, [], ◌∷◌, ◌++◌, ◌<◌, length, Option, Some, None, MatchOption}
 use Rattle.std.specs.Prelude.{filter, flat_map, fold, is_some, map, slice_get, if◌then◌else◌}
 use Rattle.std.specs.Arc.{arc_value}
 use Rattle.std.specs.Borrow.{Bor}
 use Rattle.std.specs.BTreeSet.{insert_key}
 use Rattle.std.specs.Cmp.Lexicographic.{slice_cmp}
-use Rattle.std.specs.List.{AllByRecursion}
 use Rattle.std.specs.Ordering.{nat_cmp}
 use Rattle.redo_tree.specs.Tree.{Tree, file_at}
-use Rattle.redo_which.specs.Rule.{found_of}
-use Rattle.redo_step.specs.Setting.{is_rule}
 use Rattle.redo_step.specs.JobView.{record_so_far}
 use Rattle.redo_record.specs.declared.deps.Dep.{Dep}
 use Rattle.redo_record.specs.declared.outcome.Outcome.{Outcome}
@@ -17,9 +14,12 @@ use Rattle.redo_record.specs.declared.outcome.Outcome.TheVariants.{Source, Built
 use Rattle.redo_record.specs.Paths.{IsAmong}
 use Rattle.redo_report.specs.declared.report.Report.{Report}
 use Rattle.redo_report.specs.declared.report.Row.{Row}
+use Rattle.redo_core.specs.Build.{GivenView}
+use Rattle.redo_core.specs.inside.Checking.{seen_entries}
+use Rattle.redo_core.specs.inside.Decided.{IsDecided}
 use Rattle.redo_core.specs.declared.table.Slot.{Slot}
 use Rattle.redo_core.specs.declared.table.Stage.{Stage}
-use Rattle.redo_core.specs.declared.table.Stage.TheVariants.{Waiting, Ready, Out, Decided}
+use Rattle.redo_core.specs.declared.table.Stage.TheVariants.{Due, Checking, Waiting, Ready, Out, Decided}
 use Rattle.redo_core.specs.declared.table.Table.{Table}
 
 -- more paths at their places in path order, each once
@@ -41,14 +41,20 @@ listed_paths es = map (λ e. e.0.now) es
 abbrev pub IsNumberOf : List (List ℕ) → List ℕ → Option ℕ → Type 0
 IsNumberOf targets p at = MatchOption at (IsAmong targets p → ⊥) (λ k. slice_get targets k ≡ Some p)
 
--- what a target comes to where nothing more can happen: what waits is cyclic
-abbrev pub IsShown : Stage → Outcome → List Dep → Type 0
-IsShown (Waiting parked) outcome deps = (outcome ≡ Cyclic) × (deps ≡ record_so_far parked.begun.value.job)
-IsShown (Ready work) outcome deps = ⊥
-IsShown Out outcome deps = ⊥
-IsShown (Decided fact) outcome deps = (outcome ≡ fact.value.outcome) × (deps ≡ fact.value.deps)
+-- what a target comes to where nothing more can happen: what waits is cyclic, and one that waits in its check shows the
+-- entries that it has seen
+abbrev pub IsShown : GivenView → Stage → Outcome → List Dep → Type 0
+IsShown given (Due held) outcome deps = ⊥
+IsShown given (Checking awaiting) outcome deps =
+    (outcome ≡ Cyclic) × (deps ≡ seen_entries given awaiting.held.value.check)
+IsShown given (Waiting parked) outcome deps = (outcome ≡ Cyclic) × (deps ≡ record_so_far parked.begun.value.job)
+IsShown given (Ready work) outcome deps = ⊥
+IsShown given Out outcome deps = ⊥
+IsShown given (Decided fact) outcome deps = (outcome ≡ fact.value.outcome) × (deps ≡ fact.value.deps)
 
 abbrev pub is_settled : Stage → Bool
+is_settled (Due held) = false
+is_settled (Checking awaiting) = true
 is_settled (Waiting parked) = true
 is_settled (Ready work) = false
 is_settled Out = false
@@ -58,43 +64,48 @@ is_settled (Decided fact) = true
 abbrev pub AllSettled : Table → Type 0
 AllSettled t = (k : ℕ) (slot : Slot) → slice_get t.slots.items k ≡ Some slot → is_settled slot.stage ≡ true
 
--- a target that waits has a rule, and a fact tells of the target in the tree
-abbrev pub IsTold : Tree → List ℕ → Stage → Type 0
-IsTold tree p (Waiting parked) = is_rule (found_of tree p) ≡ true
-IsTold tree p (Ready work) = Unit {0}
-IsTold tree p Out = Unit {0}
-IsTold tree p (Decided fact) = (fact.value.given.past.sources ≡ tree) × (fact.value.target ≡ p)
+-- a check that waits is of a record in the book
+abbrev pub IsTold : GivenView → Stage → Type 0
+IsTold given (Due held) = Unit {0}
+IsTold given (Checking awaiting) = awaiting.held.value.check.number < length given.past.book
+IsTold given (Waiting parked) = Unit {0}
+IsTold given (Ready work) = Unit {0}
+IsTold given Out = Unit {0}
+IsTold given (Decided fact) = Unit {0}
 
-abbrev pub AllTold : Tree → Table → Type 0
-AllTold tree t =
-    (k : ℕ) (slot : Slot) (p : List ℕ) → slice_get t.slots.items k ≡ Some slot → slice_get t.targets k ≡ Some p →
-    IsTold tree p slot.stage
+abbrev pub AllTold : GivenView → Table → Type 0
+AllTold given t = (k : ℕ) (slot : Slot) → slice_get t.slots.items k ≡ Some slot → IsTold given slot.stage
 
--- whether the script of a target was begun: it was, where the target waits; and a fact tells, and says that it was
--- where there is a rule
+-- whether the script of a target was begun: it was, where the target waits for what its script asked for, and wasn't,
+-- where its check waits; and a fact tells
 abbrev pub IsBegunAs : Stage → Bool → Type 0
+IsBegunAs (Due held) begun = ⊥
+IsBegunAs (Checking awaiting) begun = begun ≡ false
 IsBegunAs (Waiting parked) begun = begun ≡ true
 IsBegunAs (Ready work) begun = ⊥
 IsBegunAs Out begun = ⊥
 IsBegunAs (Decided fact) begun =
-    (begun ≡ fact.value.begun) × (begun ≡ is_rule (found_of fact.value.given.past.sources fact.value.target))
+    (begun ≡ fact.value.begun) ×
+    IsDecided fact.value.given fact.value.target fact.value.outcome fact.value.deps fact.value.begun
 
 -- the row is that of a target of the table
-pub record IsTargetRow (t : Table) (row : Row) : Type 0 where
+pub record IsTargetRow (given : GivenView) (t : Table) (row : Row) (is_begun : Bool) : Type 0 where
   pub at : ℕ
   pub slot : Slot
   pub path : slice_get t.targets at ≡ Some row.path
   pub there : slice_get t.slots.items at ≡ Some slot
-  pub shown : IsShown slot.stage row.outcome (arc_value row.deps)
+  pub shown : IsShown given slot.stage row.outcome (arc_value row.deps)
+  pub begun : IsBegunAs slot.stage is_begun
 
 -- the row is that of a path that the table lacks
-pub record IsSourceRow (t : Table) (row : Row) : Type 0 where
+pub record IsSourceRow (t : Table) (row : Row) (is_begun : Bool) : Type 0 where
   pub absent : IsAmong t.targets row.path → ⊥
   pub outcome : row.outcome ≡ Source
   pub deps : arc_value row.deps ≡ []
+  pub begun : is_begun ≡ false
 
-abbrev pub IsRowOf : Table → Row → Type 0
-IsRowOf t row = IsTargetRow t row ⊎ IsSourceRow t row
+abbrev pub IsRowOf : GivenView → Table → Row → Bool → Type 0
+IsRowOf given t row is_begun = IsTargetRow given t row is_begun ⊎ IsSourceRow t row is_begun
 
 -- the file that a row's target was built with
 abbrev pub file_of : List ℕ → Outcome → List (List ℕ × List ℕ)
@@ -107,8 +118,18 @@ file_of path Cyclic = []
 abbrev pub row_files : List Row → List (List ℕ × List ℕ)
 row_files rows = flat_map (λ row. file_of row.path row.outcome) rows
 
-abbrev pub row_begun : Tree → List Row → List (List ℕ)
-row_begun tree rows = filter (λ p. is_rule (found_of tree p)) (map (λ row. row.path) rows)
+-- the paths of the rows whose scripts were begun, as the bits beside them say
+abbrev pub row_begun : List Row → List Bool → List (List ℕ)
+row_begun [] bits = []
+row_begun (row ∷ rows) [] = []
+row_begun (row ∷ rows) (bit ∷ bits) = (if bit then row.path ∷ [] else []) ++ row_begun rows bits
+
+-- rows, each with whether its target's script was begun
+abbrev pub AreRowsOf : GivenView → Table → List Row → List Bool → Type 0
+AreRowsOf given t [] [] = Unit {0}
+AreRowsOf given t [] (bit ∷ bits) = ⊥
+AreRowsOf given t (row ∷ rows) [] = ⊥
+AreRowsOf given t (row ∷ rows) (bit ∷ bits) = IsRowOf given t row bit × AreRowsOf given t rows bits
 
 -- a row was added, with its file if it was built with one, and its path if its script was begun
 pub record AddsRow (row : Row) (is_begun : Bool) (old new : Report) : Type 0 where
@@ -117,8 +138,9 @@ pub record AddsRow (row : Row) (is_begun : Bool) (old new : Report) : Type 0 whe
   pub begun : new.begun.items ≡ old.begun.items ++ (if is_begun then row.path ∷ [] else [])
 
 -- the report is made of the rows of the table's targets and of the requested sources
-pub record IsReportOf (tree : Tree) (request : List (List ℕ)) (t : Table) (report : Report) : Type 0 where
-  pub paths : map (λ row. row.path) report.rows.items ≡ reported_paths tree request t
-  pub rows : AllByRecursion (IsRowOf t) report.rows.items
+pub record IsReportOf (given : GivenView) (t : Table) (report : Report) : Type 0 where
+  pub paths : map (λ row. row.path) report.rows.items ≡ reported_paths given.past.sources given.request t
+  pub bits : List Bool
+  pub rows : AreRowsOf given t report.rows.items bits
   pub files : report.files.items ≡ row_files report.rows.items
-  pub begun : report.begun.items ≡ row_begun tree report.rows.items
+  pub begun : report.begun.items ≡ row_begun report.rows.items bits

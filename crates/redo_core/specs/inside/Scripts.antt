@@ -1,11 +1,10 @@
 -- The script of a work, read or not.
 use Rattle.std.specs.Prelude.{◌≡◌, ℕ, List, []}
 use Rattle.redo_record.specs.declared.outcome.Outcome.{Outcome}
-use Rattle.redo_which.specs.Rule.{Rule, found_of}
-use Rattle.redo_which.specs.Views.{arguments_view}
+use Rattle.redo_which.specs.Rule.{Outcome as Found}
 use Rattle.redo_step.specs.JobView.{JobView}
 use Rattle.redo_record.specs.declared.deps.Dep.{Dep}
-use Rattle.redo_core.specs.inside.Works.{IsWorkWith, job_deps, known_in}
+use Rattle.redo_core.specs.inside.Works.{IsUnreadWork, IsWorkWith, all_asked, found_as, job_deps, known_in}
 use Rattle.redo_core.specs.declared.facts.Facts.{Facts}
 use Rattle.redo_core.specs.declared.work.Script.{Script}
 use Rattle.redo_core.specs.declared.work.Script.TheVariants.{Unread, Begun}
@@ -19,26 +18,24 @@ abbrev pub script_turn : Script → ℕ
 script_turn (Unread unread) = 0
 script_turn (Begun begun) = begun.value.job.turn
 
--- nothing is asked for before the script first stopped
+-- what was asked for: before the script first stopped, by the check alone
 abbrev pub script_deps : Script → List Dep
-script_deps (Unread unread) = []
-script_deps (Begun begun) = job_deps begun.value.job
+script_deps (Unread unread) = unread.value.facts.asked
+script_deps (Begun begun) = all_asked begun.value.job begun.value.facts
 
--- an unread script knows nothing
 abbrev pub script_known : Script → List (List ℕ × Outcome)
-script_known (Unread unread) = []
+script_known (Unread unread) = known_in unread.value.facts
 script_known (Begun begun) = known_in begun.value.facts
 
--- an unread script has the rule that the search finds; a job has the outcomes of all that it asked for
+-- an unread script has the rule that the search finds; it and a job have the outcomes of all that was asked for
 abbrev pub IsScriptOf : GivenView → Script → Type 0
 IsScriptOf given (Unread unread) =
-    found_of given.past.sources unread.value.target ≡
-    Rule unread.value.rule.do_file unread.value.rule.missing (arguments_view unread.value.rule.args)
+    IsUnreadWork given unread.value.target (found_as unread.value.rule) unread.value.facts
 IsScriptOf given (Begun begun) = IsWorkWith given begun.value.job begun.value.facts
 
--- the job of a target before its first statement: it is a work that knows nothing
+-- the job of a target before its first statement: it is a work with what its check came to know
 pub record IsBegunJob (given : GivenView) (target : List ℕ) (job : JobView) : Type 0 where
   pub of_target : job.target ≡ target
   pub at_first : job.turn ≡ 0
   pub none_recorded : job_deps job ≡ []
-  pub is_work : (facts : Facts) → known_in facts ≡ [] → facts.gained ≡ 0 → IsWorkWith given job facts
+  pub is_work : (found : Found) (facts : Facts) → IsUnreadWork given target found facts → IsWorkWith given job facts

@@ -7,15 +7,22 @@ use Rattle.std.specs.declared.alloc.Global.{Global}
 use Rattle.std.specs.declared.vec.Vec.{Vec}
 pub use Rattle.redo_core.specs.inside.Works.{IsOperand}
 use Rattle.redo_build.specs.Rules.{Ask, Rules, Extends, operands}
-use Rattle.redo_core.specs.inside.Works.{job_deps, told_in, AddsFact, IsJobOf, GoesOn, AreKnownBelow}
+use Rattle.redo_core.specs.inside.Works.{IsUnreadWork, all_asked, found_as, told_in, AddsFact, IsJobOf, GoesOn, AreKnownBelow}
 use Rattle.redo_core.specs.declared.facts.Facts.{Facts}
 use Rattle.redo_sync.specs.Shown.{Shown}
-use Rattle.redo_step.specs.JobView.{JobView}
+use Rattle.redo_step.specs.JobView.{JobView, record_so_far}
 use Rattle.redo_record.specs.Paths.{IsAmong, AreDistinct}
 use Rattle.redo_core.specs.declared.board.Stop.TheVariants.{TooMany}
 use Rattle.redo_build.specs.Outcomes.{outcome_at, IsTooMany}
-use Rattle.redo_build.specs.Schedule.{Entry, State, outcomes_of, entry_of, nothing_known, entered, handed_in, opening}
-use Rattle.redo_build.specs.Schedule.Phase.{Script}
+use Rattle.redo_build.specs.Schedule.{Entry, State, outcomes_of, entry_of, nothing_known, entered, handed_in, only, opening, put}
+use Rattle.redo_build.specs.Looking.{looked, looked_once}
+use Rattle.redo_which.specs.Rule.{found_of}
+use Rattle.std.specs.BTreeSet.{insert_key}
+use Rattle.redo_core.specs.inside.Checking.{IsBegunBehind, IsDueCheck, IsWaitingCheck}
+use Rattle.redo_core.specs.declared.check.Check.{Check}
+use Rattle.redo_core.specs.declared.table.Awaiting.{Awaiting}
+use Rattle.redo_core.specs.declared.table.InCheck.{InCheck}
+use Rattle.redo_build.specs.Schedule.{Phase}
 use Rattle.redo_core.specs.inside.Ends.{IsEndAt}
 use Rattle.redo_core.specs.declared.work.End.{End}
 use Rattle.redo_core.specs.declared.table.Table.{Table}
@@ -24,41 +31,52 @@ use Rattle.redo_core.specs.declared.work.Work.{Work}
 use Rattle.redo_core.specs.declared.work.Begun.{Begun}
 use Rattle.redo_build.specs.inside.Standing.{AreStanding}
 use Rattle.redo_build.specs.inside.Turns.{deps_at_turn, IsWork}
-use Rattle.redo_core.specs.Build.{GivenView, rules_for}
+use Rattle.redo_core.specs.Build.{GivenView, rules_for, sources_for}
 use Rattle.redo_core.specs.Views.{IsReached, WorkView, FactView}
 use Rattle.redo_core.specs.declared.table.Slot.{Slot}
 use Rattle.redo_core.specs.declared.table.Stage.{Stage}
-use Rattle.redo_core.specs.declared.table.Stage.TheVariants.{Waiting, Ready, Out, Decided}
+use Rattle.redo_core.specs.declared.table.Stage.TheVariants.{Due, Checking, Waiting, Ready, Out, Decided}
 use Rattle.redo_core.specs.declared.board.Board.TheInside.{Inside}
 use Rattle.redo_record.specs.declared.deps.Dep.{Dep}
 use Rattle.redo_record.specs.declared.outcome.Outcome.{Outcome}
 
 abbrev pub stage_outcome : Stage → Option Outcome
+stage_outcome (Due held) = None
+stage_outcome (Checking awaiting) = None
 stage_outcome (Waiting work) = None
 stage_outcome (Ready work) = None
 stage_outcome Out = None
 stage_outcome (Decided fact) = Some fact.value.outcome
 
 abbrev pub is_stage_out : Stage → Bool
+is_stage_out (Due held) = false
+is_stage_out (Checking awaiting) = false
 is_stage_out (Waiting work) = false
 is_stage_out (Ready work) = false
 is_stage_out Out = true
 is_stage_out (Decided fact) = false
 
--- what a target asked for so far: a job that is out keeps its own, which is that of its turn
+-- how often a target stopped, in its check and in its script
+abbrev pub rounds_of : Slot → ℕ
+rounds_of slot = slot.looks + slot.turn
+
+-- what a target that stopped so many times asked for so far: of a job that is out, and of what is decided, the rules
+-- tell
 abbrev pub stage_deps : Rules → Ask → List ℕ → ℕ → Stage → List Dep
-stage_deps r a p turn (Waiting parked) = job_deps parked.begun.value.job
-stage_deps r a p turn (Ready work) = work.deps
-stage_deps r a p turn Out = deps_at_turn r p a turn
-stage_deps r a p turn (Decided fact) = fact.value.deps
+stage_deps r a p rounds (Due held) = held.value.check.asked
+stage_deps r a p rounds (Checking awaiting) = awaiting.held.value.check.asked
+stage_deps r a p rounds (Waiting parked) = all_asked parked.begun.value.job parked.begun.value.facts
+stage_deps r a p rounds (Ready work) = work.deps
+stage_deps r a p rounds Out = deps_at_turn r p a rounds
+stage_deps r a p rounds (Decided fact) = (r.progress p a).deps
 
 -- the entry that the slot of a path stands for, under the outcomes known
 abbrev pub slot_entry : Rules → Ask → List ℕ → Slot → Entry
 slot_entry r a p slot = record {
   path = p;
-  looks = 0;
+  looks = slot.looks;
   turn = slot.turn;
-  deps = stage_deps r a p slot.turn slot.stage;
+  deps = stage_deps r a p (rounds_of slot) slot.stage;
   outcome = stage_outcome slot.stage;
   is_out = is_stage_out slot.stage;
 }
@@ -84,6 +102,9 @@ state_from r depth ps slots ready = record {
   entries = entries_from r depth ps slots;
   ready = map (path_at ps) ready;
 }
+
+abbrev pub table_state : Rules → ℕ → Table → State
+table_state r depth t = state_from r depth t.targets t.slots.items t.ready.items
 
 abbrev pub rules_inside : Inside → Rules
 rules_inside b = rules_for b.build
@@ -126,21 +147,56 @@ pub record IsWaitingWith (r : Rules) (a : Ask) (given : GivenView) (p : List ℕ
   pub stopped : 0 < turn
   pub answered : AnsweredBelow a (waited_by r parked.begun.value) parked.held
   pub told : (q : List ℕ) (o : Outcome) → told_in parked.begun.value.facts q ≡ Some o →
-      IsAmong (operands r (job_deps parked.begun.value.job)) q × (a q ≡ Some o)
+      IsAmong (operands r (all_asked parked.begun.value.job parked.begun.value.facts)) q × (a q ≡ Some o)
+  pub behind : IsBegunBehind given p parked.begun.value.facts.asked (told_in parked.begun.value.facts)
+  pub checked : AllAnswered r (told_in parked.begun.value.facts) parked.begun.value.facts.asked
   pub goes_on : GoesOn parked.begun.value.job (told_in parked.begun.value.facts)
   pub gained_within : parked.begun.value.facts.gained ≤ length parked.begun.value.job.state.entries
   pub gained : AreKnownBelow r parked.begun.value.job (told_in parked.begun.value.facts) parked.begun.value.facts.gained
+  pub own : (sources_for given).progress p (told_in parked.begun.value.facts) ≡
+      record { outcome = None; deps = record_so_far parked.begun.value.job }
+
+-- a target in check before its script is begun, with its rule
+pub record IsHeldWith (given : GivenView) (p : List ℕ) (turn : ℕ) (held : InCheck) : Type 0 where
+  pub found : found_of given.past.sources p ≡ found_as held.rule
+  pub at_first : turn ≡ 0
+  pub none_gained : held.facts.gained ≡ 0
+  pub none_behind : held.facts.asked ≡ []
+
+-- a target whose check can go on, with the outcomes of all that it asked for, and no others
+pub record IsDueWith (r : Rules) (a : Ask) (given : GivenView) (p : List ℕ) (turn : ℕ) (held : InCheck) : Type 0 where
+  pub is_held : IsHeldWith given p turn held
+  pub is_due : IsDueCheck given p a held.check
+  pub answered : AllAnswered r a held.check.asked
+  pub exact : (q : List ℕ) → told_in held.facts q ≡ only (operands r held.check.asked) a q
+
+-- a target whose check waits for a path, with the outcomes of all that it had asked for before, and no others
+pub record IsCheckingWith (r : Rules) (a : Ask) (given : GivenView) (p : List ℕ) (turn : ℕ) (awaiting : Awaiting)
+    : Type 0 where
+  pub is_held : IsHeldWith given p turn awaiting.held.value
+  pub waits : IsWaitingCheck given p a awaiting.path awaiting.held.value.check
+  pub answered : (q : List ℕ) → IsAmong (operands r awaiting.held.value.check.asked) q →
+      (awaiting.path ≡ q → ⊥) → a q ≡ None → ⊥
+  pub exact : (q : List ℕ) → (awaiting.path ≡ q → ⊥) →
+      told_in awaiting.held.value.facts q ≡ only (operands r awaiting.held.value.check.asked) a q
+  pub lacks : told_in awaiting.held.value.facts awaiting.path ≡ None
 
 -- what a slot holds is of its path and turn
 abbrev pub Fits : Rules → Ask → GivenView → List ℕ → ℕ → Stage → Type 0
+Fits r a given p turn (Due held) = IsDueWith r a given p turn held.value
+Fits r a given p turn (Checking awaiting) = IsCheckingWith r a given p turn awaiting
 Fits r a given p turn (Waiting parked) = IsWaitingWith r a given p turn parked
-Fits r a given p turn (Ready work) = IsParked given p turn work × AllAnswered r a work.deps
+Fits r a given p turn (Ready work) =
+    IsParked given p turn work × AllAnswered r a work.deps ×
+    (r.begins p (only (operands r work.deps) a) ≡ true)
 Fits r a given p turn Out = Unit {0}
 Fits r a given p turn (Decided fact) =
     (fact.value.given ≡ given) × (fact.value.target ≡ p)
 
--- a job that waits has the numbers of what it waits for
+-- a check or a job that waits has the numbers of what it waits for
 abbrev pub IsNumbered : Rules → List (List ℕ) → Stage → Type 0
+IsNumbered r ps (Due held) = Unit {0}
+IsNumbered r ps (Checking awaiting) = slice_get ps awaiting.at ≡ Some awaiting.path
 IsNumbered r ps (Waiting parked) = AreNumbers ps parked.operands.items (waited_by r parked.begun.value)
 IsNumbered r ps (Ready work) = Unit {0}
 IsNumbered r ps Out = Unit {0}
@@ -150,16 +206,28 @@ abbrev pub AllNumbered : Rules → List (List ℕ) → List Slot → Type 0
 AllNumbered r ps slots = (k : ℕ) (slot : Slot) → slice_get slots k ≡ Some slot → IsNumbered r ps slot.stage
 
 abbrev pub is_stage_ready : Stage → Bool
+is_stage_ready (Due held) = false
+is_stage_ready (Checking awaiting) = false
 is_stage_ready (Waiting parked) = false
 is_stage_ready (Ready work) = true
 is_stage_ready Out = false
 is_stage_ready (Decided fact) = false
 
 abbrev pub is_stage_waiting : Stage → Bool
+is_stage_waiting (Due held) = false
+is_stage_waiting (Checking awaiting) = true
 is_stage_waiting (Waiting parked) = true
 is_stage_waiting (Ready work) = false
 is_stage_waiting Out = false
 is_stage_waiting (Decided fact) = false
+
+abbrev pub is_stage_due : Stage → Bool
+is_stage_due (Due held) = true
+is_stage_due (Checking awaiting) = false
+is_stage_due (Waiting parked) = false
+is_stage_due (Ready work) = false
+is_stage_due Out = false
+is_stage_due (Decided fact) = false
 
 abbrev pub IsPlace : List ℕ → ℕ → Type 0
 IsPlace [] k = ⊥
@@ -189,11 +257,18 @@ pub record IsQueue (slots : List Slot) (ready newly_ready : List ℕ) : Type 0 w
   pub apart : (k : ℕ) → IsPlace ready k → IsPlace newly_ready k → ⊥
   pub once : ArePlacesOnce newly_ready
 
+-- the numbers of those whose check can go on
+pub record AreDue (slots : List Slot) (due : List ℕ) : Type 0 where
+  pub below : (k : ℕ) → IsPlace due k → k < length slots
+  pub due_is : (k : ℕ) (slot : Slot) → IsPlace due k → slice_get slots k ≡ Some slot → is_stage_due slot.stage ≡ true
+  pub due_in : (k : ℕ) (slot : Slot) → slice_get slots k ≡ Some slot → is_stage_due slot.stage ≡ true → IsPlace due k
+
 -- what waits is watched, but for those numbers that are still to be looked at
 abbrev pub AllWatched : Rules → ℕ → List (List ℕ) → List Slot → List ℕ → Type 0
 AllWatched r depth ps slots pending =
     (k : ℕ) (slot : Slot) → slice_get slots k ≡ Some slot → is_stage_waiting slot.stage ≡ true →
-    IsPlace pending k ⊎ IsWatched r ps slots k (stage_deps r (outcome_at r depth) (path_at ps k) slot.turn slot.stage)
+    IsPlace pending k ⊎ IsWatched r ps slots k
+    (stage_deps r (outcome_at r depth) (path_at ps k) (rounds_of slot) slot.stage)
 
 abbrev pub AllFit : Rules → ℕ → GivenView → List (List ℕ) → List Slot → Type 0
 AllFit r depth given ps slots = (k : ℕ) (slot : Slot) → slice_get slots k ≡ Some slot →
@@ -204,7 +279,7 @@ AllWatchersBelow slots =
     (i k : ℕ) (slot : Slot) → slice_get slots i ≡ Some slot → IsPlace slot.watchers.items k → k < length slots
 
 -- how a table stands, with the newly ready numbers
-pub record IsTable (r : Rules) (given : GivenView) (ps : List (List ℕ)) (slots : List Slot) (ready : List ℕ)
+pub record IsTable (r : Rules) (given : GivenView) (ps : List (List ℕ)) (slots : List Slot) (ready due : List ℕ)
     (out : ℕ) (newly_ready : List ℕ) : Type 0 where
   pub one_each : length slots ≡ length ps
   pub within_limit : length slots ≤ given.limits.targets
@@ -213,17 +288,25 @@ pub record IsTable (r : Rules) (given : GivenView) (ps : List (List ℕ)) (slots
   pub fits : AllFit r given.limits.targets given ps slots
   pub numbered : AllNumbered r ps slots
   pub queue : IsQueue slots ready newly_ready
+  pub due_listed : AreDue slots due
   pub watchers_below : AllWatchersBelow slots
 
 abbrev pub IsTableOf : GivenView → Table → List ℕ → Type 0
 IsTableOf given t newly_ready =
-    IsTable (rules_for given) given t.targets t.slots.items t.ready.items t.out newly_ready
+    IsTable (rules_for given) given t.targets t.slots.items t.ready.items t.due.keys t.out newly_ready
+
+-- the table of a state that is reached, with nothing left to do but to look at what is due
+pub record IsAtRest (given : GivenView) (t : Table) : Type 0 where
+  pub reached : IsReached (rules_for given) given.request (table_state (rules_for given) given.limits.targets t)
+  pub table : IsTableOf given t []
+  pub watched : AllWatched (rules_for given) given.limits.targets t.targets t.slots.items []
 
 -- what a board keeps: a state that is reached, and a table with nothing left to do
 pub record IsKept (b : Inside) : Type 0 where
   pub reached : IsReached (rules_inside b) b.build.request (state_of b)
   pub table : IsTableOf b.build b.table []
   pub watched : AllWatched (rules_inside b) b.build.limits.targets b.table.targets b.table.slots.items []
+  pub none_due : b.table.due.keys ≡ []
 
 -- a board keeps what it shows while it runs, and has stopped at the limit only where the build needs too many
 pub record IsBoard (b : Inside) : Type 0 where
@@ -231,6 +314,8 @@ pub record IsBoard (b : Inside) : Type 0 where
   pub too_many : b.stopped ≡ Some TooMany → IsTooMany (rules_inside b) b.build.request b.build.limits.targets
 
 abbrev pub is_stage_decided : Stage → Bool
+is_stage_decided (Due held) = false
+is_stage_decided (Checking awaiting) = false
 is_stage_decided (Waiting parked) = false
 is_stage_decided (Ready work) = false
 is_stage_decided Out = false
@@ -287,6 +372,7 @@ GainsOne t n old new = (fact : Shown FactView) × IsFactAt t n fact × AddsFact 
 
 -- the facts hold those of the numbers before a place, and hold nothing else that is new
 pub record GainsBelow (t : Table) (ns : List ℕ) (old new : Facts) (i : ℕ) : Type 0 where
+  pub asked : new.asked ≡ old.asked
   pub kept : (q : List ℕ) → told_in new q ≡ None → told_in old q ≡ None
   pub origin : (q : List ℕ) (o : Outcome) → told_in new q ≡ Some o → (told_in old q ≡ Some o) ⊎ IsToldBy t ns q o
   pub known : (k n : ℕ) (fact : Shown FactView) → k < i → slice_get ns k ≡ Some n → IsFactAt t n fact →
@@ -311,21 +397,23 @@ pub record IsHeldAt (t u : Table) (at held : ℕ) : Type 0 where
   pub there : slice_get t.slots.items at ≡ Some old
   pub was : old.stage ≡ Waiting parked
   pub is : new.stage ≡ Waiting (record parked { held = held })
+  pub looks : new.looks ≡ old.looks
   pub turn : new.turn ≡ old.turn
   pub watchers : new.watchers ≡ old.watchers
   pub slots : u.slots.items ≡ slice_set t.slots.items at new
-  pub rest : (u.targets ≡ t.targets) × (u.ready ≡ t.ready) × (u.out ≡ t.out)
+  pub rest : (u.targets ≡ t.targets) × (u.ready ≡ t.ready) × (u.out ≡ t.out) × (u.due ≡ t.due)
 
 -- one slot has another watcher
 pub record IsWatchAdded (t u : Table) (at place : ℕ) : Type 0 where
   pub other : Slot
   pub new : Slot
   pub there : slice_get t.slots.items place ≡ Some other
+  pub looks : new.looks ≡ other.looks
   pub turn : new.turn ≡ other.turn
   pub stage : new.stage ≡ other.stage
   pub listed : new.watchers.items ≡ other.watchers.items ++ at ∷ []
   pub slots : u.slots.items ≡ slice_set t.slots.items place new
-  pub rest : (u.targets ≡ t.targets) × (u.ready ≡ t.ready) × (u.out ≡ t.out)
+  pub rest : (u.targets ≡ t.targets) × (u.ready ≡ t.ready) × (u.out ≡ t.out) × (u.due ≡ t.due)
 
 -- one job is no longer parked, and ready
 pub record IsMadeReadyAt (given : GivenView) (t u : Table) (at : ℕ) : Type 0 where
@@ -336,12 +424,63 @@ pub record IsMadeReadyAt (given : GivenView) (t u : Table) (at : ℕ) : Type 0 w
   pub there : slice_get t.slots.items at ≡ Some old
   pub was : old.stage ≡ Waiting parked
   pub is : new.stage ≡ Ready work
+  pub looks : new.looks ≡ old.looks
   pub turn : new.turn ≡ old.turn
   pub watchers : new.watchers ≡ old.watchers
   pub same : (work.given ≡ given) × (work.target ≡ parked.begun.value.job.target) ×
-      (work.turn ≡ parked.begun.value.job.turn) × (work.deps ≡ job_deps parked.begun.value.job)
+      (work.turn ≡ parked.begun.value.job.turn) ×
+      (work.deps ≡ all_asked parked.begun.value.job parked.begun.value.facts)
+  pub slots : u.slots.items ≡ slice_set t.slots.items at new
+  pub rest : (u.targets ≡ t.targets) × (u.ready ≡ t.ready) × (u.out ≡ t.out) × (u.due ≡ t.due)
+
+-- the check of a slot has the answer that it waited for: it can go on, or its script is begun
+pub record IsResumedAt (given : GivenView) (t u : Table) (at : ℕ) (newly_ready newly_ready' : List ℕ) : Type 0 where
+  pub old : Slot
+  pub new : Slot
+  pub awaiting : Awaiting
+  pub there : slice_get t.slots.items at ≡ Some old
+  pub was : old.stage ≡ Checking awaiting
+  pub is_open : (is_stage_due new.stage ≡ true) ⊎ (is_stage_ready new.stage ≡ true)
+  pub fits : Fits (rules_for given) (outcomes_of (table_entries (rules_for given) given.limits.targets t)) given
+      (path_at t.targets at) new.turn new.stage
+  pub deps : stage_deps (rules_for given) (outcome_at (rules_for given) given.limits.targets) (path_at t.targets at)
+      (rounds_of new) new.stage ≡ awaiting.held.value.check.asked
+  pub looks : new.looks ≡ old.looks
+  pub turn : new.turn ≡ old.turn
+  pub watchers : new.watchers ≡ old.watchers
   pub slots : u.slots.items ≡ slice_set t.slots.items at new
   pub rest : (u.targets ≡ t.targets) × (u.ready ≡ t.ready) × (u.out ≡ t.out)
+  pub due_is : u.due.keys ≡ (if is_stage_due new.stage then insert_key nat_cmp t.due.keys at else t.due.keys)
+  pub newly_ready_is : newly_ready' ≡ newly_ready ++ (if is_stage_ready new.stage then at ∷ [] else [])
+
+-- a check stands or falls with the answer of a decided target
+pub record GoesOnWith (given : GivenView) (t : Table) (place : ℕ) (old new : Check) (stands : Bool) : Type 0 where
+  pub fact : Shown FactView
+  pub there : IsFactAt t place fact
+  pub asked : new.asked ≡ old.asked
+  pub goes : stands ≡ true → (p : List ℕ) (a : Ask) (q : List ℕ) → IsWaitingCheck given p a q old →
+      a q ≡ Some fact.value.outcome → IsDueCheck given p a new
+  pub falls : stands ≡ false → (p : List ℕ) (a : Ask) (q : List ℕ) → IsWaitingCheck given p a q old →
+      a q ≡ Some fact.value.outcome → IsBegunBehind given p old.asked a
+
+-- what a check that fell leaves to the script
+abbrev pub IsFallen : GivenView → List ℕ → InCheck → Type 0
+IsFallen given target held =
+    IsUnreadWork given target (found_as held.rule) (record held.facts { asked = held.check.asked })
+
+-- the check of this slot waits for a target that is decided
+pub record IsAnsweredAs (given : GivenView) (t : Table) (at : ℕ) (slot : Slot) (awaiting : Awaiting) : Type 0 where
+  pub there : slice_get t.slots.items at ≡ Some slot
+  pub was : slot.stage ≡ Checking awaiting
+  pub distinct : AreDistinct t.targets
+  pub path : slice_get t.targets at ≡ Some (path_at t.targets at)
+  pub number : slice_get t.targets awaiting.at ≡ Some awaiting.path
+  pub decided : IsDecidedNumber t awaiting.at
+  pub fits : AllFit (rules_for given) given.limits.targets given t.targets t.slots.items
+  pub standing : IsStandingTable given t
+
+abbrev pub IsAnswered : GivenView → Table → ℕ → Type 0
+IsAnswered given t at = (slot : Slot) × (awaiting : Awaiting) × IsAnsweredAs given t at slot awaiting
 
 -- the job parked in this slot has all that a work has, but for the outcomes that are known and that it doesn't hold yet
 pub record IsFedAs (given : GivenView) (t : Table) (at : ℕ) (slot : Slot) (parked : Parked) : Type 0 where
@@ -354,7 +493,7 @@ pub record IsFedAs (given : GivenView) (t : Table) (at : ℕ) (slot : Slot) (par
   pub numbered : AreNumbers t.targets parked.operands.items (waited_by (rules_for given) parked.begun.value)
   pub rest : AreDecidedFrom t parked.operands.items parked.held (length parked.operands.items)
   pub is_work : IsWork (rules_for given) parked.begun.value.job.target parked.begun.value.job.turn
-      (job_deps parked.begun.value.job)
+      (all_asked parked.begun.value.job parked.begun.value.facts)
   pub deep : Extends (rules_for given) (outcomes_of (table_entries (rules_for given) given.limits.targets t))
       (outcome_at (rules_for given) is_work.depth)
   pub few : parked.begun.value.job.turn < 65536
@@ -374,26 +513,33 @@ pub record IsLookedAt (given : GivenView) (t u : Table) (at : ℕ) : Type 0 wher
 
 -- what a path that is seen for the first time is at once
 abbrev pub IsBegun : GivenView → List ℕ → Stage → Type 0
+IsBegun given p (Due held) =
+    ((a : Ask) → IsDueWith (rules_for given) a given p 0 held.value) × (held.value.check.asked ≡ []) ×
+    ((rules_for given).has_rule p ≡ true)
+IsBegun given p (Checking awaiting) = ⊥
 IsBegun given p (Waiting parked) = ⊥
 IsBegun given p (Ready work) =
-    IsParked given p 0 work × (work.deps ≡ []) × ((rules_for given).has_rule p ≡ true)
+    IsParked given p 0 work × (work.deps ≡ []) × ((rules_for given).has_rule p ≡ true) ×
+    ((a : Ask) → (rules_for given).begins p a ≡ true)
 IsBegun given p Out = ⊥
 IsBegun given p (Decided fact) =
     (fact.value.given ≡ given) × (fact.value.target ≡ p) ×
     ((rules_for given).has_rule p ≡ false) ×
-    ((rules_for given).progress p nothing_known ≡
-    record { outcome = Some fact.value.outcome; deps = fact.value.deps })
+    (((rules_for given).progress p nothing_known).outcome ≡ Some fact.value.outcome)
 
 -- a new path has a slot behind the others
 pub record IsPushed (given : GivenView) (t u : Table) (newly_ready newly_ready' : List ℕ) (p : List ℕ) : Type 0 where
   pub new : Slot
   pub begun : IsBegun given p new.stage
+  pub looks : new.looks ≡ 0
   pub turn : new.turn ≡ 0
   pub watchers : new.watchers.items ≡ []
   pub keys : u.targets ≡ t.targets ++ p ∷ []
   pub slots : u.slots.items ≡ t.slots.items ++ new ∷ []
   pub newly_ready_is : newly_ready' ≡ newly_ready ++ (if is_stage_ready new.stage then length t.slots.items ∷ []
       else [])
+  pub due_is : u.due.keys ≡ (if is_stage_due new.stage then insert_key nat_cmp t.due.keys (length t.slots.items)
+      else t.due.keys)
   pub rest : (u.ready ≡ t.ready) × (u.out ≡ t.out)
 
 -- the table shows the entries with these paths entered
@@ -437,16 +583,20 @@ pub record AreEnqueued (t u : Table) (newly_ready : List ℕ) : Type 0 where
   pub ordered : IsSorted nat_cmp sorted
   pub shuffled : IsPermutation newly_ready sorted
   pub queue : u.ready.items ≡ t.ready.items ++ sorted
-  pub rest : (u.targets ≡ t.targets) × (u.slots ≡ t.slots) × (u.out ≡ t.out)
+  pub rest : (u.targets ≡ t.targets) × (u.slots ≡ t.slots) × (u.out ≡ t.out) × (u.due ≡ t.due)
 
 -- the stage holds this fact, or this job with these operands and none of them looked at
 abbrev pub IsDecidedStage : FactView → Stage → Type 0
+IsDecidedStage fact (Due held) = ⊥
+IsDecidedStage fact (Checking awaiting) = ⊥
 IsDecidedStage fact (Waiting parked) = ⊥
 IsDecidedStage fact (Ready work) = ⊥
 IsDecidedStage fact Out = ⊥
 IsDecidedStage fact (Decided held) = held.value ≡ fact
 
 abbrev pub IsParkedStage : Box Begun Global → Vec ℕ Global → Stage → Type 0
+IsParkedStage begun operands (Due held) = ⊥
+IsParkedStage begun operands (Checking awaiting) = ⊥
 IsParkedStage begun operands (Waiting parked) = parked ≡ record { begun = begun; operands = operands; held = 0 }
 IsParkedStage begun operands (Ready work) = ⊥
 IsParkedStage begun operands Out = ⊥
@@ -458,7 +608,7 @@ pub record IsPutBack (t u : Table) (at : ℕ) (old new : Slot) : Type 0 where
   pub was : old.stage ≡ Out
   pub slots : u.slots.items ≡ slice_set t.slots.items at new
   pub out : u.out + 1 ≡ t.out
-  pub rest : (u.targets ≡ t.targets) × (u.ready ≡ t.ready)
+  pub rest : (u.targets ≡ t.targets) × (u.ready ≡ t.ready) × (u.due ≡ t.due)
 
 -- a target is decided: its watchers are to be looked at
 pub record IsDecidedAt (t u : Table) (at : ℕ) (fact : FactView) (pending : List ℕ) : Type 0 where
@@ -466,6 +616,7 @@ pub record IsDecidedAt (t u : Table) (at : ℕ) (fact : FactView) (pending : Lis
   pub new : Slot
   pub put_back : IsPutBack t u at old new
   pub stage : IsDecidedStage fact new.stage
+  pub looks : new.looks ≡ old.looks
   pub turn : new.turn ≡ old.turn
   pub watchers : new.watchers.items ≡ []
   pub pending_is : pending ≡ old.watchers.items
@@ -476,29 +627,36 @@ pub record IsParkedAt (t u : Table) (at : ℕ) (begun : Box Begun Global) (opera
   pub new : Slot
   pub put_back : IsPutBack t u at old new
   pub stage : IsParkedStage begun operands new.stage
+  pub looks : new.looks ≡ old.looks
   pub turn : new.turn ≡ old.turn + 1
+  pub watchers : new.watchers ≡ old.watchers
+
+-- a check waits for a path, of a target that was taken out for a look: it is to be looked at
+pub record IsAskedAt (t u : Table) (at : ℕ) (awaiting : Awaiting) : Type 0 where
+  pub old : Slot
+  pub new : Slot
+  pub put_back : IsPutBack t u at old new
+  pub stage : new.stage ≡ Checking awaiting
+  pub looks : new.looks ≡ old.looks + 1
+  pub turn : new.turn ≡ old.turn
   pub watchers : new.watchers ≡ old.watchers
 
 -- the job of a slot is out
 abbrev pub IsOutThere : Table → ℕ → Type 0
 IsOutThere t at =
-    (0 < t.out) × ((slot : Slot) × (slice_get t.slots.items at ≡ Some slot) × (slot.stage ≡ Out) × (slot.turn < 65536))
+    (0 < t.out) × ((slot : Slot) × (slice_get t.slots.items at ≡ Some slot) × (slot.stage ≡ Out) ×
+    (rounds_of slot < 65536))
 
--- the state that a table stands for
-abbrev pub table_state : Rules → ℕ → Table → State
-table_state r depth t = state_from r depth t.targets t.slots.items t.ready.items
-
--- the state after what is out at a number is handed in
-abbrev pub state_after : GivenView → Table → ℕ → State
-state_after given t at =
-    handed_in (rules_for given) Script (table_state (rules_for given) given.limits.targets t)
+-- the state after what is out at a number is handed in, or is looked at
+abbrev pub state_after : GivenView → Phase → Table → ℕ → State
+state_after given phase t at =
+    handed_in (rules_for given) phase (table_state (rules_for given) given.limits.targets t)
     (entry_of (table_entries (rules_for given) given.limits.targets t) (path_at t.targets at))
 
 -- the table is that of a state that is reached, with nothing left to do, and the end is that of the job that is out at
 -- the number
 pub record MayTakeIn (given : GivenView) (t : Table) (at : ℕ) (end : End) : Type 0 where
-  pub request : List (List ℕ)
-  pub reached : IsReached (rules_for given) request (table_state (rules_for given) given.limits.targets t)
+  pub reached : IsReached (rules_for given) given.request (table_state (rules_for given) given.limits.targets t)
   pub table : IsTableOf given t []
   pub watched : AllWatched (rules_for given) given.limits.targets t.targets t.slots.items []
   pub slot : Slot
@@ -506,20 +664,119 @@ pub record MayTakeIn (given : GivenView) (t : Table) (at : ℕ) (end : End) : Ty
   pub is_out : slot.stage ≡ Out
   pub is_end : IsEndAt given (path_at t.targets at) slot.turn end
 
--- the table shows the entries after it, with these numbers newly ready and those to be looked at
-pub record IsPutBackThere (given : GivenView) (t u : Table) (at : ℕ) (newly_ready pending : List ℕ) : Type 0 where
+-- the entry of a target that is out, once a fact tells what it came to
+abbrev pub concluded_entry : GivenView → List ℕ → Slot → FactView → Entry
+concluded_entry given p slot fact = record {
+  path = p;
+  looks = slot.looks;
+  turn = slot.turn;
+  deps = ((rules_for given).progress p (outcome_at (rules_for given) given.limits.targets)).deps;
+  outcome = Some fact.outcome;
+  is_out = false;
+}
+
+-- the target at the number is out, and the entries stand as those of a build with this fact of it
+pub record MayConclude (given : GivenView) (t : Table) (at : ℕ) (fact : FactView) : Type 0 where
+  pub table : IsTableOf given t []
+  pub watched : AllWatched (rules_for given) given.limits.targets t.targets t.slots.items []
+  pub distinct : AreDistinct t.targets
+  pub is_out : IsOutThere t at
+  pub of_build : (fact.given ≡ given) × (fact.target ≡ path_at t.targets at)
+  pub request : List (List ℕ)
+  pub standing : (slot : Slot) → slice_get t.slots.items at ≡ Some slot →
+      AreStanding (rules_for given) request
+      (put (table_entries (rules_for given) given.limits.targets t)
+      (concluded_entry given (path_at t.targets at) slot fact))
+
+-- the target is decided by the fact, and what watched it is looked at
+pub record IsConcludedAt (given : GivenView) (t u : Table) (at : ℕ) (fact : FactView) (newly_ready : List ℕ)
+    : Type 0 where
   pub table : IsTableOf given u newly_ready
-  pub entries : table_entries (rules_for given) given.limits.targets u ≡ (state_after given t at).entries
+  pub slot : Slot
+  pub there : slice_get t.slots.items at ≡ Some slot
+  pub entries : table_entries (rules_for given) given.limits.targets u ≡
+      put (table_entries (rules_for given) given.limits.targets t)
+      (concluded_entry given (path_at t.targets at) slot fact)
+  pub ready : u.ready ≡ t.ready
+  pub targets : u.targets ≡ t.targets
+  pub watched : AllWatched (rules_for given) given.limits.targets u.targets u.slots.items []
+
+-- the table shows the entries of this state, with these numbers newly ready and those to be looked at
+pub record IsPutBackThere (given : GivenView) (after : State) (t u : Table) (newly_ready pending : List ℕ)
+    : Type 0 where
+  pub table : IsTableOf given u newly_ready
+  pub entries : table_entries (rules_for given) given.limits.targets u ≡ after.entries
   pub ready : u.ready ≡ t.ready
   pub keys_kept : (k : ℕ) (p : List ℕ) → slice_get t.targets k ≡ Some p → slice_get u.targets k ≡ Some p
   pub within : (k : ℕ) → IsPlace pending k → k < length u.slots.items
   pub watched : AllWatched (rules_for given) given.limits.targets u.targets u.slots.items pending
 
--- the table shows the state after it, with nothing left to do
-pub record IsTakenIn (given : GivenView) (t u : Table) (at : ℕ) : Type 0 where
+-- the table shows this state, with nothing left to do but to look
+pub record IsTakenIn (given : GivenView) (after : State) (u : Table) : Type 0 where
   pub table : IsTableOf given u []
   pub watched : AllWatched (rules_for given) given.limits.targets u.targets u.slots.items []
-  pub state : table_state (rules_for given) given.limits.targets u ≡ state_after given t at
+  pub state : table_state (rules_for given) given.limits.targets u ≡ after
+
+-- the first number that is due was drawn from the table at rest
+pub record IsDrawnFrom (given : GivenView) (whole t : Table) (at : ℕ) : Type 0 where
+  pub at_rest : IsAtRest given whole
+  pub due : whole.due.keys ≡ at ∷ t.due.keys
+  pub least : (k : ℕ) → IsPlace t.due.keys k → at < k
+  pub rest : (t.targets ≡ whole.targets) × (t.slots ≡ whole.slots) × (t.ready ≡ whole.ready) × (t.out ≡ whole.out)
+
+abbrev pub IsDrawn : GivenView → Table → ℕ → Type 0
+IsDrawn given t at = (whole : Table) × IsDrawnFrom given whole t at
+
+-- the state after the first look that is due
+abbrev pub state_looked : GivenView → Table → State
+state_looked given t =
+    looked_once (rules_for given) (table_state (rules_for given) given.limits.targets t)
+
+-- the check of the target at the number can go on
+abbrev pub IsDueThere : Table → ℕ → Type 0
+IsDueThere t at =
+    (t.out ≤ 65536) × ((slot : Slot) × (held : Box InCheck Global) × (slice_get t.slots.items at ≡ Some slot) ×
+    (slot.stage ≡ Due held))
+
+-- the check at the number is taken out of the table
+pub record IsTakenOut (t u : Table) (at : ℕ) (held : Box InCheck Global) : Type 0 where
+  pub old : Slot
+  pub new : Slot
+  pub there : slice_get t.slots.items at ≡ Some old
+  pub was : old.stage ≡ Due held
+  pub is : new.stage ≡ Out
+  pub looks : new.looks ≡ old.looks
+  pub turn : new.turn ≡ old.turn
+  pub watchers : new.watchers ≡ old.watchers
+  pub slots : u.slots.items ≡ slice_set t.slots.items at new
+  pub out : u.out ≡ t.out + 1
+  pub rest : (u.targets ≡ t.targets) × (u.ready ≡ t.ready) × (u.due ≡ t.due)
+
+-- the table is one from which a check is taken out for a look, and the check is due
+pub record MayLook (given : GivenView) (t : Table) (at : ℕ) (held : Box InCheck Global) : Type 0 where
+  pub whole : Table
+  pub drawn : Table
+  pub is_drawn : IsDrawnFrom given whole drawn at
+  pub taken : IsTakenOut drawn t at held
+
+-- a look came to this state
+pub record IsLookedOnce (given : GivenView) (t u : Table) : Type 0 where
+  pub at_rest : IsAtRest given u
+  pub state : table_state (rules_for given) given.limits.targets u ≡ state_looked given t
+
+-- the table is at rest, and shows this state after so many looks, with nothing more to look at
+pub record IsMovedOn (given : GivenView) (after : State) (u : Table) : Type 0 where
+  pub at_rest : IsAtRest given u
+  pub looks : ℕ
+  pub state : table_state (rules_for given) given.limits.targets u ≡ looked (rules_for given) looks after
+  pub none_due : u.due.keys ≡ []
+
+-- looks alone led from the state of one table to that of the other, which is at rest
+pub record IsLookedOn (given : GivenView) (t u : Table) : Type 0 where
+  pub at_rest : IsAtRest given u
+  pub looks : ℕ
+  pub state : table_state (rules_for given) given.limits.targets u ≡
+      looked (rules_for given) looks (table_state (rules_for given) given.limits.targets t)
 
 -- the job of a target is out at this number, at its turn
 pub record IsOutSlotAt (t : Table) (target : List ℕ) (turn at : ℕ) : Type 0 where

@@ -4,7 +4,10 @@ use Rattle.std.specs.Prelude.{slice_get, unwrap_or, Box, Option, ◌++◌}
 use Rattle.std.specs.declared.alloc.Global.{Global}
 use Rattle.redo_script.specs.Texts.{script_in}
 use Rattle.redo_tree.specs.Tree.{file_at}
-use Rattle.redo_which.specs.Rule.{Rule, found_of}
+use Rattle.redo_which.specs.declared.Rule.{Rule as FoundRule}
+use Rattle.redo_which.specs.Views.{arguments_view}
+use Rattle.redo_which.specs.Rule.{Rule, Outcome as Found, found_of}
+use Rattle.redo_record.specs.Entries.{with_all}
 use Rattle.redo_record.specs.declared.deps.Dep.{Dep}
 use Rattle.redo_record.specs.declared.outcome.Outcome.{Outcome}
 use Rattle.redo_sync.specs.Shown.{Shown}
@@ -15,9 +18,10 @@ use Rattle.redo_build.specs.Rules.{Ask, Rules, changed, operands}
 use Rattle.redo_build.specs.Outcomes.{outcome_at}
 use Rattle.redo_build.specs.Schedule.{only}
 use Rattle.redo_build.specs.inside.Turns.{IsWork, deps_at_turn}
-use Rattle.redo_core.specs.Build.{GivenView, rules_for}
+use Rattle.redo_core.specs.Build.{GivenView, rules_for, sources_for}
 use Rattle.redo_core.specs.Views.{FactView, WorkView, told_by}
 use Rattle.redo_core.specs.declared.facts.Facts.{Facts}
+use Rattle.redo_core.specs.inside.Checking.{IsBegunBehind}
 
 -- the paths of some facts with their outcomes
 abbrev pub few_known : List (Shown FactView) → List (List ℕ × Outcome)
@@ -40,9 +44,14 @@ told_in facts = told_by (known_in facts)
 abbrev pub job_deps : JobView → List Dep
 job_deps job = elim (job.turn) [ zero ↦ [] | suc n ↦ record_so_far job ]
 
+-- all that a job's target asked for so far: in its check, and then in its script
+abbrev pub all_asked : JobView → Facts → List Dep
+all_asked job facts = with_all facts.asked (job_deps job)
+
 -- a fact is known now too, and nothing else is new: what was known keeps its answer
 pub record AddsFact (fact : FactView) (old new : Facts) : Type 0 where
   pub same : new.gained ≡ old.gained
+  pub asked : new.asked ≡ old.asked
   pub kept : (q : List ℕ) → told_in new q ≡ None → told_in old q ≡ None
   pub origin : (q : List ℕ) (o : Outcome) → told_in new q ≡ Some o →
       (told_in old q ≡ Some o) ⊎ ((fact.target ≡ q) × (fact.outcome ≡ o))
@@ -69,18 +78,33 @@ AreKnownBelow r job known n =
     (k : ℕ) (d : Dep) (q : List ℕ) → k < n → slice_get job.state.entries k ≡ Some d → IsOperand r d q →
     known q ≡ None → ⊥
 
+-- what the search finds where there is this rule
+abbrev pub found_as : FoundRule → Found
+found_as rule = Rule rule.do_file rule.missing (arguments_view rule.args)
+
 -- a work: a job at its turn, with the build's outcomes for all that it asked for, and for nothing else
 pub record IsWorkWith (given : GivenView) (job : JobView) (facts : Facts) : Type 0 where
   pub is_job : IsJobOf given job
-  pub is_work : IsWork (rules_for given) job.target job.turn (job_deps job)
+  pub is_work : IsWork (rules_for given) job.target job.turn (all_asked job facts)
   pub exact : (q : List ℕ) →
       told_in facts q ≡
-      only (operands (rules_for given) (job_deps job)) (outcome_at (rules_for given) is_work.depth) q
+      only (operands (rules_for given) (all_asked job facts)) (outcome_at (rules_for given) is_work.depth) q
+  pub behind : IsBegunBehind given job.target facts.asked (told_in facts)
   pub declared : (q : List ℕ) → IsAmong (operands (rules_for given) job.state.entries) q →
       IsAmong (operands (rules_for given) (job_deps job)) q
   pub goes_on : GoesOn job (told_in facts)
   pub gained : facts.gained ≡ length job.state.entries
   pub few : job.turn < 65536
+
+-- a work before its script is read: it has the rule that the search finds, and the build's outcomes for all that its
+-- check asked for, and for nothing else
+pub record IsUnreadWork (given : GivenView) (target : List ℕ) (found : Found) (facts : Facts) : Type 0 where
+  pub is_found : found_of given.past.sources target ≡ found
+  pub is_work : IsWork (rules_for given) target 0 facts.asked
+  pub exact : (q : List ℕ) →
+      told_in facts q ≡ only (operands (rules_for given) facts.asked) (outcome_at (rules_for given) is_work.depth) q
+  pub behind : IsBegunBehind given target facts.asked (told_in facts)
+  pub gained : facts.gained ≡ 0
 
 -- a job that stopped at a turn, behind so many looks: it is at the next, with the outcomes of the build at this depth
 -- for all that it had asked for before
@@ -92,9 +116,12 @@ pub record IsStopped (given : GivenView) (depth looks : ℕ) (target : List ℕ)
   pub exact : (q : List ℕ) → told_in facts q ≡
       (let r = rules_for given in let a = outcome_at r depth in
       only (operands r (deps_at_turn r target a (looks + turn))) a q)
+  pub behind : IsBegunBehind given target facts.asked (told_in facts)
+  pub checked : (q : List ℕ) → IsAmong (operands (rules_for given) facts.asked) q → told_in facts q ≡ None → ⊥
   pub goes_on : GoesOn job (told_in facts)
   pub within : facts.gained ≤ length job.state.entries
   pub gained : AreKnownBelow (rules_for given) job (told_in facts) facts.gained
+  pub own : (sources_for given).progress target (told_in facts) ≡ record { outcome = None; deps = record_so_far job }
 
 -- a work holds the outcomes of the build at some depth for all that it asked for, and no others
 pub record HoldsOutcomes (w : WorkView) : Type 0 where

@@ -54,14 +54,34 @@ pub(crate) fn tree(alloc: Global, scripts: usize) -> Result<Arc<Tree>, Fail> {
     Ok(Arc::new(alloc, tree)?)
 }
 
-/// Opens a board of the diamond for these words, with a limit of targets.
-fn open(alloc: Global, words: &[&[u8]], targets: u32) -> Result<Result<Board, OpenFault>, Fail> {
+/// Opens a board over a tree for these words, with a limit of targets.
+fn open_tree(
+    alloc: Global,
+    tree: Arc<Tree>,
+    words: &[&[u8]],
+    targets: u32,
+) -> Result<Result<Board, OpenFault>, Fail> {
     let mut request = Vec::new(alloc);
     for word in words {
         request.push(path(alloc, word)?)?;
     }
     let limits = Limits::new(targets, 100).ok_or("limits")?;
-    Ok(Board::open(alloc, tree(alloc, 4)?, &request, limits))
+    Ok(Board::open(alloc, tree, &request, limits))
+}
+
+/// A board over a tree for these words, with a limit of targets.
+pub(crate) fn open_over(
+    alloc: Global,
+    tree: Arc<Tree>,
+    words: &[&[u8]],
+    targets: u32,
+) -> Result<Board, Fail> {
+    Ok(open_tree(alloc, tree, words, targets)??)
+}
+
+/// Opens a board of the diamond for these words, with a limit of targets.
+fn open(alloc: Global, words: &[&[u8]], targets: u32) -> Result<Result<Board, OpenFault>, Fail> {
+    open_tree(alloc, tree(alloc, 4)?, words, targets)
 }
 
 /// A board of the diamond for these words, with a limit of targets.
@@ -94,7 +114,7 @@ fn hand_in(board: &mut Board, work: Work) -> Result<(), Fail> {
 }
 
 /// Takes the first target that is ready and hands it in, so many times.
-fn go(board: &mut Board, steps: usize) -> Result<(), Fail> {
+pub(crate) fn go(board: &mut Board, steps: usize) -> Result<(), Fail> {
     for _ in 0..steps {
         let work = take(board, 0)?;
         hand_in(board, work)?;

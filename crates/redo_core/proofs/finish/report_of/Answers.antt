@@ -1,10 +1,7 @@
 use Rattle.std.proofs.Common.{◌≡◌, ◌++◌, ◌∷◌, [], ◌+◌, ◌<◌, ℕ, List, Option, Bor, length, map, drop, if◌then◌else◌}
 use Rattle.std.proofs.Common.{slice_index_or, sym, ap, subst, ◌∙◌, arith}
 use Rattle.std.proofs.lemmas.List.{append_assoc, drop_more, map-append}
-use Rattle.std.specs.List.{AllByRecursion}
-use Rattle.redo_which.specs.Rule.{found_of}
-use Rattle.redo_step.specs.Setting.{is_rule}
-use Rattle.redo_core.specs.inside.Reported.{file_of, listed_paths, row_begun, row_files, IsNumberOf, IsRowOf}
+use Rattle.redo_core.specs.inside.Reported.{AreRowsOf, IsNumberOf, file_of, listed_paths, row_begun, row_files}
 use Rattle.redo_report.specs.declared.report.Row.{Row}
 use Rattle.redo_core.proofs.RowLemmas.{rows-added, files-added, begun-added}
 use Rattle.redo_core.proofs.finish.report_of.Goals as goal
@@ -34,18 +31,20 @@ loop-path-preserved c =
           ∙ append_assoc (paths c.loop-path.report.rows.items) (c.in_ok-row.row.path ∷ []) left
           ∙ ap (λ ps. paths c.loop-path.report.rows.items ++ ps) (sym first)
           ∙ c.loop-path.invariant.paths;
+      bits = c.loop-path.invariant.bits ++ c.in_ok-row.begun ∷ [];
       rows =
-          let P : List Row → Type 0 = AllByRecursion (IsRowOf c.args.table.now) in
-          subst P (sym c.in_ok-add_row.ensures.rows) (rows-added (IsRowOf c.args.table.now) c.loop-path.report.rows.items c.in_ok-row.row c.loop-path.invariant.rows c.in_ok-row.ensures.row);
+          let P : List Row → Type 0 = λ rows. AreRowsOf c.args.given.now c.args.table.now rows (c.loop-path.invariant.bits ++ c.in_ok-row.begun ∷ []) in
+          subst P (sym c.in_ok-add_row.ensures.rows)
+          (rows-added c.args.given.now c.args.table.now c.loop-path.report.rows.items c.loop-path.invariant.bits c.in_ok-row.row c.in_ok-row.begun
+          c.loop-path.invariant.rows c.in_ok-row.ensures.row);
       files =
           c.in_ok-add_row.ensures.files
           ∙ ap (λ fs. fs ++ file_of c.in_ok-row.row.path c.in_ok-row.row.outcome) c.loop-path.invariant.files
           ∙ sym (files-added c.loop-path.report.rows.items c.in_ok-row.row)
           ∙ ap row_files (sym c.in_ok-add_row.ensures.rows);
       begun =
-          let ruled = c.in_ok-row.ensures.begun ∙ ap (λ p. is_rule (found_of c.args.tree.now p)) (sym c.in_ok-row.ensures.path) in
           c.in_ok-add_row.ensures.begun
           ∙ ap (λ ps. ps ++ (if c.in_ok-row.begun then c.in_ok-row.row.path ∷ [] else [])) c.loop-path.invariant.begun
-          ∙ sym (begun-added c.args.tree.now c.loop-path.report.rows.items c.in_ok-row.row c.in_ok-row.begun ruled)
-          ∙ ap (row_begun c.args.tree.now) (sym c.in_ok-add_row.ensures.rows);
+          ∙ sym (begun-added c.args.given.now c.args.table.now c.loop-path.report.rows.items c.loop-path.invariant.bits c.in_ok-row.row c.in_ok-row.begun c.loop-path.invariant.rows)
+          ∙ ap (λ rows. row_begun rows (c.loop-path.invariant.bits ++ c.in_ok-row.begun ∷ [])) (sym c.in_ok-add_row.ensures.rows);
     }

@@ -1,4 +1,5 @@
-use Rattle.redo_core.proofs.TrueBookLemmas.{plain-build, checks-lawful, book-lawful}
+use Rattle.redo_core.proofs.LawfulTreeLemmas.{lawful_for}
+use Rattle.redo_core.proofs.TrueBookLemmas.{plain-build, checks-lawful}
 use Rattle.redo_core.proofs.laws.books_over_trees_are_lawful.Goals as goal
 
 pub returns-clause-plain : goal.returns-clause-plain
@@ -8,4 +9,4 @@ pub returns-clause-checks : goal.returns-clause-checks
 returns-clause-checks c = λ tree limits k are. checks-lawful tree limits k are
 
 pub returns-clause-book : goal.returns-clause-book
-returns-clause-book c = λ given. book-lawful given
+returns-clause-book c = λ given. lawful_for given

@@ -1,15 +1,15 @@
-use Rattle.std.proofs.Common.{refl, []}
-use Rattle.redo_core.proofs.TakenSteps.{taken-begun, taken-counted, taken-hand_in, taken-once, taken-take}
+use Rattle.redo_core.proofs.TakenSteps.{taken-begun, taken-counted, taken-hand_in, taken-once, taken-opened, taken-take}
 use Rattle.redo_core.proofs.laws.what_was_taken.Goals as goal
 
 pub returns-clause-opened : goal.returns-clause-opened
-returns-clause-opened c = λ given. record { reached = record { events = []; all_open = tt; ends = refl }; is = refl }
+returns-clause-opened c = λ given b first. taken-opened given b first
 
 pub returns-clause-take : goal.returns-clause-take
 returns-clause-take c = λ b taken which work. taken-take b taken which work
 
 pub returns-clause-hand_in : goal.returns-clause-hand_in
-returns-clause-hand_in c = λ b taken target turn. taken-hand_in b taken target turn
+returns-clause-hand_in c = λ b next taken target turn had open' handed.
+    taken-hand_in b next taken target turn had open' handed
 
 pub returns-clause-once : goal.returns-clause-once
 returns-clause-once c = λ b taken. taken-once b taken

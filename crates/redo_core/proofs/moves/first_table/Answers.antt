@@ -26,8 +26,8 @@ returns-clause-ok c =
     let given : GivenView = c.args.build.now in
     let of_build : c.request-request.result.now ≡ given.request = c.request-request.ensures ∙ ap (λ (g : GivenView). g.request) c.given-2.ensures in
     let E : List (List ℕ) → Type 0 = λ ps.
-    AreEnteredInto given (record { targets = c.new.result; slots = c.new-2.result; ready = c.new-3.result; out = 0 })
+    AreEnteredInto given (record { targets = c.new.result; slots = c.new-2.result; ready = c.new-3.result; due = c.new-4.result; out = 0 })
     c.enter_requested.new.table c.enter_requested.new.newly_ready.items (targets_in (rules_for given) ps) in
-    first-is given (record { targets = c.new.result; slots = c.new-2.result; ready = c.new-3.result; out = 0 })
+    first-is given (record { targets = c.new.result; slots = c.new-2.result; ready = c.new-3.result; due = c.new-4.result; out = 0 })
     c.enter_requested.new.table c.enqueue.new.table c.enter_requested.new.newly_ready.items c.new.ensures c.new-2.ensures.items c.new-3.ensures.items
     (subst E of_build c.in_ok-enter_requested.ensures.ok) c.in_ok-enqueue.ensures

@@ -6,7 +6,8 @@ use Rattle.redo_core.specs.declared.work.End.TheVariants.{Stopped}
 use Rattle.redo_build.specs.Rules.{operands}
 use Rattle.redo_build.specs.Schedule.{Entry, entered}
 use Rattle.redo_build.specs.inside.Standing.{AreStanding}
-use Rattle.redo_core.specs.inside.Slots.{AreEnteredInto, AreNumbers, IsPutBackThere, table_entries}
+use Rattle.redo_core.specs.inside.Slots.{AreEnteredInto, AreNumbers, IsPutBackThere, state_after, table_entries}
+use Rattle.redo_build.specs.Schedule.Phase.{Script}
 use Rattle.redo_core.proofs.TakeInLemmas.{small, is_stopped, after-sound, after-length, out-still, parked-put}
 use Rattle.redo_core.proofs.EnqueueLemmas.{looked-put, looked-one}
 use Rattle.redo_core.proofs.moves.suspend.Goals as goal
@@ -56,7 +57,7 @@ park-requires c =
     out-still c.args.build.now c.args.table.now c.args.at (Stopped c.args.begun) c.requires.may c.args.begun refl c.enter_all.new.table _ (enters d)
 
 -- the table once the job is parked, with its own number to be looked at
-parked : (c : After-park) → IsPutBackThere c.args.build.now c.args.table.now c.park.new.table c.args.at c.enter_all.new.newly_ready.items (c.args.at ∷ [])
+parked : (c : After-park) → IsPutBackThere c.args.build.now (state_after c.args.build.now Script c.args.table.now c.args.at) c.args.table.now c.park.new.table c.enter_all.new.newly_ready.items (c.args.at ∷ [])
 parked c =
     let d = (goal.at-After-park c).In_ok-operands in
     parked-put c.args.build.now c.args.table.now c.args.at (Stopped c.args.begun) c.requires.may c.args.begun refl c.enter_all.new.table c.enter_all.new.newly_ready.items (enters d)
@@ -73,11 +74,11 @@ settle-requires-clause-table c = (parked (goal.at-settle-requires-clause-table c
 
 pub settle-requires-clause-standing : goal.settle-requires-clause-standing
 settle-requires-clause-standing c =
-    let P : List Entry → Type 0 = AreStanding (rules_for c.args.build.now) c.requires.may.request in
-    (c.requires.may.request, subst P (sym (parked (goal.at-settle-requires-clause-standing c).After-park).entries) (after-sound c.args.build.now c.args.table.now c.args.at (Stopped c.args.begun) c.requires.may).standing)
+    let P : List Entry → Type 0 = AreStanding (rules_for c.args.build.now) c.args.build.now.request in
+    (c.args.build.now.request, subst P (sym (parked (goal.at-settle-requires-clause-standing c).After-park).entries) (after-sound c.args.build.now c.args.table.now c.args.at (Stopped c.args.begun) c.requires.may).standing)
 
 pub returns-clause-ok : goal.returns-clause-ok
 returns-clause-ok c =
     let given : GivenView = c.args.build.now in
-    looked-put given c.args.table.now c.park.new.table c.settle.new.table c.args.at _ c.settle.new.newly_ready.items _ (parked (goal.at-returns-clause-ok c).After-park)
+    looked-put given (state_after given Script c.args.table.now c.args.at) c.args.table.now c.park.new.table c.settle.new.table _ c.settle.new.newly_ready.items _ (parked (goal.at-returns-clause-ok c).After-park)
     c.in_ok-settle.ensures.table (looked-one given c.park.new.table c.settle.new.table c.args.at c.in_ok-settle.ensures.looked)

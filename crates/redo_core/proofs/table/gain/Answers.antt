@@ -21,6 +21,7 @@ returns c =
     record {
       all = c.len-facts.ensures ∙ ap length c.declared.ensures;
       below = record {
+        asked = c.loop-at.invariant.asked ∙ c.reserve.ensures.asked;
         kept = λ q none.
             let P : Ask → Type 0 = λ ask. ask q ≡ None in
             subst P same (c.loop-at.invariant.kept q none);

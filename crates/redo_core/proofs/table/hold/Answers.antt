@@ -14,15 +14,16 @@ returns-in-Waiting c =
     let d = (goal.at-returns-in-Waiting c).After-index_mut-slot in
     record {
       old = c.index_mut-slot.result.now;
-      new = record { turn = c.index_mut-slot.result.now.turn; watchers = c.index_mut-slot.result.now.watchers; stage = Waiting (record c.in-Waiting.parked { held = c.args.held }) };
+      new = record { looks = c.index_mut-slot.result.now.looks; turn = c.index_mut-slot.result.now.turn; watchers = c.index_mut-slot.result.now.watchers; stage = Waiting (record c.in-Waiting.parked { held = c.args.held }) };
       parked = c.in-Waiting.parked;
       there = there d;
       was = c.in-Waiting.is;
       is = refl;
+      looks = refl;
       turn = refl;
       watchers = refl;
       slots = refl;
-      rest = (refl, refl, refl);
+      rest = (refl, refl, refl, refl);
     }
 
 pub returns-in_default : goal.returns-in_default

@@ -2,8 +2,9 @@ use Rattle.std.proofs.Common.{ℕ, List, ◌≡◌, ◌<◌, refl, sym, ap, subs
 use Rattle.std.proofs.Common.{length-set, arith, rules}
 use Rattle.std.specs.Arc.{arc_value}
 use Rattle.std.specs.Vec.{with_item}
+use Rattle.redo_record.specs.Entries.{with_all}
 use Rattle.redo_core.specs.inside.Slots.{IsFedAs, Gains}
-use Rattle.redo_core.specs.inside.Works.{job_deps}
+use Rattle.redo_core.specs.inside.Works.{all_asked, job_deps}
 use Rattle.redo_core.specs.declared.work.Begun.{Begun}
 use Rattle.redo_core.specs.Views.{WorkView}
 use Rattle.redo_core.specs.declared.table.Slot.{Slot}
@@ -19,7 +20,7 @@ there c = slice_get-item c.args.table.now.slots.items c.args.at c.index_mut-slot
     (slice_get-below_some c.args.table.now.slots.items c.args.at c.requires.fed.0 c.requires.fed.2.there) c.index_mut-slot.ensures.value
 
 gone : (c : After-replace-stage) → Slot
-gone c = record { turn = c.index_mut-slot.result.now.turn; watchers = c.index_mut-slot.result.now.watchers; stage = c.replace-stage.new.dest }
+gone c = record { looks = c.index_mut-slot.result.now.looks; turn = c.index_mut-slot.result.now.turn; watchers = c.index_mut-slot.result.now.watchers; stage = c.replace-stage.new.dest }
 
 pub gain-requires : goal.gain-requires
 unfolding gone
@@ -66,20 +67,22 @@ returns c =
     let same : gone d ≡ c.index_mut-slot-2.result.now = cc in
     record {
       old = slot;
-      new = record { turn = c.index_mut-slot-2.result.now.turn; watchers = c.index_mut-slot-2.result.now.watchers; stage = Ready c.of.result };
+      new = record { looks = c.index_mut-slot-2.result.now.looks; turn = c.index_mut-slot-2.result.now.turn; watchers = c.index_mut-slot-2.result.now.watchers; stage = Ready c.of.result };
       parked = c.in-Waiting.parked;
       work = c.of.result;
       there = there d;
       was = sym c.replace-stage.ensures.value ∙ c.in-Waiting.is;
       is = refl;
+      looks = ap (λ (y : Slot). y.looks) (sym same);
       turn = ap (λ (y : Slot). y.turn) (sym same);
       watchers = ap (λ (y : Slot). y.watchers) (sym same);
       same = (
         ap (λ (w : WorkView). w.given) c.of.ensures ∙ c.in_ok-own.ensures,
         ap (λ (w : WorkView). w.target) c.of.ensures ∙ ap (λ (b : Begun). b.job.target) c.deref_mut.ensures.value,
         ap (λ (w : WorkView). w.turn) c.of.ensures ∙ ap (λ (b : Begun). b.job.turn) c.deref_mut.ensures.value,
-        ap (λ (w : WorkView). w.deps) c.of.ensures ∙ ap (λ (b : Begun). job_deps b.job) c.deref_mut.ensures.value,
+        ap (λ (w : WorkView). w.deps) c.of.ensures ∙ ap (λ ds. with_all ds (job_deps c.deref_mut.result.now.job)) c.in_ok-gain.ensures.below.asked ∙
+            ap (λ (b : Begun). all_asked b.job b.facts) c.deref_mut.ensures.value,
       );
       slots = set-twice t.slots.items c.args.at (gone d) _;
-      rest = (refl, refl, refl);
+      rest = (refl, refl, refl, refl);
     }

@@ -12,15 +12,16 @@ returns c =
     let same : c.index_mut-slot.result.now ≡ c.requires.1.0 = cc in
     record {
       old = c.index_mut-slot.result.now;
-      new = record { turn = c.index_mut-slot.result.now.turn + 1; watchers = c.index_mut-slot.result.now.watchers; stage = Waiting (record { begun = c.args.begun; operands = c.args.operands; held = 0 }) };
+      new = record { looks = c.index_mut-slot.result.now.looks; turn = c.index_mut-slot.result.now.turn + 1; watchers = c.index_mut-slot.result.now.watchers; stage = Waiting (record { begun = c.args.begun; operands = c.args.operands; held = 0 }) };
       put_back = record {
         there = there;
         was = ap (λ (y : Slot). y.stage) same ∙ c.requires.1.2;
         slots = refl;
         out = omega (arith, c.requires.0);
-        rest = (refl, refl);
+        rest = (refl, refl, refl);
       };
       stage = refl;
+      looks = refl;
       turn = refl;
       watchers = refl;
     }

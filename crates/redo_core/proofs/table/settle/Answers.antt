@@ -2,26 +2,27 @@ use Rattle.std.proofs.Common.{◌<◌, ℕ, List, ◌≡◌, List, length, lengt
 use Rattle.std.proofs.lemmas.Result.{on_ok_weaker}
 use Rattle.redo_core.specs.inside.Slots.{IsPlace, AreDecidedFrom, IsLackingAt}
 use Rattle.redo_core.proofs.SlotLemmas.{slice_get-item, slice_get-below_some}
-use Rattle.redo_core.proofs.TableSteps.{parked_seen, parked_fed, newly_ready-table, newly_ready-looked}
+use Rattle.redo_core.proofs.TableSteps.{looked-skip, parked_seen, parked_fed, newly_ready-table, newly_ready-looked, watch-table, watch-looked}
+use Rattle.redo_core.proofs.ResumeSteps.{awaiting-answered, awaiting-asked, awaiting-seen, resumed-table, resumed-looked, still-stage, undecided-open}
 use Rattle.redo_core.proofs.HoldSteps.{held-watch-table, held-watch-looked}
 use Rattle.redo_core.proofs.table.settle.Goals as goal
 use Rattle.redo_core.proofs.table.settle.Goals.{After-deref, In-Some, In-None}
 
-there : (c : After-deref) → slice_get c.args.table.now.slots.items c.args.at ≡ Some c.index-slot.result.now
-there c = slice_get-item c.args.table.now.slots.items c.args.at c.index-slot.result.now c.requires.within c.index-slot.ensures
+there : (c : After-deref) → slice_get c.args.table.now.slots.items c.args.at ≡ Some c.index.result.now
+there c = slice_get-item c.args.table.now.slots.items c.args.at c.index.result.now c.requires.within c.index.ensures
 
 pub next_lacking-requires : goal.next_lacking-requires
 next_lacking-requires c =
     let P : List ℕ → Type 0 = λ ns. (k : ℕ) → IsPlace ns k → k < length c.args.table.now.slots.items in
     record {
       seen = subst P (sym c.deref.ensures.value) (parked_seen c.args.build.now c.args.table.now c.args.newly_ready.now.items c.requires.table c.requires.standing
-          c.args.at c.index-slot.result.now c.in-Waiting.parked (there c) c.in-Waiting.is);
+          c.args.at c.index.result.now c.in-Waiting.parked (there c) c.in-Waiting.is);
     }
 
 pub hold-requires : goal.hold-requires
 hold-requires c =
     let d = (goal.at-hold-requires c).After-deref in
-    (c.index-slot.result.now, c.in-Waiting.parked, there d, c.in-Waiting.is)
+    (c.index.result.now, c.in-Waiting.parked, there d, c.in-Waiting.is)
 
 pub watch-requires : goal.watch-requires
 watch-requires c =
@@ -44,21 +45,21 @@ returns-in-Some-clause-table c =
     let d = (goal.at-returns-in-Some-clause-table c).After-deref in
     let e = (goal.at-returns-in-Some-clause-table c).In-Some in
     on_ok_weaker c.watch.result (λ w. held-watch-table c.args.build.now c.args.table.now c.args.newly_ready.now.items c.requires.table c.requires.standing
-    c.args.at c.index-slot.result.now c.in-Waiting.parked (there d) c.in-Waiting.is c.hold.new.table c.in-Some.held c.in-Some.place c.hold.ensures (found e) c.watch.new.table w) c.watch.ensures
+    c.args.at c.index.result.now c.in-Waiting.parked (there d) c.in-Waiting.is c.hold.new.table c.in-Some.held c.in-Some.place c.hold.ensures (found e) c.watch.new.table w) c.watch.ensures
 
 pub returns-in-Some-clause-looked : goal.returns-in-Some-clause-looked
 returns-in-Some-clause-looked c =
     let d = (goal.at-returns-in-Some-clause-looked c).After-deref in
     let e = (goal.at-returns-in-Some-clause-looked c).In-Some in
     on_ok_weaker c.watch.result (λ w. held-watch-looked c.args.build.now c.args.table.now c.args.newly_ready.now.items c.requires.table c.requires.standing
-    c.args.at c.index-slot.result.now c.in-Waiting.parked (there d) c.in-Waiting.is c.hold.new.table c.in-Some.held c.in-Some.place c.hold.ensures (found e) c.watch.new.table w) c.watch.ensures
+    c.args.at c.index.result.now c.in-Waiting.parked (there d) c.in-Waiting.is c.hold.new.table c.in-Some.held c.in-Some.place c.hold.ensures (found e) c.watch.new.table w) c.watch.ensures
 
 pub make_ready-requires-clause-fed : goal.make_ready-requires-clause-fed
 make_ready-requires-clause-fed c =
     let d = (goal.at-make_ready-requires-clause-fed c).After-deref in
     let e = (goal.at-make_ready-requires-clause-fed c).In-None in
     parked_fed c.args.build.now c.args.table.now c.args.newly_ready.now.items c.requires.table c.requires.standing
-    c.args.at c.index-slot.result.now c.in-Waiting.parked (there d) c.in-Waiting.is (rest e)
+    c.args.at c.index.result.now c.in-Waiting.parked (there d) c.in-Waiting.is (rest e)
 
 pub returns-in_ok-push-in-None-clause-table : goal.returns-in_ok-push-in-None-clause-table
 returns-in_ok-push-in-None-clause-table c =
@@ -66,11 +67,76 @@ returns-in_ok-push-in-None-clause-table c =
     let e = (goal.at-returns-in_ok-push-in-None-clause-table c).In-None in
     rw c.in_ok-push-in-None.ensures.items (
     on_ok_weaker c.make_ready.result (λ f. newly_ready-table c.args.build.now c.args.table.now c.args.newly_ready.now.items c.requires.table c.requires.standing
-    c.args.at c.index-slot.result.now c.in-Waiting.parked (there d) c.in-Waiting.is c.make_ready.new.table f (rest e)) c.make_ready.ensures)
+    c.args.at c.index.result.now c.in-Waiting.parked (there d) c.in-Waiting.is c.make_ready.new.table f (rest e)) c.make_ready.ensures)
 
 pub returns-in_ok-push-in-None-clause-looked : goal.returns-in_ok-push-in-None-clause-looked
 returns-in_ok-push-in-None-clause-looked c =
     let d = (goal.at-returns-in_ok-push-in-None-clause-looked c).After-deref in
     let e = (goal.at-returns-in_ok-push-in-None-clause-looked c).In-None in
     on_ok_weaker c.make_ready.result (λ f. newly_ready-looked c.args.build.now c.args.table.now c.args.newly_ready.now.items c.requires.table c.requires.standing
-    c.args.at c.index-slot.result.now c.in-Waiting.parked (there d) c.in-Waiting.is c.make_ready.new.table f (rest e)) c.make_ready.ensures
+    c.args.at c.index.result.now c.in-Waiting.parked (there d) c.in-Waiting.is c.make_ready.new.table f (rest e)) c.make_ready.ensures
+
+-- A check
+
+pub resume-requires-clause-answered : goal.resume-requires-clause-answered
+resume-requires-clause-answered c =
+    let t = c.args.table.now in
+    let slot = c.index.result.now in
+    let place = c.in-Checking.awaiting.at in
+    let own = slice_get-item t.slots.items c.args.at slot c.requires.within c.index.ensures in
+    let within = awaiting-seen c.args.build.now t c.args.newly_ready.now.items c.requires.table c.requires.standing c.args.at slot c.in-Checking.awaiting own c.in-Checking.is in
+    let other = slice_get-item t.slots.items place c.index-in-Checking.result.now within c.index-in-Checking.ensures in
+    awaiting-answered c.args.build.now t c.args.newly_ready.now.items c.requires.table c.requires.standing c.args.at slot c.in-Checking.awaiting own c.in-Checking.is
+    (c.index-in-Checking.result.now, other, sym c.if-is_decided.ensures)
+
+pub returns-then-is_decided-clause-table : goal.returns-then-is_decided-clause-table
+returns-then-is_decided-clause-table c =
+    on_ok_weaker c.resume.result (λ f. resumed-table c.args.build.now c.args.table.now c.args.newly_ready.now.items c.requires.table c.requires.standing
+    c.args.at c.resume.new.table c.resume.new.newly_ready.items f) c.resume.ensures
+
+pub returns-then-is_decided-clause-looked : goal.returns-then-is_decided-clause-looked
+returns-then-is_decided-clause-looked c =
+    on_ok_weaker c.resume.result (λ f. resumed-looked c.args.build.now c.args.table.now c.args.newly_ready.now.items c.requires.table c.requires.standing
+    c.args.at c.resume.new.table c.resume.new.newly_ready.items f) c.resume.ensures
+
+pub watch-requires-in-Checking : goal.watch-requires-in-Checking
+watch-requires-in-Checking c =
+    let t = c.args.table.now in
+    let slot = c.index.result.now in
+    let own = slice_get-item t.slots.items c.args.at slot c.requires.within c.index.ensures in
+    awaiting-seen c.args.build.now t c.args.newly_ready.now.items c.requires.table c.requires.standing c.args.at slot c.in-Checking.awaiting own c.in-Checking.is
+
+pub returns-else-is_decided-clause-table : goal.returns-else-is_decided-clause-table
+returns-else-is_decided-clause-table c =
+    let t = c.args.table.now in
+    let slot = c.index.result.now in
+    let place = c.in-Checking.awaiting.at in
+    let own = slice_get-item t.slots.items c.args.at slot c.requires.within c.index.ensures in
+    let within = awaiting-seen c.args.build.now t c.args.newly_ready.now.items c.requires.table c.requires.standing c.args.at slot c.in-Checking.awaiting own c.in-Checking.is in
+    let other = slice_get-item t.slots.items place c.index-in-Checking.result.now within c.index-in-Checking.ensures in
+    on_ok_weaker c.watch-in-Checking.result (λ w. watch-table c.args.build.now t c.args.newly_ready.now.items c.requires.table c.requires.standing
+    c.args.at slot own c.watch-in-Checking.new.table place w (undecided-open t place c.index-in-Checking.result.now w.other other w.there (sym c.if-is_decided.ensures)))
+    c.watch-in-Checking.ensures
+
+pub returns-else-is_decided-clause-looked : goal.returns-else-is_decided-clause-looked
+returns-else-is_decided-clause-looked c =
+    let t = c.args.table.now in
+    let slot = c.index.result.now in
+    let place = c.in-Checking.awaiting.at in
+    let own = slice_get-item t.slots.items c.args.at slot c.requires.within c.index.ensures in
+    let within = awaiting-seen c.args.build.now t c.args.newly_ready.now.items c.requires.table c.requires.standing c.args.at slot c.in-Checking.awaiting own c.in-Checking.is in
+    let other = slice_get-item t.slots.items place c.index-in-Checking.result.now within c.index-in-Checking.ensures in
+    on_ok_weaker c.watch-in-Checking.result (λ w. watch-looked c.args.build.now t c.args.newly_ready.now.items c.requires.table c.requires.standing
+    c.args.at slot own c.watch-in-Checking.new.table place w (undecided-open t place c.index-in-Checking.result.now w.other other w.there (sym c.if-is_decided.ensures))
+    (awaiting-asked c.args.build.now t c.args.newly_ready.now.items c.requires.table c.requires.standing c.args.at slot c.in-Checking.awaiting own c.in-Checking.is))
+    c.watch-in-Checking.ensures
+
+pub returns-in_default : goal.returns-in_default
+returns-in_default c =
+    let slot = c.index.result.now in
+    let own = slice_get-item c.args.table.now.slots.items c.args.at slot c.requires.within c.index.ensures in
+    record {
+      table = c.requires.table;
+      looked = looked-skip c.args.build.now c.args.table.now c.args.newly_ready.now.items c.requires.table c.requires.standing
+          c.args.at slot own (still-stage slot.stage c.in_default.not-Waiting c.in_default.not-Checking);
+    }

@@ -1,5 +1,6 @@
-use Rattle.std.proofs.Common.{◌≡◌, ℕ, List, ap, subst, ◌∙◌}
+use Rattle.std.proofs.Common.{◌≡◌, sym, ap, subst, ◌∙◌}
 use Rattle.redo_core.specs.Build.{GivenView}
+use Rattle.redo_core.specs.inside.Reported.{AllTold, IsReportOf}
 use Rattle.redo_core.specs.Results.{IsResult}
 use Rattle.redo_core.specs.Views.{BoardView, request_on, limit_on, rules_on}
 use Rattle.redo_past.specs.NewBook.{IsResultOf}
@@ -22,17 +23,15 @@ report_of-requires-clause-one_each c =
 pub report_of-requires-clause-told : goal.report_of-requires-clause-told
 report_of-requires-clause-told c =
     let quiet = quiet-inside c.self.inside c.args.self c.self.view_is c.requires in
-    told-inside c.self.inside (c.self.invariant.kept quiet.0) c.deref-2.result.now
-    (c.deref-2.ensures ∙ c.sources.ensures ∙
-    ap (λ (g : GivenView). g.past.sources) (c.deref.ensures ∙ c.in_ok-given.ensures))
+    let P : GivenView → Type 0 = λ g. AllTold g c.self.inside.table in
+    subst P (sym (c.deref.ensures ∙ c.in_ok-given.ensures)) (told-inside c.self.inside (c.self.invariant.kept quiet.0))
 
 -- what the table comes to is the report of the board's build
 built : (c : In_ok-report) → IsReport (rules_on c.args.self) (request_on c.args.self) (limit_on c.args.self) c.in_ok-report.report
 built c =
-    report-view c.self.inside c.self.invariant.kept c.args.self c.self.view_is c.requires c.deref-2.result.now c.request.result.now
-    (c.deref-2.ensures ∙ c.sources.ensures ∙
-    ap (λ (g : GivenView). g.past.sources) (c.deref.ensures ∙ c.in_ok-given.ensures))
-    (c.request.ensures ∙ ap (λ (g : GivenView). g.request) (c.deref-3.ensures ∙ c.in_ok-given.ensures)) c.in_ok-report.report c.in_ok-report.ensures
+    let P : GivenView → Type 0 = λ g. IsReportOf g c.self.inside.table c.in_ok-report.report in
+    report-view c.self.inside c.self.invariant.kept c.args.self c.self.view_is c.requires c.in_ok-report.report
+    (subst P (c.deref.ensures ∙ c.in_ok-given.ensures) c.in_ok-report.ensures)
 
 pub with_book-requires-clause-rows : goal.with_book-requires-clause-rows
 with_book-requires-clause-rows c = (built (goal.at-with_book-requires-clause-rows c).In_ok-report).rows_ordered
@@ -44,7 +43,7 @@ pub returns : goal.returns
 returns c =
     let d = (goal.at-returns c).In_ok-report in
     let past : c.past.result.now ≡ c.args.self.given.past =
-    c.past.ensures ∙ ap (λ (g : GivenView). g.past) (c.deref-4.ensures ∙ d.in_ok-given.ensures) ∙ ap (λ (v : BoardView). v.given.past) c.self.view_is in
+    c.past.ensures ∙ ap (λ (g : GivenView). g.past) (c.deref-2.ensures ∙ d.in_ok-given.ensures) ∙ ap (λ (v : BoardView). v.given.past) c.self.view_is in
     if_ok-more c.with_book.result (IsResultOf c.past.result.now c.in_ok-report.report) (IsResult c.args.self.given)
     (λ whole made.
     let P : PastView → Type 0 = λ p. IsResultOf p c.in_ok-report.report whole in

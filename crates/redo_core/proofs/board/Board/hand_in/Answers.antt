@@ -1,11 +1,10 @@
 use Rattle.std.proofs.Common.{rules, ◌≡◌, ◌≤◌, ℕ, List, Option, Some, None, Ok, Err, IsNone, MatchOption, length, refl}
-use Rattle.std.proofs.Common.{sym, ap, subst, ◌∙◌, arith}
-use Rattle.std.specs.Arc.{arc_value}
+use Rattle.std.proofs.Common.{sym, ap, subst, ◌∙◌}
 use Rattle.redo_build.specs.Schedule.{IsOutAt}
 use Rattle.redo_core.specs.inside.Ends.{IsEndAt}
 use Rattle.redo_core.specs.Faults.{fault_of, Refused, RefusedRunning}
 use Rattle.redo_core.specs.inside.Slots.{IsKept, IsOutSlotAt, state_of}
-use Rattle.redo_core.specs.Views.{BoardView, PieceView}
+use Rattle.redo_core.specs.Views.{BoardView, PieceView, IsHandedIn}
 use Rattle.redo_core.specs.declared.board.Stop.{Stop}
 use Rattle.redo_core.specs.declared.board.Stop.TheVariants.{TooMany}
 use Rattle.redo_core.specs.declared.board.HandFault.{HandFault}
@@ -13,7 +12,7 @@ use Rattle.redo_core.specs.declared.board.HandFault.TheVariants.{Stranger}
 use Rattle.redo_core.proofs.SlotLemmas.{IsNone-from}
 use Rattle.redo_core.proofs.TakeLemmas.{view_of, distinct-inside, part-inside, length-entries}
 use Rattle.redo_core.proofs.BoardCountLemmas.{one_fewer, left_no_more}
-use Rattle.redo_core.proofs.HandInLemmas.{taken-state, open-out, may-take, taken-kept, too-many-after, stranger}
+use Rattle.redo_core.proofs.HandInLemmas.{moved-kept, moved-looked, moved-state, open-out, may-take, stranger}
 use Rattle.redo_core.proofs.HandInLemmas.{none-stopped, refused-after}
 use Rattle.redo_core.proofs.board.Board.hand_in.Goals as goal
 use Rattle.redo_core.proofs.board.Board.hand_in.Goals.{In_default, In-Some-out_at}
@@ -49,10 +48,10 @@ slot c =
     let B : ℕ → Type 0 = λ n. IsOutSlotAt c.self.inside.table c.args.piece.target n c.in-Some-out_at.at in
     subst B c.turn.ensures (subst A c.target.ensures c.in-Some-out_at.ensures)
 
-pub take_in-requires : goal.take_in-requires
-take_in-requires c =
-    let d = (goal.at-take_in-requires c).In_default in
-    let e = (goal.at-take_in-requires c).In-Some-out_at in
+pub move_on-requires : goal.move_on-requires
+move_on-requires c =
+    let d = (goal.at-move_on-requires c).In_default in
+    let e = (goal.at-move_on-requires c).In-Some-out_at in
     let b = c.self.inside in
     let given : c.args.piece.given ≡ b.build = c.requires ∙ ap (λ (v : BoardView). v.given) (sym c.self.view_is) in
     let A : GivenView → Type 0 = λ g. IsEndAt g c.args.piece.target c.args.piece.turn c.into_end.result in
@@ -63,7 +62,7 @@ invariant_of-self c =
     let d = (goal.at-invariant_of-self c).In_default in
     let e = (goal.at-invariant_of-self c).In-Some-out_at in
     record {
-      kept = λ _. taken-kept c.self.inside (kept d) c.args.piece.target c.args.piece.turn c.in-Some-out_at.at (slot e) c.take_in.new.table c.in-Ok.ensures.ok;
+      kept = λ _. moved-kept c.self.inside (kept d) c.args.piece.target c.args.piece.turn c.in-Some-out_at.at (slot e) c.move_on.new.table c.in-Ok.ensures.ok;
       too_many = c.self.invariant.too_many;
     }
 
@@ -75,7 +74,7 @@ invariant_of-self-in-Err c =
       kept = λ stopped. absurd (let no : Rattle.std.specs.Prelude.is_some (Some c.in-Err.stop) ≡ Rattle.std.proofs.Common.false = stopped in cc);
       too_many = λ is.
           let same : c.in-Err.stop ≡ TooMany = cc in
-          too-many-after c.self.inside (kept d) c.args.piece.target c.args.piece.turn c.in-Some-out_at.at (slot e) (c.in-Err.ensures.too_many (ap Err same));
+          c.in-Err.ensures.too_many (ap Err same);
     }
 
 pub returns-in-Ok-clause-open : goal.returns-in-Ok-clause-open
@@ -84,6 +83,20 @@ returns-in-Ok-clause-open c =
     let e = (goal.at-returns-in-Ok-clause-open c).In-Some-out_at in
     let P : BoardView → Type 0 = λ v. IsOutAt v.state c.args.piece.target c.args.piece.turn in
     subst P c.self.view_is (open-out c.self.inside (kept d) c.args.piece.target c.args.piece.turn c.in-Some-out_at.at (slot e))
+
+pub returns-in-Ok-clause-ok : goal.returns-in-Ok-clause-ok
+returns-in-Ok-clause-ok c =
+    let d = (goal.at-returns-in-Ok-clause-ok c).In_default in
+    let e = (goal.at-returns-in-Ok-clause-ok c).In-Some-out_at in
+    let b = c.self.inside in
+    let P : BoardView → Type 0 = λ v. IsHandedIn v c.args.piece.target c.args.piece.turn
+    (view_of (record b { table = c.move_on.new.table })) in
+    subst P c.self.view_is (record {
+      given = refl;
+      stopped = refl;
+      looked = moved-looked b (kept d) c.args.piece.target c.args.piece.turn c.in-Some-out_at.at (slot e) c.move_on.new.table
+          c.in-Ok.ensures.ok;
+    })
 
 pub returns-in-Ok-clause-within : goal.returns-in-Ok-clause-within
 returns-in-Ok-clause-within c =
@@ -100,10 +113,10 @@ returns-in-Err-clause-err c =
     let d = (goal.at-returns-in-Err-clause-err c).In_default in
     let e = (goal.at-returns-in-Err-clause-err c).In-Some-out_at in
     let b = c.self.inside in
-    let new : BoardView = view_of (record b { table = c.take_in.new.table; stopped = Some c.in-Err.stop }) in
+    let new : BoardView = view_of (record b { table = c.move_on.new.table; stopped = Some c.in-Err.stop }) in
     let out = open-out b (kept d) c.args.piece.target c.args.piece.turn c.in-Some-out_at.at (slot e) in
     let running = refused-after (view_of b) new c.args.piece c.in-Err.stop out refl refl (λ is.
-    too-many-after b (kept d) c.args.piece.target c.args.piece.turn c.in-Some-out_at.at (slot e) (c.in-Err.ensures.too_many (ap Err is))) in
+    c.in-Err.ensures.too_many (ap Err is)) in
     let F : HandFault → Type 0 = λ f. Refused c.args.self.now new c.args.piece f in
     let P : BoardView → Type 0 = λ v. Refused v new c.args.piece (fault_of c.in-Err.stop) in
     let Q : Option Stop → Type 0 = λ o. MatchOption o (RefusedRunning (view_of b) new c.args.piece (fault_of c.in-Err.stop)) (λ stop. (fault_of c.in-Err.stop ≡ fault_of stop) × (new ≡ view_of b)) in
@@ -116,7 +129,7 @@ returns-in-Ok-clause-one_fewer c =
     let b = c.self.inside in
     one_fewer b (kept d) (ap Rattle.std.specs.Prelude.is_some (on d)) c.args.piece.target c.args.piece.turn
     (open-out b (kept d) c.args.piece.target c.args.piece.turn c.in-Some-out_at.at (slot e)) _ c.self.view_is
-    (state_of (record b { table = c.take_in.new.table })) (taken-state b (kept d) c.args.piece.target c.args.piece.turn c.in-Some-out_at.at (slot e) c.take_in.new.table c.in-Ok.ensures.ok)
+    c.in-Ok.ensures.ok.looks (state_of (record b { table = c.move_on.new.table })) (moved-state b (kept d) c.args.piece.target c.args.piece.turn c.in-Some-out_at.at (slot e) c.move_on.new.table c.in-Ok.ensures.ok)
 
 pub returns-in-Ok-clause-left : goal.returns-in-Ok-clause-left
 returns-in-Ok-clause-left c =
@@ -125,5 +138,5 @@ returns-in-Ok-clause-left c =
     let b = c.self.inside in
     left_no_more b (kept d) (ap Rattle.std.specs.Prelude.is_some (on d)) c.args.piece.target c.args.piece.turn
     (open-out b (kept d) c.args.piece.target c.args.piece.turn c.in-Some-out_at.at (slot e)) _ c.self.view_is
-    (state_of (record b { table = c.take_in.new.table })) (taken-state b (kept d) c.args.piece.target c.args.piece.turn c.in-Some-out_at.at (slot e) c.take_in.new.table c.in-Ok.ensures.ok)
+    c.in-Ok.ensures.ok.looks (state_of (record b { table = c.move_on.new.table })) (moved-state b (kept d) c.args.piece.target c.args.piece.turn c.in-Some-out_at.at (slot e) c.move_on.new.table c.in-Ok.ensures.ok)
     (returns-in-Ok-clause-within c)

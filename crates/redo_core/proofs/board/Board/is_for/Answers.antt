@@ -1,4 +1,4 @@
-use Rattle.std.proofs.Common.{◌≡◌, ◌↔◌, IsTrue, ap, subst, ◌∙◌}
+use Rattle.std.proofs.Common.{◌↔◌, IsTrue, ap, subst, ◌∙◌}
 use Rattle.redo_core.specs.Build.{GivenView}
 use Rattle.redo_core.specs.Results.{IsGiven}
 use Rattle.redo_core.specs.Views.{BoardView}

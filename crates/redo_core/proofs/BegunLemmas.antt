@@ -1,0 +1,104 @@
+-- A job that is begun is a work.
+use Rattle.std.proofs.Common.{◌≡◌, ℕ, List, [], Option, Some, None, refl, sym, ap, subst, ◌∙◌, arith, Bor, Global}
+use Rattle.redo_record.specs.declared.outcome.Outcome.{Outcome}
+use Rattle.std.specs.Prelude.{Box, unwrap_or, option_copied, IfOk, Result, Ok, Err}
+use Rattle.redo_tree.specs.Tree.{Tree, file_at}
+use Rattle.redo_script.specs.Texts.{script_in}
+use Rattle.redo_step.specs.declared.parsed.Parsed.{Parsed}
+use Rattle.redo_step.specs.Parsed.{parsed_of}
+use Rattle.redo_record.specs.Answers.{Ask as Answers}
+use Rattle.redo_step.specs.Job.{begun}
+use Rattle.redo_step.specs.JobView.{JobView, IsFit}
+use Rattle.redo_step.specs.Limits.{LimitsView}
+use Rattle.redo_which.specs.declared.Rule.{Rule as FoundRule}
+use Rattle.redo_which.specs.Rule.{Outcome as Found, Rule, found_of}
+use Rattle.redo_which.specs.Views.{arguments_view}
+use Rattle.redo_core.specs.Build.{GivenView}
+use Rattle.redo_core.specs.Views.{WorkView}
+use Rattle.redo_core.specs.inside.Scripts.{IsBegunJob, IsScriptOf, script_deps, script_known, script_target, script_turn}
+use Rattle.redo_core.specs.inside.Works.{IsUnreadWork, IsWorkWith, found_as, known_in}
+use Rattle.redo_core.specs.declared.work.Begun.{Begun as BegunScript}
+use Rattle.redo_core.specs.declared.work.Script.{Script}
+use Rattle.redo_core.specs.declared.work.Script.TheVariants.{Begun, Unread}
+use Rattle.redo_core.specs.declared.work.Unread.{Unread as UnreadScript}
+use Rattle.redo_core.specs.declared.facts.Facts.{Facts}
+
+-- a job that was just begun is a work with what its check came to know
+pub begun-work : (given : GivenView) (target : List ℕ) (rule : FoundRule) (parsed : Parsed) →
+    found_of given.past.sources target ≡ Rule rule.do_file rule.missing (arguments_view rule.args) →
+    parsed_of parsed ≡ script_in (unwrap_or (file_at given.past.sources rule.do_file) []) →
+    ((ask : Answers) → IsFit (begun given.past.sources target rule parsed given.limits) ask) →
+    (found : Found) (facts : Facts) → IsUnreadWork given target found facts →
+    IsWorkWith given (begun given.past.sources target rule parsed given.limits) facts
+begun-work given target rule parsed is_found script fits found facts unread = record {
+  is_job = record { of_tree = refl; of_limits = refl; found = is_found; script = script };
+  is_work = unread.is_work;
+  exact = unread.exact;
+  behind = unread.behind;
+  declared = λ q m. m;
+  goes_on = λ later keeps. fits later;
+  gained = unread.gained;
+  few = omega arith;
+}
+
+-- a job that was begun on a shared tree is one of the tree
+pub begun-is : {E : Type 0} (given : GivenView) (own : Tree) (limits : LimitsView) (target : List ℕ) (rule : FoundRule) (parsed : Parsed) (result : Result JobView E) →
+    own ≡ given.past.sources → limits ≡ given.limits → found_of given.past.sources target ≡ Rule rule.do_file rule.missing (arguments_view rule.args) →
+    parsed_of parsed ≡ script_in (unwrap_or (file_at given.past.sources rule.do_file) []) →
+    IfOk result (λ job. job ≡ begun own target rule parsed limits) → IfOk result (λ job. (ask : Answers) → IsFit job ask) →
+    IfOk result (IsBegunJob given target)
+begun-is given own limits target rule parsed (Ok job) same bounds found script is fits =
+    let J : Tree → LimitsView → JobView = λ t l. begun t target rule parsed l in
+    let at : job ≡ J given.past.sources given.limits = is ∙ ap (λ t. J t limits) same ∙ ap (J given.past.sources) bounds in
+    let F : JobView → Type 0 = λ j. (ask : Answers) → IsFit j ask in
+    let fits' = subst F at fits in
+    let P : JobView → Type 0 = IsBegunJob given target in
+    subst P (sym at) (record {
+      of_target = refl;
+      at_first = refl;
+      none_recorded = refl;
+      is_work = begun-work given target rule parsed found script fits';
+    })
+begun-is given own limits target rule parsed (Err e) same bounds found script is fits = tt
+
+pub unwrap-copied : (o : Option (Bor (List ℕ))) (d : Bor (List ℕ)) → (unwrap_or o d).now ≡ unwrap_or (option_copied o) d.now
+unwrap-copied None d = refl
+unwrap-copied (Some b) d = refl
+
+-- What is advanced of a work is what the work shows
+
+-- an unread script that was begun is a work
+pub unread-work : (given : GivenView) (unread : Box UnreadScript Global) → IsScriptOf given (Unread unread) →
+    (own : UnreadScript) → own ≡ unread.value → (job : JobView) → IsBegunJob given own.target job → IsWorkWith given job own.facts
+unread-work given unread is own same job begun =
+    let P : UnreadScript → Type 0 = λ u. IsUnreadWork given u.target (found_as u.rule) u.facts in
+    begun.is_work (found_as own.rule) own.facts (subst P (sym same) is)
+
+-- a work as its script shows it
+abbrev pub work_of : GivenView → Script → WorkView
+work_of given script = record {
+  given = given;
+  target = script_target script;
+  turn = script_turn script;
+  deps = script_deps script;
+  known = script_known script;
+}
+
+module _ (given : GivenView) (script : Script) (view : WorkView) (is : work_of given script ≡ view)
+    (Q : GivenView → List ℕ → List (List ℕ × Outcome) → Type 0) where
+  pub unread-shows : (unread : Box UnreadScript Global) → script ≡ Unread unread → (own : UnreadScript) → own ≡ unread.value →
+      (job : JobView) → job.target ≡ own.target → Q given job.target (known_in own.facts) → Q view.given view.target view.known
+  unread-shows unread at own same job target h =
+      let V : WorkView → Type 0 = λ w. Q w.given w.target w.known in
+      let S : Script → Type 0 = λ s. Q given (script_target s) (script_known s) in
+      let U : UnreadScript → Type 0 = λ u. Q given u.target (known_in u.facts) in
+      let T : List ℕ → Type 0 = λ x. Q given x (known_in own.facts) in
+      subst V is (subst S (sym at) (subst U same (subst T target h)))
+
+  pub begun-shows : (begun : Box BegunScript Global) → script ≡ Begun begun → (own : BegunScript) → own ≡ begun.value →
+      Q given own.job.target (known_in own.facts) → Q view.given view.target view.known
+  begun-shows begun at own same h =
+      let V : WorkView → Type 0 = λ w. Q w.given w.target w.known in
+      let S : Script → Type 0 = λ s. Q given (script_target s) (script_known s) in
+      let B : BegunScript → Type 0 = λ b. Q given b.job.target (known_in b.facts) in
+      subst V is (subst S (sym at) (subst B same h))

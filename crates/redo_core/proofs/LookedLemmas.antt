@@ -1,0 +1,116 @@
+-- What so many looks lead to: a state that is reached, with as many jobs out and no more takes left; and a state that
+-- shows the build leaves nothing to look at.
+use Rattle.std.proofs.Common.{◌≡◌, ℕ, zero, suc, ◌≤◌, inl, inr, List, [], ◌∷◌, ◌++◌, length, Option, Some, None}
+use Rattle.std.proofs.Common.{true, refl, sym, ap, subst, ◌∙◌, arith}
+use Rattle.std.proofs.lemmas.Bool.{cases_Bool, and_parts}
+use Rattle.redo_record.specs.Paths.{IsAmong}
+use Rattle.redo_record.specs.Progress.{Progress}
+use Rattle.redo_record.specs.declared.deps.Dep.{Dep}
+use Rattle.redo_build.specs.Rules.{Ask, Rules, AreLawful, operands}
+use Rattle.redo_build.specs.Outcomes.{outcome_at}
+use Rattle.redo_build.specs.Schedule.{Entry, State, Phase, AllOpen, advanced, entered, entry_of, handed_in, happens}
+use Rattle.redo_build.specs.Schedule.{is_able_to_go_on, is_due, moved_on, opening, paths_of, put, run}
+use Rattle.redo_build.specs.Schedule.Event.{Look}
+use Rattle.redo_build.specs.Schedule.Phase.{Check}
+use Rattle.redo_build.specs.Looking.{NoneDue, first_due, looked, looked_once}
+use Rattle.redo_build.specs.TakesLeft.{takes_left}
+use Rattle.redo_build.specs.Theorems.{ShowsBuild}
+use Rattle.redo_build.proofs.CountLemmas.{look-left}
+use Rattle.redo_build.proofs.DepthLemmas.{cases_Option, outcome_at-step, settled}
+use Rattle.redo_build.proofs.DueLemmas.{none-due-from}
+use Rattle.redo_build.proofs.LookingLemmas.{first-look, first-open, looks-lead}
+use Rattle.redo_build.proofs.SeenLemmas.{entered-longer, entry_of-among, outcomes_of-at, paths_of-put}
+use Rattle.redo_build.proofs.SoundLemmas.{IsSound, happens-sound, is_able_to_go_on-parts, lacks_none-true}
+use Rattle.redo_build.proofs.SoundLemmas.{opening-sound, run-sound}
+use Rattle.redo_build.proofs.StillLemmas.{AllOpen-behind, run-behind}
+use Rattle.redo_core.specs.Views.{IsReached}
+
+length-paths : (es : List Entry) → length (paths_of es) ≡ length es
+length-paths [] = refl
+length-paths (e ∷ es) = ap suc (length-paths es)
+
+length-put : (es : List Entry) (e : Entry) → length (put es e) ≡ length es
+length-put es e = sym (length-paths (put es e)) ∙ ap length (paths_of-put es e) ∙ length-paths es
+
+handed-longer : (r : Rules) (phase : Phase) (s : State) (o : Option Entry) →
+    length s.entries ≤ length (handed_in r phase s o).entries
+handed-longer r phase s None = omega arith
+handed-longer r phase s (Some e) =
+    let now : Progress = advanced r s.entries e in
+    let es : List Entry = entered r s.entries (operands r now.deps) in
+    omega (arith, entered-longer r s.entries (operands r now.deps), length-put es (moved_on phase e now))
+
+-- looks forget nothing that was seen
+pub looked-longer : (r : Rules) (looks : ℕ) (s : State) → length s.entries ≤ length (looked r looks s).entries
+looked-longer r zero s = omega arith
+looked-longer r (suc n) s =
+    omega (arith, handed-longer r Check s (first_due r s), looked-longer r n (looked_once r s))
+
+module _ (r : Rules) (lawful : AreLawful r) (request : List (List ℕ)) where
+  pub reached-sound : (s : State) → IsReached r request s → IsSound r request s
+  reached-sound s reached =
+      let P : State → Type 0 = IsSound r request in
+      subst P (sym reached.ends)
+      (run-sound r lawful request (opening r request) reached.events
+      (opening-sound r lawful request) reached.all_open)
+
+  pub reached-looked : (looks : ℕ) (s : State) → IsReached r request s → IsReached r request (looked r looks s)
+  reached-looked looks s reached =
+      let first : State = opening r request in
+      let led = looks-lead r lawful request looks s (reached-sound s reached) in
+      let P : State → Type 0 = λ x. AllOpen r x led.looks in
+      record {
+        events = reached.events ++ led.looks;
+        all_open =
+            AllOpen-behind r reached.events led.looks first reached.all_open (subst P reached.ends led.all_open);
+        ends = led.is ∙ ap (run r led.looks) reached.ends ∙ sym (run-behind r reached.events led.looks first);
+      }
+
+  -- looks leave no more to take
+  pub looked-left : (limit looks : ℕ) (s : State) → IsSound r request s → length (looked r looks s).entries ≤ limit →
+      takes_left limit (looked r looks s) ≤ takes_left limit s
+  looked-left limit zero s sound few = omega arith
+  looked-left limit (suc n) s sound few = elim (cases_Option (first_due r s)) [
+    | inl none ↦
+        let still : looked_once r s ≡ s = ap (handed_in r Check s) none in
+        let P : State → Type 0 = λ t. length (looked r n t).entries ≤ limit →
+        takes_left limit (looked r n t) ≤ takes_left limit s in
+        subst P (sym still) (looked-left limit n s sound) few
+    | inr due ↦
+        let path : List ℕ = due.0.path in
+        let open' = first-open r lawful request s sound due.0 due.1 in
+        let same = first-look r lawful request s sound due.0 due.1 in
+        let next : State = happens r s (Look path) in
+        let P : State → Type 0 = λ t. length (looked r n t).entries ≤ limit →
+        takes_left limit (looked r n t) ≤ takes_left limit s in
+        let after : P next = λ within.
+        let inside : length next.entries ≤ limit = omega (arith, within, looked-longer r n next) in
+        let less = look-left r lawful request s sound path limit open' inside in
+        let rest = looked-left limit n next (happens-sound r lawful request s (Look path) sound open') within in
+        omega (arith, less, rest) in
+        subst P (sym same) after few
+  ]
+
+  -- what shows the build leaves nothing to look at: what isn't decided there lacks an answer for good
+  pub shown-none_due : (limit : ℕ) (s : State) → IsSound r request s → ShowsBuild r request limit s → NoneDue r s
+  shown-none_due limit s sound shown =
+      none-due-from r s sound.standing.distinct (λ p e at. elim (cases_Bool (is_due r s e)) [
+        | inl due ↦ absurd (never p e at due)
+        | inr f ↦ f
+      ])
+    where
+      never : (p : List ℕ) (e : Entry) → entry_of s.entries p ≡ Some e → is_due r s e ≡ true → ⊥
+      never p e at due =
+          let parts = is_able_to_go_on-parts r s e (and_parts (is_able_to_go_on r s e) _ due).0 in
+          let seen = entry_of-among s.entries p e at in
+          let end : Ask = outcome_at r limit in
+          let waits : end p ≡ None = sym (shown.outcomes p seen) ∙ outcomes_of-at s.entries p e at ∙ parts.0 in
+          let stays = (settled r lawful request limit shown.within).same (suc limit) p (omega arith)
+          ((shown.members p).0 seen) in
+          let open' : (r.progress p end).outcome ≡ None =
+          sym (outcome_at-step r lawful limit p (sound.standing.targets p seen)) ∙ stays ∙ waits in
+          let lack = (lawful.each p).lacking end open' in
+          let A : List Dep → Type 0 = λ ds. IsAmong (operands r ds) lack.0 in
+          let asked = subst A (sym (shown.declared p e at)) lack.1 in
+          let there = sound.standing.closed p lack.0 e at asked in
+          lacks_none-true r s.entries e parts.1 lack.0 asked (shown.outcomes lack.0 there ∙ lack.2)

@@ -1,0 +1,338 @@
+-- What a look comes to: the target is kept, or its check asks for the next path.
+use Rattle.std.proofs.Common.{map, slice_get, ◌≡◌, ℕ, suc, ◌+◌, ◌<◌, Bool, true, false, ◌⊎◌, inl, inr, List, [], ◌∷◌, ◌++◌, length}
+use Rattle.std.proofs.Common.{Option, Some, None, refl, sym, ap, subst, ◌∙◌, arith, Global}
+use Rattle.std.specs.Prelude.{Box, ◌&&◌}
+use Rattle.std.proofs.lemmas.Bool.{cases_Bool, both_ways, and_right}
+use Rattle.redo_record.specs.declared.deps.Dep.{Dep}
+use Rattle.redo_record.specs.declared.deps.DepKind.TheVariants as kinds
+use Rattle.redo_record.specs.declared.outcome.Outcome.{Outcome}
+use Rattle.redo_record.specs.declared.outcome.Outcome.TheVariants.{Built}
+use Rattle.redo_record.specs.Entries.{is_entered, with_entry}
+use Rattle.redo_record.specs.Paths.{IsAmong, AreDistinct, is_among}
+use Rattle.redo_record.specs.Progress.{Progress}
+use Rattle.redo_build.specs.Rules.{Ask, Rules, AreLawful, Extends, operands}
+use Rattle.redo_build.specs.Outcomes.{outcome_at}
+use Rattle.redo_build.specs.Schedule.{Entry, advanced, entered, moved_on, only, outcomes_of, paths_of, put}
+use Rattle.redo_build.specs.Schedule.Phase.{Check as In_check}
+use Rattle.redo_build.specs.inside.Standing.{AreStanding}
+use Rattle.redo_build.proofs.DepthLemmas.{cases_Option, ended_stays, operand-target}
+use Rattle.redo_build.proofs.PathLemmas.{is_among-true, is_among-from, with_new-distinct}
+use Rattle.redo_build.proofs.SeenLemmas.{entry_of-entered_old, outcomes_of-at, outcomes_of-entry, paths_of-entered}
+use Rattle.redo_build.proofs.TurnLemmas.{only-Extends, only-among, Extends-trans'}
+use Rattle.redo_skip.specs.Checks.{built, shown}
+use Rattle.redo_tree.specs.Tree.{file_at}
+use Rattle.redo_core.specs.Build.{GivenView, rules_for}
+use Rattle.redo_core.specs.Views.{FactView}
+use Rattle.redo_core.specs.inside.Checking.{IsWaitingCheck, asks_next, entries_in}
+use Rattle.redo_core.specs.inside.Decided.{IsDecided}
+use Rattle.redo_core.specs.inside.Slots.{AreEnteredInto, IsAskedAt, IsCheckingWith, IsConcludedAt, IsOutThere, IsPutBackThere, MayConclude}
+use Rattle.redo_core.specs.inside.Slots.{MayLook, concluded_entry, path_at, rounds_of, slot_entry, stage_deps, stage_outcome, is_stage_out}
+use Rattle.redo_core.specs.inside.Slots.{state_after, table_entries}
+use Rattle.redo_core.specs.declared.table.InCheck.{InCheck}
+use Rattle.redo_core.specs.declared.table.Slot.{Slot}
+use Rattle.redo_core.specs.declared.table.Stage.{Stage}
+use Rattle.redo_core.specs.declared.table.Table.{Table}
+use Rattle.redo_core.proofs.CheckingLemmas.{due-asks, due-kept, due-waits, waiting-moves}
+use Rattle.redo_core.proofs.EnterAllLemmas.{entered-seen, operands-append}
+use Rattle.redo_core.proofs.LawfulTreeLemmas.{lawful_for}
+use Rattle.redo_core.proofs.PutSteps.{asked-table, asked-watched, put-entries}
+use Rattle.redo_core.proofs.SlotLemmas.{paths_of-slots, slice_get-below_some}
+use Rattle.redo_core.proofs.TakeInLemmas.{all-entered}
+use Rattle.redo_core.proofs.LookSteps.{fits, look-after_entries, look-deep, look-distinct, look-key, look-known, look-out}
+use Rattle.redo_core.proofs.LookSteps.{look-outcomes, look-path, look-seen, look-sound, look-table, look-targets, look-there, look-watched}
+
+-- the operands of entries to which one was added
+entry-cases : (r : Rules) (ds : List Dep) (d : Dep) (x : List ℕ) → IsAmong (operands r (with_entry ds d.kind d.path)) x →
+    IsAmong (operands r ds) x ⊎ IsAmong (operands r (d ∷ [])) x
+entry-cases r ds d x m = elim (cases_Bool (is_entered ds d.kind d.path)) [
+  | inl t ↦ inl (rw t at m)
+  | inr f ↦
+      let A : List (List ℕ) → Type 0 = λ qs. IsAmong qs x in
+      append-cases (operands r ds) (operands r (d ∷ [])) x (subst A (operands-append r ds (d ∷ [])) (rw f at m))
+]
+  where
+    append-cases : (ps qs : List (List ℕ)) (y : List ℕ) → IsAmong (ps ++ qs) y → IsAmong ps y ⊎ IsAmong qs y
+    append-cases [] qs y n = inr n
+    append-cases (z ∷ ps) qs y n = elim n [
+      | inl here ↦ inl (inl here)
+      | inr later ↦ elim (append-cases ps qs y later) [ inl l ↦ inl (inr l) | inr k ↦ inr k ]
+    ]
+
+entry-keeps : (r : Rules) (ds : List Dep) (d : Dep) (x : List ℕ) → IsAmong (operands r ds) x → IsAmong (operands r (with_entry ds d.kind d.path)) x
+entry-keeps r ds d x m = elim (cases_Bool (is_entered ds d.kind d.path)) [
+  | inl t ↦ rw t m
+  | inr f ↦
+      let A : List (List ℕ) → Type 0 = λ qs. IsAmong qs x in
+      rw f (subst A (sym (operands-append r ds (d ∷ []))) (append-left (operands r ds) (operands r (d ∷ [])) x m))
+]
+  where
+    append-left : (ps qs : List (List ℕ)) (y : List ℕ) → IsAmong ps y → IsAmong (ps ++ qs) y
+    append-left [] qs y n = absurd n
+    append-left (z ∷ ps) qs y n = elim n [ inl here ↦ inl here | inr later ↦ inr (append-left ps qs y later) ]
+
+module _ (given : GivenView) (u : Table) (at : ℕ) (held : Box InCheck Global) (may : MayLook given u at held) where
+  abbrev r : Rules
+  r = rules_for given
+
+  abbrev lim : ℕ
+  lim = given.limits.targets
+
+  abbrev al : Ask
+  al = outcome_at (rules_for given) given.limits.targets
+
+  abbrev p : List ℕ
+  p = path_at may.whole.targets at
+
+  abbrev eu : List Entry
+  eu = table_entries (rules_for given) given.limits.targets u
+
+  abbrev ew : List Entry
+  ew = table_entries (rules_for given) given.limits.targets may.whole
+
+  abbrev e : Entry
+  e = (slot_entry (rules_for given) (outcome_at (rules_for given) given.limits.targets) (path_at may.whole.targets at) may.taken.old)
+
+  abbrev asked : List Dep
+  asked = held.value.check.asked
+
+  -- what its check knows
+  abbrev known : Ask
+  known = only (operands (rules_for given) held.value.check.asked) (outcomes_of (table_entries (rules_for given) given.limits.targets may.whole))
+
+  lawful : AreLawful (rules_for given)
+  lawful = lawful_for given
+
+  deep : Extends (rules_for given) (only (operands (rules_for given) held.value.check.asked) (outcomes_of (table_entries (rules_for given) given.limits.targets may.whole))) (outcome_at (rules_for given) given.limits.targets)
+  deep = Extends-trans' r known (outcomes_of ew) al (only-Extends r (operands r asked) (outcomes_of ew) (outcomes_of ew) (λ q o s h. h)) (look-deep given u at held may)
+
+  -- all entries stand
+  module _ (stands : asks_next given held.value.check ≡ None) where
+    kept-now : advanced (rules_for given) (table_entries (rules_for given) given.limits.targets may.whole) (slot_entry (rules_for given) (outcome_at (rules_for given) given.limits.targets) (path_at may.whole.targets at) may.taken.old) ≡ built (file_at given.past.tree (path_at may.whole.targets at)) held.value.check.asked
+    kept-now = look-known given u at held may ∙ (due-kept given p (outcomes_of ew) held.value.check (fits given u at held may).is_due stands).0
+
+    kept-end : (rules_for given).progress (path_at may.whole.targets at) (outcome_at (rules_for given) given.limits.targets) ≡ built (file_at given.past.tree (path_at may.whole.targets at)) held.value.check.asked
+    kept-end =
+        let here = (due-kept given p (outcomes_of ew) held.value.check (fits given u at held may).is_due stands).0 in
+        sym (ended_stays r lawful p known al (Built (file_at given.past.tree p)) deep (ap (λ (x : Progress). x.outcome) here)) ∙ here
+
+    -- what is asked for has the same answers in the end
+    kept-alike : (q : List ℕ) → IsAmong (operands (rules_for given) ((rules_for given).progress (path_at may.whole.targets at) (only (operands (rules_for given) held.value.check.asked) (outcomes_of (table_entries (rules_for given) given.limits.targets may.whole)))).deps) q → (only (operands (rules_for given) held.value.check.asked) (outcomes_of (table_entries (rules_for given) given.limits.targets may.whole))) q ≡ outcome_at (rules_for given) given.limits.targets q
+    kept-alike q m =
+        let here = (due-kept given p (outcomes_of ew) held.value.check (fits given u at held may).is_due stands).0 in
+        let D : Progress → Type 0 = λ x. IsAmong (operands r x.deps) q in
+        let among : IsAmong (operands r asked) q = subst D here m in
+        elim (cases_Option (outcomes_of ew q)) [
+          | inl none ↦ absurd ((fits given u at held may).answered q among none)
+          | inr some ↦ only-among (operands r asked) (outcomes_of ew) q among ∙ some.1 ∙ sym (look-deep given u at held may q some.0 (operand-target r lawful asked q among) some.1)
+        ]
+
+    pub kept-decided : IsDecided given (path_at may.whole.targets at) (Built (file_at given.past.tree (path_at may.whole.targets at))) (map shown (entries_in given held.value.check)) false
+    kept-decided =
+        let kept = due-kept given p (outcomes_of ew) held.value.check (fits given u at held may).is_due stands in
+        let begins : r.begins p al ≡ false = sym (lawful.begins_local p known al kept-alike) ∙ kept.1 in (
+          asked,
+          record {
+            depth = lim;
+            is = kept-end;
+            recorded = sym kept.2 ∙ lawful.recorded_local p known al kept-alike;
+            begun = sym (ap (λ b. r.has_rule p && b) begins ∙ and_right (r.has_rule p) false refl);
+          },
+        )
+
+    module _ (fact : FactView) (of_given : fact.given ≡ given) (of_target : fact.target ≡ (path_at may.whole.targets at)) (of_outcome : fact.outcome ≡ Built (file_at given.past.tree (path_at may.whole.targets at))) where
+      kept-after : put (table_entries (rules_for given) given.limits.targets u) (concluded_entry given (path_at may.whole.targets at) may.taken.new fact) ≡ (state_after given In_check u at).entries
+      kept-after =
+          let M : ℕ → ℕ → List Dep → Outcome → Entry = λ k n ds o. record { path = p; looks = k; turn = n; deps = ds; outcome = Some o; is_out = false } in
+          let N : Progress → List Entry = λ n. put (entered r eu (operands r n.deps)) (moved_on In_check e n) in
+          let ds : List Dep = (r.progress p al).deps in
+          let file : Outcome = Built (file_at given.past.tree p) in
+          let seen = entered-seen r eu (operands r asked) (look-seen given u at held may) in
+          ap (λ k. put eu (M k may.taken.new.turn ds fact.outcome)) may.taken.looks
+          ∙ ap (λ n. put eu (M may.taken.old.looks n ds fact.outcome)) may.taken.turn
+          ∙ ap (λ xs. put eu (M may.taken.old.looks may.taken.old.turn xs fact.outcome)) (ap (λ (x : Progress). x.deps) kept-end)
+          ∙ ap (λ o. put eu (M may.taken.old.looks may.taken.old.turn asked o)) of_outcome
+          ∙ sym (ap (λ xs. put xs (M may.taken.old.looks may.taken.old.turn asked file)) seen)
+          ∙ sym (ap N kept-now) ∙ sym (look-after_entries given u at held may)
+
+      pub kept-may : MayConclude given u at fact
+      kept-may =
+          let S : List Entry → Type 0 = AreStanding r given.request in
+          record {
+            table = look-table given u at held may;
+            watched = look-watched given u at held may;
+            distinct = look-distinct given u at held may;
+            is_out = look-out given u at held may;
+            of_build = (of_given, of_target ∙ sym (look-path given u at held may));
+            request = given.request;
+            standing = λ slot there.
+                let both : Some slot ≡ Some may.taken.new = sym there ∙ look-there given u at held may in
+                let same : slot ≡ may.taken.new = cc in
+                let Q : Slot → Type 0 = λ x. S (put eu (concluded_entry given p x fact)) in
+                let R : List ℕ → Type 0 = λ q. S (put eu (concluded_entry given q slot fact)) in
+                subst R (sym (look-path given u at held may)) (subst Q (sym same) (subst S (sym kept-after) (look-sound given u at held may).standing));
+          }
+
+      pub kept-put : (v : Table) (newly_ready : List ℕ) → IsConcludedAt given u v at fact newly_ready → IsPutBackThere given (state_after given In_check u at) u v newly_ready []
+      kept-put v newly_ready c =
+          let both : Some c.slot ≡ Some may.taken.new = sym c.there ∙ look-there given u at held may in
+          let same : c.slot ≡ may.taken.new = cc in
+          record {
+            table = c.table;
+            entries = c.entries ∙ ap (λ q. put eu (concluded_entry given q c.slot fact)) (look-path given u at held may)
+                ∙ ap (λ (x : Slot). put eu (concluded_entry given p x fact)) same ∙ kept-after;
+            ready = c.ready;
+            keys_kept = λ k q h. rw c.targets h;
+            within = λ k m. absurd m;
+            watched = c.watched;
+          }
+
+  -- the next entry asks for a path
+  module _ (q : List ℕ) (next : asks_next given held.value.check ≡ Some q) where
+    -- all that it asked for then
+    abbrev more : List Dep
+    more = with_entry held.value.check.asked kinds.Change q
+
+    abbrev asks : ((rules_for given).progress (path_at may.whole.targets at) (only (operands (rules_for given) held.value.check.asked) (outcomes_of (table_entries (rules_for given) given.limits.targets may.whole))) ≡ record { outcome = None; deps = with_entry held.value.check.asked kinds.Change q }) ×
+        ((rules_for given).begins (path_at may.whole.targets at) (only (operands (rules_for given) held.value.check.asked) (outcomes_of (table_entries (rules_for given) given.limits.targets may.whole))) ≡ false) × ((rules_for given).is_source q ≡ false) × (IsAmong (operands (rules_for given) held.value.check.asked) q → ⊥)
+    asks = due-asks given p (outcomes_of ew) held.value.check q (fits given u at held may).is_due next
+
+    asked-now : advanced (rules_for given) (table_entries (rules_for given) given.limits.targets may.whole) (slot_entry (rules_for given) (outcome_at (rules_for given) given.limits.targets) (path_at may.whole.targets at) may.taken.old) ≡ record { outcome = None; deps = with_entry held.value.check.asked kinds.Change q }
+    asked-now = look-known given u at held may ∙ asks.0
+
+    alone : operands (rules_for given) (record { kind = kinds.Change; path = q } ∷ []) ≡ q ∷ []
+    alone = rw asks.2 refl
+
+    pub asked-enters : entered (rules_for given) (table_entries (rules_for given) given.limits.targets u) (operands (rules_for given) (with_entry held.value.check.asked kinds.Change q)) ≡ entered (rules_for given) (table_entries (rules_for given) given.limits.targets u) (q ∷ [])
+    asked-enters =
+        all-entered r eu asked (record { kind = kinds.Change; path = q } ∷ [])
+        ∙ ap (λ xs. entered r xs (operands r (record { kind = kinds.Change; path = q } ∷ []))) (entered-seen r eu (operands r asked) (look-seen given u at held may))
+        ∙ ap (entered r eu) alone
+
+    asked-after : put (entered (rules_for given) (table_entries (rules_for given) given.limits.targets u) (q ∷ [])) (record { path = (path_at may.whole.targets at); looks = may.taken.old.looks + 1; turn = may.taken.old.turn; deps = with_entry held.value.check.asked kinds.Change q; outcome = None; is_out = false }) ≡
+        (state_after given In_check u at).entries
+    asked-after =
+        let N : Progress → List Entry = λ n. put (entered r eu (operands r n.deps)) (moved_on In_check e n) in
+        let m : Entry = record { path = p; looks = may.taken.old.looks + 1; turn = may.taken.old.turn; deps = more; outcome = None; is_out = false } in
+        sym (ap (λ xs. put xs m) asked-enters) ∙ sym (ap N asked-now) ∙ sym (look-after_entries given u at held may)
+
+    length-put : (xs : List Entry) (x : Entry) → length (put xs x) ≡ length xs
+    length-put [] x = refl
+    length-put (y ∷ xs) x = elim (cases_Bool (Rattle.std.proofs.Common.bytes_eq y.path x.path)) [ inl t' ↦ rw t' refl | inr f ↦ rw f (ap suc (length-put xs x)) ]
+
+    pub asked-length : length (entered (rules_for given) (table_entries (rules_for given) given.limits.targets u) (q ∷ [])) ≡ length (state_after given In_check u at).entries
+    asked-length = sym (length-put (entered r eu (q ∷ [])) (record { path = p; looks = may.taken.old.looks + 1; turn = may.taken.old.turn; deps = more; outcome = None; is_out = false })) ∙ ap length asked-after
+
+    -- what it asked for, but for that path, it had asked for before
+    other-asked : (x : List ℕ) → IsAmong (operands (rules_for given) (with_entry held.value.check.asked kinds.Change q)) x → (q ≡ x → ⊥) → IsAmong (operands (rules_for given) held.value.check.asked) x
+    other-asked x m other = elim (entry-cases r asked (record { kind = kinds.Change; path = q }) x m) [
+      | inl before ↦ before
+      | inr here ↦ absurd (let A : List (List ℕ) → Type 0 = λ qs. IsAmong qs x in elim (subst A alone here) as (λ _. ⊥) [ inl is ↦ other is | inr none ↦ none ])
+    ]
+
+    asked-still : (x : List ℕ) → IsAmong (operands (rules_for given) held.value.check.asked) x → IsAmong (operands (rules_for given) (with_entry held.value.check.asked kinds.Change q)) x
+    asked-still x m = entry-keeps r asked (record { kind = kinds.Change; path = q }) x m
+
+    module _ (v : Table) (newly_ready : List ℕ) (place : ℕ) (a : AreEnteredInto given u v newly_ready (q ∷ [])) (number : slice_get v.targets place ≡ Some q) where
+      pub asked-out : IsOutThere v at
+      asked-out =
+          let out = look-out given u at held may in
+          (omega (arith, out.0, a.rest.1), (out.1.0, a.slots_kept at out.1.0 out.1.1, out.1.2, out.1.3))
+
+      asked-path : path_at v.targets at ≡ path_at may.whole.targets at
+      asked-path =
+          let T : List (List ℕ) → Type 0 = λ ps. slice_get ps at ≡ Some p in
+          rw (a.keys_kept at p (subst T (sym (look-targets given u at held may)) (look-key given u at held may))) refl
+
+      asked-distinct : AreDistinct v.targets
+      asked-distinct =
+          let D : List (List ℕ) → Type 0 = AreDistinct in
+          let before = subst D (sym (paths_of-slots r al u.targets u.slots.items (look-table given u at held may).one_each)) (look-distinct given u at held may) in
+          let paths = ap paths_of a.entries ∙ paths_of-entered r eu (q ∷ []) in
+          subst D (paths_of-slots r al v.targets v.slots.items a.table.one_each) (subst D (sym paths) (with_new-distinct (paths_of eu) (q ∷ []) before))
+
+      -- answers stay
+      asked-more : Extends (rules_for given) (outcomes_of (table_entries (rules_for given) given.limits.targets may.whole)) (outcomes_of (table_entries (rules_for given) given.limits.targets v))
+      asked-more x o source h =
+          let S : List Entry → Type 0 = λ xs. outcomes_of xs x ≡ Some o in
+          let old = outcomes_of-entry eu x o (look-outcomes given u at held may x ∙ h) in
+          subst S (sym a.entries) (outcomes_of-at (entered r eu (q ∷ [])) x old.0 (entry_of-entered_old r eu (q ∷ []) x old.0 old.1) ∙ old.2)
+
+      asked-same : (x : List ℕ) → IsAmong (operands (rules_for given) held.value.check.asked) x → outcomes_of (table_entries (rules_for given) given.limits.targets may.whole) x ≡ outcomes_of (table_entries (rules_for given) given.limits.targets v) x
+      asked-same x m = elim (cases_Option (outcomes_of ew x)) [
+        | inl none ↦ absurd ((fits given u at held may).answered x m none)
+        | inr some ↦ some.1 ∙ sym (asked-more x some.0 (operand-target r lawful asked x m) some.1)
+      ]
+
+      module _ (w : Table) (held' : Box InCheck Global) (is : held'.value ≡ record held.value { check = record held.value.check { asked = with_entry held.value.check.asked kinds.Change q } })
+          (d : IsAskedAt v w at (record { held = held'; path = q; at = place })) where
+        slot-old : d.old ≡ may.taken.new
+        slot-old =
+            let both : Some d.old ≡ Some may.taken.new = sym d.put_back.there ∙ a.slots_kept at may.taken.new (look-there given u at held may) in cc
+
+        turn-same : d.new.turn ≡ may.taken.old.turn
+        turn-same = d.turn ∙ ap (λ (x : Slot). x.turn) slot-old ∙ may.taken.turn
+
+        looks-same : d.new.looks ≡ may.taken.old.looks + 1
+        looks-same = d.looks ∙ ap (λ (x : Slot). x.looks + 1) slot-old ∙ ap (λ n. n + 1) may.taken.looks
+
+        checking-raw : IsCheckingWith (rules_for given) (outcomes_of (table_entries (rules_for given) given.limits.targets v)) given (path_at may.whole.targets at) may.taken.old.turn
+            (record { held = record held' { value = record held.value { check = record held.value.check { asked = with_entry held.value.check.asked kinds.Change q } } }; path = q; at = place })
+        checking-raw =
+            let due = fits given u at held may in
+            let waits : IsWaitingCheck given p (outcomes_of ew) q (record held.value.check { asked = more }) = due-waits given p (outcomes_of ew) held.value.check q due.is_due next in
+            record {
+              is_held = record { found = due.is_held.found; at_first = due.is_held.at_first; none_gained = due.is_held.none_gained; none_behind = due.is_held.none_behind };
+              waits = waiting-moves given p (outcomes_of ew) (outcomes_of (table_entries r lim v)) q (record held.value.check { asked = more }) waits
+                  (λ x m other. asked-same x (other-asked x m (λ is'. other (sym is'))));
+              answered = λ x m other none. due.answered x (other-asked x m other) (asked-same x (other-asked x m other) ∙ none);
+              exact = λ x other. due.exact x ∙ elim (cases_Bool (is_among (operands r asked) x)) as
+                  (λ _. only (operands r asked) (outcomes_of ew) x ≡ only (operands r more) (outcomes_of (table_entries r lim v)) x) [
+                    | inl t ↦
+                        let m = is_among-true (operands r asked) x t in
+                        only-among (operands r asked) (outcomes_of ew) x m ∙ asked-same x m ∙ sym (only-among (operands r more) (outcomes_of (table_entries r lim v)) x (asked-still x m))
+                    | inr f ↦
+                        let no' : is_among (operands r more) x ≡ false = elim (cases_Bool (is_among (operands r more) x)) [
+                          | inl t ↦ absurd (both_ways _ f (is_among-from (operands r asked) x (other-asked x (is_among-true (operands r more) x t) other)))
+                          | inr n ↦ n
+                        ] in
+                        rw (f, no') refl
+                  ];
+              lacks = due.exact q ∙ elim (cases_Bool (is_among (operands r asked) q)) as (λ _. only (operands r asked) (outcomes_of ew) q ≡ None) [
+                | inl t ↦ absurd (asks.3 (is_among-true (operands r asked) q t))
+                | inr f ↦ rw f refl
+              ];
+            }
+
+        checking : IsCheckingWith (rules_for given) (outcomes_of (table_entries (rules_for given) given.limits.targets v)) given (path_at v.targets at) d.new.turn (record { held = held'; path = q; at = place })
+        checking =
+            let C : List ℕ → ℕ → Box InCheck Global → Type 0 = λ x n h. IsCheckingWith r (outcomes_of (table_entries r lim v)) given x n (record { held = h; path = q; at = place }) in
+            let X : List ℕ → Type 0 = λ x. C x d.new.turn held' in
+            let Y : ℕ → Type 0 = λ n. C p n held' in
+            let Z : InCheck → Type 0 = λ h. C p may.taken.old.turn (record held' { value = h }) in
+            subst X (sym asked-path) (subst Y (sym turn-same) (subst Z (sym is) checking-raw))
+
+        asked-moved : table_entries (rules_for given) given.limits.targets w ≡ (state_after given In_check u at).entries
+        asked-moved =
+            let put-in = put-entries given v w newly_ready a.table asked-distinct at d.old d.new d.put_back in
+            let M : List ℕ → ℕ → ℕ → List Dep → Entry = λ x k n ds. record { path = x; looks = k; turn = n; deps = ds; outcome = None; is_out = false } in
+            let T : Stage → Entry = λ st. record { path = path_at v.targets at; looks = d.new.looks; turn = d.new.turn; deps = stage_deps r al (path_at v.targets at) (rounds_of d.new) st; outcome = stage_outcome st; is_out = is_stage_out st } in
+            let deps : held'.value.check.asked ≡ more = ap (λ (h : InCheck). h.check.asked) is in
+            let entry' : slot_entry r al (path_at v.targets at) d.new ≡ M p (may.taken.old.looks + 1) may.taken.old.turn more =
+            ap T d.stage ∙ ap (λ x. M x d.new.looks d.new.turn held'.value.check.asked) asked-path ∙ ap (λ k. M p k d.new.turn held'.value.check.asked) looks-same
+            ∙ ap (λ n. M p (may.taken.old.looks + 1) n held'.value.check.asked) turn-same ∙ ap (M p (may.taken.old.looks + 1) may.taken.old.turn) deps in
+            put-in ∙ ap (put (table_entries r lim v)) entry' ∙ ap (λ xs. put xs (M p (may.taken.old.looks + 1) may.taken.old.turn more)) a.entries ∙ asked-after
+
+        pub asked-put : IsPutBackThere given (state_after given In_check u at) u w newly_ready (at ∷ [])
+        asked-put =
+            let len = ap length d.put_back.slots ∙ Rattle.std.proofs.Common.length-set v.slots.items at d.new in
+            record {
+              table = asked-table given v w newly_ready a.table asked-distinct at (record { held = held'; path = q; at = place }) d checking number;
+              entries = asked-moved;
+              ready = d.put_back.rest.1 ∙ a.rest.0;
+              keys_kept = λ k x h. rw d.put_back.rest.0 (a.keys_kept k x h);
+              within = λ k m. elim m [
+                | inl here ↦ omega (arith, here, len, slice_get-below_some v.slots.items at d.old d.put_back.there)
+                | inr none ↦ absurd none
+              ];
+              watched = asked-watched given v w newly_ready a.table asked-distinct at (record { held = held'; path = q; at = place }) d checking number (a.watched [] (look-watched given u at held may));
+            }

@@ -1,0 +1,52 @@
+use Rattle.std.proofs.Common.{◌≡◌, [], Option, sym, ap, subst, ◌∙◌}
+use Rattle.std.specs.Prelude.{IfSome, IfNone}
+use Rattle.redo_build.specs.Rules.{Ask}
+use Rattle.redo_build.specs.Schedule.{nothing_known}
+use Rattle.redo_core.specs.Build.{GivenView, rules_for}
+use Rattle.redo_core.specs.Views.{WorkView}
+use Rattle.redo_core.specs.inside.Checking.{IsBegunBehind, IsDueCheck}
+use Rattle.redo_core.specs.inside.Slots.{IsDueWith}
+use Rattle.redo_core.specs.declared.check.Check.{Check}
+use Rattle.redo_core.specs.declared.table.InCheck.{InCheck}
+use Rattle.redo_core.proofs.BeginLemmas.{begun-at-once, begun-due, begun-unread, ruled}
+use Rattle.redo_core.proofs.begin.ruled.Goals as goal
+use Rattle.redo_core.proofs.begin.ruled.Goals.{In_default}
+
+pub returns-in-Some : goal.returns-in-Some
+returns-in-Some c =
+    let given = c.args.build.now in
+    let p = c.args.path.now in
+    let S : Option Check → Type 0 = λ o. IfSome o (λ check. (check.asked ≡ []) × ((a : Ask) → IsDueCheck c.given.result.now p a check)) in
+    let G : GivenView → Type 0 = λ g. (c.in-Some.check.asked ≡ []) × ((a : Ask) → IsDueCheck g p a c.in-Some.check) in
+    let due : G given = subst G c.given.ensures (subst S c.in-Some.is c.in_ok-check.ensures.due) in
+    let held : InCheck = record { rule = c.args.rule; check = c.in-Some.check; facts = c.new-facts.result } in
+    let H : InCheck → Type 0 = λ h. ((a : Ask) → IsDueWith (rules_for given) a given p 0 h) × (h.check.asked ≡ []) in
+    let both = subst H (sym c.in_ok-held.ensures.ok) (
+      begun-due given p held c.requires c.new-facts.ensures.empty c.new-facts.ensures.gained c.new-facts.ensures.asked due.0 due.1,
+      due.0,
+    ) in
+    (both.0, both.1, ruled given p c.args.rule c.requires)
+
+behind : (c : In_default) → IsBegunBehind c.args.build.now c.args.path.now [] nothing_known
+behind c =
+    let N : Option Check → Type 0 = λ o. IfNone o (IsBegunBehind c.given.result.now c.args.path.now [] nothing_known) in
+    let G : GivenView → Type 0 = λ g. IsBegunBehind g c.args.path.now [] nothing_known in
+    subst G c.given.ensures (subst N c.in_default.is c.in_ok-check.ensures.none)
+
+pub unread-requires : goal.unread-requires
+unread-requires c =
+    rw (c.in_ok-own.ensures, c.in_ok-target.ensures.cases) (begun-unread c.args.build.now c.args.path.now c.args.rule c.new-facts.result c.requires
+    c.new-facts.ensures.empty c.new-facts.ensures.gained c.new-facts.ensures.asked (behind (goal.at-unread-requires c).In_default))
+
+pub returns : goal.returns
+returns c =
+    let is = c.in_ok-work.ensures in (
+      (
+        ap (λ (w : WorkView). w.given) is ∙ c.in_ok-own.ensures,
+        ap (λ (w : WorkView). w.target) is ∙ c.in_ok-target.ensures.cases,
+        ap (λ (w : WorkView). w.turn) is,
+      ),
+      ap (λ (w : WorkView). w.deps) is ∙ c.new-facts.ensures.asked,
+      ruled c.args.build.now c.args.path.now c.args.rule c.requires,
+      begun-at-once c.args.build.now c.args.path.now (behind (goal.at-returns c).In_default),
+    )

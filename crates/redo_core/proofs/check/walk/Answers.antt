@@ -1,0 +1,24 @@
+use Rattle.std.proofs.Common.{◌≡◌, ◌∙◌, ap, arith, length, sym, subst}
+use Rattle.redo_skip.specs.Checks.{standing, stands}
+use Rattle.redo_build.specs.Schedule.{nothing_known}
+use Rattle.redo_core.specs.Build.{sources_for}
+use Rattle.redo_core.specs.inside.Checking.{standing_of, StandAlone}
+use Rattle.redo_core.proofs.CheckSteps.{walk-end, walk-more}
+use Rattle.redo_core.proofs.check.walk.Goals as goal
+
+pub loop-at-preserved : goal.loop-at-preserved
+loop-at-preserved c =
+    let s = sources_for c.args.given.now in
+    let es = c.args.entries.now in
+    let i = c.loop-at.at in
+    let x = c.index-entries-at.result in
+    let is : standing s nothing_known x ≡ stands = sym c.in_ok-standing_alone.ensures ∙ ap standing_of c.in-Stands.is in
+    (let l = c.loop-at.invariant.0 in omega (arith, l), walk-more s es c.args.from i x c.loop-at.invariant.1 (omega (arith, c.loop-at-test.true)) c.index-entries-at.is is)
+
+pub returns-clause-walked : goal.returns-clause-walked
+returns-clause-walked c =
+    let s = sources_for c.args.given.now in
+    let es = c.args.entries.now in
+    let below = c.loop-at.auto.at-end c.requires in
+    let end : c.loop-at.at ≡ length es = omega (arith, below, c.loop-at-test.false) in
+    walk-end s es c.args.from c.requires (subst (λ n. StandAlone s es c.args.from n) end c.loop-at.invariant.1)

@@ -1,0 +1,129 @@
+-- The check of a target, as far as it has come.
+use Rattle.std.specs.Prelude.{◌≡◌, ◌+◌, ◌<◌, ◌≤◌, ℕ, true, List, [], ◌∷◌, ◌++◌, Option, Some, None, map, slice_get, take}
+use Rattle.std.specs.Prelude.{MatchOption, flat_map, length, option_and_then}
+use Rattle.std.specs.List.{IsDistinct}
+use Rattle.redo_digest.specs.Digest.{State}
+use Rattle.redo_record.specs.declared.deps.Dep.{Dep}
+use Rattle.redo_record.specs.Entries.{with_all}
+use Rattle.redo_record.specs.Paths.{IsAmong}
+use Rattle.redo_book.specs.declared.book.BookEntry.{BookEntry}
+use Rattle.redo_book.specs.declared.book.BookEntry.TheVariants.{Change, Create, Always}
+use Rattle.redo_book.specs.Book.{Record, same_entry}
+use Rattle.redo_build.specs.Rules.{Ask, Rules, operands}
+use Rattle.redo_build.specs.Schedule.{nothing_known}
+use Rattle.redo_skip.specs.Checks.{Standing, asking, asks, falls, is_asked, lacks, shown, standing, stands}
+use Rattle.redo_skip.specs.NewBook.{check_by}
+use Rattle.redo_skip.specs.Sources.{Sources}
+use Rattle.redo_core.specs.Build.{GivenView, rules_for, sources_for, checks_for, last_run_of}
+use Rattle.redo_core.specs.declared.check.Check.{Check}
+use Rattle.redo_core.specs.declared.check.Alone.{Alone}
+use Rattle.redo_core.specs.declared.check.Alone.TheVariants.{Stands, Asks, Falls}
+
+-- how an entry stands that no answer is given to
+abbrev pub standing_of : Alone → Standing
+standing_of Stands = stands
+standing_of Asks = lacks
+standing_of Falls = falls
+
+-- the paths that entries ask for
+abbrev pub asked_by : Sources → List BookEntry → List (List ℕ)
+asked_by s es = flat_map (asks s) es
+
+-- the entries at these places stand, whatever is known
+abbrev pub StandAlone : Sources → List BookEntry → ℕ → ℕ → Type 0
+StandAlone s es from to =
+    (k : ℕ) (e : BookEntry) → from ≤ k → k < to → slice_get es k ≡ Some e → standing s nothing_known e ≡ stands
+
+-- from one place to another entries stand, whatever is known; at the latter one asks for a path, or it is the end
+pub record IsWalkedTo (s : Sources) (es : List BookEntry) (from to : ℕ) : Type 0 where
+  pub on : from ≤ to
+  pub within : to ≤ length es
+  pub alone : StandAlone s es from to
+  pub next : MatchOption (slice_get es to) (Unit {0}) (λ e. standing s nothing_known e ≡ lacks)
+
+-- from a place on entries stand, whatever is known, up to one that falls
+pub record FallsBehind (s : Sources) (es : List BookEntry) (from : ℕ) : Type 0 where
+  pub at : ℕ
+  pub on : from ≤ at
+  pub entry : BookEntry
+  pub there : slice_get es at ≡ Some entry
+  pub alone : StandAlone s es from at
+  pub fallen : standing s nothing_known entry ≡ falls
+
+-- so many entries, from the first on, stand under an ask
+pub record HaveStood (s : Sources) (a : Ask) (es : List BookEntry) (n : ℕ) : Type 0 where
+  pub within : n ≤ length es
+  pub each : (k : ℕ) (e : BookEntry) → k < n → slice_get es k ≡ Some e → standing s a e ≡ stands
+
+-- the check of a target is by the record with this number
+pub record IsCheckedBy (given : GivenView) (p : List ℕ) (number : ℕ) : Type 0 where
+  pub made : Record
+  pub there : slice_get given.past.book number ≡ Some made
+  pub check : checks_for given p ≡ Some (check_by (last_run_of given.past) made)
+
+-- the same of a book's record
+pub record IsInCheck (given : GivenView) (p : List ℕ) (number : ℕ) : Type 0 where
+  pub made : Record
+  pub there : slice_get given.past.book number ≡ Some made
+  pub check : checks_for given p ≡ Some (check_by (last_run_of given.past) made)
+  -- no kind and path stands twice
+  pub once : IsDistinct same_entry made.entries
+
+abbrev pub entries_of_record : Option Record → List BookEntry
+entries_of_record None = []
+entries_of_record (Some made) = made.entries
+
+-- the entries of a check's record
+abbrev pub entries_in : GivenView → Check → List BookEntry
+entries_in given c = entries_of_record (slice_get given.past.book c.number)
+
+-- the path of a change entry
+abbrev pub path_of_entry : BookEntry → Option (List ℕ)
+path_of_entry (Change state q) = Some q
+path_of_entry (Create q) = None
+path_of_entry Always = None
+
+-- the state that a change entry has on record
+abbrev pub state_of_entry : BookEntry → Option State
+state_of_entry (Change state q) = Some state
+state_of_entry (Create q) = None
+state_of_entry Always = None
+
+-- the path that a check asks for next when it is due; none where all its entries stand
+abbrev pub asks_next : GivenView → Check → Option (List ℕ)
+asks_next given c = option_and_then path_of_entry (slice_get (entries_in given c) c.stood)
+
+-- the entries that a check has looked at that waits
+abbrev pub seen_entries : GivenView → Check → List Dep
+seen_entries given c = map shown (take (c.stood + 1) (entries_in given c))
+
+-- a check is due: so many entries stand, and the next one asks for a path that wasn't asked for yet, or there is none
+pub record IsDueCheck (given : GivenView) (p : List ℕ) (a : Ask) (c : Check) : Type 0 where
+  pub in_check : IsInCheck given p c.number
+  pub stood : HaveStood (sources_for given) a (entries_in given c) c.stood
+  pub asked : c.asked ≡ asking (asked_by (sources_for given) (take c.stood (entries_in given c)))
+  pub next : MatchOption (slice_get (entries_in given c) c.stood) (Unit {0})
+      (λ e. standing (sources_for given) nothing_known e ≡ lacks)
+
+-- a check waits for a path: that of the entry behind those that stand
+pub record IsWaitingCheck (given : GivenView) (p : List ℕ) (a : Ask) (q : List ℕ) (c : Check) : Type 0 where
+  pub in_check : IsInCheck given p c.number
+  pub stood : HaveStood (sources_for given) a (entries_in given c) c.stood
+  pub state : State
+  pub awaited : slice_get (entries_in given c) c.stood ≡ Some (Change state q)
+  pub asks : is_asked (sources_for given) q ≡ true
+  pub asked : c.asked ≡ asking (asked_by (sources_for given) (take c.stood (entries_in given c)) ++ q ∷ [])
+
+-- the second ask has the answers of the first to what these entries wait for
+abbrev pub TellsAlike : Rules → List Dep → Ask → Ask → Type 0
+TellsAlike r asked a b = (q : List ℕ) → IsAmong (operands r asked) q → a q ≡ b q
+
+-- a script is begun behind a check that asked for these paths: whatever else becomes known. A target that is in no
+-- check asked for none
+pub record IsBegunBehind (given : GivenView) (p : List ℕ) (asked : List Dep) (a : Ask) : Type 0 where
+  pub begins : (b : Ask) → TellsAlike (rules_for given) asked a b → (rules_for given).begins p b ≡ true
+  pub progress : (b : Ask) → TellsAlike (rules_for given) asked a b → (rules_for given).progress p b ≡
+      (let own = (sources_for given).progress p b in
+      record { outcome = own.outcome; deps = with_all asked own.deps })
+  pub recorded : (b : Ask) → TellsAlike (rules_for given) asked a b →
+      (rules_for given).recorded p b ≡ ((sources_for given).progress p b).deps

@@ -1,0 +1,301 @@
+//! The check of a target: its recorded entries are looked at in their order, each once, before its script is begun.
+ghost use Rattle.std.specs.Prelude.{◌≡◌, ◌+◌, ◌<◌, ◌≤◌, ℕ, List, [], true, false, map, IfNone, IfOk, IfSome, MatchOption};
+ghost use Rattle.std.specs.Prelude.{None, OnOk, Some, length, option_and_then, option_copied, slice_get, take};
+ghost use Rattle.redo_record.specs.declared.deps.DepKind.TheVariants as kinds;
+ghost use Rattle.redo_record.specs.declared.outcome.Outcome.TheVariants as outcomes;
+ghost use Rattle.redo_record.specs.Entries.{with_all, with_entry};
+ghost use Rattle.redo_book.specs.declared.book.BookEntry.TheVariants.{Change};
+ghost use Rattle.redo_book.specs.Book.{IsRecord, record_of as record_in};
+ghost use Rattle.redo_build.specs.Rules.{Ask};
+ghost use Rattle.redo_build.specs.Schedule.{nothing_known};
+ghost use Rattle.redo_skip.specs.Checks.{has_state as is_of_state, shown as shown_as, standing, stands_if as stood_if, told};
+ghost use Rattle.redo_tree.specs.Tree.{file_at};
+ghost use Rattle.redo_core.specs.Build.{checks_for, is_free as is_free_in, rules_for, sources_for};
+ghost use Rattle.redo_core.specs.inside.Checking.{FallsBehind, IsBegunBehind, IsCheckedBy, IsDueCheck, IsInCheck};
+ghost use Rattle.redo_core.specs.inside.Checking.{IsWaitingCheck, IsWalkedTo, asks_next, entries_in, seen_entries, state_of_entry};
+ghost use Rattle.redo_core.specs.inside.Checking.{standing_of};
+
+use crate::given::Given;
+use redo_book::{BookEntry, BookRecord};
+use redo_digest::Digest;
+use redo_past::has_state;
+use redo_path::Path;
+use redo_record::{Dep, DepKind, Deps, Outcome, Record};
+use redo_tree::{Content, Tree};
+use redo_which::{Found, lookup};
+use std::alloc::{AllocError, Global};
+
+/// The check of a target, as far as it has come: the next entry of its record asks for a path, or waits for the answer.
+#[derive(Drop)]
+pub struct Check {
+    /// The number of the target's record in the book.
+    pub number: usize,
+    /// So many of its entries stand.
+    pub stood: usize,
+    /// What it asked for, each path once.
+    pub asked: Deps,
+}
+
+/// How an entry stands that no answer is given to.
+#[derive(Clone, Copy)]
+pub enum Alone {
+    Stands,
+    /// It depends on the answer to its path.
+    Asks,
+    Falls,
+}
+
+/// How an entry stands for which this decides.
+fn stands_if(holds: bool) -> Alone
+    ensures { standing_of result ≡ stood_if holds }
+{
+    if holds { Alone::Stands } else { Alone::Falls }
+}
+
+/// Whether nothing stands at a path, and nothing has a rule to be made there.
+fn is_free(alloc: Global, sources: &Tree, path: &Path) -> Result<bool, AllocError>
+    ensures { IfOk result (λ free. free ≡ is_free_in sources.now path.now) }
+{
+    match lookup::find(alloc, sources, path)? {
+        Found::Source | Found::Directory | Found::Rule(_) => Ok(false),
+        Found::NoDirectory | Found::NoRule { .. } => Ok(true),
+    }
+}
+
+/// How a change entry stands whose path has no answer. No answer is given to a source or a .do file.
+fn change_alone(given: &Given, state: &Option<Digest>, path: &Path) -> Result<Alone, AllocError>
+    ensures { IfOk result (λ v. standing_of v ≡
+        standing (sources_for given.now) nothing_known (Change state.now path.now)) }
+{
+    let digest = given.state(path)?;
+    if digest.is_some() {
+        return Ok(stands_if(digest == *state));
+    }
+    if path.name().ends_with(b".do") {
+        return Ok(Alone::Falls);
+    }
+    Ok(Alone::Asks)
+}
+
+/// How an entry stands that no answer is given to.
+fn standing_alone(alloc: Global, given: &Given, entry: &BookEntry) -> Result<Alone, AllocError>
+    ensures { IfOk result (λ v. standing_of v ≡ standing (sources_for given.now) nothing_known entry.now) }
+{
+    match entry {
+        BookEntry::Change(state, path) => change_alone(given, state, path),
+        BookEntry::Create(path) => Ok(stands_if(is_free(alloc, given.sources(), path)?)),
+        BookEntry::Always => Ok(Alone::Falls),
+    }
+}
+
+/// Goes on over entries that stand, whatever is known, to the first that asks for a path, or to the end: the number of
+/// entries before it. None where an entry falls.
+fn walk(
+    alloc: Global,
+    given: &Given,
+    entries: &[BookEntry],
+    from: usize,
+) -> Result<Option<usize>, AllocError>
+    requires { from ≤ length entries.now }
+    ensures walked { IfOk result (λ r. IfSome r (IsWalkedTo (sources_for given.now) entries.now from)) }
+    ensures falls { IfOk result (λ r. IfNone r (FallsBehind (sources_for given.now) entries.now from)) }
+{
+    for at in from..entries.len() {
+        match standing_alone(alloc, given, &entries[at])? {
+            Alone::Stands => {}
+            Alone::Asks => return Ok(Some(at)),
+            Alone::Falls => return Ok(None),
+        }
+    }
+    Ok(Some(entries.len()))
+}
+
+/// Whether an answer tells of a file, or of none, with this state.
+fn is_as_recorded(outcome: &Outcome, state: &Option<Digest>) -> bool
+    ensures { result ≡ is_of_state state.now (told (Some outcome.now)) }
+{
+    match outcome {
+        Outcome::Source => state.is_none(),
+        Outcome::Built(content) => has_state(content.as_ref(), state),
+        Outcome::Failed(_) | Outcome::Cyclic => false,
+    }
+}
+
+/// The number of the record of a target with a rule, if it is in check: it isn't requested, and stands as the last run
+/// left it.
+fn record_in_check(given: &Given, target: &Path) -> Option<usize>
+    requires { (rules_for given.now).has_rule target.now ≡ true }
+    ensures { MatchOption result (checks_for given.now target.now ≡ None) (IsCheckedBy given.now target.now) }
+{
+    if given.is_requested(target) {
+        return None;
+    }
+    given.past().intact(target)
+}
+
+/// A record of the book.
+fn record_of<'a>(given: &'a Given, number: usize) -> &'a BookRecord
+    requires { number < length given.now.past.book }
+    ensures there { slice_get given.now.past.book number ≡ Some (record_in result.now) }
+    ensures is_record { IsRecord (record_in result.now) }
+{
+    &given.past().book().records()[number]
+}
+
+/// The state on record of the change entry at a place, if one is there.
+fn state_at<'a>(entries: &'a [BookEntry], at: usize) -> Option<&'a Option<Digest>>
+    ensures { option_copied result ≡ option_and_then state_of_entry (slice_get entries.now at) }
+{
+    match entries.get(at) {
+        Some(BookEntry::Change(state, _)) => Some(state),
+        _ => None,
+    }
+}
+
+/// The entries up to and with the one at a place.
+fn up_to<'a>(entries: &'a [BookEntry], at: usize) -> &'a [BookEntry]
+    ensures { result.now ≡ take (at + 1) entries.now }
+{
+    if at < entries.len() {
+        &entries[..at + 1]
+    } else {
+        entries
+    }
+}
+
+/// The file at a path of the tree as it was read. Its bytes aren't copied.
+fn file_as_read(given: &Given, path: &Path) -> Result<Option<Content>, AllocError>
+    ensures { IfOk result (λ file. file ≡ file_at given.now.past.tree path.now) }
+{
+    match given.past().tree().content(path) {
+        Some(content) => Ok(Some(content.clone()?)),
+        None => Ok(None),
+    }
+}
+
+/// An entry as a report shows it.
+fn shown(entry: &BookEntry) -> Result<Dep, AllocError>
+    ensures { IfOk result (λ dep. dep ≡ shown_as entry.now) }
+{
+    let (kind, path) = match entry {
+        BookEntry::Change(_, path) => (DepKind::Change, path.clone()?),
+        BookEntry::Create(path) => (DepKind::Create, path.clone()?),
+        BookEntry::Always => (DepKind::Always, Path::root()),
+    };
+    Ok(Dep { kind, path })
+}
+
+/// Entries as a report shows them.
+fn all_shown(alloc: Global, entries: &[BookEntry]) -> Result<Deps, AllocError>
+    ensures { IfOk result (λ deps. deps ≡ with_all [] (map shown_as entries.now)) }
+{
+    let mut deps = Deps::new(alloc);
+    deps.reserve(entries.len())?;
+    for entry in entries {
+        deps.insert(shown(entry)?)?;
+    }
+    Ok(deps)
+}
+
+impl Check {
+    /// The check of a target with a rule, which is due: none where the target is in no check, or where an entry falls
+    /// before one asks for a path. The script is begun at once then.
+    pub(crate) fn begin(
+        alloc: Global,
+        given: &Given,
+        target: &Path,
+    ) -> Result<Option<Check>, AllocError>
+        requires { (rules_for given.now).has_rule target.now ≡ true }
+        ensures none { IfOk result (λ c. IfNone c (IsBegunBehind given.now target.now [] nothing_known)) }
+        ensures due { IfOk result (λ c. IfSome c (λ check. (check.asked ≡ []) ×
+            ((a : Ask) → IsDueCheck given.now target.now a check))) }
+    {
+        let Some(number) = record_in_check(given, target) else {
+            return Ok(None);
+        };
+        let entries = &record_of(given, number).entries;
+        let Some(stood) = walk(alloc, given, entries, 0)? else {
+            return Ok(None);
+        };
+        Ok(Some(Check {
+            number,
+            stood,
+            asked: Deps::new(alloc),
+        }))
+    }
+
+    /// The path that it asks for next, when it is due; none where the target is kept.
+    pub(crate) fn next<'a>(&self, given: &'a Given) -> Option<&'a Path>
+        requires { self.now.number < length given.now.past.book }
+        ensures { option_copied result ≡ asks_next given.now self.now }
+    {
+        match record_of(given, self.number).entries.get(self.stood) {
+            Some(BookEntry::Change(_, path)) => Some(path),
+            _ => None,
+        }
+    }
+
+    /// Asks for that path: it waits from now on.
+    pub(crate) fn ask(&mut self, path: &Path) -> Result<(), AllocError>
+        ensures { OnOk result (self.new ≡ record self.old { asked = with_entry self.old.asked kinds.Change path.now }) }
+    {
+        let path = path.clone()?;
+        self.asked.insert(Dep {
+            kind: DepKind::Change,
+            path,
+        })
+    }
+
+    /// Goes on with the answer that it waited for: it is due again, unless an entry falls.
+    pub(crate) fn go_on(
+        &mut self,
+        alloc: Global,
+        given: &Given,
+        outcome: &Outcome,
+    ) -> Result<bool, AllocError>
+        requires { self.old.number < length given.now.past.book }
+        ensures asked { self.new.asked ≡ self.old.asked }
+        ensures stands { IfOk result (λ stands. stands ≡ true → (p : List ℕ) (a : Ask) (q : List ℕ) →
+            IsWaitingCheck given.now p a q self.old → a q ≡ Some outcome.now → IsDueCheck given.now p a self.new) }
+        ensures falls { IfOk result (λ stands. stands ≡ false → (p : List ℕ) (a : Ask) (q : List ℕ) →
+            IsWaitingCheck given.now p a q self.old → a q ≡ Some outcome.now →
+            IsBegunBehind given.now p self.old.asked a) }
+    {
+        let entries = &record_of(given, self.number).entries;
+        let Some(state) = state_at(entries, self.stood) else {
+            return Ok(false);
+        };
+        if !is_as_recorded(outcome, state) {
+            return Ok(false);
+        }
+        let Some(stood) = walk(alloc, given, entries, self.stood + 1)? else {
+            return Ok(false);
+        };
+        self.stood = stood;
+        Ok(true)
+    }
+
+    /// What a target is kept with, whose check is due and asks for nothing: its file, which isn't copied, and its record
+    /// as a report shows it.
+    pub(crate) fn kept(&self, alloc: Global, given: &Given) -> Result<(Outcome, Record), AllocError>
+        requires { self.now.number < length given.now.past.book }
+        ensures outcome { IfOk result (λ kept. (p : List ℕ) → IsInCheck given.now p self.now.number →
+            kept.0 ≡ outcomes.Built (file_at given.now.past.tree p)) }
+        ensures record { IfOk result (λ kept. kept.1 ≡ map shown_as (entries_in given.now self.now)) }
+    {
+        let made = record_of(given, self.number);
+        let deps = all_shown(alloc, &made.entries)?;
+        let mut outcome = Outcome::Built(file_as_read(given, &made.target)?);
+        outcome.keep_digest();
+        Ok((outcome, Record::of_entries(deps)))
+    }
+
+    /// What a target shows that waits in its check at the end: the entries up to and with the one that it waits for.
+    pub(crate) fn seen(&self, alloc: Global, given: &Given) -> Result<Record, AllocError>
+        requires { self.now.number < length given.now.past.book }
+        ensures { IfOk result (λ r. r ≡ seen_entries given.now self.now) }
+    {
+        let seen = up_to(&record_of(given, self.number).entries, self.stood);
+        Ok(Record::of_entries(all_shown(alloc, seen)?))
+    }
+}
