@@ -8,8 +8,10 @@ use Rattle.std.proofs.marker.PhantomData.TheSendSync as phantom
 use Rattle.std.specs.contracts.alloc.AllocError as Refusal
 use Rattle.std.specs.contracts.result.Result as Results
 use Rattle.redo_names.proofs.map.PathMap.TheSendSync as maps
+use Rattle.redo_names.proofs.set.PathSet.TheSendSync as sets
 use Rattle.redo_bytes.proofs.Bytes.TheSendSync as bytes
 use Rattle.redo_path.proofs.Path.TheSendSync as path
+use Rattle.redo_tree.proofs.content.Content.TheSendSync as content
 use Rattle.redo_tree.proofs.entries.Tree.TheSendSync as tree
 use Rattle.redo_past.proofs.past.Past.TheSendSync as past
 use Rattle.redo_which.proofs.Rule.TheSendSync as rule
@@ -23,6 +25,7 @@ use Rattle.redo_step.proofs.machine.Effects.TheSendSync as effects
 use Rattle.redo_step.proofs.place.Place.TheLaws.TheKnot as place
 use Rattle.redo_step.proofs.scope.Values.TheSendSync as values
 use Rattle.redo_step.proofs.wait.Waiting.TheSendSync as wait
+use Rattle.redo_record.proofs.deps.Deps.TheSendSync as deps
 use Rattle.redo_record.proofs.outcome.Outcome.TheSendSync as outcome
 use Rattle.redo_record.proofs.record.Record.TheSendSync as records
 use Rattle.redo_sync.proofs.cells.Cells.TheSendSync as cells
@@ -65,10 +68,10 @@ pub reading_sync : IsSync (Reading.the_field).row
 reading_sync = search (parsed_send, parsed_sync, sendable, heap.crosses) depth 20
 
 pub given_send : IsSend (Given.the_field).row
-given_send = search (reading_send, reading_sync, cells.the_send, cells.the_sync, past.the_send, path.the_send, limits.the_send, sendable, heap.crosses) depth 20
+given_send = search (reading_send, reading_sync, content.the_send, content.the_sync, cells.the_send, cells.the_sync, past.the_send, path.the_send, sets.the_send, limits.the_send, sendable, heap.crosses) depth 20
 
 pub given_sync : IsSync (Given.the_field).row
-given_sync = search (reading_send, reading_sync, cells.the_send, cells.the_sync, past.the_sync, path.the_sync, limits.the_sync, sendable, heap.crosses) depth 20
+given_sync = search (reading_send, reading_sync, content.the_send, content.the_sync, cells.the_send, cells.the_sync, past.the_sync, path.the_sync, sets.the_sync, limits.the_sync, sendable, heap.crosses) depth 20
 
 pub fact_send : IsSend (Fact.the_field).row
 fact_send = search (given_send, given_sync, path.the_send, outcome.the_field_send, records.the_send, records.the_sync, sendable, heap.crosses) depth 20
@@ -77,7 +80,7 @@ pub fact_sync : IsSync (Fact.the_field).row
 fact_sync = search (given_send, given_sync, path.the_sync, outcome.the_field_sync, records.the_send, records.the_sync, sendable, heap.crosses) depth 20
 
 pub facts_send : IsSend (Facts.the_field).row
-facts_send = search (fact_send, fact_sync, known.the_send, maps.the_send, path.the_send, sendable, heap.crosses) depth 20
+facts_send = search (fact_send, fact_sync, known.the_send, maps.the_send, deps.the_send, sendable, heap.crosses) depth 20
 
 pub task_send : IsSend (Task.the_field).row
 task_send = search (parsed_send, parsed_sync, tree.the_send, tree.the_sync, path.the_send, rule.the_field_send, limits.the_send, sendable, heap.crosses) depth 20
@@ -89,7 +92,7 @@ pub job_send : IsSend (Job.the_field).row
 job_send = search (task_send, place_send, wait.the_field_send, effects.the_field_send, sendable, heap.crosses) depth 20
 
 pub unread_send : IsSend (Unread.the_field).row
-unread_send = search (path.the_send, rule.the_field_send, sendable, heap.crosses) depth 20
+unread_send = search (facts_send, path.the_send, rule.the_field_send, sendable, heap.crosses) depth 20
 
 pub begun_send : IsSend (Begun.the_field).row
 begun_send = search (job_send, facts_send, sendable, heap.crosses) depth 20
@@ -101,7 +104,7 @@ pub work_send : IsSend (Work.the_field).row
 work_send = search (work_script_send, given_send, given_sync, sendable, heap.crosses) depth 20
 
 pub end_send : IsSend (End.the_field).row
-end_send = search (fact_send, begun_send, sendable, heap.crosses) depth 20
+end_send = search (fact_send, deps.the_send, begun_send, sendable, heap.crosses) depth 20
 
 pub piece_send : IsSend (Piece.the_field).row
 piece_send = search (end_send, given_send, given_sync, path.the_send, sendable, heap.crosses) depth 20

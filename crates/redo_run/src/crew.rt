@@ -4,9 +4,8 @@ ghost use Rattle.std.specs.Prelude.{◌≡◌, ◌≤◌, [], length, map, vec_c
 
 use crate::gate::Gate;
 use crate::lookers::Lookers;
-use crate::of_build::{Build, JobOf, Message};
 use crossbeam_channel::{Receiver, Sender};
-use redo_sync::{JobTaker, Taken};
+use redo_sync::{JobTaker, Numbered, Taken};
 use std::alloc::{AllocError, Global};
 use std::snapshot::Snapshot;
 use std::sync::Wait;
@@ -22,15 +21,25 @@ const MOST_OUT: usize = 128;
 /// How often a worker looks for a job before it sleeps. It leaves its processor to others after each look.
 const LOOKS: u32 = 64;
 
+/// A job that a worker advances, to send what it comes to. Of what the job is made the crew knows nothing.
+pub(crate) trait Advance<M, G: Gate>: Numbered + Drop {
+    /// What this job may come to.
+    ghost comes_to: { Self → M → Type 0 };
+
+    /// Tells the gate, and advances the job.
+    fn advance(self, gate: &G) -> M
+        ensures { comes_to self result };
+}
+
 /// Tells one worker that a job waits for it. Until it is called it sleeps.
 #[derive(Drop)]
 pub(crate) struct Call;
 
 /// The owner's ends of the channels to its workers and back.
 #[derive(Drop)]
-pub(crate) struct Lines<'s, B: Build> {
+pub(crate) struct Lines<'s, M: Drop> {
     pub calls: Sender<Call>,
-    pub messages: Receiver<Message<B>>,
+    pub messages: Receiver<M>,
     pub lookers: &'s Lookers,
     /// How many jobs may be out at a time: none where there is no worker. The others wait on the board, where the
     /// newest goes first.
@@ -39,18 +48,18 @@ pub(crate) struct Lines<'s, B: Build> {
 
 /// A worker's ends of the channels.
 #[derive(Drop)]
-pub(crate) struct Extension<'s, B: Build> {
+pub(crate) struct Extension<'s, M: Drop> {
     calls: Receiver<Call>,
-    messages: Sender<Message<B>>,
+    messages: Sender<M>,
     lookers: &'s Lookers,
 }
 
 /// Channels for so many workers.
-pub(crate) fn lines_for<'s, B: Build>(
+pub(crate) fn lines_for<'s, M: Drop>(
     alloc: Global,
     workers: usize,
     lookers: &'s Lookers,
-) -> Result<(Lines<'s, B>, Extension<'s, B>), AllocError> {
+) -> Result<(Lines<'s, M>, Extension<'s, M>), AllocError> {
     let (calls, called) = crossbeam_channel::bounded(alloc, MOST_OUT)?;
     let (sender, messages) = crossbeam_channel::bounded(alloc, MOST_OUT)?;
     let lines = Lines {
@@ -69,17 +78,17 @@ pub(crate) fn lines_for<'s, B: Build>(
 
 /// A worker hands back its own taker.
 #[derive(Drop)]
-pub(crate) struct OwnTaker<B: Build>(Snapshot<JobTaker<JobOf<B>>>);
+pub(crate) struct OwnTaker<J: Numbered + Drop>(Snapshot<JobTaker<J>>);
 
-impl<B: Build> Promise<JobTaker<JobOf<B>>> for OwnTaker<B> {
+impl<J: Numbered + Drop> Promise<JobTaker<J>> for OwnTaker<J> {
     ghost kept_by = { λ p t. t.relay ≡ p.0.value.relay };
 }
 
 /// A worker that was started.
-pub(crate) type Hand<B> = PromisedHandle<JobTaker<JobOf<B>>, OwnTaker<B>>;
+pub(crate) type Hand<J> = PromisedHandle<JobTaker<J>, OwnTaker<J>>;
 
 /// Looks for a job so often as a worker does before it sleeps.
-fn look<B: Build>(taker: &mut JobTaker<JobOf<B>>) -> Option<JobOf<B>>
+fn look<J: Numbered + Drop>(taker: &mut JobTaker<J>) -> Option<J>
     ensures { taker.new.relay ≡ taker.old.relay }
 {
     'looks: for _ in 0..LOOKS {
@@ -92,12 +101,12 @@ fn look<B: Build>(taker: &mut JobTaker<JobOf<B>>) -> Option<JobOf<B>>
 }
 
 /// The next job of a worker that has added its token. It is none once the owner has ended.
-fn next_job<B: Build, R: Wait>(
+fn next_job<J: Numbered + Drop, R: Wait>(
     rt: &R,
     lookers: &Lookers,
-    taker: &mut JobTaker<JobOf<B>>,
+    taker: &mut JobTaker<J>,
     calls: &Receiver<Call>,
-) -> Option<JobOf<B>>
+) -> Option<J>
     ensures { taker.new.relay ≡ taker.old.relay }
 {
     'looks: for _ in rt.forever() {
@@ -112,11 +121,11 @@ fn next_job<B: Build, R: Wait>(
 }
 
 /// The job that the owner has given and added its token for, unless a worker that looked was faster.
-pub(crate) fn job_of_owner<B: Build, R: Wait>(
+pub(crate) fn job_of_owner<J: Numbered + Drop, R: Wait>(
     rt: &R,
     lookers: &Lookers,
-    taker: &mut JobTaker<JobOf<B>>,
-) -> Option<JobOf<B>>
+    taker: &mut JobTaker<J>,
+) -> Option<J>
     ensures { taker.new.relay ≡ taker.old.relay }
 {
     'looks: for _ in rt.forever() {
@@ -131,14 +140,14 @@ pub(crate) fn job_of_owner<B: Build, R: Wait>(
 }
 
 /// Takes jobs and sends what they came to, until the owner has ended.
-fn work<B: Build, R: Wait, G: Gate>(
+fn work<J: Advance<M, G>, M: Drop, R: Wait, G: Gate>(
     rt: &R,
     gate: &G,
     lookers: &Lookers,
-    mut taker: JobTaker<JobOf<B>>,
+    mut taker: JobTaker<J>,
     calls: Receiver<Call>,
-    messages: Sender<Message<B>>,
-) -> JobTaker<JobOf<B>>
+    messages: Sender<M>,
+) -> JobTaker<J>
     ensures { result.relay ≡ taker.relay }
 {
     'jobs: for _ in rt.forever() {
@@ -154,13 +163,20 @@ fn work<B: Build, R: Wait, G: Gate>(
 }
 
 /// Starts a worker for each taker. Those that were started are in `hands`, also where one can't be.
-pub(crate) fn start_all<'s, E, B: Build + Send + Sync + 's, R: Threads + Wait + Sync, G: Gate>(
+pub(crate) fn start_all<
+    's,
+    E,
+    J: Advance<M, G> + Send + 's,
+    M: Send + Drop + 's,
+    R: Threads + Wait + Sync,
+    G: Gate,
+>(
     scope: &Scope<'s, E>,
     rt: &'s R,
     gate: &'s G,
-    takers: Vec<JobTaker<JobOf<B>>>,
-    extension: Extension<'s, B>,
-    hands: &mut Vec<Hand<B>>,
+    takers: Vec<JobTaker<J>>,
+    extension: Extension<'s, M>,
+    hands: &mut Vec<Hand<J>>,
 ) -> Result<(), AllocError>
     requires { hands.old.items ≡ [] }
     ensures each { OnOk result (map (λ h. h.promise.0.value.relay) hands.new.items ≡
@@ -186,11 +202,11 @@ pub(crate) fn start_all<'s, E, B: Build + Send + Sync + 's, R: Threads + Wait + 
 }
 
 /// Waits for all workers, and has their takers back, in a `Vec` that has room for them.
-pub(crate) fn join_all<B: Build, R: Threads>(
+pub(crate) fn join_all<J: Numbered + Drop, R: Threads>(
     rt: &R,
-    hands: Vec<Hand<B>>,
-    mut takers: Vec<JobTaker<JobOf<B>>>,
-) -> Vec<JobTaker<JobOf<B>>>
+    hands: Vec<Hand<J>>,
+    mut takers: Vec<JobTaker<J>>,
+) -> Vec<JobTaker<J>>
     requires none { takers.items ≡ [] }
     requires room { length hands.items ≤ vec_capacity takers }
     ensures { map (λ t. t.relay) result.items ≡ map (λ h. h.promise.0.value.relay) hands.items }

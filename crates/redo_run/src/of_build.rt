@@ -3,8 +3,9 @@
 //! What comes out of a queue is known by its type alone, so its type names the build, which contracts alone see: no
 //! piece is compared with the board when the program runs.
 
-ghost use Rattle.std.specs.Prelude.{◌≡◌, IfOk};
+ghost use Rattle.std.specs.Prelude.{◌≡◌};
 
+use crate::crew::Advance;
 use crate::gate::Gate;
 use redo_core::work::{Piece, Work};
 use redo_path::Path;
@@ -60,11 +61,16 @@ impl<B: Build> JobOf<B> {
             build: PhantomData,
         }
     }
+}
+
+impl<B: Build, G: Gate> Advance<Message<B>, G> for JobOf<B> {
+    ghost use Rattle.std.specs.Prelude.{◌≡◌, IfOk};
+
+    ghost comes_to = { λ job message. IfOk message (λ p.
+        (p.piece.target ≡ job.work.target) × (p.piece.turn ≡ job.work.turn)) };
 
     /// Tells the gate, and advances the script.
-    pub fn advance<G: Gate>(self, gate: &G) -> Message<B>
-        ensures { IfOk result (λ p. (p.piece.target ≡ self.work.target) × (p.piece.turn ≡ self.work.turn)) }
-    {
+    fn advance(self, gate: &G) -> Message<B> {
         let JobOf { work, build: _ } = self;
         gate.enter(work.target(), work.turn());
         let piece = work.advance()?;
