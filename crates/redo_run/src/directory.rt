@@ -2,7 +2,7 @@
 
 ghost use Rattle.std.specs.Prelude.{◌≡◌, ◌↔◌, false, IfOk, IsErrOf, true, ℕ, bytes_eq};
 ghost use Rattle.redo_run.specs.Directories.{FallsInList, IsUnwritten, ListsTree, NeedsTooMany, RefusesBook};
-ghost use Rattle.redo_run.specs.Directories.{ReportsTree};
+ghost use Rattle.redo_run.specs.Directories.{ReportsTree, changed_from, stands_in};
 ghost use Rattle.redo_run.specs.Directories.{with_book_last as in_order_of_storing};
 ghost use Rattle.redo_dir.specs.Directory.{IsLoaded, places_in};
 ghost use Rattle.redo_which.specs.Candidates.{book_path};
@@ -10,7 +10,7 @@ ghost use Rattle.redo_which.specs.Candidates.{book_path};
 use crate::candidates::text_of_search;
 use crate::exit::exit_after;
 use crate::request::requested;
-use crate::workers::build_many;
+use crate::workers::build_over;
 use crate::{Cause, Exit, Gate, Options, RunDirFault};
 use redo_bundle::{ByteOut, write_all};
 use redo_dir::{LoadFault, StoreFault, Stored, load_dir, store_files};
@@ -21,7 +21,7 @@ use redo_which::BOOK;
 use redo_which::lookup::search;
 use std::alloc::{AllocError, Global};
 use std::rt::Files;
-use std::sync::Wait;
+use std::sync::{Arc, Wait};
 use std::thread::Threads;
 
 /// What a run over a directory came to.
@@ -80,6 +80,33 @@ fn is_book(path: &Path) -> bool
     path.text() == BOOK
 }
 
+/// Whether the tree has the file as it is. The bytes of one that was kept are those of the tree's, not a copy.
+fn is_unchanged(tree: &Tree, file: &(Path, Content)) -> bool
+    ensures { result ≡ stands_in tree.now file.now }
+{
+    match tree.content(&file.0) {
+        Some(content) => *content == file.1,
+        None => false,
+    }
+}
+
+/// The files that the tree doesn't have as they are: so what stands is not stored again.
+fn changed(
+    alloc: Global,
+    tree: &Tree,
+    files: Vec<(Path, Content)>,
+) -> Result<Vec<(Path, Content)>, AllocError>
+    ensures { IfOk result (λ changed. changed.items ≡ changed_from tree.now files.items) }
+{
+    let mut changed = Vec::with_capacity(alloc, files.len())?;
+    'files: for file in files {
+        if !is_unchanged(tree, &file) {
+            changed.push(file)?;
+        }
+    }
+    Ok(changed)
+}
+
 /// The files as they are stored: in path order, but the book behind all others. So where storing breaks off the old
 /// book still stands, and tells of each file that was not stored yet what it told before.
 fn with_book_last(
@@ -102,7 +129,8 @@ fn with_book_last(
 }
 
 /// Reads a directory with all that is below it, builds the targets of its sources, writes the files that were built and
-/// the new book into the directory, and then writes the report, without the files.
+/// the new book into the directory, and then writes the report, without the files. A file that already stood there as
+/// it came out is not written again.
 ///
 /// Nothing is written before the build has answered. The book is stored behind all other files. Where a file can't be
 /// stored, those before it were, and no report is written; where the report can't be written, all files were stored.
@@ -125,11 +153,12 @@ pub fn run_dir<H: Threads + Wait + Sync + Files, W: ByteOut, G: Gate>(
     ensures device { IsErrOf result RunDirFault.Device ↔ (W.has_failed writer.new ≡ true) }
 {
     let (tree, passed) = load(rt, alloc, dir, cause)?;
+    let tree = Arc::new(alloc, tree)?;
     let request = requested(alloc, &options.targets)?;
-    let (report, _ledger) = build_many(
+    let (report, _ledger) = build_over(
         rt,
         alloc,
-        tree,
+        Arc::try_clone(&tree)?,
         &request,
         options.limits,
         options.workers,
@@ -137,7 +166,7 @@ pub fn run_dir<H: Threads + Wait + Sync + Files, W: ByteOut, G: Gate>(
     )?;
     let exit = exit_after(alloc, &report, &request)?;
     let Report { rows, files, begun } = report;
-    let files = with_book_last(alloc, files)?;
+    let files = with_book_last(alloc, changed(alloc, &tree, files)?)?;
     let stored = store(rt, alloc, dir, &files, cause)?;
     let report = Report { rows, files, begun };
     write_report(writer, &report, false)?;

@@ -1,17 +1,42 @@
-use Rattle.std.proofs.Common.{ℕ, List, refl, sym, ap, subst, ◌∙◌}
-use Rattle.redo_core.specs.Results.{IsResultOn}
+use Rattle.std.proofs.Common.{rules, ◌≡◌, ℕ, Err, List, refl, sym, ap, subst, ◌∙◌}
+use Rattle.std.specs.Arc.{arc_value}
+use Rattle.redo_core.specs.Results.{IsResultOn, NeedsTooMany}
 use Rattle.redo_dir.specs.Directory.{places_in}
+use Rattle.redo_run.specs.Directories.{changed_from, with_book_last}
 use Rattle.redo_run.specs.Runs.{request_of}
-use Rattle.redo_run.proofs.ToldLemmas.{reports_tree}
+use Rattle.redo_run.specs.Skipping.{IsSoundOn, IsUnsafeOn}
+use Rattle.redo_tree.specs.Tree.{Tree}
+use Rattle.redo_run.proofs.ToldLemmas.{many_of_run, reports_tree, too_many_in}
 use Rattle.redo_run.proofs.directory.run_dir.Goals as goal
+
+pub returns-in_err-report-clause-too_many : goal.returns-in_err-report-clause-too_many
+returns-in_err-report-clause-too_many g c = λ is.
+    let made = rw is at c.from_residual-in_err-report.ensures in
+    let tree = c.in_ok-tree.tree in let limits = c.args.options.now.limits in
+    let err = c.in_err-report.was ∙ ap Err (many_of_run c.in_err-report.field-0.0 made.1) in
+    let shared : arc_value c.in_ok-try_clone.field-0 ≡ tree = search rules in
+    let M : Tree → Type 0 = λ t. NeedsTooMany t c.deref-2.result.now limits in
+    let N : Tree → Type 0 = λ t. IsUnsafeOn t c.deref-2.result.now limits in
+    let Q : List (List ℕ) → Type 0 = λ ps. NeedsTooMany tree ps limits in
+    let R : List (List ℕ) → Type 0 = λ ps. IsUnsafeOn tree ps limits in
+    too_many_in c.args.options.now tree c.in_ok-request.request.items (c.in_ok-request.ensures ∙ ap request_of c.deref.ensures.value)
+    (subst Q c.deref-2.ensures.value (subst M shared (c.build_over.ensures.too_many err)))
+    (subst R c.deref-2.ensures.value (subst N shared (c.build_over.ensures.only_unsafe err)))
 
 pub returns-clause-report : goal.returns-clause-report
 returns-clause-report g c =
-    let limits = c.args.options.now.limits in
-    let E : List (List ℕ) → Type 0 = λ ps. IsResultOn c.in_ok-tree.tree ps limits c.in_ok-report.report in
-    let is : E c.in_ok-request.request.items = subst E c.deref-2.ensures.value c.in_ok-report.ensures.report in
+    let tree = c.in_ok-tree.tree in let limits = c.args.options.now.limits in let result = c.in_ok-report.report in
+    let shared : arc_value c.in_ok-try_clone.field-0 ≡ tree = search rules in
+    let read : c.deref-4.result.now ≡ tree = search rules in
+    let M : Tree → Type 0 = λ t. IsResultOn t c.deref-2.result.now limits result in
+    let N : Tree → Type 0 = λ t. IsSoundOn t c.deref-2.result.now limits result in
+    let Q : List (List ℕ) → Type 0 = λ ps. IsResultOn tree ps limits result in
+    let R : List (List ℕ) → Type 0 = λ ps. IsSoundOn tree ps limits result in
+    let is : Q c.in_ok-request.request.items = subst Q c.deref-2.ensures.value (subst M shared c.in_ok-report.ensures.report) in
+    let sound : R c.in_ok-request.request.items = subst R c.deref-2.ensures.value (subst N shared c.in_ok-report.ensures.sound) in
     let exit = c.in_ok-exit.ensures is.0 (is.1.requested ∙ sym c.deref-3.ensures.value) is.2 in
-    reports_tree c.args.options.now c.in_ok-tree.tree c.in_ok-request.request.items
-    (c.in_ok-request.ensures ∙ ap request_of c.deref.ensures.value) _ _ _ c.in_ok-report.report _
+    let files = c.deref-5.ensures.value ∙ c.in_ok-files.ensures ∙ ap with_book_last (c.in_ok-changed.ensures ∙ ap (λ t. changed_from t result.files.items) read) in
+    reports_tree c.args.options.now tree c.in_ok-request.request.items
+    (c.in_ok-request.ensures ∙ ap request_of c.deref.ensures.value) _ _ _ result _
     record { exit = c.in_ok-exit.exit; passed = c.in_ok-tree.passed; stored = c.in_ok-stored.stored }
-    c.in_ok-tree.ensures is (c.in_ok-stored.ensures ∙ ap (places_in c.args.dir.now) (c.deref-4.ensures.value ∙ c.in_ok-files.ensures)) refl c.in_ok-write_report.ensures.writes exit
+    c.in_ok-tree.ensures is sound (c.in_ok-stored.ensures ∙ ap (places_in c.args.dir.now) files) refl c.in_ok-write_report.ensures.writes exit
