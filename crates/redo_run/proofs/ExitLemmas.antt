@@ -1,6 +1,6 @@
 -- The rows of a report tell whether every requested path is a source or built.
-use Rattle.std.proofs.Common.{◌≡◌, ◌↔◌, ℕ, zero, suc, ◌<◌, Bool, true, false, not, ◌&&◌, ◌||◌, ◌⊎◌, inl, inr, List, []}
-use Rattle.std.proofs.Common.{◌∷◌, Option, Some, None, map, filter, refl, sym, ap, subst, ◌∙◌, arith, bytes_eq}
+use Rattle.std.proofs.Common.{◌≡◌, ℕ, zero, suc, Bool, true, false, not, inl, inr, List, []}
+use Rattle.std.proofs.Common.{◌∷◌, map, filter, refl, sym, ap, subst, ◌∙◌, arith}
 use Rattle.std.specs.Prelude.{All, flat_map}
 use Rattle.std.specs.List.{list_any}
 use Rattle.std.proofs.lemmas.Bool.{cases_Bool, both_ways}
@@ -18,10 +18,8 @@ use Rattle.redo_report.specs.declared.report.Report.{Report}
 use Rattle.redo_report.specs.declared.report.Row.{Row}
 use Rattle.redo_core.proofs.OrderLemmas.{placed-from, placed-second}
 use Rattle.redo_build.proofs.PathLemmas.{with_new-first, with_new-second}
-use Rattle.redo_run.specs.declared.exit.Exit.{Exit}
 use Rattle.redo_run.specs.declared.exit.Exit.TheVariants.{Good, SomeFailed}
 use Rattle.redo_run.specs.Exits.{AllAreMade, IsExit, fails, is_made, is_listed}
-use Rattle.redo_record.specs.declared.outcome.Outcome.{Outcome}
 
 -- a listed path is among the keys
 listed-among : (keys : List (List ℕ)) (p : List ℕ) → is_listed keys p ≡ true → IsAmong keys p

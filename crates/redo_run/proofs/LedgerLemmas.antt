@@ -1,5 +1,5 @@
 -- From the takers that came back to those that went out, and from what was given to what was taken.
-use Rattle.std.proofs.Common.{◌≡◌, ◌<◌, ◌≤◌, ◌↔◌, ◌++◌, ◌∷◌, ℕ, List, [], map, length, get_or, All, ap, sym, ◌∙◌, subst, arith}
+use Rattle.std.proofs.Common.{◌≡◌, ◌<◌, ◌≤◌, ◌↔◌, ◌++◌, ◌∷◌, ℕ, List, [], map, length, get_or, ap, sym, ◌∙◌, subst, arith}
 use Rattle.std.proofs.Common.{Result, Err}
 use Rattle.std.proofs.Math.ListN.{get_or-map}
 use Rattle.std.proofs.lemmas.List.{length-map, map-append}

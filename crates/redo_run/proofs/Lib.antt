@@ -3,6 +3,7 @@ pub mod ExitLemmas
 pub mod LedgerLemmas
 pub mod OpenedLemmas
 pub mod RefusalLemmas
+pub mod SoundLemmas
 pub mod StaysOutLemmas
 pub mod ToldLemmas
 pub mod CrossingLemmas

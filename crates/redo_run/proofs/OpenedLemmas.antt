@@ -1,11 +1,10 @@
 -- What the board of a build that was opened says of the tree, the request and the limits.
-use Rattle.std.proofs.Common.{rules, ◌≡◌, ℕ, List, None, refl, sym, subst}
+use Rattle.std.proofs.Common.{◌≡◌, ℕ, List, Option, refl, sym, subst}
 use Rattle.std.specs.Prelude.{IsNone}
 use Rattle.redo_build.specs.Outcomes.{IsTooMany}
 use Rattle.redo_core.specs.Build.{GivenView}
 use Rattle.redo_core.specs.Results.{IsGiven, IsOpened, IsResult, IsResultOn, NeedsTooMany}
-use Rattle.redo_core.specs.Taken.{HasTaken}
-use Rattle.redo_core.specs.Views.{BoardView, limit_on, opened, request_on, rules_on}
+use Rattle.redo_core.specs.Views.{BoardView, IsFirstBoard, limit_on, request_on, rules_on}
 use Rattle.redo_core.specs.declared.board.Stop.{Stop}
 use Rattle.redo_core.specs.declared.board.Stop.TheVariants as stops
 use Rattle.redo_report.specs.declared.report.Report.{Report}
@@ -24,8 +23,8 @@ stopped_at_limit stops.TooMany h = refl
 stopped_at_limit stops.Memory h = cc
 
 -- a board that was just opened runs
-pub runs : (b : BoardView) → b ≡ opened b.given → IsNone b.stopped
-runs b is = let P : BoardView → Type 0 = λ v. IsNone v.stopped in subst P (sym is) (search rules)
+pub runs : (b : BoardView) → IsFirstBoard b.given b → IsNone b.stopped
+runs b is = let P : Option Stop → Type 0 = IsNone in subst P (sym is.stopped) refl
 
 module _ (tree read : Tree) (same_tree : read ≡ tree) (request : List (List ℕ)) (limits : LimitsView) (first : BoardView)
     (opened_so : IsOpened read request limits first) (b : BoardView) (same : b.given ≡ first.given) where

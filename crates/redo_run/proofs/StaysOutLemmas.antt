@@ -1,23 +1,27 @@
 -- What is out stays out while others are taken and handed in.
-use Rattle.std.proofs.Common.{◌≡◌, ℕ, zero, suc, ◌+◌, ◌⊎◌, inl, inr, List, [], ◌∷◌, ◌++◌, Option, Some, None, true, ◌<◌}
-use Rattle.std.proofs.Common.{length, filter, map, option_and_then, remove, slice_get, refl, sym, ap, subst, ◌∙◌, arith}
+use Rattle.std.proofs.Common.{◌≡◌, ℕ, zero, suc, ◌+◌, ◌⊎◌, inl, inr, List, [], ◌∷◌, ◌++◌, Option, Some, None, true, false, ◌<◌, ◌≤◌, ◌↔◌}
+use Rattle.std.proofs.Common.{length, filter, option_and_then, remove, slice_get, refl, sym, ap, subst, ◌∙◌, arith}
 use Rattle.std.proofs.Common.{bytes_eq}
-use Rattle.std.specs.Prelude.{IsNone, option_map, slice_index_or}
+use Rattle.std.specs.Prelude.{IsNone, MatchOption, option_map, slice_index_or}
 use Rattle.std.proofs.lemmas.Bool.{cases_Bool, both_ways}
 use Rattle.std.proofs.lemmas.Slice.Eq.{bytes_eq-Decides}
 use Rattle.redo_record.specs.Paths.{IsAmong}
-use Rattle.redo_build.specs.Rules.{Rules, operands}
+use Rattle.redo_build.specs.Looking.{IsLookedOut, looked}
+use Rattle.redo_build.specs.Rules.{AreLawful, Rules, operands}
 use Rattle.redo_build.specs.Schedule.{Entry, State, entry_of, advanced, moved_on, entered, handed_in, happens, put}
-use Rattle.redo_build.specs.Schedule.{sent_out, taken, IsOutAt}
+use Rattle.redo_build.specs.Schedule.{opening, run, sent_out, taken, AllOpen, Event, IsOpen, IsOutAt}
 use Rattle.redo_build.specs.Schedule.Event.{Take, Hand_in}
 use Rattle.redo_build.specs.Schedule.Phase.{Script}
-use Rattle.redo_core.specs.Views.{BoardView, PieceView, WorkView, IsWorkTaken, after, jobs_out, rules_on}
+use Rattle.redo_core.specs.Views.{BoardView, PieceView, WorkView, IsHandedIn, IsReached, IsWorkTaken, after, jobs_out}
+use Rattle.redo_core.specs.Views.{ready_count, request_on, rules_on}
 use Rattle.redo_build.proofs.DepthLemmas.{cases_Option}
 use Rattle.redo_build.proofs.SeenLemmas.{entry_of-path, entry_of-among, entry_of-put_same, entry_of-put_other}
 use Rattle.redo_build.proofs.SeenLemmas.{entry_of-entered_old}
 use Rattle.redo_run.proofs.RefusalLemmas.{running}
-use Rattle.redo_run.specs.inside.Driving.{AreOut, IsOutOn}
-use Rattle.redo_run.specs.Picks.{Driven, driven_on, targets_of, with_handed_in}
+use Rattle.redo_build.proofs.StillLemmas.{AllOpen-behind, run-behind}
+use Rattle.redo_run.specs.inside.Driving.{AreOut, HasCome, IsOutOn, IsPicked}
+use Rattle.redo_run.specs.Picks.{IsLookedAt, driven_on, targets_of, with_handed_in, with_taken}
+use Rattle.redo_run.specs.declared.picks.Pick.TheVariants as Pick
 
 stays-sent : (es : List Entry) (p q : List ℕ) (e old : Entry) → entry_of es p ≡ Some e → entry_of es q ≡ Some old → old.is_out ≡ true →
     (new : Entry) × (entry_of (put es (sent_out e)) q ≡ Some new) × (new.is_out ≡ true) × (new.turn ≡ old.turn)
@@ -45,6 +49,26 @@ stays-taken r s which q turn out = elim (cases_Option (slice_get s.ready which))
         rw (some.1, found.1) (record { entry = sent.0; at = sent.1; is_out = sent.2; at_turn = sent.3 ∙ out.at_turn })
   ]
 ]
+
+-- what the law of looks says: they leave jobs out
+abbrev pub LooksLeave : Type 0
+LooksLeave = (r : Rules) → AreLawful r → (request : List (List ℕ)) (events : List Event) (looks : ℕ) (target : List ℕ) (turn : ℕ) →
+    AllOpen r (opening r request) events →
+    IsOutAt (run r events (opening r request)) target turn ↔ IsOutAt (looked r looks (run r events (opening r request))) target turn
+
+-- while the board looks behind an event
+stays-looked : LooksLeave → (r : Rules) → AreLawful r → (request : List (List ℕ)) (s t : State) (event : Event) (q : List ℕ) (turn : ℕ) →
+    IsReached r request s → IsOpen r s event → IsLookedOut r (happens r s event) t → IsOutAt (happens r s event) q turn → IsOutAt t q turn
+stays-looked leave r lawful request s t event q turn reached is_open looked_out out =
+    let events = reached.events ++ event ∷ [] in
+    let start = opening r request in
+    let Open : State → Type 0 = λ x. IsOpen r x event in
+    let all_open : AllOpen r start events = AllOpen-behind r reached.events (event ∷ []) start reached.all_open (subst Open reached.ends is_open, tt) in
+    let there : run r events start ≡ happens r s event = run-behind r reached.events (event ∷ []) start ∙ ap (λ x. happens r x event) (sym reached.ends) in
+    let Out : State → Type 0 = λ x. IsOutAt x q turn in
+    let Looked : State → Type 0 = λ x. IsOutAt (looked r looked_out.looks x) q turn in
+    let still = (leave r lawful request events looked_out.looks q turn all_open).0 (subst Out (sym there) out) in
+    subst Out (sym looked_out.is) (subst Looked there still)
 
 -- as another is handed in
 pub stays-handed : (r : Rules) (s : State) (target q : List ℕ) (turn : ℕ) → (target ≡ q → ⊥) → IsOutAt s q turn →
@@ -183,6 +207,43 @@ item-at [] i w below is = absurd (omega (arith, below))
 item-at (x ∷ works) zero w below is = ap (λ v. Some v) (sym is)
 item-at (x ∷ works) (suc i) w below is = item-at works i w (omega (arith, below)) is
 
+none-there : {X : Type 0} (xs : List X) (i : ℕ) → length xs ≤ i → slice_get xs i ≡ None
+none-there [] i h = refl
+none-there (x ∷ xs) zero h = absurd (omega (arith, h))
+none-there (x ∷ xs) (suc i) h = none-there xs i (omega (arith, h))
+
+none-out : (works : List WorkView) (i : ℕ) → length works ≤ i → slice_get (targets_of works) i ≡ None
+none-out [] i h = refl
+none-out (x ∷ works) zero h = absurd (omega (arith, h))
+none-out (x ∷ works) (suc i) h = none-out works i (omega (arith, h))
+
+-- where nothing is ready at the place, nothing is taken
+pub shut-take : (b : BoardView) (works : List WorkView) (which : ℕ) → IsNone b.stopped → ready_count b ≤ which → IsPicked (Pick.Take which) b works b works false
+shut-take b works which on above =
+    let above' = rw (running b.stopped on) at above in (
+      ap (option_map (with_taken (rules_on b) (driven_on b works) which)) (none-there b.state.ready which above'),
+      refl,
+      refl,
+    )
+
+-- where nothing is out at the place, nothing is handed in
+pub shut-piece : (b : BoardView) (works : List WorkView) (which : ℕ) → length works ≤ which → IsPicked (Pick.HandIn which) b works b works false
+shut-piece b works which above = (
+  ap (option_map (with_handed_in (rules_on b) (driven_on b works) which)) (none-out works which above),
+  refl,
+  refl,
+)
+
+-- what a take leads to
+pub taken-picked : (b c : BoardView) (works more : List WorkView) (which : ℕ) (w : WorkView) → c ≡ after b (Take which) → IsWorkTaken b which w →
+    more ≡ works ++ w ∷ [] → IsPicked (Pick.Take which) b works c more true
+taken-picked b c works more which w next work all =
+    let d = driven_on b works in
+    let At : Option (List ℕ) → Type 0 = λ o. MatchOption (option_map (with_taken (rules_on b) d which) o) ⊥ (λ at. driven_on c more ≡ at) in
+    let state : c.state ≡ happens (rules_on b) b.state (Take which) = ap (λ (v : BoardView). v.state) next in
+    let outs : targets_of more ≡ targets_of works ++ w.target ∷ [] = ap targets_of all ∙ targets-push works w in
+    subst At (sym work.target) (λ i. record { state = state i; out = outs i })
+
 -- a work is taken
 pub out-taken : (b c : BoardView) (works more : List WorkView) (which : ℕ) (w : WorkView) → IsNone b.stopped → AreOut b works →
     c ≡ after b (Take which) → IsWorkTaken b which w → IsOutAt c.state w.target w.turn → jobs_out c ≡ jobs_out b + 1 → more ≡ works ++ w ∷ [] → AreOut c more
@@ -213,29 +274,32 @@ module _ (b : BoardView) (works : List WorkView) (which : ℕ) (w : WorkView) (o
       let Q : ℕ → Type 0 = λ n. IsOutAt b.state w.target n in
       subst P (sym same.1) (subst Q (sym same.2) on.is_out)
 
-  module _ (c : BoardView) (rest : List WorkView) (left : rest ≡ remove works which) (next : c ≡ after b (Hand_in piece.target piece.turn)) where
-    handed-state : c.state ≡ handed_in (rules_on b) Script b.state (entry_of b.state.entries w.target)
-    handed-state = ap (λ (v : BoardView). v.state) next ∙ ap (λ p. handed_in (rules_on b) Script b.state (entry_of b.state.entries p)) same.1
+  module _ (c : BoardView) (rest : List WorkView) (left : rest ≡ remove works which) (next : IsHandedIn b piece.target piece.turn c) where
+    -- what comes behind the piece of that work
+    looked-out : IsLookedOut (rules_on b) (handed_in (rules_on b) Script b.state (entry_of b.state.entries w.target)) c.state
+    looked-out =
+        let P : List ℕ → Type 0 = λ p. IsLookedOut (rules_on b) (handed_in (rules_on b) Script b.state (entry_of b.state.entries p)) c.state in
+        subst P same.1 next.looked
 
-    pub handed-picked : option_map (with_handed_in (rules_on b) (driven_on b works) which) (slice_get (targets_of works) which) ≡ Some (driven_on c rest)
+    pub handed-picked : IsPicked (Pick.HandIn which) b works c rest true
     handed-picked =
-        let got = targets-get works which w there in
+        let d = driven_on b works in
+        let At : Option (List ℕ) → Type 0 = λ o. MatchOption (option_map (with_handed_in (rules_on b) d which) o) ⊥ (λ at. IsLookedAt (rules_on b) at (driven_on c rest)) in
         let outs : targets_of rest ≡ remove (targets_of works) which = ap targets_of left ∙ targets-remove works which in
-        let to : with_handed_in (rules_on b) (driven_on b works) which w.target ≡ driven_on c rest =
-        ap (λ ps. record { state = handed_in (rules_on b) Script b.state (entry_of b.state.entries w.target); out = ps }) (sym outs) ∙
-        ap (λ s. record { state = s; out = targets_of rest }) (sym handed-state) in
-        ap (option_map (with_handed_in (rules_on b) (driven_on b works) which)) got ∙ ap (λ d. Some d) to
+        subst At (sym (targets-get works which w there)) (record { looked = looked-out; out = outs })
 
-    pub handed-out : AreOut c rest
-    handed-out =
-        let given = ap (λ (v : BoardView). v.given) next in
-        let moved : AreOut c (remove works which) = out-moved b c given (remove works which)
+    pub handed-out : LooksLeave → AreLawful (rules_on b) → HasCome b → AreOut c rest
+    handed-out leave lawful come =
+        let event = Hand_in w.target piece.turn in
+        let P : List ℕ → Type 0 = λ p. IsOutAt b.state p piece.turn in
+        let is_open : IsOpen (rules_on b) b.state event = subst P same.1 piece-out in
+        let moved : AreOut c (remove works which) = out-moved b c next.given (remove works which)
         (λ x m at.
         let other : w.target ≡ x.target → ⊥ = λ h.
         let P : List ℕ → Type 0 = λ p. IsAmong (targets_of (remove works which)) p in
         out-gone b works which w out there (subst P (sym h) m) in
-        let S : State → Type 0 = λ s. IsOutAt s x.target x.turn in
-        subst S (sym handed-state) (stays-handed (rules_on b) b.state w.target x.target x.turn other at))
+        stays-looked leave (rules_on b) lawful (request_on b) b.state c.state event x.target x.turn come.1.reached is_open looked-out
+        (stays-handed (rules_on b) b.state w.target x.target x.turn other at))
         (out-removed b works which out) in
         let P : List WorkView → Type 0 = AreOut c in
         subst P (sym left) moved

@@ -3,7 +3,6 @@ use Rattle.std.proofs.Common.{rules, ◌≡◌, ◌↔◌, ◌∙◌, [], ◌∷
 use Rattle.std.proofs.Common.{option_map, true, false, sym, subst, refl}
 use Rattle.std.specs.Prelude.{IfSome, IsSome, Err}
 use Rattle.std.specs.Io.KnownBytes.{Appends}
-use Rattle.redo_core.specs.Build.{GivenView}
 use Rattle.redo_core.specs.Results.{IsGiven, IsRefused, IsResultOn, NeedsTooMany}
 use Rattle.redo_report.specs.ReportText.{report_text}
 use Rattle.redo_report.specs.declared.report.Report.{Report}
@@ -17,8 +16,12 @@ use Rattle.redo_run.specs.declared.exit.Exit.{Exit}
 use Rattle.redo_run.specs.declared.run_fault.RunFault.{RunFault}
 use Rattle.redo_run.specs.declared.run_fault.RunFault.TheVariants as build
 use Rattle.redo_run.specs.Exits.{IsExitOf}
-use Rattle.redo_run.specs.Directories.{ReportsTree, with_book_last}
+use Rattle.redo_run.specs.declared.dir_fault.RunDirFault.TheVariants as dir
+use Rattle.redo_run.specs.DirFaults.{of_run}
+use Rattle.redo_run.specs.Directories.{NeedsTooMany as DirNeedsTooMany}
+use Rattle.redo_run.specs.Directories.{ReportsTree, changed_from, with_book_last}
 use Rattle.redo_run.specs.Faults.{of_build}
+use Rattle.redo_run.specs.Skipping.{IsSoundOn, IsUnsafeOn}
 use Rattle.redo_run.specs.Runs.{Explains, ExplainsList, Lists, Reports, request_in, request_of}
 use Rattle.redo_run.specs.Candidates.{candidate_text, search_text}
 use Rattle.redo_which.specs.Candidates.{Place}
@@ -31,6 +34,12 @@ pub named_targets : (targets : List (List ℕ)) → (length targets ≡ 0 → �
 named_targets [] some = absurd (some refl)
 named_targets (target ∷ targets) some = refl
 
+-- over a directory too many targets are told where the build tells of them
+pub many_of_run : (fault : RunFault) → dir.TooMany ≡ of_run fault → fault ≡ build.TooMany
+many_of_run (build.Book n) h = cc
+many_of_run build.TooMany h = refl
+many_of_run build.Memory h = cc
+
 -- the request is that of the options
 module _ (options : Options) (tree : Tree) (request : List (List ℕ)) (named : request ≡ request_in options) where
   moved : (P : List (List ℕ) → Type 0) → P request → P (request_in options)
@@ -40,11 +49,17 @@ module _ (options : Options) (tree : Tree) (request : List (List ℕ)) (named : 
   pub explains_build : (left old new : Option (List ℕ)) (fault : RunFault) → IfSome left (λ text. IsBundle text tree) →
       ((n : ℕ) → fault ≡ build.Book n → IsRefused tree n) →
       (fault ≡ build.TooMany → NeedsTooMany tree request options.limits) →
+      (fault ≡ build.TooMany → IsUnsafeOn tree request options.limits) →
       IfSome left (λ text. Explains {A = Exit} options text old new (Err (of_build fault)))
-  explains_build None old new fault bundle book many = tt
-  explains_build (Some text) old new (build.Book n) bundle book many = (tree, bundle, book n refl)
-  explains_build (Some text) old new build.TooMany bundle book many = (tree, bundle, moved (λ ps. NeedsTooMany tree ps options.limits) (many refl))
-  explains_build (Some text) old new build.Memory bundle book many = tt
+  explains_build None old new fault bundle book many never = tt
+  explains_build (Some text) old new (build.Book n) bundle book many never = (tree, bundle, book n refl)
+  explains_build (Some text) old new build.TooMany bundle book many never = (
+    tree,
+    bundle,
+    moved (λ ps. NeedsTooMany tree ps options.limits) (many refl),
+    moved (λ ps. IsUnsafeOn tree ps options.limits) (never refl),
+  )
+  explains_build (Some text) old new build.Memory bundle book many never = tt
 
   -- a writer that fails in the report took a beginning of it
   pub explains_device : {E : Type 0} (f : E) (left old new : Option (List ℕ)) (report : Report) (written : List ℕ) →
@@ -66,35 +81,46 @@ module _ (options : Options) (tree : Tree) (request : List (List ℕ)) (named : 
   -- the whole report was written
   pub reports : (left old new : Option (List ℕ)) (report : Report) (written : List ℕ) (exit : Exit) →
       IfSome left (λ text. IsBundle text tree) → (is : IsResultOn tree request options.limits report) →
+      IsSoundOn tree request options.limits report →
       written ≡ report_text report true → Appends old new written →
       IsExitOf is.0 exit →
       IfSome left (λ text. Reports options text old new exit)
-  reports None old new report written exit bundle is made h good = tt
-  reports (Some text) old new report written exit bundle is made h good = record {
+  reports None old new report written exit bundle is sound made h good = tt
+  reports (Some text) old new report written exit bundle is sound made h good = record {
     tree = tree;
     bundle = bundle;
     given = is.0;
     is_given = moved (λ ps. IsGiven tree ps options.limits is.0) is.1;
     report = report;
     is = is.2;
+    sound = sound is.0 is.1;
     written = subst (Appends old new) made h;
     good = good;
   }
 
+  pub too_many_in : NeedsTooMany tree request options.limits → IsUnsafeOn tree request options.limits → DirNeedsTooMany options
+  too_many_in many never = (
+    tree,
+    moved (λ ps. NeedsTooMany tree ps options.limits) many,
+    moved (λ ps. IsUnsafeOn tree ps options.limits) never,
+  )
+
   -- the whole report of a directory was written
   pub reports_tree : (dir : List ℕ) (old new : Option (List ℕ)) (report : Report) (written : List ℕ) (run : DirRun) →
       IsLoaded tree run.passed → (is : IsResultOn tree request options.limits report) →
-      run.stored ≡ places_in dir (with_book_last report.files.items) →
+      IsSoundOn tree request options.limits report →
+      run.stored ≡ places_in dir (with_book_last (changed_from tree report.files.items)) →
       written ≡ report_text report false → Appends old new written →
       IsExitOf is.0 run.exit →
       ReportsTree options dir old new run
-  reports_tree dir old new report written run loaded is stored made h good = record {
+  reports_tree dir old new report written run loaded is sound stored made h good = record {
     tree = tree;
     loaded = loaded;
     given = is.0;
     is_given = moved (λ ps. IsGiven tree ps options.limits is.0) is.1;
     report = report;
     is = is.2;
+    sound = sound is.0 is.1;
     stored = stored;
     written = subst (Appends old new) made h;
     good = good;

@@ -6,4 +6,5 @@ pub mod Faults
 pub mod Picks
 pub mod RunFaults
 pub mod Runs
+pub mod Skipping
 pub mod inside

@@ -1,8 +1,10 @@
 -- An order of a build, said by places: which ready target is taken next, and which of the jobs that are out is handed
--- in.
-use Rattle.std.specs.Prelude.{◌≡◌, ℕ, ◌+◌, List, [], ◌∷◌, ◌++◌, Option, Some, None, slice_get, remove, map, option_map}
+-- in. What the board looks at by itself, at the opening and behind each piece, is no part of it.
+use Rattle.std.specs.Prelude.{◌≡◌, ℕ, ◌+◌, List, [], ◌∷◌, ◌++◌, Option, None, MatchOption, slice_get, remove, map}
+use Rattle.std.specs.Prelude.{option_map}
 use Rattle.redo_core.specs.Build.{GivenView, rules_for}
 use Rattle.redo_core.specs.Results.{IsGiven}
+use Rattle.redo_build.specs.Looking.{IsLookedOut}
 use Rattle.redo_build.specs.Rules.{Rules}
 use Rattle.redo_build.specs.Schedule.{State, entry_of, happens, handed_in, opening}
 use Rattle.redo_build.specs.Schedule.Event.{Take}
@@ -27,29 +29,39 @@ abbrev pub with_handed_in : Rules → Driven → ℕ → List ℕ → Driven
 with_handed_in r d which target =
     record { state = handed_in r Script d.state (entry_of d.state.entries target); out = remove d.out which }
 
--- what a pick leads to; nothing where it isn't open
+-- what a pick leads to, before the board looks; nothing where it isn't open
 abbrev pub picked : Rules → Driven → Pick → Option Driven
 picked r d (TakeAt which) = option_map (with_taken r d which) (slice_get d.state.ready which)
 picked r d (HandInAt which) = option_map (with_handed_in r d which) (slice_get d.out which)
 
--- what the picks lead to, up to the first that isn't open, and how many that are
-abbrev pub driven : Rules → Driven → List Pick → Driven × ℕ
-driven r d [] = (d, 0)
-driven r d (pick ∷ picks) =
-    elim (picked r d pick) [
-      | None ↦ (d, 0)
-      | Some next ↦ let rest = driven r next picks in (rest.0, rest.1 + 1)
-    ]
+-- the second is the first once the board has looked: the checks that can go on do so, until none can
+pub record IsLookedAt (r : Rules) (d next : Driven) : Type 0 where
+  pub looked : IsLookedOut r d.state next.state
+  pub out : next.out ≡ d.out
 
--- the opening, where nothing is out
+-- behind a take the board looks at nothing, behind a piece at what can go on
+abbrev pub IsBehind : Rules → Pick → Driven → Driven → Type 0
+IsBehind r (TakeAt which) d next = next ≡ d
+IsBehind r (HandInAt which) d next = IsLookedAt r d next
+
+-- the picks lead there, up to the first that isn't open, and so many are done
+abbrev pub IsDrivenTo : Rules → List Pick → Driven → Driven → ℕ → Type 0
+IsDrivenTo r [] d end done = (end ≡ d) × (done ≡ 0)
+IsDrivenTo r (pick ∷ picks) d end done =
+    MatchOption (picked r d pick) ((end ≡ d) × (done ≡ 0)) (λ at.
+    (next : Driven) × IsBehind r pick at next × ((left : ℕ) × IsDrivenTo r picks next end left × (done ≡ left + 1)))
+
+-- the opening, before the board looks, where nothing is out
 abbrev pub at_opening : GivenView → Driven
 at_opening given = record { state = opening (rules_for given) given.request; out = [] }
 
 -- the board is that of the picks in a build that is given this, which were done up to the first that isn't open
-abbrev pub IsDrivenOver : GivenView → List Pick → BoardView → ℕ → Type 0
-IsDrivenOver given picks board done =
-    let end = driven (rules_for given) (at_opening given) picks in
-    (board ≡ record { given = given; state = end.0.state; stopped = None }) × (done ≡ end.1)
+pub record IsDrivenOver (given : GivenView) (picks : List Pick) (board : BoardView) (done : ℕ) : Type 0 where
+  pub first : Driven
+  pub opened : IsLookedAt (rules_for given) (at_opening given) first
+  pub end : Driven
+  pub led : IsDrivenTo (rules_for given) picks first end done
+  pub is : board ≡ record { given = given; state = end.state; stopped = None }
 
 -- the same of a tree, a request and limits
 abbrev pub IsDriven : Tree → List (List ℕ) → LimitsView → List Pick → BoardView → ℕ → Type 0

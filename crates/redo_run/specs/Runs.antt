@@ -15,6 +15,7 @@ use Rattle.redo_run.specs.declared.fault.RunIoFault.{RunIoFault}
 use Rattle.redo_run.specs.declared.fault.RunIoFault.TheVariants.{Bundle, Book, TooMany, Device, Memory}
 use Rattle.redo_run.specs.Candidates.{candidate_text}
 use Rattle.redo_run.specs.Exits.{IsExitOf}
+use Rattle.redo_run.specs.Skipping.{IsSoundFor, IsUnsafeOn}
 
 -- `all`, where no target is given
 abbrev pub request_of : List (List ℕ) → List (List ℕ)
@@ -36,13 +37,15 @@ pub record Reports (options : Options) (text : List ℕ) (old new : Option (List
   pub is_given : IsGiven tree (request_in options) options.limits given
   pub report : Report
   pub is : IsResult given report
+  pub sound : IsSoundFor given report
   pub written : Appends old new (report_text report true)
   pub good : IsExitOf given exit
 
--- the text is a bundle of a tree that needs too many targets
+-- the text is a bundle of a tree that needs too many targets; where keeping is safe, none does
 abbrev pub NeedsTooMany : Options → List ℕ → Type 0
 NeedsTooMany options text =
-    (tree : Tree) × IsBundle text tree × TreeNeedsTooMany tree (request_in options) options.limits
+    (tree : Tree) × IsBundle text tree × TreeNeedsTooMany tree (request_in options) options.limits ×
+    IsUnsafeOn tree (request_in options) options.limits
 
 -- the text is a bundle of a tree whose book is refused for this line
 abbrev pub RefusesBook : List ℕ → ℕ → Type 0

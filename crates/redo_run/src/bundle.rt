@@ -17,8 +17,9 @@ use std::alloc::Global;
 use std::sync::Wait;
 use std::thread::Threads;
 
-/// Reads a bundle to its end, builds the targets of its tree, and writes the report, with the files that were built.
-/// The report is the same for every number of workers. Nothing is written before the build has answered.
+/// Reads a bundle to its end, builds the targets of its tree, and writes the report, with the files of all targets that
+/// are built or kept, and the new book. The report is the same for every number of workers. Nothing is written before
+/// the build has answered.
 ///
 /// The report goes out in many small pieces: hand in a writer with a buffer, as `Plain::new` over std's `BufWriter`,
 /// and flush it afterwards.

@@ -5,9 +5,11 @@ ghost use Rattle.redo_core.specs.Results.{IsRefused, IsResultOn, NeedsTooMany};
 ghost use Rattle.redo_core.specs.Faults.{IsSameBuild};
 ghost use Rattle.redo_build.specs.Outcomes.{IsTooMany};
 ghost use Rattle.redo_build.specs.TakesLeft.{takes_left};
+ghost use Rattle.redo_run.specs.Skipping.{IsSoundOn, IsUnsafeOn};
 ghost use Rattle.redo_core.specs.Views.{jobs_out, limit_on, ready_count, request_on, rules_on};
 
 use crate::RunFault;
+use crate::laws::keeping_is_sound;
 use redo_core::board::{Board, HandFault, Stop};
 use redo_path::Path;
 use redo_report::Report;
@@ -40,8 +42,9 @@ fn advance_newest(board: &mut Board) -> Result<(), Stop>
     }
 }
 
-/// Builds the requested targets and all that they need, one script after another, and keeps going where one fails.
-/// Among the files of the report is the new book.
+/// Builds the requested targets and all that they need, one script after another, and keeps going where one fails. What
+/// stands as the last run left it is kept, and its script isn't begun. Among the files of the report is the new book.
+/// Where keeping is safe, the report agrees with that of the sources alone.
 pub fn build_one(
     alloc: Global,
     tree: Tree,
@@ -49,9 +52,13 @@ pub fn build_one(
     limits: Limits,
 ) -> Result<Report, RunFault>
     ensures report { IfOk result (IsResultOn tree request.now limits) }
+    ensures sound { IfOk result (IsSoundOn tree request.now limits) }
     ensures book { (n : ℕ) → result ≡ Err (RunFault.Book n) → IsRefused tree n }
     ensures too_many { result ≡ Err RunFault.TooMany → NeedsTooMany tree request.now limits }
+    ensures only_unsafe { result ≡ Err RunFault.TooMany → IsUnsafeOn tree request.now limits }
 {
+    keeping_is_sound();
+    tree.is_tree();
     let mut board = Board::open(alloc, Arc::new(alloc, tree)?, request, limits)?;
     while board.ready() > 0 {
         advance_newest(&mut board)?;

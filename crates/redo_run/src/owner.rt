@@ -7,7 +7,7 @@ ghost use Rattle.redo_core.specs.Taken.{HasTaken};
 ghost use Rattle.redo_core.specs.Views.{limit_on, ready_count, request_on, rules_on};
 ghost use Rattle.redo_run.specs.inside.Workers.{HasTakenOn, IsSameSource};
 
-use crate::crew::{Call, Lines, job_of_owner};
+use crate::crew::{Advance, Call, Lines, job_of_owner};
 use crate::gate::Gate;
 use crate::of_build::{Build, JobOf, Message, PieceOf};
 use crossbeam_channel::Receiver;
@@ -69,7 +69,7 @@ fn call_for_newest<B: Build, R: Wait>(
     rt: &R,
     board: &mut Board,
     source: &mut JobSource<JobOf<B>>,
-    lines: &Lines<'_, B>,
+    lines: &Lines<'_, Message<B>>,
 ) -> Result<(), AllocError>
     requires ready { 0 < ready_count board.old }
     requires of_build { board.old.given ≡ B.given }
@@ -92,7 +92,7 @@ fn advance_newest<B: Build, R: Wait, G: Gate>(
     board: &mut Board,
     source: &mut JobSource<JobOf<B>>,
     taker: &mut JobTaker<JobOf<B>>,
-    lines: &Lines<'_, B>,
+    lines: &Lines<'_, Message<B>>,
     gate: &G,
 ) -> Result<(), Stop>
     requires ready { 0 < ready_count board.old }
@@ -139,7 +139,7 @@ fn receive<B: Build, R: Wait>(
 
 /// Whether the owner advances the newest job itself: there is no worker, or this is the only script that can go on, so
 /// that nothing waits for the owner meanwhile. So a chain of targets needs no hand-over.
-fn is_for_owner<B: Build>(board: &Board, lines: &Lines<'_, B>) -> bool {
+fn is_for_owner<B: Build>(board: &Board, lines: &Lines<'_, Message<B>>) -> bool {
     board.out() == 0 && (board.ready() == 1 || lines.most_out == 0)
 }
 
@@ -149,7 +149,7 @@ pub(crate) fn own<B: Build, R: Wait, G: Gate>(
     board: &mut Board,
     source: &mut JobSource<JobOf<B>>,
     taker: &mut JobTaker<JobOf<B>>,
-    lines: &Lines<'_, B>,
+    lines: &Lines<'_, Message<B>>,
     gate: &G,
 ) -> Result<(), Stop>
     requires of_build { board.old.given ≡ B.given }

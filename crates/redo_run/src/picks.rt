@@ -9,10 +9,12 @@ ghost use Rattle.redo_core.specs.Faults.{IsSameBuild};
 ghost use Rattle.redo_build.specs.Outcomes.{IsTooMany};
 ghost use Rattle.redo_core.specs.Views.{limit_on, request_on, rules_on};
 ghost use Rattle.redo_run.specs.Picks.{IsDriven, driven_on, picked};
-ghost use Rattle.redo_run.specs.inside.Driving.{AreOut, IsPicked};
+ghost use Rattle.redo_run.specs.inside.Driving.{AreOut, HasCome, IsPicked};
 
 use crate::RunFault;
+use redo_build::laws::looks_leave_jobs;
 use redo_core::board::{Board, HandFault, Stop};
+use redo_core::laws::{books_over_trees_are_lawful, what_was_taken};
 use redo_core::work::Work;
 use redo_path::Path;
 use redo_step::Limits;
@@ -33,12 +35,15 @@ pub enum Pick {
 fn take_at(board: &mut Board, out: &mut Vec<Work>, which: usize) -> Result<bool, Stop>
     requires running { IsNone board.old.stopped }
     requires out { AreOut board.old out.old.items }
+    requires come { HasCome board.old }
     ensures picked { IfOk result (IsPicked (Pick.Take which) board.old out.old.items board.new out.new.items) }
     ensures build { OnOk result (IsSameBuild board.old board.new) }
     ensures running { OnOk result (IsNone board.new.stopped) }
     ensures out { OnOk result (AreOut board.new out.new.items) }
+    ensures come { OnOk result (HasCome board.new) }
     ensures too_many { result ≡ Err Stop.TooMany → ⊥ }
 {
+    what_was_taken();
     if which >= board.ready() {
         return Ok(false);
     }
@@ -50,13 +55,18 @@ fn take_at(board: &mut Board, out: &mut Vec<Work>, which: usize) -> Result<bool,
 fn hand_in_at(board: &mut Board, out: &mut Vec<Work>, which: usize) -> Result<bool, Stop>
     requires running { IsNone board.old.stopped }
     requires out { AreOut board.old out.old.items }
+    requires come { HasCome board.old }
     ensures picked { IfOk result (IsPicked (Pick.HandIn which) board.old out.old.items board.new out.new.items) }
     ensures build { OnOk result (IsSameBuild board.old board.new) }
     ensures running { OnOk result (IsNone board.new.stopped) }
     ensures out { OnOk result (AreOut board.new out.new.items) }
+    ensures come { OnOk result (HasCome board.new) }
     ensures too_many { result ≡ Err Stop.TooMany →
         IsTooMany (rules_on board.old) (request_on board.old) (limit_on board.old) }
 {
+    what_was_taken();
+    looks_leave_jobs();
+    books_over_trees_are_lawful();
     if which >= out.len() {
         return Ok(false);
     }
@@ -73,10 +83,12 @@ fn hand_in_at(board: &mut Board, out: &mut Vec<Work>, which: usize) -> Result<bo
 fn perform(board: &mut Board, out: &mut Vec<Work>, pick: Pick) -> Result<bool, Stop>
     requires running { IsNone board.old.stopped }
     requires out { AreOut board.old out.old.items }
+    requires come { HasCome board.old }
     ensures picked { IfOk result (IsPicked pick board.old out.old.items board.new out.new.items) }
     ensures build { OnOk result (IsSameBuild board.old board.new) }
     ensures running { OnOk result (IsNone board.new.stopped) }
     ensures out { OnOk result (AreOut board.new out.new.items) }
+    ensures come { OnOk result (HasCome board.new) }
     ensures too_many { result ≡ Err Stop.TooMany →
         IsTooMany (rules_on board.old) (request_on board.old) (limit_on board.old) }
 {
@@ -87,8 +99,9 @@ fn perform(board: &mut Board, out: &mut Vec<Work>, pick: Pick) -> Result<bool, S
 }
 
 /// Opens a board over a tree and performs the picks one after another, up to the first that isn't open: a place where
-/// nothing is ready, or nothing is out. Answers the board, whatever is left to do on it, and how many picks were done.
-/// With the works that are still out the board is left as it is; they are lost.
+/// nothing is ready, or nothing is out. What stands as the last run left it the board keeps by itself, without a pick.
+/// Answers the board, whatever is left to do on it, and how many picks were done. With the works that are still out the
+/// board is left as it is; they are lost.
 pub fn drive(
     alloc: Global,
     tree: Tree,
@@ -100,6 +113,7 @@ pub fn drive(
     ensures book { (n : ℕ) → result ≡ Err (RunFault.Book n) → IsRefused tree n }
     ensures too_many { result ≡ Err RunFault.TooMany → NeedsTooMany tree request.now limits }
 {
+    what_was_taken();
     let mut board = Board::open(alloc, Arc::new(alloc, tree)?, request, limits)?;
     let mut out = Vec::new(alloc);
     for (done, pick) in picks.iter().enumerate() {

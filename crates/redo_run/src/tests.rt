@@ -15,6 +15,7 @@ mod books;
 mod directories;
 mod ends;
 mod histories;
+mod keeping;
 mod memory;
 mod one;
 mod picks;

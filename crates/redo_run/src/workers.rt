@@ -6,17 +6,20 @@
 //! in, the ledger of the relay shows that each job was taken once.
 
 ghost use Rattle.std.specs.Prelude.{◌≡◌, ◌≤◌, Err, [], IfOk, IsNone, IsTrue, ℕ};
+ghost use Rattle.std.specs.Arc.{arc_value};
 ghost use Rattle.redo_build.specs.Outcomes.{IsTooMany};
 ghost use Rattle.redo_build.specs.Takes.{AreBegun, AreCountedOnce};
 ghost use Rattle.redo_core.specs.Results.{IsRefused, IsResultOn, NeedsTooMany};
 ghost use Rattle.redo_core.specs.Taken.{HasTaken};
 ghost use Rattle.redo_core.specs.Views.{limit_on, request_on, rules_on};
 ghost use Rattle.redo_sync.specs.Relay.{SharesOut, taken_by};
+ghost use Rattle.redo_run.specs.Skipping.{IsSoundOn, IsUnsafeOn};
 ghost use Rattle.redo_run.specs.inside.Workers.{IsAnswerTo, IsStaffed};
 
 use crate::crew::{join_all, lines_for, start_all};
 use crate::desk::{Desk, EndedDesk, hand_out};
 use crate::gate::Gate;
+use crate::laws::keeping_is_sound;
 use crate::lookers::Lookers;
 use crate::of_build::{Build, JobOf};
 use crate::owner::{never, own};
@@ -186,7 +189,8 @@ fn run_build<B: Build + Send + Sync, R: Threads + Wait + Sync, G: Gate>(
 /// Builds the requested targets by so many workers side by side, each in a thread of its own; the caller's thread has
 /// the board meanwhile, and hands out the jobs. It advances a script itself where no other can go on. With one worker
 /// no thread is started: the caller does it all. The report is that of the recursive build in one thread, whatever the
-/// workers do when, with the new book among its files, and the ledger shows that each job was taken once. All threads
+/// workers do when, with the new book among its files, and the ledger shows that each job was taken once. What stands
+/// as the last run left it is kept; where that is safe, the report agrees with that of the sources alone. All threads
 /// have ended when it answers. It answers `Memory` too where a thread could not be started.
 pub fn build_many<R: Threads + Wait + Sync, G: Gate>(
     rt: &R,
@@ -200,14 +204,42 @@ pub fn build_many<R: Threads + Wait + Sync, G: Gate>(
     requires some { 1 ≤ workers }
     requires few { workers ≤ 64 }
     ensures report { IfOk result (λ r. IsResultOn tree request.now limits r.0) }
+    ensures sound { IfOk result (λ r. IsSoundOn tree request.now limits r.0) }
     ensures none_left { IfOk result (λ r. r.1.left ≡ []) }
     ensures once { IfOk result (λ r. AreCountedOnce r.1.taken) }
     ensures begun { IfOk result (λ r. AreBegun r.1.taken r.0.begun.items) }
     ensures book { (n : ℕ) → result ≡ Err (RunFault.Book n) → IsRefused tree n }
     ensures too_many { result ≡ Err RunFault.TooMany → NeedsTooMany tree request.now limits }
+    ensures only_unsafe { result ≡ Err RunFault.TooMany → IsUnsafeOn tree request.now limits }
+{
+    let tree = Arc::new(alloc, tree)?;
+    build_over(rt, alloc, tree, request, limits, workers, gate)
+}
+
+/// The same over a tree that the caller has too.
+pub(crate) fn build_over<R: Threads + Wait + Sync, G: Gate>(
+    rt: &R,
+    alloc: Global,
+    tree: Arc<Tree>,
+    request: &[Path],
+    limits: Limits,
+    workers: usize,
+    gate: &G,
+) -> Result<(Report, Ledger<Work>), RunFault>
+    requires some { 1 ≤ workers }
+    requires few { workers ≤ 64 }
+    ensures report { IfOk result (λ r. IsResultOn (arc_value tree) request.now limits r.0) }
+    ensures sound { IfOk result (λ r. IsSoundOn (arc_value tree) request.now limits r.0) }
+    ensures none_left { IfOk result (λ r. r.1.left ≡ []) }
+    ensures once { IfOk result (λ r. AreCountedOnce r.1.taken) }
+    ensures begun { IfOk result (λ r. AreBegun r.1.taken r.0.begun.items) }
+    ensures book { (n : ℕ) → result ≡ Err (RunFault.Book n) → IsRefused (arc_value tree) n }
+    ensures too_many { result ≡ Err RunFault.TooMany → NeedsTooMany (arc_value tree) request.now limits }
+    ensures only_unsafe { result ≡ Err RunFault.TooMany → IsUnsafeOn (arc_value tree) request.now limits }
 {
     what_was_taken();
-    let tree = Arc::new(alloc, tree)?;
+    keeping_is_sound();
+    tree.is_tree();
     let board = Board::open(alloc, tree, request, limits)?;
     Ok(run_build::<Brand, R, G>(rt, alloc, board, workers, gate)?)
 }

@@ -1,5 +1,5 @@
 -- What a build by an owner and its workers comes to.
-use Rattle.std.specs.Prelude.{◌≡◌, ℕ, List, [], Result, Err, IfOk, All, length}
+use Rattle.std.specs.Prelude.{◌≡◌, List, [], Result, Err, IfOk, All, length}
 use Rattle.redo_core.specs.Build.{GivenView, rules_for}
 use Rattle.redo_build.specs.Outcomes.{IsTooMany}
 use Rattle.redo_build.specs.Takes.{AreBegun, AreCountedOnce}

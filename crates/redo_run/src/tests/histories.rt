@@ -15,7 +15,7 @@ use std::test::Fail;
 use std::thread::Threads;
 
 /// A source, a target that needs it, and one that needs that.
-const CHAIN: Files = &[
+pub(crate) const CHAIN: Files = &[
     (b"src", b"1\n"),
     (b"mid.do", b"redo-ifchange src\necho m\n"),
     (b"top.do", b"redo-ifchange mid\ncat mid\n"),
@@ -33,6 +33,98 @@ const CHAIN_REPORT: &[u8] =
     change e7f3aabf4cf4e60cdf4881ff938d509d4012de056103bbf14a86110c09dc8dc0 top.do\n\
     change 01a60e35df88d8b49546cb3f8f4ba4f406870f9b8e1f394c9d48ab73548d748d mid\nend\n\n\
     file 2 mid\nm\n\nfile 2 top\nm\n\nend\n";
+
+/// Only `top`, which is requested, is built again.
+pub(crate) const TOP_ALONE_REPORT: &[u8] =
+    b"built 2 mid\ndep change mid.do\ndep change src\nbuilt 2 top\ndep change top.do\n\
+    dep change mid\nbegun top\n\
+    file 466 .redo-book\n\
+    target 01a60e35df88d8b49546cb3f8f4ba4f406870f9b8e1f394c9d48ab73548d748d mid\n\
+    change 83af57ac95ec3b14bcf3aa93b9b397376ef43659326e4db59ab01f9948702c45 mid.do\n\
+    change 4355a46b19d348dc2f57c046f8ef63d4538ebb936000f3c9ee954a27460dd865 src\n\
+    target 01a60e35df88d8b49546cb3f8f4ba4f406870f9b8e1f394c9d48ab73548d748d top\n\
+    change e7f3aabf4cf4e60cdf4881ff938d509d4012de056103bbf14a86110c09dc8dc0 top.do\n\
+    change 01a60e35df88d8b49546cb3f8f4ba4f406870f9b8e1f394c9d48ab73548d748d mid\nend\n\n\
+    file 2 mid\nm\n\nfile 2 top\nm\n\nend\n";
+
+/// The same with one more target behind it.
+pub(crate) const LONGER: Files = &[
+    (b"src", b"1\n"),
+    (b"mid.do", b"redo-ifchange src\necho m\n"),
+    (b"top.do", b"redo-ifchange mid\ncat mid\n"),
+    (b"out.do", b"redo-ifchange top\ncat top\n"),
+];
+
+/// All three are built.
+const OUT_REPORT: &[u8] = b"built 2 mid\n\
+    dep change mid.do\n\
+    dep change src\n\
+    built 2 out\n\
+    dep change out.do\n\
+    dep change top\n\
+    built 2 top\n\
+    dep change top.do\n\
+    dep change mid\n\
+    begun mid\n\
+    begun out\n\
+    begun top\n\
+    file 697 .redo-book\n\
+    target 01a60e35df88d8b49546cb3f8f4ba4f406870f9b8e1f394c9d48ab73548d748d mid\n\
+    change 83af57ac95ec3b14bcf3aa93b9b397376ef43659326e4db59ab01f9948702c45 mid.do\n\
+    change 4355a46b19d348dc2f57c046f8ef63d4538ebb936000f3c9ee954a27460dd865 src\n\
+    target 01a60e35df88d8b49546cb3f8f4ba4f406870f9b8e1f394c9d48ab73548d748d out\n\
+    change 45d5c352b57e5bb9fe5a3d57610227971160faadb20e9377e6da883543f63cdc out.do\n\
+    change 01a60e35df88d8b49546cb3f8f4ba4f406870f9b8e1f394c9d48ab73548d748d top\n\
+    target 01a60e35df88d8b49546cb3f8f4ba4f406870f9b8e1f394c9d48ab73548d748d top\n\
+    change e7f3aabf4cf4e60cdf4881ff938d509d4012de056103bbf14a86110c09dc8dc0 top.do\n\
+    change 01a60e35df88d8b49546cb3f8f4ba4f406870f9b8e1f394c9d48ab73548d748d mid\n\
+    end\n\
+    \n\
+    file 2 mid\n\
+    m\n\
+    \n\
+    file 2 out\n\
+    m\n\
+    \n\
+    file 2 top\n\
+    m\n\
+    \n\
+    end\n";
+
+/// `src` was changed: `mid` is built again, and as it comes out as it was, `top` is kept.
+const KEPT_REPORT: &[u8] = b"built 2 mid\n\
+    dep change mid.do\n\
+    dep change src\n\
+    built 2 out\n\
+    dep change out.do\n\
+    dep change top\n\
+    built 2 top\n\
+    dep change top.do\n\
+    dep change mid\n\
+    begun mid\n\
+    begun out\n\
+    file 697 .redo-book\n\
+    target 01a60e35df88d8b49546cb3f8f4ba4f406870f9b8e1f394c9d48ab73548d748d mid\n\
+    change 83af57ac95ec3b14bcf3aa93b9b397376ef43659326e4db59ab01f9948702c45 mid.do\n\
+    change 53c234e5e8472b6ac51c1ae1cab3fe06fad053beb8ebfd8977b010655bfdd3c3 src\n\
+    target 01a60e35df88d8b49546cb3f8f4ba4f406870f9b8e1f394c9d48ab73548d748d out\n\
+    change 45d5c352b57e5bb9fe5a3d57610227971160faadb20e9377e6da883543f63cdc out.do\n\
+    change 01a60e35df88d8b49546cb3f8f4ba4f406870f9b8e1f394c9d48ab73548d748d top\n\
+    target 01a60e35df88d8b49546cb3f8f4ba4f406870f9b8e1f394c9d48ab73548d748d top\n\
+    change e7f3aabf4cf4e60cdf4881ff938d509d4012de056103bbf14a86110c09dc8dc0 top.do\n\
+    change 01a60e35df88d8b49546cb3f8f4ba4f406870f9b8e1f394c9d48ab73548d748d mid\n\
+    end\n\
+    \n\
+    file 2 mid\n\
+    m\n\
+    \n\
+    file 2 out\n\
+    m\n\
+    \n\
+    file 2 top\n\
+    m\n\
+    \n\
+    end\n";
 
 /// `mid` was changed by hand.
 const TOP_REPORT: &[u8] = b"built 2 top\ndep change top.do\ndep change mid\nbegun top\n\
@@ -105,11 +197,19 @@ const THIRD_REPORT: &[u8] = b"built 2 a\ndep change a.do\nbegun a\n\
 type Step = (Files, &'static [u8], &'static [u8]);
 
 /// A rule, the files of the first run, and the runs.
-const HISTORIES: [(&str, Files, &[Step]); 6] = [
+const HISTORIES: [(&str, Files, &[Step]); 7] = [
     (
-        "generated files are built again",
+        "what is requested is built again, and what it needs is kept where it stands",
         CHAIN,
-        &[(&[], b"top", CHAIN_REPORT), (&[], b"top", CHAIN_REPORT)],
+        &[(&[], b"top", CHAIN_REPORT), (&[], b"top", TOP_ALONE_REPORT)],
+    ),
+    (
+        "what is built again as it was doesn't concern what needs it",
+        LONGER,
+        &[
+            (&[], b"out", OUT_REPORT),
+            (&[(b"src", b"2\n")], b"out", KEPT_REPORT),
+        ],
     ),
     (
         "a generated file that is changed by hand is a source",
@@ -125,7 +225,7 @@ const HISTORIES: [(&str, Files, &[Step]); 6] = [
         CHAIN,
         &[
             (&[], b"top", CHAIN_REPORT),
-            (&[(b"mid", b"m\n")], b"top", CHAIN_REPORT),
+            (&[(b"mid", b"m\n")], b"top", TOP_ALONE_REPORT),
         ],
     ),
     (
@@ -137,7 +237,7 @@ const HISTORIES: [(&str, Files, &[Step]); 6] = [
         ],
     ),
     (
-        "redo-always is recorded each time",
+        "what is made in any case is begun each time",
         ALWAYS,
         &[(&[], b"u", ALWAYS_REPORT), (&[], b"u", ALWAYS_REPORT)],
     ),
@@ -153,10 +253,14 @@ const HISTORIES: [(&str, Files, &[Step]); 6] = [
 ];
 
 /// The files that stand, by their paths.
-type Standing = BTreeMap<Path, Content>;
+pub(crate) type Standing = BTreeMap<Path, Content>;
 
 /// Writes files, each in the place of what stood there.
-fn write_files(alloc: Global, standing: &mut Standing, files: Files) -> Result<(), Fail> {
+pub(crate) fn write_files(
+    alloc: Global,
+    standing: &mut Standing,
+    files: Files,
+) -> Result<(), Fail> {
     let root = Path::root();
     for (name, text) in files {
         let content = Content::new(Vec::from_slice(alloc, text)?)?;
@@ -166,7 +270,7 @@ fn write_files(alloc: Global, standing: &mut Standing, files: Files) -> Result<(
 }
 
 /// The tree of the files that stand.
-fn tree_of_files(alloc: Global, standing: &Standing) -> Result<Tree, Fail> {
+pub(crate) fn tree_of_files(alloc: Global, standing: &Standing) -> Result<Tree, Fail> {
     let mut tree = Tree::new(alloc)?;
     for (path, content) in standing.iter() {
         tree.add_file(path, Vec::from_slice(alloc, content.bytes())?)?;

@@ -1,9 +1,15 @@
-use Rattle.std.proofs.Common.{Err, ap, refl, ◌∙◌}
+use Rattle.std.proofs.Common.{rules, Err, ap, refl, ◌∙◌}
+use Rattle.redo_core.specs.Results.{NeedsTooMany}
 use Rattle.redo_run.proofs.OpenedLemmas.{never_book, result_of, runs, stopped_at_limit, too_many_of}
 use Rattle.redo_run.proofs.one.build_one.Goals as goal
 
 pub loop-board-init : goal.loop-board-init
 loop-board-init c = (runs c.in_ok-board.board c.in_ok-board.ensures.ok.is, c.in_ok-board.ensures.none_out, refl)
+
+pub returns-in_err-board-clause-only_unsafe : goal.returns-in_err-board-clause-only_unsafe
+returns-in_err-board-clause-only_unsafe c = λ is.
+    let many : NeedsTooMany c.args.tree c.args.request.now c.args.limits = search rules in
+    c.keeping_is_sound.ensures.within c.args.tree c.args.request.now c.args.limits many
 
 pub returns-in_err-advance_newest-clause-book : goal.returns-in_err-advance_newest-clause-book
 returns-in_err-advance_newest-clause-book c = λ n is.
@@ -17,7 +23,16 @@ returns-in_err-advance_newest-clause-too_many c = λ is.
     too_many_of c.args.tree _ c.in_ok-new.ensures.ok c.args.request.now c.args.limits c.in_ok-board.board c.in_ok-board.ensures.ok
     c.loop-board.board c.loop-board.invariant.2 (c.advance_newest.ensures.too_many (c.in_err-advance_newest.was ∙ ap Err stop))
 
+pub returns-in_err-advance_newest-clause-only_unsafe : goal.returns-in_err-advance_newest-clause-only_unsafe
+returns-in_err-advance_newest-clause-only_unsafe c = λ is.
+    c.keeping_is_sound.ensures.within c.args.tree c.args.request.now c.args.limits (returns-in_err-advance_newest-clause-too_many c is)
+
 pub returns-clause-report : goal.returns-clause-report
 returns-clause-report c =
     result_of c.args.tree _ c.in_ok-new.ensures.ok c.args.request.now c.args.limits c.in_ok-board.board c.in_ok-board.ensures.ok
     c.loop-board.board c.loop-board.invariant.2 _ c.in_ok-finish.ensures
+
+-- where keeping is safe, it agrees with that of the sources
+pub returns-clause-sound : goal.returns-clause-sound
+returns-clause-sound c =
+    c.keeping_is_sound.ensures.sound c.args.tree c.args.request.now c.args.limits _ c.is_tree.ensures (returns-clause-report c)

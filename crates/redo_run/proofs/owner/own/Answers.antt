@@ -1,5 +1,22 @@
-use Rattle.std.proofs.Common.{◌∙◌}
+use Rattle.std.proofs.Common.{rules, ◌≡◌, ◌∙◌, Err, subst}
+use Rattle.redo_build.specs.Outcomes.{IsTooMany}
+use Rattle.redo_core.specs.Build.{GivenView, rules_for}
+use Rattle.redo_core.specs.declared.board.Stop.TheVariants.{TooMany}
 use Rattle.redo_run.proofs.owner.own.Goals as goal
+
+-- too many targets of the board are too many of its build
+abbrev Many : GivenView → Type 0
+Many given = IsTooMany (rules_for given) given.request given.limits.targets
+
+pub returns-in_err-advance_newest-clause-too_many : goal.returns-in_err-advance_newest-clause-too_many
+returns-in_err-advance_newest-clause-too_many g c = λ is.
+    let err : c.advance_newest.result ≡ Err TooMany = search rules in
+    subst Many c.turns.invariant.2 (c.advance_newest.ensures.too_many err)
+
+pub returns-in_err-receive-clause-too_many : goal.returns-in_err-receive-clause-too_many
+returns-in_err-receive-clause-too_many g c = λ is.
+    let err : c.receive.result ≡ Err TooMany = search rules in
+    subst Many c.turns.invariant.2 (c.receive.ensures.too_many err)
 
 -- the owner advances a script
 pub turns-preserved-then-is_for_owner : goal.turns-preserved-then-is_for_owner

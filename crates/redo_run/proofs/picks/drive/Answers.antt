@@ -1,5 +1,7 @@
-use Rattle.std.proofs.Common.{rules, ◌≡◌, Err, length, refl, sym, ap, ◌∙◌}
-use Rattle.redo_run.proofs.DrivingLemmas.{begins, ends, stops}
+use Rattle.std.proofs.Common.{rules, ◌≡◌, ℕ, [], Err, List, length, refl, ap, subst, ◌∙◌}
+use Rattle.redo_core.specs.Views.{WorkView}
+use Rattle.redo_run.specs.Picks.{IsDrivenOver, driven_on}
+use Rattle.redo_run.proofs.DrivingLemmas.{begins, ends, goes-on, stops}
 use Rattle.redo_run.proofs.OpenedLemmas.{given_to, never_book, runs, stopped_at_limit, too_many_of}
 use Rattle.redo_run.proofs.picks.drive.Goals as goal
 
@@ -11,7 +13,24 @@ loop-done-init c =
       running = runs board is;
       build = refl;
       out = search rules;
-      leads = begins board.given c.args.picks.now board c.new-out.result.items is c.new-out.ensures.items;
+      come = ([], c.what_was_taken.ensures.opened board.given board is);
+      leads =
+          begins board.given c.args.picks.now (driven_on board []) board c.new-out.result.items
+          (ap (λ (works : List WorkView). driven_on board works) c.new-out.ensures.items);
+    }
+
+-- the next pick was done
+pub loop-done-preserved : goal.loop-done-preserved
+loop-done-preserved c =
+    let first = c.in_ok-board.board in
+    record {
+      running = search rules;
+      build = search rules;
+      out = search rules;
+      come = search rules;
+      leads =
+          goes-on first.given c.args.picks.now (driven_on first []) c.loop-done.board c.loop-done.out.items c.loop-done.done c.loop-done.invariant.build c.loop-done.invariant.leads
+          c.perform.new.board c.perform.new.out.items _ (search rules) (search rules) c.in_ok-perform.field-0 c.in_ok-perform.ensures.picked (search rules);
     }
 
 pub returns-in_err-perform-clause-book : goal.returns-in_err-perform-clause-book
@@ -29,7 +48,7 @@ returns-in_err-perform-clause-too_many c = λ is.
 pub returns-then-not-branch-clause-ok : goal.returns-then-not-branch-clause-ok
 returns-then-not-branch-clause-ok c =
     let first = c.in_ok-board.board in
-    let done = stops first.given c.args.picks.now c.loop-done.board c.loop-done.out.items c.loop-done.done
+    let done = stops first.given c.args.picks.now first c.in_ok-board.ensures.ok.is c.loop-done.board c.loop-done.out.items c.loop-done.done
     c.loop-done.invariant.running c.loop-done.invariant.build c.loop-done.invariant.leads c.perform.new.board c.perform.new.out.items _ c.in_ok-perform.field-0
     (search rules) (search rules) c.in_ok-perform.ensures.picked (search rules) in
     (first.given, given_to c.args.tree _ c.in_ok-new.ensures.ok c.args.request.now c.args.limits first c.in_ok-board.ensures.ok first refl, done)
@@ -38,6 +57,7 @@ pub returns-clause-ok : goal.returns-clause-ok
 returns-clause-ok c =
     let first = c.in_ok-board.board in
     let at : c.loop-done.done ≡ length c.args.picks.now = search rules in
-    let done = ends first.given c.args.picks.now c.loop-done.board c.loop-done.out.items c.loop-done.done
+    let done = ends first.given c.args.picks.now first c.in_ok-board.ensures.ok.is c.loop-done.board c.loop-done.out.items c.loop-done.done
     c.loop-done.invariant.running c.loop-done.invariant.build c.loop-done.invariant.leads (search rules) in
-    (first.given, given_to c.args.tree _ c.in_ok-new.ensures.ok c.args.request.now c.args.limits first c.in_ok-board.ensures.ok first refl, (done.0, sym at ∙ done.1))
+    let P : ℕ → Type 0 = IsDrivenOver first.given c.args.picks.now c.loop-done.board in
+    (first.given, given_to c.args.tree _ c.in_ok-new.ensures.ok c.args.request.now c.args.limits first c.in_ok-board.ensures.ok first refl, subst P at done)
