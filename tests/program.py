@@ -8,10 +8,13 @@ import tempfile
 from collections import namedtuple
 from threading import Timer
 
-from reports import as_bytes, with_book
+from reports import BOOK, all_bytes, as_bytes, became, book_of, kept, new_book, parts, states, with_book, without_begun
 
 # What a run came to: its exit status, and what it wrote on standard output and on standard error.
 Run = namedtuple("Run", "status out said")
+
+# What a run over a bundle came to: its exit status, and the report's text without the files, and the files.
+Built = namedtuple("Built", "status head files")
 
 # What a run took: its processor time in seconds, of all threads, and the most memory that it held, in MiB.
 Took = namedtuple("Took", "seconds mib")
@@ -42,7 +45,7 @@ def run(words, text=b"", program=REDO, **more):
     return Run(done.returncode, done.stdout, done.stderr)
 
 
-def measured(words, text, seconds):
+def measured(words, text, seconds, **more):
     """Runs the program as `run` does, on a text or its pieces. Answers what it came to, and what it took. It is killed
     after so many seconds of wall time. The memory that it held is never less than what this process held before."""
     file = tempfile.TemporaryFile
@@ -50,7 +53,7 @@ def measured(words, text, seconds):
         for piece in [text] if isinstance(text, bytes) else text:
             input.write(piece)
         input.seek(0)
-        child = subprocess.Popen([REDO, *words], stdin=input, stdout=out, stderr=said)
+        child = subprocess.Popen([REDO, *words], stdin=input, stdout=out, stderr=said, **more)
         late = Timer(seconds, os.kill, (child.pid, signal.SIGKILL))
         late.start()
         _, ended, used = os.wait4(child.pid, 0)
@@ -84,6 +87,20 @@ def put(place, tree):
                 file.write(as_bytes(content))
 
 
+def changed(tree, changes):
+    """A tree after changes, of which None takes a file away."""
+    after = {**tree, **changes}
+    return {path: content for path, content in after.items() if content is not None or path not in changes}
+
+
+def change(place, changes):
+    """Makes these changes in a directory."""
+    for path, content in changes.items():
+        if content is None:
+            os.remove(f"{place}/{path}")
+    put(place, {path: content for path, content in changes.items() if content is not None})
+
+
 def standing(place):
     """All that stands in a directory: paths with their contents, or None for a directory."""
     found = {}
@@ -99,6 +116,11 @@ def standing(place):
 def room():
     """A new directory, for `with`: it is removed at the end."""
     return tempfile.TemporaryDirectory()
+
+
+def made(built):
+    """The files that a run built."""
+    return {path: text for path, text in built.files.items() if path != BOOK}
 
 
 def shown(value):
@@ -135,6 +157,62 @@ class Tests:
         report = with_book(tree, report)
         for jobs in "1", "8":
             self.run(f"{name}, -j {jobs}", ["-j", jobs, "-k", "--bundle", *targets], bundle(tree), status, report)
+
+    def came_to(self, name, jobs, tree, requested):
+        """Makes a run over a tree, which is to come to a report and to say nothing else."""
+        found = run(["-j", jobs, "-k", "--bundle", "--", *requested], bundle(tree))
+        self.equal(name, "standard error", found.said, b"")
+        split = parts(found.out)
+        if split is None:
+            self.fail(name, "standard output isn't a report")
+        return Built(found.status, *(split or (found.out, {})))
+
+    def book(self, name, tree, built):
+        """Compares the book of a run over a tree with that of the tree and of what the report says."""
+        expected = new_book(states(tree), book_of(tree), built.head, made(built))
+        self.equal(name, "the book", built.files.get(BOOK), expected)
+
+    def skips(self, name, tree, requested, found, plain):
+        """Compares a run over a tree, whose book is true, with one over its sources alone: they come to the same, but that
+        the former begins no script of a target that it keeps. Where one is cyclic, the same becomes of what both need.
+        Answers which targets are kept."""
+        self.equal(name, "the status", found.status, plain.status)
+        if b"\ncyclic " not in b"\n" + plain.head:
+            stays = kept(states(tree), book_of(tree), requested or ["all"], plain.head, made(plain))
+            self.equal(name, "the report", found.head, without_begun(plain.head, stays))
+            self.equal(name, "the files", made(found), made(plain))
+            return stays
+        for what, ours, theirs in ("rows", became(found.head), became(plain.head)), ("files", made(found), made(plain)):
+            common = ours.keys() & theirs.keys()
+            self.equal(name, f"the {what}", {it: ours[it] for it in common}, {it: theirs[it] for it in common})
+        return set()
+
+    def history(self, name, tree, runs):
+        """Makes runs one after another, over bundles, and over directories with 1 and with 8 workers. Each run has what is
+        changed before it, the targets, the exit status and the report without the new book."""
+        self.over_bundles(name, tree, runs)
+        for jobs in "1", "8":
+            self.over_a_directory(name, tree, runs, jobs)
+
+    def over_bundles(self, name, tree, runs):
+        for number, (changes, targets, status, report) in enumerate(runs, 1):
+            tree = changed(tree, changes)
+            self.build(f"{name}, run {number}", tree, targets.split(), status, report)
+            tree = {**tree, **parts(with_book(tree, report))[1]}
+
+    def over_a_directory(self, name, tree, runs, jobs):
+        """The reports are the same but for the files, which stand there afterwards."""
+        with room() as place:
+            put(place, tree)
+            for number, (changes, targets, status, report) in enumerate(runs, 1):
+                title = f"{name}, a directory, -j {jobs}, run {number}"
+                change(place, changes)
+                tree = changed(tree, changes)
+                head, files = parts(with_book(tree, report))
+                row = ["-j", jobs, "-k", "-C", place, *targets.split()]
+                self.run(title, row, None, status, head, stdin=subprocess.DEVNULL)
+                tree = {**tree, **files}
+                self.equal(title, "what stands there", standing(place), all_bytes(tree))
 
     def finish(self):
         """Ends the script, with status 0 where all was as expected."""

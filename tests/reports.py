@@ -1,5 +1,6 @@
 """What a report and a book hold, told again from the manual and without the program: the parts of a report, the first
-line at fault of a text that is no book, what a tree's book says of its files, and the book that a run leaves."""
+line at fault of a text that is no book, what a tree's book says of its files, which targets a run keeps by it, and the
+book that a run leaves."""
 
 import os
 import re
@@ -19,6 +20,8 @@ ROW = rb"(?:source|built none|built [0-9]+|cyclic|failed (?:%s)) [^\n]*\n(?:%s)*
 # The line before a file of a report, and a report without its files.
 FILE = re.compile(rb"file (0|[1-9][0-9]*) ([^\n]*)\n")
 HEAD = re.compile(rb"(?:%s)*(?:begun [^\n]*\n)*end\n" % ROW)
+# What became of a path, and the path.
+WORDS = re.compile(rb"(source|built none|built [0-9]+|cyclic|failed (?:%s)) ([^\n]*)" % WHY)
 # The row of a target that was built.
 BUILT = re.compile(r"built (?:none|[0-9]+) (.*)")
 # A line of a book but its last.
@@ -171,24 +174,62 @@ def noted(head, files, left):
     return found
 
 
-def carried(stated, book, left):
-    """The records of a book whose targets have a rule, and are as the book says."""
+def carried(stated, book, left, built=()):
+    """The records of a book whose targets have a rule, are as the book says, and weren't built."""
     return {
         target: (at, entries)
         for target, (at, entries) in (records(book) if book is not None else {}).items()
-        if stated.get(target, "none") == at and has_rule(target, stated, left)
+        if target not in built and stated.get(target, "none") == at and has_rule(target, stated, left)
     }
 
 
 def new_book(stated, book, head, files):
     """The book that a run leaves: over a tree of states with this book, it came to this report and these files."""
     left = sources(stated, book)
-    found = {**carried(stated, book, left), **noted(head, files, left)}
+    made = noted(head, files, left)
+    found = {**carried(stated, book, left, made), **made}
     lines = []
     for target in in_order(found):
         at, entries = found[target]
         lines += [f"target {at} {target}", *entries]
     return os.fsencode("\n".join([*lines, "end\n"]))
+
+
+def built_states(head, files):
+    """The targets that a report says were built, with their states."""
+    rows = [found[1] for line in os.fsdecode(head).split("\n") if (found := BUILT.fullmatch(line))]
+    return {path: state(files.get(path)) for path in rows}
+
+
+def kept(stated, book, requested, head, files):
+    """The targets that a run over a tree of states keeps by a true book, where the same run without it comes to this
+    report, without a cyclic target: those that aren't requested, whose records are carried, and of which each entry
+    stands."""
+    left = sources(stated, book)
+    built = built_states(head, files)
+    known = {**built, **left}
+
+    def stands(entry):
+        kind, _, rest = entry.partition(" ")
+        if kind == "create":
+            return rest not in left and stated.get(rest, "") is not None and not has_rule(rest, stated, left)
+        at, _, path = rest.partition(" ")
+        return kind == "change" and known.get(path) == at
+
+    standing = {target for target, (_, it) in carried(stated, book, left).items() if all(map(stands, it))}
+    return standing & built.keys() - set(requested)
+
+
+def without_begun(head, targets):
+    """A report, without its files, in which the scripts of these targets weren't begun."""
+    skipped = {b"begun " + os.fsencode(target) for target in targets}
+    return b"\n".join(line for line in head.split(b"\n") if line not in skipped)
+
+
+def became(head):
+    """What became of each path of a report."""
+    rows = [line for line in head.split(b"\n")[:-2] if not line.startswith((b"dep ", b"begun "))]
+    return dict(reversed(WORDS.fullmatch(row).groups()) for row in rows)
 
 
 def with_book(tree, report):
