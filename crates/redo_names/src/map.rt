@@ -2,6 +2,7 @@
 
 ghost use Rattle.std.specs.Prelude.{◌≡◌, ◌==◌, ◌<◌, ◌^◌, ◌++◌, ◌∷◌, [], ℕ, List, Some, None, IfOk, IfSome, OnErr, OnOk};
 ghost use Rattle.std.specs.Prelude.{is_some, length, bytes_eq, option_copied, slice_get, if◌then◌else◌};
+ghost use Rattle.std.specs.List.{zip};
 ghost use Rattle.std.specs.Map.{lookup};
 
 use crate::PathSet;
@@ -87,6 +88,23 @@ impl<T> PathMap<T> {
             Some(number) => Some(&self.values[number]),
             None => None,
         }
+    }
+
+    /// The paths, and the values, each at its path's number.
+    pub fn into_parts(self) -> (PathSet, Vec<T>)
+        ensures whole { self ≡ zip result.0 result.1.items }
+        ensures many { length result.0 ≡ length result.1.items }
+    {
+        (self.paths, self.values)
+    }
+
+    /// The map of these paths, with the value of each at its number.
+    pub fn of_parts(paths: PathSet, values: Vec<T>) -> PathMap<T>
+        requires { length paths ≡ length values.items }
+        ensures { result ≡ zip paths values.items }
+    {
+        paths.each_once();
+        PathMap { paths, values }
     }
 
     /// Puts in a value for a path: behind the others where the path is new, else in the place of its old value, which

@@ -3,7 +3,7 @@ use Rattle.std.proofs.Common.{◌≡◌, List, [], ◌∷◌, ◌++◌, ℕ, Boo
 use Rattle.std.proofs.Common.{Some, None, IsSome, nat_eq, T, arith, ◌+◌, length, length-append}
 use Rattle.std.proofs.lemmas.Map.Keys.{sorted_head, sorted_tail}
 use Rattle.std.specs.Prelude.{IfSome, option_map, ◌&&◌}
-use Rattle.std.specs.Cmp.Lexicographic.{slice_cmp, pointwise, nat_list_cmp_total, nat_list_eq_equiv}
+use Rattle.std.specs.Cmp.Lexicographic.{slice_cmp, pointwise, nat_list_cmp_total}
 use Rattle.std.specs.FinMap.{slice_cmp-IsAntisymmetric, nat_cmp-IsAntisymmetric}
 use Rattle.std.specs.FinMap.Entries.{below_all, is_sorted, same_entries as same_lists}
 use Rattle.std.specs.List.{AllByRecursion}
@@ -15,7 +15,7 @@ use Rattle.redo_path.specs.Names.{IsPath, parent_of}
 use Rattle.redo_tree.specs.declared.entries.Entry.{Entry}
 use Rattle.redo_tree.specs.declared.entries.Entry.TheVariants as entries
 use Rattle.redo_tree.specs.Tree.{AreAmong, Directory, Tree, IsKept, IsNoted, IsTree, NotesDefaults, default_dir, node_at, node_of}
-use Rattle.redo_tree.specs.Tree.{refusal, top, tree_eq, tree_of, with_node}
+use Rattle.redo_tree.specs.Tree.{refusal, top, tree_of, with_node}
 use Rattle.redo_tree.proofs.GrowLemmas.{IsTree-with, Puts-with, free, is_path, length-with}
 use Rattle.redo_tree.proofs.NodeLemmas.{node_of-cond, tree_of-last}
 use Rattle.redo_tree.proofs.NotedLemmas.{noted-with, noted_top}

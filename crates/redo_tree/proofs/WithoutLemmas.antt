@@ -173,3 +173,9 @@ without-same ps qs (e ∷ es) same = λ i. cond (not (is_some (bytes_of e.1) && 
 pub files-same : (ps qs : List (List ℕ)) (t : Tree) → ((p : List ℕ) → is_among ps p ≡ is_among qs p) → files_among t ps ≡ files_among t qs
 files-same ps qs [] same = refl
 files-same ps qs (e ∷ es) same = λ i. cons_option (option_and_then (λ bytes. cond (same e.0 i) (Some (e.0, bytes)) None) (bytes_of e.1)) (files-same ps qs es same i)
+
+-- with no paths the tree is the same
+pub without-none : (t : Tree) → without t [] ≡ t
+without-none [] = refl
+without-none ((p, Directory) ∷ es) = ap (λ t. (p, Directory) ∷ t) (without-none es)
+without-none ((p, File bytes) ∷ es) = ap (λ t. (p, File bytes) ∷ t) (without-none es)

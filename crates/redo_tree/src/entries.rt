@@ -12,6 +12,7 @@ ghost use Rattle.redo_tree.specs.Tree.{added, tree_eq, trees_alike, default_dir 
 ghost use Rattle.redo_tree.specs.Tree.{is_default as begins_and_ends, Adds, Allows, HasNoDefaults, IsNoted, IsTree};
 ghost use Rattle.redo_tree.specs.Tree.{tree_of, AreAmong, HasEntry, IsKept, files_among, without};
 
+use crate::digests::{keep_digests, keep_digests_by};
 use crate::parting::{Parting, set_of};
 use crate::{Content, TreeFault};
 use redo_names::{PathMap, PathSet};
@@ -19,6 +20,7 @@ use redo_path::Path;
 use std::alloc::{AllocError, Global};
 use std::collections::BTreeMap;
 use std::marker::Model;
+use std::thread::Threads;
 
 /// What stands at a path.
 #[derive(Clone, Copy, Debug, PartialEq, Eq)]
@@ -218,6 +220,35 @@ impl Tree {
         Ok(parting.finish(alloc))
     }
 
+    /// The tree, in which the named files keep their digests: `named` tells it of each number. They are read once for
+    /// that, and clones of their contents from then on know their digests.
+    pub fn keep_digests(self, named: &[bool]) -> Tree
+        ensures { result ≡ self }
+    {
+        let Tree {
+            entries,
+            defaults,
+            alloc,
+        } = self;
+        let (paths, mut values) = entries.into_parts();
+        keep_digests(values.as_mut_slice(), named);
+        Tree::of_entries(alloc, PathMap::of_parts(paths, values), defaults)
+    }
+
+    /// The same by up to so many threads, where there is enough to read for them.
+    pub fn keep_digests_by<R: Threads + Sync>(self, rt: &R, threads: usize, named: &[bool]) -> Tree
+        ensures { result ≡ self }
+    {
+        let Tree {
+            entries,
+            defaults,
+            alloc,
+        } = self;
+        let (paths, mut values) = entries.into_parts();
+        keep_digests_by(rt, threads, values.as_mut_slice(), named);
+        Tree::of_entries(alloc, PathMap::of_parts(paths, values), defaults)
+    }
+
     /// The tree that is kept so.
     pub(crate) fn of_entries(alloc: Global, entries: PathMap<Entry>, defaults: PathSet) -> Tree
         requires { IsKept entries defaults }
@@ -275,6 +306,16 @@ impl Tree {
         note_default(self.alloc, &mut self.defaults, &path, &entry)?;
         self.entries.insert(path, entry)?;
         Ok(())
+    }
+}
+
+impl Clone for Tree {
+    ghost is_clone = { λ tree copy. copy ≡ tree };
+
+    /// A tree of the same entries. The contents are shared.
+    fn clone(&self) -> Result<Tree, AllocError> {
+        let (copy, _none) = self.part(self.alloc, &[])?;
+        Ok(copy)
     }
 }
 

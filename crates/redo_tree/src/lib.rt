@@ -4,12 +4,13 @@
 //! what files hold, on `redo_digest` for their digests, on `redo_names` for looking paths up and on `thiserror`.
 //!
 //! - `entries`: the tree, and what is added to it; `content`: a file's bytes, which clones share, and their digest;
-//! - `parting`: files that are taken out of a tree;
+//! - `parting`: files that are taken out of a tree; `digests`: digests that are made and kept;
 //! - `faults`: why nothing was added;
 //! - [`laws`]: trees that are compared as equal are one; what stands where in a tree without some files.
 #![tactic(auto)]
 
 mod content;
+mod digests;
 mod entries;
 mod faults;
 pub mod laws;

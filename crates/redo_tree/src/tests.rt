@@ -321,3 +321,28 @@ fn a_tree_without_files_keeps_its_directories(rt: HostRuntime) -> Result<(), Fai
     assert!(rt; left.holds_defaults(b"") && !left.holds_defaults(b"e"));
     Ok(())
 }
+
+#[test]
+fn digests_are_kept_and_the_tree_stays_the_same(rt: HostRuntime) -> Result<(), Fail> {
+    let alloc = rt.alloc();
+    let tree = small_tree(alloc)?;
+    let place = path(alloc, "a")?;
+    for (named, threads) in [
+        (&[] as &[bool], 1),
+        (&[true, true, true, true], 0),
+        (&[false, true, false, true, true], 3),
+    ] {
+        let kept = tree.clone()?.keep_digests(named);
+        let by_threads = tree.clone()?.keep_digests_by(&rt, threads, named);
+        assert!(rt; kept == tree && by_threads == tree);
+        for other in [&kept, &by_threads] {
+            assert_eq!(rt;
+                other
+                    .content(&place)
+                    .map(|content: &Content| content.digest().digits()),
+                Some(*b"4355a46b19d348dc2f57c046f8ef63d4538ebb936000f3c9ee954a27460dd865")
+            );
+        }
+    }
+    Ok(())
+}

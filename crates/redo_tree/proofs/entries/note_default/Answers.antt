@@ -1,4 +1,4 @@
-use Rattle.std.proofs.Common.{◌∙◌, nat_eq, refl, sym, subst}
+use Rattle.std.proofs.Common.{◌∙◌, nat_eq, sym, subst}
 use Rattle.std.proofs.lemmas.Map.Keys.{any_passes_from_place}
 use Rattle.std.specs.Cmp.Lexicographic.{nat_list_eq_equiv, pointwise}
 use Rattle.std.specs.Prelude.{IfSome}

@@ -1,4 +1,4 @@
-use Rattle.std.proofs.Common.{◌≡◌, ◌+◌, ◌∙◌, ap, drop, sym}
+use Rattle.std.proofs.Common.{◌+◌, ◌∙◌, ap, drop, sym}
 use Rattle.redo_tree.specs.Tree.{with_entries}
 use Rattle.redo_tree.proofs.NodeLemmas.{drop-at, seen, insert_entry-seen}
 use Rattle.redo_tree.proofs.entries.sorted.Goals as goal

@@ -1,4 +1,4 @@
-use Rattle.std.proofs.Common.{◌≡◌, ◌+◌, ◌∙◌, ap, refl, Some, set}
+use Rattle.std.proofs.Common.{◌+◌, ◌∙◌, ap, refl, Some, set}
 use Rattle.redo_names.proofs.IndexLemmas.{entered-again, entered-free, entered-over}
 use Rattle.redo_names.proofs.index.Index.enter.Goals as goal
 

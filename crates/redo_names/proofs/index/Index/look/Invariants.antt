@@ -1,4 +1,3 @@
-use Rattle.std.proofs.Common.{◌≡◌}
 use Rattle.redo_names.specs.inside.Index.{AreOthersTo, AreTakenTo}
 use Rattle.redo_names.proofs.index.Index.look.Given as goal
 

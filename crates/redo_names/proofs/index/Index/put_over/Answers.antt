@@ -1,5 +1,4 @@
-use Rattle.std.proofs.Common.{◌≡◌, ◌⊎◌, Some, List, ℕ, subst, sym, ap}
-use Rattle.redo_names.specs.inside.Index.{kept_over}
+use Rattle.std.proofs.Common.{◌≡◌}
 use Rattle.redo_names.proofs.OverLemmas.{others-stay}
 use Rattle.redo_names.proofs.index.Index.put_over.Goals as goal
 

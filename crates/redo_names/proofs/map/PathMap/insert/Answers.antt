@@ -1,10 +1,10 @@
-use Rattle.std.proofs.Common.{◌≡◌, ◌<◌, ◌∙◌, ◌++◌, ◌∷◌, [], List, ℕ, Some, ap, arith, get_or, length, refl, set, subst, sym, slice_get, cond}
+use Rattle.std.proofs.Common.{◌≡◌, ◌<◌, ◌∙◌, ◌++◌, ◌∷◌, [], Some, ap, arith, get_or, length, refl, set, subst, sym, slice_get, cond}
 use Rattle.std.specs.List.{zip}
 use Rattle.std.specs.Map.{lookup}
 use Rattle.std.specs.Prelude.{bytes_eq}
 use Rattle.std.proofs.lemmas.List.{length-append}
 use Rattle.std.proofs.lemmas.Option.{none-some, slice_get_read, slice_get_within}
-use Rattle.redo_names.specs.Paths.{AreDistinct, IsAmong}
+use Rattle.redo_names.specs.Paths.{AreDistinct}
 use Rattle.redo_names.proofs.PathLemmas.{distinct-last, put-new, put-there, was-new, was-there}
 use Rattle.redo_names.proofs.MapLemmas.{found-at, lookup-last, lookup-set, none-found, zip-last}
 use Rattle.redo_names.proofs.map.PathMap.insert.Goals as goal

@@ -1,4 +1,4 @@
-use Rattle.std.proofs.Common.{◌<◌, ◌∙◌, List, ℕ, ap, length, subst}
+use Rattle.std.proofs.Common.{◌<◌, ◌∙◌, ap, length, subst}
 use Rattle.std.specs.Map.{lookup}
 use Rattle.std.specs.Prelude.{bytes_eq, is_some, IfSome}
 use Rattle.redo_names.proofs.MapLemmas.{told-found, told-within}

@@ -1,4 +1,4 @@
-use Rattle.std.proofs.Common.{◌≡◌, ◌∙◌, ◌++◌, ◌∷◌, List, ℕ, [], Some, length, refl, subst, sym, ap, not, arith, slice_get}
+use Rattle.std.proofs.Common.{◌≡◌, ◌∙◌, ◌++◌, ◌∷◌, [], Some, length, subst, sym, ap, not, arith, slice_get}
 use Rattle.redo_names.specs.Paths.{AreDistinct, IsAmong}
 use Rattle.redo_names.specs.inside.Index.{IsIndexOf}
 use Rattle.redo_names.proofs.IndexLemmas.{last-there}

@@ -1,5 +1,4 @@
-use Rattle.std.proofs.Common.{◌≡◌, ◌∙◌, ap, sym, subst, None, nat_eq}
-use Rattle.std.specs.Cmp.Lexicographic.{pointwise}
+use Rattle.std.proofs.Common.{◌≡◌, ◌∙◌, ap, sym, subst, None}
 use Rattle.std.specs.Prelude.{Ok}
 use Rattle.redo_path.specs.Names.{IsPath}
 use Rattle.redo_tree.specs.Tree.{refusal, node_of, tree_of, with_node}

@@ -1,4 +1,4 @@
-use Rattle.std.proofs.Common.{◌≡◌, ◌∙◌, ◌++◌, ◌∷◌, [], None, ap, refl, subst, sym}
+use Rattle.std.proofs.Common.{◌≡◌, ◌∙◌, ◌++◌, ◌∷◌, [], ap, subst, sym}
 use Rattle.std.specs.Map.{lookup}
 use Rattle.std.specs.Prelude.{bytes_eq}
 use Rattle.redo_tree.specs.declared.entries.Entry.TheVariants.{Directory}
