@@ -114,9 +114,9 @@ impl From<Stop> for HandFault {
 }
 
 impl Board {
-    /// A board with the requested targets entered, over a tree as it was read. The tree may hold what a run before has
-    /// left, its book and the files that it generated: they are set aside, and the build is that of the sources. A book
-    /// that is refused is told before targets that are too many.
+    /// A board with the requested targets entered, over a tree as it was read, whose contents it shares. The tree may
+    /// hold what a run before has left, its book and the files that it generated: they are set aside, and the build is
+    /// that of the sources. A book that is refused is told before targets that are too many.
     pub fn open(
         alloc: Global,
         tree: Arc<Tree>,
@@ -131,7 +131,26 @@ impl Board {
         ensures book { (n : ℕ) → result ≡ Err (OpenFault.Book n) → IsRefused (arc_value tree) n }
         ensures too_many { result ≡ Err OpenFault.TooMany → NeedsTooMany (arc_value tree) request.now limits }
     {
-        let past = Past::open(alloc, tree)?;
+        let past = Past::open(alloc, Tree::clone(&tree)?)?;
+        Board::over(alloc, past, request, limits)
+    }
+
+    /// The same over what a run before has left, whose book was read.
+    pub fn over(
+        alloc: Global,
+        past: Past,
+        request: &[Path],
+        limits: Limits,
+    ) -> Result<Board, OpenFault>
+        ensures ok { IfOk result (IsOpened past.tree request.now limits) }
+        ensures within { IfOk result (λ b. length b.state.entries ≤ limits.targets) }
+        ensures part { IfOk result (λ b. IsPartOfBuild (rules_on b) (request_on b) (limit_on b) b.state) }
+        ensures none_out { IfOk result (λ b. jobs_out b ≡ 0) }
+        ensures left { IfOk result (λ b. takes_left (limit_on b) b.state ≤ limit_on b * limit_on b) }
+        ensures book { (n : ℕ) → result ≡ Err (OpenFault.Book n) → ⊥ }
+        ensures too_many { result ≡ Err OpenFault.TooMany → NeedsTooMany past.tree request.now limits }
+    {
+        past.is_past();
         let given = Given::new(alloc, past, request, limits)?;
         let build = Build::new(alloc, given)?;
         let mut table = first_table(alloc, &build)?;

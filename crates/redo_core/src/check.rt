@@ -62,19 +62,18 @@ fn is_free(alloc: Global, sources: &Tree, path: &Path) -> Result<bool, AllocErro
     }
 }
 
-/// How a change entry stands whose path has no answer. No answer is given to a source or a .do file.
-fn change_alone(given: &Given, state: &Option<Digest>, path: &Path) -> Result<Alone, AllocError>
-    ensures { IfOk result (λ v. standing_of v ≡
-        standing (sources_for given.now) nothing_known (Change state.now path.now)) }
+/// How a change entry stands whose path has no answer. No answer is given to a source or a .do file. The digest of a
+/// source was made when the book was read.
+fn change_alone(given: &Given, state: &Option<Digest>, path: &Path) -> Alone
+    ensures { standing_of result ≡ standing (sources_for given.now) nothing_known (Change state.now path.now) }
 {
-    let digest = given.state(path)?;
-    if digest.is_some() {
-        return Ok(stands_if(digest == *state));
+    if let Some(content) = given.sources().content(path) {
+        return stands_if(has_state(Some(content), state));
     }
     if path.name().ends_with(b".do") {
-        return Ok(Alone::Falls);
+        return Alone::Falls;
     }
-    Ok(Alone::Asks)
+    Alone::Asks
 }
 
 /// How an entry stands that no answer is given to.
@@ -82,7 +81,7 @@ fn standing_alone(alloc: Global, given: &Given, entry: &BookEntry) -> Result<Alo
     ensures { IfOk result (λ v. standing_of v ≡ standing (sources_for given.now) nothing_known entry.now) }
 {
     match entry {
-        BookEntry::Change(state, path) => change_alone(given, state, path),
+        BookEntry::Change(state, path) => Ok(change_alone(given, state, path)),
         BookEntry::Create(path) => Ok(stands_if(is_free(alloc, given.sources(), path)?)),
         BookEntry::Always => Ok(Alone::Falls),
     }
@@ -285,8 +284,7 @@ impl Check {
     {
         let made = record_of(given, self.number);
         let deps = all_shown(alloc, &made.entries)?;
-        let mut outcome = Outcome::Built(file_as_read(given, &made.target)?);
-        outcome.keep_digest();
+        let outcome = Outcome::Built(file_as_read(given, &made.target)?);
         Ok((outcome, Record::of_entries(deps)))
     }
 

@@ -1,7 +1,5 @@
 //! What a build is given, once for all that takes part in it, and the scripts that were read.
-ghost use Rattle.std.specs.Prelude.{◌≡◌, ◌<◌, ◌↔◌, List, ℕ, Some, IfOk, IsTrue, length, not};
-ghost use Rattle.redo_digest.specs.Digest.{state_of};
-ghost use Rattle.redo_tree.specs.Tree.{file_at};
+ghost use Rattle.std.specs.Prelude.{◌≡◌, ◌↔◌, List, ℕ, IfOk, IsTrue, not};
 ghost use Rattle.redo_names.specs.Paths.{is_among};
 ghost use Rattle.std.specs.Arc.{arc_value};
 ghost use Rattle.redo_core.specs.Build.{rules_for};
@@ -9,14 +7,13 @@ ghost use Rattle.redo_core.specs.Results.{IsGiven};
 
 use crate::reading::Reading;
 use crate::same::{are_same_paths, is_same_tree};
-use redo_digest::Digest;
 use redo_names::PathSet;
 use redo_past::Past;
 use redo_past::laws::a_tree_has_one_past;
 use redo_path::Path;
 use redo_step::Limits;
 use redo_sync::{Cells, Known};
-use redo_tree::{Content, Tree};
+use redo_tree::Tree;
 use std::alloc::{AllocError, Global};
 use std::marker::Model;
 use std::sync::Arc;
@@ -33,8 +30,6 @@ pub(crate) struct Given {
     /// A cell for each entry of the sources, by its number: what reading a script came to that may make several
     /// targets.
     readings: Arc<Cells<Reading>>,
-    /// A cell for each entry of the sources, by its number: a file whose digest was made.
-    digested: Arc<Cells<Content>>,
 }
 
 impl Model for Given {
@@ -50,7 +45,6 @@ impl Model for Given {
 
     ghost invariant = { λ g.
         (length (arc_value g.readings) ≡ length g.past.sources) ×
-        (length (arc_value g.digested) ≡ length g.past.sources) ×
         ((p : List ℕ) → is_among g.requested p ≡ is_among g.request.items p) };
 }
 
@@ -68,14 +62,12 @@ impl Given {
         let requested = set_of(alloc, request)?;
         let request = copied(alloc, request)?;
         let readings = Cells::new(alloc, past.sources().len())?;
-        let digested = Cells::new(alloc, past.sources().len())?;
         let given = Given {
             past,
             request,
             requested,
             limits,
             readings,
-            digested,
         };
         Ok(Arc::new(alloc, given)?)
     }
@@ -96,36 +88,6 @@ impl Given {
         match Cells::publish(&self.readings, number, reading) {
             Ok(_known) => Ok(()),
             Err((_reading, error)) => Err(error),
-        }
-    }
-
-    /// The state of a path of the sources. The digest of a file is made once, whatever asks for it.
-    pub(crate) fn state(&self, path: &Path) -> Result<Option<Digest>, AllocError>
-        ensures { IfOk result (λ state. state ≡ state_of (file_at self.now.past.sources path.now)) }
-    {
-        match (self.sources().content(path), self.sources().number_of(path)) {
-            (Some(content), Some(number)) => Ok(Some(self.digest(content, number)?)),
-            (Some(content), None) => Ok(Some(content.digest())),
-            (None, _) => Ok(None),
-        }
-    }
-
-    /// The digest of the file of a number among the sources.
-    fn digest(&self, content: &Content, number: usize) -> Result<Digest, AllocError>
-        requires { number < length self.now.past.sources }
-        ensures { IfOk result (λ digest. Some digest ≡ state_of (Some content.now)) }
-    {
-        if let Some(known) = Cells::look(&self.digested, number)? {
-            if known.read() == content {
-                return Ok(known.read().digest());
-            }
-        }
-        let mut own = content.clone()?;
-        own.keep_digest();
-        let digest = own.digest();
-        match Cells::publish(&self.digested, number, own) {
-            Ok(_known) => Ok(digest),
-            Err((_own, error)) => Err(error),
         }
     }
 

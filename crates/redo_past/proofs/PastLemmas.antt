@@ -61,10 +61,6 @@ whole (e ∷ es) b s h = elim (cases_Bool (bytes_eq b e.0)) [
       rw (no-path (is_some (bytes_of e.1)) (bytes_eq b e.0) other) (ap (λ t. e ∷ t) (whole es b s.1 (rw there at h)))
 ]
 
-pub no-text : (file : Option (List ℕ)) (book : Option (List Record)) → MatchOption file (book ≡ None) (λ text. MatchOption book ⊥ (IsText text)) → book ≡ None → file ≡ None
-no-text None book h e = refl
-no-text (Some text) book h e = absurd (subst (λ (b : Option (List Record)). MatchOption b ⊥ (IsText text)) e h)
-
 -- and all of it is sources
 pub all-sources : (tree sources : Tree) (book : List Record) → IsTree tree → file_at tree book_path ≡ None → sources ≡ tree → book ≡ [] → IsPast (record { tree = tree; sources = sources; book = book })
 all-sources tree sources book is none same e = record {

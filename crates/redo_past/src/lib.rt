@@ -6,7 +6,8 @@
 //! stands on redo_tree and redo_which for trees and rules, on redo_digest and redo_book for books and the digests in
 //! them, on redo_record and redo_report for what a run came to, and on redo_names for paths.
 //!
-//! - `past`: the tree, the sources and the book, and what a run leaves; `faults`: why a tree is refused;
+//! - `past`: the tree, the sources and the book, and what a run leaves; `named`: which files its book tells digests of;
+//!   `faults`: why a tree is refused;
 //! - `states`: what stands at a path when a run ends;
 //! - `records`: the records of targets that were built; `carrying`: those that are carried; `joining`: both in one
 //!   text;
@@ -19,6 +20,7 @@ mod carrying;
 mod faults;
 mod joining;
 pub mod laws;
+mod named;
 mod past;
 mod records;
 mod states;

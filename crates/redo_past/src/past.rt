@@ -11,11 +11,13 @@ ghost use Rattle.redo_book.specs.Book.{record_of, IsText};
 ghost use Rattle.redo_past.specs.Past.{HasNoPast, IsPast, RefusesBook, intact_record, is_generated as was_generated};
 ghost use Rattle.redo_past.specs.Past.{set_aside as aside_of};
 ghost use Rattle.redo_tree.specs.Tree.{without};
+ghost use Rattle.redo_past.specs.declared.faults.PastFault.TheVariants as faults;
 ghost use Rattle.redo_which.specs.Candidates.{book_path as path_of_book};
 
 use crate::PastFault;
 use crate::books::put_file;
 use crate::joining::joined_text;
+use crate::named::named_by;
 use redo_book::{Book, BookRecord, read_book};
 use redo_path::Path;
 use redo_report::{Report, Row};
@@ -25,6 +27,7 @@ use redo_which::BOOK;
 use std::alloc::{AllocError, Global};
 use std::marker::Model;
 use std::sync::Arc;
+use std::thread::Threads;
 
 /// What a run is given when there may have been one before it: the tree as it was read, the book of the last run in it,
 /// and the sources, which are the tree without the book and without generated files. A file is generated that has the
@@ -102,30 +105,88 @@ fn sources_of(alloc: Global, tree: &Tree, book: &Book) -> Result<Arc<Tree>, Allo
 }
 
 impl Past {
-    /// What a run over this tree is given. Contents are shared with it, and where it has no book all of it is. Where
-    /// memory runs out the tree's book may have a fault or none.
-    pub fn open(alloc: Global, tree: Arc<Tree>) -> Result<Past, PastFault>
-        ensures tree { IfOk result (λ past. past.tree ≡ arc_value tree) }
+    /// What a run over this tree is given. Contents are shared with it, and where it has no book all of it is. The files
+    /// that the book tells digests of are digested once, and keep their digests. Where memory runs out the tree's book
+    /// may have a fault or none.
+    pub fn open(alloc: Global, tree: Tree) -> Result<Past, PastFault>
+        ensures tree { IfOk result (λ past. past.tree ≡ tree) }
         ensures past { IfOk result IsPast }
-        ensures refused { IfErr result (λ fault. RefusesBook fault (arc_value tree)) }
-        ensures none { IfErr result (λ fault. HasNoPast fault (arc_value tree)) }
+        ensures refused { IfErr result (λ fault. RefusesBook fault tree) }
+        ensures none { IfErr result (λ fault. HasNoPast fault tree) }
     {
         tree.is_tree();
-        let Some(book) = book_in(alloc, &tree)? else {
-            let sources = Arc::try_clone(&tree)?;
-            let book = Book::new(alloc);
-            return Ok(Past {
-                tree,
-                sources,
-                book,
-            });
-        };
-        let sources = sources_of(alloc, &tree, &book)?;
+        match book_in(alloc, &tree)? {
+            Some(book) => {
+                let named = named_by(alloc, &tree, &book)?;
+                Past::with_book_of(alloc, tree.keep_digests(&named), book)
+            }
+            None => Past::without_book(alloc, tree),
+        }
+    }
+
+    /// The same, and the digests are made by up to so many threads.
+    pub fn open_by<R: Threads + Sync>(
+        rt: &R,
+        alloc: Global,
+        threads: usize,
+        tree: Tree,
+    ) -> Result<Past, PastFault>
+        ensures tree { IfOk result (λ past. past.tree ≡ tree) }
+        ensures past { IfOk result IsPast }
+        ensures refused { IfErr result (λ fault. RefusesBook fault tree) }
+        ensures none { IfErr result (λ fault. HasNoPast fault tree) }
+    {
+        tree.is_tree();
+        match book_in(alloc, &tree)? {
+            Some(book) => {
+                let named = named_by(alloc, &tree, &book)?;
+                Past::with_book_of(alloc, tree.keep_digests_by(rt, threads, &named), book)
+            }
+            None => Past::without_book(alloc, tree),
+        }
+    }
+
+    /// The past of a tree without a book: all of it are sources.
+    fn without_book(alloc: Global, tree: Tree) -> Result<Past, PastFault>
+        requires none { file_at tree path_of_book ≡ None }
+        ensures tree { IfOk result (λ past. past.tree ≡ tree) }
+        ensures past { IfOk result IsPast }
+        ensures memory { IfErr result (λ fault. fault ≡ faults.Memory) }
+    {
+        tree.is_tree();
+        let tree = Arc::new(alloc, tree)?;
+        let sources = Arc::try_clone(&tree)?;
+        let book = Book::new(alloc);
         Ok(Past {
             tree,
             sources,
             book,
         })
+    }
+
+    /// The past of a tree with its book.
+    fn with_book_of(alloc: Global, tree: Tree, book: Book) -> Result<Past, PastFault>
+        requires book { MatchOption (file_at tree path_of_book) ⊥ (λ text. IsText text book) }
+        ensures tree { IfOk result (λ past. past.tree ≡ tree) }
+        ensures past { IfOk result IsPast }
+        ensures memory { IfErr result (λ fault. fault ≡ faults.Memory) }
+    {
+        tree.is_tree();
+        let sources = sources_of(alloc, &tree, &book)?;
+        let tree = Arc::new(alloc, tree)?;
+        Ok(Past {
+            tree,
+            sources,
+            book,
+        })
+    }
+
+    /// The book and the sources are those of the tree, as laws of pasts ask.
+    pub fn is_past(&self)
+        ensures { IsPast self.now }
+    {
+        // A field is read so that the invariant is at hand in the proof. Nothing runs.
+        let _ = &self.book;
     }
 
     /// The tree as it was read.

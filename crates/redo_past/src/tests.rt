@@ -80,7 +80,7 @@ fn path(alloc: Global, word: &str) -> Result<Path, Fail> {
 }
 
 /// The tree of these files; a name that ends in a slash is that of a directory.
-fn tree(alloc: Global, files: &[(&str, &str)]) -> Result<Arc<Tree>, Fail> {
+fn tree(alloc: Global, files: &[(&str, &str)]) -> Result<Tree, Fail> {
     let mut tree = Tree::new(alloc)?;
     for (word, text) in files {
         let path = path(alloc, word)?;
@@ -92,7 +92,7 @@ fn tree(alloc: Global, files: &[(&str, &str)]) -> Result<Arc<Tree>, Fail> {
             tree.add_file(&path, text.as_bytes().to_vec(alloc)?)?;
         }
     }
-    Ok(Arc::new(alloc, tree)?)
+    Ok(tree)
 }
 
 /// The texts of paths, with blanks between them.
@@ -260,7 +260,7 @@ fn a_state_is_compared_with_what_stands_there(rt: HostRuntime) -> Result<(), Fai
 }
 
 /// The fault of a tree, if it has one.
-fn fault_of(alloc: Global, tree: Arc<Tree>) -> Option<PastFault> {
+fn fault_of(alloc: Global, tree: Tree) -> Option<PastFault> {
     match Past::open(alloc, tree) {
         Ok(_past) => None,
         Err(fault) => Some(fault),
@@ -281,6 +281,19 @@ fn a_book_is_refused_by_its_first_line_at_fault(rt: HostRuntime) -> Result<(), F
     ] {
         let tree = tree(alloc, &[(".redo-book", text)])?;
         assert_eq!(rt; fault_of(alloc, tree), line.map(PastFault::Book), "{text}");
+    }
+    Ok(())
+}
+
+#[test]
+fn threads_that_make_digests_change_nothing(rt: HostRuntime) -> Result<(), Fail> {
+    let alloc = rt.alloc();
+    for threads in [0, 1, 3] {
+        for (rule, files, sources) in SOURCES {
+            let past = Past::open_by(&rt, alloc, threads, tree(alloc, files)?)?;
+            let text = listed(alloc, &past.sources().files(alloc)?)?;
+            assert_eq!(rt; text.as_slice(), sources.as_bytes(), "{rule}");
+        }
     }
     Ok(())
 }

@@ -10,7 +10,7 @@ ghost use Rattle.redo_which.specs.Candidates.{book_path};
 use crate::candidates::text_of_search;
 use crate::exit::exit_after;
 use crate::request::requested;
-use crate::workers::build_over;
+use crate::workers::{build_over, past_of};
 use crate::{Cause, Exit, Gate, Options, RunDirFault};
 use redo_bundle::{ByteOut, write_all};
 use redo_dir::{LoadFault, StoreFault, Stored, load_dir, store_files};
@@ -153,12 +153,13 @@ pub fn run_dir<H: Threads + Wait + Sync + Files, W: ByteOut, G: Gate>(
     ensures device { IsErrOf result RunDirFault.Device ↔ (W.has_failed writer.new ≡ true) }
 {
     let (tree, passed) = load(rt, alloc, dir, cause)?;
-    let tree = Arc::new(alloc, tree)?;
     let request = requested(alloc, &options.targets)?;
+    let past = past_of(rt, alloc, tree, options.workers)?;
+    let tree = Arc::try_clone(past.tree())?;
     let (report, _ledger) = build_over(
         rt,
         alloc,
-        Arc::try_clone(&tree)?,
+        past,
         &request,
         options.limits,
         options.workers,

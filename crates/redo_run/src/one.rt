@@ -11,12 +11,12 @@ ghost use Rattle.redo_core.specs.Views.{jobs_out, limit_on, ready_count, request
 use crate::RunFault;
 use crate::laws::keeping_is_sound;
 use redo_core::board::{Board, HandFault, Stop};
+use redo_past::Past;
 use redo_path::Path;
 use redo_report::Report;
 use redo_step::Limits;
 use redo_tree::Tree;
 use std::alloc::Global;
-use std::sync::Arc;
 
 /// Takes the target that became ready last, advances its script, and hands it in. So what was just asked for is built
 /// before more is asked for, and few scripts stand begun at a time.
@@ -59,7 +59,8 @@ pub fn build_one(
 {
     keeping_is_sound();
     tree.is_tree();
-    let mut board = Board::open(alloc, Arc::new(alloc, tree)?, request, limits)?;
+    let past = Past::open(alloc, tree)?;
+    let mut board = Board::over(alloc, past, request, limits)?;
     while board.ready() > 0 {
         advance_newest(&mut board)?;
     }

@@ -16,11 +16,11 @@ use redo_build::laws::looks_leave_jobs;
 use redo_core::board::{Board, HandFault, Stop};
 use redo_core::laws::{books_over_trees_are_lawful, what_was_taken};
 use redo_core::work::Work;
+use redo_past::Past;
 use redo_path::Path;
 use redo_step::Limits;
 use redo_tree::Tree;
 use std::alloc::Global;
-use std::sync::Arc;
 
 /// What happens next on a board, by a place that is counted from 0.
 #[derive(Clone, Copy, Debug, PartialEq, Eq)]
@@ -114,7 +114,8 @@ pub fn drive(
     ensures too_many { result ≡ Err RunFault.TooMany → NeedsTooMany tree request.now limits }
 {
     what_was_taken();
-    let mut board = Board::open(alloc, Arc::new(alloc, tree)?, request, limits)?;
+    let past = Past::open(alloc, tree)?;
+    let mut board = Board::over(alloc, past, request, limits)?;
     let mut out = Vec::new(alloc);
     for (done, pick) in picks.iter().enumerate() {
         if !perform(&mut board, &mut out, *pick)? {

@@ -4,6 +4,7 @@ ghost use Rattle.std.specs.Prelude.{◌≡◌};
 
 use redo_core::board::Stop;
 use redo_core::opening::OpenFault;
+use redo_past::PastFault;
 use std::alloc::{AllocError, AllocFailed};
 use thiserror::Error;
 
@@ -37,6 +38,20 @@ impl<T: Drop> From<AllocFailed<T>> for RunFault {
 
     fn from(_error: AllocFailed<T>) -> RunFault {
         RunFault::Memory
+    }
+}
+
+/// The tree's book is refused.
+impl From<PastFault> for RunFault {
+    ghost use Rattle.redo_run.specs.RunFaults.{of_past};
+
+    ghost from_gives = { λ error fault. fault ≡ of_past error };
+
+    fn from(error: PastFault) -> RunFault {
+        match error {
+            PastFault::Book(line) => RunFault::Book(line),
+            PastFault::Memory => RunFault::Memory,
+        }
     }
 }
 

@@ -6,7 +6,6 @@
 //! in, the ledger of the relay shows that each job was taken once.
 
 ghost use Rattle.std.specs.Prelude.{◌≡◌, ◌≤◌, Err, [], IfOk, IsNone, IsTrue, ℕ};
-ghost use Rattle.std.specs.Arc.{arc_value};
 ghost use Rattle.redo_build.specs.Outcomes.{IsTooMany};
 ghost use Rattle.redo_build.specs.Takes.{AreBegun, AreCountedOnce};
 ghost use Rattle.redo_core.specs.Results.{IsRefused, IsResultOn, NeedsTooMany};
@@ -28,6 +27,7 @@ use redo_build::laws::counts_tell;
 use redo_core::board::{Board, Stop};
 use redo_core::laws::what_was_taken;
 use redo_core::work::Work;
+use redo_past::Past;
 use redo_path::Path;
 use redo_report::Report;
 use redo_step::Limits;
@@ -35,7 +35,7 @@ use redo_sync::{Ledger, gather, relay};
 use redo_tree::Tree;
 use std::alloc::Global;
 use std::marker::Brand;
-use std::sync::{Arc, Wait};
+use std::sync::Wait;
 use std::thread;
 use std::thread::{Scope, Threads};
 
@@ -186,6 +186,20 @@ fn run_build<B: Build + Send + Sync, R: Threads + Wait + Sync, G: Gate>(
     answer_of(rt, alloc, ended)
 }
 
+/// What a run before has left in a tree. The files that its book tells digests of are digested by up to so many threads.
+pub(crate) fn past_of<R: Threads + Sync>(
+    rt: &R,
+    alloc: Global,
+    tree: Tree,
+    threads: usize,
+) -> Result<Past, RunFault>
+    ensures past { IfOk result (λ past. past.tree ≡ tree) }
+    ensures book { (n : ℕ) → result ≡ Err (RunFault.Book n) → IsRefused tree n }
+    ensures no_build { result ≡ Err RunFault.TooMany → ⊥ }
+{
+    Ok(Past::open_by(rt, alloc, threads, tree)?)
+}
+
 /// Builds the requested targets by so many workers side by side, each in a thread of its own; the caller's thread has
 /// the board meanwhile, and hands out the jobs. It advances a script itself where no other can go on. With one worker
 /// no thread is started: the caller does it all. The report is that of the recursive build in one thread, whatever the
@@ -212,15 +226,15 @@ pub fn build_many<R: Threads + Wait + Sync, G: Gate>(
     ensures too_many { result ≡ Err RunFault.TooMany → NeedsTooMany tree request.now limits }
     ensures only_unsafe { result ≡ Err RunFault.TooMany → IsUnsafeOn tree request.now limits }
 {
-    let tree = Arc::new(alloc, tree)?;
-    build_over(rt, alloc, tree, request, limits, workers, gate)
+    let past = past_of(rt, alloc, tree, workers)?;
+    build_over(rt, alloc, past, request, limits, workers, gate)
 }
 
-/// The same over a tree that the caller has too.
+/// The same over what a run before has left.
 pub(crate) fn build_over<R: Threads + Wait + Sync, G: Gate>(
     rt: &R,
     alloc: Global,
-    tree: Arc<Tree>,
+    past: Past,
     request: &[Path],
     limits: Limits,
     workers: usize,
@@ -228,18 +242,18 @@ pub(crate) fn build_over<R: Threads + Wait + Sync, G: Gate>(
 ) -> Result<(Report, Ledger<Work>), RunFault>
     requires some { 1 ≤ workers }
     requires few { workers ≤ 64 }
-    ensures report { IfOk result (λ r. IsResultOn (arc_value tree) request.now limits r.0) }
-    ensures sound { IfOk result (λ r. IsSoundOn (arc_value tree) request.now limits r.0) }
+    ensures report { IfOk result (λ r. IsResultOn past.tree request.now limits r.0) }
+    ensures sound { IfOk result (λ r. IsSoundOn past.tree request.now limits r.0) }
     ensures none_left { IfOk result (λ r. r.1.left ≡ []) }
     ensures once { IfOk result (λ r. AreCountedOnce r.1.taken) }
     ensures begun { IfOk result (λ r. AreBegun r.1.taken r.0.begun.items) }
-    ensures book { (n : ℕ) → result ≡ Err (RunFault.Book n) → IsRefused (arc_value tree) n }
-    ensures too_many { result ≡ Err RunFault.TooMany → NeedsTooMany (arc_value tree) request.now limits }
-    ensures only_unsafe { result ≡ Err RunFault.TooMany → IsUnsafeOn (arc_value tree) request.now limits }
+    ensures book { (n : ℕ) → result ≡ Err (RunFault.Book n) → ⊥ }
+    ensures too_many { result ≡ Err RunFault.TooMany → NeedsTooMany past.tree request.now limits }
+    ensures only_unsafe { result ≡ Err RunFault.TooMany → IsUnsafeOn past.tree request.now limits }
 {
     what_was_taken();
     keeping_is_sound();
-    tree.is_tree();
-    let board = Board::open(alloc, tree, request, limits)?;
+    past.tree().is_tree();
+    let board = Board::over(alloc, past, request, limits)?;
     Ok(run_build::<Brand, R, G>(rt, alloc, board, workers, gate)?)
 }

@@ -126,7 +126,7 @@ fn given(alloc: Global, entries: &str) -> Result<Arc<Given>, Fail> {
     book.extend_from_slice(&spelled(alloc, entries)?)?;
     book.extend_from_slice(b"end\n")?;
     tree.add_file(&path(alloc, b".redo-book")?, book)?;
-    let past = Past::open(alloc, Arc::new(alloc, tree)?)?;
+    let past = Past::open(alloc, tree)?;
     let limits = Limits::new(10, 100).ok_or("limits")?;
     Ok(Given::new(alloc, past, &[], limits)?)
 }

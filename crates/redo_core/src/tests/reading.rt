@@ -17,7 +17,7 @@ fn given(alloc: Global, name: &[u8]) -> Result<(Arc<Given>, Path), Fail> {
     let mut tree = Tree::new(alloc)?;
     tree.add_file(&do_file, b"echo a\n".to_vec(alloc)?)?;
     let limits = Limits::new(1, 1).ok_or("limits")?;
-    let past = Past::open(alloc, Arc::new(alloc, tree)?)?;
+    let past = Past::open(alloc, tree)?;
     Ok((Given::new(alloc, past, &[], limits)?, do_file))
 }
 

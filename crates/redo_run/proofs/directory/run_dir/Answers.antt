@@ -1,5 +1,4 @@
 use Rattle.std.proofs.Common.{rules, ◌≡◌, ℕ, Err, List, refl, sym, ap, subst, ◌∙◌}
-use Rattle.std.specs.Arc.{arc_value}
 use Rattle.redo_core.specs.Results.{IsResultOn, NeedsTooMany}
 use Rattle.redo_dir.specs.Directory.{places_in}
 use Rattle.redo_run.specs.Directories.{changed_from, with_book_last}
@@ -14,7 +13,7 @@ returns-in_err-report-clause-too_many g c = λ is.
     let made = rw is at c.from_residual-in_err-report.ensures in
     let tree = c.in_ok-tree.tree in let limits = c.args.options.now.limits in
     let err = c.in_err-report.was ∙ ap Err (many_of_run c.in_err-report.field-0.0 made.1) in
-    let shared : arc_value c.in_ok-try_clone.field-0 ≡ tree = search rules in
+    let shared : c.in_ok-past.past.tree ≡ tree = c.in_ok-past.ensures.past in
     let M : Tree → Type 0 = λ t. NeedsTooMany t c.deref-2.result.now limits in
     let N : Tree → Type 0 = λ t. IsUnsafeOn t c.deref-2.result.now limits in
     let Q : List (List ℕ) → Type 0 = λ ps. NeedsTooMany tree ps limits in
@@ -26,7 +25,7 @@ returns-in_err-report-clause-too_many g c = λ is.
 pub returns-clause-report : goal.returns-clause-report
 returns-clause-report g c =
     let tree = c.in_ok-tree.tree in let limits = c.args.options.now.limits in let result = c.in_ok-report.report in
-    let shared : arc_value c.in_ok-try_clone.field-0 ≡ tree = search rules in
+    let shared : c.in_ok-past.past.tree ≡ tree = c.in_ok-past.ensures.past in
     let read : c.deref-4.result.now ≡ tree = search rules in
     let M : Tree → Type 0 = λ t. IsResultOn t c.deref-2.result.now limits result in
     let N : Tree → Type 0 = λ t. IsSoundOn t c.deref-2.result.now limits result in

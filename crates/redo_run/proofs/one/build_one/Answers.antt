@@ -1,5 +1,6 @@
-use Rattle.std.proofs.Common.{rules, Err, ap, refl, ◌∙◌}
+use Rattle.std.proofs.Common.{rules, Err, ap, refl, subst, ◌∙◌}
 use Rattle.redo_core.specs.Results.{NeedsTooMany}
+use Rattle.redo_tree.specs.Tree.{Tree}
 use Rattle.redo_run.proofs.OpenedLemmas.{never_book, result_of, runs, stopped_at_limit, too_many_of}
 use Rattle.redo_run.proofs.one.build_one.Goals as goal
 
@@ -8,8 +9,9 @@ loop-board-init c = (runs c.in_ok-board.board c.in_ok-board.ensures.ok.is, c.in_
 
 pub returns-in_err-board-clause-only_unsafe : goal.returns-in_err-board-clause-only_unsafe
 returns-in_err-board-clause-only_unsafe c = λ is.
-    let many : NeedsTooMany c.args.tree c.args.request.now c.args.limits = search rules in
-    c.keeping_is_sound.ensures.within c.args.tree c.args.request.now c.args.limits many
+    let many : NeedsTooMany c.in_ok-past.past.tree c.args.request.now c.args.limits = search rules in
+    let P : Tree → Type 0 = λ t. NeedsTooMany t c.args.request.now c.args.limits in
+    c.keeping_is_sound.ensures.within c.args.tree c.args.request.now c.args.limits (subst P c.in_ok-past.ensures.tree many)
 
 pub returns-in_err-advance_newest-clause-book : goal.returns-in_err-advance_newest-clause-book
 returns-in_err-advance_newest-clause-book c = λ n is.
@@ -20,7 +22,7 @@ pub returns-in_err-advance_newest-clause-too_many : goal.returns-in_err-advance_
 returns-in_err-advance_newest-clause-too_many c = λ is.
     let made = rw is at c.from_residual-in_err-advance_newest.ensures in
     let stop = stopped_at_limit c.in_err-advance_newest.field-0.0 made.1 in
-    too_many_of c.args.tree _ c.in_ok-new.ensures.ok c.args.request.now c.args.limits c.in_ok-board.board c.in_ok-board.ensures.ok
+    too_many_of c.args.tree _ c.in_ok-past.ensures.tree c.args.request.now c.args.limits c.in_ok-board.board c.in_ok-board.ensures.ok
     c.loop-board.board c.loop-board.invariant.2 (c.advance_newest.ensures.too_many (c.in_err-advance_newest.was ∙ ap Err stop))
 
 pub returns-in_err-advance_newest-clause-only_unsafe : goal.returns-in_err-advance_newest-clause-only_unsafe
@@ -29,7 +31,7 @@ returns-in_err-advance_newest-clause-only_unsafe c = λ is.
 
 pub returns-clause-report : goal.returns-clause-report
 returns-clause-report c =
-    result_of c.args.tree _ c.in_ok-new.ensures.ok c.args.request.now c.args.limits c.in_ok-board.board c.in_ok-board.ensures.ok
+    result_of c.args.tree _ c.in_ok-past.ensures.tree c.args.request.now c.args.limits c.in_ok-board.board c.in_ok-board.ensures.ok
     c.loop-board.board c.loop-board.invariant.2 _ c.in_ok-finish.ensures
 
 -- where keeping is safe, it agrees with that of the sources

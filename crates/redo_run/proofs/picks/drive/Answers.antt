@@ -42,7 +42,7 @@ pub returns-in_err-perform-clause-too_many : goal.returns-in_err-perform-clause-
 returns-in_err-perform-clause-too_many c = λ is.
     let made = rw is at c.from_residual-in_err-perform.ensures in
     let stop = stopped_at_limit c.in_err-perform.field-0.0 made.1 in
-    too_many_of c.args.tree _ c.in_ok-new.ensures.ok c.args.request.now c.args.limits c.in_ok-board.board c.in_ok-board.ensures.ok
+    too_many_of c.args.tree _ c.in_ok-past.ensures.tree c.args.request.now c.args.limits c.in_ok-board.board c.in_ok-board.ensures.ok
     c.loop-done.board c.loop-done.invariant.build (c.perform.ensures.too_many (c.in_err-perform.was ∙ ap Err stop))
 
 pub returns-then-not-branch-clause-ok : goal.returns-then-not-branch-clause-ok
@@ -51,7 +51,7 @@ returns-then-not-branch-clause-ok c =
     let done = stops first.given c.args.picks.now first c.in_ok-board.ensures.ok.is c.loop-done.board c.loop-done.out.items c.loop-done.done
     c.loop-done.invariant.running c.loop-done.invariant.build c.loop-done.invariant.leads c.perform.new.board c.perform.new.out.items _ c.in_ok-perform.field-0
     (search rules) (search rules) c.in_ok-perform.ensures.picked (search rules) in
-    (first.given, given_to c.args.tree _ c.in_ok-new.ensures.ok c.args.request.now c.args.limits first c.in_ok-board.ensures.ok first refl, done)
+    (first.given, given_to c.args.tree _ c.in_ok-past.ensures.tree c.args.request.now c.args.limits first c.in_ok-board.ensures.ok first refl, done)
 
 pub returns-clause-ok : goal.returns-clause-ok
 returns-clause-ok c =
@@ -60,4 +60,4 @@ returns-clause-ok c =
     let done = ends first.given c.args.picks.now first c.in_ok-board.ensures.ok.is c.loop-done.board c.loop-done.out.items c.loop-done.done
     c.loop-done.invariant.running c.loop-done.invariant.build c.loop-done.invariant.leads (search rules) in
     let P : ℕ → Type 0 = IsDrivenOver first.given c.args.picks.now c.loop-done.board in
-    (first.given, given_to c.args.tree _ c.in_ok-new.ensures.ok c.args.request.now c.args.limits first c.in_ok-board.ensures.ok first refl, subst P at done)
+    (first.given, given_to c.args.tree _ c.in_ok-past.ensures.tree c.args.request.now c.args.limits first c.in_ok-board.ensures.ok first refl, subst P at done)

@@ -1,5 +1,4 @@
 use Rattle.std.proofs.Common.{rules, ◌∙◌, Err, ap, refl}
-use Rattle.std.specs.Arc.{arc_value}
 use Rattle.redo_core.specs.Results.{NeedsTooMany}
 use Rattle.redo_tree.specs.Tree.{IsTree}
 use Rattle.redo_run.proofs.OpenedLemmas.{result_of, runs, stopped_at_limit, too_many_of}
@@ -24,12 +23,12 @@ returns-in_err-run_build-clause-too_many g c = λ is.
 -- where the build needs too many, keeping is not safe
 pub returns-in_err-board-clause-only_unsafe : goal.returns-in_err-board-clause-only_unsafe
 returns-in_err-board-clause-only_unsafe g c = λ is.
-    let many : NeedsTooMany (arc_value c.args.tree) c.args.request.now c.args.limits = search rules in
-    c.keeping_is_sound.ensures.within (arc_value c.args.tree) c.args.request.now c.args.limits many
+    let many : NeedsTooMany c.args.past.tree c.args.request.now c.args.limits = search rules in
+    c.keeping_is_sound.ensures.within c.args.past.tree c.args.request.now c.args.limits many
 
 pub returns-in_err-run_build-clause-only_unsafe : goal.returns-in_err-run_build-clause-only_unsafe
 returns-in_err-run_build-clause-only_unsafe g c = λ is.
-    c.keeping_is_sound.ensures.within (arc_value c.args.tree) c.args.request.now c.args.limits (returns-in_err-run_build-clause-too_many g c is)
+    c.keeping_is_sound.ensures.within c.args.past.tree c.args.request.now c.args.limits (returns-in_err-run_build-clause-too_many g c is)
 
 pub returns-clause-report : goal.returns-clause-report
 returns-clause-report g c =
@@ -39,5 +38,5 @@ returns-clause-report g c =
 -- where keeping is safe, it agrees with that of the sources
 pub returns-clause-sound : goal.returns-clause-sound
 returns-clause-sound g c =
-    let is_tree : IsTree (arc_value c.args.tree) = search rules in
-    c.keeping_is_sound.ensures.sound (arc_value c.args.tree) c.args.request.now c.args.limits c.in_ok-run_build.field-0.0 is_tree (returns-clause-report g c)
+    let is_tree : IsTree c.args.past.tree = search rules in
+    c.keeping_is_sound.ensures.sound c.args.past.tree c.args.request.now c.args.limits c.in_ok-run_build.field-0.0 is_tree (returns-clause-report g c)

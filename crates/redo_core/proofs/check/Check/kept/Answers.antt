@@ -15,7 +15,6 @@ returns-clause-outcome c = λ p k.
     let r = record_of c.record_of-made.result.now in
     let both : Some r ≡ Some k.made = sym c.record_of-made.ensures.there ∙ k.there in
     let same : r ≡ k.made = cc in
-    c.keep_digest.ensures ∙
     ap Built (c.in_ok-file_as_read.ensures ∙ ap (λ x. file_at given.past.tree x.target) same ∙ file-is given p c.args.self.now.number k)
 
 pub returns-clause-record : goal.returns-clause-record

@@ -6,5 +6,5 @@ use Rattle.redo_core.proofs.given.Given.is_requested.Goals as goal
 pub returns : goal.returns
 returns c =
     let p = c.args.path.now in
-    c.is_some.ensures ∙ number-tells c.self.inside.requested p c.number_of.result c.number_of.ensures ∙ c.self.invariant.2 p ∙
+    c.is_some.ensures ∙ number-tells c.self.inside.requested p c.number_of.result c.number_of.ensures ∙ c.self.invariant.1 p ∙
     ap (λ g. is_among g.request p) c.self.view_is

@@ -1,5 +1,4 @@
 use Rattle.std.proofs.Common.{◌≡◌, ◌≤◌, ℕ, Err, None, length, refl, ap, subst, ◌∙◌}
-use Rattle.std.specs.Arc.{arc_value}
 use Rattle.redo_core.specs.Build.{GivenView}
 use Rattle.redo_core.specs.Results.{IsGiven}
 use Rattle.redo_core.specs.inside.Slots.{IsKept, state_of}
@@ -7,8 +6,8 @@ use Rattle.redo_core.specs.declared.board.Board.TheInside.{Inside}
 use Rattle.redo_core.proofs.GivenLemmas.{given-of, no-book, at-limit}
 use Rattle.redo_core.proofs.TakeLemmas.{part-inside, length-entries}
 use Rattle.redo_core.proofs.OpeningLemmas.{first-at_rest, opened-kept, opened-left, opened-looked, opened-out, opening-many}
-use Rattle.redo_core.proofs.board.Board.open.Goals as goal
-use Rattle.redo_core.proofs.board.Board.open.Goals.{In_ok-look_ahead, In_ok-build}
+use Rattle.redo_core.proofs.board.Board.over.Goals as goal
+use Rattle.redo_core.proofs.board.Board.over.Goals.{In_ok-look_ahead, In_ok-build}
 
 opened-board : (c : In_ok-look_ahead) → Inside
 opened-board c = record { alloc = c.args.alloc; build = c.in_ok-build.build; table = c.look_ahead.new.table; stopped = None }
@@ -19,9 +18,9 @@ kept c = opened-kept (opened-board c) c.in_ok-table.table c.in_ok-table.ensures.
     c.in_ok-look_ahead.ensures.none_due
 
 -- the build is given what the caller gave
-given : (c : In_ok-build) → IsGiven (arc_value c.args.tree) c.args.request.now c.args.limits c.in_ok-build.build
-given c = given-of (arc_value c.args.tree) c.args.request.now c.args.limits c.in_ok-past.past c.in_ok-past.ensures.past
-    c.in_ok-past.ensures.tree c.in_ok-build.build (c.in_ok-build.ensures ∙ c.in_ok-given.ensures)
+given : (c : In_ok-build) → IsGiven c.args.past.tree c.args.request.now c.args.limits c.in_ok-build.build
+given c = given-of c.args.past.tree c.args.request.now c.args.limits c.args.past c.is_past.ensures refl
+    c.in_ok-build.build (c.in_ok-build.ensures ∙ c.in_ok-given.ensures)
 
 -- the limits are those of the caller
 limits : (c : In_ok-build) → c.in_ok-build.build.limits ≡ c.args.limits
