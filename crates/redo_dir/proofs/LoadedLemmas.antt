@@ -1,17 +1,13 @@
 -- The names that were listed make the tree that was loaded, and the count of those that were passed over.
-use Rattle.std.proofs.Common.{◌≡◌, ◌^◌, ◌-◌, ◌+◌, ℕ, List, [], ◌∷◌, ◌++◌, refl, sym, ap, subst, ◌∙◌, inl, inr, arith}
+use Rattle.std.proofs.Common.{◌≡◌, ◌^◌, ◌-◌, ◌+◌, ℕ, List, [], ◌∷◌, ◌++◌, refl, sym, ap, subst, ◌∙◌, inr, arith}
 use Rattle.std.proofs.Common.{Option, Some, None, cond}
 use Rattle.std.proofs.lemmas.List.Sums.{sum_by-append}
-use Rattle.std.specs.Fs.{dir_entry_name}
-use Rattle.std.specs.declared.fs.dir.DirEntry.{DirEntry}
-use Rattle.std.specs.declared.io.Error.{Error}
 use Rattle.std.specs.List.{AllZip, filter_map}
-use Rattle.std.specs.Prelude.{Result, Ok, Err, count_by, is_none, min}
-use Rattle.redo_path.specs.Names.{child_of}
+use Rattle.std.specs.Prelude.{Ok, count_by, is_none, min}
 use Rattle.redo_tree.specs.Tree.{Node, top, added}
 use Rattle.redo_tree.specs.Tree.{grown}
-use Rattle.redo_dir.specs.Directory.{ComesTo, IsLoaded, Listed, MayStand, Progress, Receives, TakesIn, TakesInListed}
-use Rattle.redo_dir.specs.Directory.{with_passed}
+use Rattle.redo_dir.specs.Directory.{ComesTo, IsLoaded, Listed}
+use Rattle.redo_dir.specs.inside.Levels.{IsPlace, Progress, Receives, with_passed}
 use Rattle.redo_tree.proofs.GrowLemmas.{grown-append}
 
 AllZip-last : {A B : Type 0} (R : A → B → Type 0) (xs : List A) (ys : List B) (x : A) (y : B) → AllZip R xs ys → R x y → AllZip R (xs ++ x ∷ []) (ys ++ y ∷ [])
@@ -45,8 +41,8 @@ min-more : (n m : ℕ) → min (min n m + 1) m ≡ min (n + 1) m
 min-more n m = omega arith
 
 -- before the first name
-pub loaded_first : (p : Progress) → p ≡ record { tree = top; waiting = [] ∷ []; passed = 0 } → IsLoaded p.tree p.passed
-loaded_first p e = subst (λ q. IsLoaded q.tree q.passed) (sym e) ([], record { became = []; each = tt; grows = refl; counts = refl })
+pub loaded_top : IsLoaded top 0
+loaded_top = ([], record { became = []; each = tt; grows = refl; counts = refl })
 
 -- a name was passed over
 passed_over : (old new : Progress) (l : Listed) → IsLoaded old.tree old.passed → ComesTo l None → new ≡ with_passed old → IsLoaded new.tree new.passed
@@ -75,18 +71,12 @@ entered old new l path node h k e f =
       },
     )
 
-received : (old new : Progress) (dir name : List ℕ) (node : Option Node) → IsLoaded old.tree old.passed → MayStand dir name → Receives old new (child_of dir name) node → IsLoaded new.tree new.passed
-received old new dir name None h k r = passed_over old new (record { dir = dir; name = name; node = None }) h (inr refl) r
-received old new dir name (Some node) h k r = entered old new (record { dir = dir; name = name; node = Some node }) (child_of dir name) node h (k, refl, refl) r.adds r.counts
+-- a name that may not stand, or that is no text, was passed over
+pub loaded_passed : (old new : Progress) → IsLoaded old.tree old.passed → new ≡ with_passed old → IsLoaded new.tree new.passed
+loaded_passed old new h e = passed_over old new (record { dir = []; name = []; node = None }) h (inr refl) e
 
--- a name was taken in
-loaded_taken : (old new : Progress) (dir name : List ℕ) → IsLoaded old.tree old.passed → TakesIn old new dir name → IsLoaded new.tree new.passed
-loaded_taken old new dir name h t = elim t [
-  | inl s ↦ passed_over old new (record { dir = dir; name = name; node = None }) h (inl s.0) s.1
-  | inr s ↦ received old new dir name s.1.0 h s.0 s.1.1
-]
-
--- what was listed was taken in
-pub loaded_listed : {R A F D : Type 0} (old new : Progress) (dir : List ℕ) (listed : Result (DirEntry R A F D) Error) → IsLoaded old.tree old.passed → TakesInListed old new dir listed → IsLoaded new.tree new.passed
-loaded_listed old new dir (Ok entry) h t = loaded_taken old new dir (dir_entry_name entry) h t.1
-loaded_listed old new dir (Err error) h t = passed_over old new (record { dir = dir; name = []; node = None }) h (inr refl) t.1
+-- what was found at a place was received there
+pub loaded_received : (old new : Progress) (path : List ℕ) (node : Option Node) → IsLoaded old.tree old.passed → IsPlace path → Receives old new path node → IsLoaded new.tree new.passed
+loaded_received old new path None h k r = loaded_passed old new h r
+loaded_received old new path (Some node) h k r =
+    entered old new (record { dir = k.dir; name = k.name; node = Some node }) path node h (k.stands, k.is_child, refl) r.adds r.counts

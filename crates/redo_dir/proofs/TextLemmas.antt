@@ -1,11 +1,8 @@
 -- Lists of paths that are text, and trees of them.
 use Rattle.std.proofs.Common.{◌≡◌, ◌<◌, ◌+◌, ℕ, List, [], ◌∷◌, get_or, length, map, take, refl, sym, ap, subst, zero}
-use Rattle.std.proofs.Common.{suc, arith, Option, Some, None, inl, inr, ◌++◌, ◌∙◌}
-use Rattle.std.specs.Prelude.{Err, IsUtf8, slice_get, Ok, Result}
-use Rattle.std.specs.Fs.{dir_entry_name}
+use Rattle.std.proofs.Common.{suc, arith, Option, Some, None, ◌++◌, ◌∙◌}
+use Rattle.std.specs.Prelude.{Err, IsUtf8, slice_get, Ok}
 use Rattle.std.specs.List.{AllByRecursion}
-use Rattle.std.specs.declared.fs.dir.DirEntry.{DirEntry}
-use Rattle.std.specs.declared.io.Error.{Error}
 use Rattle.redo_path.proofs.ApartLemmas.{apart}
 use Rattle.redo_dir.specs.declared.storing.Unwritten.{Unwritten}
 use Rattle.redo_dir.specs.declared.storing.Unwritten.TheVariants.{Device, Name, Memory}
@@ -21,8 +18,8 @@ use Rattle.redo_path.specs.Names.{child_of}
 use Rattle.redo_path.proofs.PartLemmas.{AllByRecursion-append, AllByRecursion-front}
 use Rattle.redo_tree.specs.declared.faults.TreeFault.{TreeFault}
 use Rattle.redo_tree.specs.Tree.{Node, Directory, File, Tree, added, refusal, with_node}
-use Rattle.redo_dir.specs.Directory.{HasTextPaths, HasTexts, MeansText, MetText, Progress, Receives, TakesIn}
-use Rattle.redo_dir.specs.Directory.{TakesInListed, fault_at, with_passed, with_waiting}
+use Rattle.redo_dir.specs.Directory.{HasTextPaths, HasTexts, MeansText, fault_at}
+use Rattle.redo_dir.specs.inside.Levels.{with_waiting}
 
 -- what a list that was made of another one has at a place
 pub at_map : {A : Type 0} (f : A → List ℕ) (xs : List A) (k : ℕ) (d : A) → k < length xs → d ≡ get_or xs k d → slice_get (map f xs) k ≡ Some (f d)
@@ -51,7 +48,7 @@ pub refused_at : (paths : List (List ℕ)) (k : ℕ) (path : List ℕ) (fault : 
 refused_at paths k path fault answer e w h same = subst (λ f. HasTexts {A = Unit {0}} (Err f) paths) (sym same) (refused_so paths k path fault e w h)
 
 -- the path of a text name in a directory whose path is text
-child_text : (dir name : List ℕ) → IsUtf8 dir → IsUtf8 name → IsUtf8 (child_of dir name)
+pub child_text : (dir name : List ℕ) → IsUtf8 dir → IsUtf8 name → IsUtf8 (child_of dir name)
 unfolding lib.Utf8.encode
 child_text [] name d n = n
 child_text (b ∷ bs) name d n =
@@ -71,34 +68,14 @@ fine : (o : Option TreeFault) (x y : Tree) → option_map_or Err o (Ok x) ≡ Ok
 fine None x y h = cc
 fine (Some f) x y h = cc
 
-text-added : (old new : Tree) (path : List ℕ) (node : Node) → HasTextPaths old → IsUtf8 path → added old path node ≡ Ok new → HasTextPaths new
+-- a tree with one text path more
+pub text-added : (old new : Tree) (path : List ℕ) (node : Node) → HasTextPaths old → IsUtf8 path → added old path node ≡ Ok new → HasTextPaths new
 text-added old new path node h k e = subst HasTextPaths (fine (refusal old path node) (with_node old path node) new e) (text-insert old path node h k)
 
-text-waiting : (waiting : List (List ℕ)) (path : List ℕ) (node : Node) → AllByRecursion IsUtf8 waiting → IsUtf8 path → AllByRecursion IsUtf8 (with_waiting waiting path node)
+-- the directories that wait, once a node was added
+pub text-waiting : (waiting : List (List ℕ)) (path : List ℕ) (node : Node) → AllByRecursion IsUtf8 waiting → IsUtf8 path → AllByRecursion IsUtf8 (with_waiting waiting path node)
 text-waiting waiting path Directory h k = AllByRecursion-append IsUtf8 waiting (path ∷ []) h (k, tt)
 text-waiting waiting path (File bytes) h k = h
-
--- a name that was passed over leaves all that was met text
-text_passed : (old new : Progress) → MetText old → new ≡ with_passed old → MetText new
-text_passed old new h e = subst MetText (sym e) (record { entered = h.entered; ahead = h.ahead })
-
-text_received : (old new : Progress) (path : List ℕ) (node : Option Node) → MetText old → IsUtf8 path → Receives old new path node → MetText new
-text_received old new path None h k r = text_passed old new h r
-text_received old new path (Some node) h k r = record {
-  entered = text-added old.tree new.tree path node h.entered k r.adds;
-  ahead = subst (AllByRecursion IsUtf8) (sym r.waits) (text-waiting old.waiting path node h.ahead k);
-}
-
--- all that was met is text after one more name
-text_taken : (old new : Progress) (dir name : List ℕ) → MetText old → IsUtf8 dir → IsUtf8 name → TakesIn old new dir name → MetText new
-text_taken old new dir name h d n t = elim t [
-  | inl s ↦ text_passed old new h s.1
-  | inr s ↦ text_received old new (child_of dir name) s.1.0 h (child_text dir name d n) s.1.1
-]
-
-pub text_listed : {R A F D : Type 0} (old new : Progress) (dir : List ℕ) (listed : Result (DirEntry R A F D) Error) → MetText old → IsUtf8 dir → TakesInListed old new dir listed → MetText new
-text_listed old new dir (Ok entry) h d t = text_taken old new dir (dir_entry_name entry) h d t.0 t.1
-text_listed old new dir (Err error) h d t = text_passed old new h t.1
 
 last_text : (paths : List (List ℕ)) (path : List ℕ) → AllByRecursion IsUtf8 (paths ++ path ∷ []) → IsUtf8 path
 last_text [] path h = h.0

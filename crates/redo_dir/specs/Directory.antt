@@ -1,17 +1,14 @@
 -- Directories of the system: what a tree takes in of them, and what was written into one.
-use Rattle.std.specs.Prelude.{◌≡◌, ◌≤◌, ◌+◌, ◌-◌, ◌^◌, ◌&&◌, ◌⊎◌, not, Bool, ℕ, List, [], ◌∷◌, ◌++◌, IsUtf8, codes}
+use Rattle.std.specs.Prelude.{◌≡◌, ◌≤◌, ◌-◌, ◌^◌, ◌&&◌, ◌⊎◌, not, Bool, ℕ, List, ◌++◌, IsUtf8, codes}
 use Rattle.std.specs.Prelude.{count_by, decimal, filter_map, is_none, length, map, min, slice_get, take, Option, Some}
 use Rattle.std.specs.Prelude.{None, Result, Ok, Err}
-use Rattle.std.specs.Fs.{IsDir, IsFile, dir_entry_name, file_type}
-use Rattle.std.specs.IoError.{error_kind}
+use Rattle.std.specs.Fs.{IsDir, IsFile, file_type}
 use Rattle.std.specs.List.{AllByRecursion, AllZip, list_any}
 use Rattle.std.specs.Path.{path_join, path_with_file_name}
 use Rattle.std.specs.Str.{bytes_eq}
 use Rattle.std.specs.declared.fs.attrs.Metadata.{Metadata}
-use Rattle.std.specs.declared.fs.dir.DirEntry.{DirEntry}
-use Rattle.std.specs.declared.io.Error.{Error}
 use Rattle.std.specs.declared.io.ErrorKind.{ErrorKind}
-use Rattle.std.specs.declared.io.ErrorKind.TheVariants.{InvalidData, InvalidFilename, OutOfMemory}
+use Rattle.std.specs.declared.io.ErrorKind.TheVariants.{InvalidData, OutOfMemory}
 use Rattle.redo_path.specs.Names.{IsName, child_of, is_slash}
 use Rattle.redo_dir.specs.declared.faults.LoadFault.{LoadFault}
 use Rattle.redo_dir.specs.declared.faults.LoadFault.TheVariants as load
@@ -19,13 +16,11 @@ use Rattle.redo_dir.specs.declared.faults.StoreFault.{StoreFault}
 use Rattle.redo_dir.specs.declared.faults.StoreFault.TheVariants.{Device, Name, Memory}
 use Rattle.redo_tree.specs.declared.faults.TreeFault.{TreeFault}
 use Rattle.redo_tree.specs.declared.faults.TreeFault.TheVariants as tree
-use Rattle.redo_dir.specs.declared.loading.Found.{Found}
-use Rattle.redo_dir.specs.declared.loading.Found.TheVariants as found
-use Rattle.redo_dir.specs.declared.loading.Loading.{Loading}
+use Rattle.redo_dir.specs.declared.looking.Found.{Found}
+use Rattle.redo_dir.specs.declared.looking.Found.TheVariants as found
 use Rattle.redo_dir.specs.declared.storing.Unwritten.{Unwritten}
 use Rattle.redo_dir.specs.declared.storing.Unwritten.TheVariants as one
-use Rattle.redo_tree.specs.Tree.{grown}
-use Rattle.redo_tree.specs.Tree.{Node, Directory, File, Tree, added, top}
+use Rattle.redo_tree.specs.Tree.{Node, Directory, File, Tree, grown, top}
 
 -- what a failure of the system means
 abbrev pub load_fault : ErrorKind → LoadFault
@@ -83,56 +78,9 @@ pub record Loads (listed : List Listed) (tree : Tree) (passed : ℕ) : Type 0 wh
 abbrev pub IsLoaded : Tree → ℕ → Type 0
 IsLoaded tree passed = (listed : List Listed) × Loads listed tree passed
 
--- what was read of a directory so far: its tree, the directories whose names were not read yet, and how many names were
--- passed over
-pub record Progress : Type 0 where
-  pub tree : Tree
-  pub waiting : List (List ℕ)
-  pub passed : ℕ
-
-abbrev pub progress : Loading → Progress
-progress l = record { tree = l.tree; waiting = map (λ dir. dir.path) l.waiting.items; passed = l.passed }
-
--- one name more was passed over, or as many as can be counted
-abbrev pub with_passed : Progress → Progress
-with_passed p = record { tree = p.tree; waiting = p.waiting; passed = min (p.passed + 1) (2 ^ 64 - 1) }
-
--- the directories whose names are still to be read, once a node was added
-abbrev pub with_waiting : List (List ℕ) → List ℕ → Node → List (List ℕ)
-with_waiting waiting path Directory = waiting ++ path ∷ []
-with_waiting waiting path (File bytes) = waiting
-
--- a node was added at a path, and will be read if it is a directory
-pub record Enters (old new : Progress) (path : List ℕ) (node : Node) : Type 0 where
-  pub adds : added old.tree path node ≡ Ok new.tree
-  pub waits : new.waiting ≡ with_waiting old.waiting path node
-  pub counts : new.passed ≡ old.passed
-
--- what was found at a path was entered, or passed over where it is neither a directory nor a file
-abbrev pub Receives : Progress → Progress → List ℕ → Option Node → Type 0
-Receives old new path None = new ≡ with_passed old
-Receives old new path (Some node) = Enters old new path node
-
--- a name of a directory was entered, or was passed over, where it may not stand or leads to neither a directory nor a
--- file
-abbrev pub TakesIn : Progress → Progress → List ℕ → List ℕ → Type 0
-TakesIn old new dir name =
-    ((MayStand dir name → ⊥) × (new ≡ with_passed old)) ⊎
-    (MayStand dir name × ((node : Option Node) × Receives old new (child_of dir name) node))
-
--- what was listed of a directory was taken in: a name that is text, or one that isn't, which is passed over
-abbrev pub TakesInListed : {R A F D : Type 0} → Progress → Progress → List ℕ → Result (DirEntry R A F D) Error → Type 0
-TakesInListed old new dir (Ok entry) = IsUtf8 (dir_entry_name entry) × TakesIn old new dir (dir_entry_name entry)
-TakesInListed old new dir (Err error) = (error_kind error ≡ InvalidFilename) × (new ≡ with_passed old)
-
 -- each path of a tree is text
 abbrev pub HasTextPaths : Tree → Type 0
 HasTextPaths tree = AllByRecursion (λ e. IsUtf8 e.0) tree
-
--- each path that was met is text
-pub record MetText (p : Progress) : Type 0 where
-  pub entered : HasTextPaths p.tree
-  pub ahead : AllByRecursion IsUtf8 p.waiting
 
 -- the name of a new file, of the tries at one
 abbrev pub temporary_name : ℕ → List ℕ

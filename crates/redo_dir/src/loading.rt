@@ -1,23 +1,28 @@
-//! Reading a directory of the system into a tree, directory by directory. The tree grows in the
-//! order in which the directories are met, and those that are still to be read wait in a list, so
-//! that no depth costs stack.
+//! Reading a directory of the system into a tree, level by level. First the names of all directories of a level are
+//! listed, then all of them are looked at, in turn or by several threads, and then they are entered into the tree in
+//! the order in which they were listed. The directories among them are the next level, and wait in a list, so that no
+//! depth costs stack.
 
 ghost use Rattle.std.specs.Prelude.{◌≡◌, [], ◌∷◌, IfOk, IsUtf8, OnOk, string_bytes};
+ghost use Rattle.std.specs.List.{FoldsTo};
 ghost use Rattle.redo_tree.specs.Tree.{Directory, File, top};
-ghost use Rattle.redo_dir.specs.Directory.{Enters, HasTextPaths, IsLoaded, MetText, Receives, Shows, TakesIn};
-ghost use Rattle.redo_dir.specs.Directory.{TakesInListed, node_found, progress, told_load, with_passed};
+ghost use Rattle.redo_dir.specs.Directory.{HasTextPaths, IsLoaded, node_found, told_load};
+ghost use Rattle.redo_dir.specs.inside.Levels.{Enters, EntersNoted, IsSound, Keeps, Notes, NotesListed, Receives};
+ghost use Rattle.redo_dir.specs.inside.Levels.{ReceivesName, progress, with_passed};
 
 use crate::LoadFault;
+use crate::looking::{Found, Name, look_by, look_in_turn};
 use crate::places::place_of;
 use redo_path::Path;
 use redo_tree::{Tree, TreeFault};
 use std::alloc::{AllocError, Global};
-use std::fs::{DirEntry, Metadata};
-use std::io::{ErrorKind, Read};
+use std::fs::DirEntry;
+use std::io::ErrorKind;
 use std::rt::Files;
-use std::{fs, io};
+use std::thread::Threads;
+use std::{fs, io, mem};
 
-/// A directory whose names were not read yet: its path in the tree, and where the system has it.
+/// A directory whose names were not listed yet: its path in the tree, and its path in the system.
 #[derive(Drop)]
 struct Waiting {
     path: Path,
@@ -29,46 +34,9 @@ struct Waiting {
 struct Loading {
     tree: Tree,
     waiting: Vec<Waiting>,
+    /// The names that may stand in the tree and are not entered yet.
+    noted: Vec<Name>,
     passed: u64,
-}
-
-/// What a name of a directory leads to. A link is neither a directory nor a file.
-#[derive(Drop)]
-enum Found {
-    Directory,
-    File(Vec<u8>),
-    Other,
-}
-
-/// The bytes of a file, whose size was `size` when its directory was read.
-fn read_file<R: Files>(rt: &R, alloc: Global, text: &str, size: u64) -> io::Result<Vec<u8>> {
-    let mut file = fs::open(rt, text)?;
-    // With one byte more, the end is found without another growth.
-    let mut bytes = Vec::with_capacity(alloc, (size as usize).saturating_add(1))?;
-    file.read_to_end(&mut bytes)?;
-    Ok(bytes)
-}
-
-/// What a name leads to, of which the system says this.
-fn read_found<R: Files>(rt: &R, alloc: Global, text: &str, about: &Metadata) -> io::Result<Found>
-    ensures { IfOk result (Shows about.now) }
-{
-    if about.is_dir() {
-        return Ok(Found::Directory);
-    }
-    if about.is_file() {
-        let bytes = read_file(rt, alloc, text, about.len())?;
-        return Ok(Found::File(bytes));
-    }
-    Ok(Found::Other)
-}
-
-/// Keeps the place in the system that is looked at now.
-fn stand_at(place: &mut String, text: &str) -> Result<(), AllocError>
-    ensures { OnOk result (string_bytes place.new ≡ text.now) }
-{
-    place.clear();
-    place.push_str(text)
 }
 
 /// What the tree answered of a name. It refuses only what a directory that changes meanwhile shows,
@@ -86,9 +54,8 @@ fn tell(outcome: Result<(), TreeFault>) -> Result<(), LoadFault>
 impl Loading {
     /// Nothing but the top directory.
     fn new(alloc: Global, dir: &str) -> Result<Loading, AllocError>
-        ensures text { IfOk result (λ loading. MetText (progress loading)) }
-        ensures start { IfOk result (λ loading. progress loading ≡
-            record { tree = top; waiting = [] ∷ []; passed = 0 }) }
+        ensures { IfOk result (λ loading. progress loading ≡
+            record { tree = top; waiting = [] ∷ []; noted = []; passed = 0 }) }
     {
         let tree = Tree::new(alloc)?;
         let mut waiting = Vec::new(alloc);
@@ -99,6 +66,7 @@ impl Loading {
         Ok(Loading {
             tree,
             waiting,
+            noted: Vec::new(alloc),
             passed: 0,
         })
     }
@@ -156,77 +124,126 @@ impl Loading {
         }
     }
 
-    /// Takes in what a name of a directory leads to, or passes over it.
-    fn take_in<R: Files>(
+    /// Enters what was found at each name, in their order. `place` is left at the last one, or at the first that
+    /// can't be read. Its text is moved there, so that telling a fault needs no memory.
+    fn receive_names(
         &mut self,
-        rt: &R,
         alloc: Global,
         place: &mut String,
-        dir: &Path,
-        name: &str,
-        text: &str,
+        names: Vec<Name>,
     ) -> Result<(), LoadFault>
-        ensures { OnOk result (TakesIn (progress self.old) (progress self.new) dir.now name.now) }
+        ensures { OnOk result (FoldsTo ReceivesName (progress self.old) names.items (progress self.new)) }
     {
-        stand_at(place, text)?;
+        'names: for name in names {
+            *place = name.text;
+            self.receive(alloc, name.path, place, name.found?)?;
+        }
+        Ok(())
+    }
+
+    /// Keeps a name for later, where it may stand in the tree, or passes over it.
+    fn note(&mut self, alloc: Global, dir: &Path, name: &str, text: &str) -> Result<(), AllocError>
+        ensures { OnOk result (Notes (progress self.old) (progress self.new) dir.now name.now) }
+    {
         let Some(path) = place_of(alloc, dir, name.as_bytes())? else {
             self.pass_over();
             return Ok(());
         };
-        let about = fs::symlink_metadata(rt, text)?;
-        let found = read_found(rt, alloc, text, &about)?;
-        self.receive(alloc, path, text, found)
+        let text = String::from_str(alloc, text)?;
+        self.noted.push(Name {
+            path,
+            text,
+            found: Err(LoadFault::Device(ErrorKind::Other)),
+        })?;
+        Ok(())
     }
 
-    /// Takes in what was listed of a directory, or counts it.
-    fn take_in_listed<R: Files, F: Files + Drop>(
+    /// Keeps what was listed of a directory, or counts it.
+    fn note_listed<F: Files + Drop>(
         &mut self,
-        rt: &R,
         alloc: Global,
-        place: &mut String,
-        dir: &Waiting,
+        dir: &Path,
         listed: io::Result<DirEntry<F, Global>>,
     ) -> Result<(), LoadFault>
-        ensures { OnOk result (TakesInListed (progress self.old) (progress self.new) dir.now.path listed) }
+        ensures { OnOk result (NotesListed (progress self.old) (progress self.new) dir.now listed) }
     {
         match listed {
             Ok(entry) => {
                 let text = entry.path().to_string_lossy();
-                self.take_in(rt, alloc, place, &dir.path, entry.file_name(), text)
+                self.note(alloc, dir, entry.file_name(), text)?;
+                Ok(())
             }
             // A name that is no text.
             Err(error) if error.kind() == ErrorKind::InvalidFilename => {
                 self.pass_over();
                 Ok(())
             }
-            Err(error) => {
-                stand_at(place, &dir.text)?;
-                Err(LoadFault::from(error))
-            }
+            Err(error) => Err(LoadFault::from(error)),
         }
     }
 
-    /// Takes in the names of a directory.
-    fn read_names<R: Files>(
+    /// Keeps the names of a directory, which the system has at `text`.
+    fn note_names<R: Files>(
         &mut self,
         rt: &R,
         alloc: Global,
-        place: &mut String,
-        dir: &Waiting,
+        dir: &Path,
+        text: &str,
     ) -> Result<(), LoadFault>
-        requires text { MetText (progress self.old) }
-        requires place { IsUtf8 dir.now.path }
-        requires loaded { IsLoaded (progress self.old).tree (progress self.old).passed }
-        ensures text { OnOk result (MetText (progress self.new)) }
-        ensures loaded { OnOk result (IsLoaded (progress self.new).tree (progress self.new).passed) }
+        requires place { IsUtf8 dir.now }
+        requires sound { IsSound (progress self.old) }
+        ensures { OnOk result (IsSound (progress self.new)) }
     {
-        stand_at(place, &dir.text)?;
         let reader = (rt, alloc);
-        for listed in fs::read_dir(&reader, dir.text.as_str())? {
-            self.take_in_listed(rt, alloc, place, dir, listed)?;
+        for listed in fs::read_dir(&reader, text)? {
+            self.note_listed(alloc, dir, listed)?;
         }
         Ok(())
     }
+
+    /// Has the names that were kept looked at, and enters them.
+    fn enter_noted<L: Fn(&mut [Name])>(
+        &mut self,
+        alloc: Global,
+        look: &L,
+        place: &mut String,
+    ) -> Result<(), LoadFault>
+        requires look { L.IsAlwaysCallable look.now }
+        requires keeps { Keeps L.Fn look.now }
+        ensures { OnOk result (EntersNoted (progress self.old) (progress self.new)) }
+    {
+        let mut names = mem::replace(&mut self.noted, Vec::new(alloc));
+        look(&mut names);
+        self.receive_names(alloc, place, names)
+    }
+}
+
+/// As [`load_dir`], where the names of a level are looked at by `look`.
+fn load<R: Files, L: Fn(&mut [Name])>(
+    rt: &R,
+    alloc: Global,
+    look: &L,
+    dir: &str,
+    place: &mut String,
+) -> Result<(Tree, u64), LoadFault>
+    requires look { L.IsAlwaysCallable look.now }
+    requires keeps { Keeps L.Fn look.now }
+    ensures loaded { IfOk result (λ loaded. IsLoaded loaded.0 loaded.1) }
+    ensures text { IfOk result (λ loaded. HasTextPaths loaded.0) }
+{
+    let mut loading = Loading::new(alloc, dir)?;
+    for _ in 0..u64::MAX {
+        // A level is complete once none of its directories waits.
+        if let Some(next) = loading.waiting.pop() {
+            *place = next.text;
+            loading.note_names(rt, alloc, &next.path, place)?;
+        } else if loading.noted.is_empty() {
+            return Ok(loading.end());
+        } else {
+            loading.enter_noted(alloc, look, place)?;
+        }
+    }
+    Err(LoadFault::Device(ErrorKind::Other))
 }
 
 /// Reads a directory of the system with all that is below it, and counts the names that were passed
@@ -240,8 +257,8 @@ impl Loading {
 /// any length is read, and its bytes are not copied. A directory that others change meanwhile may be
 /// read as it never was.
 ///
-/// `place` is left at the directory or the file, as the system names it, that was looked at last: after a
-/// fault it is the one that can't be read.
+/// After a fault `place` is left at the directory or the file, as the system names it, that can't be read. Where
+/// several can't, one of them is told, and it is the same one by however many threads the directory is read.
 pub fn load_dir<R: Files>(
     rt: &R,
     alloc: Global,
@@ -251,12 +268,36 @@ pub fn load_dir<R: Files>(
     ensures loaded { IfOk result (λ loaded. IsLoaded loaded.0 loaded.1) }
     ensures text { IfOk result (λ loaded. HasTextPaths loaded.0) }
 {
-    let mut loading = Loading::new(alloc, dir)?;
-    for _ in 0..u64::MAX {
-        let Some(next) = loading.waiting.pop() else {
-            return Ok(loading.end());
-        };
-        loading.read_names(rt, alloc, place, &next)?;
-    }
-    Err(LoadFault::Device(ErrorKind::Other))
+    load(
+        rt,
+        alloc,
+        &|names| look_in_turn(rt, alloc, names),
+        dir,
+        place,
+    )
+}
+
+/// Reads a directory as [`load_dir`] does, by so many threads at most, of which the caller's is one. A level with few
+/// names is read by fewer of them, and zero workers are taken as one. The threads open files, so what `R` opens is to
+/// be `Send`.
+pub fn load_dir_by<R: Files + Threads + Sync>(
+    rt: &R,
+    alloc: Global,
+    workers: usize,
+    dir: &str,
+    place: &mut String,
+) -> Result<(Tree, u64), LoadFault>
+where
+    R::File: Send,
+    R::Dir: Send,
+    ensures loaded { IfOk result (λ loaded. IsLoaded loaded.0 loaded.1) }
+    ensures text { IfOk result (λ loaded. HasTextPaths loaded.0) }
+{
+    load(
+        rt,
+        alloc,
+        &|names| look_by(rt, alloc, workers, names),
+        dir,
+        place,
+    )
 }

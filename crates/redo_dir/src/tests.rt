@@ -2,18 +2,26 @@
 //! which it makes and removes. The helpers are small, and a test holds little more than its
 //! directory, so that each is proved in a few seconds.
 
-use crate::{LoadFault, StoreFault, load_dir, store_files};
+use crate::{LoadFault, StoreFault, load_dir, load_dir_by, store_files};
 use redo_path::{Path, PathFault, resolve};
 use redo_tree::{Content, Tree};
 use std::alloc::Global;
 use std::io::ErrorKind;
 use std::os::unix::fs::symlink;
 use std::path::PathBuf;
+use std::rt::Files;
 use std::test::Fail;
+use std::thread::Threads;
 use std::{env, fs, io};
 
 /// The most bytes of a name.
 const LONGEST_NAME: usize = 255;
+
+/// Behind a directory that is named by so many bytes, the system finds no name of `LONG_NAME`'s length: it takes texts
+/// of less than 4,096 bytes.
+const LONG_TEXT: usize = 4080;
+
+const LONG_NAME: &str = "twenty-bytes-of-text";
 
 fn path(alloc: Global, word: &[u8]) -> Result<Path, PathFault> {
     let root = Path::root();
@@ -64,6 +72,15 @@ fn write_file(rt: &HostRuntime, dir: &PathBuf, name: &str, bytes: &str) -> io::R
 fn write_files(rt: &HostRuntime, dir: &PathBuf, files: &[(&str, &str)]) -> io::Result<()> {
     for (name, bytes) in files {
         write_file(rt, dir, name, bytes)?;
+    }
+    Ok(())
+}
+
+/// Writes so many files, each with its number.
+fn write_numbered(rt: &HostRuntime, dir: &PathBuf, count: usize) -> io::Result<()> {
+    for number in 0..count {
+        let text = format!(in rt.alloc(); "{number}")?;
+        write_file(rt, dir, text.as_str(), text.as_str())?;
     }
     Ok(())
 }
@@ -150,6 +167,52 @@ fn counts(rt: &HostRuntime, dir: &PathBuf) -> Result<(usize, u64), Fail> {
     let (tree, passed) = load_dir(rt, rt.alloc(), dir.as_str(), &mut place)?;
     let files = tree.files(rt.alloc())?;
     Ok((files.len(), passed))
+}
+
+/// Reads a directory by one thread and by so many: how many names both passed over, or nothing where they read other
+/// trees.
+fn passed_over_by<R: Files + Threads + Sync>(
+    rt: &R,
+    alloc: Global,
+    dir: &PathBuf,
+    workers: usize,
+) -> Result<Option<u64>, Fail>
+where
+    R::File: Send,
+    R::Dir: Send,
+{
+    let mut place = String::new(alloc);
+    let (one, passed) = load_dir(rt, alloc, dir.as_str(), &mut place)?;
+    let (many, also) = load_dir_by(rt, alloc, workers, dir.as_str(), &mut place)?;
+    Ok((one == many && passed == also).then_some(passed))
+}
+
+/// The same directory, named by `LONG_TEXT` bytes or one more.
+fn long_text(rt: &HostRuntime, dir: &PathBuf) -> io::Result<String> {
+    let mut text = String::from_str(rt.alloc(), dir.as_str())?;
+    for _ in 0..LONG_TEXT {
+        if text.len() < LONG_TEXT {
+            text.push_str("/.")?;
+        }
+    }
+    Ok(text)
+}
+
+/// Why a directory isn't read by so many threads, where it is said so of the place that is meant.
+fn fault_by<R: Files + Threads + Sync>(
+    rt: &R,
+    alloc: Global,
+    workers: usize,
+    dir: &str,
+    meant: &str,
+) -> Option<LoadFault>
+where
+    R::File: Send,
+    R::Dir: Send,
+{
+    let mut place = String::new(alloc);
+    let fault = load_dir_by(rt, alloc, workers, dir, &mut place).err();
+    fault.filter(|_| place.as_str() == meant)
 }
 
 /// Why what stands below a directory isn't read, where it is said so of its own place.
@@ -263,6 +326,67 @@ fn what_is_no_directory_is_a_fault(rt: HostRuntime) -> Result<(), Fail> {
         (missing, ErrorKind::NotFound),
         (file, ErrorKind::NotADirectory),
         (empty, ErrorKind::NotFound),
+    ] {
+        assert_eq!(rt; fault, Some(LoadFault::Device(kind)));
+    }
+    Ok(())
+}
+
+// ---- reading by several threads
+
+#[test]
+fn threads_read_what_one_reads(rt: HostRuntime) -> Result<(), Fail> {
+    let dirs = ["d", "d/e", "d/empty"];
+    let files = [("a.do", "echo a\n"), ("d/b", ""), ("d/e/c", "c\n")];
+    let dir = new_directory(&rt)?;
+    make_dirs(&rt, &dir, &dirs)?;
+    write_files(&rt, &dir, &files)?;
+    write_file(&rt, &dir, "d/e/f\n", "1\n")?;
+    make_link(&rt, &dir, "d/link", "e")?;
+    let meant = passed_over(&rt, &dir, &dirs, &files)?;
+    let one = passed_over_by(&rt, rt.alloc(), &dir, 1)?;
+    let three = passed_over_by(&rt, rt.alloc(), &dir, 3)?;
+    let eight = passed_over_by(&rt, rt.alloc(), &dir, 8)?;
+    remove(&rt, &dir)?;
+    for passed in [meant, one, three, eight] {
+        assert_eq!(rt; passed, Some(2));
+    }
+    Ok(())
+}
+
+#[test]
+fn names_are_split_among_threads(rt: HostRuntime) -> Result<(), Fail> {
+    let dir = new_directory(&rt)?;
+    write_numbered(&rt, &dir, 100)?;
+    let counted = counts(&rt, &dir)?;
+    let none = passed_over_by(&rt, rt.alloc(), &dir, 0)?;
+    let one = passed_over_by(&rt, rt.alloc(), &dir, 1)?;
+    let three = passed_over_by(&rt, rt.alloc(), &dir, 3)?;
+    let eight = passed_over_by(&rt, rt.alloc(), &dir, 8)?;
+    remove(&rt, &dir)?;
+    assert_eq!(rt; counted, (100, 0));
+    for passed in [none, one, three, eight] {
+        assert_eq!(rt; passed, Some(0));
+    }
+    Ok(())
+}
+
+#[test]
+fn the_place_that_no_thread_can_read_is_told(rt: HostRuntime) -> Result<(), Fail> {
+    let dir = new_directory(&rt)?;
+    write_numbered(&rt, &dir, 100)?;
+    write_file(&rt, &dir, LONG_NAME, "1\n")?;
+    let long = long_text(&rt, &dir)?;
+    let place = format!(in rt.alloc(); "{long}/{LONG_NAME}")?;
+    let one = fault_by(&rt, rt.alloc(), 1, long.as_str(), place.as_str());
+    let three = fault_by(&rt, rt.alloc(), 3, long.as_str(), place.as_str());
+    let missing = dir.join(rt.alloc(), "missing")?;
+    let nothing = fault_by(&rt, rt.alloc(), 3, missing.as_str(), missing.as_str());
+    remove(&rt, &dir)?;
+    for (fault, kind) in [
+        (one, ErrorKind::InvalidFilename),
+        (three, ErrorKind::InvalidFilename),
+        (nothing, ErrorKind::NotFound),
     ] {
         assert_eq!(rt; fault, Some(LoadFault::Device(kind)));
     }
