@@ -109,7 +109,11 @@ fn run<H: Runtime + Threads + Wait + Sync>(
     alloc: Global,
     action: &Action,
     cause: &mut Cause,
-) -> Result<bool, Fault> {
+) -> Result<bool, Fault>
+where
+    H::File: Send,
+    H::Dir: Send,
+{
     match action {
         Action::Build(options, input) => build(rt, alloc, options, input, cause),
         Action::Whichdo(target, input) => list(rt, alloc, target, input, cause),
@@ -123,7 +127,11 @@ fn build<H: Runtime + Threads + Wait + Sync>(
     options: &Options,
     input: &Input,
     cause: &mut Cause,
-) -> Result<bool, Fault> {
+) -> Result<bool, Fault>
+where
+    H::File: Send,
+    H::Dir: Send,
+{
     let mut writer = Plain::new(buffered(alloc, io::writer(rt))?);
     let outcome = build_to(rt, alloc, options, input, &mut writer, cause);
     // What is left after a failed write isn't tried again, as it would be where the buffer is let go with it.
@@ -142,6 +150,9 @@ fn build_to<H: Runtime + Threads + Wait + Sync, W: Write + Drop>(
     writer: &mut Plain<BufWriter<W>>,
     cause: &mut Cause,
 ) -> Result<(Exit, u64), Fault>
+where
+    H::File: Send,
+    H::Dir: Send,
     requires { writer.old.broken ≡ false }
 {
     let ended = match input {

@@ -13,7 +13,7 @@ use crate::request::requested;
 use crate::workers::{build_over, past_of};
 use crate::{Cause, Exit, Gate, Options, RunDirFault};
 use redo_bundle::{ByteOut, write_all};
-use redo_dir::{LoadFault, StoreFault, Stored, load_dir, store_files};
+use redo_dir::{LoadFault, StoreFault, Stored, load_dir, load_dir_by, store_files};
 use redo_path::Path;
 use redo_report::{Report, write_report};
 use redo_tree::{Content, Tree};
@@ -35,6 +35,14 @@ pub struct DirRun {
     pub stored: Stored,
 }
 
+/// Notes what can't be read, where a directory can't.
+fn note_unread(cause: &mut Cause, place: String, loaded: &Result<(Tree, u64), LoadFault>) {
+    if let Err(LoadFault::Device(kind)) = loaded {
+        cause.place = place.into_bytes();
+        cause.said = Some(*kind);
+    }
+}
+
 /// Reads a directory. Where it can't be read, the cause names what can't.
 fn load<H: Files>(
     rt: &H,
@@ -46,10 +54,26 @@ fn load<H: Files>(
 {
     let mut place = String::new(alloc);
     let loaded = load_dir(rt, alloc, dir, &mut place);
-    if let Err(LoadFault::Device(kind)) = &loaded {
-        cause.place = place.into_bytes();
-        cause.said = Some(*kind);
-    }
+    note_unread(cause, place, &loaded);
+    loaded
+}
+
+/// The same by up to so many threads.
+fn load_by<H: Files + Threads + Sync>(
+    rt: &H,
+    alloc: Global,
+    threads: usize,
+    dir: &str,
+    cause: &mut Cause,
+) -> Result<(Tree, u64), LoadFault>
+where
+    H::File: Send,
+    H::Dir: Send,
+    ensures { IfOk result (λ loaded. IsLoaded loaded.0 loaded.1) }
+{
+    let mut place = String::new(alloc);
+    let loaded = load_dir_by(rt, alloc, threads, dir, &mut place);
+    note_unread(cause, place, &loaded);
     loaded
 }
 
@@ -130,7 +154,8 @@ fn with_book_last(
 
 /// Reads a directory with all that is below it, builds the targets of its sources, writes the files that were built and
 /// the new book into the directory, and then writes the report, without the files. A file that already stood there as
-/// it came out is not written again.
+/// it came out is not written again. The workers read the directory and make the digests that the book is compared
+/// with, too; what they open is to be `Send`.
 ///
 /// Nothing is written before the build has answered. The book is stored behind all other files. Where a file can't be
 /// stored, those before it were, and no report is written; where the report can't be written, all files were stored.
@@ -145,6 +170,9 @@ pub fn run_dir<H: Threads + Wait + Sync + Files, W: ByteOut, G: Gate>(
     gate: &G,
     cause: &mut Cause,
 ) -> Result<DirRun, RunDirFault>
+where
+    H::File: Send,
+    H::Dir: Send,
     requires writer { W.has_failed writer.old ≡ false }
     ensures report { IfOk result (λ run. ReportsTree options.now dir.now (W.held writer.old) (W.held writer.new) run) }
     ensures book { (n : ℕ) → IsErrOf result (RunDirFault.Book n) → RefusesBook n }
@@ -152,7 +180,7 @@ pub fn run_dir<H: Threads + Wait + Sync + Files, W: ByteOut, G: Gate>(
     ensures untouched { IsUnwritten result writer.old writer.new }
     ensures device { IsErrOf result RunDirFault.Device ↔ (W.has_failed writer.new ≡ true) }
 {
-    let (tree, passed) = load(rt, alloc, dir, cause)?;
+    let (tree, passed) = load_by(rt, alloc, options.workers, dir, cause)?;
     let request = requested(alloc, &options.targets)?;
     let past = past_of(rt, alloc, tree, options.workers)?;
     let tree = Arc::try_clone(past.tree())?;

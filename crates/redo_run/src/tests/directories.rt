@@ -85,6 +85,9 @@ fn gives<R: Threads + Wait + Sync + Files>(
     outcome: Outcome,
     report: &[u8],
 ) -> Result<bool, Fail>
+where
+    R::File: Send,
+    R::Dir: Send,
     requires some { 1 ≤ workers }
     requires few { workers ≤ 64 }
 {
