@@ -3,7 +3,8 @@
 ghost use Rattle.std.specs.Prelude.{◌≡◌, ◌==◌, ◌<◌, ◌^◌, ◌++◌, ◌∷◌, [], ℕ, List, Some, None, IfOk, IfSome, OnErr, OnOk};
 ghost use Rattle.std.specs.Prelude.{is_some, length, bytes_eq, option_copied, slice_get, if◌then◌else◌};
 ghost use Rattle.std.specs.List.{zip};
-ghost use Rattle.std.specs.Map.{lookup};
+ghost use Rattle.std.specs.Map.{keys_of, lookup};
+ghost use Rattle.redo_names.specs.Paths.{AreDistinct};
 
 use crate::PathSet;
 use redo_path::Path;
@@ -88,6 +89,13 @@ impl<T> PathMap<T> {
             Some(number) => Some(&self.values[number]),
             None => None,
         }
+    }
+
+    /// No path stands twice.
+    pub fn each_once(&self)
+        ensures { AreDistinct (keys_of self.now) }
+    {
+        let _ = &self.values;
     }
 
     /// The paths, and the values, each at its path's number.

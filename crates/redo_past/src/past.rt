@@ -100,7 +100,7 @@ fn sources_of(alloc: Global, tree: &Tree, book: &Book) -> Result<Arc<Tree>, Allo
     ensures { IfOk result (λ sources. arc_value sources ≡ without tree.now (aside_of tree.now book.now)) }
 {
     let aside = set_aside(alloc, tree, book)?;
-    let (sources, _files) = tree.part(alloc, &aside)?;
+    let sources = tree.without(alloc, &aside)?;
     Ok(Arc::new(alloc, sources)?)
 }
 

@@ -50,7 +50,7 @@ IsKept-top = record {
 -- ---- one entry more
 
 -- where nothing stands in the tree, nothing is found
-none_found : (o : Option Entry) → option_map node_of o ≡ None → o ≡ None
+pub none_found : (o : Option Entry) → option_map node_of o ≡ None → o ≡ None
 none_found None h = refl
 none_found (Some entry) h = cc
 
@@ -94,9 +94,9 @@ rises : (es : Tree) → IsStrictlySortedBy (slice_cmp nat_cmp) (keys_of es) → 
 rises [] h = tt
 rises (e ∷ es) h = both_hold (below_all (slice_cmp nat_cmp) e.0 es) _ (below e.0 es (sorted_head (slice_cmp nat_cmp) e.0 (keys_of es) h)) (rises es (sorted_tail (slice_cmp nat_cmp) e.0 (keys_of es) h))
 
-one_tree : (tree other : Tree) → IsTree tree → IsTree other → ((q : List ℕ) → node_at tree q ≡ node_at other q) → tree ≡ other
-one_tree tree other is is_other same =
-    same_lists (slice_cmp nat_cmp) nat_list_cmp_total (slice_cmp-IsAntisymmetric nat_cmp-IsAntisymmetric) tree other (rises tree is.sorted) (rises other is_other.sorted) same
+pub one_sorted : (tree other : Tree) → IsStrictlySortedBy (slice_cmp nat_cmp) (keys_of tree) → IsStrictlySortedBy (slice_cmp nat_cmp) (keys_of other) → ((q : List ℕ) → node_at tree q ≡ node_at other q) → tree ≡ other
+one_sorted tree other is is_other same =
+    same_lists (slice_cmp nat_cmp) nat_list_cmp_total (slice_cmp-IsAntisymmetric nat_cmp-IsAntisymmetric) tree other (rises tree is) (rises other is_other) same
 
 pub both_ways : (a b : Bool) → (a ≡ true → b ≡ true) → (b ≡ true → a ≡ true) → a ≡ b
 both_ways true b f g = sym (f refl)
@@ -106,7 +106,7 @@ both_ways false false f g = refl
 -- what both keep is one tree
 pub one-kept : (es fs : List (List ℕ × Entry)) (dirs others : List (List ℕ)) → IsKept es dirs → IsKept fs others → AreAmong es fs → AreAmong fs es → tree_of es ≡ tree_of fs
 one-kept es fs dirs others is is_other there back =
-    one_tree (tree_of es) (tree_of fs) is.tree is_other.tree (
+    one_sorted (tree_of es) (tree_of fs) is.tree.sorted is_other.tree.sorted (
     λ q. sym (is.found q) ∙ same_kept (lookup (pointwise nat_eq q) es) (lookup (pointwise nat_eq q) fs) (there q) (back q) ∙ is_other.found q)
 
 pub kept-among : (es fs : List (List ℕ × Entry)) (dirs others : List (List ℕ)) → IsKept es dirs → IsKept fs others → tree_of es ≡ tree_of fs → AreAmong es fs

@@ -1,6 +1,7 @@
 -- What stands where in a tree without some of its files, and which files are taken out.
 use Rattle.std.proofs.Common.{◌≡◌, ◌&&◌, List, [], ◌∷◌, ℕ, Bool, true, false, cond, not, refl, sym, ap, subst, ◌∙◌}
-use Rattle.std.proofs.Common.{Option, Some, None, IsSome}
+use Rattle.std.proofs.Common.{Option, Some, None, IsSome, inl, inr}
+use Rattle.std.proofs.lemmas.Bool.{cases_Bool}
 use Rattle.std.proofs.lemmas.Map.Keys.{sorted_head, sorted_tail}
 use Rattle.std.specs.Cmp.Lexicographic.{same_text, slice_cmp, texts_ties}
 use Rattle.std.specs.List.{AllByRecursion, cons_option, filter}
@@ -9,7 +10,7 @@ use Rattle.std.specs.Map.{keys_of, lookup}
 use Rattle.std.specs.Ordering.{is_eq, nat_cmp}
 use Rattle.std.specs.Prelude.{bytes_eq, is_some, option_and_then}
 use Rattle.std.specs.declared.cmp.Ordering.TheVariants.{Less}
-use Rattle.redo_names.specs.Paths.{is_among}
+use Rattle.redo_names.specs.Paths.{AreDistinct, IsAmong, is_among}
 use Rattle.redo_path.specs.Names.{IsPath}
 use Rattle.redo_tree.specs.Tree.{Directory, File, IsTree, Node, Tree, bytes_of, file_at, files_among}
 use Rattle.redo_tree.specs.Tree.{is_file_among, node_at, without}
@@ -36,20 +37,34 @@ is_here q k h = same_text q k (sym (texts_ties q k ∙ h))
 before_here : (q : List ℕ) (e : List ℕ × Node) (es : Tree) → is_eq (slice_cmp nat_cmp q e.0) ≡ true → IsBefore e.0 (keys_of es) → node_at es q ≡ None
 before_here q e es at head = absent_before q es (subst (λ k. IsBefore k (keys_of es)) (sym (is_here q e.0 at)) head)
 
-here : (p : List ℕ × Node → Bool) (e : List ℕ × Node) (es : Tree) (q : List ℕ) (c b : Bool) → p e ≡ c → is_eq (slice_cmp nat_cmp q e.0) ≡ b → IsBefore e.0 (keys_of es) → node_at (filter p es) q ≡ passing p q (node_at es q)
+here : (p : List ℕ × Node → Bool) (e : List ℕ × Node) (es : Tree) (q : List ℕ) (c b : Bool) → p e ≡ c → is_eq (slice_cmp nat_cmp q e.0) ≡ b → (b ≡ true → node_at es q ≡ None) → node_at (filter p es) q ≡ passing p q (node_at es q)
     → node_at (cond c (e ∷ filter p es) (filter p es)) q ≡ passing p q (cond b (Some e.1) (node_at es q))
-here p e es q true true pe at head ih =
+here p e es q true true pe at none ih =
     let passes : p (q, e.1) ≡ true = ap (λ k. p (k, e.1)) (is_here q e.0 at) ∙ pe in
     rw (at, passes) refl
-here p e es q true false pe at head ih = rw at ih
-here p e es q false true pe at head ih =
+here p e es q true false pe at none ih = rw at ih
+here p e es q false true pe at none ih =
     let fails : p (q, e.1) ≡ false = ap (λ k. p (k, e.1)) (is_here q e.0 at) ∙ pe in
-    ih ∙ ap (passing p q) (before_here q e es at head) ∙ sym (ap (λ b. cond b (Some e.1) None) fails)
-here p e es q false false pe at head ih = ih
+    ih ∙ ap (passing p q) (none refl) ∙ sym (ap (λ b. cond b (Some e.1) None) fails)
+here p e es q false false pe at none ih = ih
 
 pub node_at-filter : (p : List ℕ × Node → Bool) (t : Tree) (q : List ℕ) → IsStrictlySortedBy (slice_cmp nat_cmp) (keys_of t) → node_at (filter p t) q ≡ passing p q (node_at t q)
 node_at-filter p [] q h = refl
-node_at-filter p (e ∷ es) q h = here p e es q (p e) (is_eq (slice_cmp nat_cmp q e.0)) refl refl (sorted_head (slice_cmp nat_cmp) e.0 (keys_of es) h) (node_at-filter p es q (sorted_tail (slice_cmp nat_cmp) e.0 (keys_of es) h))
+node_at-filter p (e ∷ es) q h = here p e es q (p e) (is_eq (slice_cmp nat_cmp q e.0)) refl refl
+    (λ at. before_here q e es at (sorted_head (slice_cmp nat_cmp) e.0 (keys_of es) h)) (node_at-filter p es q (sorted_tail (slice_cmp nat_cmp) e.0 (keys_of es) h))
+
+-- the same of entries with distinct paths, in any order
+pub no_node : (t : Tree) (q : List ℕ) → (IsAmong (keys_of t) q → ⊥) → node_at t q ≡ None
+no_node [] q none = refl
+no_node (e ∷ es) q none = elim (cases_Bool (is_eq (slice_cmp nat_cmp q e.0))) [
+  | inl at ↦ absurd (none (inl (sym (is_here q e.0 at))))
+  | inr other ↦ rw other (no_node es q (λ m. none (inr m)))
+]
+
+pub node_at-filter-distinct : (p : List ℕ × Node → Bool) (t : Tree) (q : List ℕ) → AreDistinct (keys_of t) → node_at (filter p t) q ≡ passing p q (node_at t q)
+node_at-filter-distinct p [] q d = refl
+node_at-filter-distinct p (e ∷ es) q d = here p e es q (p e) (is_eq (slice_cmp nat_cmp q e.0)) refl refl
+    (λ at. no_node es q (λ m. d.0 (subst (IsAmong (keys_of es)) (is_here q e.0 at) m))) (node_at-filter-distinct p es q d.1)
 
 keys-filter : (P : List ℕ → Type 0) (p : List ℕ × Node → Bool) (t : Tree) → AllByRecursion P (keys_of t) → AllByRecursion P (keys_of (filter p t))
 keys-filter P p [] h = tt

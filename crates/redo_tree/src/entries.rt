@@ -13,7 +13,7 @@ ghost use Rattle.redo_tree.specs.Tree.{is_default as begins_and_ends, Adds, Allo
 ghost use Rattle.redo_tree.specs.Tree.{tree_of, AreAmong, HasEntry, IsKept, files_among, without};
 
 use crate::digests::{keep_digests, keep_digests_by};
-use crate::parting::{Parting, set_of};
+use crate::parting::{Kept, kept_of, put_named, set_of};
 use crate::{Content, TreeFault};
 use redo_names::{PathMap, PathSet};
 use redo_path::Path;
@@ -190,8 +190,27 @@ impl Tree {
         Ok(paths)
     }
 
-    /// The tree without the files at these paths, and these files, both in path order. Directories stay, and paths at
-    /// which no file stands are passed over. No content is copied: both share them with this tree.
+    /// The tree without the files at these paths. Directories stay, and paths at which no file stands are passed over.
+    /// No content is copied: it is shared with this tree.
+    pub fn without(&self, alloc: Global, out: &[Path]) -> Result<Tree, AllocError>
+        ensures { IfOk result (λ tree. tree ≡ without self.now out.now) }
+    {
+        let names = set_of(alloc, out)?;
+        self.without_named(alloc, &names)
+    }
+
+    /// The same, of paths that are looked up.
+    fn without_named(&self, alloc: Global, names: &PathSet) -> Result<Tree, AllocError>
+        ensures { IfOk result (λ tree. tree ≡ without self.now names.now) }
+    {
+        self.entries.each_once();
+        let kept = kept_of(alloc, &self.entries, names)?;
+        kept.entries.each_once();
+        let Kept { entries, defaults } = kept;
+        Ok(Tree::of_entries(alloc, entries, defaults))
+    }
+
+    /// The tree without the files at these paths, and these files in path order.
     pub fn part(
         &self,
         alloc: Global,
@@ -201,23 +220,24 @@ impl Tree {
         ensures files { IfOk result (λ parts. parts.1.items ≡ files_among self.now out.now) }
     {
         let names = set_of(alloc, out)?;
-        self.part_names(alloc, &names)
+        let left = self.without_named(alloc, &names)?;
+        let files = self.named_files(alloc, &names)?;
+        Ok((left, files))
     }
 
-    /// The same, of paths that are looked up.
-    fn part_names(
+    /// The files at these paths, in path order. They share their contents with this tree.
+    fn named_files(
         &self,
         alloc: Global,
         names: &PathSet,
-    ) -> Result<(Tree, Vec<(Path, Content)>), AllocError>
-        ensures tree { IfOk result (λ parts. parts.0 ≡ without self.now names.now) }
-        ensures files { IfOk result (λ parts. parts.1.items ≡ files_among self.now names.now) }
+    ) -> Result<Vec<(Path, Content)>, AllocError>
+        ensures { IfOk result (λ files. files.items ≡ files_among self.now names.now) }
     {
-        let mut parting = Parting::new(alloc);
+        let mut files = Vec::new(alloc);
         for (path, entry) in self.in_order(alloc)? {
-            parting.pass(alloc, names, path, entry)?;
+            put_named(&mut files, names, path, entry)?;
         }
-        Ok(parting.finish(alloc))
+        Ok(files)
     }
 
     /// The tree, in which the named files keep their digests: `named` tells it of each number. They are read once for
@@ -314,7 +334,7 @@ impl Clone for Tree {
 
     /// A tree of the same entries. The contents are shared.
     fn clone(&self) -> Result<Tree, AllocError> {
-        let (copy, _none) = self.part(self.alloc, &[])?;
+        let copy = self.without(self.alloc, &[])?;
         Ok(copy)
     }
 }

@@ -3,11 +3,11 @@
 ghost use Rattle.std.specs.Prelude.{◌≡◌, ◌++◌, ◌∷◌, [], ℕ, List, IfOk, None, OnOk, bytes_eq, false};
 ghost use Rattle.std.specs.Map.{lookup};
 ghost use Rattle.redo_names.specs.Paths.{is_among};
-ghost use Rattle.redo_tree.specs.Tree.{IsTree, files_among, is_file_among, node_of, without};
+ghost use Rattle.redo_tree.specs.Tree.{files_among, is_file_among, node_of, without};
 ghost use Rattle.redo_tree.specs.inside.Parting.{AreNoted, nodes_of};
 
 use crate::entries::note_default;
-use crate::{Content, Entry, Tree};
+use crate::{Content, Entry};
 use redo_names::{PathMap, PathSet};
 use redo_path::Path;
 use std::alloc::{AllocError, Global};
@@ -40,47 +40,41 @@ fn share(entry: &Entry) -> Result<Entry, AllocError>
     }
 }
 
-/// What entries of a tree, in path order, have come to so far.
+/// The entries of a tree that stay in it.
 #[derive(Drop)]
-pub(crate) struct Parting {
-    /// Those that are kept.
-    kept: PathMap<Entry>,
+pub(crate) struct Kept {
+    pub entries: PathMap<Entry>,
     /// The directories of the files among them whose names begin with `default` and end in `.do`.
-    defaults: PathSet,
-    /// The files that are taken out.
-    files: Vec<(Path, Content)>,
+    pub defaults: PathSet,
 }
 
-impl Parting {
+impl Kept {
     /// No entry has come yet.
-    pub(crate) fn new(alloc: Global) -> Parting
-        ensures kept { nodes_of result.kept ≡ [] }
-        ensures files { result.files.items ≡ [] }
+    pub(crate) fn new(alloc: Global) -> Kept
+        ensures entries { nodes_of result.entries ≡ [] }
         ensures noted { AreNoted result.defaults [] }
     {
-        Parting {
-            kept: PathMap::new(alloc),
+        Kept {
+            entries: PathMap::new(alloc),
             defaults: PathSet::new(alloc),
-            files: Vec::new(alloc),
         }
     }
 
     /// Keeps an entry that is a new one.
     fn keep(&mut self, alloc: Global, path: &Path, entry: &Entry) -> Result<(), AllocError>
-        requires new { lookup (bytes_eq path.now) self.old.kept ≡ None }
-        requires noted { AreNoted self.old.defaults (nodes_of self.old.kept) }
-        ensures kept { OnOk result (nodes_of self.new.kept ≡
-            nodes_of self.old.kept ++ (path.now, node_of entry.now) ∷ []) }
-        ensures files { self.new.files ≡ self.old.files }
-        ensures noted { OnOk result (AreNoted self.new.defaults (nodes_of self.new.kept)) }
+        requires new { lookup (bytes_eq path.now) self.old.entries ≡ None }
+        requires noted { AreNoted self.old.defaults (nodes_of self.old.entries) }
+        ensures entries { OnOk result (nodes_of self.new.entries ≡
+            nodes_of self.old.entries ++ (path.now, node_of entry.now) ∷ []) }
+        ensures noted { OnOk result (AreNoted self.new.defaults (nodes_of self.new.entries)) }
     {
         let entry = share(entry)?;
         note_default(alloc, &mut self.defaults, path, &entry)?;
-        self.kept.insert(path.clone()?, entry)?;
+        self.entries.insert(path.clone()?, entry)?;
         Ok(())
     }
 
-    /// Takes the next entry out, if it is a file of one of these names, and keeps it otherwise.
+    /// Keeps the next entry, unless it is a file of one of these names.
     pub(crate) fn pass(
         &mut self,
         alloc: Global,
@@ -89,36 +83,53 @@ impl Parting {
         entry: &Entry,
     ) -> Result<(), AllocError>
         requires new { is_file_among names.now (path.now, node_of entry.now) ≡ false →
-            lookup (bytes_eq path.now) self.old.kept ≡ None }
-        requires noted { AreNoted self.old.defaults (nodes_of self.old.kept) }
-        ensures kept { OnOk result (nodes_of self.new.kept ≡
-            nodes_of self.old.kept ++ without ((path.now, node_of entry.now) ∷ []) names.now) }
-        ensures files { OnOk result (self.new.files.items ≡
-            self.old.files.items ++ files_among ((path.now, node_of entry.now) ∷ []) names.now) }
-        ensures noted { OnOk result (AreNoted self.new.defaults (nodes_of self.new.kept)) }
+            lookup (bytes_eq path.now) self.old.entries ≡ None }
+        requires noted { AreNoted self.old.defaults (nodes_of self.old.entries) }
+        ensures entries { OnOk result (nodes_of self.new.entries ≡
+            nodes_of self.old.entries ++ without ((path.now, node_of entry.now) ∷ []) names.now) }
+        ensures noted { OnOk result (AreNoted self.new.defaults (nodes_of self.new.entries)) }
     {
         match entry {
-            Entry::File(content) if is_named(names, path) => {
-                let file = (path.clone()?, content.clone()?);
-                self.files.push(file)?;
-                Ok(())
-            }
+            Entry::File(_) if is_named(names, path) => Ok(()),
             _ => self.keep(alloc, path, entry),
         }
     }
+}
 
-    /// The tree of what is kept, and the files that were taken out.
-    pub(crate) fn finish(self, alloc: Global) -> (Tree, Vec<(Path, Content)>)
-        requires tree { IsTree (nodes_of self.kept) }
-        requires noted { AreNoted self.defaults (nodes_of self.kept) }
-        ensures tree { result.0 ≡ nodes_of self.kept }
-        ensures files { result.1.items ≡ self.files.items }
-    {
-        let Parting {
-            kept,
-            defaults,
-            files,
-        } = self;
-        (Tree::of_entries(alloc, kept, defaults), files)
+/// The entries of a tree that stay in it where files are taken out, in the order in which they were kept.
+pub(crate) fn kept_of(
+    alloc: Global,
+    entries: &PathMap<Entry>,
+    names: &PathSet,
+) -> Result<Kept, AllocError>
+    ensures entries { IfOk result (λ kept. nodes_of kept.entries ≡ without (nodes_of entries.now) names.now) }
+    ensures noted { IfOk result (λ kept. AreNoted kept.defaults (nodes_of kept.entries)) }
+{
+    entries.each_once();
+    let mut kept = Kept::new(alloc);
+    'entries: for number in 0..entries.len() {
+        let (path, entry) = entries.at(number);
+        kept.pass(alloc, names, path, entry)?;
+    }
+    Ok(kept)
+}
+
+/// Puts an entry last, if it is a file of one of these names.
+pub(crate) fn put_named(
+    files: &mut Vec<(Path, Content)>,
+    names: &PathSet,
+    path: &Path,
+    entry: &Entry,
+) -> Result<(), AllocError>
+    ensures { OnOk result (files.new.items ≡
+        files.old.items ++ files_among ((path.now, node_of entry.now) ∷ []) names.now) }
+{
+    match entry {
+        Entry::File(content) if is_named(names, path) => {
+            let file = (path.clone()?, content.clone()?);
+            files.push(file)?;
+            Ok(())
+        }
+        _ => Ok(()),
     }
 }

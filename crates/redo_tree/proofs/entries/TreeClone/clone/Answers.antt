@@ -3,4 +3,4 @@ use Rattle.redo_tree.proofs.WithoutLemmas.{without-none}
 use Rattle.redo_tree.proofs.entries.TreeClone.clone.Goals as goal
 
 pub returns : goal.returns
-returns c = record { cases = c.in_ok-copy.ensures.tree ∙ without-none c.args.self.now }
+returns c = record { cases = c.in_ok-copy.ensures ∙ without-none c.args.self.now }
