@@ -172,16 +172,20 @@ path_of_names ns path h e =
     let r = limited (nat_lt 1024 (length (text_of ns))) (text_of ns) path refl e in
     subst IsPath r.0 (record { each = subst (AllByRecursion IsName) (sym (names-text_of ns h)) h; short = r.1 })
 
-pub path-resolved : (base word path : List ℕ) → IsPath base → resolved base word ≡ Ok path → IsPath path
-path-resolved base word path h e =
+-- what a word names from a base of names is a path, however long the base is
+pub named-resolved : (base word path : List ℕ) → AllByRecursion IsName (names base) → resolved base word ≡ Ok path → IsPath path
+named-resolved base word path h e =
     elim (word_fault word) as (λ o. word_fault word ≡ o → option_map_or Err o (walk (names base) (parts word) >>= λ ns. within_limit (text_of ns)) ≡ Ok path → IsPath path) [
       | Some fault ↦ λ f k. apart cc
       | None ↦ λ f k.
           elim (walk (names base) (parts word)) as (λ r. walk (names base) (parts word) ≡ r → (r >>= λ ns. within_limit (text_of ns)) ≡ Ok path → IsPath path) [
-            | Ok ns ↦ λ w l. path_of_names ns path (walk_on-names (names base) ns (parts word) h.each (IsPart-parts word (printable-word word f)) w) l
+            | Ok ns ↦ λ w l. path_of_names ns path (walk_on-names (names base) ns (parts word) h (IsPart-parts word (printable-word word f)) w) l
             | Err fault ↦ λ w l. apart cc
           ] refl k
     ] refl e
+
+pub path-resolved : (base word path : List ℕ) → IsPath base → resolved base word ≡ Ok path → IsPath path
+path-resolved base word path h e = named-resolved base word path h.each e
 
 -- ---- a directory stands before what it holds
 

@@ -157,7 +157,7 @@ some_text [] ns h e = h refl
 some_text (b ∷ bs) [] h e = cc
 some_text (b ∷ bs) (m ∷ ns) h e = cc
 
-names-text_of : (ns : List (List ℕ)) → AllByRecursion IsName ns → names (text_of ns) ≡ ns
+pub names-text_of : (ns : List (List ℕ)) → AllByRecursion IsName ns → names (text_of ns) ≡ ns
 names-text_of [] h = refl
 names-text_of (n ∷ ns) h = parts-names (text_of (n ∷ ns)) (some_text n ns h.0.nonempty) ∙ parts-text_of n ns h
 

@@ -3,8 +3,8 @@
 ghost use Rattle.std.specs.Prelude.{◌≡◌, ◌≤◌, ◌∷◌, List, ℕ, IfNone, IfOk, IfSome, IsTrue, [], bytes_eq, length, map};
 ghost use Rattle.std.specs.Prelude.{take};
 ghost use Rattle.std.specs.Iterator.Adapters.{take_count, take_source};
-ghost use Rattle.std.specs.List.{list_any};
-ghost use Rattle.redo_which.specs.Missing.{AreDistinct, AreFirst, first_candidates};
+ghost use Rattle.std.specs.List.{AllByRecursion, list_any};
+ghost use Rattle.redo_which.specs.Missing.{AreDistinct, AreFirst, IsBelow, first_candidates};
 
 use crate::candidate_ref::CandidateRef;
 use crate::candidates::Candidates;
@@ -63,6 +63,14 @@ impl Missing {
     /// No candidate stands twice.
     pub fn each_once(&self)
         ensures { AreDistinct self.now }
+    {
+        // A field is read so that the invariant is at hand in the proof. Nothing runs.
+        let _ = &self.target;
+    }
+
+    /// Each lies below the top directory.
+    pub fn each_below(&self)
+        ensures { AllByRecursion IsBelow self.now }
     {
         // A field is read so that the invariant is at hand in the proof. Nothing runs.
         let _ = &self.target;
