@@ -1,3 +1,2 @@
-pub mod CandidateLineLemmas
 pub mod LineLemmas
 pub mod WritingLemmas

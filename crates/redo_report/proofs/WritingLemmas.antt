@@ -32,3 +32,7 @@ writes-failed Q f r is old mid new done piece rest text split before failed =
 pub writes-last : {E : Type 0} (r : Result (Unit {0}) E) (old mid new : Option (List ℕ)) (done last text : List ℕ) →
     text ≡ done ++ last → Appends old mid done → Writes mid new r last → Writes old new r text
 writes-last r old mid new done last text split before went = subst (Writes old new r) (sym split) (Writes-then r old mid new done last before went)
+
+-- a piece more was written
+pub one-more : (all done now text left : List ℕ) → all ≡ done ++ now → now ≡ text ++ left → all ≡ (done ++ text) ++ left
+one-more all done now text left e h = e ∙ ap (λ l. done ++ l) h ∙ sym (append_assoc done text left)

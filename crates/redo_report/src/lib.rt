@@ -5,7 +5,7 @@
 //! on redo_bundle for the form of files and the writers, and on `itoa`, which spells numbers.
 //!
 //! - `report`: rows, files, and the scripts that were begun.
-//! - `text`: the report as text; `lines`: the lines of missing candidates.
+//! - `text`: the report as text; `lines`: the lines of missing candidates, one record after another.
 #![tactic(auto)]
 
 mod lines;

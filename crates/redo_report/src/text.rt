@@ -6,7 +6,7 @@ ghost use Rattle.redo_bundle.specs.Bundle.{Writes};
 ghost use Rattle.redo_report.specs.ReportText.{begun_line, dep_line, file_text, outcome_words, path_line, reason_word};
 ghost use Rattle.redo_report.specs.ReportText.{report_text, row_text, why_words, word_at};
 
-use crate::lines::Lines;
+use crate::lines::write_missing;
 use crate::report::{Report, Row};
 use itoa::Buffer;
 use redo_bundle::{Broken, ByteOut, Plain, write_all, write_parts};
@@ -14,6 +14,7 @@ use redo_path::Path;
 use redo_record::{Dep, DepKind, Outcome, Record, Why};
 use redo_script::{Reason, ScriptFault};
 use redo_tree::Content;
+use redo_which::Lines;
 use std::alloc::{AllocError, Global};
 
 /// The report's text: the rows with their records, the scripts that were begun, the files that were built, each as it
@@ -119,7 +120,7 @@ fn write_record<'a, W: ByteOut>(
     ensures failed { W.has_failed out.new ≡ is_err result }
 {
     let parts = deps.parts();
-    lines.write(parts.missing, out)?;
+    write_missing(out, lines, parts.missing)?;
     write_do_file(out, parts.do_file)?;
     write_deps(out, parts.own)
 }

@@ -1,6 +1,7 @@
 //! A candidate in pieces of its target's text, so that no path is made of one that is no file.
 
-ghost use Rattle.std.specs.Prelude.{◌≡◌, ◌++◌, ◌∷◌, [], IfOk, OnOk, codes, false, is_err, length, nat_le, ◌&&◌};
+ghost use Rattle.std.specs.Prelude.{◌≡◌, ◌++◌, ◌∷◌, [], IfOk, OnErr, OnOk, codes, false, is_err, length, nat_le, ◌&&◌};
+ghost use Rattle.std.specs.Prelude.{take};
 ghost use Rattle.std.specs.Option.{option_to_list};
 ghost use Rattle.redo_path.specs.Names.{IsPart, IsPath, child_of};
 ghost use Rattle.redo_path.specs.Resolve.{resolved};
@@ -80,10 +81,11 @@ impl<'a> CandidateRef<'a> {
         })
     }
 
-    /// Adds the text of the .do file's path to a text.
+    /// Adds the text of the .do file's path to a text. On want of memory a beginning of it may have been added.
     pub fn spell(&self, text: &mut Vec<u8>) -> Result<(), AllocError>
         ensures path { IsPath self.now.do_file }
         ensures text { OnOk result (text.new.items ≡ text.old.items ++ self.now.do_file) }
+        ensures begun { OnErr result (take (length text.old.items) text.new.items ≡ text.old.items) }
     {
         text.extend_from_slice(self.dir)?;
         text.extend_from_slice(self.prefix)?;

@@ -10,18 +10,21 @@
 //! - here: what the search finds, as plain data;
 //! - [`lookup`]: the search; `args`: what a script is called with;
 //! - `missing`: the candidates that it found no file for, kept as their number;
+//! - `lines`: the lines of such candidates, target after target;
 //! - `candidate_ref`: a candidate in pieces of its target's text; `candidates`: the candidates one after another.
 #![tactic(auto)]
 
 mod args;
 mod candidate_ref;
 mod candidates;
+mod lines;
 pub mod lookup;
 mod missing;
 
 pub use args::Args;
 pub use candidate_ref::CandidateRef;
 pub use candidates::Candidates;
+pub use lines::Lines;
 pub use missing::{Missing, Tail};
 use redo_path::Path;
 

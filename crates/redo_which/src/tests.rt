@@ -1,7 +1,7 @@
-//! Candidates, searches and arguments, a table each.
+//! Candidates, searches and arguments, a table each, and lines.
 
 use crate::lookup::{candidates, find, search};
-use crate::{Found, Rule};
+use crate::{Found, Lines, Missing, Rule};
 use redo_path::{Path, PathFault, resolve};
 use redo_tree::Tree;
 use std::alloc::Global;
@@ -261,5 +261,51 @@ fn arguments_are_read_from_the_directory_of_the_script(rt: HostRuntime) -> Resul
         let text = found_text(alloc, &tree, word.as_bytes())?;
         assert_eq!(rt; text.as_slice(), meant.as_bytes(), "{word}");
     }
+    Ok(())
+}
+
+/// What is missing for a target, whether or not it has a rule.
+fn missing_of(alloc: Global, tree: &Tree, word: &str) -> Result<Missing, Fail> {
+    match find(alloc, tree, &path(alloc, word.as_bytes())?)? {
+        Found::NoRule { missing } => Ok(missing),
+        Found::Rule(rule) => Ok(rule.missing),
+        _ => Err(Fail::from("no search was made")),
+    }
+}
+
+#[test]
+fn lines_are_added_behind_those_of_neighbours(rt: HostRuntime) -> Result<(), Fail> {
+    let alloc = rt.alloc();
+    let tree = tree_of(alloc, &["a", "b"], &["default.o.do", "a/z.o.do"])?;
+    let mut found = Vec::new(alloc);
+    for target in [
+        "a/x.o",
+        "a/y.o",
+        "a/z.o",
+        "b/y.o",
+        "b/y",
+        "b/z",
+        "b/default.o",
+    ] {
+        found.push(missing_of(alloc, &tree, target)?)?;
+    }
+    let mut lines = Lines::new(alloc, b"no ");
+    let mut text = b"end\n".to_vec(alloc)?;
+    for missing in &found {
+        lines.add(missing, &mut text)?;
+    }
+    assert_eq!(rt;
+        text.as_slice(),
+        b"end\n\
+          no a/x.o.do\nno a/default.o.do\nno a/default.do\n\
+          no a/y.o.do\nno a/default.o.do\nno a/default.do\n\
+          no b/y.o.do\nno b/default.o.do\nno b/default.do\n\
+          no b/y.do\nno b/default.do\nno default.do\n\
+          no b/z.do\nno b/default.do\nno default.do\n\
+          no b/default.o.do\nno b/default.do\n"
+            .as_slice()
+    );
+    assert_eq!(rt; lines.front(), b"no ".as_slice());
+    assert_eq!(rt; lines.text(), b"no b/default.do\n".as_slice());
     Ok(())
 }

@@ -1,11 +1,11 @@
 //! The lines of missing candidates.
 
 use super::path;
-use crate::lines::Lines;
+use crate::lines::write_missing;
 use redo_bundle::{Broken, Plain};
 use redo_tree::Tree;
 use redo_which::lookup::find;
-use redo_which::{Found, Missing};
+use redo_which::{Found, Lines, Missing};
 use std::alloc::Global;
 use std::test::Fail;
 
@@ -32,7 +32,8 @@ fn written(alloc: Global, missing: &Missing, size: usize) -> Result<(Vec<u8>, bo
     let mut room = Vec::new(alloc);
     room.resize(size, 0)?;
     let mut writer = Plain::new(room.as_mut_slice());
-    let outcome = Lines::new(alloc, b"no ").write(missing, &mut writer);
+    let mut lines = Lines::new(alloc, b"no ");
+    let outcome = write_missing(&mut writer, &mut lines, missing);
     let told = outcome.err() == Some(Broken);
     Ok((room, told))
 }
@@ -69,7 +70,7 @@ fn with_lines<'a>(
     text: Vec<u8>,
 ) -> Result<Vec<u8>, Fail> {
     let mut out = Plain::new(text);
-    match lines.write(missing, &mut out) {
+    match write_missing(&mut out, lines, missing) {
         Ok(()) => Ok(out.stream),
         Err(Broken) => Err(Fail::from("the lines were refused")),
     }

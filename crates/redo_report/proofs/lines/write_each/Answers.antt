@@ -5,8 +5,8 @@ use Rattle.std.specs.Prelude.{Err}
 use Rattle.std.specs.Iterator.Adapters.{take_count, take_source}
 use Rattle.std.proofs.KnownBytes.{Appends-trans}
 use Rattle.redo_bundle.proofs.PieceLemmas.{Writes-then, Writes-cut}
-use Rattle.redo_report.specs.inside.Lines.{lines_of}
-use Rattle.redo_report.proofs.CandidateLineLemmas.{one-more}
+use Rattle.redo_which.specs.Lines.{lines_of}
+use Rattle.redo_report.proofs.WritingLemmas.{one-more}
 use Rattle.redo_report.proofs.lines.write_each.Goals as goal
 
 pub loop-candidate-preserved : goal.loop-candidate-preserved

@@ -1,7 +1,7 @@
 use Rattle.std.proofs.Common.{◌≡◌, ◌++◌, List, ℕ, false, take}
 use Rattle.std.specs.Io.KnownBytes.{Appends}
 use Rattle.std.specs.Iterator.Adapters.{take_count, take_source}
-use Rattle.redo_report.specs.inside.Lines.{lines_of}
+use Rattle.redo_which.specs.Lines.{lines_of}
 use Rattle.redo_report.proofs.lines.write_each.Given as goal
 
 -- the lines so far were written, and those that are left follow them

@@ -1,4 +1,4 @@
--- The lines of candidates.
+-- The lines of missing candidates.
 use Rattle.std.specs.Prelude.{ℕ, List, [], ◌∷◌, ◌++◌, flat_map}
 use Rattle.redo_which.specs.Candidates.{Place}
 

@@ -1,7 +1,7 @@
 use Rattle.std.proofs.Common.{◌≡◌, ◌++◌, take}
 use Rattle.std.specs.Iterator.Adapters.{take_count, take_source}
-use Rattle.redo_report.specs.inside.Lines.{lines_of}
-use Rattle.redo_report.proofs.lines.spelled.Given as goal
+use Rattle.redo_which.specs.Lines.{lines_of}
+use Rattle.redo_which.proofs.lines.spelled.Given as goal
 
 -- the lines so far, with those that are left, are all
 abbrev pub invariant-loop-candidate : goal.invariant-loop-candidate

@@ -1,0 +1,119 @@
+//! The lines of missing candidates, target after target.
+
+ghost use Rattle.std.specs.Prelude.{◌≡◌, ◌++◌, ◌∷◌, [], IfOk, OnErr, OnOk, flat_map, length, take};
+ghost use Rattle.redo_which.specs.Lines.{lines_of};
+
+use crate::candidate_ref::CandidateRef;
+use crate::missing::{Missing, Tail};
+use std::alloc::{AllocError, Global};
+use std::marker::Model;
+use std::mem;
+
+/// The lines of a target's missing candidates, and of the next one's. Targets that follow one another are mostly
+/// neighbours with the same suffix, as `a.o` and `b.o` of one directory, whose candidates are the same but for the
+/// first: the lines of these are kept. In a contract it is the front of its lines, and the candidates whose lines are
+/// kept.
+#[derive(Drop)]
+pub struct Lines<'a> {
+    front: &'a [u8],
+    kept: Tail<'a>,
+    text: Vec<u8>,
+}
+
+impl<'a> Model for Lines<'a> {
+    ghost use Rattle.std.specs.Prelude.{◌≡◌, List, ℕ};
+    ghost use Rattle.redo_which.specs.Candidates.{Place};
+    ghost use Rattle.redo_which.specs.Lines.{lines_of};
+
+    ghost Value = { List ℕ × List Place };
+
+    ghost view = { λ l. (l.front.now, l.kept) };
+
+    ghost invariant = { λ l. l.text.items ≡ lines_of l.front.now l.kept };
+}
+
+impl<'a> Lines<'a> {
+    /// Lines with this front; none are kept yet.
+    pub fn new(alloc: Global, front: &'a [u8]) -> Lines<'a>
+        ensures { result ≡ (front.now, []) }
+    {
+        Lines {
+            front,
+            kept: Tail::none(),
+            text: Vec::new(alloc),
+        }
+    }
+
+    /// What stands before the path in each line.
+    pub fn front(&self) -> &'a [u8]
+        ensures { result.now ≡ self.now.0 }
+    {
+        self.front
+    }
+
+    /// The lines that are kept, one behind the other.
+    pub fn text(&self) -> &[u8]
+        ensures { result.now ≡ lines_of self.now.0 self.now.1 }
+    {
+        &self.text
+    }
+
+    /// Keeps the lines of these candidates in place of those before. Nothing is done where they are seen at once to be
+    /// the same, and on want of memory none are kept.
+    pub fn keep(&mut self, rest: &Tail<'a>) -> Result<(), AllocError>
+        ensures front { self.new.0 ≡ self.old.0 }
+        ensures kept { OnOk result (self.new.1 ≡ rest.now) }
+    {
+        if rest.is_same(&self.kept) {
+            return Ok(());
+        }
+        let none = Vec::new(*self.text.allocator());
+        let text = mem::replace(&mut self.text, none);
+        self.kept = Tail::none();
+        self.text = spelled(self.front, rest, text)?;
+        self.kept = rest.again();
+        Ok(())
+    }
+
+    /// Adds the lines of all these candidates to a text, and keeps those behind the first. On want of memory a
+    /// beginning of them may have been added.
+    pub fn add(&mut self, missing: &'a Missing, text: &mut Vec<u8>) -> Result<(), AllocError>
+        ensures front { self.new.0 ≡ self.old.0 }
+        ensures ok { OnOk result (text.new.items
+            ≡ text.old.items ++ flat_map (λ path. self.old.0 ++ path ++ 10 ∷ []) missing.now) }
+        ensures err { OnErr result (take (length text.old.items) text.new.items ≡ text.old.items) }
+    {
+        let Some((first, rest)) = missing.split_first() else {
+            return Ok(());
+        };
+        self.keep(&rest)?;
+        add_line(self.front, &first, text)?;
+        text.extend_from_slice(&self.text)
+    }
+}
+
+/// The lines of candidates, in place of a text.
+fn spelled(front: &[u8], rest: &Tail<'_>, mut text: Vec<u8>) -> Result<Vec<u8>, AllocError>
+    ensures { IfOk result (λ lines. lines.items ≡ lines_of front.now rest.now) }
+{
+    text.clear();
+    for candidate in rest.candidates() {
+        add_line(front, &candidate, &mut text)?;
+    }
+    Ok(text)
+}
+
+/// Adds the line of a candidate to a text.
+fn add_line(
+    front: &[u8],
+    candidate: &CandidateRef<'_>,
+    text: &mut Vec<u8>,
+) -> Result<(), AllocError>
+    ensures ok { OnOk result (text.new.items ≡ text.old.items ++ (front.now ++ candidate.now.do_file ++ 10 ∷ [])) }
+    ensures err { OnErr result (take (length text.old.items) text.new.items ≡ text.old.items) }
+{
+    text.extend_from_slice(front)?;
+    candidate.spell(text)?;
+    text.push(b'\n')?;
+    Ok(())
+}
