@@ -3,7 +3,7 @@ use Rattle.std.proofs.Common.{◌≡◌, ◌<◌, ◌++◌, ◌∷◌, ℕ, Bool
 use Rattle.std.specs.Cmp.Lexicographic.{bytes_decides, nat_list_eq_equiv}
 use Rattle.std.specs.List.{zip}
 use Rattle.std.specs.Map.{lookup}
-use Rattle.std.specs.Prelude.{bytes_eq, is_some, IfSome, MatchOption}
+use Rattle.std.specs.Prelude.{bytes_eq, is_some, option_map, IfSome, MatchOption}
 use Rattle.std.proofs.lemmas.Option.{slice_get_within}
 use Rattle.redo_names.specs.Paths.{AreDistinct, IsAmong}
 use Rattle.redo_names.proofs.PathLemmas.{place-among}
@@ -106,3 +106,10 @@ module _ {T : Type 0} where
       let inside = slice_get_within ks n p told in
       let size = length-zip ks vs h in
       omega arith
+
+  pub told-value : (ks : List (List ℕ)) (vs : List T) (p : List ℕ) (o : Option ℕ) → length ks ≡ length vs → AreDistinct ks → MatchOption o (IsAmong ks p → ⊥) (λ n. slice_get ks n ≡ Some p) → IfSome o (λ n. option_map (λ e. e.1) (slice_get (zip ks vs) n) ≡ lookup (bytes_eq p) (zip ks vs))
+  told-value ks vs p None h d told = tt
+  told-value ks vs p (Some n) h d told =
+      let inside = slice_get_within ks n p told in
+      let value = value-at vs n (omega arith) in
+      ap (option_map (λ e. e.1)) (zip-at ks vs n p value.0 told value.1) ∙ sym (found-at ks vs n p value.0 d told value.1)

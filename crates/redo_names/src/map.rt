@@ -1,7 +1,7 @@
 //! Maps from paths.
 
 ghost use Rattle.std.specs.Prelude.{◌≡◌, ◌==◌, ◌<◌, ◌^◌, ◌++◌, ◌∷◌, [], ℕ, List, Some, None, IfOk, IfSome, OnErr, OnOk};
-ghost use Rattle.std.specs.Prelude.{is_some, length, bytes_eq, option_copied, slice_get, if◌then◌else◌};
+ghost use Rattle.std.specs.Prelude.{is_some, length, bytes_eq, option_copied, option_map, slice_get, if◌then◌else◌};
 ghost use Rattle.std.specs.List.{zip};
 ghost use Rattle.std.specs.Map.{keys_of, lookup};
 ghost use Rattle.redo_names.specs.Paths.{AreDistinct};
@@ -61,6 +61,8 @@ impl<T> PathMap<T> {
     pub fn number_by_text(&self, text: &[u8]) -> Option<usize>
         ensures found { is_some result ≡ is_some (lookup (bytes_eq text.now) self.now) }
         ensures within { IfSome result (λ n. n < length self.now) }
+        ensures value { IfSome result (λ n. option_map (λ e. e.1) (slice_get self.now n) ≡
+            lookup (bytes_eq text.now) self.now) }
     {
         self.paths.number_by_text(text)
     }
@@ -95,6 +97,7 @@ impl<T> PathMap<T> {
     pub fn each_once(&self)
         ensures { AreDistinct (keys_of self.now) }
     {
+        // A field is read so that the invariant is at hand in the proof. Nothing runs.
         let _ = &self.values;
     }
 

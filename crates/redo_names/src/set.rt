@@ -111,6 +111,7 @@ impl PathSet {
     pub fn each_once(&self)
         ensures { AreDistinct self.now }
     {
+        // A field is read so that the invariant is at hand in the proof. Nothing runs.
         let _ = &self.paths;
     }
 }

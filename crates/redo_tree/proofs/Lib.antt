@@ -1,5 +1,6 @@
 pub mod AlikeLemmas
 pub mod AmongLemmas
+mod FileDigestLemmas
 pub mod GrowLemmas
 pub mod KeptLemmas
 pub mod KeyLemmas

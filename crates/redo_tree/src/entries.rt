@@ -14,7 +14,7 @@ ghost use Rattle.redo_tree.specs.Tree.{tree_of, AreAmong, HasEntry, IsKept, file
 
 use crate::digests::{keep_digests, keep_digests_by};
 use crate::parting::{Kept, kept_of, put_named, set_of};
-use crate::{Content, TreeFault};
+use crate::{Content, FileDigests, TreeFault};
 use redo_names::{PathMap, PathSet};
 use redo_path::Path;
 use std::alloc::{AllocError, Global};
@@ -154,6 +154,13 @@ impl Tree {
             Some(Entry::File(content)) => Some(content),
             _ => None,
         }
+    }
+
+    /// The digests of its files, for where many are asked for.
+    pub fn file_digests(&self, alloc: Global) -> Result<FileDigests<'_>, AllocError>
+        ensures { IfOk result (λ digests. digests ≡ self.now) }
+    {
+        FileDigests::new(alloc, &self.entries)
     }
 
     /// Whether a file whose name begins with `default` and ends in `.do` may stand in the directory
