@@ -193,6 +193,7 @@ impl Deps {
     pub fn each_once(&self)
         ensures { AreOnce self.now }
     {
+        // A field is read so that the invariant is at hand in the proof. Nothing runs.
         let _ = &self.store;
     }
 

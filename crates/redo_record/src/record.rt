@@ -125,6 +125,7 @@ impl Record {
     pub fn each_once(&self)
         ensures { AreOnce self.now }
     {
+        // A field is read so that the invariant is at hand in the proof. Nothing runs.
         let _ = &self.own;
     }
 
