@@ -93,6 +93,15 @@ pub record IsText (text : List ℕ) (book : List Record) : Type 0 where
 abbrev pub IsWritten : List ℕ → List Record → Type 0
 IsWritten text records = text ≡ text_of (flat_map record_lines records)
 
+-- a record with more entries behind its own
+abbrev pub with_more : Record → List BookEntry → Record
+with_more r entries = record r { entries = r.entries ++ entries }
+
+-- the text goes on with entries of the record that was written last
+abbrev pub Adds : List ℕ → List ℕ → List BookEntry → Type 0
+Adds old new entries = (records : List Record) (r : Record) →
+    IsWritten old (records ++ r ∷ []) → IsWritten new (records ++ with_more r entries ∷ [])
+
 -- some book's text begins with these lines
 abbrev pub Begins : List (List ℕ) → Type 0
 Begins lines = (book : List Record) × (rest : List ℕ) × IsText (text_of lines ++ rest) book
