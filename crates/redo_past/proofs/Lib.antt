@@ -9,4 +9,4 @@ pub mod NewBookLemmas
 pub mod OrderLemmas
 pub mod PastLemmas
 pub mod RowLemmas
-pub mod StateLemmas
+pub mod WrittenLemmas

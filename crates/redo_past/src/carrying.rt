@@ -68,7 +68,7 @@ pub(crate) fn carry(
     past: &Past,
     rows: &[Row],
     records: &[BookRecord],
-    writer: &mut BookWriter,
+    writer: &mut BookWriter<'_>,
 ) -> Result<(), AllocError>
     requires { AreRows rows.now }
     ensures { OnOk result ((written : List Record) → IsWritten writer.old written →
@@ -109,7 +109,7 @@ pub(crate) fn carry_before<'a>(
     rows: &[Row],
     records: &'a [BookRecord],
     path: &Path,
-    writer: &mut BookWriter,
+    writer: &mut BookWriter<'_>,
 ) -> Result<&'a [BookRecord], AllocError>
     requires rows { AreRows rows.now }
     requires sorted { IsStrictlySortedBy (slice_cmp nat_cmp) (targets_of (map record_of records.now)) }

@@ -1,22 +1,21 @@
 //! The records of targets that were built.
 
-ghost use Rattle.std.specs.Prelude.{◌≡◌, ◌≢◌, [], IfOk, IfSome, List};
+ghost use Rattle.std.specs.Prelude.{◌≡◌, ◌≢◌, ◌++◌, ◌∷◌, [], List, OnOk, option_copied};
+ghost use Rattle.redo_path.specs.Names.{IsPath};
 ghost use Rattle.redo_tree.specs.Tree.{Tree as Entries};
-ghost use Rattle.std.specs.List.{AllByRecursion, IsDistinct};
-ghost use Rattle.redo_book.specs.Book.{IsEntry, IsRecord, record_of, same_entry};
-ghost use Rattle.redo_past.specs.NewBook.{entry_as, is_built as was_built, new_record as record_for};
-ghost use Rattle.redo_past.specs.NewBook.{noted as entries_in};
-ghost use Rattle.redo_past.specs.inside.Books.{AreRows, AreStates, is_top as is_root, leaves_record};
+ghost use Rattle.redo_record.specs.declared.deps.DepKind.TheVariants as kinds;
+ghost use Rattle.redo_record.specs.Entries.{change_of, creates};
+ghost use Rattle.redo_book.specs.Book.{IsRecord, IsWritten, Record as Written};
+ghost use Rattle.redo_past.specs.NewBook.{is_built as was_built, new_record as record_for};
+ghost use Rattle.redo_past.specs.inside.Books.{AreWritten, is_top as is_root, leaves_record};
 
-use crate::states::{built_state, state_at};
-use redo_book::{BookEntry, BookRecord};
-use redo_digest::Digest;
-use redo_names::PathMap;
+use crate::states::{States, built_state};
+use redo_book::BookWriter;
 use redo_path::Path;
 use redo_record::{Dep, DepKind, Outcome, Record};
 use redo_report::Row;
-use redo_tree::Tree;
-use std::alloc::{AllocError, Global};
+use redo_which::Missing;
+use std::alloc::AllocError;
 
 /// Whether a target was built.
 pub(crate) fn is_built(outcome: &Outcome) -> bool
@@ -27,7 +26,8 @@ pub(crate) fn is_built(outcome: &Outcome) -> bool
 
 /// Whether a path is that of the top directory.
 fn is_top(path: &Path) -> bool
-    ensures { result ≡ is_root path.now }
+    ensures top { result ≡ is_root path.now }
+    ensures path { IsPath path.now }
 {
     path.text().is_empty()
 }
@@ -39,90 +39,133 @@ pub(crate) fn has_record(row: &Row) -> bool
     is_built(&row.outcome) && !is_top(&row.path)
 }
 
-/// The entry of a book for one of a kind that is kept with the path of the top directory.
-fn entry_at_top(kind: DepKind) -> Option<BookEntry>
-    ensures value { (sources : Entries) (rows : List Row) → result ≡ entry_as sources rows kind [] }
-    ensures entry { IfSome result IsEntry }
+/// Writes the entry of a path that was depended on, with the state that it has now. A book has none about the top
+/// directory.
+fn write_change(
+    states: &mut States<'_>,
+    path: &Path,
+    writer: &mut BookWriter<'_>,
+) -> Result<(), AllocError>
+    ensures written { OnOk result (AreWritten states.old.sources states.old.rows
+        (record { kind = kinds.Change; path = path.now } ∷ []) writer.old writer.new) }
+    ensures same { states.new ≡ states.old }
 {
-    match kind {
-        DepKind::Always => Some(BookEntry::Always),
-        DepKind::Change | DepKind::Create => None,
+    if is_top(path) {
+        return Ok(());
     }
+    let state = states.state_at(path);
+    writer.add_change(&state, path)
 }
 
-/// An entry as a book has it; it has none about the top directory itself.
-fn entry_of(
-    sources: &Tree,
-    rows: &[Row],
-    states: &mut PathMap<Option<Digest>>,
+/// Writes the entry of a path that isn't to come to exist. A book has none about the top directory.
+fn write_create(path: &Path, writer: &mut BookWriter<'_>) -> Result<(), AllocError>
+    ensures { OnOk result ((sources : Entries) (rows : List Row) → AreWritten sources rows
+        (record { kind = kinds.Create; path = path.now } ∷ []) writer.old writer.new) }
+{
+    if is_top(path) {
+        return Ok(());
+    }
+    writer.add_create(path)
+}
+
+/// Writes that a target is to be made again in any case, where that is kept with the path of the top directory.
+fn write_always(path: &Path, writer: &mut BookWriter<'_>) -> Result<(), AllocError>
+    ensures { OnOk result ((sources : Entries) (rows : List Row) → AreWritten sources rows
+        (record { kind = kinds.Always; path = path.now } ∷ []) writer.old writer.new) }
+{
+    if is_top(path) {
+        return writer.add_always();
+    }
+    Ok(())
+}
+
+/// Writes an entry as a book has it.
+fn write_entry(
+    states: &mut States<'_>,
     dep: &Dep,
-) -> Result<Option<BookEntry>, AllocError>
-    requires rows { AreRows rows.now }
-    requires states { AreStates sources.now rows.now states.old }
-    ensures value { IfOk result (λ entry. entry ≡ entry_as sources.now rows.now dep.now.kind dep.now.path) }
-    ensures entry { IfOk result (λ entry. IfSome entry IsEntry) }
-    ensures states { AreStates sources.now rows.now states.new }
+    writer: &mut BookWriter<'_>,
+) -> Result<(), AllocError>
+    ensures written { OnOk result (AreWritten states.old.sources states.old.rows (dep.now ∷ [])
+        writer.old writer.new) }
+    ensures same { states.new ≡ states.old }
 {
-    if is_top(&dep.path) {
-        return Ok(entry_at_top(dep.kind));
-    }
-    let path = dep.path.clone()?;
     match dep.kind {
-        DepKind::Change => {
-            let state = state_at(sources, rows, states, &path)?;
-            Ok(Some(BookEntry::Change(state, path)))
-        }
-        DepKind::Create => Ok(Some(BookEntry::Create(path))),
-        DepKind::Always => Ok(None),
+        DepKind::Change => write_change(states, &dep.path, writer),
+        DepKind::Create => write_create(&dep.path, writer),
+        DepKind::Always => write_always(&dep.path, writer),
     }
 }
 
-/// The entries of a record as a book has them.
-fn entries_of(
-    alloc: Global,
-    sources: &Tree,
-    rows: &[Row],
-    states: &mut PathMap<Option<Digest>>,
-    deps: &Record,
-) -> Result<Vec<BookEntry>, AllocError>
-    requires rows { AreRows rows.now }
-    requires states { AreStates sources.now rows.now states.old }
-    ensures value { IfOk result (λ entries. entries.items ≡ entries_in sources.now rows.now deps.now) }
-    ensures each { IfOk result (λ entries. AllByRecursion IsEntry entries.items) }
-    ensures once { IfOk result (λ entries. IsDistinct same_entry entries.items) }
-    ensures states { AreStates sources.now rows.now states.new }
+/// Writes what a script declared, entry by entry.
+fn write_own(
+    states: &mut States<'_>,
+    own: &[Dep],
+    writer: &mut BookWriter<'_>,
+) -> Result<(), AllocError>
+    ensures written { OnOk result (AreWritten states.old.sources states.old.rows own.now writer.old writer.new) }
+    ensures same { states.new ≡ states.old }
 {
-    deps.each_once();
-    let deps = deps.entries(alloc)?;
-    let mut entries = Vec::new(alloc);
-    for dep in &deps {
-        if let Some(entry) = entry_of(sources, rows, states, dep)? {
-            entries.push(entry)?;
-        }
+    for dep in own {
+        write_entry(states, dep, writer)?;
     }
-    Ok(entries)
+    Ok(())
 }
 
-/// The record of a target that was built.
-pub(crate) fn new_record(
-    alloc: Global,
-    sources: &Tree,
-    rows: &[Row],
-    states: &mut PathMap<Option<Digest>>,
-    row: &Row,
-) -> Result<BookRecord, AllocError>
-    requires rows { AreRows rows.now }
-    requires states { AreStates sources.now rows.now states.old }
+/// Writes the entry of a .do file, if there is one.
+fn write_do_file(
+    states: &mut States<'_>,
+    do_file: Option<&Path>,
+    writer: &mut BookWriter<'_>,
+) -> Result<(), AllocError>
+    ensures written { OnOk result (AreWritten states.old.sources states.old.rows
+        (change_of (option_copied do_file.entry)) writer.old writer.new) }
+    ensures same { states.new ≡ states.old }
+{
+    match do_file {
+        Some(path) => write_change(states, path, writer),
+        None => Ok(()),
+    }
+}
+
+/// Writes the candidates that are missing.
+fn write_missing<'a>(missing: &'a Missing, writer: &mut BookWriter<'a>) -> Result<(), AllocError>
+    ensures { OnOk result ((sources : Entries) (rows : List Row) →
+        AreWritten sources rows (creates missing.now) writer.old writer.new) }
+{
+    missing.each_below();
+    writer.add_missing(missing)
+}
+
+/// Writes the entries of a record as a book has them. None of them is made for it.
+fn write_entries<'a>(
+    states: &mut States<'_>,
+    deps: &'a Record,
+    writer: &mut BookWriter<'a>,
+) -> Result<(), AllocError>
+    ensures written { OnOk result (AreWritten states.old.sources states.old.rows deps.now writer.old writer.new) }
+    ensures same { states.new ≡ states.old }
+{
+    let parts = deps.parts();
+    write_missing(parts.missing, writer)?;
+    write_do_file(states, parts.do_file, writer)?;
+    write_own(states, parts.own, writer)
+}
+
+/// Writes the record of a target that was built.
+pub(crate) fn write_record<'a>(
+    states: &mut States<'_>,
+    row: &'a Row,
+    writer: &mut BookWriter<'a>,
+) -> Result<(), AllocError>
     requires below { row.now.path ≢ [] }
-    ensures value { IfOk result (λ made. record_of made ≡ record_for sources.now rows.now row.now) }
-    ensures record { IfOk result (λ made. IsRecord (record_of made)) }
-    ensures states { AreStates sources.now rows.now states.new }
+    ensures written { OnOk result ((records : List Written) → IsWritten writer.old records →
+        IsWritten writer.new (records ++ record_for states.old.sources states.old.rows row.now ∷ [])) }
+    ensures record { OnOk result (IsRecord (record_for states.old.sources states.old.rows row.now)) }
+    ensures same { states.new ≡ states.old }
 {
-    let entries = entries_of(alloc, sources, rows, states, &row.deps)?;
+    // The target is a path, and the record's entries stand once each.
     let _path = row.path.text();
-    Ok(BookRecord {
-        target: row.path.clone()?,
-        state: built_state(&row.outcome),
-        entries,
-    })
+    row.deps.each_once();
+    writer.begin(&row.path, &built_state(&row.outcome))?;
+    write_entries(states, &row.deps, writer)
 }

@@ -8,17 +8,16 @@ ghost use Rattle.std.specs.Ordering.{nat_cmp};
 ghost use Rattle.redo_digest.specs.Digest.{IsState, state_of as state_in};
 ghost use Rattle.redo_record.specs.Answers.{file_in};
 ghost use Rattle.redo_past.specs.NewBook.{row_at, state_at as state_after};
-ghost use Rattle.redo_past.specs.inside.Books.{AreRows, AreStates};
+ghost use Rattle.redo_past.specs.inside.Books.{AreRows};
 
 use redo_digest::Digest;
-use redo_digest::laws::a_content_has_a_digest;
-use redo_names::PathMap;
 use redo_path::Path;
 use redo_record::Outcome;
 use redo_report::Row;
-use redo_tree::{Content, Tree};
-use std::alloc::AllocError;
+use redo_tree::{Content, FileDigests, Tree};
+use std::alloc::{AllocError, Global};
 use std::cmp::Ordering;
+use std::marker::Model;
 
 /// Whether a path has this state where a content stands there, or none.
 pub fn has_state(content: Option<&Content>, state: &Option<Digest>) -> bool
@@ -65,39 +64,50 @@ pub(crate) fn built_state(outcome: &Outcome) -> Option<Digest>
     }
 }
 
-/// The state of a path when the run ends.
-fn state_now(sources: &Tree, rows: &[Row], path: &Path) -> Option<Digest>
-    requires { AreRows rows.now }
-    ensures value { result ≡ state_after sources.now rows.now path.now }
-    ensures state { IsState result }
-{
-    if let Some(content) = sources.content(path) {
-        return Some(content.digest());
-    }
-    match find_row(rows, path) {
-        Some(row) => built_state(&row.outcome),
-        None => None,
-    }
+/// What stands at each path when a run ends: the sources, and what was built by the rows, which stand in path order.
+/// No source is digested twice. In a contract it is the sources and the rows.
+#[derive(Drop)]
+pub(crate) struct States<'a> {
+    sources: FileDigests<'a>,
+    rows: &'a [Row],
 }
 
-/// The state of a path when the run ends, which is looked up and digested once.
-pub(crate) fn state_at(
-    sources: &Tree,
-    rows: &[Row],
-    states: &mut PathMap<Option<Digest>>,
-    path: &Path,
-) -> Result<Option<Digest>, AllocError>
-    requires rows { AreRows rows.now }
-    requires states { AreStates sources.now rows.now states.old }
-    ensures value { IfOk result (λ state. state ≡ state_after sources.now rows.now path.now) }
-    ensures state { IfOk result IsState }
-    ensures states { AreStates sources.now rows.now states.new }
-{
-    a_content_has_a_digest();
-    if let Some(state) = states.get(path).copied() {
-        return Ok(state);
+impl<'a> Model for States<'a> {
+    ghost use Rattle.redo_past.specs.inside.Books.{AreRows, StatesView};
+
+    ghost Value = { StatesView };
+
+    ghost view = { λ s. record { sources = s.sources; rows = s.rows.now } };
+
+    ghost invariant = { λ s. AreRows s.rows.now };
+}
+
+impl<'a> States<'a> {
+    /// Those of these sources and rows.
+    pub(crate) fn new(
+        alloc: Global,
+        sources: &'a Tree,
+        rows: &'a [Row],
+    ) -> Result<States<'a>, AllocError>
+        requires { AreRows rows.now }
+        ensures { IfOk result (λ states. states ≡ record { sources = sources.now; rows = rows.now }) }
+    {
+        let sources = sources.file_digests(alloc)?;
+        Ok(States { sources, rows })
     }
-    let state = state_now(sources, rows, path);
-    states.insert(path.clone()?, state)?;
-    Ok(state)
+
+    /// The state of a path.
+    pub(crate) fn state_at(&mut self, path: &Path) -> Option<Digest>
+        ensures value { result ≡ state_after self.old.sources self.old.rows path.now }
+        ensures state { IsState result }
+        ensures same { self.new ≡ self.old }
+    {
+        if let Some(state) = self.sources.state_at(path) {
+            return Some(state);
+        }
+        match find_row(self.rows, path) {
+            Some(row) => built_state(&row.outcome),
+            None => None,
+        }
+    }
 }

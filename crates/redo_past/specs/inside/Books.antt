@@ -1,26 +1,31 @@
 -- What the new book is made of.
-use Rattle.std.specs.Prelude.{◌≡◌, Bool, true, false, not, ◌&&◌, List, [], ◌∷◌, ◌++◌, ℕ, Option, Some, None}
-use Rattle.std.specs.Prelude.{if◌then◌else◌, filter, filter_map, is_some, map, bytes_eq}
+use Rattle.std.specs.Prelude.{Bool, true, false, not, ◌&&◌, List, [], ◌∷◌, ◌++◌, ℕ, Option, Some, None}
+use Rattle.std.specs.Prelude.{if◌then◌else◌, filter, filter_map, is_some, map}
 use Rattle.std.specs.Cmp.Lexicographic.{slice_cmp}
-use Rattle.std.specs.Map.{lookup}
+use Rattle.std.specs.List.{AllByRecursion}
 use Rattle.std.specs.Ordering.{is_lt, nat_cmp}
-use Rattle.redo_digest.specs.Digest.{State}
 use Rattle.redo_tree.specs.Tree.{Tree, file_at}
 use Rattle.redo_which.specs.Rule.{found_of, is_rule}
-use Rattle.redo_book.specs.Book.{Record}
+use Rattle.redo_record.specs.declared.deps.Dep.{Dep}
+use Rattle.redo_book.specs.Book.{Adds, IsEntry, Record}
 use Rattle.redo_report.specs.Reports.{AreAscending}
 use Rattle.redo_report.specs.declared.report.Row.{Row}
-use Rattle.redo_past.specs.NewBook.{is_built, new_record, row_at, state_at}
+use Rattle.redo_past.specs.NewBook.{is_built, new_record, noted, row_at}
 use Rattle.redo_past.specs.Past.{PastView}
 
 -- rows in path order
 abbrev pub AreRows : List Row → Type 0
 AreRows rows = AreAscending (map (λ row. row.path) rows)
 
--- each state that is kept is that of its path
-abbrev pub AreStates : Tree → List Row → List (List ℕ × State) → Type 0
-AreStates sources rows states =
-    (path : List ℕ) (state : State) → lookup (bytes_eq path) states ≡ Some state → state ≡ state_at sources rows path
+-- the sources, and the rows of a run
+pub record StatesView : Type 0 where
+  pub sources : Tree
+  pub rows : List Row
+
+-- a book's text goes on with these entries of a record, each of which may stand in one
+pub record AreWritten (sources : Tree) (rows : List Row) (deps : List Dep) (old new : List ℕ) : Type 0 where
+  pub adds : Adds old new (noted sources rows deps)
+  pub each : AllByRecursion IsEntry (noted sources rows deps)
 
 abbrev pub is_top : List ℕ → Bool
 is_top [] = true

@@ -1,19 +1,17 @@
-use Rattle.std.proofs.Common.{◌≡◌, ◌<◌, ◌+◌, ◌∙◌, ◌++◌, ◌∷◌, ℕ, [], true, false, List, Option, Some, None, ap, arith, drop}
-use Rattle.std.proofs.Common.{filter, if◌then◌else◌, length, map, rules, subst, sym}
+use Rattle.std.proofs.Common.{◌≡◌, ◌<◌, ◌+◌, ◌∙◌, ◌++◌, ◌∷◌, [], true, false, Option, Some, None, ap, arith, drop}
+use Rattle.std.proofs.Common.{filter, if◌then◌else◌, length, map, subst, sym}
 use Rattle.std.proofs.lemmas.List.{drop_all}
 use Rattle.std.specs.List.{AllByRecursion, cons_option}
 use Rattle.std.specs.Prelude.{filter_map}
-use Rattle.redo_digest.specs.Digest.{State}
-use Rattle.redo_tree.specs.Tree.{Tree}
 use Rattle.redo_book.specs.Book.{IsBook, IsRecord, IsWritten, Record, record_of}
 use Rattle.redo_report.specs.declared.report.Row.{Row}
 use Rattle.redo_past.specs.NewBook.{new_record}
-use Rattle.redo_past.specs.inside.Books.{AreStates, carries, is_before, is_behind, joined, leaves_record, new_records}
+use Rattle.redo_past.specs.inside.Books.{StatesView, carries, is_before, is_behind, joined, leaves_record, new_records}
 use Rattle.redo_past.specs.inside.Books.{record_if_built}
 use Rattle.redo_past.proofs.JoinLemmas.{join-end, join-step, kept-book, last-records, step-records}
 use Rattle.redo_past.proofs.LoopLemmas.{if-so, left-more}
 use Rattle.redo_past.proofs.joining.joined_text.Goals as goal
-use Rattle.redo_past.proofs.joining.joined_text.Goals.{then-has_record+in_ok-left+in_ok-made+in_ok-write, else-has_record}
+use Rattle.redo_past.proofs.joining.joined_text.Goals.{then-has_record+in_ok-left+in_ok-write_record, else-has_record}
 
 pub loop-row-preserved : goal.loop-row-preserved
 loop-row-preserved c =
@@ -32,13 +30,12 @@ loop-row-preserved c =
     let is : IsWritten c.loop-row.writer done = c.loop-row.invariant.written.1 in
     let each : AllByRecursion IsRecord done = c.loop-row.invariant.written.2 in
     let was : done ++ joined keeps (filter_map f (drop i rows)) old ≡ new_records past rows = c.loop-row.invariant.written.3 in
-    let S : List (List ℕ × State) → Type 0 = AreStates past.sources rows in
+    let states = c.loop-row.invariant.states in
     elim c.if-has_record.branch [
-      | then-has_record+in_ok-left+in_ok-made+in_ok-write w ↦
+      | then-has_record+in_ok-left+in_ok-write_record w ↦
           let told : leaves_record x ≡ true = sym c.has_record.ensures ∙ w.if-has_record.true in
-          let sources : w.deref.result.now ≡ past.sources = search rules in
-          let made : record_of w.in_ok-made.made ≡ r = w.in_ok-made.ensures.value ∙ ap (λ (t : Tree). new_record t rows x) sources in
-          let record-is : IsRecord r = subst IsRecord made w.in_ok-made.ensures.record in
+          let made : new_record c.loop-row.states.sources c.loop-row.states.rows x ≡ r = ap (λ (s : StatesView). new_record s.sources s.rows x) states in
+          let record-is : IsRecord r = subst IsRecord made w.in_ok-write_record.ensures.«record» in
           let split : filter_map f (drop i rows) ≡ r ∷ rest =
           step ∙ ap (λ b. cons_option (if b then Some r else None) rest) told in
           let behind : map record_of w.in_ok-left.left.now ≡ filter (is_behind x.path) old = w.in_ok-left.ensures.left in
@@ -46,10 +43,10 @@ loop-row-preserved c =
           let front = filter keeps (filter (is_before x.path) old) in
           let text : IsWritten c.if-has_record.writer ((done ++ front) ++ r ∷ []) =
           subst (λ t. IsWritten t ((done ++ front) ++ r ∷ [])) (sym w.writer-is)
-          (subst (λ q. IsWritten w.write.new.self ((done ++ front) ++ q ∷ [])) made (w.in_ok-write.ensures.ok (done ++ front) (w.in_ok-left.ensures.written done is))) in
+          (subst (λ q. IsWritten w.write_record.new.writer ((done ++ front) ++ q ∷ [])) made (w.in_ok-write_record.ensures.written (done ++ front) (w.in_ok-left.ensures.written done is))) in
           record {
             left = subst IsBook (sym left) (kept-book (is_behind x.path) old c.loop-row.invariant.left);
-            states = subst S (sym w.states-is) (subst (λ (t : Tree). AreStates t rows w.new_record.new.states) sources w.in_ok-made.ensures.states);
+            states = w.states-is ∙ w.in_ok-write_record.ensures.same ∙ states;
             written = (
               (done ++ front) ++ r ∷ [],
               text,
@@ -63,7 +60,7 @@ loop-row-preserved c =
           let left : map record_of c.if-has_record.left.now ≡ old = ap (λ l. map record_of l.now) w.left-is in
           record {
             left = subst IsBook (sym left) c.loop-row.invariant.left;
-            states = subst S (sym w.states-is) c.loop-row.invariant.states;
+            states = w.states-is ∙ states;
             written = (
               done,
               subst (λ t. IsWritten t done) (sym w.writer-is) is,
