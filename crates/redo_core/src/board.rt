@@ -18,9 +18,8 @@ ghost use Rattle.redo_build.specs.Theorems.{IsPartOfBuild, ShowsBuild};
 use crate::build::Build;
 use crate::finish::report_of;
 use crate::given::Given;
-use crate::moves::{first_table, look_ahead, move_on};
 use crate::opening::OpenFault;
-use crate::table::{Stage, Table, out_at};
+use crate::table::{Stage, Table};
 use crate::work::{Piece, Work};
 use redo_past::Past;
 use redo_path::Path;
@@ -153,8 +152,8 @@ impl Board {
         past.is_past();
         let given = Given::new(alloc, past, request, limits)?;
         let build = Build::new(alloc, given)?;
-        let mut table = first_table(alloc, &build)?;
-        look_ahead(&mut table, alloc, &build)?;
+        let mut table = Table::open(alloc, &build)?;
+        table.look_ahead(&build)?;
         Ok(Board {
             alloc,
             build,
@@ -235,16 +234,11 @@ impl Board {
         if let Some(stop) = self.stopped {
             return Err(HandFault::from(stop));
         }
-        let Some(at) = out_at(&self.table, piece.number(), piece.target(), piece.turn()) else {
+        let turn = piece.turn();
+        let Some(at) = self.table.out_at(piece.number(), piece.target(), turn) else {
             return Err(HandFault::Stranger(piece));
         };
-        match move_on(
-            &mut self.table,
-            self.alloc,
-            at,
-            piece.into_end(),
-            &self.build,
-        ) {
+        match self.table.move_on(at, piece.into_end(), &self.build) {
             Ok(()) => Ok(()),
             Err(stop) => {
                 self.stopped = Some(stop);

@@ -15,9 +15,7 @@ ghost use Rattle.redo_core.specs.inside.Checking.{asks_next};
 use crate::board::Stop;
 use crate::build::Build;
 use crate::fact::Fact;
-use crate::table::{
-    Awaiting, InCheck, Table, await_answer, decide, enter, is_operand, park, settle, take_out,
-};
+use crate::table::{Awaiting, InCheck, Table, is_operand};
 use crate::work::{Begun, End};
 use redo_names::PathSet;
 use redo_path::Path;
@@ -26,64 +24,262 @@ use std::alloc::{AllocError, Global};
 use std::collections::{BTreeSet, VecDeque};
 use std::sync::Arc;
 
-/// Enters what some entries of a record wait for, as far as it is new, and gives the numbers.
-pub(crate) fn enter_all(
-    table: &mut Table,
-    alloc: Global,
-    deps: &[Dep],
-    build: &Build,
-    newly_ready: &mut Vec<u32>,
-) -> Result<Vec<u32>, Stop>
-    requires table { IsTableOf build.now table.old newly_ready.old.items }
-    ensures ok { OnOk result (AreEnteredInto build.now table.old table.new newly_ready.new.items
-        (operands (rules_for build.now) deps.now)) }
-    ensures numbers { IfOk result (λ ns. AreNumbers table.new.targets ns.items
-        (operands (rules_for build.now) deps.now)) }
-    ensures too_many { result ≡ Err Stop.TooMany →
-        AreTooMany (rules_for build.now) build.now.limits.targets
-        (table_entries (rules_for build.now) build.now.limits.targets table.old)
-        (operands (rules_for build.now) deps.now) }
-{
-    let mut numbers = Vec::with_capacity(alloc, deps.len())?;
-    for dep in deps {
-        if is_operand(build, dep) {
-            let at = enter(table, alloc, &dep.path, build, newly_ready)?;
-            numbers.push(at)?;
+impl Table {
+    /// The table at the opening.
+    pub(crate) fn open(alloc: Global, build: &Build) -> Result<Table, Stop>
+        ensures ok { IfOk result (IsFirstTable build.now) }
+        ensures too_many { result ≡ Err Stop.TooMany →
+            build.now.limits.targets < length (opening (rules_for build.now) build.now.request).entries }
+    {
+        let most = build.given().limits().targets();
+        prove!(most <= 65_536);
+        let mut table = Table {
+            targets: PathSet::new(alloc),
+            slots: Vec::new(alloc),
+            ready: VecDeque::new(alloc),
+            due: BTreeSet::new(alloc),
+            out: 0,
+        };
+        let mut newly_ready = Vec::new(alloc);
+        let request = build.given().request();
+        table.enter_requested(request, build, &mut newly_ready)?;
+        table.enqueue(newly_ready)?;
+        Ok(table)
+    }
+
+    /// Enters what some entries of a record wait for, as far as it is new, and gives the numbers.
+    fn enter_all(
+        &mut self,
+        deps: &[Dep],
+        build: &Build,
+        newly_ready: &mut Vec<u32>,
+    ) -> Result<Vec<u32>, Stop>
+        requires table { IsTableOf build.now self.old newly_ready.old.items }
+        ensures ok { OnOk result (AreEnteredInto build.now self.old self.new newly_ready.new.items
+            (operands (rules_for build.now) deps.now)) }
+        ensures numbers { IfOk result (λ ns. AreNumbers self.new.targets ns.items
+            (operands (rules_for build.now) deps.now)) }
+        ensures too_many { result ≡ Err Stop.TooMany →
+            AreTooMany (rules_for build.now) build.now.limits.targets
+            (table_entries (rules_for build.now) build.now.limits.targets self.old)
+            (operands (rules_for build.now) deps.now) }
+    {
+        let mut numbers = Vec::with_capacity(self.allocator(), deps.len())?;
+        for dep in deps {
+            if is_operand(build, dep) {
+                let at = self.enter(&dep.path, build, newly_ready)?;
+                numbers.push(at)?;
+            }
         }
+        Ok(numbers)
     }
-    Ok(numbers)
-}
 
-/// Looks again at some numbers.
-pub(crate) fn settle_all(
-    table: &mut Table,
-    alloc: Global,
-    pending: &[u32],
-    build: &Build,
-    newly_ready: &mut Vec<u32>,
-) -> Result<(), AllocError>
-    requires within { (k : ℕ) → IsPlace pending.now k → k < length table.old.slots.items }
-    requires table { IsTableOf build.now table.old newly_ready.old.items }
-    requires standing { IsStandingTable build.now table.old }
-    ensures table { OnOk result (IsTableOf build.now table.new newly_ready.new.items) }
-    ensures looked { OnOk result (AreLookedAt build.now table.old table.new pending.now) }
-{
-    for at in pending {
-        settle(table, alloc, *at, build, newly_ready)?;
+    /// Looks again at some numbers.
+    fn settle_all(
+        &mut self,
+        pending: &[u32],
+        build: &Build,
+        newly_ready: &mut Vec<u32>,
+    ) -> Result<(), AllocError>
+        requires within { (k : ℕ) → IsPlace pending.now k → k < length self.old.slots.items }
+        requires table { IsTableOf build.now self.old newly_ready.old.items }
+        requires standing { IsStandingTable build.now self.old }
+        ensures table { OnOk result (IsTableOf build.now self.new newly_ready.new.items) }
+        ensures looked { OnOk result (AreLookedAt build.now self.old self.new pending.now) }
+    {
+        for at in pending {
+            self.settle(*at, build, newly_ready)?;
+        }
+        Ok(())
     }
-    Ok(())
-}
 
-/// Puts the numbers that are newly ready into the queue, in order of first sight.
-pub(crate) fn enqueue(table: &mut Table, mut newly_ready: Vec<u32>) -> Result<(), AllocError>
-    ensures { OnOk result (AreEnqueued table.old table.new newly_ready.items) }
-{
-    newly_ready.sort_unstable();
-    let ready = &mut table.ready;
-    for at in &newly_ready {
-        ready.push_back(*at)?;
+    /// Puts the numbers that are newly ready into the queue, in order of first sight.
+    fn enqueue(&mut self, mut newly_ready: Vec<u32>) -> Result<(), AllocError>
+        ensures { OnOk result (AreEnqueued self.old self.new newly_ready.items) }
+    {
+        newly_ready.sort_unstable();
+        let ready = &mut self.ready;
+        for at in &newly_ready {
+            ready.push_back(*at)?;
+        }
+        Ok(())
     }
-    Ok(())
+
+    /// Notes the fact that a target which was out comes to, and looks again at what watches it.
+    fn conclude(
+        &mut self,
+        at: usize,
+        fact: Fact,
+        build: &Build,
+        newly_ready: &mut Vec<u32>,
+    ) -> Result<(), AllocError>
+        requires may { MayConclude build.now self.old at fact }
+        requires none_newly_ready { newly_ready.old.items ≡ [] }
+        ensures { OnOk result (IsConcludedAt build.now self.old self.new at fact newly_ready.new.items) }
+    {
+        let known = build.publish(at, fact)?;
+        let watchers = self.decide(at, known);
+        self.settle_all(&watchers, build, newly_ready)
+    }
+
+    /// Parks a job that was out and stopped, with what it asks for entered, and looks at it.
+    fn suspend(
+        &mut self,
+        at: usize,
+        begun: Box<Begun>,
+        build: &Build,
+        newly_ready: &mut Vec<u32>,
+    ) -> Result<(), Stop>
+        requires may { MayTakeIn build.now self.old at (End.Stopped begun) }
+        requires none_newly_ready { newly_ready.old.items ≡ [] }
+        ensures ok { OnOk result (IsPutBackThere build.now (state_after build.now Script self.old at) self.old self.new
+            newly_ready.new.items []) }
+        ensures too_many { result ≡ Err Stop.TooMany →
+            build.now.limits.targets < length (state_after build.now Script self.old at).entries }
+    {
+        let operands = self.enter_all(asked(&begun), build, newly_ready)?;
+        self.park(at, begun, operands);
+        self.settle(at as u32, build, newly_ready)?;
+        Ok(())
+    }
+
+    /// Takes in what a job that was out came to.
+    fn take_in(&mut self, at: usize, end: End, build: &Build) -> Result<(), Stop>
+        requires { MayTakeIn build.now self.old at end }
+        ensures ok { OnOk result (IsTakenIn build.now (state_after build.now Script self.old at) self.new) }
+        ensures too_many { result ≡ Err Stop.TooMany →
+            build.now.limits.targets < length (state_after build.now Script self.old at).entries }
+    {
+        let mut newly_ready = Vec::new(self.allocator());
+        match end {
+            End::Ended(fact, _asked) => self.conclude(at, fact, build, &mut newly_ready)?,
+            End::Stopped(begun) => self.suspend(at, begun, build, &mut newly_ready)?,
+        }
+        self.enqueue(newly_ready)?;
+        Ok(())
+    }
+
+    /// Enters the requested paths that are no sources.
+    fn enter_requested(
+        &mut self,
+        request: &[Path],
+        build: &Build,
+        newly_ready: &mut Vec<u32>,
+    ) -> Result<(), Stop>
+        requires table { IsTableOf build.now self.old newly_ready.old.items }
+        ensures ok { OnOk result (AreEnteredInto build.now self.old self.new newly_ready.new.items
+            (targets_in (rules_for build.now) request.now)) }
+        ensures too_many { result ≡ Err Stop.TooMany →
+            AreTooMany (rules_for build.now) build.now.limits.targets
+            (table_entries (rules_for build.now) build.now.limits.targets self.old)
+            (targets_in (rules_for build.now) request.now) }
+    {
+        for path in request {
+            if build.given().is_target(path) {
+                self.enter(path, build, newly_ready)?;
+            }
+        }
+        Ok(())
+    }
+
+    /// Keeps a target all of whose recorded entries stand, as the last run left it.
+    fn keep(
+        &mut self,
+        at: usize,
+        held: Box<InCheck>,
+        build: &Build,
+        newly_ready: &mut Vec<u32>,
+    ) -> Result<(), AllocError>
+        requires may { MayLook build.now self.old at held }
+        requires stands { asks_next build.now held.value.check ≡ None }
+        requires none_newly_ready { newly_ready.old.items ≡ [] }
+        ensures { OnOk result (IsPutBackThere build.now (state_after build.now Check self.old at) self.old self.new
+            newly_ready.new.items []) }
+    {
+        let alloc = self.allocator();
+        let (outcome, deps) = held.check.kept(alloc, build.given())?;
+        let own = build.share()?;
+        let target = self.targets.at(at).clone()?;
+        let fact = Fact::of(own, target, outcome, Arc::new(alloc, deps)?, false);
+        self.conclude(at, fact, build, newly_ready)
+    }
+
+    /// Lets a check ask for the next path, which is entered, and looks at it.
+    fn ask(
+        &mut self,
+        at: usize,
+        mut held: Box<InCheck>,
+        path: Path,
+        build: &Build,
+        newly_ready: &mut Vec<u32>,
+    ) -> Result<(), Stop>
+        requires may { MayLook build.now self.old at held }
+        requires asks { asks_next build.now held.value.check ≡ Some path }
+        requires none_newly_ready { newly_ready.old.items ≡ [] }
+        ensures ok { OnOk result (IsPutBackThere build.now (state_after build.now Check self.old at) self.old self.new
+            newly_ready.new.items []) }
+        ensures too_many { result ≡ Err Stop.TooMany →
+            build.now.limits.targets < length (state_after build.now Check self.old at).entries }
+    {
+        let place = self.enter(&path, build, newly_ready)?;
+        held.check.ask(&path)?;
+        self.await_answer(
+            at,
+            Awaiting {
+                held,
+                path,
+                at: place,
+            },
+        );
+        self.settle(at as u32, build, newly_ready)?;
+        Ok(())
+    }
+
+    /// Looks at the check of a target, the first by first sight that can go on: the target is kept, or its check asks
+    /// for the next path.
+    fn look(&mut self, at: usize, build: &Build) -> Result<(), Stop>
+        requires { IsDrawn build.now self.old at }
+        ensures ok { OnOk result (IsLookedOnce build.now self.old self.new) }
+        ensures too_many { result ≡ Err Stop.TooMany → IsTooMany (rules_for build.now) build.now.request
+            build.now.limits.targets }
+    {
+        let mut newly_ready = Vec::new(self.allocator());
+        let held = self.take_out(at);
+        match held.check.next(build.given()) {
+            Some(path) => {
+                let path = path.clone()?;
+                self.ask(at, held, path, build, &mut newly_ready)?;
+            }
+            None => self.keep(at, held, build, &mut newly_ready)?,
+        }
+        self.enqueue(newly_ready)?;
+        Ok(())
+    }
+
+    /// Looks at checks until none can go on.
+    pub(crate) fn look_ahead(&mut self, build: &Build) -> Result<(), Stop>
+        requires { IsAtRest build.now self.old }
+        ensures ok { OnOk result (IsLookedOn build.now self.old self.new) }
+        ensures none_due { OnOk result (self.new.due.keys ≡ []) }
+        ensures too_many { result ≡ Err Stop.TooMany → IsTooMany (rules_for build.now) build.now.request
+            build.now.limits.targets }
+    {
+        while let Some(at) = self.due.pop_first() {
+            self.look(at as usize, build)?;
+        }
+        Ok(())
+    }
+
+    /// Takes in what a job that was out came to, and looks at checks until none can go on.
+    pub(crate) fn move_on(&mut self, at: usize, end: End, build: &Build) -> Result<(), Stop>
+        requires { MayTakeIn build.now self.old at end }
+        ensures ok { OnOk result (IsMovedOn build.now (state_after build.now Script self.old at) self.new) }
+        ensures too_many { result ≡ Err Stop.TooMany → IsTooMany (rules_for build.now) build.now.request
+            build.now.limits.targets }
+    {
+        self.take_in(at, end, build)?;
+        self.look_ahead(build)
+    }
 }
 
 /// The entries that a script declared since its facts were gathered.
@@ -92,219 +288,4 @@ fn asked(begun: &Begun) -> &[Dep]
     ensures { result.now ≡ drop begun.now.facts.gained begun.now.job.state.entries }
 {
     &begun.job.declared().as_slice()[begun.facts.gained..]
-}
-
-/// Notes the fact that a target which was out comes to, and looks again at what watches it.
-fn conclude(
-    table: &mut Table,
-    alloc: Global,
-    at: usize,
-    fact: Fact,
-    build: &Build,
-    newly_ready: &mut Vec<u32>,
-) -> Result<(), AllocError>
-    requires may { MayConclude build.now table.old at fact }
-    requires none_newly_ready { newly_ready.old.items ≡ [] }
-    ensures { OnOk result (IsConcludedAt build.now table.old table.new at fact newly_ready.new.items) }
-{
-    let known = build.publish(at, fact)?;
-    let watchers = decide(table, alloc, at, known);
-    settle_all(table, alloc, &watchers, build, newly_ready)
-}
-
-/// Parks a job that was out and stopped, with what it asks for entered, and looks at it.
-fn suspend(
-    table: &mut Table,
-    alloc: Global,
-    at: usize,
-    begun: Box<Begun>,
-    build: &Build,
-    newly_ready: &mut Vec<u32>,
-) -> Result<(), Stop>
-    requires may { MayTakeIn build.now table.old at (End.Stopped begun) }
-    requires none_newly_ready { newly_ready.old.items ≡ [] }
-    ensures ok { OnOk result (IsPutBackThere build.now (state_after build.now Script table.old at) table.old table.new
-        newly_ready.new.items []) }
-    ensures too_many { result ≡ Err Stop.TooMany →
-        build.now.limits.targets < length (state_after build.now Script table.old at).entries }
-{
-    let operands = enter_all(table, alloc, asked(&begun), build, newly_ready)?;
-    park(table, at, begun, operands);
-    settle(table, alloc, at as u32, build, newly_ready)?;
-    Ok(())
-}
-
-/// Takes in what a job that was out came to.
-pub(crate) fn take_in(
-    table: &mut Table,
-    alloc: Global,
-    at: usize,
-    end: End,
-    build: &Build,
-) -> Result<(), Stop>
-    requires { MayTakeIn build.now table.old at end }
-    ensures ok { OnOk result (IsTakenIn build.now (state_after build.now Script table.old at) table.new) }
-    ensures too_many { result ≡ Err Stop.TooMany →
-        build.now.limits.targets < length (state_after build.now Script table.old at).entries }
-{
-    let mut newly_ready = Vec::new(alloc);
-    match end {
-        End::Ended(fact, _asked) => conclude(table, alloc, at, fact, build, &mut newly_ready)?,
-        End::Stopped(begun) => suspend(table, alloc, at, begun, build, &mut newly_ready)?,
-    }
-    enqueue(table, newly_ready)?;
-    Ok(())
-}
-
-/// Enters the requested paths that are no sources.
-fn enter_requested(
-    table: &mut Table,
-    alloc: Global,
-    request: &[Path],
-    build: &Build,
-    newly_ready: &mut Vec<u32>,
-) -> Result<(), Stop>
-    requires table { IsTableOf build.now table.old newly_ready.old.items }
-    ensures ok { OnOk result (AreEnteredInto build.now table.old table.new newly_ready.new.items
-        (targets_in (rules_for build.now) request.now)) }
-    ensures too_many { result ≡ Err Stop.TooMany →
-        AreTooMany (rules_for build.now) build.now.limits.targets
-        (table_entries (rules_for build.now) build.now.limits.targets table.old)
-        (targets_in (rules_for build.now) request.now) }
-{
-    for path in request {
-        if build.given().is_target(path) {
-            enter(table, alloc, path, build, newly_ready)?;
-        }
-    }
-    Ok(())
-}
-
-/// The table at the opening.
-pub(crate) fn first_table(alloc: Global, build: &Build) -> Result<Table, Stop>
-    ensures ok { IfOk result (IsFirstTable build.now) }
-    ensures too_many { result ≡ Err Stop.TooMany →
-        build.now.limits.targets < length (opening (rules_for build.now) build.now.request).entries }
-{
-    let most = build.given().limits().targets();
-    prove!(most <= 65_536);
-    let mut table = Table {
-        targets: PathSet::new(alloc),
-        slots: Vec::new(alloc),
-        ready: VecDeque::new(alloc),
-        due: BTreeSet::new(alloc),
-        out: 0,
-    };
-    let mut newly_ready = Vec::new(alloc);
-    let request = build.given().request();
-    enter_requested(&mut table, alloc, request, build, &mut newly_ready)?;
-    enqueue(&mut table, newly_ready)?;
-    Ok(table)
-}
-
-/// Keeps a target all of whose recorded entries stand, as the last run left it.
-fn keep(
-    table: &mut Table,
-    alloc: Global,
-    at: usize,
-    held: Box<InCheck>,
-    build: &Build,
-    newly_ready: &mut Vec<u32>,
-) -> Result<(), AllocError>
-    requires may { MayLook build.now table.old at held }
-    requires stands { asks_next build.now held.value.check ≡ None }
-    requires none_newly_ready { newly_ready.old.items ≡ [] }
-    ensures { OnOk result (IsPutBackThere build.now (state_after build.now Check table.old at) table.old table.new
-        newly_ready.new.items []) }
-{
-    let (outcome, deps) = held.check.kept(alloc, build.given())?;
-    let own = build.share()?;
-    let target = table.targets.at(at).clone()?;
-    let fact = Fact::of(own, target, outcome, Arc::new(alloc, deps)?, false);
-    conclude(table, alloc, at, fact, build, newly_ready)
-}
-
-/// Lets a check ask for the next path, which is entered, and looks at it.
-fn ask(
-    table: &mut Table,
-    alloc: Global,
-    at: usize,
-    mut held: Box<InCheck>,
-    path: Path,
-    build: &Build,
-    newly_ready: &mut Vec<u32>,
-) -> Result<(), Stop>
-    requires may { MayLook build.now table.old at held }
-    requires asks { asks_next build.now held.value.check ≡ Some path }
-    requires none_newly_ready { newly_ready.old.items ≡ [] }
-    ensures ok { OnOk result (IsPutBackThere build.now (state_after build.now Check table.old at) table.old table.new
-        newly_ready.new.items []) }
-    ensures too_many { result ≡ Err Stop.TooMany →
-        build.now.limits.targets < length (state_after build.now Check table.old at).entries }
-{
-    let place = enter(table, alloc, &path, build, newly_ready)?;
-    held.check.ask(&path)?;
-    await_answer(
-        table,
-        at,
-        Awaiting {
-            held,
-            path,
-            at: place,
-        },
-    );
-    settle(table, alloc, at as u32, build, newly_ready)?;
-    Ok(())
-}
-
-/// Looks at the check of a target, the first by first sight that can go on: the target is kept, or its check asks for the
-/// next path.
-fn look(table: &mut Table, alloc: Global, at: usize, build: &Build) -> Result<(), Stop>
-    requires { IsDrawn build.now table.old at }
-    ensures ok { OnOk result (IsLookedOnce build.now table.old table.new) }
-    ensures too_many { result ≡ Err Stop.TooMany → IsTooMany (rules_for build.now) build.now.request
-        build.now.limits.targets }
-{
-    let mut newly_ready = Vec::new(alloc);
-    let held = take_out(table, at);
-    match held.check.next(build.given()) {
-        Some(path) => {
-            let path = path.clone()?;
-            ask(table, alloc, at, held, path, build, &mut newly_ready)?;
-        }
-        None => keep(table, alloc, at, held, build, &mut newly_ready)?,
-    }
-    enqueue(table, newly_ready)?;
-    Ok(())
-}
-
-/// Looks at checks until none can go on.
-pub(crate) fn look_ahead(table: &mut Table, alloc: Global, build: &Build) -> Result<(), Stop>
-    requires { IsAtRest build.now table.old }
-    ensures ok { OnOk result (IsLookedOn build.now table.old table.new) }
-    ensures none_due { OnOk result (table.new.due.keys ≡ []) }
-    ensures too_many { result ≡ Err Stop.TooMany → IsTooMany (rules_for build.now) build.now.request
-        build.now.limits.targets }
-{
-    while let Some(at) = table.due.pop_first() {
-        look(table, alloc, at as usize, build)?;
-    }
-    Ok(())
-}
-
-/// Takes in what a job that was out came to, and looks at checks until none can go on.
-pub(crate) fn move_on(
-    table: &mut Table,
-    alloc: Global,
-    at: usize,
-    end: End,
-    build: &Build,
-) -> Result<(), Stop>
-    requires { MayTakeIn build.now table.old at end }
-    ensures ok { OnOk result (IsMovedOn build.now (state_after build.now Script table.old at) table.new) }
-    ensures too_many { result ≡ Err Stop.TooMany → IsTooMany (rules_for build.now) build.now.request
-        build.now.limits.targets }
-{
-    take_in(table, alloc, at, end, build)?;
-    look_ahead(table, alloc, build)
 }

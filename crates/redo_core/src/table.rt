@@ -89,47 +89,44 @@ pub struct Table {
     pub out: usize,
 }
 
+impl Slot {
+    /// Whether the target is decided.
+    pub(crate) fn is_decided(&self) -> bool
+        ensures { result ≡ is_stage_decided self.now.stage }
+    {
+        matches!(self.stage, Stage::Decided(_))
+    }
+}
+
+impl Stage {
+    /// Whether a target may be taken.
+    pub(crate) fn is_ready(&self) -> bool
+        ensures { result ≡ is_stage_ready self.now }
+    {
+        matches!(self, Stage::Ready(_))
+    }
+
+    /// Whether the check of a target can go on.
+    pub(crate) fn is_due(&self) -> bool
+        ensures { result ≡ is_stage_due self.now }
+    {
+        matches!(self, Stage::Due(_))
+    }
+
+    /// Whether the job of a target is out.
+    fn is_out(&self) -> bool
+        ensures { result ≡ is_stage_out self.now }
+    {
+        matches!(self, Stage::Out)
+    }
+}
+
 /// The number of a path.
 pub(crate) fn find(targets: &PathSet, path: &Path) -> Option<usize>
     ensures { MatchOption result (IsAmong targets.now path.now →
         ⊥) (λ at. slice_get targets.now at ≡ Some path.now) }
 {
     targets.number_of(path)
-}
-
-/// Whether an entry of a record is waited for.
-pub(crate) fn is_operand(build: &Build, dep: &Dep) -> bool
-    ensures { IsTrue result ↔ IsOperand (rules_for build.now) dep.now dep.now.path }
-{
-    dep.kind == DepKind::Change && !build.given().is_source(&dep.path)
-}
-
-/// Whether the target of a slot is decided.
-pub(crate) fn is_decided(slot: &Slot) -> bool
-    ensures { result ≡ is_stage_decided slot.now.stage }
-{
-    matches!(slot.stage, Stage::Decided(_))
-}
-
-/// Whether a target may be taken.
-pub(crate) fn is_ready(stage: &Stage) -> bool
-    ensures { result ≡ is_stage_ready stage.now }
-{
-    matches!(stage, Stage::Ready(_))
-}
-
-/// Whether the check of a target can go on.
-pub(crate) fn is_due(stage: &Stage) -> bool
-    ensures { result ≡ is_stage_due stage.now }
-{
-    matches!(stage, Stage::Due(_))
-}
-
-/// Whether the job of a slot is out.
-fn is_out(stage: &Stage) -> bool
-    ensures { result ≡ is_stage_out stage.now }
-{
-    matches!(stage, Stage::Out)
 }
 
 /// The number of a path, which may be the one that is guessed.
@@ -143,165 +140,323 @@ fn find_near(targets: &PathSet, guess: usize, path: &Path) -> Option<usize>
     find(targets, path)
 }
 
-/// The number of a target, if its job is out at this turn. It may be the one that is guessed, which spares a search.
-pub(crate) fn out_at(table: &Table, guess: usize, target: &Path, turn: u64) -> Option<usize>
-    requires one_each { length table.now.slots.items ≡ length table.now.targets }
-    requires distinct { AreDistinct table.now.targets }
-    ensures { MatchOption result ((at : ℕ) → IsOutSlotAt table.now target.now turn at →
-        ⊥) (λ at. IsOutSlotAt table.now target.now turn at) }
+/// Whether an entry of a record is waited for.
+pub(crate) fn is_operand(build: &Build, dep: &Dep) -> bool
+    ensures { IsTrue result ↔ IsOperand (rules_for build.now) dep.now dep.now.path }
 {
-    let Some(at) = find_near(&table.targets, guess, target) else {
-        return None;
-    };
-    let slot = &table.slots[at];
-    if is_out(&slot.stage) && slot.turn == turn {
-        return Some(at);
-    }
-    None
+    dep.kind == DepKind::Change && !build.given().is_source(&dep.path)
 }
 
-/// The first undecided target of some numbers, from a place on: the place and the number.
-fn next_lacking(table: &Table, operands: &[u32], from: usize) -> Option<(usize, usize)>
-    requires seen { (k : ℕ) → IsPlace operands.now k → k < length table.now.slots.items }
-    ensures found { IfSome result (λ f. IsLackingAt table.now operands.now from f.0 f.1) }
-    ensures none { IfNone result (AreDecidedFrom table.now operands.now from (length operands.now)) }
-{
-    for i in from..operands.len() {
-        let at = operands[i] as usize;
-        if !is_decided(&table.slots[at]) {
-            return Some((i, at));
+impl Table {
+    /// The allocator of the table.
+    pub(crate) fn allocator(&self) -> Global {
+        *self.slots.allocator()
+    }
+
+    /// The number of a target, if its job is out at this turn. It may be the one that is guessed, which spares a
+    /// search.
+    pub(crate) fn out_at(&self, guess: usize, target: &Path, turn: u64) -> Option<usize>
+        requires one_each { length self.now.slots.items ≡ length self.now.targets }
+        requires distinct { AreDistinct self.now.targets }
+        ensures { MatchOption result ((at : ℕ) → IsOutSlotAt self.now target.now turn at →
+            ⊥) (λ at. IsOutSlotAt self.now target.now turn at) }
+    {
+        let Some(at) = find_near(&self.targets, guess, target) else {
+            return None;
+        };
+        let slot = &self.slots[at];
+        if slot.stage.is_out() && slot.turn == turn {
+            return Some(at);
+        }
+        None
+    }
+
+    /// The first undecided target of some numbers, from a place on: the place and the number.
+    fn next_lacking(&self, operands: &[u32], from: usize) -> Option<(usize, usize)>
+        requires seen { (k : ℕ) → IsPlace operands.now k → k < length self.now.slots.items }
+        ensures found { IfSome result (λ f. IsLackingAt self.now operands.now from f.0 f.1) }
+        ensures none { IfNone result (AreDecidedFrom self.now operands.now from (length operands.now)) }
+    {
+        for i in from..operands.len() {
+            let at = operands[i] as usize;
+            if !self.slots[at].is_decided() {
+                return Some((i, at));
+            }
+        }
+        None
+    }
+
+    /// Notes how far the operands of a parked job were looked at.
+    fn hold(&mut self, at: usize, held: usize)
+        requires { IsWaitingThere self.old at }
+        ensures { IsHeldAt self.old self.new at held }
+    {
+        let slot = &mut self.slots[at];
+        if let Stage::Waiting(parked) = &mut slot.stage {
+            parked.held = held;
         }
     }
-    None
-}
 
-/// Notes how far the operands of a parked job were looked at.
-fn hold(table: &mut Table, at: usize, held: usize)
-    requires { IsWaitingThere table.old at }
-    ensures { IsHeldAt table.old table.new at held }
-{
-    let slot = &mut table.slots[at];
-    if let Stage::Waiting(parked) = &mut slot.stage {
-        parked.held = held;
+    /// Notes at an undecided target that another waits for it.
+    fn watch(&mut self, at: u32, place: usize) -> Result<(), AllocError>
+        requires { place < length self.old.slots.items }
+        ensures { OnOk result (IsWatchAdded self.old self.new at place) }
+    {
+        let slot = &mut self.slots[place];
+        slot.watchers.push(at)?;
+        Ok(())
     }
-}
 
-/// Notes at an undecided target that another waits for it.
-pub(crate) fn watch(table: &mut Table, at: u32, place: usize) -> Result<(), AllocError>
-    requires { place < length table.old.slots.items }
-    ensures { OnOk result (IsWatchAdded table.old table.new at place) }
-{
-    let slot = &mut table.slots[place];
-    slot.watchers.push(at)?;
-    Ok(())
-}
-
-/// Takes over the fact of a decided target.
-fn gain_one(table: &Table, at: u32, facts: &mut Facts) -> Result<(), AllocError>
-    requires { IsDecidedNumber table.now at }
-    ensures { OnOk result (GainsOne table.now at facts.old facts.new) }
-{
-    let slot = &table.slots[at as usize];
-    let Stage::Decided(fact) = &slot.stage else {
-        unreachable!()
-    };
-    facts.add(fact.again()?)
-}
-
-/// Takes over the facts of the decided targets that a job waited for, which are all that it lacked.
-fn gain(table: &Table, operands: &[u32], job: &Job, facts: &mut Facts) -> Result<(), AllocError>
-    requires { (k n : ℕ) → slice_get operands.now k ≡ Some n → IsDecidedNumber table.now n }
-    ensures { OnOk result (Gains table.now operands.now job.now facts.old facts.new) }
-{
-    facts.reserve(operands.len())?;
-    for at in operands {
-        gain_one(table, *at, facts)?;
+    /// Takes over the fact of a decided target.
+    fn gain_one(&self, at: u32, facts: &mut Facts) -> Result<(), AllocError>
+        requires { IsDecidedNumber self.now at }
+        ensures { OnOk result (GainsOne self.now at facts.old facts.new) }
+    {
+        let slot = &self.slots[at as usize];
+        let Stage::Decided(fact) = &slot.stage else {
+            unreachable!()
+        };
+        facts.add(fact.again()?)
     }
-    facts.gained = job.declared().len();
-    Ok(())
-}
 
-/// Makes a parked job with all its answers a work.
-pub(crate) fn make_ready(table: &mut Table, at: usize, build: &Build) -> Result<(), AllocError>
-    requires one_each { length table.old.slots.items ≡ length table.old.targets }
-    requires fed { IsFed build.now table.old at }
-    ensures { OnOk result (IsMadeReadyAt build.now table.old table.new at) }
-{
-    let own = build.share()?;
-    let slot = &mut table.slots[at];
-    let stage = mem::replace(&mut slot.stage, Stage::Out);
-    let Stage::Waiting(parked) = stage else {
-        unreachable!()
-    };
-    let Parked {
-        mut begun,
-        operands,
-        held: _,
-    } = parked;
-    let Begun { job, facts } = &mut *begun;
-    gain(table, &operands, job, facts)?;
-    let slot = &mut table.slots[at];
-    slot.stage = Stage::Ready(Work::of(own, begun));
-    Ok(())
-}
+    /// Takes over the facts of the decided targets that a job waited for, which are all that it lacked.
+    fn gain(&self, operands: &[u32], job: &Job, facts: &mut Facts) -> Result<(), AllocError>
+        requires { (k n : ℕ) → slice_get operands.now k ≡ Some n → IsDecidedNumber self.now n }
+        ensures { OnOk result (Gains self.now operands.now job.now facts.old facts.new) }
+    {
+        facts.reserve(operands.len())?;
+        for at in operands {
+            self.gain_one(*at, facts)?;
+        }
+        facts.gained = job.declared().len();
+        Ok(())
+    }
 
-/// Gives a check the answer that it waited for: it can go on, or an entry falls and the script of its target is begun.
-pub(crate) fn resume(
-    table: &mut Table,
-    alloc: Global,
-    at: u32,
-    build: &Build,
-    newly_ready: &mut Vec<u32>,
-) -> Result<(), AllocError>
-    requires one_each { length table.old.slots.items ≡ length table.old.targets }
-    requires answered { IsAnswered build.now table.old at }
-    ensures { OnOk result (IsResumedAt build.now table.old table.new at newly_ready.old.items newly_ready.new.items) }
-{
-    let stage = mem::replace(&mut table.slots[at as usize].stage, Stage::Out);
-    let Stage::Checking(awaiting) = stage else {
-        unreachable!()
-    };
-    let Awaiting {
-        mut held,
-        path: _,
-        at: place,
-    } = awaiting;
-    let InCheck {
-        rule: _,
-        check,
-        facts,
-    } = &mut *held;
-    gain_one(table, place, facts)?;
-    let stands = goes_on(table, alloc, place, check, build)?;
-    let stage = if stands {
-        table.due.insert(at)?;
-        Stage::Due(held)
-    } else {
-        let target = table.targets.at(at as usize).clone()?;
-        newly_ready.push(at)?;
-        Stage::Ready(fallen(alloc, target, held, build)?)
-    };
-    table.slots[at as usize].stage = stage;
-    Ok(())
-}
+    /// Makes a parked job with all its answers a work.
+    fn make_ready(&mut self, at: usize, build: &Build) -> Result<(), AllocError>
+        requires one_each { length self.old.slots.items ≡ length self.old.targets }
+        requires fed { IsFed build.now self.old at }
+        ensures { OnOk result (IsMadeReadyAt build.now self.old self.new at) }
+    {
+        let own = build.share()?;
+        let slot = &mut self.slots[at];
+        let stage = mem::replace(&mut slot.stage, Stage::Out);
+        let Stage::Waiting(parked) = stage else {
+            unreachable!()
+        };
+        let Parked {
+            mut begun,
+            operands,
+            held: _,
+        } = parked;
+        let Begun { job, facts } = &mut *begun;
+        self.gain(&operands, job, facts)?;
+        let slot = &mut self.slots[at];
+        slot.stage = Stage::Ready(Work::of(own, begun));
+        Ok(())
+    }
 
-/// Whether a check stands with the answer of a decided target, and so can go on.
-fn goes_on(
-    table: &Table,
-    alloc: Global,
-    place: u32,
-    check: &mut Check,
-    build: &Build,
-) -> Result<bool, AllocError>
-    requires decided { IsDecidedNumber table.now place }
-    requires within { check.old.number < length build.now.past.book }
-    ensures { IfOk result (λ stands. GoesOnWith build.now table.now place check.old check.new stands) }
-{
-    let slot = &table.slots[place as usize];
-    let Stage::Decided(fact) = &slot.stage else {
-        unreachable!()
-    };
-    check.go_on(alloc, build.given(), fact.read().outcome())
+    /// Gives a check the answer that it waited for: it can go on, or an entry falls and the script of its target is
+    /// begun.
+    fn resume(
+        &mut self,
+        at: u32,
+        build: &Build,
+        newly_ready: &mut Vec<u32>,
+    ) -> Result<(), AllocError>
+        requires one_each { length self.old.slots.items ≡ length self.old.targets }
+        requires answered { IsAnswered build.now self.old at }
+        ensures { OnOk result (IsResumedAt build.now self.old self.new at newly_ready.old.items newly_ready.new.items) }
+    {
+        let stage = mem::replace(&mut self.slots[at as usize].stage, Stage::Out);
+        let Stage::Checking(awaiting) = stage else {
+            unreachable!()
+        };
+        let Awaiting {
+            mut held,
+            path: _,
+            at: place,
+        } = awaiting;
+        let InCheck {
+            rule: _,
+            check,
+            facts,
+        } = &mut *held;
+        self.gain_one(place, facts)?;
+        let stands = self.goes_on(place, check, build)?;
+        let stage = if stands {
+            self.due.insert(at)?;
+            Stage::Due(held)
+        } else {
+            let target = self.targets.at(at as usize).clone()?;
+            newly_ready.push(at)?;
+            Stage::Ready(fallen(self.allocator(), target, held, build)?)
+        };
+        self.slots[at as usize].stage = stage;
+        Ok(())
+    }
+
+    /// Whether a check stands with the answer of a decided target, and so can go on.
+    fn goes_on(&self, place: u32, check: &mut Check, build: &Build) -> Result<bool, AllocError>
+        requires decided { IsDecidedNumber self.now place }
+        requires within { check.old.number < length build.now.past.book }
+        ensures { IfOk result (λ stands. GoesOnWith build.now self.now place check.old check.new stands) }
+    {
+        let slot = &self.slots[place as usize];
+        let Stage::Decided(fact) = &slot.stage else {
+            unreachable!()
+        };
+        check.go_on(self.allocator(), build.given(), fact.read().outcome())
+    }
+
+    /// Looks again at a target: if its script waits, it becomes ready or is watched at the next path that it lacks; if
+    /// its check waits, it goes on or falls once it has its answer.
+    pub(crate) fn settle(
+        &mut self,
+        at: u32,
+        build: &Build,
+        newly_ready: &mut Vec<u32>,
+    ) -> Result<(), AllocError>
+        requires within { at < length self.old.slots.items }
+        requires table { IsTableOf build.now self.old newly_ready.old.items }
+        requires standing { IsStandingTable build.now self.old }
+        ensures table { OnOk result (IsTableOf build.now self.new newly_ready.new.items) }
+        ensures looked { OnOk result (IsLookedAt build.now self.old self.new at) }
+    {
+        match &self.slots[at as usize].stage {
+            Stage::Waiting(parked) => match self.next_lacking(&parked.operands, parked.held) {
+                Some((held, place)) => {
+                    self.hold(at as usize, held);
+                    self.watch(at, place)
+                }
+                None => {
+                    newly_ready.push(at)?;
+                    self.make_ready(at as usize, build)
+                }
+            },
+            Stage::Checking(awaiting) => {
+                let place = awaiting.at as usize;
+                if self.slots[place].is_decided() {
+                    return self.resume(at, build, newly_ready);
+                }
+                self.watch(at, place)
+            }
+            _ => Ok(()),
+        }
+    }
+
+    /// Enters a path if it is new; it becomes ready if it has a rule. It gives the path's number.
+    pub(crate) fn enter(
+        &mut self,
+        path: &Path,
+        build: &Build,
+        newly_ready: &mut Vec<u32>,
+    ) -> Result<u32, Stop>
+        requires table { IsTableOf build.now self.old newly_ready.old.items }
+        ensures ok { OnOk result (IsEnteredInto build.now self.old self.new newly_ready.new.items path.now) }
+        ensures number { IfOk result (λ at. slice_get self.new.targets at ≡ Some path.now) }
+        ensures too_many { result ≡ Err Stop.TooMany ↔
+            IsFull (rules_for build.now) build.now.limits.targets
+            (table_entries (rules_for build.now) build.now.limits.targets self.old) path.now }
+    {
+        if let Some(at) = find(&self.targets, path) {
+            return Ok(at as u32);
+        }
+        if self.slots.len() >= build.given().limits().targets() as usize {
+            return Err(Stop::TooMany);
+        }
+        let at = self.slots.len() as u32;
+        match self.enter_new(path, build, newly_ready) {
+            Ok(()) => Ok(at),
+            Err(_) => Err(Stop::Memory),
+        }
+    }
+
+    /// Enters a path that is new.
+    fn enter_new(
+        &mut self,
+        path: &Path,
+        build: &Build,
+        newly_ready: &mut Vec<u32>,
+    ) -> Result<(), AllocError>
+        requires new { IsAmong self.old.targets path.now → ⊥ }
+        requires room { length self.old.slots.items < build.now.limits.targets }
+        requires table { IsTableOf build.now self.old newly_ready.old.items }
+        ensures { OnOk result (IsPushed build.now self.old self.new newly_ready.old.items newly_ready.new.items
+            path.now) }
+    {
+        let alloc = self.allocator();
+        let stage = begin(alloc, path, build, self.slots.len())?;
+        if stage.is_ready() {
+            newly_ready.push(self.slots.len() as u32)?;
+        }
+        if stage.is_due() {
+            self.due.insert(self.slots.len() as u32)?;
+        }
+        self.targets.insert(path.clone()?)?;
+        let watchers = Vec::new(alloc);
+        self.slots.push(Slot {
+            looks: 0,
+            turn: 0,
+            watchers,
+            stage,
+        })?;
+        Ok(())
+    }
+
+    /// Notes what a target that was out came to, and gives the numbers to look at again.
+    pub(crate) fn decide(&mut self, at: usize, fact: Known<Fact>) -> Vec<u32>
+        requires { IsOutThere self.old at }
+        ensures { IsDecidedAt self.old self.new at fact.value result.items }
+    {
+        let none = Vec::new(self.allocator());
+        let slot = &mut self.slots[at];
+        slot.stage = Stage::Decided(fact);
+        let pending = mem::replace(&mut slot.watchers, none);
+        self.out -= 1;
+        pending
+    }
+
+    /// Parks a job that was out at its next turn, with the numbers of what it waits for. Its own number is to be looked
+    /// at.
+    pub(crate) fn park(&mut self, at: usize, begun: Box<Begun>, operands: Vec<u32>)
+        requires { IsOutThere self.old at }
+        ensures { IsParkedAt self.old self.new at begun operands }
+    {
+        let slot = &mut self.slots[at];
+        slot.turn += 1;
+        slot.stage = Stage::Waiting(Parked {
+            begun,
+            operands,
+            held: 0,
+        });
+        self.out -= 1;
+    }
+
+    /// Takes out the check of a target that is due, for a look.
+    pub(crate) fn take_out(&mut self, at: usize) -> Box<InCheck>
+        requires { IsDueThere self.old at }
+        ensures { IsTakenOut self.old self.new at result }
+    {
+        let slot = &mut self.slots[at];
+        let stage = mem::replace(&mut slot.stage, Stage::Out);
+        self.out += 1;
+        match stage {
+            Stage::Due(held) => held,
+            _ => unreachable!(),
+        }
+    }
+
+    /// Notes what a check that was taken out waits for. Its own number is to be looked at.
+    pub(crate) fn await_answer(&mut self, at: usize, awaiting: Awaiting)
+        requires { IsOutThere self.old at }
+        ensures { IsAskedAt self.old self.new at awaiting }
+    {
+        let slot = &mut self.slots[at];
+        slot.looks += 1;
+        slot.stage = Stage::Checking(awaiting);
+        self.out -= 1;
+    }
 }
 
 /// The work of a target whose check fell: it has the facts of all that the check asked for.
@@ -328,153 +483,4 @@ fn fallen(
     } = Box::into_inner(held);
     facts.asked = check.asked;
     Work::unread(alloc, build.share()?, target, rule, facts)
-}
-
-/// Looks again at a target: if its script waits, it becomes ready or is watched at the next path that it lacks; if its
-/// check waits, it goes on or falls once it has its answer.
-pub(crate) fn settle(
-    table: &mut Table,
-    alloc: Global,
-    at: u32,
-    build: &Build,
-    newly_ready: &mut Vec<u32>,
-) -> Result<(), AllocError>
-    requires within { at < length table.old.slots.items }
-    requires table { IsTableOf build.now table.old newly_ready.old.items }
-    requires standing { IsStandingTable build.now table.old }
-    ensures table { OnOk result (IsTableOf build.now table.new newly_ready.new.items) }
-    ensures looked { OnOk result (IsLookedAt build.now table.old table.new at) }
-{
-    match &table.slots[at as usize].stage {
-        Stage::Waiting(parked) => match next_lacking(table, &parked.operands, parked.held) {
-            Some((held, place)) => {
-                hold(table, at as usize, held);
-                watch(table, at, place)
-            }
-            None => {
-                newly_ready.push(at)?;
-                make_ready(table, at as usize, build)
-            }
-        },
-        Stage::Checking(awaiting) => {
-            let place = awaiting.at as usize;
-            if is_decided(&table.slots[place]) {
-                return resume(table, alloc, at, build, newly_ready);
-            }
-            watch(table, at, place)
-        }
-        _ => Ok(()),
-    }
-}
-
-/// Enters a path if it is new; it becomes ready if it has a rule. It gives the path's number.
-pub(crate) fn enter(
-    table: &mut Table,
-    alloc: Global,
-    path: &Path,
-    build: &Build,
-    newly_ready: &mut Vec<u32>,
-) -> Result<u32, Stop>
-    requires table { IsTableOf build.now table.old newly_ready.old.items }
-    ensures ok { OnOk result (IsEnteredInto build.now table.old table.new newly_ready.new.items path.now) }
-    ensures number { IfOk result (λ at. slice_get table.new.targets at ≡ Some path.now) }
-    ensures too_many { result ≡ Err Stop.TooMany ↔
-        IsFull (rules_for build.now) build.now.limits.targets
-        (table_entries (rules_for build.now) build.now.limits.targets table.old) path.now }
-{
-    if let Some(at) = find(&table.targets, path) {
-        return Ok(at as u32);
-    }
-    if table.slots.len() >= build.given().limits().targets() as usize {
-        return Err(Stop::TooMany);
-    }
-    let at = table.slots.len() as u32;
-    match enter_new(table, alloc, path, build, newly_ready) {
-        Ok(()) => Ok(at),
-        Err(_) => Err(Stop::Memory),
-    }
-}
-
-/// Enters a path that is new.
-pub(crate) fn enter_new(
-    table: &mut Table,
-    alloc: Global,
-    path: &Path,
-    build: &Build,
-    newly_ready: &mut Vec<u32>,
-) -> Result<(), AllocError>
-    requires new { IsAmong table.old.targets path.now → ⊥ }
-    requires room { length table.old.slots.items < build.now.limits.targets }
-    requires table { IsTableOf build.now table.old newly_ready.old.items }
-    ensures { OnOk result (IsPushed build.now table.old table.new newly_ready.old.items newly_ready.new.items
-        path.now) }
-{
-    let stage = begin(alloc, path, build, table.slots.len())?;
-    if is_ready(&stage) {
-        newly_ready.push(table.slots.len() as u32)?;
-    }
-    if is_due(&stage) {
-        table.due.insert(table.slots.len() as u32)?;
-    }
-    table.targets.insert(path.clone()?)?;
-    let watchers = Vec::new(alloc);
-    table.slots.push(Slot {
-        looks: 0,
-        turn: 0,
-        watchers,
-        stage,
-    })?;
-    Ok(())
-}
-
-/// Notes what a target that was out came to, and gives the numbers to look at again.
-pub(crate) fn decide(table: &mut Table, alloc: Global, at: usize, fact: Known<Fact>) -> Vec<u32>
-    requires { IsOutThere table.old at }
-    ensures { IsDecidedAt table.old table.new at fact.value result.items }
-{
-    let slot = &mut table.slots[at];
-    slot.stage = Stage::Decided(fact);
-    let pending = mem::replace(&mut slot.watchers, Vec::new(alloc));
-    table.out -= 1;
-    pending
-}
-
-/// Parks a job that was out at its next turn, with the numbers of what it waits for. Its own number is to be looked at.
-pub(crate) fn park(table: &mut Table, at: usize, begun: Box<Begun>, operands: Vec<u32>)
-    requires { IsOutThere table.old at }
-    ensures { IsParkedAt table.old table.new at begun operands }
-{
-    let slot = &mut table.slots[at];
-    slot.turn += 1;
-    slot.stage = Stage::Waiting(Parked {
-        begun,
-        operands,
-        held: 0,
-    });
-    table.out -= 1;
-}
-
-/// Takes out the check of a target that is due, for a look.
-pub(crate) fn take_out(table: &mut Table, at: usize) -> Box<InCheck>
-    requires { IsDueThere table.old at }
-    ensures { IsTakenOut table.old table.new at result }
-{
-    let slot = &mut table.slots[at];
-    let stage = mem::replace(&mut slot.stage, Stage::Out);
-    table.out += 1;
-    match stage {
-        Stage::Due(held) => held,
-        _ => unreachable!(),
-    }
-}
-
-/// Notes what a check that was taken out waits for. Its own number is to be looked at.
-pub(crate) fn await_answer(table: &mut Table, at: usize, awaiting: Awaiting)
-    requires { IsOutThere table.old at }
-    ensures { IsAskedAt table.old table.new at awaiting }
-{
-    let slot = &mut table.slots[at];
-    slot.looks += 1;
-    slot.stage = Stage::Checking(awaiting);
-    table.out -= 1;
 }

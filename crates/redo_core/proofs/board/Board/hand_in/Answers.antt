@@ -35,18 +35,18 @@ returns-in_default-out_at-clause-err c =
     let b = c.self.inside in
     let piece : PieceView = c.args.piece in
     let N : List ℕ → ℕ → Type 0 = λ p n. (at : ℕ) → IsOutSlotAt b.table p n at → ⊥ in
-    let A : List ℕ → Type 0 = λ p. N p c.turn.result in
+    let A : List ℕ → Type 0 = λ p. N p c.turn-turn.result in
     let B : ℕ → Type 0 = λ n. N piece.target n in
-    let none = subst B c.turn.ensures (subst A c.target.ensures c.in_default-out_at.ensures) in
+    let none = subst B c.turn-turn.ensures (subst A c.target.ensures c.in_default-out_at.ensures) in
     let P : BoardView → Type 0 = λ v. Refused v v piece (Stranger piece) in
     let Q : Option Stop → Type 0 = λ o. MatchOption o (RefusedRunning (view_of b) (view_of b) piece (Stranger piece)) (λ stop. (Stranger piece ≡ fault_of stop) × (view_of b ≡ view_of b)) in
     subst P c.self.view_is (subst Q (sym (on d)) (refl, refl, stranger b (kept d) piece.target piece.turn none))
 
 slot : (c : In-Some-out_at) → IsOutSlotAt c.self.inside.table c.args.piece.target c.args.piece.turn c.in-Some-out_at.at
 slot c =
-    let A : List ℕ → Type 0 = λ p. IsOutSlotAt c.self.inside.table p c.turn.result c.in-Some-out_at.at in
+    let A : List ℕ → Type 0 = λ p. IsOutSlotAt c.self.inside.table p c.turn-turn.result c.in-Some-out_at.at in
     let B : ℕ → Type 0 = λ n. IsOutSlotAt c.self.inside.table c.args.piece.target n c.in-Some-out_at.at in
-    subst B c.turn.ensures (subst A c.target.ensures c.in-Some-out_at.ensures)
+    subst B c.turn-turn.ensures (subst A c.target.ensures c.in-Some-out_at.ensures)
 
 pub move_on-requires : goal.move_on-requires
 move_on-requires c =
@@ -62,7 +62,7 @@ invariant_of-self c =
     let d = (goal.at-invariant_of-self c).In_default in
     let e = (goal.at-invariant_of-self c).In-Some-out_at in
     record {
-      kept = λ _. moved-kept c.self.inside (kept d) c.args.piece.target c.args.piece.turn c.in-Some-out_at.at (slot e) c.move_on.new.table c.in-Ok.ensures.ok;
+      kept = λ _. moved-kept c.self.inside (kept d) c.args.piece.target c.args.piece.turn c.in-Some-out_at.at (slot e) c.move_on.new.self c.in-Ok.ensures.ok;
       too_many = c.self.invariant.too_many;
     }
 
@@ -90,11 +90,11 @@ returns-in-Ok-clause-ok c =
     let e = (goal.at-returns-in-Ok-clause-ok c).In-Some-out_at in
     let b = c.self.inside in
     let P : BoardView → Type 0 = λ v. IsHandedIn v c.args.piece.target c.args.piece.turn
-    (view_of (record b { table = c.move_on.new.table })) in
+    (view_of (record b { table = c.move_on.new.self })) in
     subst P c.self.view_is (record {
       given = refl;
       stopped = refl;
-      looked = moved-looked b (kept d) c.args.piece.target c.args.piece.turn c.in-Some-out_at.at (slot e) c.move_on.new.table
+      looked = moved-looked b (kept d) c.args.piece.target c.args.piece.turn c.in-Some-out_at.at (slot e) c.move_on.new.self
           c.in-Ok.ensures.ok;
     })
 
@@ -113,7 +113,7 @@ returns-in-Err-clause-err c =
     let d = (goal.at-returns-in-Err-clause-err c).In_default in
     let e = (goal.at-returns-in-Err-clause-err c).In-Some-out_at in
     let b = c.self.inside in
-    let new : BoardView = view_of (record b { table = c.move_on.new.table; stopped = Some c.in-Err.stop }) in
+    let new : BoardView = view_of (record b { table = c.move_on.new.self; stopped = Some c.in-Err.stop }) in
     let out = open-out b (kept d) c.args.piece.target c.args.piece.turn c.in-Some-out_at.at (slot e) in
     let running = refused-after (view_of b) new c.args.piece c.in-Err.stop out refl refl (λ is.
     c.in-Err.ensures.too_many (ap Err is)) in
@@ -129,7 +129,7 @@ returns-in-Ok-clause-one_fewer c =
     let b = c.self.inside in
     one_fewer b (kept d) (ap Rattle.std.specs.Prelude.is_some (on d)) c.args.piece.target c.args.piece.turn
     (open-out b (kept d) c.args.piece.target c.args.piece.turn c.in-Some-out_at.at (slot e)) _ c.self.view_is
-    c.in-Ok.ensures.ok.looks (state_of (record b { table = c.move_on.new.table })) (moved-state b (kept d) c.args.piece.target c.args.piece.turn c.in-Some-out_at.at (slot e) c.move_on.new.table c.in-Ok.ensures.ok)
+    c.in-Ok.ensures.ok.looks (state_of (record b { table = c.move_on.new.self })) (moved-state b (kept d) c.args.piece.target c.args.piece.turn c.in-Some-out_at.at (slot e) c.move_on.new.self c.in-Ok.ensures.ok)
 
 pub returns-in-Ok-clause-left : goal.returns-in-Ok-clause-left
 returns-in-Ok-clause-left c =
@@ -138,5 +138,5 @@ returns-in-Ok-clause-left c =
     let b = c.self.inside in
     left_no_more b (kept d) (ap Rattle.std.specs.Prelude.is_some (on d)) c.args.piece.target c.args.piece.turn
     (open-out b (kept d) c.args.piece.target c.args.piece.turn c.in-Some-out_at.at (slot e)) _ c.self.view_is
-    c.in-Ok.ensures.ok.looks (state_of (record b { table = c.move_on.new.table })) (moved-state b (kept d) c.args.piece.target c.args.piece.turn c.in-Some-out_at.at (slot e) c.move_on.new.table c.in-Ok.ensures.ok)
+    c.in-Ok.ensures.ok.looks (state_of (record b { table = c.move_on.new.self })) (moved-state b (kept d) c.args.piece.target c.args.piece.turn c.in-Some-out_at.at (slot e) c.move_on.new.self c.in-Ok.ensures.ok)
     (returns-in-Ok-clause-within c)

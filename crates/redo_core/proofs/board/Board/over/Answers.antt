@@ -10,7 +10,7 @@ use Rattle.redo_core.proofs.board.Board.over.Goals as goal
 use Rattle.redo_core.proofs.board.Board.over.Goals.{In_ok-look_ahead, In_ok-build}
 
 opened-board : (c : In_ok-look_ahead) → Inside
-opened-board c = record { alloc = c.args.alloc; build = c.in_ok-build.build; table = c.look_ahead.new.table; stopped = None }
+opened-board c = record { alloc = c.args.alloc; build = c.in_ok-build.build; table = c.look_ahead.new.self; stopped = None }
 
 kept : (c : In_ok-look_ahead) → IsKept (opened-board c)
 unfolding opened-board
@@ -39,7 +39,7 @@ returns-in_err-table-clause-too_many c = λ is.
     let d = (goal.at-returns-in_err-table-clause-too_many c).In_ok-build in
     let made = rw is at c.from_residual-in_err-table.ensures in
     let stop = at-limit c.in_err-table.field-0.0 made.1 in
-    let many = c.first_table.ensures.too_many (c.in_err-table.was ∙ ap Err stop) in
+    let many = c.open.ensures.too_many (c.in_err-table.was ∙ ap Err stop) in
     (c.in_ok-build.build, given d, opening-many c.in_ok-build.build c.in_ok-build.build.request many)
 
 pub returns-in_err-look_ahead-clause-book : goal.returns-in_err-look_ahead-clause-book

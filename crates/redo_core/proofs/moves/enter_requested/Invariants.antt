@@ -1,7 +1,0 @@
-use Rattle.std.proofs.Common.{take}
-use Rattle.redo_core.specs.inside.Slots.{AreEnteredInto, targets_in}
-use Rattle.redo_core.proofs.moves.enter_requested.Given as goal
-use Rattle.redo_core.specs.Build.{rules_for}
-
-abbrev pub invariant-loop-path : goal.invariant-loop-path
-invariant-loop-path l = AreEnteredInto l.build l.initial.table l.table l.newly_ready.items (targets_in (rules_for l.build) (take l.path-index l.request))

@@ -1,0 +1,74 @@
+use Rattle.std.proofs.Common.{◌≡◌, ℕ, List, Some, map, false, Result, Ok, Err, slice_get, sym, ap, subst, ◌∙◌}
+use Rattle.std.specs.Prelude.{OnOk}
+use Rattle.std.specs.Arc.{arc_value}
+use Rattle.redo_record.specs.declared.deps.Dep.{Dep}
+use Rattle.redo_record.specs.declared.outcome.Outcome.{Outcome}
+use Rattle.redo_record.specs.declared.outcome.Outcome.TheVariants.{Built}
+use Rattle.redo_skip.specs.Checks.{shown}
+use Rattle.redo_tree.specs.Tree.{file_at}
+use Rattle.redo_core.specs.Build.{GivenView}
+use Rattle.redo_core.specs.Views.{FactView}
+use Rattle.redo_core.specs.inside.Checking.{IsInCheck, entries_in}
+use Rattle.redo_core.specs.inside.Decided.{IsDecided}
+use Rattle.redo_core.specs.inside.Slots.{path_at}
+use Rattle.redo_core.specs.declared.table.InCheck.{InCheck}
+use Rattle.redo_core.proofs.LookSteps.{fits, look-key, look-targets}
+use Rattle.redo_core.proofs.LookedSteps.{kept-decided, kept-may, kept-put}
+use Rattle.redo_core.proofs.table.Table.keep.Goals as goal
+use Rattle.redo_core.proofs.table.Table.keep.Goals.{In_ok-new}
+
+on_ok-more : {T E : Type 0} {P Q : Type 0} (r : Result T E) → (P → Q) → OnOk r P → OnOk r Q
+on_ok-more (Ok v) f p = f p
+on_ok-more (Err e) f p = tt
+
+path : (c : In_ok-new) → c.in_ok-target.target ≡ path_at c.requires.may.whole.targets c.args.at
+path c =
+    let given = c.args.build.now in
+    let T : List (List ℕ) → Type 0 = λ ps. slice_get ps c.args.at ≡ Some c.at.result.now in
+    let here = subst T (look-targets given c.args.self.now c.args.at c.args.held c.requires.may) c.at.ensures in
+    let both : Some c.at.result.now ≡ Some (path_at c.requires.may.whole.targets c.args.at) = sym here ∙ look-key given c.args.self.now c.args.at c.args.held c.requires.may in
+    let same : c.at.result.now ≡ path_at c.requires.may.whole.targets c.args.at = cc in
+    c.in_ok-target.ensures.cases ∙ same
+
+outcome : (c : In_ok-new) → c.in_ok-outcome.outcome ≡ Built (file_at c.args.build.now.past.tree (path_at c.requires.may.whole.targets c.args.at))
+outcome c =
+    let given = c.args.build.now in
+    let p = path_at c.requires.may.whole.targets c.args.at in
+    let in_check = (fits given c.args.self.now c.args.at c.args.held c.requires.may).is_due.in_check in
+    let A : ℕ → Type 0 = λ n. IsInCheck given p n in
+    let B : GivenView → Type 0 = λ g. IsInCheck g p c.deref.result.now.check.number in
+    let moved = subst B (sym c.given.ensures) (subst A (sym (ap (λ (h : InCheck). h.check.number) c.deref.ensures)) in_check) in
+    c.in_ok-outcome.ensures.outcome p moved ∙ ap (λ (g : GivenView). Built (file_at g.past.tree p)) c.given.ensures
+
+deps : (c : In_ok-new) → arc_value c.in_ok-new.field-0 ≡ map shown (entries_in c.args.build.now c.args.held.value.check)
+deps c =
+    c.in_ok-new.ensures.ok ∙ c.in_ok-outcome.ensures.record
+    ∙ ap (λ (g : GivenView). map shown (entries_in g c.deref.result.now.check)) c.given.ensures
+    ∙ ap (λ (h : InCheck). map shown (entries_in c.args.build.now h.check)) c.deref.ensures
+
+pub of-fact-requires : goal.of-fact-requires
+of-fact-requires c =
+    let given = c.args.build.now in
+    let p = path_at c.requires.may.whole.targets c.args.at in
+    let kept = kept-decided given c.args.self.now c.args.at c.args.held c.requires.may c.requires.stands in
+    let A : GivenView → Type 0 = λ g. IsDecided g c.in_ok-target.target c.in_ok-outcome.outcome (arc_value c.in_ok-new.field-0) false in
+    let B : List ℕ → Type 0 = λ t. IsDecided given t c.in_ok-outcome.outcome (arc_value c.in_ok-new.field-0) false in
+    let C : Outcome → Type 0 = λ o. IsDecided given p o (arc_value c.in_ok-new.field-0) false in
+    let D : List Dep → Type 0 = λ ds. IsDecided given p (Built (file_at given.past.tree p)) ds false in
+    subst A (sym c.in_ok-own.ensures) (subst B (sym (path c)) (subst C (sym (outcome c)) (subst D (sym (deps c)) kept)))
+
+pub conclude-requires-clause-may : goal.conclude-requires-clause-may
+conclude-requires-clause-may c =
+    let d = (goal.at-conclude-requires-clause-may c).In_ok-new in
+    kept-may c.args.build.now c.args.self.now c.args.at c.args.held c.requires.may c.requires.stands c.of-fact.result
+    (ap (λ (f : FactView). f.given) c.of-fact.ensures ∙ c.in_ok-own.ensures) (ap (λ (f : FactView). f.target) c.of-fact.ensures ∙ path d)
+    (ap (λ (f : FactView). f.outcome) c.of-fact.ensures ∙ outcome d)
+
+pub returns : goal.returns
+returns c =
+    let d = (goal.at-returns c).In_ok-new in
+    on_ok-more c.conclude.result
+    (kept-put c.args.build.now c.args.self.now c.args.at c.args.held c.requires.may c.requires.stands c.of-fact.result
+    (ap (λ (f : FactView). f.given) c.of-fact.ensures ∙ c.in_ok-own.ensures) (ap (λ (f : FactView). f.target) c.of-fact.ensures ∙ path d)
+    (ap (λ (f : FactView). f.outcome) c.of-fact.ensures ∙ outcome d) c.conclude.new.self c.conclude.new.newly_ready.items)
+    c.conclude.ensures

@@ -1,0 +1,33 @@
+use Rattle.std.proofs.Common.{◌≡◌, ◌<◌, List, [], ℕ, Err, length, refl, sym, ap, subst, ◌∙◌}
+use Rattle.redo_core.specs.Build.{GivenView, rules_for}
+use Rattle.redo_build.specs.Outcomes.{outcome_at}
+use Rattle.redo_build.specs.Schedule.{Entry, entered, opening}
+use Rattle.redo_core.specs.inside.Slots.{AreEnteredInto, slot_entries, targets_in}
+use Rattle.redo_core.proofs.OpeningLemmas.{opening-entries, first-is}
+use Rattle.redo_core.proofs.table.Table.open.Goals as goal
+
+pub returns-in_err-enter_requested-clause-too_many : goal.returns-in_err-enter_requested-clause-too_many
+returns-in_err-enter_requested-clause-too_many c = λ is.
+    let made = rw is at c.from_residual.ensures in
+    let given : GivenView = c.args.build.now in
+    let r = rules_for given in
+    let request = c.request-request.result.now in
+    let of_build : request ≡ given.request = c.request-request.ensures ∙ ap (λ (g : GivenView). g.request) c.given-2.ensures in
+    let err = c.in_err-enter_requested.was ∙ ap Err (sym made.1) in
+    let none : slot_entries r (outcome_at r given.limits.targets) c.new.result c.new-2.result.items ≡ [] = rw c.new.ensures refl in
+    let N : List Entry → Type 0 = λ xs. given.limits.targets < length (entered r xs (targets_in r request)) in
+    let many : N [] = subst N none (c.enter_requested.ensures.too_many err) in
+    let S : List Entry → Type 0 = λ xs. given.limits.targets < length xs in
+    let R : List (List ℕ) → Type 0 = λ ps. given.limits.targets < length (opening r ps).entries in
+    subst R of_build (subst S (sym (opening-entries given request)) many)
+
+pub returns-clause-ok : goal.returns-clause-ok
+returns-clause-ok c =
+    let given : GivenView = c.args.build.now in
+    let of_build : c.request-request.result.now ≡ given.request = c.request-request.ensures ∙ ap (λ (g : GivenView). g.request) c.given-2.ensures in
+    let E : List (List ℕ) → Type 0 = λ ps.
+    AreEnteredInto given (record { targets = c.new.result; slots = c.new-2.result; ready = c.new-3.result; due = c.new-4.result; out = 0 })
+    c.enter_requested.new.self c.enter_requested.new.newly_ready.items (targets_in (rules_for given) ps) in
+    first-is given (record { targets = c.new.result; slots = c.new-2.result; ready = c.new-3.result; due = c.new-4.result; out = 0 })
+    c.enter_requested.new.self c.enqueue.new.self c.enter_requested.new.newly_ready.items c.new.ensures c.new-2.ensures.items c.new-3.ensures.items
+    (subst E of_build c.in_ok-enter_requested.ensures.ok) c.in_ok-enqueue.ensures
