@@ -1,5 +1,5 @@
 -- The digests of a tree's files by the numbers of their entries.
-use Rattle.std.proofs.Common.{◌≡◌, ◌⊎◌, ℕ, zero, suc, List, [], ◌∷◌, Option, Some, None, inl, inr, refl, sym, ap, subst, ◌∙◌, length}
+use Rattle.std.proofs.Common.{◌≡◌, ◌⊎◌, ℕ, zero, suc, List, [], ◌∷◌, Option, Some, None, inl, inr, refl, sym, ap, subst, ◌∙◌}
 use Rattle.std.proofs.Common.{length-set, slice_get, slice_set}
 use Rattle.std.specs.Map.{lookup}
 use Rattle.std.specs.Prelude.{bytes_eq, option_and_then, option_map}

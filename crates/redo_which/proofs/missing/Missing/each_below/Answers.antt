@@ -1,5 +1,3 @@
-use Rattle.std.specs.List.{AllByRecursion}
-use Rattle.redo_which.specs.Missing.{IsBelow}
 use Rattle.redo_which.proofs.FirstLemmas.{first-below}
 use Rattle.redo_which.proofs.missing.Missing.each_below.Goals as goal
 
