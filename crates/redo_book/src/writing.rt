@@ -9,7 +9,7 @@ ghost use Rattle.redo_book.specs.inside.Writing.{GoesOn};
 use crate::{Book, BookEntry, BookRecord};
 use redo_digest::Digest;
 use redo_path::Path;
-use redo_which::{Lines, Missing};
+use redo_which::{Missing, MissingLines};
 use std::alloc::{AllocError, Global};
 use std::marker::Model;
 
@@ -19,7 +19,7 @@ use std::marker::Model;
 pub struct BookWriter<'a> {
     text: Vec<u8>,
     /// The lines of the candidates that the last target missed.
-    missing: Lines<'a>,
+    missing: MissingLines<'a>,
 }
 
 impl<'a> Model for BookWriter<'a> {
@@ -81,7 +81,7 @@ fn put_create(text: &mut Vec<u8>, path: &Path) -> Result<(), AllocError>
 /// Puts a line for each candidate that is missing.
 fn put_missing<'a>(
     text: &mut Vec<u8>,
-    lines: &mut Lines<'a>,
+    lines: &mut MissingLines<'a>,
     missing: &'a Missing,
 ) -> Result<(), AllocError>
     requires { lines.old.0 ≡ codes "create " }
@@ -125,7 +125,7 @@ impl<'a> BookWriter<'a> {
     {
         BookWriter {
             text: Vec::new(alloc),
-            missing: Lines::new(alloc, b"create "),
+            missing: MissingLines::new(alloc, b"create "),
         }
     }
 

@@ -4,11 +4,11 @@
 //! are sources: [`Past`] tells the tree as it was read, the sources in it, and the book. After the run it makes the new
 //! book, which has a record for each target that was built, and those records of the old one that still hold. The crate
 //! stands on redo_tree and redo_which for trees and rules, on redo_digest and redo_book for books and the digests in
-//! them, on redo_record and redo_report for what a run came to, and on redo_names for paths.
+//! them, and on redo_record and redo_report for what a run came to.
 //!
 //! - `past`: the tree, the sources and the book, and what a run leaves; `named`: which files its book tells digests of;
 //!   `faults`: why a tree is refused;
-//! - `states`: what stands at a path when a run ends;
+//! - `standing`: whether a path stands as a book tells; `states`: what stands at each path when a run ends;
 //! - `records`: the records of targets that were built; `carrying`: those that are carried; `joining`: both in one
 //!   text;
 //! - `books`: the place of the new book among files;
@@ -23,11 +23,12 @@ pub mod laws;
 mod named;
 mod past;
 mod records;
+mod standing;
 mod states;
 
 pub use faults::PastFault;
 pub use past::Past;
-pub use states::has_state;
+pub use standing::has_state;
 
 #[cfg(test)]
 mod tests;

@@ -233,7 +233,7 @@ impl Past {
 
     /// The text of the book that a run leaves, by the rows of its report. It has a record for each target that was
     /// built, with the states of what this depended on, and the records of the old book whose targets have a rule,
-    /// stand as the last run left them and weren't built. No two records stand in memory at once.
+    /// stand as the last run left them and weren't built. No record is made of a row.
     pub fn new_book_text(&self, alloc: Global, rows: &[Row]) -> Result<Vec<u8>, AllocError>
         requires { AreAscending (map (λ row. row.path) rows.now) }
         ensures { IfOk result (λ text. IsNewText self.now rows.now text.items) }

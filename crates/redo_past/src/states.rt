@@ -1,7 +1,6 @@
 //! What stands at a path when a run ends.
 
-ghost use Rattle.std.specs.Prelude.{◌≡◌, IfOk, bytes_eq, length, option_copied};
-ghost use Rattle.std.specs.Option.{option_eq};
+ghost use Rattle.std.specs.Prelude.{◌≡◌, IfOk, length, option_copied};
 ghost use Rattle.std.specs.Cmp.Lexicographic.{slice_cmp};
 ghost use Rattle.std.specs.List.Sorted.{IsBinarySearchResult, IsSearchInRange};
 ghost use Rattle.std.specs.Ordering.{nat_cmp};
@@ -14,21 +13,10 @@ use redo_digest::Digest;
 use redo_path::Path;
 use redo_record::Outcome;
 use redo_report::Row;
-use redo_tree::{Content, FileDigests, Tree};
+use redo_tree::{FileDigests, Tree};
 use std::alloc::{AllocError, Global};
 use std::cmp::Ordering;
 use std::marker::Model;
-
-/// Whether a path has this state where a content stands there, or none.
-pub fn has_state(content: Option<&Content>, state: &Option<Digest>) -> bool
-    ensures { result ≡ option_eq bytes_eq (state_in (option_copied content.entry)) state.now }
-{
-    match (content, state) {
-        (Some(content), Some(digest)) => content.digest() == *digest,
-        (None, None) => true,
-        (Some(_), None) | (None, Some(_)) => false,
-    }
-}
 
 /// The place of a path's row, or where it would stand.
 fn search(rows: &[Row], path: &Path) -> Result<usize, usize>

@@ -5,13 +5,13 @@ ghost use Rattle.redo_bundle.specs.Bundle.{Writes};
 ghost use Rattle.redo_which.specs.Lines.{lines_of};
 
 use redo_bundle::{Broken, ByteOut, write_all, write_parts};
-use redo_which::{CandidateRef, Lines, Missing, Tail};
+use redo_which::{CandidateRef, Missing, MissingLines, Tail};
 
 /// Writes a line for each candidate that is missing, in their order, and keeps those behind the first for the next
 /// target. Where there is no memory to keep them, they are written all the same.
 pub(crate) fn write_missing<'a, W: ByteOut>(
     out: &mut W,
-    lines: &mut Lines<'a>,
+    lines: &mut MissingLines<'a>,
     missing: &'a Missing,
 ) -> Result<(), Broken>
     requires { W.has_failed out.old ≡ false }

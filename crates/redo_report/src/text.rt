@@ -14,7 +14,7 @@ use redo_path::Path;
 use redo_record::{Dep, DepKind, Outcome, Record, Why};
 use redo_script::{Reason, ScriptFault};
 use redo_tree::Content;
-use redo_which::Lines;
+use redo_which::MissingLines;
 use std::alloc::{AllocError, Global};
 
 /// The report's text: the rows with their records, the scripts that were begun, the files that were built, each as it
@@ -44,7 +44,7 @@ pub fn write_report<W: ByteOut>(
     ensures writes { Writes (W.held out.old) (W.held out.new) result (report_text report.now with_files) }
     ensures failed { W.has_failed out.new ≡ is_err result }
 {
-    let lines = Lines::new(*report.rows.allocator(), b"dep create ");
+    let lines = MissingLines::new(*report.rows.allocator(), b"dep create ");
     write_rows(out, &report.rows, lines)?;
     write_begun(out, &report.begun)?;
     if with_files {
@@ -57,7 +57,7 @@ pub fn write_report<W: ByteOut>(
 fn write_rows<'a, W: ByteOut>(
     out: &mut W,
     rows: &'a [Row],
-    mut lines: Lines<'a>,
+    mut lines: MissingLines<'a>,
 ) -> Result<(), Broken>
     requires works { W.has_failed out.old ≡ false }
     requires front { lines.0 ≡ codes "dep create " }
@@ -95,7 +95,11 @@ fn write_files<W: ByteOut>(out: &mut W, files: &[(Path, Content)]) -> Result<(),
 }
 
 /// Writes a row, with its record.
-fn write_row<'a, W: ByteOut>(out: &mut W, row: &'a Row, lines: &mut Lines<'a>) -> Result<(), Broken>
+fn write_row<'a, W: ByteOut>(
+    out: &mut W,
+    row: &'a Row,
+    lines: &mut MissingLines<'a>,
+) -> Result<(), Broken>
     requires works { W.has_failed out.old ≡ false }
     requires front { lines.old.0 ≡ codes "dep create " }
     ensures front { lines.new.0 ≡ lines.old.0 }
@@ -111,7 +115,7 @@ fn write_row<'a, W: ByteOut>(out: &mut W, row: &'a Row, lines: &mut Lines<'a>) -
 fn write_record<'a, W: ByteOut>(
     out: &mut W,
     deps: &'a Record,
-    lines: &mut Lines<'a>,
+    lines: &mut MissingLines<'a>,
 ) -> Result<(), Broken>
     requires works { W.has_failed out.old ≡ false }
     requires front { lines.old.0 ≡ codes "dep create " }

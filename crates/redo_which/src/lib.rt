@@ -24,7 +24,7 @@ mod missing;
 pub use args::Args;
 pub use candidate_ref::CandidateRef;
 pub use candidates::Candidates;
-pub use lines::Lines;
+pub use lines::MissingLines;
 pub use missing::{Missing, Tail};
 use redo_path::Path;
 

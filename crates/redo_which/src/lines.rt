@@ -14,13 +14,13 @@ use std::mem;
 /// first: the lines of these are kept. In a contract it is the front of its lines, and the candidates whose lines are
 /// kept.
 #[derive(Drop)]
-pub struct Lines<'a> {
+pub struct MissingLines<'a> {
     front: &'a [u8],
     kept: Tail<'a>,
     text: Vec<u8>,
 }
 
-impl<'a> Model for Lines<'a> {
+impl<'a> Model for MissingLines<'a> {
     ghost use Rattle.std.specs.Prelude.{◌≡◌, List, ℕ};
     ghost use Rattle.redo_which.specs.Candidates.{Place};
     ghost use Rattle.redo_which.specs.Lines.{lines_of};
@@ -32,12 +32,12 @@ impl<'a> Model for Lines<'a> {
     ghost invariant = { λ l. l.text.items ≡ lines_of l.front.now l.kept };
 }
 
-impl<'a> Lines<'a> {
+impl<'a> MissingLines<'a> {
     /// Lines with this front; none are kept yet.
-    pub fn new(alloc: Global, front: &'a [u8]) -> Lines<'a>
+    pub fn new(alloc: Global, front: &'a [u8]) -> MissingLines<'a>
         ensures { result ≡ (front.now, []) }
     {
-        Lines {
+        MissingLines {
             front,
             kept: Tail::none(),
             text: Vec::new(alloc),

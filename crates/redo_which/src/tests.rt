@@ -1,7 +1,7 @@
 //! Candidates, searches and arguments, a table each, and lines.
 
 use crate::lookup::{candidates, find, search};
-use crate::{Found, Lines, Missing, Rule};
+use crate::{Found, Missing, MissingLines, Rule};
 use redo_path::{Path, PathFault, resolve};
 use redo_tree::Tree;
 use std::alloc::Global;
@@ -289,7 +289,7 @@ fn lines_are_added_behind_those_of_neighbours(rt: HostRuntime) -> Result<(), Fai
     ] {
         found.push(missing_of(alloc, &tree, target)?)?;
     }
-    let mut lines = Lines::new(alloc, b"no ");
+    let mut lines = MissingLines::new(alloc, b"no ");
     let mut text = b"end\n".to_vec(alloc)?;
     for missing in &found {
         lines.add(missing, &mut text)?;

@@ -5,7 +5,7 @@ use crate::lines::write_missing;
 use redo_bundle::{Broken, Plain};
 use redo_tree::Tree;
 use redo_which::lookup::find;
-use redo_which::{Found, Lines, Missing};
+use redo_which::{Found, Missing, MissingLines};
 use std::alloc::Global;
 use std::test::Fail;
 
@@ -32,7 +32,7 @@ fn written(alloc: Global, missing: &Missing, size: usize) -> Result<(Vec<u8>, bo
     let mut room = Vec::new(alloc);
     room.resize(size, 0)?;
     let mut writer = Plain::new(room.as_mut_slice());
-    let mut lines = Lines::new(alloc, b"no ");
+    let mut lines = MissingLines::new(alloc, b"no ");
     let outcome = write_missing(&mut writer, &mut lines, missing);
     let told = outcome.err() == Some(Broken);
     Ok((room, told))
@@ -65,7 +65,7 @@ fn missing_of(alloc: Global, tree: &Tree, word: &str) -> Result<Missing, Fail> {
 
 /// A text with the lines of what is missing behind it.
 fn with_lines<'a>(
-    lines: &mut Lines<'a>,
+    lines: &mut MissingLines<'a>,
     missing: &'a Missing,
     text: Vec<u8>,
 ) -> Result<Vec<u8>, Fail> {
@@ -94,7 +94,7 @@ fn neighbours_share_the_lines_behind_the_first(rt: HostRuntime) -> Result<(), Fa
     for target in targets {
         found.push(missing_of(alloc, &tree, target)?)?;
     }
-    let mut lines = Lines::new(alloc, b"");
+    let mut lines = MissingLines::new(alloc, b"");
     let mut text = Vec::new(alloc);
     for missing in &found {
         text = with_lines(&mut lines, missing, text)?;

@@ -1,7 +1,7 @@
 use Rattle.std.proofs.Common.{◌≡◌, ◌++◌, ◌∷◌, ◌∙◌, [], ap}
 use Rattle.redo_which.specs.Lines.{lines_of}
 use Rattle.redo_which.proofs.LineLemmas.{added, lines-split}
-use Rattle.redo_which.proofs.lines.Lines.add.Goals as goal
+use Rattle.redo_which.proofs.lines.MissingLines.add.Goals as goal
 
 pub returns-clause-ok : goal.returns-clause-ok
 returns-clause-ok c =
