@@ -3,9 +3,10 @@
 ghost use Rattle.redo_digest.specs.Digest.{IsState};
 ghost use Rattle.redo_book.specs.Book.{IsPlace};
 
-use crate::{Book, BookFault, BookRecord, book_text, read_book};
+use crate::{Book, BookFault, BookRecord, BookWriter, book_text, read_book};
 use redo_digest::{Digest, state_of};
 use redo_path::{Path, resolve};
+use redo_which::Missing;
 use std::alloc::Global;
 use std::test::Fail;
 
@@ -257,5 +258,31 @@ fn a_record_is_put_behind_the_others(rt: HostRuntime) -> Result<(), Fail> {
         let meant = spelled(alloc, text)?;
         assert_eq!(rt; written.as_slice(), meant.as_slice());
     }
+    Ok(())
+}
+
+/// The text of a book whose first record is written entry by entry: these candidates, and one entry of each kind.
+fn written_by_entries(alloc: Global, missing: &Missing) -> Result<Vec<u8>, Fail> {
+    let target = path(alloc, "a")?;
+    let source = path(alloc, "d/b")?;
+    let mut writer = BookWriter::new(alloc);
+    writer.begin(&target, &state_of(Some(b"abc")))?;
+    writer.add_missing(missing)?;
+    writer.add_change(&state_of(Some(b"")), &source)?;
+    writer.add_change(&None, &target)?;
+    writer.add_create(&source)?;
+    writer.add_always()?;
+    writer.begin(&source, &None)?;
+    Ok(writer.finish()?)
+}
+
+#[test]
+fn a_record_is_written_entry_by_entry(rt: HostRuntime) -> Result<(), Fail> {
+    let alloc = rt.alloc();
+    let text = written_by_entries(alloc, &Missing::none())?;
+    let lines =
+        "target ABC a\nchange NOTHING d/b\nchange none a\ncreate d/b\nalways\ntarget none d/b\nend";
+    let meant = spelled(alloc, lines)?;
+    assert_eq!(rt; text.as_slice(), meant.as_slice());
     Ok(())
 }

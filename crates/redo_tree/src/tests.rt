@@ -346,3 +346,54 @@ fn digests_are_kept_and_the_tree_stays_the_same(rt: HostRuntime) -> Result<(), F
     }
     Ok(())
 }
+
+/// The state of a file with the bytes `1` and a newline, by the standard.
+const ONE: &str = "4355a46b19d348dc2f57c046f8ef63d4538ebb936000f3c9ee954a27460dd865";
+
+/// The state of a file without bytes, by the standard.
+const NOTHING: &str = "e3b0c44298fc1c149afbf4c8996fb92427ae41e4649b934ca495991b7852b855";
+
+#[test]
+fn a_path_has_the_state_of_the_file_that_stands_there(rt: HostRuntime) -> Result<(), Fail> {
+    let alloc = rt.alloc();
+    let tree = small_tree(alloc)?;
+    let mut digests = tree.file_digests(alloc)?;
+    for (word, digits) in [
+        ("a", Some(ONE)),
+        ("d/f", Some(NOTHING)),
+        ("d", None),
+        ("x", None),
+        ("a", Some(ONE)),
+    ] {
+        let place = path(alloc, word)?;
+        match (digests.state_at(&place), digits) {
+            (Some(state), Some(digits)) => {
+                assert_eq!(rt; state.digits().as_slice(), digits.as_bytes(), "{word}");
+            }
+            (None, None) => {}
+            _ => Err("another state")?,
+        }
+    }
+    Ok(())
+}
+
+#[test]
+fn a_tree_without_files_has_the_others(rt: HostRuntime) -> Result<(), Fail> {
+    let alloc = rt.alloc();
+    let tree = small_tree(alloc)?;
+    let mut out = Vec::new(alloc);
+    for word in ["a", "d", "x"] {
+        out.push(path(alloc, word)?)?;
+    }
+    let left = tree.without(alloc, &out)?;
+    for (word, kind) in [
+        ("a", Kind::Nothing),
+        ("d", Kind::Dir),
+        ("d/f", Kind::File),
+        ("x", Kind::Nothing),
+    ] {
+        let place = path(alloc, word)?;
+        assert_eq!(rt; left.kind(&place), kind, "{word}");
+    }
+    Ok(())
+}
