@@ -1,5 +1,7 @@
 //! Digests of contents.
 
+ghost use Rattle.std.specs.Char.{is_ascii_uppercase};
+ghost use Rattle.std.specs.List.{list_any};
 ghost use Rattle.std.specs.Prelude.{◌≡◌, option_copied};
 ghost use Rattle.hex.specs.Hex.{encode_lower};
 ghost use Rattle.sha2.specs.Sha256.{sha256};
@@ -43,14 +45,12 @@ impl Digest {
         ensures value { result ≡ digest_of word.now }
         ensures digest { IsState result }
     {
+        if has_capital(word) {
+            return None;
+        }
         let mut bytes = [0; 32];
         hex::decode_to_slice(word, &mut bytes).ok()?;
-        let digest = Digest { bytes };
-        if digest.digits().as_slice() == word {
-            Some(digest)
-        } else {
-            None
-        }
+        Some(Digest { bytes })
     }
 
     /// Its 64 digits, the letters in lower case.
@@ -70,6 +70,13 @@ impl Digest {
         let bytes = self.bytes.as_slice();
         bytes
     }
+}
+
+/// Whether a letter of the word is in upper case.
+fn has_capital(word: &[u8]) -> bool
+    ensures { result ≡ list_any is_ascii_uppercase word.now }
+{
+    word.iter().any(|byte| byte.is_ascii_uppercase())
 }
 
 /// The state of a path: the digest of the file that stands there, or none where no file does.
