@@ -1,6 +1,7 @@
 //! The check of a target: its recorded entries are looked at in their order, each once, before its script is begun.
-ghost use Rattle.std.specs.Prelude.{◌≡◌, ◌+◌, ◌<◌, ◌≤◌, ℕ, List, [], true, false, map, IfNone, IfOk, IfSome, MatchOption};
-ghost use Rattle.std.specs.Prelude.{None, OnOk, Some, length, option_and_then, option_copied, slice_get, take};
+ghost use Rattle.std.specs.Prelude.{◌≡◌, ◌+◌, ◌<◌, ◌≤◌, ℕ, List, [], true, false, map, IfNone, IfOk, IfSome};
+ghost use Rattle.std.specs.Prelude.{MatchOption, None, OnOk, Some, length, option_and_then, option_copied, slice_get};
+ghost use Rattle.std.specs.Prelude.{take};
 ghost use Rattle.redo_record.specs.declared.deps.DepKind.TheVariants as kinds;
 ghost use Rattle.redo_record.specs.declared.outcome.Outcome.TheVariants as outcomes;
 ghost use Rattle.redo_record.specs.Entries.{with_all, with_entry};
@@ -8,12 +9,13 @@ ghost use Rattle.redo_book.specs.declared.book.BookEntry.TheVariants.{Change};
 ghost use Rattle.redo_book.specs.Book.{IsRecord, record_of as record_in};
 ghost use Rattle.redo_build.specs.Rules.{Ask};
 ghost use Rattle.redo_build.specs.Schedule.{nothing_known};
-ghost use Rattle.redo_skip.specs.Checks.{has_state as is_of_state, shown as shown_as, standing, stands_if as stood_if, told};
+ghost use Rattle.redo_skip.specs.Checks.{has_state as is_of_state, shown as shown_as, standing};
+ghost use Rattle.redo_skip.specs.Checks.{stands_if as stood_if, told};
 ghost use Rattle.redo_tree.specs.Tree.{file_at};
 ghost use Rattle.redo_core.specs.Build.{checks_for, is_free as is_free_in, rules_for, sources_for};
 ghost use Rattle.redo_core.specs.inside.Checking.{FallsBehind, IsBegunBehind, IsCheckedBy, IsDueCheck, IsInCheck};
-ghost use Rattle.redo_core.specs.inside.Checking.{IsWaitingCheck, IsWalkedTo, asks_next, entries_in, seen_entries, state_of_entry};
-ghost use Rattle.redo_core.specs.inside.Checking.{standing_of};
+ghost use Rattle.redo_core.specs.inside.Checking.{IsWaitingCheck, IsWalkedTo, asks_next, entries_in, seen_entries};
+ghost use Rattle.redo_core.specs.inside.Checking.{standing_of, state_of_entry};
 
 use crate::given::Given;
 use redo_book::{BookEntry, BookRecord};
@@ -274,8 +276,8 @@ impl Check {
         Ok(true)
     }
 
-    /// What a target is kept with, whose check is due and asks for nothing: its file, which isn't copied, and its record
-    /// as a report shows it.
+    /// What a target is kept with, whose check is due and asks for nothing: its file, which isn't copied, and its
+    /// record as a report shows it.
     pub(crate) fn kept(&self, alloc: Global, given: &Given) -> Result<(Outcome, Record), AllocError>
         requires { self.now.number < length given.now.past.book }
         ensures outcome { IfOk result (λ kept. (p : List ℕ) → IsInCheck given.now p self.now.number →

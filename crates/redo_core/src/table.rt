@@ -42,7 +42,8 @@ pub enum Stage {
     Decided(Known<Fact>),
 }
 
-/// A target in check, with the rule of its script, which is begun if an entry falls, and the facts of what it asked for.
+/// A target in check, with the rule of its script, which is begun if an entry falls, and the facts of what it asked
+/// for.
 #[derive(Drop)]
 pub struct InCheck {
     pub rule: Rule,

@@ -110,8 +110,8 @@ impl Model for Piece {
 }
 
 impl Work {
-    /// A target whose script wasn't read yet, with the rule that the search finds for it and the facts of what its check
-    /// asked for.
+    /// A target whose script wasn't read yet, with the rule that the search finds for it and the facts of what its
+    /// check asked for.
     pub(crate) fn unread(
         alloc: Global,
         given: Arc<Given>,

@@ -1,6 +1,6 @@
 -- The check of a target, as far as it has come.
-use Rattle.std.specs.Prelude.{◌≡◌, ◌+◌, ◌<◌, ◌≤◌, ℕ, true, List, [], ◌∷◌, ◌++◌, Option, Some, None, map, slice_get, take}
-use Rattle.std.specs.Prelude.{MatchOption, flat_map, length, option_and_then}
+use Rattle.std.specs.Prelude.{◌≡◌, ◌+◌, ◌<◌, ◌≤◌, ℕ, true, List, [], ◌∷◌, ◌++◌, Option, Some, None, map, take}
+use Rattle.std.specs.Prelude.{MatchOption, flat_map, length, option_and_then, slice_get}
 use Rattle.std.specs.List.{IsDistinct}
 use Rattle.redo_digest.specs.Digest.{State}
 use Rattle.redo_record.specs.declared.deps.Dep.{Dep}

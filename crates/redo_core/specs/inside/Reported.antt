@@ -1,6 +1,6 @@
 -- How a table whose targets wait or are decided makes a report.
-use Rattle.std.specs.Prelude.{◌≡◌, ◌⊎◌, Bool, true, false, ℕ, List, [], ◌∷◌, ◌++◌, ◌<◌, length, Option, Some, None, MatchOption}
-use Rattle.std.specs.Prelude.{filter, flat_map, fold, is_some, map, slice_get, if◌then◌else◌}
+use Rattle.std.specs.Prelude.{◌≡◌, ◌⊎◌, Bool, true, false, ℕ, List, [], ◌∷◌, ◌++◌, ◌<◌, length, Option, Some, None}
+use Rattle.std.specs.Prelude.{MatchOption, filter, flat_map, fold, is_some, map, slice_get, if◌then◌else◌}
 use Rattle.std.specs.Arc.{arc_value}
 use Rattle.std.specs.Borrow.{Bor}
 use Rattle.std.specs.BTreeSet.{insert_key}

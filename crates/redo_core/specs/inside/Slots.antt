@@ -7,14 +7,16 @@ use Rattle.std.specs.declared.alloc.Global.{Global}
 use Rattle.std.specs.declared.vec.Vec.{Vec}
 pub use Rattle.redo_core.specs.inside.Works.{IsOperand}
 use Rattle.redo_build.specs.Rules.{Ask, Rules, Extends, operands}
-use Rattle.redo_core.specs.inside.Works.{IsUnreadWork, all_asked, found_as, told_in, AddsFact, IsJobOf, GoesOn, AreKnownBelow}
+use Rattle.redo_core.specs.inside.Works.{IsUnreadWork, all_asked, found_as, told_in, AddsFact, IsJobOf, GoesOn}
+use Rattle.redo_core.specs.inside.Works.{AreKnownBelow}
 use Rattle.redo_core.specs.declared.facts.Facts.{Facts}
 use Rattle.redo_sync.specs.Shown.{Shown}
 use Rattle.redo_step.specs.JobView.{JobView, record_so_far}
 use Rattle.redo_record.specs.Paths.{IsAmong, AreDistinct}
 use Rattle.redo_core.specs.declared.board.Stop.TheVariants.{TooMany}
 use Rattle.redo_build.specs.Outcomes.{outcome_at, IsTooMany}
-use Rattle.redo_build.specs.Schedule.{Entry, State, outcomes_of, entry_of, nothing_known, entered, handed_in, only, opening, put}
+use Rattle.redo_build.specs.Schedule.{Entry, State, outcomes_of, entry_of, nothing_known, entered, handed_in, only}
+use Rattle.redo_build.specs.Schedule.{opening, put}
 use Rattle.redo_build.specs.Looking.{looked, looked_once}
 use Rattle.redo_which.specs.Rule.{found_of}
 use Rattle.std.specs.BTreeSet.{insert_key}
