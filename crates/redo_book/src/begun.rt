@@ -38,6 +38,14 @@ fn dep_of(entry: &BookEntry) -> Result<Option<Dep>, AllocError>
     Ok(Some(Dep { kind, path }))
 }
 
+/// The path that an entry has; `always` has none.
+fn path_of(entry: &BookEntry) -> Option<&Path> {
+    match entry {
+        BookEntry::Change(_, path) | BookEntry::Create(path) => Some(path),
+        BookEntry::Always => None,
+    }
+}
+
 impl Last {
     /// A record without entries yet.
     fn new(alloc: Global, target: Path, state: Option<Digest>) -> Last
@@ -175,6 +183,16 @@ impl Begun {
         }
     }
 
+    /// The path that the next entry is likely to have: that of the entry at its place in the record before the last.
+    /// Records that follow one another are mostly of neighbours in one directory, which looked for the same candidates
+    /// but for the first, so most of their paths are the same. Made anew for each line, these would take more memory
+    /// than all else in a book.
+    fn likely(&self) -> Option<&Path> {
+        let last = self.last.as_ref()?;
+        let before = self.done.last()?;
+        path_of(before.entries.get(last.begun.entries.len())?)
+    }
+
     /// Adds a line, unless it says nothing that may stand there.
     pub(crate) fn add_line(
         &mut self,
@@ -186,7 +204,7 @@ impl Begun {
         ensures adds { Makes number result (next (made_of self.old) line.now) (made_of self.new) }
         ensures kept { OnOk result (IfSome self.new.last IsKept) }
     {
-        let line = read_line(alloc, number, line)?;
+        let line = read_line(alloc, number, line, self.likely())?;
         self.add(alloc, number, line)
     }
 

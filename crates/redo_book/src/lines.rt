@@ -15,8 +15,23 @@ pub(crate) enum Line {
     Entry(BookEntry),
 }
 
-/// The path below the top directory whose text this is.
-fn read_path(alloc: Global, number: u64, word: &[u8]) -> Result<Path, BookFault>
+/// The path below the top directory whose text this is. Where `like` is that path, its bytes are shared.
+fn read_path(
+    alloc: Global,
+    number: u64,
+    word: &[u8],
+    like: Option<&Path>,
+) -> Result<Path, BookFault>
+    ensures { Finds number result (place_of word.now) }
+{
+    match like {
+        Some(path) if !word.is_empty() && path.text() == word => Ok(path.clone()?),
+        _ => resolve_path(alloc, number, word),
+    }
+}
+
+/// The path below the top directory whose text this is, made anew.
+fn resolve_path(alloc: Global, number: u64, word: &[u8]) -> Result<Path, BookFault>
     ensures { Finds number result (place_of word.now) }
 {
     match resolve(alloc, &Path::root(), word) {
@@ -50,29 +65,35 @@ fn read_stated(
     alloc: Global,
     number: u64,
     words: &[u8],
+    like: Option<&Path>,
 ) -> Result<(Option<Digest>, Path), BookFault>
     ensures { Finds number result (stated words.now) }
 {
     match split_state(words) {
-        Some((state, word)) => Ok((state, read_path(alloc, number, word)?)),
+        Some((state, word)) => Ok((state, read_path(alloc, number, word, like)?)),
         None => Err(BookFault::Line(number)),
     }
 }
 
-/// What a line says.
-pub(crate) fn read_line(alloc: Global, number: u64, line: &[u8]) -> Result<Line, BookFault>
+/// What a line says. Where it is an entry's and its path is `like`, the bytes of that are shared.
+pub(crate) fn read_line(
+    alloc: Global,
+    number: u64,
+    line: &[u8],
+    like: Option<&Path>,
+) -> Result<Line, BookFault>
     ensures { Finds number result (line_of line.now) }
 {
     if let Some(words) = line.strip_prefix(b"target ") {
-        let (state, path) = read_stated(alloc, number, words)?;
+        let (state, path) = read_stated(alloc, number, words, None)?;
         return Ok(Line::Target(state, path));
     }
     if let Some(words) = line.strip_prefix(b"change ") {
-        let (state, path) = read_stated(alloc, number, words)?;
+        let (state, path) = read_stated(alloc, number, words, like)?;
         return Ok(Line::Entry(BookEntry::Change(state, path)));
     }
     if let Some(word) = line.strip_prefix(b"create ") {
-        let path = read_path(alloc, number, word)?;
+        let path = read_path(alloc, number, word, like)?;
         return Ok(Line::Entry(BookEntry::Create(path)));
     }
     if line == b"always".as_slice() {
