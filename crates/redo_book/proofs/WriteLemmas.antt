@@ -1,21 +1,61 @@
--- What is cut back where memory runs out, and the lines of missing candidates.
-use Rattle.std.proofs.Common.{◌≡◌, ℕ, List, [], ◌∷◌, ◌++◌, ap, codes, flat_map, map, refl}
-use Rattle.redo_path.proofs.ApartLemmas.{apart}
-use Rattle.redo_book.specs.declared.book.BookEntry.TheVariants.{Create}
-use Rattle.redo_book.specs.Book.{entry_line, text_of}
-use Rattle.redo_book.specs.inside.Writing.{GoesOn}
+-- What is written line by line, as far as it went, and the sizes of lines.
+use Rattle.std.proofs.Common.{◌≡◌, ◌<◌, ◌+◌, ◌∙◌, ℕ, zero, suc, drop, slice_index_or, arith, List, [], ◌∷◌, ◌++◌}
+use Rattle.std.proofs.Common.{length, map, Option, refl, sym, ap, subst, append_assoc}
+use Rattle.std.proofs.lemmas.Grind.{flat_map-append}
+use Rattle.std.proofs.lemmas.List.Folds.{flat_map-map}
+use Rattle.std.proofs.lemmas.Result.{err_from_is_err_and}
+use Rattle.std.specs.Prelude.{Result, Err, codes, flat_map}
+use Rattle.std.specs.Result.{IsErrAnd}
+use Rattle.std.specs.Io.KnownBytes.{Appends}
+use Rattle.redo_bundle.specs.Bundle.{Writes}
+use Rattle.redo_bundle.proofs.PieceLemmas.{Writes-then, Writes-cut}
+use Rattle.redo_book.specs.declared.book.BookEntry.{BookEntry}
+use Rattle.redo_book.specs.declared.book.BookRecord.{BookRecord}
+use Rattle.redo_book.specs.Book.{book_lines, entry_line, record_lines, record_of, text_of}
 
--- a text that begins with another begins with what that begins with
-pub starts_on : (old more new : List ℕ) → GoesOn (old ++ more) new → GoesOn old new
-starts_on [] more new h = refl
-starts_on (x ∷ old) more [] h = apart cc
-starts_on (x ∷ old) more (y ∷ new) h =
-    let head : y ≡ x = cc in
-    let tail : GoesOn (old ++ more) new = cc in
-    let rest = starts_on old more new tail in
-    λ i. head i ∷ rest i
+-- the text of what is left is that of the next, and of those behind it
+dropped : {A : Type 0} (f : A → List ℕ) (xs : List A) (i : ℕ) (x default : A) → i < length xs → x ≡ slice_index_or xs i default →
+    flat_map f (drop i xs) ≡ f x ++ flat_map f (drop (i + 1) xs)
+dropped f [] i x default below is = absurd (omega (arith, below))
+dropped f (y ∷ xs) zero x default below is = ap (λ z. f z ++ flat_map f xs) (sym is)
+dropped f (y ∷ xs) (suc i) x default below is = let e : suc i + 1 ≡ suc (i + 1) = omega arith in rw e (dropped f xs i x default (omega (arith, below)) is)
 
--- the lines of missing candidates are those of their entries
-pub create-lines : (paths : List (List ℕ)) → flat_map (λ (path : List ℕ). codes "create " ++ path ++ 10 ∷ []) paths ≡ text_of (map entry_line (map Create paths))
-create-lines [] = refl
-create-lines (path ∷ paths) = ap (λ rest. (codes "create " ++ path ++ 10 ∷ []) ++ rest) (create-lines paths)
+-- with the next written, those behind it are left
+pub split-next : {A : Type 0} (f : A → List ℕ) (xs : List A) (i : ℕ) (x default : A) (done text : List ℕ) → i < length xs → x ≡ slice_index_or xs i default →
+    text ≡ done ++ flat_map f (drop i xs) → text ≡ (done ++ f x) ++ flat_map f (drop (i + 1) xs)
+split-next f xs i x default done text below is split =
+    split ∙ ap (λ l. done ++ l) (dropped f xs i x default below is) ∙ sym (append_assoc done (f x) (flat_map f (drop (i + 1) xs)))
+
+-- the writer failed in a piece
+pub writes-failed : {E F : Type 0} (Q : F → Type 0) (f : E) (r : Result (Unit {0}) F) → IsErrAnd r Q → (old mid new : Option (List ℕ)) (done piece rest text : List ℕ) →
+    text ≡ (done ++ piece) ++ rest → Appends old mid done → Writes {E = E} mid new (Err f) piece → Writes {E = F} old new r text
+writes-failed Q f r is old mid new done piece rest text split before failed =
+    let p = err_from_is_err_and r is in
+    subst (λ s. Writes old new s text) (sym p.1) (Writes-cut f p.0 old new (done ++ piece) rest text split (Writes-then (Err f) old mid new done piece before failed))
+
+-- what came of the last piece came of the text
+pub writes-last : {E : Type 0} (r : Result (Unit {0}) E) (old mid new : Option (List ℕ)) (done last text : List ℕ) →
+    text ≡ done ++ last → Appends old mid done → Writes mid new r last → Writes old new r text
+writes-last r old mid new done last text split before went = subst (Writes old new r) (sym split) (Writes-then r old mid new done last before went)
+
+-- an entry's line with its newline
+abbrev pub entry_text : BookEntry → List ℕ
+entry_text e = entry_line e ++ 10 ∷ []
+
+-- the entries' lines, one by one
+pub entries-text : (es : List BookEntry) → text_of (map entry_line es) ≡ flat_map entry_text es
+entries-text es = flat_map-map (λ line. line ++ 10 ∷ []) entry_line es
+
+-- a record's lines with their newlines
+abbrev pub record_text : BookRecord → List ℕ
+record_text r = text_of (record_lines (record_of r))
+
+-- the records' lines, one record after another, and the end
+pub book-text : (rs : List BookRecord) → text_of (book_lines (map record_of rs)) ≡ flat_map record_text rs ++ codes "end\n"
+book-text [] = refl
+book-text (r ∷ rs) =
+    let lines = flat_map record_lines (map record_of rs) in
+    ap text_of (append_assoc (record_lines (record_of r)) lines (codes "end" ∷ []))
+    ∙ flat_map-append (λ line. line ++ 10 ∷ []) (record_lines (record_of r)) (lines ++ codes "end" ∷ [])
+    ∙ ap (λ t. record_text r ++ t) (book-text rs)
+    ∙ sym (append_assoc (record_text r) (flat_map record_text rs) (codes "end\n"))

@@ -36,9 +36,13 @@ entry_line (Change state path) = codes "change " ++ state_text state ++ 32 ∷ p
 entry_line (Create path) = codes "create " ++ path
 entry_line Always = codes "always"
 
+-- a target's line
+abbrev pub target_line : State → List ℕ → List ℕ
+target_line state target = codes "target " ++ state_text state ++ 32 ∷ target
+
 -- a record's lines
 abbrev pub record_lines : Record → List (List ℕ)
-record_lines r = (codes "target " ++ state_text r.state ++ 32 ∷ r.target) ∷ map entry_line r.entries
+record_lines r = target_line r.state r.target ∷ map entry_line r.entries
 
 -- a book's lines
 abbrev pub book_lines : List Record → List (List ℕ)
@@ -88,19 +92,6 @@ pub record IsBook (book : List Record) : Type 0 where
 pub record IsText (text : List ℕ) (book : List Record) : Type 0 where
   pub ordered : IsBook book
   pub whole : text ≡ text_of (book_lines book)
-
--- the text so far of a book whose records so far are these: their lines, and not yet the last one
-abbrev pub IsWritten : List ℕ → List Record → Type 0
-IsWritten text records = text ≡ text_of (flat_map record_lines records)
-
--- a record with more entries behind its own
-abbrev pub with_more : Record → List BookEntry → Record
-with_more r entries = record r { entries = r.entries ++ entries }
-
--- the text goes on with entries of the record that was written last
-abbrev pub Adds : List ℕ → List ℕ → List BookEntry → Type 0
-Adds old new entries = (records : List Record) (r : Record) →
-    IsWritten old (records ++ r ∷ []) → IsWritten new (records ++ with_more r entries ∷ [])
 
 -- some book's text begins with these lines
 abbrev pub Begins : List (List ℕ) → Type 0

@@ -1,12 +1,13 @@
 //! Books that are read and written, a table for each rule.
 
+mod writing;
+
 ghost use Rattle.redo_digest.specs.Digest.{IsState};
 ghost use Rattle.redo_book.specs.Book.{IsPlace};
 
-use crate::{Book, BookFault, BookRecord, BookWriter, book_text, read_book};
+use crate::{Book, BookFault, BookRecord, book_text, read_book};
 use redo_digest::{Digest, state_of};
 use redo_path::{Path, resolve};
-use redo_which::Missing;
 use std::alloc::Global;
 use std::test::Fail;
 
@@ -138,6 +139,22 @@ fn targets_rise_and_entries_are_once(rt: HostRuntime) -> Result<(), Fail> {
         ),
         ("target none a\ncreate a\nend", None),
         ("target none .redo-book\nend", None),
+        (
+            "target none a\ncreate c\ntarget none b\ncreate \nend",
+            Some(4),
+        ),
+        (
+            "target none a\ncreate c\ntarget none b\ncreate c/\nend",
+            Some(4),
+        ),
+        (
+            "target none a\nchange none c\ntarget none b\nchange c\nend",
+            Some(4),
+        ),
+        (
+            "target none a\ncreate c\ncreate d\ntarget none b\ncreate c\ncreate c\nend",
+            Some(6),
+        ),
     ] {
         let bytes = spelled(alloc, text)?;
         assert_eq!(rt;
@@ -183,6 +200,9 @@ fn a_written_book_is_read_back(rt: HostRuntime) -> Result<(), Fail> {
         "target none a\nend",
         "target ABC a\nalways\nend",
         "target ABC a b\ncreate  c\nchange NOTHING d/e\nchange none f\nalways\ntarget NOTHING d/e\nend",
+        "target none a\ncreate a.do\ncreate default.do\nchange ABC a-name-of-thirty-two-bytes-or-so\n\
+         target none b\ncreate b.do\ncreate default.do\nchange none a-name-of-thirty-two-bytes-or-so\nalways\n\
+         target none c\nalways\nchange none default.do\ncreate a-name-of-thirty-two-bytes-or-so\ncreate c\nend",
     ] {
         let bytes = spelled(alloc, text)?;
         let book = read_book(alloc, &bytes)?;
@@ -258,31 +278,5 @@ fn a_record_is_put_behind_the_others(rt: HostRuntime) -> Result<(), Fail> {
         let meant = spelled(alloc, text)?;
         assert_eq!(rt; written.as_slice(), meant.as_slice());
     }
-    Ok(())
-}
-
-/// The text of a book whose first record is written entry by entry: these candidates, and one entry of each kind.
-fn written_by_entries(alloc: Global, missing: &Missing) -> Result<Vec<u8>, Fail> {
-    let target = path(alloc, "a")?;
-    let source = path(alloc, "d/b")?;
-    let mut writer = BookWriter::new(alloc);
-    writer.begin(&target, &state_of(Some(b"abc")))?;
-    writer.add_missing(missing)?;
-    writer.add_change(&state_of(Some(b"")), &source)?;
-    writer.add_change(&None, &target)?;
-    writer.add_create(&source)?;
-    writer.add_always()?;
-    writer.begin(&source, &None)?;
-    Ok(writer.finish()?)
-}
-
-#[test]
-fn a_record_is_written_entry_by_entry(rt: HostRuntime) -> Result<(), Fail> {
-    let alloc = rt.alloc();
-    let text = written_by_entries(alloc, &Missing::none())?;
-    let lines =
-        "target ABC a\nchange NOTHING d/b\nchange none a\ncreate d/b\nalways\ntarget none d/b\nend";
-    let meant = spelled(alloc, lines)?;
-    assert_eq!(rt; text.as_slice(), meant.as_slice());
     Ok(())
 }

@@ -21,9 +21,8 @@ use crate::given::Given;
 use crate::opening::OpenFault;
 use crate::table::{Stage, Table};
 use crate::work::{Piece, Work};
-use redo_past::Past;
+use redo_past::{Past, RunReport};
 use redo_path::Path;
-use redo_report::Report;
 use redo_step::Limits;
 use redo_tree::Tree;
 use std::alloc::{AllocError, AllocFailed, Global};
@@ -270,15 +269,16 @@ impl Board {
 
     /// What the build came to, of a quiet board alone: only then it is sure that a target that still waits never ends,
     /// and so is cyclic. As with redo -k, a target that failed doesn't keep the others from being built. On want of
-    /// memory the board is lost. Among the files of the report is the book that the run leaves to the next.
-    pub fn finish(self) -> Result<Report, AllocError>
+    /// memory the board is lost. Among the files of the report is the book that the run leaves to the next; its text
+    /// isn't made yet.
+    pub fn finish(self) -> Result<RunReport, AllocError>
         requires { IsQuietBoard self }
         ensures { IfOk result (IsResult self.given) }
     {
         let alloc = self.alloc;
         let given = self.build.share()?;
         let report = report_of(alloc, &given, &self.table)?;
-        // The table makes room for the text of the book.
+        // The table is let go before more is made.
         drop(self);
         given.past().with_book(alloc, report)
     }

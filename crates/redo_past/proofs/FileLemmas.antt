@@ -41,3 +41,15 @@ put-old (f ∷ files) (suc at) path bytes d s l e =
     let it = slice_index_or files at d in
     let less : order f.0 path ≡ Less = subst (λ u. order f.0 u ≡ Less) (same_order it.0 path e) (at-all (λ (g : File). g.0) f.0 files at d s.0 (omega (arith, l))) in
     rw (turned f.0 path less) (ap (λ fs. f ∷ fs) (put-old files at path bytes d s.1 (omega (arith, l)) e))
+
+-- a file that was put there may be changed
+pub put-new-again : (files : List File) (at : ℕ) (file other : File) → at ≤ length files → set (insert files at file) at other ≡ insert files at other
+put-new-again [] zero file other l = refl
+put-new-again [] (suc at) file other l = absurd (omega (arith, l))
+put-new-again (f ∷ files) zero file other l = refl
+put-new-again (f ∷ files) (suc at) file other l = ap (λ fs. f ∷ fs) (put-new-again files at file other (omega (arith, l)))
+
+pub put-old-again : (files : List File) (at : ℕ) (file other : File) → set (set files at file) at other ≡ set files at other
+put-old-again [] at file other = refl
+put-old-again (f ∷ files) zero file other = refl
+put-old-again (f ∷ files) (suc at) file other = ap (λ fs. f ∷ fs) (put-old-again files at file other)

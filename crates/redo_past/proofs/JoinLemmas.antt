@@ -172,7 +172,7 @@ module _ (keeps : Record → Bool) where
 
 -- ---- one step of the loop
 
-all-kept : {X : Type 0} (P : X → Type 0) (p : X → Bool) (xs : List X) → AllByRecursion P xs → AllByRecursion P (filter p xs)
+pub all-kept : {X : Type 0} (P : X → Type 0) (p : X → Bool) (xs : List X) → AllByRecursion P xs → AllByRecursion P (filter p xs)
 all-kept P p [] h = tt
 all-kept P p (x ∷ xs) h = elim (cases_Bool (p x)) [
   | inl t ↦ rw t (h.0, all-kept P p xs h.1)
@@ -186,7 +186,22 @@ kept-book p rs h = record {
   sorted = kept-sorted (λ (r : Record). r.target) p rs h.sorted;
 }
 
+-- and so is what stands behind its first record
+pub rest-book : (r : Record) (rs : List Record) → IsBook (r ∷ rs) → IsBook rs
+unfolding IsStrictlySortedBy
+rest-book r rs h = record { records = h.records.1; sorted = h.sorted.1 }
+
 module _ (keeps : Record → Bool) where
+  -- an old record that isn't kept may be passed over
+  pub joined-skip : (built : List Record) (r : Record) (old : List Record) → keeps r ≡ false → joined keeps built old ≡ joined keeps built (r ∷ old)
+  joined-skip [] r old k = rw k refl
+  joined-skip (b ∷ bs) r old k = elim (cases_Bool (is_before b.target r)) [
+    | inl t ↦ rw (t, k) refl
+    | inr f ↦
+        let rest : joined keeps bs (filter (is_behind b.target) old) ≡ joined keeps bs (r ∷ filter (is_behind b.target) old) = joined-skip bs r (filter (is_behind b.target) old) k in
+        rw f (ap (λ l. filter keeps (filter (is_before b.target) old) ++ b ∷ l) rest)
+  ]
+
   -- what was written, with the old records before the next target and its own, and what is left then
   pub join-step : (done : List Record) (r : Record) (rest built old left all : List Record) → built ≡ r ∷ rest → left ≡ filter (is_behind r.target) old → done ++ joined keeps built old ≡ all → ((done ++ filter keeps (filter (is_before r.target) old)) ++ r ∷ []) ++ joined keeps rest left ≡ all
   join-step done r rest built old left all split behind was =

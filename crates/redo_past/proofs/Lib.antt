@@ -2,11 +2,13 @@ pub mod CarryLemmas
 pub mod EntryLemmas
 pub mod FileLemmas
 pub mod ItemLemmas
+pub mod ItemListLemmas
 pub mod JoinLemmas
 pub mod LawLemmas
 pub mod LoopLemmas
 pub mod NewBookLemmas
+pub mod NotedLemmas
 pub mod OrderLemmas
 pub mod PastLemmas
 pub mod RowLemmas
-pub mod WrittenLemmas
+pub mod WholeLemmas

@@ -14,7 +14,7 @@ use Rattle.redo_report.specs.declared.report.Row.{Row}
 use Rattle.redo_past.specs.NewBook.{IsCarried, IsNewBook, IsOfRow, is_built, new_record}
 use Rattle.redo_past.specs.Past.{IsPast, PastView}
 use Rattle.redo_which.specs.Candidates.{book_path}
-use Rattle.redo_past.specs.inside.Books.{AreRows, built_records, carries, is_top, new_records, record_if_built}
+use Rattle.redo_past.specs.inside.Books.{AreRows, built_records, carries, is_top, leaves_record, new_records, record_if_built}
 use Rattle.redo_past.proofs.CarryLemmas.{Without, both, carried, carries-it, was-not}
 use Rattle.redo_past.proofs.ItemLemmas.{IsItem, contained-item, item-contained, item-made, made-item}
 use Rattle.redo_past.proofs.JoinLemmas.{AreApart, AreSorted, item-of-built, item-of-old, joined-item, joined-sorted}
@@ -29,6 +29,13 @@ not-top (byte ∷ bytes) n = refl
 
 pub below : (p : List ℕ) → not (is_top p) ≡ true → p ≢ []
 below p h e = let bad : true ≡ false = sym (ap is_top e) ∙ was-not (is_top p) h in apart cc
+
+-- a row that leaves a record is below the top directory
+pub leaves-below : (row : Row) → leaves_record row ≡ true → row.path ≢ []
+leaves-below row h = below row.path (both (is_built row.outcome) (not (is_top row.path)) h).1
+
+pub leaves-built : (row : Row) → leaves_record row ≡ true → is_built row.outcome ≡ true
+leaves-built row h = (both (is_built row.outcome) (not (is_top row.path)) h).0
 
 module _ (sources : Tree) (rows : List Row) where
   pub if-built : (row : Row) (r : Record) → record_if_built sources rows row ≡ Some r → (is_built row.outcome ≡ true) × (row.path ≢ []) × (new_record sources rows row ≡ r)

@@ -1,6 +1,6 @@
 //! The place of the new book among files.
 
-ghost use Rattle.std.specs.Prelude.{◌≡◌, OnOk, length, map};
+ghost use Rattle.std.specs.Prelude.{◌≡◌, ◌<◌, IfOk, List, ℕ, length, map, slice_set};
 ghost use Rattle.std.specs.Cmp.Lexicographic.{slice_cmp};
 ghost use Rattle.std.specs.List.Sorted.{IsBinarySearchResult, IsSearchInRange};
 ghost use Rattle.std.specs.Ordering.{nat_cmp};
@@ -24,18 +24,25 @@ fn search(files: &[(Path, Content)], path: &Path) -> Result<usize, usize>
     )
 }
 
-/// Puts a file at its place in path order, in the stead of one at its path.
+/// Puts a file at its place in path order, in the stead of one at its path, and answers the number that it has there.
 pub(crate) fn put_file(
     files: &mut Vec<(Path, Content)>,
     path: Path,
     content: Content,
-) -> Result<(), AllocError>
+) -> Result<usize, AllocError>
     requires { AreAscending (map (λ file. file.0) files.old.items) }
-    ensures { OnOk result (files.new.items ≡ with_file files.old.items path content) }
+    ensures within { IfOk result (λ at. at < length files.new.items) }
+    ensures place { IfOk result (λ at. (bytes : List ℕ) →
+        slice_set files.new.items at (path, bytes) ≡ with_file files.old.items path bytes) }
 {
     match search(files, &path) {
-        Ok(at) => files[at] = (path, content),
-        Err(at) => files.insert(at, (path, content))?,
+        Ok(at) => {
+            files[at] = (path, content);
+            Ok(at)
+        }
+        Err(at) => {
+            files.insert(at, (path, content))?;
+            Ok(at)
+        }
     }
-    Ok(())
 }

@@ -1,19 +1,22 @@
 //! The records of the last run that go over into the new book.
 
 ghost use Rattle.std.specs.Prelude.{◌≡◌, ◌++◌, IfOk, List, OnOk, filter, map};
+ghost use Rattle.std.specs.List.{AllByRecursion};
 ghost use Rattle.std.specs.Cmp.Lexicographic.{slice_cmp};
 ghost use Rattle.std.specs.List.{prefix_len};
 ghost use Rattle.std.specs.List.Sorted.{IsStrictlySortedBy};
 ghost use Rattle.std.specs.Ordering.{nat_cmp};
 ghost use Rattle.redo_which.specs.Rule.{found_of, is_rule};
-ghost use Rattle.redo_book.specs.Book.{IsWritten, Record, record_of, targets_of};
-ghost use Rattle.redo_past.specs.inside.Books.{AreRows, carries, has_built, is_before, is_behind};
+ghost use Rattle.redo_book.specs.Book.{IsRecord, Record, record_of, targets_of};
+ghost use Rattle.redo_past.specs.inside.Books.{AreItems, AreRows, carries, has_built, is_before, is_behind};
+ghost use Rattle.redo_past.specs.inside.Books.{states_after};
 ghost use Rattle.redo_past.specs.NewBook.{row_at};
 
 use crate::Past;
+use crate::items::Item;
 use crate::records::is_built;
 use crate::states::find_row;
-use redo_book::{BookRecord, BookWriter};
+use redo_book::BookRecord;
 use redo_path::Path;
 use redo_report::Row;
 use redo_tree::Tree;
@@ -62,21 +65,23 @@ fn is_carried(
     has_rule(alloc, past.sources(), target)
 }
 
-/// Writes those of some old records that go over into the new book.
-pub(crate) fn carry(
+/// Adds those of some old records that go over into the new book.
+pub(crate) fn carry<'a>(
     alloc: Global,
     past: &Past,
     rows: &[Row],
-    records: &[BookRecord],
-    writer: &mut BookWriter<'_>,
+    records: &'a [BookRecord],
+    items: &mut Vec<Item<'a>>,
 ) -> Result<(), AllocError>
-    requires { AreRows rows.now }
-    ensures { OnOk result ((written : List Record) → IsWritten writer.old written →
-        IsWritten writer.new (written ++ filter (carries past.now rows.now) (map record_of records.now))) }
+    requires rows { AreRows rows.now }
+    requires each { AllByRecursion IsRecord (map record_of records.now) }
+    ensures { OnOk result ((known : List Record) → AreItems (states_after past.now rows.now) items.old.items known →
+        AreItems (states_after past.now rows.now) items.new.items
+        (known ++ filter (carries past.now rows.now) (map record_of records.now))) }
 {
     for record in records {
         if is_carried(alloc, past, rows, record)? {
-            writer.write(record)?;
+            items.push(Item::Carried(record))?;
         }
     }
     Ok(())
@@ -101,7 +106,7 @@ fn count_before(records: &[BookRecord], path: &Path) -> usize
     records.len()
 }
 
-/// Writes those of some old records that go over into the new book and stand before a path. The records that don't
+/// Adds those of some old records that go over into the new book and stand before a path. The records that don't
 /// stand before it are answered.
 pub(crate) fn carry_before<'a>(
     alloc: Global,
@@ -109,17 +114,19 @@ pub(crate) fn carry_before<'a>(
     rows: &[Row],
     records: &'a [BookRecord],
     path: &Path,
-    writer: &mut BookWriter<'_>,
+    items: &mut Vec<Item<'a>>,
 ) -> Result<&'a [BookRecord], AllocError>
     requires rows { AreRows rows.now }
+    requires each { AllByRecursion IsRecord (map record_of records.now) }
     requires sorted { IsStrictlySortedBy (slice_cmp nat_cmp) (targets_of (map record_of records.now)) }
-    ensures written { OnOk result ((written : List Record) → IsWritten writer.old written →
-        IsWritten writer.new (written ++
+    ensures known { OnOk result ((known : List Record) →
+        AreItems (states_after past.now rows.now) items.old.items known →
+        AreItems (states_after past.now rows.now) items.new.items (known ++
         filter (carries past.now rows.now) (filter (is_before path.now) (map record_of records.now)))) }
     ensures left { IfOk result (λ left. map record_of left.now ≡
         filter (is_behind path.now) (map record_of records.now)) }
 {
     let (front, left) = records.split_at(count_before(records, path));
-    carry(alloc, past, rows, front, writer)?;
+    carry(alloc, past, rows, front, items)?;
     Ok(left)
 }

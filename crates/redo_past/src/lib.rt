@@ -9,25 +9,30 @@
 //! - `past`: the tree, the sources and the book, and what a run leaves; `named`: which files its book tells digests of;
 //!   `faults`: why a tree is refused;
 //! - `standing`: whether a path stands as a book tells; `states`: what stands at each path when a run ends;
-//! - `records`: the records of targets that were built; `carrying`: those that are carried; `joining`: both in one
-//!   text;
-//! - `books`: the place of the new book among files;
+//! - `items`: what the records of the new book are made of, in order; `carrying`: those that are carried; `records`:
+//!   the lines of each; `sizes`: how many bytes they have; `new_book`: the text of all;
+//! - `run_report`: a run's report with the new book, which is written piece by piece; `books`: the place of the book
+//!   among the files;
 //! - [`laws`]: a tree has one past, and a run leaves one book.
 #![tactic(auto)]
 
 mod books;
 mod carrying;
 mod faults;
-mod joining;
+mod items;
 pub mod laws;
 mod named;
+mod new_book;
 mod past;
 mod records;
+mod run_report;
+mod sizes;
 mod standing;
 mod states;
 
 pub use faults::PastFault;
 pub use past::Past;
+pub use run_report::RunReport;
 pub use standing::has_state;
 
 #[cfg(test)]

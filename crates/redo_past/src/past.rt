@@ -16,8 +16,9 @@ ghost use Rattle.redo_which.specs.Candidates.{book_path as path_of_book};
 
 use crate::PastFault;
 use crate::books::put_file;
-use crate::joining::joined_text;
 use crate::named::named_by;
+use crate::new_book::{new_text, text_size};
+use crate::run_report::RunReport;
 use redo_book::{Book, BookRecord, read_book};
 use redo_path::Path;
 use redo_report::{Report, Row};
@@ -36,7 +37,7 @@ use std::thread::Threads;
 pub struct Past {
     tree: Arc<Tree>,
     sources: Arc<Tree>,
-    book: Book,
+    book: Arc<Book>,
 }
 
 impl Model for Past {
@@ -45,10 +46,11 @@ impl Model for Past {
 
     ghost Value = { PastView };
 
-    ghost view = { λ p. record { tree = arc_value p.tree; sources = arc_value p.sources; book = p.book } };
+    ghost view = { λ p.
+        record { tree = arc_value p.tree; sources = arc_value p.sources; book = arc_value p.book } };
 
     ghost invariant = { λ p.
-        IsPast (record { tree = arc_value p.tree; sources = arc_value p.sources; book = p.book }) };
+        IsPast (record { tree = arc_value p.tree; sources = arc_value p.sources; book = arc_value p.book }) };
 }
 
 /// The path of the book.
@@ -105,9 +107,9 @@ fn sources_of(alloc: Global, tree: &Tree, book: &Book) -> Result<Arc<Tree>, Allo
 }
 
 impl Past {
-    /// What a run over this tree is given. Contents are shared with it, and where it has no book all of it is. The files
-    /// that the book tells digests of are digested once, and keep their digests. Where memory runs out the tree's book
-    /// may have a fault or none.
+    /// What a run over this tree is given. Contents are shared with it, and where it has no book all of it is. The
+    /// files that the book tells digests of are digested once, and keep their digests. Where memory runs out the tree's
+    /// book may have a fault or none.
     pub fn open(alloc: Global, tree: Tree) -> Result<Past, PastFault>
         ensures tree { IfOk result (λ past. past.tree ≡ tree) }
         ensures past { IfOk result IsPast }
@@ -156,7 +158,7 @@ impl Past {
         tree.is_tree();
         let tree = Arc::new(alloc, tree)?;
         let sources = Arc::try_clone(&tree)?;
-        let book = Book::new(alloc);
+        let book = Arc::new(alloc, Book::new(alloc))?;
         Ok(Past {
             tree,
             sources,
@@ -174,6 +176,21 @@ impl Past {
         tree.is_tree();
         let sources = sources_of(alloc, &tree, &book)?;
         let tree = Arc::new(alloc, tree)?;
+        let book = Arc::new(alloc, book)?;
+        Ok(Past {
+            tree,
+            sources,
+            book,
+        })
+    }
+
+    /// The same, shared.
+    fn share(&self) -> Result<Past, AllocError>
+        ensures { IfOk result (λ past. past ≡ self.now) }
+    {
+        let tree = Arc::try_clone(&self.tree)?;
+        let sources = Arc::try_clone(&self.sources)?;
+        let book = Arc::try_clone(&self.book)?;
         Ok(Past {
             tree,
             sources,
@@ -222,8 +239,9 @@ impl Past {
     {
         self.tree().is_tree();
         no_other_file_is_taken_out();
-        let number = self.book.number_of(target)?;
-        let state = &self.book.records()[number].state;
+        let book = self.book();
+        let number = book.number_of(target)?;
+        let state = &book.records()[number].state;
         if state.is_some() == self.tree.file(target).is_some() {
             Some(number)
         } else {
@@ -233,29 +251,35 @@ impl Past {
 
     /// The text of the book that a run leaves, by the rows of its report. It has a record for each target that was
     /// built, with the states of what this depended on, and the records of the old book whose targets have a rule,
-    /// stand as the last run left them and weren't built. No record is made of a row.
+    /// stand as the last run left them and weren't built. No record is made of a row. A run that writes its report
+    /// needs no such text: its [`RunReport`] writes it line by line.
     pub fn new_book_text(&self, alloc: Global, rows: &[Row]) -> Result<Vec<u8>, AllocError>
         requires { AreAscending (map (λ row. row.path) rows.now) }
         ensures { IfOk result (λ text. IsNewText self.now rows.now text.items) }
     {
         self.tree().is_tree();
         no_other_file_is_taken_out();
-        joined_text(alloc, self, rows)
+        let size = text_size(alloc, self, rows)?;
+        new_text(alloc, self, rows, size)
     }
 
-    /// The report of a run with the text of the new book among its files.
-    pub fn with_book(&self, alloc: Global, report: Report) -> Result<Report, AllocError>
+    /// The report of a run with the new book among its files.
+    pub fn with_book(&self, alloc: Global, report: Report) -> Result<RunReport, AllocError>
         requires rows { AreAscending (row_paths report) }
         requires files { AreAscending (map (λ file. file.0) report.files.items) }
         ensures { IfOk result (λ whole. IsResultOf self.now report whole) }
     {
-        let text = Content::new(self.new_book_text(alloc, &report.rows)?)?;
+        self.tree().is_tree();
+        no_other_file_is_taken_out();
+        let size = text_size(alloc, self, &report.rows)?;
         let Report {
             rows,
             mut files,
             begun,
         } = report;
-        put_file(&mut files, book_path(alloc)?, text)?;
-        Ok(Report { rows, files, begun })
+        let empty = Content::new(Vec::new(alloc))?;
+        let at = put_file(&mut files, book_path(alloc)?, empty)?;
+        let report = Report { rows, files, begun };
+        Ok(RunReport::new(self.share()?, report, at, size))
     }
 }

@@ -1,21 +1,24 @@
-//! The records of targets that were built.
+//! The records of targets that were built, line by line.
 
-ghost use Rattle.std.specs.Prelude.{◌≡◌, ◌≢◌, ◌++◌, ◌∷◌, [], List, OnOk, option_copied};
+ghost use Rattle.std.specs.Prelude.{◌≡◌, ◌∷◌, [], codes, false, flat_map, is_err, option_copied};
 ghost use Rattle.redo_path.specs.Names.{IsPath};
-ghost use Rattle.redo_tree.specs.Tree.{Tree as Entries};
+ghost use Rattle.redo_bundle.specs.Bundle.{Writes};
 ghost use Rattle.redo_record.specs.declared.deps.DepKind.TheVariants as kinds;
 ghost use Rattle.redo_record.specs.Entries.{change_of, creates};
-ghost use Rattle.redo_book.specs.Book.{IsRecord, IsWritten, Record as Written};
+ghost use Rattle.redo_book.specs.Book.{record_lines, text_of};
 ghost use Rattle.redo_past.specs.NewBook.{is_built as was_built, new_record as record_for};
-ghost use Rattle.redo_past.specs.inside.Books.{AreWritten, is_top as is_root, leaves_record};
+ghost use Rattle.redo_past.specs.inside.Books.{StatesView, is_top as is_root, item_text, leaves_record, noted_text};
 
+use crate::items::Item;
 use crate::states::{States, built_state};
-use redo_book::BookWriter;
+use redo_book::{
+    write_always, write_change, write_create, write_record as write_old_record, write_target,
+};
+use redo_bundle::{Broken, ByteOut};
 use redo_path::Path;
 use redo_record::{Dep, DepKind, Outcome, Record};
-use redo_report::Row;
-use redo_which::Missing;
-use std::alloc::AllocError;
+use redo_report::{Row, write_missing};
+use redo_which::{Missing, MissingLines};
 
 /// Whether a target was built.
 pub(crate) fn is_built(outcome: &Outcome) -> bool
@@ -25,7 +28,7 @@ pub(crate) fn is_built(outcome: &Outcome) -> bool
 }
 
 /// Whether a path is that of the top directory.
-fn is_top(path: &Path) -> bool
+pub(crate) fn is_top(path: &Path) -> bool
     ensures top { result ≡ is_root path.now }
     ensures path { IsPath path.now }
 {
@@ -41,131 +44,186 @@ pub(crate) fn has_record(row: &Row) -> bool
 
 /// Writes the entry of a path that was depended on, with the state that it has now. A book has none about the top
 /// directory.
-fn write_change(
+fn write_changed<W: ByteOut>(
+    out: &mut W,
     states: &mut States<'_>,
     path: &Path,
-    writer: &mut BookWriter<'_>,
-) -> Result<(), AllocError>
-    ensures written { OnOk result (AreWritten states.old.sources states.old.rows
-        (record { kind = kinds.Change; path = path.now } ∷ []) writer.old writer.new) }
+) -> Result<(), Broken>
+    requires { W.has_failed out.old ≡ false }
+    ensures writes { Writes (W.held out.old) (W.held out.new) result
+        (noted_text states.old (record { kind = kinds.Change; path = path.now } ∷ [])) }
+    ensures failed { W.has_failed out.new ≡ is_err result }
     ensures same { states.new ≡ states.old }
 {
     if is_top(path) {
         return Ok(());
     }
     let state = states.state_at(path);
-    writer.add_change(&state, path)
+    write_change(out, &state, path)
 }
 
 /// Writes the entry of a path that isn't to come to exist. A book has none about the top directory.
-fn write_create(path: &Path, writer: &mut BookWriter<'_>) -> Result<(), AllocError>
-    ensures { OnOk result ((sources : Entries) (rows : List Row) → AreWritten sources rows
-        (record { kind = kinds.Create; path = path.now } ∷ []) writer.old writer.new) }
+fn write_created<W: ByteOut>(out: &mut W, path: &Path) -> Result<(), Broken>
+    requires { W.has_failed out.old ≡ false }
+    ensures writes { (states : StatesView) → Writes (W.held out.old) (W.held out.new) result
+        (noted_text states (record { kind = kinds.Create; path = path.now } ∷ [])) }
+    ensures failed { W.has_failed out.new ≡ is_err result }
 {
     if is_top(path) {
         return Ok(());
     }
-    writer.add_create(path)
+    write_create(out, path)
 }
 
 /// Writes that a target is to be made again in any case, where that is kept with the path of the top directory.
-fn write_always(path: &Path, writer: &mut BookWriter<'_>) -> Result<(), AllocError>
-    ensures { OnOk result ((sources : Entries) (rows : List Row) → AreWritten sources rows
-        (record { kind = kinds.Always; path = path.now } ∷ []) writer.old writer.new) }
+fn write_made_again<W: ByteOut>(out: &mut W, path: &Path) -> Result<(), Broken>
+    requires { W.has_failed out.old ≡ false }
+    ensures writes { (states : StatesView) → Writes (W.held out.old) (W.held out.new) result
+        (noted_text states (record { kind = kinds.Always; path = path.now } ∷ [])) }
+    ensures failed { W.has_failed out.new ≡ is_err result }
 {
     if is_top(path) {
-        return writer.add_always();
+        return write_always(out);
     }
     Ok(())
 }
 
 /// Writes an entry as a book has it.
-fn write_entry(
-    states: &mut States<'_>,
-    dep: &Dep,
-    writer: &mut BookWriter<'_>,
-) -> Result<(), AllocError>
-    ensures written { OnOk result (AreWritten states.old.sources states.old.rows (dep.now ∷ [])
-        writer.old writer.new) }
+fn write_entry<W: ByteOut>(out: &mut W, states: &mut States<'_>, dep: &Dep) -> Result<(), Broken>
+    requires { W.has_failed out.old ≡ false }
+    ensures writes { Writes (W.held out.old) (W.held out.new) result (noted_text states.old (dep.now ∷ [])) }
+    ensures failed { W.has_failed out.new ≡ is_err result }
     ensures same { states.new ≡ states.old }
 {
     match dep.kind {
-        DepKind::Change => write_change(states, &dep.path, writer),
-        DepKind::Create => write_create(&dep.path, writer),
-        DepKind::Always => write_always(&dep.path, writer),
+        DepKind::Change => write_changed(out, states, &dep.path),
+        DepKind::Create => write_created(out, &dep.path),
+        DepKind::Always => write_made_again(out, &dep.path),
     }
 }
 
 /// Writes what a script declared, entry by entry.
-fn write_own(
-    states: &mut States<'_>,
-    own: &[Dep],
-    writer: &mut BookWriter<'_>,
-) -> Result<(), AllocError>
-    ensures written { OnOk result (AreWritten states.old.sources states.old.rows own.now writer.old writer.new) }
+fn write_own<W: ByteOut>(out: &mut W, states: &mut States<'_>, own: &[Dep]) -> Result<(), Broken>
+    requires { W.has_failed out.old ≡ false }
+    ensures writes { Writes (W.held out.old) (W.held out.new) result (noted_text states.old own.now) }
+    ensures failed { W.has_failed out.new ≡ is_err result }
     ensures same { states.new ≡ states.old }
 {
     for dep in own {
-        write_entry(states, dep, writer)?;
+        write_entry(out, states, dep)?;
     }
     Ok(())
 }
 
-/// Writes the entry of a .do file, if there is one.
-fn write_do_file(
+/// Writes the entry of a record's .do file, if it has one.
+fn write_do_file<W: ByteOut>(
+    out: &mut W,
     states: &mut States<'_>,
     do_file: Option<&Path>,
-    writer: &mut BookWriter<'_>,
-) -> Result<(), AllocError>
-    ensures written { OnOk result (AreWritten states.old.sources states.old.rows
-        (change_of (option_copied do_file.entry)) writer.old writer.new) }
+) -> Result<(), Broken>
+    requires { W.has_failed out.old ≡ false }
+    ensures writes { Writes (W.held out.old) (W.held out.new) result
+        (noted_text states.old (change_of (option_copied do_file.entry))) }
+    ensures failed { W.has_failed out.new ≡ is_err result }
     ensures same { states.new ≡ states.old }
 {
     match do_file {
-        Some(path) => write_change(states, path, writer),
+        Some(path) => write_changed(out, states, path),
         None => Ok(()),
     }
 }
 
 /// Writes the candidates that are missing.
-fn write_missing<'a>(missing: &'a Missing, writer: &mut BookWriter<'a>) -> Result<(), AllocError>
-    ensures { OnOk result ((sources : Entries) (rows : List Row) →
-        AreWritten sources rows (creates missing.now) writer.old writer.new) }
+fn write_candidates<'a, W: ByteOut>(
+    out: &mut W,
+    lines: &mut MissingLines<'a>,
+    missing: &'a Missing,
+) -> Result<(), Broken>
+    requires works { W.has_failed out.old ≡ false }
+    requires front { lines.old.0 ≡ codes "create " }
+    ensures front { lines.new.0 ≡ lines.old.0 }
+    ensures writes { (states : StatesView) → Writes (W.held out.old) (W.held out.new) result
+        (noted_text states (creates missing.now)) }
+    ensures failed { W.has_failed out.new ≡ is_err result }
 {
     missing.each_below();
-    writer.add_missing(missing)
+    write_missing(out, lines, missing)
 }
 
 /// Writes the entries of a record as a book has them. None of them is made for it.
-fn write_entries<'a>(
+fn write_entries<'a, W: ByteOut>(
+    out: &mut W,
     states: &mut States<'_>,
+    lines: &mut MissingLines<'a>,
     deps: &'a Record,
-    writer: &mut BookWriter<'a>,
-) -> Result<(), AllocError>
-    ensures written { OnOk result (AreWritten states.old.sources states.old.rows deps.now writer.old writer.new) }
+) -> Result<(), Broken>
+    requires works { W.has_failed out.old ≡ false }
+    requires front { lines.old.0 ≡ codes "create " }
+    ensures front { lines.new.0 ≡ lines.old.0 }
+    ensures writes { Writes (W.held out.old) (W.held out.new) result (noted_text states.old deps.now) }
+    ensures failed { W.has_failed out.new ≡ is_err result }
     ensures same { states.new ≡ states.old }
 {
     let parts = deps.parts();
-    write_missing(parts.missing, writer)?;
-    write_do_file(states, parts.do_file, writer)?;
-    write_own(states, parts.own, writer)
+    write_candidates(out, lines, parts.missing)?;
+    write_do_file(out, states, parts.do_file)?;
+    write_own(out, states, parts.own)
 }
 
 /// Writes the record of a target that was built.
-pub(crate) fn write_record<'a>(
+fn write_built<'a, W: ByteOut>(
+    out: &mut W,
     states: &mut States<'_>,
+    lines: &mut MissingLines<'a>,
     row: &'a Row,
-    writer: &mut BookWriter<'a>,
-) -> Result<(), AllocError>
-    requires below { row.now.path ≢ [] }
-    ensures written { OnOk result ((records : List Written) → IsWritten writer.old records →
-        IsWritten writer.new (records ++ record_for states.old.sources states.old.rows row.now ∷ [])) }
-    ensures record { OnOk result (IsRecord (record_for states.old.sources states.old.rows row.now)) }
+) -> Result<(), Broken>
+    requires works { W.has_failed out.old ≡ false }
+    requires front { lines.old.0 ≡ codes "create " }
+    ensures front { lines.new.0 ≡ lines.old.0 }
+    ensures writes { Writes (W.held out.old) (W.held out.new) result
+        (text_of (record_lines (record_for states.old.sources states.old.rows row.now))) }
+    ensures failed { W.has_failed out.new ≡ is_err result }
     ensures same { states.new ≡ states.old }
 {
-    // The target is a path, and the record's entries stand once each.
-    let _path = row.path.text();
-    row.deps.each_once();
-    writer.begin(&row.path, &built_state(&row.outcome))?;
-    write_entries(states, &row.deps, writer)
+    write_target(out, &row.path, &built_state(&row.outcome))?;
+    write_entries(out, states, lines, &row.deps)
+}
+
+/// Writes a record of the new book.
+fn write_item<'a, W: ByteOut>(
+    out: &mut W,
+    states: &mut States<'_>,
+    lines: &mut MissingLines<'a>,
+    item: &Item<'a>,
+) -> Result<(), Broken>
+    requires works { W.has_failed out.old ≡ false }
+    requires front { lines.old.0 ≡ codes "create " }
+    ensures front { lines.new.0 ≡ lines.old.0 }
+    ensures writes { Writes (W.held out.old) (W.held out.new) result (item_text states.old item.now) }
+    ensures failed { W.has_failed out.new ≡ is_err result }
+    ensures same { states.new ≡ states.old }
+{
+    match item {
+        Item::Built(row) => write_built(out, states, lines, row),
+        Item::Carried(record) => write_old_record(out, record),
+    }
+}
+
+/// Writes the records of the new book.
+pub(crate) fn write_items<'a, W: ByteOut>(
+    out: &mut W,
+    states: &mut States<'_>,
+    mut lines: MissingLines<'a>,
+    items: &[Item<'a>],
+) -> Result<(), Broken>
+    requires works { W.has_failed out.old ≡ false }
+    requires front { lines.0 ≡ codes "create " }
+    ensures writes { Writes (W.held out.old) (W.held out.new) result (flat_map (item_text states.old) items.now) }
+    ensures failed { W.has_failed out.new ≡ is_err result }
+    ensures same { states.new ≡ states.old }
+{
+    for item in items {
+        write_item(out, states, &mut lines, item)?;
+    }
+    Ok(())
 }

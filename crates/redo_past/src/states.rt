@@ -1,6 +1,6 @@
 //! What stands at a path when a run ends.
 
-ghost use Rattle.std.specs.Prelude.{◌≡◌, IfOk, length, option_copied};
+ghost use Rattle.std.specs.Prelude.{◌≡◌, IfOk, is_some, length, option_copied};
 ghost use Rattle.std.specs.Cmp.Lexicographic.{slice_cmp};
 ghost use Rattle.std.specs.List.Sorted.{IsBinarySearchResult, IsSearchInRange};
 ghost use Rattle.std.specs.Ordering.{nat_cmp};
@@ -49,6 +49,54 @@ pub(crate) fn built_state(outcome: &Outcome) -> Option<Digest>
     match outcome {
         Outcome::Built(Some(content)) => Some(content.digest()),
         Outcome::Built(None) | Outcome::Source | Outcome::Failed(_) | Outcome::Cyclic => None,
+    }
+}
+
+/// Whether a target was built with a file.
+pub(crate) fn has_made(outcome: &Outcome) -> bool
+    ensures { result ≡ is_some (state_in (file_in outcome.now)) }
+{
+    matches!(outcome, Outcome::Built(Some(_)))
+}
+
+/// The paths at which a file stands when a run ends: those of the sources, and of what was built with one by the rows,
+/// which stand in path order. In a contract it is the sources and the rows.
+#[derive(Drop)]
+pub(crate) struct Files<'a> {
+    sources: &'a Tree,
+    rows: &'a [Row],
+}
+
+impl<'a> Model for Files<'a> {
+    ghost use Rattle.redo_past.specs.inside.Books.{AreRows, StatesView};
+
+    ghost Value = { StatesView };
+
+    ghost view = { λ f. record { sources = f.sources.now; rows = f.rows.now } };
+
+    ghost invariant = { λ f. AreRows f.rows.now };
+}
+
+impl<'a> Files<'a> {
+    /// Those of these sources and rows.
+    pub(crate) fn new(sources: &'a Tree, rows: &'a [Row]) -> Files<'a>
+        requires { AreRows rows.now }
+        ensures { result ≡ record { sources = sources.now; rows = rows.now } }
+    {
+        Files { sources, rows }
+    }
+
+    /// Whether a file stands at a path. No digest is made to tell it.
+    pub(crate) fn has_file(&self, path: &Path) -> bool
+        ensures { result ≡ is_some (state_after self.now.sources self.now.rows path.now) }
+    {
+        if self.sources.file(path).is_some() {
+            return true;
+        }
+        match find_row(self.rows, path) {
+            Some(row) => has_made(&row.outcome),
+            None => false,
+        }
     }
 }
 

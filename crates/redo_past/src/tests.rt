@@ -3,11 +3,12 @@
 ghost use Rattle.std.specs.Prelude.{◌≡◌, IsTrue, map};
 ghost use Rattle.redo_report.specs.Reports.{AreAscending};
 
-use crate::{Past, PastFault, has_state};
+use crate::{Past, PastFault, RunReport, has_state};
+use redo_bundle::{Plain, WriteFault};
 use redo_digest::Digest;
 use redo_path::{Path, resolve};
 use redo_record::{Dep, DepKind, Deps, Outcome, Record, Why};
-use redo_report::{Report, Row};
+use redo_report::{Report, Row, report_text};
 use redo_tree::{Content, Tree};
 use redo_which::{Found, lookup};
 use std::alloc::Global;
@@ -540,7 +541,7 @@ fn whole(alloc: Global, past: &Past, files: Vec<(Path, Content)>) -> Result<Repo
         files,
         begun: Vec::new(alloc),
     };
-    Ok(past.with_book(alloc, report)?)
+    Ok(past.with_book(alloc, report)?.into_report(alloc)?)
 }
 
 /// The paths of files, and the bytes of those that are called `.redo-book`.
@@ -572,5 +573,60 @@ fn the_new_book_is_a_file_at_its_place(rt: HostRuntime) -> Result<(), Fail> {
         assert_eq!(rt; listed.as_slice(), paths.as_bytes(), "{word}");
         assert_eq!(rt; text.as_slice(), b"end\n".as_slice(), "{word}");
     }
+    Ok(())
+}
+
+/// Whether files stand in path order.
+fn are_ordered(files: &[(Path, Content)]) -> bool
+    ensures { IsTrue result → AreAscending (map (λ file. file.0) files.now) }
+{
+    let Some((first, rest)) = files.split_first() else {
+        return true;
+    };
+    match rest.first() {
+        Some(second) => first.0 < second.0 && are_ordered(rest),
+        None => true,
+    }
+}
+
+/// The report of a run that came to these rows, of which each target has begun its script.
+fn reported(alloc: Global, past: &Past, lines: &[Line]) -> Result<RunReport, Fail> {
+    let rows = rows(alloc, past.sources(), lines)?;
+    let (mut files, mut begun) = (Vec::new(alloc), Vec::new(alloc));
+    for row in &rows {
+        if let Outcome::Built(Some(content)) = &row.outcome {
+            files.push((row.path.clone()?, content.clone()?))?;
+        }
+        begun.push(row.path.clone()?)?;
+    }
+    if !are_ascending(&rows) || !are_ordered(&files) {
+        return Err(Fail::from("rows out of order"));
+    }
+    let report = Report { rows, files, begun };
+    Ok(past.with_book(alloc, report)?)
+}
+
+/// A report with a file before the book and one behind it.
+const REPORT: &str = "built 0 .a\ndep change .a.do\nbuilt 3 a\ndep change a.do\nbegun .a\nbegun a\n\
+    file 0 .a\n\nfile 308 .redo-book\ntarget NOTHING .a\nchange NOTHING .a.do\ntarget ABC a\nchange ABC a.do\nend\n\n\
+    file 3 a\nabc\nend\n";
+
+#[test]
+fn a_report_goes_out_with_its_book_as_far_as_there_is_room(rt: HostRuntime) -> Result<(), Fail> {
+    let alloc = rt.alloc();
+    let past = Past::open(alloc, tree(alloc, &[(".a.do", ""), ("a.do", "abc")])?)?;
+    let lines: [Line; 2] = [(".a", End::File(""), &[]), ("a", End::File("abc"), &[])];
+    let report = reported(alloc, &past, &lines)?;
+    let meant = spelled(alloc, REPORT)?;
+    for room in 0..=meant.len() {
+        let mut device = vec![in alloc; 0u8; room]?;
+        let mut out = Plain::new(device.as_mut_slice());
+        let is_told = report.write(alloc, &mut out) == Err(WriteFault::Device);
+        assert_eq!(rt; is_told, room < meant.len(), "room for {room} bytes");
+        assert_eq!(rt; device.as_slice(), &meant[..room], "room for {room} bytes");
+    }
+    assert_eq!(rt; report.rows().len(), 2);
+    let text = report_text(alloc, &report.into_report(alloc)?, true)?;
+    assert_eq!(rt; text.as_slice(), meant.as_slice());
     Ok(())
 }

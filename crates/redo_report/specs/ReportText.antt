@@ -82,8 +82,15 @@ begun_line path = codes "begun " ++ path_line path
 abbrev pub file_text : List ℕ × List ℕ → List ℕ
 file_text file = spelling (file.0, File file.1)
 
+-- the line before a file's bytes: how many they are, and the path
+abbrev pub file_head : ℕ → List ℕ → List ℕ
+file_head size path = codes "file " ++ decimal size ++ 32 ∷ path_line path
+
+-- the rows with their records, and the scripts that were begun
+abbrev pub head_text : Report → List ℕ
+head_text report = flat_map row_text report.rows.items ++ flat_map begun_line report.begun.items
+
 -- the rows with their records, the scripts that were begun, the files that were built if they are wanted, and the end
 abbrev pub report_text : Report → Bool → List ℕ
 report_text report with_files =
-    flat_map row_text report.rows.items ++ flat_map begun_line report.begun.items ++
-    (if with_files then flat_map file_text report.files.items else []) ++ codes "end\n"
+    head_text report ++ (if with_files then flat_map file_text report.files.items else []) ++ codes "end\n"

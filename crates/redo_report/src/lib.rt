@@ -14,5 +14,6 @@ mod report;
 mod tests;
 mod text;
 
+pub use lines::write_missing;
 pub use report::{Report, Row};
-pub use text::{report_text, write_report};
+pub use text::{report_text, write_end, write_file_head, write_files, write_head, write_report};

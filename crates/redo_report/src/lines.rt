@@ -9,7 +9,7 @@ use redo_which::{CandidateRef, Missing, MissingLines, Tail};
 
 /// Writes a line for each candidate that is missing, in their order, and keeps those behind the first for the next
 /// target. Where there is no memory to keep them, they are written all the same.
-pub(crate) fn write_missing<'a, W: ByteOut>(
+pub fn write_missing<'a, W: ByteOut>(
     out: &mut W,
     lines: &mut MissingLines<'a>,
     missing: &'a Missing,

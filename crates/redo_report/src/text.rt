@@ -3,8 +3,8 @@
 ghost use Rattle.std.specs.Prelude.{◌≡◌, ◌++◌, ◌∷◌, [], IfOk, codes, false, flat_map, is_err, option_copied};
 ghost use Rattle.redo_record.specs.Entries.{change_of};
 ghost use Rattle.redo_bundle.specs.Bundle.{Writes};
-ghost use Rattle.redo_report.specs.ReportText.{begun_line, dep_line, file_text, outcome_words, path_line, reason_word};
-ghost use Rattle.redo_report.specs.ReportText.{report_text, row_text, why_words, word_at};
+ghost use Rattle.redo_report.specs.ReportText.{begun_line, dep_line, file_head, file_text, head_text, outcome_words};
+ghost use Rattle.redo_report.specs.ReportText.{path_line, reason_word, report_text, row_text, why_words, word_at};
 
 use crate::lines::write_missing;
 use crate::report::{Report, Row};
@@ -44,12 +44,30 @@ pub fn write_report<W: ByteOut>(
     ensures writes { Writes (W.held out.old) (W.held out.new) result (report_text report.now with_files) }
     ensures failed { W.has_failed out.new ≡ is_err result }
 {
-    let lines = MissingLines::new(*report.rows.allocator(), b"dep create ");
-    write_rows(out, &report.rows, lines)?;
-    write_begun(out, &report.begun)?;
+    write_head(out, report)?;
     if with_files {
         write_files(out, &report.files)?;
     }
+    write_end(out)
+}
+
+/// Writes what stands before the files in a report: the rows with their records, and the scripts that were begun.
+pub fn write_head<W: ByteOut>(out: &mut W, report: &Report) -> Result<(), Broken>
+    requires { W.has_failed out.old ≡ false }
+    ensures writes { Writes (W.held out.old) (W.held out.new) result (head_text report.now) }
+    ensures failed { W.has_failed out.new ≡ is_err result }
+{
+    let lines = MissingLines::new(*report.rows.allocator(), b"dep create ");
+    write_rows(out, &report.rows, lines)?;
+    write_begun(out, &report.begun)
+}
+
+/// Writes the last line of a report.
+pub fn write_end<W: ByteOut>(out: &mut W) -> Result<(), Broken>
+    requires { W.has_failed out.old ≡ false }
+    ensures writes { Writes (W.held out.old) (W.held out.new) result (codes "end\n") }
+    ensures failed { W.has_failed out.new ≡ is_err result }
+{
     write_all(out, b"end\n")
 }
 
@@ -82,8 +100,8 @@ fn write_begun<W: ByteOut>(out: &mut W, begun: &[Path]) -> Result<(), Broken>
     Ok(())
 }
 
-/// Writes the files that were built.
-fn write_files<W: ByteOut>(out: &mut W, files: &[(Path, Content)]) -> Result<(), Broken>
+/// Writes files, each as it stands in a bundle.
+pub fn write_files<W: ByteOut>(out: &mut W, files: &[(Path, Content)]) -> Result<(), Broken>
     requires { W.has_failed out.old ≡ false }
     ensures writes { Writes (W.held out.old) (W.held out.new) result (flat_map file_text files.now) }
     ensures failed { W.has_failed out.new ≡ is_err result }
@@ -260,17 +278,25 @@ fn write_path_line<W: ByteOut>(out: &mut W, front: &[u8], path: &Path) -> Result
     write_parts(out, &[front, path.text(), b"\n"])
 }
 
-/// Writes a file that was built, in a bundle's form.
+/// Writes a file, in a bundle's form.
 fn write_file<W: ByteOut>(out: &mut W, file: &(Path, Content)) -> Result<(), Broken>
     requires { W.has_failed out.old ≡ false }
     ensures writes { Writes (W.held out.old) (W.held out.new) result (file_text file.now) }
     ensures failed { W.has_failed out.new ≡ is_err result }
 {
     let bytes = file.1.bytes();
+    write_file_head(out, bytes.len(), file.0.text())?;
+    write_parts(out, &[bytes, b"\n"])
+}
+
+/// Writes the line that stands before the bytes of a file, by the text of its path: how many they are, and the path. A
+/// newline is to follow the bytes.
+pub fn write_file_head<W: ByteOut>(out: &mut W, size: usize, path: &[u8]) -> Result<(), Broken>
+    requires { W.has_failed out.old ≡ false }
+    ensures writes { Writes (W.held out.old) (W.held out.new) result (file_head size path.now) }
+    ensures failed { W.has_failed out.new ≡ is_err result }
+{
     let mut digits = Buffer::new();
-    let size = digits.format(bytes.len()).as_bytes();
-    write_parts(
-        out,
-        &[b"file ", size, b" ", file.0.text(), b"\n", bytes, b"\n"],
-    )
+    let size = digits.format(size).as_bytes();
+    write_parts(out, &[b"file ", size, b" ", path, b"\n"])
 }

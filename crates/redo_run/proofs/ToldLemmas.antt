@@ -7,6 +7,8 @@ use Rattle.redo_core.specs.Results.{IsGiven, IsRefused, IsResultOn, NeedsTooMany
 use Rattle.redo_report.specs.ReportText.{report_text}
 use Rattle.redo_report.specs.declared.report.Report.{Report}
 use Rattle.redo_bundle.specs.Bundle.{IsBundle, Writes}
+use Rattle.redo_bundle.specs.declared.faults.WriteFault.{WriteFault}
+use Rattle.redo_bundle.specs.declared.faults.WriteFault.TheVariants as write
 use Rattle.redo_dir.specs.Directory.{IsLoaded, places_in}
 use Rattle.redo_tree.specs.Tree.{Tree}
 use Rattle.redo_run.specs.declared.directory.DirRun.{DirRun}
@@ -20,7 +22,7 @@ use Rattle.redo_run.specs.declared.dir_fault.RunDirFault.TheVariants as dir
 use Rattle.redo_run.specs.DirFaults.{of_run}
 use Rattle.redo_run.specs.Directories.{NeedsTooMany as DirNeedsTooMany}
 use Rattle.redo_run.specs.Directories.{ReportsTree, changed_from, with_book_last}
-use Rattle.redo_run.specs.Faults.{of_build}
+use Rattle.redo_run.specs.Faults.{of_build, of_write}
 use Rattle.redo_run.specs.Skipping.{IsSoundOn, IsUnsafeOn}
 use Rattle.redo_run.specs.Runs.{Explains, ExplainsList, Lists, Reports, request_in, request_of}
 use Rattle.redo_run.specs.Candidates.{candidate_text, search_text}
@@ -62,21 +64,22 @@ module _ (options : Options) (tree : Tree) (request : List (List ℕ)) (named : 
   explains_build (Some text) old new build.Memory bundle book many never = tt
 
   -- a writer that fails in the report took a beginning of it
-  pub explains_device : {E : Type 0} (f : E) (left old new : Option (List ℕ)) (report : Report) (written : List ℕ) →
+  pub explains_write : (fault : WriteFault) (left old new : Option (List ℕ)) (report : Report) →
       IfSome left (λ text. IsBundle text tree) → IsResultOn tree request options.limits report →
-      written ≡ report_text report true → Writes {E = E} old new (Err f) written →
-      IfSome left (λ text. Explains {A = Exit} options text old new (Err run.Device))
-  explains_device f None old new report written bundle is made h = tt
-  explains_device f (Some text) old new report written bundle is made h = record {
+      Writes {E = WriteFault} old new (Err fault) (report_text report true) →
+      IfSome left (λ text. Explains {A = Exit} options text old new (Err (of_write fault)))
+  explains_write fault None old new report bundle is h = tt
+  explains_write write.Device (Some text) old new report bundle is h = record {
     tree = tree;
     bundle = bundle;
     report = report;
     is = moved (λ ps. IsResultOn tree ps options.limits report) is;
     out = h.0;
     more = h.1;
-    begins = sym made ∙ h.2;
+    begins = h.2;
     written = h.3;
   }
+  explains_write write.Memory (Some text) old new report bundle is h = tt
 
   -- the whole report was written
   pub reports : (left old new : Option (List ℕ)) (report : Report) (written : List ℕ) (exit : Exit) →

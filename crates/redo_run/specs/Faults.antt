@@ -1,6 +1,8 @@
 -- Faults of the parts of a run, as those of the run.
 use Rattle.redo_bundle.specs.declared.faults.BundleFault.{BundleFault}
 use Rattle.redo_bundle.specs.declared.faults.BundleFault.TheVariants as bundle
+use Rattle.redo_bundle.specs.declared.faults.WriteFault.{WriteFault}
+use Rattle.redo_bundle.specs.declared.faults.WriteFault.TheVariants as write
 use Rattle.redo_run.specs.declared.run_fault.RunFault.{RunFault}
 use Rattle.redo_run.specs.declared.run_fault.RunFault.TheVariants as build
 use Rattle.redo_run.specs.declared.fault.RunIoFault.{RunIoFault}
@@ -10,6 +12,10 @@ use Rattle.redo_run.specs.declared.fault.RunIoFault.TheVariants as run
 abbrev pub of_bundle : BundleFault → RunIoFault
 of_bundle bundle.Memory = run.Memory
 of_bundle fault = run.Bundle fault
+
+abbrev pub of_write : WriteFault → RunIoFault
+of_write write.Device = run.Device
+of_write write.Memory = run.Memory
 
 abbrev pub of_build : RunFault → RunIoFault
 of_build (build.Book line) = run.Book line

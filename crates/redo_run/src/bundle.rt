@@ -7,11 +7,10 @@ ghost use Rattle.redo_run.specs.Runs.{Explains, ExplainsList, IsUntouched, Lists
 use crate::candidates::text_of_search;
 use crate::exit::exit_after;
 use crate::request::requested;
-use crate::workers::build_many;
+use crate::workers::{build_over, past_of};
 use crate::{Cause, Exit, Gate, Options, RunIoFault};
 use redo_bundle::{ByteIn, ByteOut, read_bundle_by_line, write_all};
 use redo_path::Path;
-use redo_report::write_report;
 use redo_which::lookup::search;
 use std::alloc::Global;
 use std::sync::Wait;
@@ -19,7 +18,7 @@ use std::thread::Threads;
 
 /// Reads a bundle to its end, builds the targets of its tree, and writes the report, with the files of all targets that
 /// are built or kept, and the new book. The report is the same for every number of workers. Nothing is written before
-/// the build has answered.
+/// the build has answered. The text of the new book goes out piece by piece, and never stands in memory.
 ///
 /// The report goes out in many small pieces: hand in a writer with a buffer, as `Plain::new` over std's `BufWriter`,
 /// and flush it afterwards.
@@ -45,17 +44,18 @@ pub fn run_bundle<H: Threads + Wait + Sync, R: ByteIn, W: ByteOut, G: Gate>(
 {
     let tree = read_bundle_by_line(alloc, reader, &mut cause.header)?;
     let request = requested(alloc, &options.targets)?;
-    let (report, _ledger) = build_many(
+    let past = past_of(rt, alloc, tree, options.workers)?;
+    let (report, _ledger) = build_over(
         rt,
         alloc,
-        tree,
+        past,
         &request,
         options.limits,
         options.workers,
         gate,
     )?;
     let exit = exit_after(alloc, &report, &request)?;
-    write_report(writer, &report, true)?;
+    report.write(alloc, writer)?;
     Ok(exit)
 }
 

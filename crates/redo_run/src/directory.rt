@@ -194,7 +194,7 @@ where
         gate,
     )?;
     let exit = exit_after(alloc, &report, &request)?;
-    let Report { rows, files, begun } = report;
+    let Report { rows, files, begun } = report.into_report(alloc)?;
     let files = with_book_last(alloc, changed(alloc, &tree, files)?)?;
     let stored = store(rt, alloc, dir, &files, cause)?;
     let report = Report { rows, files, begun };

@@ -7,9 +7,10 @@ ghost use Rattle.redo_core.specs.Results.{IsResult};
 ghost use Rattle.redo_core.specs.inside.Reported.{placed};
 ghost use Rattle.redo_run.specs.Exits.{IsExitOf, fails, is_made};
 
+use redo_past::RunReport;
 use redo_path::Path;
 use redo_record::Outcome;
-use redo_report::{Report, Row};
+use redo_report::Row;
 use std::alloc::{AllocError, Global};
 use std::collections::BTreeSet;
 
@@ -48,14 +49,14 @@ fn has_failed(wanted: &BTreeSet<Path>, rows: &[Row]) -> bool
 /// Whether every requested path is a source or built.
 pub(crate) fn exit_after(
     alloc: Global,
-    report: &Report,
+    report: &RunReport,
     request: &[Path],
 ) -> Result<Exit, AllocError>
     ensures { (given : GivenView) → given.request ≡ request.now → IsResult given report.now →
         IfOk result (IsExitOf given) }
 {
     let wanted = set_of(alloc, request)?;
-    if has_failed(&wanted, &report.rows) {
+    if has_failed(&wanted, report.rows()) {
         Ok(Exit::SomeFailed)
     } else {
         Ok(Exit::Good)

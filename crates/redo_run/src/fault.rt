@@ -3,7 +3,7 @@
 ghost use Rattle.std.specs.Prelude.{◌≡◌};
 
 use crate::RunFault;
-use redo_bundle::{Broken, BundleFault};
+use redo_bundle::{Broken, BundleFault, WriteFault};
 use std::alloc::{AllocError, AllocFailed};
 use thiserror::Error;
 
@@ -63,6 +63,19 @@ impl From<BundleFault> for RunIoFault {
         match error {
             BundleFault::Memory => RunIoFault::Memory,
             fault => RunIoFault::Bundle(fault),
+        }
+    }
+}
+
+impl From<WriteFault> for RunIoFault {
+    ghost use Rattle.redo_run.specs.Faults.{of_write};
+
+    ghost from_gives = { λ error fault. fault ≡ of_write error };
+
+    fn from(error: WriteFault) -> RunIoFault {
+        match error {
+            WriteFault::Device => RunIoFault::Device,
+            WriteFault::Memory => RunIoFault::Memory,
         }
     }
 }

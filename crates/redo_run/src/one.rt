@@ -64,5 +64,5 @@ pub fn build_one(
     while board.ready() > 0 {
         advance_newest(&mut board)?;
     }
-    Ok(board.finish()?)
+    Ok(board.finish()?.into_report(alloc)?)
 }

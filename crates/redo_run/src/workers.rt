@@ -27,7 +27,7 @@ use redo_build::laws::counts_tell;
 use redo_core::board::{Board, Stop};
 use redo_core::laws::what_was_taken;
 use redo_core::work::Work;
-use redo_past::Past;
+use redo_past::{Past, RunReport};
 use redo_path::Path;
 use redo_report::Report;
 use redo_step::Limits;
@@ -51,7 +51,7 @@ fn answer_of<B: Build, R: Wait>(
     rt: &R,
     alloc: Global,
     desk: EndedDesk<B>,
-) -> Result<(Report, Ledger<Work>), Stop>
+) -> Result<(RunReport, Ledger<Work>), Stop>
     ensures { IsAnswerTo B.given result }
 {
     what_was_taken();
@@ -168,7 +168,7 @@ fn run_build<B: Build + Send + Sync, R: Threads + Wait + Sync, G: Gate>(
     board: Board,
     workers: usize,
     gate: &G,
-) -> Result<(Report, Ledger<Work>), Stop>
+) -> Result<(RunReport, Ledger<Work>), Stop>
     requires of_build { board.given ≡ B.given }
     requires running { IsNone board.stopped }
     requires opened { HasTaken board [] }
@@ -186,7 +186,8 @@ fn run_build<B: Build + Send + Sync, R: Threads + Wait + Sync, G: Gate>(
     answer_of(rt, alloc, ended)
 }
 
-/// What a run before has left in a tree. The files that its book tells digests of are digested by up to so many threads.
+/// What a run before has left in a tree. The files that its book tells digests of are digested by up to so many
+/// threads.
 pub(crate) fn past_of<R: Threads + Sync>(
     rt: &R,
     alloc: Global,
@@ -227,10 +228,11 @@ pub fn build_many<R: Threads + Wait + Sync, G: Gate>(
     ensures only_unsafe { result ≡ Err RunFault.TooMany → IsUnsafeOn tree request.now limits }
 {
     let past = past_of(rt, alloc, tree, workers)?;
-    build_over(rt, alloc, past, request, limits, workers, gate)
+    let (report, ledger) = build_over(rt, alloc, past, request, limits, workers, gate)?;
+    Ok((report.into_report(alloc)?, ledger))
 }
 
-/// The same over what a run before has left.
+/// The same over what a run before has left. The new book has no text yet.
 pub(crate) fn build_over<R: Threads + Wait + Sync, G: Gate>(
     rt: &R,
     alloc: Global,
@@ -239,7 +241,7 @@ pub(crate) fn build_over<R: Threads + Wait + Sync, G: Gate>(
     limits: Limits,
     workers: usize,
     gate: &G,
-) -> Result<(Report, Ledger<Work>), RunFault>
+) -> Result<(RunReport, Ledger<Work>), RunFault>
     requires some { 1 ≤ workers }
     requires few { workers ≤ 64 }
     ensures report { IfOk result (λ r. IsResultOn past.tree request.now limits r.0) }

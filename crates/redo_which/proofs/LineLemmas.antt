@@ -1,6 +1,7 @@
 -- The lines of missing candidates.
-use Rattle.std.proofs.Common.{◌≡◌, ◌++◌, ◌∷◌, ◌∙◌, [], List, ℕ, ap, append_assoc, cond, map, refl, sym}
-use Rattle.std.specs.Prelude.{Err, Ok, OnOk, Result, flat_map, is_ok}
+use Rattle.std.proofs.Common.{◌≡◌, ◌+◌, ◌++◌, ◌∷◌, ◌∙◌, [], List, ℕ, ap, arith, length, map, refl}
+use Rattle.std.proofs.lemmas.List.{length-append}
+use Rattle.std.specs.Prelude.{Err, IfOk, Ok, Result, flat_map}
 use Rattle.redo_which.specs.Candidates.{Place}
 use Rattle.redo_which.specs.Lines.{lines_of}
 
@@ -12,7 +13,15 @@ lines-map front (p ∷ ps) = ap (λ l. (front ++ p.do_file ++ 10 ∷ []) ++ l) (
 pub lines-split : (front : List ℕ) (p : Place) (rest : List Place) (paths : List (List ℕ)) → paths ≡ p.do_file ∷ map (λ p. p.do_file) rest → flat_map (λ path. front ++ path ++ 10 ∷ []) paths ≡ (front ++ p.do_file ++ 10 ∷ []) ++ lines_of front rest
 lines-split front p rest paths h = ap (flat_map (λ path. front ++ path ++ 10 ∷ [])) h ∙ ap (λ l. (front ++ p.do_file ++ 10 ∷ []) ++ l) (lines-map front rest)
 
--- the rest was added behind the first line
-pub added : {T E : Type 0} (r : Result T E) (old line rest all mid new : List ℕ) → mid ≡ old ++ line → all ≡ line ++ rest → new ≡ cond (is_ok r) (mid ++ rest) mid → OnOk r (new ≡ old ++ all)
-added (Ok x) old line rest all mid new m a n = n ∙ ap (λ l. l ++ rest) m ∙ append_assoc old line rest ∙ ap (λ l. old ++ l) (sym a)
-added (Err e) old line rest all mid new m a n = tt
+-- the first line and the rest together are as long as their bytes
+pub lines-size : (front first behind all : List ℕ) (line sum : ℕ) → all ≡ (front ++ first ++ 10 ∷ []) ++ behind → line ≡ length front + (length first + 1) → sum ≡ line + length behind → sum ≡ length all
+lines-size front first behind all line sum h l s =
+    let whole : length all ≡ length (front ++ first ++ 10 ∷ []) + length behind = ap length h ∙ length-append (front ++ first ++ 10 ∷ []) behind in
+    let ended : length (front ++ first ++ 10 ∷ []) ≡ length (front ++ first) + 1 = length-append (front ++ first) (10 ∷ []) in
+    let both : length (front ++ first) ≡ length front + length first = length-append front first in
+    omega (arith, whole, ended, both, l, s)
+
+-- and so where there is a sum
+pub sum-so : {E : Type 0} (r : Result ℕ E) (m n : ℕ) → ((k : ℕ) → k ≡ m → k ≡ n) → IfOk r (λ k. k ≡ m) → IfOk r (λ k. k ≡ n)
+sum-so (Ok k) m n f h = f k h
+sum-so (Err e) m n f h = tt

@@ -93,6 +93,13 @@ impl<'a> CandidateRef<'a> {
         text.extend_from_slice(b".do")
     }
 
+    /// How many bytes the text of the .do file's path has.
+    pub fn size(&self) -> usize
+        ensures { result ≡ length self.now.do_file }
+    {
+        self.dir.len() + self.prefix.len() + self.suffix.len() + 3
+    }
+
     /// The text of the .do file's path in three pieces, behind which stands `.do`.
     pub fn pieces(&self) -> (&'a [u8], &'a [u8], &'a [u8])
         ensures { result.0.now ++ result.1.now ++ result.2.now ++ codes ".do" ≡ self.now.do_file }

@@ -24,7 +24,7 @@ mod missing;
 pub use args::Args;
 pub use candidate_ref::CandidateRef;
 pub use candidates::Candidates;
-pub use lines::MissingLines;
+pub use lines::{MissingLines, add_sizes};
 pub use missing::{Missing, Tail};
 use redo_path::Path;
 

@@ -1,6 +1,6 @@
 //! The lines of missing candidates, target after target.
 
-ghost use Rattle.std.specs.Prelude.{◌≡◌, ◌++◌, ◌∷◌, [], IfOk, OnErr, OnOk, flat_map, length, take};
+ghost use Rattle.std.specs.Prelude.{◌≡◌, ◌+◌, ◌++◌, ◌∷◌, [], IfOk, OnOk, flat_map, length};
 ghost use Rattle.redo_which.specs.Lines.{lines_of};
 
 use crate::candidate_ref::CandidateRef;
@@ -75,21 +75,26 @@ impl<'a> MissingLines<'a> {
         Ok(())
     }
 
-    /// Adds the lines of all these candidates to a text, and keeps those behind the first. On want of memory a
-    /// beginning of them may have been added.
-    pub fn add(&mut self, missing: &'a Missing, text: &mut Vec<u8>) -> Result<(), AllocError>
+    /// How many bytes the lines of all these candidates take. Those behind the first are kept.
+    pub fn size(&mut self, missing: &'a Missing) -> Result<usize, AllocError>
         ensures front { self.new.0 ≡ self.old.0 }
-        ensures ok { OnOk result (text.new.items
-            ≡ text.old.items ++ flat_map (λ path. self.old.0 ++ path ++ 10 ∷ []) missing.now) }
-        ensures err { OnErr result (take (length text.old.items) text.new.items ≡ text.old.items) }
+        ensures size { IfOk result (λ n. n
+            ≡ length (flat_map (λ path. self.old.0 ++ path ++ 10 ∷ []) missing.now)) }
     {
         let Some((first, rest)) = missing.split_first() else {
-            return Ok(());
+            return Ok(0);
         };
         self.keep(&rest)?;
-        add_line(self.front, &first, text)?;
-        text.extend_from_slice(&self.text)
+        let line = add_sizes(self.front.len(), first.size() + 1)?;
+        add_sizes(line, self.text.len())
     }
+}
+
+/// So many bytes together. A sum that is too large for memory is refused as such.
+pub fn add_sizes(first: usize, second: usize) -> Result<usize, AllocError>
+    ensures { IfOk result (λ sum. sum ≡ first + second) }
+{
+    first.checked_add(second).ok_or(AllocError)
 }
 
 /// The lines of candidates, in place of a text.
@@ -109,8 +114,7 @@ fn add_line(
     candidate: &CandidateRef<'_>,
     text: &mut Vec<u8>,
 ) -> Result<(), AllocError>
-    ensures ok { OnOk result (text.new.items ≡ text.old.items ++ (front.now ++ candidate.now.do_file ++ 10 ∷ [])) }
-    ensures err { OnErr result (take (length text.old.items) text.new.items ≡ text.old.items) }
+    ensures { OnOk result (text.new.items ≡ text.old.items ++ (front.now ++ candidate.now.do_file ++ 10 ∷ [])) }
 {
     text.extend_from_slice(front)?;
     candidate.spell(text)?;

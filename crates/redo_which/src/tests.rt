@@ -1,10 +1,10 @@
 //! Candidates, searches and arguments, a table each, and lines.
 
 use crate::lookup::{candidates, find, search};
-use crate::{Found, Missing, MissingLines, Rule};
+use crate::{Found, Missing, MissingLines, Rule, add_sizes};
 use redo_path::{Path, PathFault, resolve};
 use redo_tree::Tree;
-use std::alloc::Global;
+use std::alloc::{AllocError, Global};
 use std::test::Fail;
 
 fn path(alloc: Global, word: &[u8]) -> Result<Path, PathFault> {
@@ -274,38 +274,39 @@ fn missing_of(alloc: Global, tree: &Tree, word: &str) -> Result<Missing, Fail> {
 }
 
 #[test]
-fn lines_are_added_behind_those_of_neighbours(rt: HostRuntime) -> Result<(), Fail> {
+fn lines_of_neighbours_are_kept(rt: HostRuntime) -> Result<(), Fail> {
     let alloc = rt.alloc();
     let tree = tree_of(alloc, &["a", "b"], &["default.o.do", "a/z.o.do"])?;
+    let table = [
+        ("a/x.o", 46, "no a/default.o.do\nno a/default.do\n"),
+        ("a/y.o", 46, "no a/default.o.do\nno a/default.do\n"),
+        ("a/z.o", 0, "no a/default.o.do\nno a/default.do\n"),
+        ("b/y", 40, "no b/default.do\nno default.do\n"),
+        ("b/default.o", 34, "no b/default.do\n"),
+    ];
     let mut found = Vec::new(alloc);
-    for target in [
-        "a/x.o",
-        "a/y.o",
-        "a/z.o",
-        "b/y.o",
-        "b/y",
-        "b/z",
-        "b/default.o",
-    ] {
+    for (target, _, _) in table {
         found.push(missing_of(alloc, &tree, target)?)?;
     }
     let mut lines = MissingLines::new(alloc, b"no ");
-    let mut text = b"end\n".to_vec(alloc)?;
-    for missing in &found {
-        lines.add(missing, &mut text)?;
+    for (missing, (target, size, kept)) in found.iter().zip(table) {
+        assert_eq!(rt; lines.size(missing), Ok(size), "{target}");
+        assert_eq!(rt; lines.text(), kept.as_bytes(), "{target}");
     }
-    assert_eq!(rt;
-        text.as_slice(),
-        b"end\n\
-          no a/x.o.do\nno a/default.o.do\nno a/default.do\n\
-          no a/y.o.do\nno a/default.o.do\nno a/default.do\n\
-          no b/y.o.do\nno b/default.o.do\nno b/default.do\n\
-          no b/y.do\nno b/default.do\nno default.do\n\
-          no b/z.do\nno b/default.do\nno default.do\n\
-          no b/default.o.do\nno b/default.do\n"
-            .as_slice()
-    );
     assert_eq!(rt; lines.front(), b"no ".as_slice());
-    assert_eq!(rt; lines.text(), b"no b/default.do\n".as_slice());
     Ok(())
+}
+
+#[test]
+fn sizes_are_added_as_far_as_numbers_go(rt: HostRuntime) {
+    for (a, b, sum) in [
+        (0, 0, Ok(0)),
+        (14, 83, Ok(97)),
+        (usize::MAX, 0, Ok(usize::MAX)),
+        (usize::MAX - 1, 1, Ok(usize::MAX)),
+        (usize::MAX, 1, Err(AllocError)),
+        (1, usize::MAX, Err(AllocError)),
+    ] {
+        assert_eq!(rt; add_sizes(a, b), sum);
+    }
 }

@@ -155,7 +155,7 @@ fn finished(alloc: Global, board: Board) -> Result<Vec<u8>, Fail> {
     if !board.quiet() {
         Err("not quiet")?;
     }
-    let report = board.finish()?;
+    let report = board.finish()?.into_report(alloc)?;
     Ok(report_text(alloc, &report, true)?)
 }
 

@@ -9,17 +9,17 @@ use std::sync::Arc;
 use std::test::Fail;
 
 /// The report of a board that is quiet after so many takes.
-fn report_after(mut board: Board, takes: usize) -> Result<Report, Fail> {
+fn report_after(alloc: Global, mut board: Board, takes: usize) -> Result<Report, Fail> {
     go(&mut board, takes)?;
     if !board.quiet() {
         Err("not quiet")?;
     }
-    Ok(board.finish()?)
+    Ok(board.finish()?.into_report(alloc)?)
 }
 
 /// The tree that a first run leaves, whose script of `base` then has this text.
 fn left(alloc: Global, base: &[u8]) -> Result<Arc<Tree>, Fail> {
-    let first = report_after(open_over(alloc, tree(alloc, 4)?, &[b"top"], 4)?, 7)?;
+    let first = report_after(alloc, open_over(alloc, tree(alloc, 4)?, &[b"top"], 4)?, 7)?;
     let scripts = tree(alloc, 3)?;
     let mut left = Tree::new(alloc)?;
     for (name, content) in &first.files {
@@ -70,7 +70,7 @@ const SECOND_RUNS: [(&str, &[u8], &[&[u8]], usize, &[&[u8]]); 4] = [
 fn what_stands_is_kept(rt: HostRuntime) -> Result<(), Fail> {
     for (rule, base, request, takes, begun) in SECOND_RUNS {
         let tree = left(rt.alloc(), base)?;
-        let report = report_after(open_over(rt.alloc(), tree, request, 4)?, takes)?;
+        let report = report_after(rt.alloc(), open_over(rt.alloc(), tree, request, 4)?, takes)?;
         assert!(rt; report.begun.len() == begun.len(), "{rule}");
         for (path, word) in report.begun.iter().zip(begun) {
             assert!(rt; path.text() == *word, "{rule}");

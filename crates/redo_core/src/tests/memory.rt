@@ -77,7 +77,7 @@ fn built(alloc: Global, tree: &Arc<Tree>) -> Result<Option<Vec<u8>>, Fail> {
     if !board.quiet() {
         Err("not quiet")?;
     }
-    match board.finish() {
+    match board.finish().and_then(|report| report.into_report(alloc)) {
         Ok(report) => Ok(Some(report_text(alloc, &report, true)?)),
         Err(_) => Ok(None),
     }

@@ -1,17 +1,22 @@
 -- What the new book is made of.
-use Rattle.std.specs.Prelude.{Bool, true, false, not, ◌&&◌, List, [], ◌∷◌, ◌++◌, ℕ, Option, Some, None}
-use Rattle.std.specs.Prelude.{if◌then◌else◌, filter, filter_map, is_some, map}
+use Rattle.std.specs.Prelude.{◌≡◌, ◌≢◌, ◌<◌, Bool, true, false, not, ◌&&◌, List, [], ◌∷◌, ◌++◌, ℕ, Option, Some, None}
+use Rattle.std.specs.Prelude.{if◌then◌else◌, filter, filter_map, is_some, length, map}
 use Rattle.std.specs.Cmp.Lexicographic.{slice_cmp}
 use Rattle.std.specs.List.{AllByRecursion}
 use Rattle.std.specs.Ordering.{is_lt, nat_cmp}
+use Rattle.std.specs.Vec.{with_item}
 use Rattle.redo_tree.specs.Tree.{Tree, file_at}
 use Rattle.redo_which.specs.Rule.{found_of, is_rule}
 use Rattle.redo_record.specs.declared.deps.Dep.{Dep}
-use Rattle.redo_book.specs.Book.{Adds, IsEntry, Record}
+use Rattle.redo_book.specs.Book.{IsEntry, IsRecord, Record, book_lines, entry_line, record_lines, record_of, text_of}
 use Rattle.redo_report.specs.Reports.{AreAscending}
+use Rattle.redo_report.specs.declared.report.Report.{Report}
 use Rattle.redo_report.specs.declared.report.Row.{Row}
+use Rattle.redo_which.specs.Candidates.{book_path}
 use Rattle.redo_past.specs.NewBook.{is_built, new_record, noted, row_at}
 use Rattle.redo_past.specs.Past.{PastView}
+use Rattle.redo_past.specs.declared.items.Item.{Item}
+use Rattle.redo_past.specs.declared.items.Item.TheVariants as items
 
 -- rows in path order
 abbrev pub AreRows : List Row → Type 0
@@ -22,10 +27,18 @@ pub record StatesView : Type 0 where
   pub sources : Tree
   pub rows : List Row
 
--- a book's text goes on with these entries of a record, each of which may stand in one
-pub record AreWritten (sources : Tree) (rows : List Row) (deps : List Dep) (old new : List ℕ) : Type 0 where
-  pub adds : Adds old new (noted sources rows deps)
-  pub each : AllByRecursion IsEntry (noted sources rows deps)
+-- what stands when a run ends that came to these rows
+abbrev pub states_after : PastView → List Row → StatesView
+states_after past rows = record { sources = past.sources; rows = rows }
+
+-- the lines of entries of a record, as a book has them
+abbrev pub noted_text : StatesView → List Dep → List ℕ
+noted_text states deps = text_of (map entry_line (noted states.sources states.rows deps))
+
+-- these lines have so many bytes, and each entry may stand in a book
+pub record AreSized (states : StatesView) (deps : List Dep) (n : ℕ) : Type 0 where
+  pub size : n ≡ length (noted_text states deps)
+  pub each : AllByRecursion IsEntry (noted states.sources states.rows deps)
 
 abbrev pub is_top : List ℕ → Bool
 is_top [] = true
@@ -77,3 +90,41 @@ joined keeps (r ∷ built) old =
 -- the records of the new book
 abbrev pub new_records : PastView → List Row → List Record
 new_records past rows = joined (carries past rows) (built_records past.sources rows) past.book
+
+-- the text of the new book
+abbrev pub new_text : PastView → List Row → List ℕ
+new_text past rows = text_of (book_lines (new_records past rows))
+
+-- the record that is made of an item
+abbrev pub record_in : StatesView → Item → Record
+record_in states (items.Built row) = new_record states.sources states.rows row.now
+record_in states (items.Carried r) = record_of r.now
+
+-- its lines
+abbrev pub item_text : StatesView → Item → List ℕ
+item_text states item = text_of (record_lines (record_in states item))
+
+-- a book may have a record of the item
+abbrev pub IsSound : Item → Type 0
+IsSound (items.Built row) = row.now.path ≢ []
+IsSound (items.Carried r) = IsRecord (record_of r.now)
+
+-- these records are made of the items
+pub record AreItems (states : StatesView) (list : List Item) (records : List Record) : Type 0 where
+  pub are : map (record_in states) list ≡ records
+  pub sound : AllByRecursion IsSound list
+
+-- the report with this text as that of the book, which is the file of this number
+abbrev pub with_book_text : Report → ℕ → List ℕ → Report
+with_book_text report at text =
+    record { rows = report.rows; files = with_item report.files at (book_path, text); begun = report.begun }
+
+-- and so with the text of the new book
+abbrev pub with_new_book : PastView → Report → ℕ → Report
+with_new_book past report at = with_book_text report at (new_text past report.rows.items)
+
+-- the rows are in order, the book is one of the files, and its text has so many bytes
+pub record IsRunReport (past : PastView) (report : Report) (at n : ℕ) : Type 0 where
+  pub rows : AreRows report.rows.items
+  pub within : at < length report.files.items
+  pub size : n ≡ length (new_text past report.rows.items)

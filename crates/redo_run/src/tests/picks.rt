@@ -60,7 +60,7 @@ fn every_order_comes_to_the_report(rt: HostRuntime) -> Result<(), Fail> {
     if !board.quiet() {
         return Err("not quiet".into());
     }
-    let text = report_text(alloc, &board.finish()?, true)?;
+    let text = report_text(alloc, &board.finish()?.into_report(alloc)?, true)?;
     assert_eq!(rt; text.as_slice(), DIAMOND_REPORT);
     Ok(())
 }
@@ -118,7 +118,7 @@ fn what_stands_is_no_pick(rt: HostRuntime) -> Result<(), Fail> {
     if !board.quiet() {
         return Err("not quiet".into());
     }
-    let text = report_text(alloc, &board.finish()?, true)?;
+    let text = report_text(alloc, &board.finish()?.into_report(alloc)?, true)?;
     assert_eq!(rt; text.as_slice(), TOP_ALONE_REPORT);
     Ok(())
 }

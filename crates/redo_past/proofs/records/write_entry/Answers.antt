@@ -1,17 +1,17 @@
-use Rattle.std.proofs.Common.{◌∷◌, [], sym, subst}
-use Rattle.std.proofs.lemmas.Result.{on_ok_weaker}
+use Rattle.std.proofs.Common.{◌∷◌, [], subst, sym}
+use Rattle.redo_bundle.specs.Bundle.{Writes}
 use Rattle.redo_record.specs.declared.deps.DepKind.{DepKind}
-use Rattle.redo_past.specs.inside.Books.{AreWritten}
+use Rattle.redo_past.specs.inside.Books.{noted_text}
 use Rattle.redo_past.proofs.records.write_entry.Goals as goal
 
-pub returns-in-Create-clause-written : goal.returns-in-Create-clause-written
-returns-in-Create-clause-written c =
+pub returns-in-Create-clause-writes : goal.returns-in-Create-clause-writes
+returns-in-Create-clause-writes g c =
     let states = c.args.states.now in
-    let P : DepKind → Type 0 = λ kind. AreWritten states.sources states.rows (record { kind = kind; path = c.args.dep.now.path } ∷ []) c.args.writer.now c.write_create.new.writer in
-    on_ok_weaker c.write_create.result (λ h. subst P (sym c.in-Create.is) (h states.sources states.rows)) c.write_create.ensures
+    let P : DepKind → Type 0 = λ kind. Writes (g.W.ByteOut.held c.args.out.now) (g.W.ByteOut.held c.write_created.new.out) c.write_created.result (noted_text states (record { kind = kind; path = c.args.dep.now.path } ∷ [])) in
+    subst P (sym c.in-Create.is) (c.write_created.ensures.writes states)
 
-pub returns-in-Always-clause-written : goal.returns-in-Always-clause-written
-returns-in-Always-clause-written c =
+pub returns-in-Always-clause-writes : goal.returns-in-Always-clause-writes
+returns-in-Always-clause-writes g c =
     let states = c.args.states.now in
-    let P : DepKind → Type 0 = λ kind. AreWritten states.sources states.rows (record { kind = kind; path = c.args.dep.now.path } ∷ []) c.args.writer.now c.write_always.new.writer in
-    on_ok_weaker c.write_always.result (λ h. subst P (sym c.in-Always.is) (h states.sources states.rows)) c.write_always.ensures
+    let P : DepKind → Type 0 = λ kind. Writes (g.W.ByteOut.held c.args.out.now) (g.W.ByteOut.held c.write_made_again.new.out) c.write_made_again.result (noted_text states (record { kind = kind; path = c.args.dep.now.path } ∷ [])) in
+    subst P (sym c.in-Always.is) (c.write_made_again.ensures.writes states)

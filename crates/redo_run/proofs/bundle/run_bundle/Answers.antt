@@ -4,39 +4,60 @@ use Rattle.redo_core.specs.Results.{IsRefused, IsResultOn, NeedsTooMany}
 use Rattle.redo_run.specs.Runs.{request_of}
 use Rattle.redo_run.specs.Skipping.{IsSoundOn, IsUnsafeOn}
 use Rattle.redo_run.specs.declared.run_fault.RunFault.TheVariants as build
-use Rattle.redo_run.proofs.ToldLemmas.{explains_build, explains_device, reports}
+use Rattle.redo_tree.specs.Tree.{Tree}
+use Rattle.redo_run.proofs.ToldLemmas.{explains_build, explains_write, reports}
 use Rattle.redo_run.proofs.bundle.run_bundle.Goals as goal
+
+-- a past that isn't read has a refused book
+pub returns-in_err-past-clause-fault : goal.returns-in_err-past-clause-fault
+returns-in_err-past-clause-fault g c =
+    let p = err_from_is_err_and c.from_residual-in_err-past.result c.from_residual-in_err-past.ensures.1 in
+    let tree = c.in_ok-tree.tree in
+    let fault = c.in_err-past.field-0.0 in let answer = c.in_err-past.was in
+    let book : (n : ℕ) → fault ≡ build.Book n → IsRefused tree n = λ n is. c.past_of.ensures.book n (answer ∙ ap Err is) in
+    let never : fault ≡ build.TooMany → ⊥ = λ is. c.past_of.ensures.no_build (answer ∙ ap Err is) in
+    rw (p.1, p.2) (explains_build c.args.options.now tree c.in_ok-request.request.items
+    (c.in_ok-request.ensures ∙ ap request_of c.deref.ensures.value) _ _ _ fault c.in_ok-tree.ensures.reads book
+    (λ is. absurd (never is)) (λ is. absurd (never is)))
 
 pub returns-in_err-report-clause-fault : goal.returns-in_err-report-clause-fault
 returns-in_err-report-clause-fault g c =
     let p = err_from_is_err_and c.from_residual-in_err-report.result c.from_residual-in_err-report.ensures.1 in
     let tree = c.in_ok-tree.tree in let limits = c.args.options.now.limits in
     let fault = c.in_err-report.field-0.0 in let answer = c.in_err-report.was in
-    let many : fault ≡ build.TooMany → NeedsTooMany tree c.deref-2.result.now limits = λ is. c.build_many.ensures.too_many (answer ∙ ap Err is) in
-    let never : fault ≡ build.TooMany → IsUnsafeOn tree c.deref-2.result.now limits = λ is. c.build_many.ensures.only_unsafe (answer ∙ ap Err is) in
-    let book : (n : ℕ) → fault ≡ build.Book n → IsRefused tree n = λ n is. c.build_many.ensures.book n (answer ∙ ap Err is) in
-    let M : List (List ℕ) → Type 0 = λ ps. fault ≡ build.TooMany → NeedsTooMany tree ps limits in
-    let N : List (List ℕ) → Type 0 = λ ps. fault ≡ build.TooMany → IsUnsafeOn tree ps limits in
+    let shared : c.in_ok-past.past.tree ≡ tree = c.in_ok-past.ensures.past in
+    let book : (n : ℕ) → fault ≡ build.Book n → IsRefused tree n = λ n is. absurd (c.build_over.ensures.book n (answer ∙ ap Err is)) in
+    let M : Tree → Type 0 = λ t. fault ≡ build.TooMany → NeedsTooMany t c.deref-2.result.now limits in
+    let N : Tree → Type 0 = λ t. fault ≡ build.TooMany → IsUnsafeOn t c.deref-2.result.now limits in
+    let Q : List (List ℕ) → Type 0 = λ ps. fault ≡ build.TooMany → NeedsTooMany tree ps limits in
+    let R : List (List ℕ) → Type 0 = λ ps. fault ≡ build.TooMany → IsUnsafeOn tree ps limits in
+    let many = subst M shared (λ is. c.build_over.ensures.too_many (answer ∙ ap Err is)) in
+    let never = subst N shared (λ is. c.build_over.ensures.only_unsafe (answer ∙ ap Err is)) in
     rw (p.1, p.2) (explains_build c.args.options.now tree c.in_ok-request.request.items
     (c.in_ok-request.ensures ∙ ap request_of c.deref.ensures.value) _ _ _ fault c.in_ok-tree.ensures.reads book
-    (subst M c.deref-2.ensures.value many) (subst N c.deref-2.ensures.value never))
+    (subst Q c.deref-2.ensures.value many) (subst R c.deref-2.ensures.value never))
 
-pub returns-in_err-write_report-clause-fault : goal.returns-in_err-write_report-clause-fault
-returns-in_err-write_report-clause-fault g c =
-    let p = err_from_is_err_and c.from_residual-in_err-write_report.result c.from_residual-in_err-write_report.ensures.1 in
-    let limits = c.args.options.now.limits in
-    let E : List (List ℕ) → Type 0 = λ ps. IsResultOn c.in_ok-tree.tree ps limits c.in_ok-report.report in
-    rw (p.1, p.2) (explains_device c.args.options.now c.in_ok-tree.tree c.in_ok-request.request.items
-    (c.in_ok-request.ensures ∙ ap request_of c.deref.ensures.value) c.in_err-write_report.field-0.0 _ _ _ c.in_ok-report.report _
-    c.in_ok-tree.ensures.reads (subst E c.deref-2.ensures.value c.in_ok-report.ensures.report) refl c.in_err-write_report.ensures.writes)
+pub returns-in_err-write-clause-fault : goal.returns-in_err-write-clause-fault
+returns-in_err-write-clause-fault g c =
+    let p = err_from_is_err_and c.from_residual-in_err-write.result c.from_residual-in_err-write.ensures.1 in
+    let tree = c.in_ok-tree.tree in let limits = c.args.options.now.limits in let report = c.in_ok-report.report in
+    let M : Tree → Type 0 = λ t. IsResultOn t c.deref-2.result.now limits report in
+    let Q : List (List ℕ) → Type 0 = λ ps. IsResultOn tree ps limits report in
+    rw (p.1, p.2) (explains_write c.args.options.now tree c.in_ok-request.request.items
+    (c.in_ok-request.ensures ∙ ap request_of c.deref.ensures.value) c.in_err-write.field-0.0 _ _ _ report c.in_ok-tree.ensures.reads
+    (subst Q c.deref-2.ensures.value (subst M c.in_ok-past.ensures.past c.in_ok-report.ensures.report)) c.in_err-write.ensures.writes)
 
 pub returns-clause-report : goal.returns-clause-report
 returns-clause-report g c =
-    let limits = c.args.options.now.limits in
-    let E : List (List ℕ) → Type 0 = λ ps. IsResultOn c.in_ok-tree.tree ps limits c.in_ok-report.report in
-    let is : E c.in_ok-request.request.items = subst E c.deref-2.ensures.value c.in_ok-report.ensures.report in
-    let S : List (List ℕ) → Type 0 = λ ps. IsSoundOn c.in_ok-tree.tree ps limits c.in_ok-report.report in
+    let tree = c.in_ok-tree.tree in let limits = c.args.options.now.limits in let report = c.in_ok-report.report in
+    let shared : c.in_ok-past.past.tree ≡ tree = c.in_ok-past.ensures.past in
+    let M : Tree → Type 0 = λ t. IsResultOn t c.deref-2.result.now limits report in
+    let N : Tree → Type 0 = λ t. IsSoundOn t c.deref-2.result.now limits report in
+    let Q : List (List ℕ) → Type 0 = λ ps. IsResultOn tree ps limits report in
+    let R : List (List ℕ) → Type 0 = λ ps. IsSoundOn tree ps limits report in
+    let is : Q c.in_ok-request.request.items = subst Q c.deref-2.ensures.value (subst M shared c.in_ok-report.ensures.report) in
+    let sound : R c.in_ok-request.request.items = subst R c.deref-2.ensures.value (subst N shared c.in_ok-report.ensures.sound) in
     let exit = c.in_ok-exit.ensures is.0 (is.1.requested ∙ sym c.deref-3.ensures.value) is.2 in
-    reports c.args.options.now c.in_ok-tree.tree c.in_ok-request.request.items
-    (c.in_ok-request.ensures ∙ ap request_of c.deref.ensures.value) _ _ _ c.in_ok-report.report _ c.in_ok-exit.exit
-    c.in_ok-tree.ensures.reads is (subst S c.deref-2.ensures.value c.in_ok-report.ensures.sound) refl c.in_ok-write_report.ensures.writes exit
+    reports c.args.options.now tree c.in_ok-request.request.items
+    (c.in_ok-request.ensures ∙ ap request_of c.deref.ensures.value) _ _ _ report _ c.in_ok-exit.exit
+    c.in_ok-tree.ensures.reads is sound refl c.in_ok-write.ensures.writes exit

@@ -13,11 +13,11 @@ use Rattle.redo_run.proofs.exit.exit_after.Goals.{After-has_failed}
 found : (c : After-has_failed) (given : GivenView) → given.request ≡ c.args.request.now → (is : IsResult given c.args.report.now) →
     list_any (fails (placed [] given.request)) is.report.rows.items ≡ c.has_failed.result
 found c given same is =
-    let A : List (List ℕ) → Type 0 = λ keys. c.has_failed.result ≡ list_any (fails keys) c.deref.result.now in
+    let A : List (List ℕ) → Type 0 = λ keys. c.has_failed.result ≡ list_any (fails keys) c.rows.result.now in
     let B : List Row → Type 0 = λ rows. c.has_failed.result ≡ list_any (fails (placed [] c.args.request.now)) rows in
     ap (λ rows. list_any (fails (placed [] given.request)) rows) (sym is.with_book.rows)
     ∙ ap (λ ps. list_any (fails (placed [] ps)) c.args.report.now.rows.items) same
-    ∙ sym (subst B c.deref.ensures.value (subst A c.in_ok-wanted.ensures c.has_failed.ensures))
+    ∙ sym (subst B c.rows.ensures (subst A c.in_ok-wanted.ensures c.has_failed.ensures))
 
 pub returns-then-has_failed : goal.returns-then-has_failed
 returns-then-has_failed c = λ given same is.

@@ -1,5 +1,6 @@
-use Rattle.std.proofs.Common.{rules, Err, ap, refl, subst, ◌∙◌}
-use Rattle.redo_core.specs.Results.{NeedsTooMany}
+use Rattle.std.proofs.Common.{rules, Err, ap, refl, sym, subst, ◌∙◌}
+use Rattle.redo_core.specs.Results.{IsResult, NeedsTooMany}
+use Rattle.redo_report.specs.declared.report.Report.{Report}
 use Rattle.redo_tree.specs.Tree.{Tree}
 use Rattle.redo_run.proofs.OpenedLemmas.{never_book, result_of, runs, stopped_at_limit, too_many_of}
 use Rattle.redo_run.proofs.one.build_one.Goals as goal
@@ -31,8 +32,9 @@ returns-in_err-advance_newest-clause-only_unsafe c = λ is.
 
 pub returns-clause-report : goal.returns-clause-report
 returns-clause-report c =
+    let P : Report → Type 0 = IsResult c.loop-board.board.given in
     result_of c.args.tree _ c.in_ok-past.ensures.tree c.args.request.now c.args.limits c.in_ok-board.board c.in_ok-board.ensures.ok
-    c.loop-board.board c.loop-board.invariant.2 _ c.in_ok-finish.ensures
+    c.loop-board.board c.loop-board.invariant.2 _ (subst P (sym c.in_ok-into_report.ensures) c.in_ok-finish.ensures)
 
 -- where keeping is safe, it agrees with that of the sources
 pub returns-clause-sound : goal.returns-clause-sound

@@ -9,4 +9,4 @@ loop-candidate-preserved c =
     let text = front ++ c.in-Some.candidate.do_file ++ 10 ∷ [] in
     let left = lines_of front (take (take_count c.next.new.self) (take_source c.next.new.self)) in
     let next : lines_of front (take (take_count c.loop-candidate.candidate-iterator) (take_source c.loop-candidate.candidate-iterator)) ≡ text ++ left = search rules in
-    ap (λ l. l ++ left) c.in_ok-add_line.ensures.ok ∙ append_assoc c.loop-candidate.text.items text left ∙ ap (λ l. c.loop-candidate.text.items ++ l) (sym next) ∙ c.loop-candidate.invariant
+    ap (λ l. l ++ left) c.in_ok-add_line.ensures ∙ append_assoc c.loop-candidate.text.items text left ∙ ap (λ l. c.loop-candidate.text.items ++ l) (sym next) ∙ c.loop-candidate.invariant

@@ -1,4 +1,4 @@
-use Rattle.std.proofs.Common.{rules, ◌<◌, length, ◌≡◌, ◌∙◌, Some, true, false, ap, subst, sym, is_some, slice_get}
+use Rattle.std.proofs.Common.{rules, ◌<◌, length, ◌≡◌, ◌∙◌, Some, true, false, subst, sym, is_some, slice_get}
 use Rattle.redo_tree.specs.Tree.{IsTree, file_at}
 use Rattle.redo_book.specs.Book.{Record, record_at, record_of}
 use Rattle.redo_past.specs.Past.{set_aside}
@@ -14,7 +14,7 @@ returns-then-is_some-clause-found c =
     let law : Without past = λ p. let is : IsTree past.tree = search rules in c.no_other_file_is_taken_out.ensures past.tree (set_aside past.tree past.book) p is in
     let r : Record = record_of c.index-records-number.result in
     let n = c.in_ok-number.number in
-    let same-book : c.self.inside.book ≡ past.book = ap (λ p. p.book) c.self.view_is in
+    let same-book : c.book-book.result.now ≡ past.book = c.book-book.ensures.book in
     let found : slice_get past.book n ≡ record_at past.book t = subst (λ b. slice_get b n ≡ record_at b t) same-book c.in_ok-number.ensures.found in
     let within = subst (λ b. n < length b) same-book c.in_ok-number.ensures.within in
     let here : slice_get past.book n ≡ Some r =
@@ -32,7 +32,7 @@ returns-else-is_some-clause-found c =
     let law : Without past = λ p. let is : IsTree past.tree = search rules in c.no_other_file_is_taken_out.ensures past.tree (set_aside past.tree past.book) p is in
     let r : Record = record_of c.index-records-number.result in
     let n = c.in_ok-number.number in
-    let same-book : c.self.inside.book ≡ past.book = ap (λ p. p.book) c.self.view_is in
+    let same-book : c.book-book.result.now ≡ past.book = c.book-book.ensures.book in
     let found : slice_get past.book n ≡ record_at past.book t = subst (λ b. slice_get b n ≡ record_at b t) same-book c.in_ok-number.ensures.found in
     let within = subst (λ b. n < length b) same-book c.in_ok-number.ensures.within in
     let here : slice_get past.book n ≡ Some r =

@@ -1,4 +1,4 @@
-use Rattle.std.proofs.Common.{◌≡◌, None, rules}
+use Rattle.std.proofs.Common.{◌≡◌, ◌∙◌, None, rules}
 use Rattle.std.specs.Arc.{arc_value}
 use Rattle.redo_tree.specs.Tree.{IsTree, file_at}
 use Rattle.redo_which.specs.Candidates.{book_path}
@@ -9,10 +9,10 @@ pub invariant_of-result : goal.invariant_of-result
 invariant_of-result c =
     let is : IsTree (arc_value c.in_ok-tree.tree) = search rules in
     let none : file_at (arc_value c.in_ok-tree.tree) book_path ≡ None = search rules in
-    all-sources (arc_value c.in_ok-tree.tree) (arc_value c.in_ok-sources.sources) c.new-book.result is none (search rules) c.new-book.ensures
+    all-sources (arc_value c.in_ok-tree.tree) (arc_value c.in_ok-sources.sources) (arc_value c.in_ok-book.book) is none (search rules) (c.in_ok-book.ensures.ok ∙ c.new-2.ensures)
 
 pub returns-clause-past : goal.returns-clause-past
 returns-clause-past c =
     let is : IsTree (arc_value c.in_ok-tree.tree) = search rules in
     let none : file_at (arc_value c.in_ok-tree.tree) book_path ≡ None = search rules in
-    all-sources (arc_value c.in_ok-tree.tree) (arc_value c.in_ok-sources.sources) c.new-book.result is none (search rules) c.new-book.ensures
+    all-sources (arc_value c.in_ok-tree.tree) (arc_value c.in_ok-sources.sources) (arc_value c.in_ok-book.book) is none (search rules) (c.in_ok-book.ensures.ok ∙ c.new-2.ensures)

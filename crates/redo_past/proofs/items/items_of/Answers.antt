@@ -1,0 +1,82 @@
+use Rattle.std.proofs.Common.{◌≡◌, ◌<◌, ◌+◌, ◌∙◌, ◌++◌, ◌∷◌, [], true, false, Option, Some, None, ap, arith, drop, refl}
+use Rattle.std.proofs.Common.{filter, if◌then◌else◌, length, map, subst, sym, Vec, Global}
+use Rattle.std.proofs.lemmas.List.{drop_all}
+use Rattle.std.specs.List.{cons_option}
+use Rattle.std.specs.Prelude.{filter_map}
+use Rattle.redo_book.specs.Book.{IsBook, Record, record_of}
+use Rattle.redo_report.specs.declared.report.Row.{Row}
+use Rattle.redo_past.specs.NewBook.{new_record}
+use Rattle.redo_past.specs.inside.Books.{AreItems, StatesView, carries, is_before, is_behind, joined, leaves_record, new_records}
+use Rattle.redo_past.specs.inside.Books.{record_if_built}
+use Rattle.redo_past.proofs.JoinLemmas.{join-end, join-step, kept-book}
+use Rattle.redo_past.proofs.LoopLemmas.{left-more}
+use Rattle.redo_past.proofs.ItemListLemmas.{item-pushed, not-carried}
+use Rattle.redo_past.proofs.NewBookLemmas.{leaves-below, leaves-built}
+use Rattle.redo_past.specs.declared.items.Item.{Item}
+use Rattle.redo_past.proofs.items.items_of.Goals as goal
+use Rattle.redo_past.proofs.items.items_of.Goals.{then-has_record+in_ok-left+in_ok-push, else-has_record}
+
+pub loop-row-preserved : goal.loop-row-preserved
+loop-row-preserved c =
+    let past = c.args.past.now in
+    let rows = c.args.rows.now in
+    let states : StatesView = record { sources = past.sources; rows = rows } in
+    let i = c.loop-row.row-index in
+    let x : Row = c.row-item.result in
+    let keeps = carries past rows in
+    let old = map record_of c.loop-row.left.now in
+    let f : Row → Option Record = record_if_built past.sources rows in
+    let rest = filter_map f (drop (i + 1) rows) in
+    let r = new_record past.sources rows x in
+    let below : i < length rows = omega (arith, c.loop-row-test.true) in
+    let step : filter_map f (drop i rows) ≡ cons_option (f x) rest = left-more f rows i x below c.row-item.is in
+    let done = c.loop-row.invariant.known.0 in
+    let are : AreItems states c.loop-row.items.items done = c.loop-row.invariant.known.1 in
+    let was : done ++ joined keeps (filter_map f (drop i rows)) old ≡ new_records past rows = c.loop-row.invariant.known.2 in
+    elim c.if-has_record.branch [
+      | then-has_record+in_ok-left+in_ok-push w ↦
+          let told : leaves_record x ≡ true = sym c.has_record.ensures ∙ w.if-has_record.true in
+          let split : filter_map f (drop i rows) ≡ r ∷ rest =
+          step ∙ ap (λ b. cons_option (if b then Some r else None) rest) told in
+          let behind : map record_of w.in_ok-left.left.now ≡ filter (is_behind x.path) old = w.in_ok-left.ensures.left in
+          let bare : (q : Record) → q.target ≡ x.path → keeps q ≡ false = λ q same. not-carried past rows i x q c.requires below c.row-item.is (leaves-built x told) same in
+          let left : map record_of c.if-has_record.left.now ≡ map record_of w.but_of-left.result.now = ap (λ l. map record_of l.now) w.left-is in
+          let book : IsBook (map record_of w.in_ok-left.left.now) = subst IsBook (sym behind) (kept-book (is_behind x.path) old c.loop-row.invariant.left) in
+          let others : joined keeps rest (map record_of c.if-has_record.left.now) ≡ joined keeps rest (map record_of w.in_ok-left.left.now) =
+          ap (joined keeps rest) left ∙ w.but_of-left.ensures.joined keeps bare rest in
+          let front = filter keeps (filter (is_before x.path) old) in
+          record {
+            left = subst IsBook (sym left) (w.but_of-left.ensures.book book);
+            known = (
+              (done ++ front) ++ r ∷ [],
+              subst (λ (l : Vec Item Global). AreItems states l.items ((done ++ front) ++ r ∷ [])) (sym w.items-is)
+                  (item-pushed states w.carry_before.new.items.items w.push.new.self.items (done ++ front) ((done ++ front) ++ r ∷ []) _ r w.in_ok-push.ensures.items (w.in_ok-left.ensures.known done are) refl (leaves-below x told) refl),
+              ap (λ l. ((done ++ front) ++ r ∷ []) ++ l) others
+                  ∙ join-step keeps done r rest (filter_map f (drop i rows)) old (map record_of w.in_ok-left.left.now) (new_records past rows) split behind was,
+            );
+          }
+      | else-has_record w ↦
+          let told : leaves_record x ≡ false = sym c.has_record.ensures ∙ w.if-has_record.false in
+          let same : filter_map f (drop i rows) ≡ rest = step ∙ ap (λ b. cons_option (if b then Some r else None) rest) told in
+          let left : map record_of c.if-has_record.left.now ≡ old = ap (λ l. map record_of l.now) w.left-is in
+          record {
+            left = subst IsBook (sym left) c.loop-row.invariant.left;
+            known = (
+              done,
+              subst (λ (l : Vec Item Global). AreItems states l.items done) (sym w.items-is) are,
+              ap (λ o. done ++ joined keeps rest o) left ∙ ap (λ b. done ++ joined keeps b old) (sym same) ∙ was,
+            );
+          }
+    ]
+
+pub returns : goal.returns
+returns c =
+    let past = c.args.past.now in
+    let rows = c.args.rows.now in
+    let done = c.loop-row.invariant.known.0 in
+    let old = map record_of c.loop-row.left.now in
+    let f : Row → Option Record = record_if_built past.sources rows in
+    let none : drop c.loop-row.row-index rows ≡ [] = drop_all c.loop-row.row-index rows (omega (arith, c.loop-row-test.false)) in
+    let all : done ++ filter (carries past rows) old ≡ new_records past rows =
+    join-end (carries past rows) done (filter_map f (drop c.loop-row.row-index rows)) old (new_records past rows) (ap (filter_map f) none) c.loop-row.invariant.known.2 in
+    subst (AreItems (record { sources = past.sources; rows = rows }) c.carry.new.items.items) all (c.in_ok-carry.ensures done c.loop-row.invariant.known.1)

@@ -1,0 +1,59 @@
+//! The records of the new book in its order, of which none is made.
+
+ghost use Rattle.std.specs.Prelude.{◌≡◌, Bool, IfOk, List, false, map};
+ghost use Rattle.redo_book.specs.Book.{IsBook, Record, record_of};
+ghost use Rattle.redo_past.specs.inside.Books.{AreItems, AreRows, joined, new_records, states_after};
+
+use crate::Past;
+use crate::carrying::{carry, carry_before};
+use crate::records::has_record;
+use redo_book::BookRecord;
+use redo_path::Path;
+use redo_report::Row;
+use std::alloc::{AllocError, Global};
+
+/// What a record of the new book is made of: the row of a target that was built, or a record of the last run that is
+/// carried.
+#[derive(Drop)]
+pub(crate) enum Item<'a> {
+    Built(&'a Row),
+    Carried(&'a BookRecord),
+}
+
+/// Old records but the first, if it is that of this target. It needn't be looked at where the target was built.
+fn but_of<'a>(records: &'a [BookRecord], target: &Path) -> &'a [BookRecord]
+    ensures joined { (keeps : Record → Bool) → ((r : Record) → r.target ≡ target.now → keeps r ≡ false) →
+        (built : List Record) →
+        joined keeps built (map record_of result.now) ≡ joined keeps built (map record_of records.now) }
+    ensures book { IsBook (map record_of records.now) → IsBook (map record_of result.now) }
+{
+    if let Some((first, rest)) = records.split_first() {
+        if first.target == *target {
+            return rest;
+        }
+    }
+    records
+}
+
+/// What the records of the new book are made of.
+pub(crate) fn items_of<'a>(
+    alloc: Global,
+    past: &'a Past,
+    rows: &'a [Row],
+) -> Result<Vec<Item<'a>>, AllocError>
+    requires { AreRows rows.now }
+    ensures { IfOk result (λ items.
+        AreItems (states_after past.now rows.now) items.items (new_records past.now rows.now)) }
+{
+    let mut items = Vec::new(alloc);
+    let mut left = past.book().records();
+    for row in rows {
+        if has_record(row) {
+            left = carry_before(alloc, past, rows, left, &row.path, &mut items)?;
+            left = but_of(left, &row.path);
+            items.push(Item::Built(row))?;
+        }
+    }
+    carry(alloc, past, rows, left, &mut items)?;
+    Ok(items)
+}

@@ -1,0 +1,68 @@
+//! The text of the new book, whose records don't stand in memory together.
+
+ghost use Rattle.std.specs.Prelude.{◌≡◌, IfOk, false, is_err, length, map};
+ghost use Rattle.std.specs.List.{AllByRecursion};
+ghost use Rattle.redo_bundle.specs.Bundle.{Writes};
+ghost use Rattle.redo_book.specs.Book.{IsRecord, book_lines, text_of};
+ghost use Rattle.redo_past.specs.inside.Books.{AreRows, new_records, new_text as text_for, record_in};
+
+use crate::Past;
+use crate::items::{Item, items_of};
+use crate::records::write_items;
+use crate::sizes::items_size;
+use crate::states::{Files, States};
+use redo_book::write_end;
+use redo_bundle::{Broken, ByteOut, Plain};
+use redo_report::Row;
+use redo_which::{MissingLines, add_sizes};
+use std::alloc::{AllocError, Global};
+
+/// How many bytes the text of the new book has. Each record of it may stand in a book.
+pub(crate) fn text_size(alloc: Global, past: &Past, rows: &[Row]) -> Result<usize, AllocError>
+    requires { AreRows rows.now }
+    ensures size { IfOk result (λ size. size ≡ length (text_for past.now rows.now)) }
+    ensures each { IfOk result (λ _. AllByRecursion IsRecord (new_records past.now rows.now)) }
+{
+    let items = items_of(alloc, past, rows)?;
+    let files = Files::new(past.sources(), rows);
+    let size = items_size(alloc, &files, &items)?;
+    add_sizes(size, b"end\n".len())
+}
+
+/// Writes the text of the new book. It needs no memory but to write faster.
+pub(crate) fn write_text<W: ByteOut>(
+    out: &mut W,
+    alloc: Global,
+    states: &mut States<'_>,
+    items: &[Item<'_>],
+) -> Result<(), Broken>
+    requires { W.has_failed out.old ≡ false }
+    ensures writes { Writes (W.held out.old) (W.held out.new) result
+        (text_of (book_lines (map (record_in states.old) items.now))) }
+    ensures failed { W.has_failed out.new ≡ is_err result }
+{
+    write_items(out, states, MissingLines::new(alloc, b"create "), items)?;
+    write_end(out)
+}
+
+/// The text of the new book, which has so many bytes.
+pub(crate) fn new_text(
+    alloc: Global,
+    past: &Past,
+    rows: &[Row],
+    size: usize,
+) -> Result<Vec<u8>, AllocError>
+    requires { AreRows rows.now }
+    ensures { IfOk result (λ text. text.items ≡ text_for past.now rows.now) }
+{
+    let items = items_of(alloc, past, rows)?;
+    let mut states = States::new(alloc, past.sources(), rows)?;
+    let mut out = Plain::new(Vec::with_capacity(alloc, size)?);
+    match write_text(&mut out, alloc, &mut states, &items) {
+        Ok(()) => {
+            let Plain { stream, broken: _ } = out;
+            Ok(stream)
+        }
+        Err(Broken) => Err(AllocError),
+    }
+}

@@ -1,0 +1,141 @@
+//! The report of a run, with the book that it leaves.
+
+ghost use Rattle.std.specs.Prelude.{◌≡◌, ◌<◌, ◌↔◌, IfOk, IsErrOf, false, is_err, length, map, true};
+ghost use Rattle.redo_bundle.specs.Bundle.{Writes};
+ghost use Rattle.redo_report.specs.ReportText.{file_text, report_text};
+ghost use Rattle.redo_book.specs.Book.{book_lines, text_of};
+ghost use Rattle.redo_which.specs.Candidates.{book_path as path_of_book};
+ghost use Rattle.redo_past.specs.inside.Books.{IsRunReport, record_in, with_book_text, with_new_book};
+
+use crate::Past;
+use crate::items::{Item, items_of};
+use crate::new_book::{new_text, write_text};
+use crate::past::book_path;
+use crate::states::States;
+use redo_bundle::{Broken, ByteOut, WriteFault, write_all};
+use redo_report::{Report, Row, write_end, write_file_head, write_files, write_head};
+use redo_tree::Content;
+use redo_which::BOOK;
+use std::alloc::{AllocError, Global};
+use std::marker::Model;
+
+/// The report of a run with the new book among its files. The text of the book, which may be long, isn't made before it
+/// is written. In a contract it is the report with that text.
+#[derive(Drop)]
+pub struct RunReport {
+    past: Past,
+    /// The report with a file for the book, which has no bytes.
+    report: Report,
+    /// The number of the book among the files.
+    at: usize,
+    /// How many bytes its text has.
+    size: usize,
+}
+
+impl Model for RunReport {
+    ghost use Rattle.redo_report.specs.declared.report.Report.{Report};
+    ghost use Rattle.redo_past.specs.inside.Books.{IsRunReport, with_new_book};
+
+    ghost Value = { Report };
+
+    ghost view = { λ r. with_new_book r.past r.report r.at };
+
+    ghost invariant = { λ r. IsRunReport r.past r.report r.at r.size };
+}
+
+impl RunReport {
+    /// The report of a run over a past, whose new book is the file of this number and has a text of this size.
+    pub(crate) fn new(past: Past, report: Report, at: usize, size: usize) -> RunReport
+        requires { IsRunReport past report at size }
+        ensures { result ≡ with_new_book past report at }
+    {
+        RunReport {
+            past,
+            report,
+            at,
+            size,
+        }
+    }
+
+    /// The needed targets and the requested sources, in path order.
+    pub fn rows(&self) -> &[Row]
+        ensures { result.now ≡ self.now.rows.items }
+    {
+        &self.report.rows
+    }
+
+    /// The report with the text of the new book in memory.
+    pub fn into_report(self, alloc: Global) -> Result<Report, AllocError>
+        ensures { IfOk result (λ report. report ≡ self) }
+    {
+        let RunReport {
+            past,
+            mut report,
+            at,
+            size,
+        } = self;
+        let text = new_text(alloc, &past, &report.rows, size)?;
+        report.files[at] = (book_path(alloc)?, Content::new(text)?);
+        Ok(report)
+    }
+
+    /// Writes the report with its files. The text of the new book goes out line by line, and never stands in memory.
+    /// Hand in a writer with a buffer, since the report comes in many small pieces. On want of memory nothing is
+    /// written; after a failure of the writer a beginning was.
+    pub fn write<W: ByteOut>(&self, alloc: Global, out: &mut W) -> Result<(), WriteFault>
+        requires works { W.has_failed out.old ≡ false }
+        ensures writes { Writes (W.held out.old) (W.held out.new) result (report_text self.now true) }
+        ensures untouched { IsErrOf result WriteFault.Memory → out.new ≡ out.old }
+        ensures device { IsErrOf result WriteFault.Device ↔ (W.has_failed out.new ≡ true) }
+    {
+        let rows = &self.report.rows;
+        let items = items_of(alloc, &self.past, rows)?;
+        let mut states = States::new(alloc, self.past.sources(), rows)?;
+        write_with_book(out, &self.report, self.at, self.size, &mut states, &items)?;
+        Ok(())
+    }
+}
+
+/// Writes a report with its files, of which that of a number is the new book of these items.
+fn write_with_book<W: ByteOut>(
+    out: &mut W,
+    report: &Report,
+    at: usize,
+    size: usize,
+    states: &mut States<'_>,
+    items: &[Item<'_>],
+) -> Result<(), Broken>
+    requires works { W.has_failed out.old ≡ false }
+    requires within { at < length report.now.files.items }
+    requires size { size ≡ length (text_of (book_lines (map (record_in states.old) items.now))) }
+    ensures writes { Writes (W.held out.old) (W.held out.new) result
+        (report_text (with_book_text report.now at
+        (text_of (book_lines (map (record_in states.old) items.now)))) true) }
+    ensures failed { W.has_failed out.new ≡ is_err result }
+{
+    let alloc = *report.rows.allocator();
+    write_head(out, report)?;
+    write_files(out, &report.files[..at])?;
+    write_book(out, alloc, size, states, items)?;
+    write_files(out, &report.files[at + 1..])?;
+    write_end(out)
+}
+
+/// Writes the file of the new book, which has so many bytes, in a bundle's form.
+fn write_book<W: ByteOut>(
+    out: &mut W,
+    alloc: Global,
+    size: usize,
+    states: &mut States<'_>,
+    items: &[Item<'_>],
+) -> Result<(), Broken>
+    requires works { W.has_failed out.old ≡ false }
+    requires size { size ≡ length (text_of (book_lines (map (record_in states.old) items.now))) }
+    ensures writes { Writes (W.held out.old) (W.held out.new) result
+        (file_text (path_of_book, text_of (book_lines (map (record_in states.old) items.now)))) }
+    ensures failed { W.has_failed out.new ≡ is_err result }
+{
+    write_file_head(out, size, BOOK)?;
+    write_text(out, alloc, states, items)?;
+    write_all(out, b"\n")
+}
