@@ -4,7 +4,7 @@
 //! line by line to a [`ByteOut`](redo_bundle::ByteOut), so that a large one never stands whole in memory, and the sizes
 //! of its lines are known before ([`record_size`] and the others), as the place that it goes to may ask for its length
 //! first. The crate stands on `redo_digest`, `redo_path` and `redo_record` for what a book holds, on `redo_bundle` for
-//! the writers, on `hex` and `memchr`, and on `thiserror`.
+//! the writers, on `redo_which` to add sizes up, on `hex` and `memchr`, and on `thiserror`.
 //!
 //! - `book`: books, in memory; `faults`: why a text was refused;
 //! - `reading`, `lines`, `begun`: a text, a line by itself, and what the lines so far have made;

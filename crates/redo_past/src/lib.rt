@@ -4,7 +4,7 @@
 //! are sources: [`Past`] tells the tree as it was read, the sources in it, and the book. After the run it makes the new
 //! book, which has a record for each target that was built, and those records of the old one that still hold. The crate
 //! stands on redo_tree and redo_which for trees and rules, on redo_digest and redo_book for books and the digests in
-//! them, and on redo_record and redo_report for what a run came to.
+//! them, on redo_record and redo_report for what a run came to, and on redo_bundle for the writers.
 //!
 //! - `past`: the tree, the sources and the book, and what a run leaves; `named`: which files its book tells digests of;
 //!   `faults`: why a tree is refused;
