@@ -113,49 +113,52 @@ fn a_line_has_one_of_the_forms(rt: HostRuntime) -> Result<(), Fail> {
     Ok(())
 }
 
+/// Lines of a text, and the first at fault, if one is.
+const ORDERS: [(&str, Option<u64>); 20] = [
+    ("target none b\ntarget none a\nend", Some(2)),
+    ("target none a\ntarget none a\nend", Some(2)),
+    ("target none a\ntarget ABC a\nend", Some(2)),
+    ("target none a/b\ntarget none a\nend", Some(2)),
+    ("target none a\ntarget none a-\ntarget none a/b\nend", None),
+    ("change none b\nend", Some(1)),
+    ("always\ntarget none a\nend", Some(1)),
+    ("target none a\nalways\nalways\nend", Some(3)),
+    ("target none a\ncreate b\ncreate b\nend", Some(3)),
+    ("target none a\nchange none b\nchange none b\nend", Some(3)),
+    ("target none a\nchange none b\nchange ABC b\nend", Some(3)),
+    (
+        "target none a\ncreate c\nalways\ncreate b\ncreate c\nend",
+        Some(5),
+    ),
+    ("target none a\ncreate b\nchange none b\nend", None),
+    (
+        "target none a\ncreate b\ntarget none b\ncreate b\nend",
+        None,
+    ),
+    ("target none a\ncreate a\nend", None),
+    ("target none .redo-book\nend", None),
+    (
+        "target none a\ncreate c\ntarget none b\ncreate \nend",
+        Some(4),
+    ),
+    (
+        "target none a\ncreate c\ntarget none b\ncreate c/\nend",
+        Some(4),
+    ),
+    (
+        "target none a\nchange none c\ntarget none b\nchange c\nend",
+        Some(4),
+    ),
+    (
+        "target none a\ncreate c\ncreate d\ntarget none b\ncreate c\ncreate c\nend",
+        Some(6),
+    ),
+];
+
 #[test]
 fn targets_rise_and_entries_are_once(rt: HostRuntime) -> Result<(), Fail> {
     let alloc = rt.alloc();
-    for (text, fault) in [
-        ("target none b\ntarget none a\nend", Some(2)),
-        ("target none a\ntarget none a\nend", Some(2)),
-        ("target none a\ntarget ABC a\nend", Some(2)),
-        ("target none a/b\ntarget none a\nend", Some(2)),
-        ("target none a\ntarget none a-\ntarget none a/b\nend", None),
-        ("change none b\nend", Some(1)),
-        ("always\ntarget none a\nend", Some(1)),
-        ("target none a\nalways\nalways\nend", Some(3)),
-        ("target none a\ncreate b\ncreate b\nend", Some(3)),
-        ("target none a\nchange none b\nchange none b\nend", Some(3)),
-        ("target none a\nchange none b\nchange ABC b\nend", Some(3)),
-        (
-            "target none a\ncreate c\nalways\ncreate b\ncreate c\nend",
-            Some(5),
-        ),
-        ("target none a\ncreate b\nchange none b\nend", None),
-        (
-            "target none a\ncreate b\ntarget none b\ncreate b\nend",
-            None,
-        ),
-        ("target none a\ncreate a\nend", None),
-        ("target none .redo-book\nend", None),
-        (
-            "target none a\ncreate c\ntarget none b\ncreate \nend",
-            Some(4),
-        ),
-        (
-            "target none a\ncreate c\ntarget none b\ncreate c/\nend",
-            Some(4),
-        ),
-        (
-            "target none a\nchange none c\ntarget none b\nchange c\nend",
-            Some(4),
-        ),
-        (
-            "target none a\ncreate c\ncreate d\ntarget none b\ncreate c\ncreate c\nend",
-            Some(6),
-        ),
-    ] {
+    for (text, fault) in ORDERS {
         let bytes = spelled(alloc, text)?;
         assert_eq!(rt;
             fault_of(alloc, &bytes),
