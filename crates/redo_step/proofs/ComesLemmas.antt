@@ -4,7 +4,7 @@ use Rattle.std.proofs.Common.{Result, Ok, Err, IfOk, refl, sym, ap, ◌∙◌, s
 use Rattle.std.proofs.lemmas.List.{nil_from_length}
 use Rattle.std.specs.declared.vec.Vec.{Vec}
 use Rattle.std.specs.declared.alloc.Global.{Global}
-use Rattle.std.specs.Prelude.{Box}
+use Rattle.std.specs.Prelude.{Box, None, IfSome, option_map}
 use Rattle.redo_script.specs.declared.ast.Stmt.{Stmt}
 use Rattle.redo_script.specs.declared.ast.Stmt.TheVariants as stmt
 use Rattle.redo_script.specs.declared.ast.Stmt.TheViews.{out-Stmt, outs-If, outs-Simple, outs-Loop}
@@ -31,9 +31,9 @@ use Rattle.redo_record.specs.Answers.{Ask}
 use Rattle.redo_step.specs.Place.{Rest, all_of, and_then, turns_of, skip, inside, in_turn, branch_of, body_in, Standing}
 use Rattle.redo_step.specs.Place.{stands_at, left_at}
 use Rattle.redo_step.specs.Reach.{Reaches}
-use Rattle.redo_step.specs.inside.Machine.{end_of, Stops, EndsAt, Comes, IsStopBefore, IsWithin, IsInTurn, IsPassed}
+use Rattle.redo_step.specs.inside.Machine.{end_of, end_by, kept_by, run_by, IsMeant, Comes, IsStopBefore, IsWithin, IsInTurn, IsPassed}
 use Rattle.redo_step.specs.inside.Machine.{turns_from, AreRun, IsTurn, picked, HasBranch, HasNoBranch, HasTurns, HasNoTurn}
-use Rattle.redo_step.specs.inside.Kept.{IsFirst}
+use Rattle.redo_step.specs.inside.Kept.{HasOperands, IsFirst}
 use Rattle.redo_step.proofs.RunLemmas.{Keeps-refl, Reaches-refl, Reaches-trans, Reaches-and_then, Reaches-turn}
 use Rattle.redo_step.proofs.StepLemmas.{reaches_simple, stops_simple, reaches_branch, branch_when, reaches_turns}
 use Rattle.redo_step.proofs.SliceLemmas.{opened, before-opened, skip_at, skip_past}
@@ -76,14 +76,14 @@ module _ (setting : Setting) (ask : Ask) where
       let again : run setting ask (simple line c rest) t ≡ ends (stopped ps) t = sym (reached.same ask (Keeps-refl setting t.entries ask)) ∙ ends_run line c rest s t (stopped ps) e in
       (rw same reached, rw same again)
 
-  pub stop_comes : (line : ℕ) (c : Command) (index : ℕ) (s t : State) (stop : Halt) (p : RunEnd) (whole rest : Script) (other : Rest) → EndsAt setting line c stop (command_run setting ask line c s) t → IsStopBefore stop index p → skip index whole ≡ simple line c rest → Comes setting ask whole (all_of setting (simple line c rest)) other s p t
-  stop_comes line c index s t (stops.Ended w) p whole rest other e is at = rw is (ends_run line c rest s t (end_of w) e)
-  stop_comes line c index s t (stops.Lacks ps) p whole rest other e is at = let l = lacking_comes line c index s t ps.items whole rest e at in rw is (l.0, l.1, tt)
-  stop_comes line c index s t (stops.Waits ps w) p whole rest other e is at =
-      let l = lacking_comes line c index s t ps.items whole rest e.0 at in
-      let first : IsFirst setting (skip index whole) t w = record { line = line; command = c; rest = rest; here = at; has = e.1 } in
+  pub stop_comes : (line : ℕ) (c : Command) (index : ℕ) (s t : State) (stop : Halt) (p : RunEnd) (whole rest : Script) (other : Rest) → IsMeant (run_by {X = Unit {0}} (Err stop) t) (command_run setting ask line c s) → IfSome (kept_by {X = Unit {0}} (Err stop)) (HasOperands setting line c t) → IsStopBefore stop index p → skip index whole ≡ simple line c rest → Comes setting ask whole (all_of setting (simple line c rest)) other s p t
+  stop_comes line c index s t (stops.Ended w) p whole rest other e k is at = rw is (ends_run line c rest s t (end_of w) e)
+  stop_comes line c index s t (stops.Lacks ps) p whole rest other e k is at = let l = lacking_comes line c index s t ps.items whole rest e at in rw is (l.0, l.1, tt)
+  stop_comes line c index s t (stops.Waits ps w) p whole rest other e k is at =
+      let l = lacking_comes line c index s t ps.items whole rest e at in
+      let first : IsFirst setting (skip index whole) t w = record { line = line; command = c; rest = rest; here = at; has = k } in
       rw is (l.0, l.1, rw (stands_before index whole) first)
-  stop_comes line c index s t stops.Memory p whole rest other e is at = absurd is
+  stop_comes line c index s t stops.Memory p whole rest other e k is at = absurd is
 
   opened_simple : (x : Stmt) (line : ℕ) (c : CommandTree) (rest : Script) → x ≡ stmt.Simple line c → before x rest ≡ simple line (command_of c) rest
   opened_simple x line c rest is = before-opened x rest ∙ rw is (ap (λ o. opened o rest) (outs-Simple line c))
@@ -96,19 +96,19 @@ module _ (setting : Setting) (ask : Ask) where
     comes = λ whole rest at. let o = opened_simple x line c rest is in rw o (reaches_simple setting ask line (command_of c) rest s t e);
   }
 
-  pub passes_stop : (x : Stmt) (line : ℕ) (c : CommandTree) (index : ℕ) (s t : State) (stop : Halt) (p : RunEnd) → x ≡ stmt.Simple line c → EndsAt setting line (command_of c) stop (command_run setting ask line (command_of c) s) t → IsStopBefore stop index p → IsPassed setting ask x index s p t
-  passes_stop x line c index s t stop p is e before = record {
-    comes = λ whole rest at. let o = opened_simple x line c rest is in rw o (stop_comes line (command_of c) index s t stop p whole rest (all_of setting rest) e before (at ∙ o));
+  pub passes_stop : (x : Stmt) (line : ℕ) (c : CommandTree) (index : ℕ) (s t : State) (stop : Halt) (p : RunEnd) → x ≡ stmt.Simple line c → IsMeant (run_by {X = Unit {0}} (Err stop) t) (command_run setting ask line (command_of c) s) → IfSome (kept_by {X = Unit {0}} (Err stop)) (HasOperands setting line (command_of c) t) → IsStopBefore stop index p → IsPassed setting ask x index s p t
+  passes_stop x line c index s t stop p is e k before = record {
+    comes = λ whole rest at. let o = opened_simple x line c rest is in rw o (stop_comes line (command_of c) index s t stop p whole rest (all_of setting rest) e k before (at ∙ o));
   }
 
   -- a statement that can't be begun, since its condition or its words end the run, or lack an answer
-  stops_first : {Y : Type 0} (r : Result Y End) (script : Script) (index : ℕ) (s : State) (stop : Halt) (p : RunEnd) (whole : Script) (rest : Rest) → ((w : End) → r ≡ Err w → run setting ask script s ≡ ends w s) → Stops stop r → IsStopBefore stop index p → skip index whole ≡ script → Comes setting ask whole (all_of setting script) rest s p s
-  stops_first r script index s (stops.Ended w) p whole rest by e is at = rw is (by (end_of w) e)
-  stops_first r script index s (stops.Lacks ps) p whole rest by e is at =
+  stops_first : {Y : Type 0} (r : Result Y End) (script : Script) (index : ℕ) (s : State) (stop : Halt) (p : RunEnd) (whole : Script) (rest : Rest) → ((w : End) → r ≡ Err w → run setting ask script s ≡ ends w s) → IsMeant (option_map Err (end_by stop)) r → kept_by {X = Y} (Err stop) ≡ None → IsStopBefore stop index p → skip index whole ≡ script → Comes setting ask whole (all_of setting script) rest s p s
+  stops_first r script index s (stops.Ended w) p whole rest by e k is at = rw is (by (end_of w) e)
+  stops_first r script index s (stops.Lacks ps) p whole rest by e k is at =
       let same : left_at (Before index) setting whole ≡ all_of setting script = at_place index whole script at in
       rw is (rw same (Reaches-refl setting ask (all_of setting script) s), rw same (by (stopped ps.items) e), tt)
-  stops_first r script index s (stops.Waits ps w) p whole rest by e is at = absurd e
-  stops_first r script index s stops.Memory p whole rest by e is at = absurd is
+  stops_first r script index s (stops.Waits ps w) p whole rest by e k is at = absurd cc
+  stops_first r script index s stops.Memory p whole rest by e k is at = absurd is
 
   choice_ends : (line : ℕ) (c : Condition) (a b rest : Script) (s : State) (w : End) → condition_result setting ask line c s ≡ Err w → run setting ask (choice line c a b rest) s ≡ ends w s
   unfolding run
@@ -118,17 +118,17 @@ module _ (setting : Setting) (ask : Ask) where
   unfolding run
   loop_ends line name ws body rest s w h = ap (λ r. then_run (looped r (λ value. run (with_value setting name value) ask body) s) (run setting ask rest)) h
 
-  pub passes_check : (x : Stmt) (line : ℕ) (c : ConditionTree) (a b : Vec Stmt Global) (index : ℕ) (s : State) (stop : Halt) (p : RunEnd) → x ≡ stmt.If line c a b → Stops stop (condition_result setting ask line (condition_of c) s) → IsStopBefore stop index p → IsPassed setting ask x index s p s
-  passes_check x line c a b index s stop p is e before = record {
-    comes = λ whole rest at. let o = opened_if x line c a b rest is in rw o (stops_first (condition_result setting ask line (condition_of c) s) (choice line (condition_of c) (script_of a.items) (script_of b.items) rest) index s stop p whole (all_of setting rest) (choice_ends line (condition_of c) (script_of a.items) (script_of b.items) rest s) e before (at ∙ o));
+  pub passes_check : (x : Stmt) (line : ℕ) (c : ConditionTree) (a b : Vec Stmt Global) (index : ℕ) (s : State) (stop : Halt) (p : RunEnd) → x ≡ stmt.If line c a b → IsMeant (option_map Err (end_by stop)) (condition_result setting ask line (condition_of c) s) → kept_by {X = Bool} (Err stop) ≡ None → IsStopBefore stop index p → IsPassed setting ask x index s p s
+  passes_check x line c a b index s stop p is e k before = record {
+    comes = λ whole rest at. let o = opened_if x line c a b rest is in rw o (stops_first (condition_result setting ask line (condition_of c) s) (choice line (condition_of c) (script_of a.items) (script_of b.items) rest) index s stop p whole (all_of setting rest) (choice_ends line (condition_of c) (script_of a.items) (script_of b.items) rest s) e k before (at ∙ o));
   }
 
   opened_loop : (x : Stmt) (line : ℕ) (name : List ℕ) (ws : Vec WordTree Global) (body : Vec Stmt Global) (rest : Script) → x ≡ stmt.Loop line name ws body → before x rest ≡ loop line name (words_of ws.items) (script_of body.items) rest
   opened_loop x line name ws body rest is = before-opened x rest ∙ rw is (ap (λ o. opened o rest) (outs-Loop line name ws body))
 
-  pub passes_words : (x : Stmt) (line : ℕ) (name : List ℕ) (ws : Vec WordTree Global) (body : Vec Stmt Global) (index : ℕ) (s : State) (stop : Halt) (p : RunEnd) → x ≡ stmt.Loop line name ws body → Stops stop (texts_of setting line (words_of ws.items)) → IsStopBefore stop index p → IsPassed setting ask x index s p s
-  passes_words x line name ws body index s stop p is e before = record {
-    comes = λ whole rest at. let o = opened_loop x line name ws body rest is in rw o (stops_first (texts_of setting line (words_of ws.items)) (loop line name (words_of ws.items) (script_of body.items) rest) index s stop p whole (all_of setting rest) (loop_ends line name (words_of ws.items) (script_of body.items) rest s) e before (at ∙ o));
+  pub passes_words : (x : Stmt) (line : ℕ) (name : List ℕ) (ws : Vec WordTree Global) (body : Vec Stmt Global) (index : ℕ) (s : State) (stop : Halt) (p : RunEnd) → x ≡ stmt.Loop line name ws body → IsMeant (option_map Err (end_by stop)) (texts_of setting line (words_of ws.items)) → kept_by {X = List (List ℕ)} (Err stop) ≡ None → IsStopBefore stop index p → IsPassed setting ask x index s p s
+  passes_words x line name ws body index s stop p is e k before = record {
+    comes = λ whole rest at. let o = opened_loop x line name ws body rest is in rw o (stops_first (texts_of setting line (words_of ws.items)) (loop line name (words_of ws.items) (script_of body.items) rest) index s stop p whole (all_of setting rest) (loop_ends line name (words_of ws.items) (script_of body.items) rest s) e k before (at ∙ o));
   }
 
   skip_none : (script : Script) → skip 0 script ≡ script

@@ -1,5 +1,5 @@
 -- A script that goes on with a redo-ifchange that waited.
-use Rattle.std.proofs.Common.{◌≡◌, ℕ, zero, suc, ◌+◌, ◌<◌, length, List, [], ◌∷◌, Option, Result, Ok, refl, sym, ap}
+use Rattle.std.proofs.Common.{◌≡◌, ℕ, zero, suc, ◌+◌, ◌<◌, length, List, [], ◌∷◌, Option, Result, Ok, Err, refl, sym, ap}
 use Rattle.std.proofs.Common.{◌∙◌, subst, add-one, arith, drop}
 use Rattle.std.specs.Prelude.{Box}
 use Rattle.std.specs.declared.alloc.Global.{Global}
@@ -19,12 +19,12 @@ use Rattle.redo_record.specs.Answers.{Ask}
 use Rattle.redo_step.specs.Place.{all_of, behind_first, skip, branch_of, body_in, Standing, stands_at}
 use Rattle.redo_step.specs.inside.Waiting.{waited_on, unanswered}
 use Rattle.redo_step.specs.declared.machine.Turns.{Turns}
-use Rattle.redo_step.specs.inside.Machine.{WaitsBy, Comes, IsStopBefore, HasBranch, HasTurns, IsTurn}
+use Rattle.redo_step.specs.inside.Machine.{run_by, IsMeant, Comes, IsStopBefore, HasBranch, HasTurns, IsTurn}
 use Rattle.redo_step.specs.inside.Kept.{IsFirst, IsKept}
 use Rattle.redo_step.proofs.StepLemmas.{reaches_simple}
 use Rattle.redo_step.proofs.SliceLemmas.{skip_finish, behind-before}
 use Rattle.redo_step.proofs.ComesLemmas.{comes_after, stop_comes, branch_choice}
-use Rattle.redo_step.proofs.WaitingLemmas.{first_is, ends_waiting}
+use Rattle.redo_step.proofs.WaitingLemmas.{KeptOnStop, first_is, keeps_waiting}
 
 skip_next : (n : ℕ) (script : Script) → skip (suc n) script ≡ behind_first (skip n script)
 unfolding skip
@@ -94,11 +94,12 @@ module _ (setting : Setting) (ask : Ask) (whole : List Stmt) (s : State) where
         subst (λ (y : Script). Comes setting ask (script_of whole) (all_of setting y) (all_of setting finish) s p t) (sym first.here) all
 
     -- it stops again
-    pub kept_stops : (stop : Halt) (p : RunEnd) → WaitsBy w stop (waited_on ask w.line w.targets.items (unanswered ask [] w.targets.items) s) s → IsStopBefore stop n p → Comes setting ask (script_of whole) (all_of setting (skip n (script_of whole))) (all_of setting finish) s p s
-    kept_stops stop p h before =
-        let ends = ends_waiting setting ask first.line first.command w stop _ s first.has (rw (← first_is setting ask first.line first.command w s first.has) at h) in
-        let stopped = stop_comes setting ask first.line first.command n s s stop p (script_of whole) first.rest (all_of setting finish) ends before first.here in
-        subst (λ (y : Script). Comes setting ask (script_of whole) (all_of setting y) (all_of setting finish) s p s) (sym first.here) stopped
+    pub kept_stops : (stop : Halt) (p : RunEnd) → IsMeant (run_by {X = Unit {0}} (Err stop) s) (waited_on ask w.line w.targets.items (unanswered ask [] w.targets.items) s) → KeptOnStop {X = Unit {0}} w (Err stop) → IsStopBefore stop n p → Comes setting ask (script_of whole) (all_of setting (skip n (script_of whole))) (all_of setting finish) s p s
+    kept_stops stop p h keeps before =
+        let meant = rw (← first_is setting ask first.line first.command w s first.has) at h in
+        let kept = keeps_waiting setting ask {X = Unit {0}} first.line first.command w (Err stop) s first.has keeps in
+        let comes = stop_comes setting ask first.line first.command n s s stop p (script_of whole) first.rest (all_of setting finish) meant kept before first.here in
+        subst (λ (y : Script). Comes setting ask (script_of whole) (all_of setting y) (all_of setting finish) s p s) (sym first.here) comes
 
 ok_same : (x : Result Script ScriptFault) (a b : Script) → x ≡ Ok a → x ≡ Ok b → a ≡ b
 ok_same x a b e f = cc

@@ -1,24 +1,22 @@
 -- Parts of a command, one after the other.
-use Rattle.std.proofs.Common.{◌≡◌, ℕ, suc, ◌+◌, ◌<◌, ◌≤◌, List, [], ◌∷◌, ◌++◌, length, drop, get_or, Result, Ok, Err}
+use Rattle.std.proofs.Common.{◌≡◌, ℕ, suc, ◌+◌, ◌<◌, ◌≤◌, List, [], ◌∷◌, ◌++◌, length, drop, get_or, Option, Some, None}
+use Rattle.std.proofs.Common.{Result, Ok, Err}
+use Rattle.std.specs.Prelude.{option_map}
 use Rattle.std.proofs.Common.{refl, sym, ap, ◌∙◌, arith, add-one, append_assoc, length-drop}
 use Rattle.std.proofs.Math.Seq.{drop-cons}
 use Rattle.std.proofs.lemmas.List.{nil_from_length, append-nil}
 use Rattle.redo_script.specs.declared.ast.Word.{Word as WordTree}
 use Rattle.redo_script.specs.View.{word_of, words_of}
 use Rattle.redo_record.specs.Paths.{Path}
-use Rattle.redo_step.specs.declared.halt.Halt.{Halt}
-use Rattle.redo_step.specs.declared.halt.Halt.TheVariants as stops
 use Rattle.redo_step.specs.Setting.{Setting}
 use Rattle.redo_step.specs.Runs.{End, ◌>>=◌}
 use Rattle.redo_step.specs.Words.{text_of, texts_of, path_of, paths_of}
-use Rattle.redo_step.specs.inside.Machine.{Stops}
+use Rattle.redo_step.specs.inside.Machine.{IsMeant}
 
 -- a part that stopped stops what goes on from it
-pub stops_bind : {A B : Type 0} (stop : Halt) (r : Result A End) (f : A → Result B End) → Stops stop r → Stops stop (r >>= f)
-stops_bind (stops.Ended e) r f h = rw h refl
-stops_bind (stops.Lacks ps) r f h = rw h refl
-stops_bind (stops.Waits ps w) r f h = absurd h
-stops_bind stops.Memory r f h = tt
+pub stops_bind : {A B : Type 0} (end : Option End) (r : Result A End) (f : A → Result B End) → IsMeant (option_map Err end) r → IsMeant (option_map Err end) (r >>= f)
+stops_bind None r f h = tt
+stops_bind (Some e) r f h = rw h refl
 
 -- what a part gave goes on
 pub bind_ok : {A B : Type 0} (r : Result A End) (f : A → Result B End) (x : A) → r ≡ Ok x → (r >>= f) ≡ f x
@@ -49,9 +47,9 @@ module _ {A B : Type 0} (f : A → Result B End) (xs : List A) (i : ℕ) (x : A)
       sym n ∙ sym e ∙ before
 
   -- a turn that stops
-  pub each_stops : (total : Result (List B) End) (stop : Halt) → Stops stop (f x) → after_front front (each_of f (drop i xs)) ≡ total → Stops stop total
-  each_stops total stop h before =
-      rw (← before, split) (stops_bind stop (each_of f (x ∷ drop (i + 1) xs)) (λ ys. Ok (front ++ ys)) (stops_bind stop (f x) (λ y. each_of f (drop (i + 1) xs) >>= λ ys. Ok (y ∷ ys)) h))
+  pub each_stops : (total : Result (List B) End) (end : Option End) → IsMeant (option_map Err end) (f x) → after_front front (each_of f (drop i xs)) ≡ total → IsMeant (option_map Err end) total
+  each_stops total end h before =
+      rw (← before, split) (stops_bind end (each_of f (x ∷ drop (i + 1) xs)) (λ ys. Ok (front ++ ys)) (stops_bind end (f x) (λ y. each_of f (drop (i + 1) xs) >>= λ ys. Ok (y ∷ ys)) h))
 
 -- the end of the loop
 pub each_done : {A B : Type 0} (f : A → Result B End) (xs : List A) (i : ℕ) (front : List B) (total : Result (List B) End) → length xs ≤ i → after_front front (each_of f (drop i xs)) ≡ total → total ≡ Ok front

@@ -8,7 +8,6 @@ use Rattle.redo_step.specs.declared.printf.FormatPart.{FormatPart}
 use Rattle.redo_step.specs.declared.printf.FormatPart.TheVariants.{Literal, Operand}
 use Rattle.redo_step.specs.declared.sink.Sink.{Sink}
 use Rattle.redo_step.specs.declared.halt.Halt.{Halt}
-use Rattle.redo_step.specs.declared.halt.Halt.TheVariants as stops
 use Rattle.redo_step.specs.Setting.{Setting}
 use Rattle.redo_step.specs.Runs.{End, ◌>>=◌, or_else, exited}
 use Rattle.redo_step.specs.Reading.{file_of, contents_of}
@@ -16,12 +15,12 @@ use Rattle.redo_step.specs.Formats.{takes_operands, once, again, formatted}
 use Rattle.redo_step.specs.Outputs.{joined}
 use Rattle.redo_record.specs.Answers.{Ask}
 use Rattle.redo_record.specs.declared.deps.Dep.{Dep}
-use Rattle.redo_step.specs.inside.Machine.{Stops}
+use Rattle.redo_step.specs.inside.Machine.{end_by, IsMeant}
 use Rattle.redo_step.specs.inside.Printing.{HasPlaces, Prints, PrintsOnce}
-use Rattle.redo_step.specs.inside.Sink.{Grows, Adds, Leaves, Fills}
+use Rattle.redo_step.specs.inside.Sink.{Grows, Adds, Fills}
 use Rattle.redo_step.specs.inside.Writing.{content_of}
 use Rattle.redo_step.proofs.AddingLemmas.{grows-trans, adds-nil, adds-trans, adds-over, adds-same}
-use Rattle.std.specs.Prelude.{◌==◌}
+use Rattle.std.specs.Prelude.{◌==◌, option_map, OnSome}
 use Rattle.redo_step.proofs.LoopLemmas.{stops_bind}
 
 pub drop_split : {A : Type 0} (xs : List A) (i : ℕ) (x : A) → i < length xs → x ≡ get_or xs i x → drop i xs ≡ x ∷ drop (i + 1) xs
@@ -207,18 +206,16 @@ module _ (setting : Setting) (ask : Ask) (es : List Dep) (line : ℕ) where
         meant = sym (ap (λ r. r >>= λ more. Ok (c.bytes ++ more)) all ∙ regroup c.bytes f.0 (contents_of setting ask es line ts)) ∙ c.meant;
       }
 
-  leaves : (stop : Halt) (old mid new : Sink) → Grows old mid → Leaves stop mid new → Leaves stop old new
-  leaves (stops.Ended e) old mid new g l = grows-trans old mid new g l
-  leaves (stops.Lacks ps) old mid new g l = grows-trans old mid new g l
-  leaves (stops.Waits ps w) old mid new g l = grows-trans old mid new g l
-  leaves stops.Memory old mid new g l = tt
+  leaves : (end : Option End) (old mid new : Sink) → Grows old mid → OnSome end (Grows mid new) → OnSome end (Grows old new)
+  leaves None old mid new g l = tt
+  leaves (Some e) old mid new g l = grows-trans old mid new g l
 
   pub catted_stops : (t : List ℕ) (ts : List (List ℕ)) (whole : Result (List ℕ) End) (old mid new : Sink) (stop : Halt) → Catted setting ask es line (t ∷ ts) whole old mid → Fills {X = Unit {0}} (Err stop) (content_of setting ask es line t) mid new → Fills {X = Unit {0}} (Err stop) whole old new
   catted_stops t ts whole old mid new stop c f =
-      let one = stops_bind stop (content_of setting ask es line t) (λ bytes. contents_of setting ask es line ts >>= λ more. Ok (bytes ++ more)) f.0 in
-      let P : Result (List ℕ) End → Type 0 = λ r. Stops stop r in
+      let one = stops_bind (end_by stop) (content_of setting ask es line t) (λ bytes. contents_of setting ask es line ts >>= λ more. Ok (bytes ++ more)) f.0 in
+      let P : Result (List ℕ) End → Type 0 = λ r. IsMeant (option_map Err (end_by stop)) r in
       let all = subst P (sym (contents-cons t ts)) one in
-      (subst P c.meant (stops_bind stop (contents_of setting ask es line (t ∷ ts)) (λ more. Ok (c.bytes ++ more)) all), leaves stop old mid new c.adds.grows f.1)
+      (subst P c.meant (stops_bind (end_by stop) (contents_of setting ask es line (t ∷ ts)) (λ more. Ok (c.bytes ++ more)) all), leaves (end_by stop) old mid new c.adds.grows f.1)
 
   pub catted_done : (whole : Result (List ℕ) End) (old new : Sink) (x : Unit {0}) → Catted setting ask es line [] whole old new → Fills {X = Unit {0}} (Ok x) whole old new
   catted_done whole old new x c = (c.bytes, sym c.meant ∙ ap Ok (append-nil c.bytes), c.adds)

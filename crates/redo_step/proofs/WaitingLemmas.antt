@@ -1,7 +1,7 @@
 -- A wait for operands is a wait for those of them that are no sources.
 use Rattle.std.proofs.Common.{◌≡◌, ℕ, suc, ◌+◌, ◌<◌, Bool, true, false, ◌&&◌, ◌||◌, cond, not, inl, inr, List, [], ◌∷◌}
 use Rattle.std.proofs.Common.{◌++◌, length, drop, get_or, Result, Ok, Err, refl, sym, ap, ◌∙◌, add-one}
-use Rattle.std.specs.Prelude.{is_none}
+use Rattle.std.specs.Prelude.{is_none, Some, IfSome}
 use Rattle.std.proofs.Math.Seq.{drop-cons}
 use Rattle.std.specs.List.{list_any}
 use Rattle.std.proofs.lemmas.Bool.{cases_Bool, both_ways}
@@ -15,16 +15,20 @@ use Rattle.redo_record.specs.Paths.{Path, is_among}
 use Rattle.redo_script.specs.Syntax.{Word, Command, change}
 use Rattle.redo_step.specs.declared.halt.Halt.TheVariants as stops
 use Rattle.redo_step.specs.declared.wait.Waiting.{Waiting}
-use Rattle.redo_step.specs.inside.Machine.{WaitsBy, GoesOn, EndsAt, Passes}
+use Rattle.redo_step.specs.inside.Machine.{kept_by, run_by, IsMeant}
 use Rattle.redo_step.specs.inside.Kept.{HasOperands}
 use Rattle.redo_record.proofs.EntryLemmas.{with_entries-again}
 use Rattle.redo_step.specs.Setting.{Setting}
-use Rattle.redo_step.specs.Runs.{State, End, Run}
+use Rattle.redo_step.specs.Runs.{State, End, stopped, ends}
 use Rattle.redo_step.specs.Declaring.{declaring, is_in, lacking, any_failed, waited, changed}
 use Rattle.redo_step.specs.Words.{operands_of}
 use Rattle.redo_step.specs.Statements.{command_run}
 use Rattle.redo_record.specs.Answers.{Ask, is_failure}
 use Rattle.redo_step.specs.inside.Waiting.{targets_in, unanswered, any_failure, waited_on}
+
+-- what stops for want of answers keeps this wait
+abbrev pub KeptOnStop : {X : Type 0} → Waiting → Result X Halt → Type 0
+KeptOnStop w result = (s : State) (ps : List Path) → run_by result s ≡ Some (ends (stopped ps) s) → kept_by result ≡ Some w
 
 module _ (setting : Setting) (ask : Ask) where
   pub lacking_is : (found ps : List Path) → lacking setting ask found ps ≡ unanswered ask found (targets_in setting ps)
@@ -51,24 +55,19 @@ module _ (setting : Setting) (ask : Ask) where
   changed_is line meant ps targets s t m g d = rw (m, g, d) (waited_is line ps (declaring s kinds.Change ps))
 
   -- what was waited for is kept
-  pub ends_waiting : (line : ℕ) (c : Command) (w : Waiting) (stop : Halt) (r : Run) (t : State) → HasOperands setting line c t w → WaitsBy w stop r t → EndsAt setting line c stop r t
-  ends_waiting line c w (stops.Ended e) r t has h = h
-  ends_waiting line c w (stops.Lacks ps) r t has h = absurd h
-  ends_waiting line c w (stops.Waits ps v) r t has h = (h.0, rw h.1 has)
-  ends_waiting line c w stops.Memory r t has h = tt
-
-  passes_waiting : {X : Type 0} (line : ℕ) (c : Command) (w : Waiting) (result : Result X Halt) (r : Run) (t : State) → HasOperands setting line c t w → GoesOn w result r t → Passes setting line c result r t
-  passes_waiting line c w (Ok x) r t has h = h
-  passes_waiting line c w (Err stop) r t has h = ends_waiting line c w stop r t has h
+  pub keeps_waiting : {X : Type 0} (line : ℕ) (c : Command) (w : Waiting) (result : Result X Halt) (t : State) → HasOperands setting line c t w → KeptOnStop w result → IfSome (kept_by result) (HasOperands setting line c t)
+  keeps_waiting line c w (Err (stops.Waits ps v)) t has h = let same : v ≡ w = cc (h t ps.items refl) in rw same has
+  keeps_waiting line c w result t has h = tt
 
   again : (s t : State) (ps : List Path) → t ≡ declaring s kinds.Change ps → declaring t kinds.Change ps ≡ t
   again s t ps d = rw d (ap (λ es. record s { entries = es }) (with_entries-again s.entries kinds.Change ps))
 
-  pub changed_passes : {X : Type 0} (line : ℕ) (words : List Word) (ps : List Path) (w : Waiting) (s t : State) (result : Result X Halt) → operands_of setting line words ≡ Ok ps → w.line ≡ line → w.targets.items ≡ targets_in setting ps → t ≡ declaring s kinds.Change ps → GoesOn w result (waited_on ask w.line w.targets.items (unanswered ask [] w.targets.items) t) t → Passes setting line (change words) result (changed setting ask line (operands_of setting line words) s) t
-  changed_passes line words ps w s t result m l g d h =
-      let has : HasOperands setting line (change words) t w = record { words = words; operands = ps; same_line = l; same_command = refl; names = m; waits_for = g; declared = again s t ps d } in
-      let is = changed_is line (operands_of setting line words) ps w.targets.items s t m g d in
-      passes_waiting line (change words) w result _ t has (rw (is, ← l) h)
+  pub changed_runs : {X : Type 0} (line : ℕ) (words : List Word) (ps targets : List Path) (s t : State) (result : Result X Halt) → operands_of setting line words ≡ Ok ps → targets ≡ targets_in setting ps → t ≡ declaring s kinds.Change ps → IsMeant (run_by result t) (waited_on ask line targets (unanswered ask [] targets) t) → IsMeant (run_by result t) (changed setting ask line (operands_of setting line words) s)
+  changed_runs line words ps targets s t result m g d h = rw (changed_is line (operands_of setting line words) ps targets s t m g d) h
+
+  pub changed_keeps : {X : Type 0} (line : ℕ) (words : List Word) (ps : List Path) (w : Waiting) (s t : State) (result : Result X Halt) → operands_of setting line words ≡ Ok ps → w.line ≡ line → w.targets.items ≡ targets_in setting ps → t ≡ declaring s kinds.Change ps → KeptOnStop w result → IfSome (kept_by result) (HasOperands setting line (change words) t)
+  changed_keeps line words ps w s t result m l g d h =
+      keeps_waiting line (change words) w result t (record { words = words; operands = ps; same_line = l; same_command = refl; names = m; waits_for = g; declared = again s t ps d }) h
 
   -- a redo-ifchange that waited, when it goes on
   pub first_is : (line : ℕ) (c : Command) (w : Waiting) (s : State) → HasOperands setting line c s w → command_run setting ask line c s ≡ waited_on ask w.line w.targets.items (unanswered ask [] w.targets.items) s

@@ -1,12 +1,14 @@
 //! What each command does.
 
+ghost use Rattle.std.specs.Prelude.{◌≡◌, IfSome, None};
 ghost use Rattle.redo_script.specs.Syntax.{change};
 ghost use Rattle.redo_script.specs.View.{words_of, test_of, command_of, condition_of};
 ghost use Rattle.redo_step.specs.Words.{operands_of};
 ghost use Rattle.redo_step.specs.Declaring.{free_operands, changed, created, in_any_case};
 ghost use Rattle.redo_step.specs.Reading.{tested_in};
 ghost use Rattle.redo_step.specs.Statements.{command_run, condition_result};
-ghost use Rattle.redo_step.specs.inside.Machine.{Gives, Runs, Passes, state_of};
+ghost use Rattle.redo_step.specs.inside.Kept.{HasOperands};
+ghost use Rattle.redo_step.specs.inside.Machine.{state_of, kept_by, given_by, run_by, IsMeant};
 ghost use Rattle.redo_step.specs.inside.Scene.{scene_setting};
 
 use crate::answers::Answers;
@@ -28,10 +30,11 @@ impl Scene<'_> {
         command: &Command,
         effects: &mut Effects,
     ) -> Result<(), Halt>
-        ensures { Passes (scene_setting self.now) line (command_of command.now) result
+        ensures run { IsMeant (run_by result (state_of effects.new))
             (command_run (scene_setting self.now) (A.ask answers.now) line (command_of command.now)
-            (state_of effects.old))
-            (state_of effects.new) }
+            (state_of effects.old)) }
+        ensures keeps { IfSome (kept_by result)
+            (HasOperands (scene_setting self.now) line (command_of command.now) (state_of effects.new)) }
     {
         match command {
             Command::Write(writer, redirection) => {
@@ -61,10 +64,11 @@ impl Scene<'_> {
         words: &[Word],
         effects: &mut Effects,
     ) -> Result<(), Halt>
-        ensures { Passes (scene_setting self.now) line (change (words_of words.now)) result
+        ensures run { IsMeant (run_by result (state_of effects.new))
             (changed (scene_setting self.now) (A.ask answers.now) line
-            (operands_of (scene_setting self.now) line (words_of words.now)) (state_of effects.old))
-            (state_of effects.new) }
+            (operands_of (scene_setting self.now) line (words_of words.now)) (state_of effects.old)) }
+        ensures keeps { IfSome (kept_by result)
+            (HasOperands (scene_setting self.now) line (change (words_of words.now)) (state_of effects.new)) }
     {
         let paths = self.operands(line, words)?;
         declare(&mut effects.deps, DepKind::Change, &paths)?;
@@ -74,9 +78,9 @@ impl Scene<'_> {
 
     /// redo-ifcreate(1): declares these words' paths, none of which may be there.
     fn create(&self, line: u64, words: &[Word], effects: &mut Effects) -> Result<(), Halt>
-        ensures { Runs result
-            (created (free_operands (scene_setting self.now) line (words_of words.now)) (state_of effects.old))
-            (state_of effects.new) }
+        ensures run { IsMeant (run_by result (state_of effects.new))
+            (created (free_operands (scene_setting self.now) line (words_of words.now)) (state_of effects.old)) }
+        ensures keeps { kept_by result ≡ None }
     {
         let paths = self.operands(line, words)?;
         self.check_free(line, &paths)?;
@@ -92,8 +96,9 @@ impl Scene<'_> {
         test: &Test,
         declared: &Deps,
     ) -> Result<bool, Halt>
-        ensures { Gives (λ holds. holds) result
+        ensures holds { IsMeant (given_by (λ holds. holds) result)
             (tested_in (scene_setting self.now) (A.ask answers.now) declared.now line (test_of test.now)) }
+        ensures keeps { kept_by result ≡ None }
     {
         match test {
             Test::IsFile(word) => {
@@ -121,9 +126,10 @@ impl Scene<'_> {
         condition: &Condition,
         effects: &Effects,
     ) -> Result<bool, Halt>
-        ensures { Gives (λ holds. holds) result
+        ensures holds { IsMeant (given_by (λ holds. holds) result)
             (condition_result (scene_setting self.now) (A.ask answers.now) line (condition_of condition.now)
             (state_of effects.now)) }
+        ensures keeps { kept_by result ≡ None }
     {
         match condition {
             Condition::Test(test) => self.tested(answers, line, test, &effects.deps),
@@ -135,7 +141,8 @@ impl Scene<'_> {
 
 /// redo-always(1): declares that the target is to be made in any case.
 fn always(effects: &mut Effects) -> Result<(), Halt>
-    ensures { Runs result (in_any_case (state_of effects.old)) (state_of effects.new) }
+    ensures run { IsMeant (run_by result (state_of effects.new)) (in_any_case (state_of effects.old)) }
+    ensures keeps { kept_by result ≡ None }
 {
     effects.deps.insert(Dep {
         kind: DepKind::Always,

@@ -1,9 +1,9 @@
 //! What redo-ifchange and redo-ifcreate declare, and what they wait for.
 
-ghost use Rattle.std.specs.Prelude.{◌≡◌, OnOk};
+ghost use Rattle.std.specs.Prelude.{◌≡◌, OnOk, None};
 ghost use Rattle.redo_record.specs.Entries.{with_entries};
 ghost use Rattle.redo_step.specs.Declaring.{free_of, obstacle};
-ghost use Rattle.redo_step.specs.inside.Machine.{Gives};
+ghost use Rattle.redo_step.specs.inside.Machine.{kept_by, given_by, IsMeant};
 ghost use Rattle.redo_step.specs.inside.Scene.{scene_setting};
 ghost use Rattle.redo_step.specs.inside.Waiting.{targets_in};
 
@@ -38,7 +38,9 @@ impl Scene<'_> {
 
     /// Refuses a path that is there, or that a rule makes.
     pub(crate) fn check_free(&self, line: u64, paths: &[Path]) -> Result<(), Halt>
-        ensures { Gives (λ _. paths.now) result (free_of paths.now (obstacle (scene_setting self.now) line paths.now)) }
+        ensures free { IsMeant (given_by (λ _. paths.now) result)
+            (free_of paths.now (obstacle (scene_setting self.now) line paths.now)) }
+        ensures keeps { kept_by result ≡ None }
     {
         for path in paths {
             if self.source(path).is_some() || self.is_directory(path) {

@@ -4,6 +4,7 @@ ghost use Rattle.std.specs.Prelude.{◌≡◌, ◌≤◌, ◌∷◌, IfOk, OnOk,
 ghost use Rattle.redo_step.specs.Runs.{or_else, faulted};
 ghost use Rattle.redo_step.specs.Formats.{sequence_of, with_piece, pieces_of, takes_operands, once, formatted};
 ghost use Rattle.redo_step.specs.Formats.{print_of};
+ghost use Rattle.redo_step.specs.inside.Machine.{kept_by};
 ghost use Rattle.redo_step.specs.inside.Printing.{HasPlaces, Prints, PrintsOnce};
 ghost use Rattle.redo_step.specs.inside.Sink.{Fills};
 ghost use Rattle.redo_record.specs.declared.outcome.Why.TheVariants.{Format};
@@ -31,7 +32,8 @@ pub(crate) fn printf(
     texts: &[Text],
     sink: &mut Sink,
 ) -> Result<(), Halt>
-    ensures { Fills result (or_else (faulted (Format line)) (print_of format.now texts.now)) sink.old sink.new }
+    ensures fills { Fills result (or_else (faulted (Format line)) (print_of format.now texts.now)) sink.old sink.new }
+    ensures keeps { kept_by result ≡ None }
 {
     let Some(pieces) = pieces(alloc, format)? else {
         return Err(Halt::fault(Why::Format(line)));

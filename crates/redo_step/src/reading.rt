@@ -1,8 +1,8 @@
 //! What `cat` and `test -f` see of a path.
 
-ghost use Rattle.std.specs.Prelude.{◌≡◌, option_copied};
+ghost use Rattle.std.specs.Prelude.{◌≡◌, None, option_copied};
 ghost use Rattle.redo_step.specs.Reading.{file_of, answered_file};
-ghost use Rattle.redo_step.specs.inside.Machine.{Gives};
+ghost use Rattle.redo_step.specs.inside.Machine.{kept_by, given_by, IsMeant};
 ghost use Rattle.redo_step.specs.inside.Scene.{scene_setting};
 
 use crate::answers::Answers;
@@ -20,8 +20,9 @@ impl Scene<'_> {
         declared: &Deps,
         text: &[u8],
     ) -> Result<Option<&'s [u8]>, Halt>
-        ensures { Gives option_copied result
+        ensures file { IsMeant (given_by option_copied result)
             (file_of (scene_setting self.now) (A.ask answers.now) declared.now line text.now) }
+        ensures keeps { kept_by result ≡ None }
     {
         let change = Dep {
             kind: DepKind::Change,
@@ -48,7 +49,8 @@ impl Scene<'_> {
         answers: &'s A,
         path: &Path,
     ) -> Result<Option<&'s [u8]>, Halt>
-        ensures { Gives option_copied result (answered_file path.now (A.ask answers.now path.now)) }
+        ensures file { IsMeant (given_by option_copied result) (answered_file path.now (A.ask answers.now path.now)) }
+        ensures keeps { kept_by result ≡ None }
     {
         match answers.answer(path) {
             Some(outcome) => Ok(outcome.file()),

@@ -1,12 +1,12 @@
 //! What commands see: the tree, the rule's arguments, the limit of bytes, the names that loops bind.
 
-ghost use Rattle.std.specs.Prelude.{◌≡◌, IfOk, option_copied};
+ghost use Rattle.std.specs.Prelude.{◌≡◌, IfOk, None, option_copied};
 ghost use Rattle.std.specs.Str.{bytes_eq};
 ghost use Rattle.redo_script.specs.View.{word_of};
 ghost use Rattle.redo_step.specs.Words.{text_of, path_of};
 ghost use Rattle.redo_step.specs.Setting.{with_value};
 ghost use Rattle.redo_step.specs.Outputs.{is_third};
-ghost use Rattle.redo_step.specs.inside.Machine.{Gives};
+ghost use Rattle.redo_step.specs.inside.Machine.{kept_by, given_by, IsMeant};
 ghost use Rattle.redo_step.specs.inside.Scene.{scene_setting};
 
 use crate::halt::Halt;
@@ -63,7 +63,8 @@ impl Scene<'_> {
     /// The value of a word.
     #[tactic(auto, unfolding(crate::specs::Setting::setting_by))]
     pub(crate) fn text<'s>(&'s self, line: u64, word: &'s Word) -> Result<Text<'s>, Halt>
-        ensures { Gives (λ t. t) result (text_of (scene_setting self.now) line (word_of word.now)) }
+        ensures text { IsMeant (given_by (λ t. t) result) (text_of (scene_setting self.now) line (word_of word.now)) }
+        ensures keeps { kept_by result ≡ None }
     {
         match word_value(self.alloc, self.args, &self.bound, word)? {
             Some(text) => Ok(text),
@@ -74,7 +75,8 @@ impl Scene<'_> {
     /// The path that a text names from the script's directory.
     #[tactic(auto, unfolding(crate::specs::Setting::setting_by, crate::specs::Path::resolved))]
     pub(crate) fn path(&self, line: u64, text: &[u8]) -> Result<Path, Halt>
-        ensures { Gives (λ p. p) result (path_of (scene_setting self.now) line text.now) }
+        ensures path { IsMeant (given_by (λ p. p) result) (path_of (scene_setting self.now) line text.now) }
+        ensures keeps { kept_by result ≡ None }
     {
         match resolve(self.alloc, &self.args.dir, text) {
             Ok(path) => Ok(path),

@@ -4,9 +4,10 @@
 //! entered again, and the tree isn't asked again. Each operand is looked up once, to see whether all are built; only
 //! where they aren't it is looked for which.
 
-ghost use Rattle.std.specs.Prelude.{◌≡◌, IfOk, IsTrue, false, is_none, []};
-ghost use Rattle.redo_step.specs.Runs.{State};
-ghost use Rattle.redo_step.specs.inside.Machine.{GoesOn};
+ghost use Rattle.std.specs.Prelude.{◌≡◌, List, IfOk, IsTrue, false, Some, is_none, []};
+ghost use Rattle.redo_record.specs.Paths.{Path};
+ghost use Rattle.redo_step.specs.Runs.{State, stopped, ends};
+ghost use Rattle.redo_step.specs.inside.Machine.{kept_by, run_by, IsMeant};
 ghost use Rattle.redo_step.specs.inside.Waiting.{unanswered, any_failure, waited_on};
 
 use crate::answers::Answers;
@@ -29,11 +30,12 @@ pub(crate) struct Waiting {
 impl Waiting {
     /// Goes on once all the targets have answers, and none of them failed.
     pub(crate) fn go_on<A: Answers>(self, alloc: Global, answers: &A) -> Result<(), Halt>
-        ensures { (s : State) →
-            GoesOn self result
+        ensures run { (s : State) →
+            IsMeant (run_by result s)
             (waited_on (A.ask answers.now) self.line self.targets.items
-            (unanswered (A.ask answers.now) [] self.targets.items) s)
-            s }
+            (unanswered (A.ask answers.now) [] self.targets.items) s) }
+        ensures keeps { (s : State) (ps : List Path) →
+            run_by result s ≡ Some (ends (stopped ps) s) → kept_by result ≡ Some self }
     {
         if are_made(answers, &self.targets) {
             return Ok(());

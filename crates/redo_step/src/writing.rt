@@ -1,14 +1,14 @@
 //! What `echo`, `printf` and `cat` write, and where to.
 
-ghost use Rattle.std.specs.Prelude.{◌≡◌, ◌++◌, ◌∷◌, [], OnOk, None, Some, option_map};
+ghost use Rattle.std.specs.Prelude.{◌≡◌, ◌++◌, ◌∷◌, [], OnOk, IfErr, OnSome, None, Some, option_map};
 ghost use Rattle.redo_script.specs.View.{writer_of, redirection_of};
 ghost use Rattle.redo_step.specs.Outputs.{joined, writer_texts, bytes_of, goal_of, written};
 ghost use Rattle.redo_step.specs.Reading.{contents_of};
 ghost use Rattle.redo_step.specs.Statements.{with_state};
-ghost use Rattle.redo_step.specs.inside.Machine.{Gives, Runs, state_of};
+ghost use Rattle.redo_step.specs.inside.Machine.{state_of, end_by, kept_by, given_by, run_by, IsMeant};
 ghost use Rattle.redo_step.specs.inside.Scene.{scene_setting};
 ghost use Rattle.redo_step.specs.inside.Sink.{Adds, Fills};
-ghost use Rattle.redo_step.specs.inside.Writing.{writing_of, content_of, appended, Appends, put_bytes};
+ghost use Rattle.redo_step.specs.inside.Writing.{writing_of, content_of, appended, put_bytes};
 
 use crate::answers::Answers;
 use crate::halt::Halt;
@@ -56,7 +56,9 @@ fn add_joined(texts: &[Text], sink: &mut Sink) -> Result<(), AllocError>
 impl Scene<'_> {
     /// The values of a command's words.
     fn writing<'s>(&'s self, line: u64, writer: &'s Writer) -> Result<Writing<'s>, Halt>
-        ensures { Gives writing_of result (writer_texts (scene_setting self.now) line (writer_of writer.now)) }
+        ensures texts { IsMeant (given_by writing_of result)
+            (writer_texts (scene_setting self.now) line (writer_of writer.now)) }
+        ensures keeps { kept_by result ≡ None }
     {
         match writer {
             Writer::Echo(words) => Ok(Writing::Echo(self.texts(line, words)?)),
@@ -71,8 +73,9 @@ impl Scene<'_> {
 
     /// Whether a redirection, if there is one, appends to `$3`.
     fn goal(&self, line: u64, redirection: &Option<Redirection>) -> Result<Option<bool>, Halt>
-        ensures { Gives (λ goal. goal) result
+        ensures goal { IsMeant (given_by (λ goal. goal) result)
             (goal_of (scene_setting self.now) line (option_map redirection_of redirection.now)) }
+        ensures keeps { kept_by result ≡ None }
     {
         let Some(redirection) = redirection else {
             return Ok(None);
@@ -97,8 +100,10 @@ impl Scene<'_> {
         declared: &Deps,
         sink: &mut Sink,
     ) -> Result<(), Halt>
-        ensures { Fills result (contents_of (scene_setting self.now) (A.ask answers.now) declared.now line texts.now)
+        ensures fills { Fills result
+            (contents_of (scene_setting self.now) (A.ask answers.now) declared.now line texts.now)
             sink.old sink.new }
+        ensures keeps { kept_by result ≡ None }
     {
         for text in texts {
             self.cat_one(answers, line, text.bytes(), declared, sink)?;
@@ -115,8 +120,10 @@ impl Scene<'_> {
         declared: &Deps,
         sink: &mut Sink,
     ) -> Result<(), Halt>
-        ensures { Fills result (content_of (scene_setting self.now) (A.ask answers.now) declared.now line text.now)
+        ensures fills { Fills result
+            (content_of (scene_setting self.now) (A.ask answers.now) declared.now line text.now)
             sink.old sink.new }
+        ensures keeps { kept_by result ≡ None }
     {
         match self.file(answers, line, declared, text)? {
             Some(bytes) => {
@@ -136,9 +143,10 @@ impl Scene<'_> {
         declared: &Deps,
         sink: &mut Sink,
     ) -> Result<(), Halt>
-        ensures { Fills result
+        ensures fills { Fills result
             (bytes_of (scene_setting self.now) (A.ask answers.now) declared.now line (writing_of writing.now))
             sink.old sink.new }
+        ensures keeps { kept_by result ≡ None }
     {
         match writing {
             Writing::Echo(texts) => {
@@ -159,9 +167,11 @@ impl Scene<'_> {
         declared: &Deps,
         bytes: Vec<u8>,
     ) -> (Vec<u8>, Result<(), Halt>)
-        ensures { Appends result.1
+        ensures appends { IsMeant (given_by (λ _. result.0.items) result.1)
             (appended (scene_setting self.now) (A.ask answers.now) declared.now line (writing_of writing.now)
-            bytes.items) bytes.items result.0.items }
+            bytes.items) }
+        ensures spares { IfErr result.1 (λ stop. OnSome (end_by stop) (result.0.items ≡ bytes.items)) }
+        ensures keeps { kept_by result.1 ≡ None }
     {
         let length = bytes.len();
         let mut sink = Sink::new(bytes, self.limit());
@@ -189,10 +199,10 @@ impl Scene<'_> {
         writing: &Writing,
         effects: &mut Effects,
     ) -> Result<(), Halt>
-        ensures { Runs result
+        ensures run { IsMeant (run_by result (state_of effects.new))
             (put_bytes (scene_setting self.now) (A.ask answers.now) line (writing_of writing.now) None
-            (state_of effects.old))
-            (state_of effects.new) }
+            (state_of effects.old)) }
+        ensures keeps { kept_by result ≡ None }
     {
         let bytes = mem::replace(&mut effects.output, Vec::new(self.alloc));
         let (bytes, end) = self.append(answers, line, writing, &effects.deps, bytes);
@@ -209,10 +219,10 @@ impl Scene<'_> {
         appends: bool,
         effects: &mut Effects,
     ) -> Result<(), Halt>
-        ensures { Runs result
+        ensures run { IsMeant (run_by result (state_of effects.new))
             (put_bytes (scene_setting self.now) (A.ask answers.now) line (writing_of writing.now) (Some appends)
-            (state_of effects.old))
-            (state_of effects.new) }
+            (state_of effects.old)) }
+        ensures keeps { kept_by result ≡ None }
     {
         if appends {
             if let Some(bytes) = effects.third.take() {
@@ -238,12 +248,12 @@ impl Scene<'_> {
         redirection: &Option<Redirection>,
         effects: &mut Effects,
     ) -> Result<(), Halt>
-        ensures { Runs result
+        ensures run { IsMeant (run_by result (state_of effects.new))
             (with_state
             (written (scene_setting self.now) (A.ask answers.now) line (writer_of writer.now)
             (option_map redirection_of redirection.now) (state_of effects.old))
-            (state_of effects.old))
-            (state_of effects.new) }
+            (state_of effects.old)) }
+        ensures keeps { kept_by result ≡ None }
     {
         let writing = self.writing(line, writer)?;
         match self.goal(line, redirection)? {

@@ -1,6 +1,7 @@
 -- What contracts see of the machine.
-use Rattle.std.specs.Prelude.{◌≡◌, ℕ, ◌+◌, ◌<◌, length, List, ◌∷◌, drop, option_map, None, Some, Result, Ok, Err}
-use Rattle.redo_script.specs.Syntax.{Script, Word, Command, Condition, finish, choice, loop}
+use Rattle.std.specs.Prelude.{◌≡◌, ℕ, ◌+◌, ◌<◌, length, List, ◌∷◌, drop, Option, None, Some, option_map, Result}
+use Rattle.std.specs.Prelude.{Ok, Err}
+use Rattle.redo_script.specs.Syntax.{Script, Word, Condition, finish, choice, loop}
 use Rattle.redo_step.specs.declared.machine.Effects.{Effects}
 use Rattle.redo_step.specs.declared.halt.Ending.{Ending}
 use Rattle.redo_step.specs.declared.halt.Ending.TheVariants as endings
@@ -20,7 +21,7 @@ use Rattle.redo_script.specs.declared.ast.Stmt.{Stmt}
 use Rattle.redo_script.specs.View.{before, script_of}
 use Rattle.redo_step.specs.Place.{Rest, all_of, and_then, turns_of, skip, inside, in_turn, stands_at, left_at}
 use Rattle.redo_step.specs.Reach.{Reaches}
-use Rattle.redo_step.specs.inside.Kept.{HasOperands, IsKept}
+use Rattle.redo_step.specs.inside.Kept.{IsKept}
 
 -- what a script has done so far
 abbrev pub state_of : Effects → State
@@ -31,54 +32,32 @@ abbrev pub end_of : Ending → End
 end_of (endings.Exited n) = exited n
 end_of (endings.Faulted w) = faulted w
 
--- a part of a command that stopped says why, unless memory ran out
-abbrev pub Stops : {Y : Type 0} → Halt → Result Y End → Type 0
-Stops (stops.Ended e) meant = meant ≡ Err (end_of e)
-Stops (stops.Lacks ps) meant = meant ≡ Err (stopped ps.items)
-Stops (stops.Waits ps w) meant = ⊥
-Stops stops.Memory meant = Unit {0}
+-- how the run ends where a command stopped so; want of memory is no end of it
+abbrev pub end_by : Halt → Option End
+end_by (stops.Ended e) = Some (end_of e)
+end_by (stops.Lacks ps) = Some (stopped ps.items)
+end_by (stops.Waits ps w) = Some (stopped ps.items)
+end_by stops.Memory = None
 
--- what a function answered, seen by view, is what is meant, unless memory ran out
-abbrev pub Gives : {X Y : Type 0} → (X → Y) → Result X Halt → Result Y End → Type 0
-Gives view (Ok x) meant = meant ≡ Ok (view x)
-Gives view (Err stop) meant = Stops stop meant
+-- the redo-ifchange that a command keeps, where it waits
+abbrev pub kept_by : {X : Type 0} → Result X Halt → Option Waiting
+kept_by (Err (stops.Waits ps w)) = Some w
+kept_by result = None
 
--- a run ended so, unless memory ran out
-abbrev pub EndsBy : Halt → Run → State → Type 0
-EndsBy (stops.Ended e) run new = run ≡ ends (end_of e) new
-EndsBy (stops.Lacks ps) run new = run ≡ ends (stopped ps.items) new
-EndsBy (stops.Waits ps w) run new = ⊥
-EndsBy stops.Memory run new = Unit {0}
+-- what a part of a command gave, seen by a view, or how it ends the run; nothing where memory ran out
+abbrev pub given_by : {X Y : Type 0} → (X → Y) → Result X Halt → Option (Result Y End)
+given_by view (Ok x) = Some (Ok (view x))
+given_by view (Err stop) = option_map Err (end_by stop)
 
--- a command came to this state, unless memory ran out
-abbrev pub Runs : {X : Type 0} → Result X Halt → Run → State → Type 0
-Runs (Ok x) run new = run ≡ goes new
-Runs (Err stop) run new = EndsBy stop run new
+-- what a command came to that left this state; nothing where memory ran out
+abbrev pub run_by : {X : Type 0} → Result X Halt → State → Option Run
+run_by (Ok x) new = Some (goes new)
+run_by (Err stop) new = option_map (λ e. ends e new) (end_by stop)
 
--- a wait ended so, and is kept where answers are lacking, unless memory ran out
-abbrev pub WaitsBy : Waiting → Halt → Run → State → Type 0
-WaitsBy waiting (stops.Ended e) run new = run ≡ ends (end_of e) new
-WaitsBy waiting (stops.Lacks ps) run new = ⊥
-WaitsBy waiting (stops.Waits ps w) run new = (run ≡ ends (stopped ps.items) new) × (w ≡ waiting)
-WaitsBy waiting stops.Memory run new = Unit {0}
-
--- a wait came to this state, unless memory ran out
-abbrev pub GoesOn : {X : Type 0} → Waiting → Result X Halt → Run → State → Type 0
-GoesOn waiting (Ok x) run new = run ≡ goes new
-GoesOn waiting (Err stop) run new = WaitsBy waiting stop run new
-
--- a run ended so at this command, with its operands where it waits, unless memory ran out
-abbrev pub EndsAt : Setting → ℕ → Command → Halt → Run → State → Type 0
-EndsAt setting line command (stops.Ended e) run new = run ≡ ends (end_of e) new
-EndsAt setting line command (stops.Lacks ps) run new = run ≡ ends (stopped ps.items) new
-EndsAt setting line command (stops.Waits ps w) run new =
-    (run ≡ ends (stopped ps.items) new) × HasOperands setting line command new w
-EndsAt setting line command stops.Memory run new = Unit {0}
-
--- this command came to this state, unless memory ran out
-abbrev pub Passes : {X : Type 0} → Setting → ℕ → Command → Result X Halt → Run → State → Type 0
-Passes setting line command (Ok x) run new = run ≡ goes new
-Passes setting line command (Err stop) run new = EndsAt setting line command stop run new
+-- it is what is meant, unless memory ran out
+abbrev pub IsMeant : {Y : Type 0} → Option Y → Y → Type 0
+IsMeant None meant = Unit {0}
+IsMeant (Some y) meant = meant ≡ y
 
 -- Doing a part of these statements from this state comes to the rest, or to an end, or stops at a place of the
 -- statements.

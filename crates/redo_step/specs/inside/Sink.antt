@@ -1,10 +1,9 @@
 -- Bytes that grow up to a limit.
-use Rattle.std.specs.Prelude.{◌≡◌, ℕ, false, not, nat_le, List, ◌++◌, length, Result, Ok, Err}
+use Rattle.std.specs.Prelude.{◌≡◌, ℕ, false, not, nat_le, List, ◌++◌, length, Result, Ok, Err, OnSome, option_map}
 use Rattle.redo_step.specs.declared.sink.Sink.{Sink}
 use Rattle.redo_step.specs.declared.halt.Halt.{Halt}
-use Rattle.redo_step.specs.declared.halt.Halt.TheVariants as stops
 use Rattle.redo_step.specs.Runs.{End}
-use Rattle.redo_step.specs.inside.Machine.{Stops}
+use Rattle.redo_step.specs.inside.Machine.{end_by, IsMeant}
 
 -- a sink that began with a base was given more: it holds both, unless they are too long
 pub record Holds (base more : List ℕ) (sink : Sink) : Type 0 where
@@ -21,14 +20,8 @@ pub record Adds (more : List ℕ) (old new : Sink) : Type 0 where
   pub grows : Grows old new
   pub holds : (base before : List ℕ) → Holds base before old → Holds base (before ++ more) new
 
--- a command that stopped left what was held, unless memory ran out
-abbrev pub Leaves : Halt → Sink → Sink → Type 0
-Leaves (stops.Ended e) old new = Grows old new
-Leaves (stops.Lacks ps) old new = Grows old new
-Leaves (stops.Waits ps w) old new = Grows old new
-Leaves stops.Memory old new = Unit {0}
-
--- a command gave the sink the bytes that are meant, or stopped as is meant
+-- A command gave the sink the bytes that are meant, or stopped as is meant. What was held stands first still, unless
+-- memory ran out.
 abbrev pub Fills : {X : Type 0} → Result X Halt → Result (List ℕ) End → Sink → Sink → Type 0
 Fills (Ok x) meant old new = (bytes : List ℕ) × (meant ≡ Ok bytes) × Adds bytes old new
-Fills (Err stop) meant old new = Stops stop meant × Leaves stop old new
+Fills (Err stop) meant old new = IsMeant (option_map Err (end_by stop)) meant × OnSome (end_by stop) (Grows old new)

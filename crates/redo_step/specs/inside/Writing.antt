@@ -1,10 +1,8 @@
 -- What the parts of a command that writes do.
-use Rattle.std.specs.Prelude.{◌≡◌, ℕ, List, ◌++◌, Option, Bool, Result, Ok, Err}
+use Rattle.std.specs.Prelude.{ℕ, List, ◌++◌, Option, Bool, Result}
 use Rattle.redo_script.specs.Syntax.{Writer, echo, printf, cat}
 use Rattle.redo_step.specs.declared.writing.Writing.{Writing}
 use Rattle.redo_step.specs.declared.writing.Writing.TheVariants as writings
-use Rattle.redo_step.specs.declared.halt.Halt.{Halt}
-use Rattle.redo_step.specs.declared.halt.Halt.TheVariants as stops
 use Rattle.redo_step.specs.Setting.{Setting}
 use Rattle.redo_step.specs.Runs.{State, End, exited, Run, ◌>>=◌, or_else}
 use Rattle.redo_step.specs.Reading.{file_of}
@@ -12,7 +10,6 @@ use Rattle.redo_step.specs.Outputs.{bytes_of, limited, put}
 use Rattle.redo_step.specs.Statements.{with_state}
 use Rattle.redo_record.specs.Answers.{Ask}
 use Rattle.redo_record.specs.declared.deps.Dep.{Dep}
-use Rattle.redo_step.specs.inside.Machine.{Stops}
 
 -- the values of a command's words
 abbrev pub writing_of : Writing → Writer (List ℕ)
@@ -28,18 +25,6 @@ content_of setting ask es line text = file_of setting ask es line text >>= or_el
 abbrev pub appended : Setting → Ask → List Dep → ℕ → Writer (List ℕ) → List ℕ → Result (List ℕ) End
 appended setting ask es line w before =
     bytes_of setting ask es line w >>= λ bytes. limited setting line (before ++ bytes)
-
--- a command that stopped left these bytes, unless memory ran out
-abbrev pub Spares : Halt → List ℕ → List ℕ → Type 0
-Spares (stops.Ended e) old new = new ≡ old
-Spares (stops.Lacks ps) old new = new ≡ old
-Spares (stops.Waits ps w) old new = new ≡ old
-Spares stops.Memory old new = Unit {0}
-
--- what is meant was appended, or the command stopped as is meant and left the bytes
-abbrev pub Appends : {X : Type 0} → Result X Halt → Result (List ℕ) End → List ℕ → List ℕ → Type 0
-Appends (Ok x) meant old new = meant ≡ Ok new
-Appends (Err stop) meant old new = Stops stop meant × Spares stop old new
 
 -- the command's bytes, put where its redirection says
 abbrev pub put_bytes : Setting → Ask → ℕ → Writer (List ℕ) → Option Bool → State → Run

@@ -27,35 +27,35 @@ pub run_from-returns : goal.run_from-returns
 run_from-returns g t c = all_passed _ _ c.args.stmts.now c.args.first c.loop-index.index _ _ c.loop-index-test.false c.loop-index.invariant
 
 pub run_stmt-returns-in-Ok : goal.run_stmt-returns-in-Ok
-run_stmt-returns-in-Ok g t c = passes_goes _ _ c.args.stmt.now c.in-Simple.line c.in-Simple.command c.args.index _ _ c.in-Simple.is c.in-Ok.ensures
+run_stmt-returns-in-Ok g t c = passes_goes _ _ c.args.stmt.now c.in-Simple.line c.in-Simple.command c.args.index _ _ c.in-Simple.is c.in-Ok.ensures.run
 
 pub run_stmt-returns-in-Err : goal.run_stmt-returns-in-Err
 run_stmt-returns-in-Err g t c =
-    if_ok_map c.stop_before.result (λ p is. passes_stop _ _ c.args.stmt.now c.in-Simple.line c.in-Simple.command c.args.index _ _ c.in-Err.stop p c.in-Simple.is c.in-Err.ensures is) c.stop_before.ensures
+    if_ok_map c.stop_before.result (λ p is. passes_stop _ _ c.args.stmt.now c.in-Simple.line c.in-Simple.command c.args.index _ _ c.in-Err.stop p c.in-Simple.is c.in-Err.ensures.run c.in-Err.ensures.keeps is) c.stop_before.ensures
 
 pub run_stmt-returns-in_ok-progress-in-Ok-true : goal.run_stmt-returns-in_ok-progress-in-Ok-true
 run_stmt-returns-in_ok-progress-in-Ok-true g t c =
-    let holds = rw c.in-Ok-true.field-0-test at c.in-Ok-true.ensures in
+    let holds = rw c.in-Ok-true.field-0-test at c.in-Ok-true.ensures.holds in
     if_ok_map c.within.result (λ outer w. passes_first _ _ c.args.stmt.now c.in-If.line c.in-If.condition c.in-If.first c.in-If.second c.deref.result.now c.args.index _ _ c.in_ok-progress-in-Ok-true.progress outer c.in-If.is holds c.deref.ensures.value c.in_ok-progress-in-Ok-true.ensures w) c.within.ensures
 
 pub run_stmt-returns-in_ok-progress-in-Ok-false : goal.run_stmt-returns-in_ok-progress-in-Ok-false
 run_stmt-returns-in_ok-progress-in-Ok-false g t c =
-    let holds = rw c.in-Ok-false.field-0-test at c.in-Ok-false.ensures in
+    let holds = rw c.in-Ok-false.field-0-test at c.in-Ok-false.ensures.holds in
     if_ok_map c.within-in-Ok-false.result (λ outer w. passes_second _ _ c.args.stmt.now c.in-If.line c.in-If.condition c.in-If.first c.in-If.second c.deref-in-Ok-false.result.now c.args.index _ _ c.in_ok-progress-in-Ok-false.progress outer c.in-If.is holds c.deref-in-Ok-false.ensures.value c.in_ok-progress-in-Ok-false.ensures w) c.within-in-Ok-false.ensures
 
 pub run_stmt-returns-in-Err-condition : goal.run_stmt-returns-in-Err-condition
 run_stmt-returns-in-Err-condition g t c =
-    if_ok_map c.stop_before-in-Err-condition.result (λ p is. passes_check _ _ c.args.stmt.now c.in-If.line c.in-If.condition c.in-If.first c.in-If.second c.args.index _ c.in-Err-condition.stop p c.in-If.is c.in-Err-condition.ensures is) c.stop_before-in-Err-condition.ensures
+    if_ok_map c.stop_before-in-Err-condition.result (λ p is. passes_check _ _ c.args.stmt.now c.in-If.line c.in-If.condition c.in-If.first c.in-If.second c.args.index _ c.in-Err-condition.stop p c.in-If.is c.in-Err-condition.ensures.holds c.in-Err-condition.ensures.keeps is) c.stop_before-in-Err-condition.ensures
 
 pub run_stmt-returns-in-Ok-values : goal.run_stmt-returns-in-Ok-values
 run_stmt-returns-in-Ok-values g t c =
-    let values = rw c.deref-in-Loop.ensures.value at c.in-Ok-values.ensures in
+    let values = rw c.deref-in-Loop.ensures.value at c.in-Ok-values.ensures.values in
     if_ok_map c.run_turns.result (λ p ran. passes_turns _ _ c.args.stmt.now c.in-Loop.line c.in-Loop.name c.in-Loop.words c.in-Loop.body _ c.args.index _ _ p c.in-Loop.is values refl c.deref-in-Ok-values.ensures.value refl ran) c.run_turns.ensures
 
 pub run_stmt-returns-in-Err-values : goal.run_stmt-returns-in-Err-values
 run_stmt-returns-in-Err-values g t c =
-    let stops = rw c.deref-in-Loop.ensures.value at c.in-Err-values.ensures in
-    if_ok_map c.stop_before-in-Err-values.result (λ p is. passes_words _ _ c.args.stmt.now c.in-Loop.line c.in-Loop.name c.in-Loop.words c.in-Loop.body c.args.index _ c.in-Err-values.stop p c.in-Loop.is stops is) c.stop_before-in-Err-values.ensures
+    let stops = rw c.deref-in-Loop.ensures.value at c.in-Err-values.ensures.values in
+    if_ok_map c.stop_before-in-Err-values.result (λ p is. passes_words _ _ c.args.stmt.now c.in-Loop.line c.in-Loop.name c.in-Loop.words c.in-Loop.body c.args.index _ c.in-Err-values.stop p c.in-Loop.is stops c.in-Err-values.ensures.keeps is) c.stop_before-in-Err-values.ensures
 
 pub run_turns-returns-in_default : goal.run_turns-returns-in_default
 run_turns-returns-in_default g t c =

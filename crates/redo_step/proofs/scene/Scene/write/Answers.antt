@@ -7,10 +7,10 @@ use Rattle.redo_step.specs.inside.Writing.{writing_of}
 use Rattle.redo_step.proofs.WriteLemmas.{writes}
 use Rattle.redo_step.proofs.scene.Scene.write.Goals as goal
 
-pub returns-in-None : goal.returns-in-None
-returns-in-None g c =
-    writes (scene_setting c.args.self.now) (g.A.Answers.ask c.args.answers.now) c.args.line (writer_of c.args.writer.now) (option_map redirection_of c.args.redirection.now) (state_of c.args.effects.now) (writing_of c.in_ok-writing.writing) None c.in_ok-writing.ensures (rw c.in-None.is at c.in_ok-goal.ensures) c.write_output.result _ c.write_output.ensures
+pub returns-in-None-clause-run : goal.returns-in-None-clause-run
+returns-in-None-clause-run g c =
+    writes (scene_setting c.args.self.now) (g.A.Answers.ask c.args.answers.now) c.args.line (writer_of c.args.writer.now) (option_map redirection_of c.args.redirection.now) (state_of c.args.effects.now) (writing_of c.in_ok-writing.writing) None c.in_ok-writing.ensures.texts (rw c.in-None.is at c.in_ok-goal.ensures.goal) c.write_output.result _ c.write_output.ensures.run
 
-pub returns : goal.returns
-returns g c =
-    writes (scene_setting c.args.self.now) (g.A.Answers.ask c.args.answers.now) c.args.line (writer_of c.args.writer.now) (option_map redirection_of c.args.redirection.now) (state_of c.args.effects.now) (writing_of c.in_ok-writing.writing) (Some c.in-Some.appends) c.in_ok-writing.ensures (rw c.in-Some.is at c.in_ok-goal.ensures) c.write_third.result _ c.write_third.ensures
+pub returns-clause-run : goal.returns-clause-run
+returns-clause-run g c =
+    writes (scene_setting c.args.self.now) (g.A.Answers.ask c.args.answers.now) c.args.line (writer_of c.args.writer.now) (option_map redirection_of c.args.redirection.now) (state_of c.args.effects.now) (writing_of c.in_ok-writing.writing) (Some c.in-Some.appends) c.in_ok-writing.ensures.texts (rw c.in-Some.is at c.in_ok-goal.ensures.goal) c.write_third.result _ c.write_third.ensures.run
