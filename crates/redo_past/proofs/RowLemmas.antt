@@ -1,16 +1,16 @@
 -- The row of a path, among rows in path order.
 use Rattle.std.proofs.Common.{◌≡◌, ℕ, zero, suc, ◌<◌, ◌≤◌, true, false, List, [], ◌∷◌, refl, sym, ap, subst, ◌∙◌, inl, inr}
-use Rattle.std.proofs.Common.{Some, None, length, map, arith, slice_index_or}
-use Rattle.std.proofs.lemmas.Bool.{cases_lt}
+use Rattle.std.proofs.Common.{Bool, Bor, Some, None, cond, length, map, arith, option_copied, slice_index_or, take}
+use Rattle.std.proofs.lemmas.Bool.{cases_Bool}
 use Rattle.std.proofs.lemmas.Map.Text.{is_eq-slice_cmp}
 use Rattle.std.specs.Cmp.Lexicographic.{nat_list_cmp_total, slice_cmp}
 use Rattle.std.specs.List.{AllByRecursion}
-use Rattle.std.specs.List.Sorted.{IsBinarySearchResult, IsNonDecreasingBy, IsStrictlySortedBy}
+use Rattle.std.specs.List.Sorted.{IsNonDecreasingBy, IsStrictlySortedBy}
 use Rattle.std.specs.Ordering.{is_eq, nat_cmp, ordering_index, ordering_reverse}
-use Rattle.std.specs.Prelude.{Err, find, Option}
+use Rattle.std.specs.Prelude.{find, Option}
 use Rattle.std.specs.Str.{bytes_eq}
 use Rattle.std.specs.declared.cmp.Ordering.TheVariants.{Less, Equal, Greater}
-use Rattle.redo_past.proofs.OrderLemmas.{order, other_path, same_order}
+use Rattle.redo_past.proofs.OrderLemmas.{order, other_path, same_order, same_path}
 
 -- what stands behind compares no less
 order-rises : (v w t : List ℕ) → order v w ≡ Less → ordering_index (order v t) ≤ ordering_index (order w t)
@@ -46,23 +46,7 @@ module _ {X : Type 0} (key : X → List ℕ) where
   abbrev found-at : List X → List ℕ → Option X
   found-at xs t = find (λ x. bytes_eq (key x) t) xs
 
-  none-found : (xs : List X) (t : List ℕ) → ((k : ℕ) (d : X) → k < length xs → bytes_eq (key (slice_index_or xs k d)) t ≡ false) → found-at xs t ≡ None
-  none-found [] t h = refl
-  none-found (x ∷ xs) t h = rw (h zero x (omega arith)) (none-found xs t (λ k d l. h (suc k) d (omega arith)))
-
-  other-greater : (v t : List ℕ) → order v t ≡ Greater → bytes_eq v t ≡ false
-  other-greater v t h = sym (is_eq-slice_cmp v t) ∙ ap is_eq h
-
-  -- where the search finds no place none is found
-  pub not-found : (xs : List X) (t : List ℕ) (n : ℕ) → IsStrictlySortedBy (slice_cmp nat_cmp) (map key xs) → IsBinarySearchResult (λ x. slice_cmp nat_cmp (key x) t) xs (Err n) → found-at xs t ≡ None
-  not-found xs t n h s =
-      let both = s (rising t xs h) in
-      none-found xs t (λ k d l. elim (cases_lt k n) [
-        | inl lt ↦ other_path (key (slice_index_or xs k d)) t (both.0 k d (omega arith) lt)
-        | inr ge ↦ other-greater (key (slice_index_or xs k d)) t (both.1 k d (omega arith) l)
-      ])
-
-  -- and where it finds one, the one there has that path
+  -- what stands at a place is found by its path
   pub was-found : (xs : List X) (t : List ℕ) (n : ℕ) (d : X) → IsStrictlySortedBy (slice_cmp nat_cmp) (map key xs) → order (key (slice_index_or xs n d)) t ≡ Equal → n < length xs → found-at xs t ≡ Some (slice_index_or xs n d)
   unfolding IsStrictlySortedBy
   was-found [] t n d h e l = absurd (omega arith)
@@ -72,3 +56,24 @@ module _ {X : Type 0} (key : X → List ℕ) where
       let same : key it ≡ t = same_order (key it) t e in
       let less : order (key x) t ≡ Less = subst (λ u. order (key x) u ≡ Less) same (at-all (key x) xs n d h.0 (omega arith)) in
       rw (other_path (key x) t less) (was-found xs t n d h.1 e (omega arith))
+
+  -- one item more is found by its path, and the others by theirs
+  pub found-more : (xs : List X) (i : ℕ) (x : X) (t : List ℕ) → IsStrictlySortedBy (slice_cmp nat_cmp) (map key xs) → i < length xs → x ≡ slice_index_or xs i x → found-at (take (suc i) xs) t ≡ cond (bytes_eq (key x) t) (Some x) (found-at (take i xs) t)
+  unfolding IsStrictlySortedBy
+  found-more [] i x t h below is = absurd (omega (arith, below))
+  found-more (y ∷ ys) zero x t h below is = ap (λ z. cond (bytes_eq (key z) t) (Some z) None) (sym is)
+  found-more (y ∷ ys) (suc i) x t h below is =
+      ap (cond (bytes_eq (key y) t) (Some y)) (found-more ys i x t h.1 (omega (arith, below)) is) ∙ (elim (cases_Bool (bytes_eq (key y) t)) [
+        | inl here ↦
+            let less : order (key y) (key x) ≡ Less = subst (λ z. order (key y) (key z) ≡ Less) (sym is) (at-all (key y) ys i x h.0 (omega (arith, below))) in
+            let behind : order t (key x) ≡ Less = subst (λ p. order p (key x) ≡ Less) (same_path (key y) t here) less in
+            let greater : order (key x) t ≡ Greater = nat_list_cmp_total.antisymm (key x) t ∙ ap ordering_reverse behind in
+            let other : bytes_eq (key x) t ≡ false = sym (is_eq-slice_cmp (key x) t) ∙ ap is_eq greater in
+            rw here (rw other refl)
+        | inr there ↦ rw there refl
+      ])
+
+-- a map with one value more has what was found before, and that value
+pub put-more : {X : Type 0} (found new : Option (Bor X)) (value : Bor X) (b c : Bool) (old all : Option X) → new ≡ cond b (Some value) found → b ≡ c → option_copied found ≡ old → all ≡ cond c (Some value.now) old → option_copied new ≡ all
+put-more found new value true c old all is same was more = ap option_copied is ∙ sym (more ∙ ap (λ d. cond d (Some value.now) old) (sym same))
+put-more found new value false c old all is same was more = ap option_copied is ∙ was ∙ sym (more ∙ ap (λ d. cond d (Some value.now) old) (sym same))

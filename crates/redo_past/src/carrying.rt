@@ -8,27 +8,25 @@ ghost use Rattle.std.specs.List.Sorted.{IsStrictlySortedBy};
 ghost use Rattle.std.specs.Ordering.{nat_cmp};
 ghost use Rattle.redo_which.specs.Rule.{found_of, is_rule};
 ghost use Rattle.redo_book.specs.Book.{IsRecord, Record, record_of, targets_of};
-ghost use Rattle.redo_past.specs.inside.Books.{AreItems, AreRows, carries, has_built, is_before, is_behind};
+ghost use Rattle.redo_past.specs.inside.Books.{AreItems, carries, has_built, is_before, is_behind};
 ghost use Rattle.redo_past.specs.inside.Books.{states_after};
 ghost use Rattle.redo_past.specs.NewBook.{row_at};
 
 use crate::Past;
 use crate::items::Item;
 use crate::records::is_built;
-use crate::states::find_row;
+use crate::rows::Rows;
 use redo_book::BookRecord;
 use redo_path::Path;
-use redo_report::Row;
 use redo_tree::Tree;
 use redo_which::{Found, lookup};
 use std::alloc::{AllocError, Global};
 
 /// Whether a path was built.
-fn was_built(rows: &[Row], path: &Path) -> bool
-    requires { AreRows rows.now }
+fn was_built(rows: &Rows<'_>, path: &Path) -> bool
     ensures { result ≡ has_built (row_at rows.now path.now) }
 {
-    match find_row(rows, path) {
+    match rows.find(path) {
         Some(row) => is_built(&row.outcome),
         None => false,
     }
@@ -49,10 +47,9 @@ fn has_rule(alloc: Global, sources: &Tree, path: &Path) -> Result<bool, AllocErr
 fn is_carried(
     alloc: Global,
     past: &Past,
-    rows: &[Row],
+    rows: &Rows<'_>,
     record: &BookRecord,
 ) -> Result<bool, AllocError>
-    requires { AreRows rows.now }
     ensures { IfOk result (λ answer. answer ≡ carries past.now rows.now (record_of «record».now)) }
 {
     let target = &record.target;
@@ -69,11 +66,10 @@ fn is_carried(
 pub(crate) fn carry<'a>(
     alloc: Global,
     past: &Past,
-    rows: &[Row],
+    rows: &Rows<'_>,
     records: &'a [BookRecord],
     items: &mut Vec<Item<'a>>,
 ) -> Result<(), AllocError>
-    requires rows { AreRows rows.now }
     requires each { AllByRecursion IsRecord (map record_of records.now) }
     ensures { OnOk result ((known : List Record) → AreItems (states_after past.now rows.now) items.old.items known →
         AreItems (states_after past.now rows.now) items.new.items
@@ -111,12 +107,11 @@ fn count_before(records: &[BookRecord], path: &Path) -> usize
 pub(crate) fn carry_before<'a>(
     alloc: Global,
     past: &Past,
-    rows: &[Row],
+    rows: &Rows<'_>,
     records: &'a [BookRecord],
     path: &Path,
     items: &mut Vec<Item<'a>>,
 ) -> Result<&'a [BookRecord], AllocError>
-    requires rows { AreRows rows.now }
     requires each { AllByRecursion IsRecord (map record_of records.now) }
     requires sorted { IsStrictlySortedBy (slice_cmp nat_cmp) (targets_of (map record_of records.now)) }
     ensures known { OnOk result ((known : List Record) →

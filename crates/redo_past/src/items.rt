@@ -2,11 +2,12 @@
 
 ghost use Rattle.std.specs.Prelude.{◌≡◌, Bool, IfOk, List, false, map};
 ghost use Rattle.redo_book.specs.Book.{IsBook, Record, record_of};
-ghost use Rattle.redo_past.specs.inside.Books.{AreItems, AreRows, joined, new_records, states_after};
+ghost use Rattle.redo_past.specs.inside.Books.{AreItems, joined, new_records, states_after};
 
 use crate::Past;
 use crate::carrying::{carry, carry_before};
 use crate::records::has_record;
+use crate::rows::Rows;
 use redo_book::BookRecord;
 use redo_path::Path;
 use redo_report::Row;
@@ -39,15 +40,15 @@ fn but_of<'a>(records: &'a [BookRecord], target: &Path) -> &'a [BookRecord]
 pub(crate) fn items_of<'a>(
     alloc: Global,
     past: &'a Past,
-    rows: &'a [Row],
+    rows: &Rows<'a>,
 ) -> Result<Vec<Item<'a>>, AllocError>
-    requires { AreRows rows.now }
     ensures { IfOk result (λ items.
         AreItems (states_after past.now rows.now) items.items (new_records past.now rows.now)) }
 {
     let mut items = Vec::new(alloc);
     let mut left = past.book().records();
-    for row in rows {
+    let in_order = rows.in_order();
+    for row in in_order {
         if has_record(row) {
             left = carry_before(alloc, past, rows, left, &row.path, &mut items)?;
             left = but_of(left, &row.path);

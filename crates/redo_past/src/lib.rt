@@ -8,7 +8,8 @@
 //!
 //! - `past`: the tree, the sources and the book, and what a run leaves; `named`: which files its book tells digests of;
 //!   `faults`: why a tree is refused;
-//! - `standing`: whether a path stands as a book tells; `states`: what stands at each path when a run ends;
+//! - `standing`: whether a path stands as a book tells; `rows`: the rows of a report, found by their paths; `states`:
+//!   what stands at each path when a run ends;
 //! - `items`: what the records of the new book are made of, in order; `carrying`: those that are carried; `records`:
 //!   the lines of each; `sizes`: how many bytes they have; `new_book`: the text of all;
 //! - `run_report`: a run's report with the new book, which is written piece by piece; `books`: the place of the book
@@ -25,6 +26,7 @@ mod named;
 mod new_book;
 mod past;
 mod records;
+mod rows;
 mod run_report;
 mod sizes;
 mod standing;

@@ -4,11 +4,13 @@ ghost use Rattle.std.specs.Prelude.{◌≡◌, IfOk, false, is_err, length, map}
 ghost use Rattle.std.specs.List.{AllByRecursion};
 ghost use Rattle.redo_bundle.specs.Bundle.{Writes};
 ghost use Rattle.redo_book.specs.Book.{IsRecord, book_lines, text_of};
-ghost use Rattle.redo_past.specs.inside.Books.{AreRows, new_records, new_text as text_for, record_in};
+ghost use Rattle.redo_past.specs.inside.Books.{AreItems, AreRows, new_records, new_text as text_for, record_in};
+ghost use Rattle.redo_past.specs.inside.Books.{states_after};
 
 use crate::Past;
 use crate::items::{Item, items_of};
 use crate::records::write_items;
+use crate::rows::Rows;
 use crate::sizes::items_size;
 use crate::states::{Files, States};
 use redo_book::write_end;
@@ -18,15 +20,39 @@ use redo_which::{MissingLines, add_sizes};
 use std::alloc::{AllocError, Global};
 
 /// How many bytes the text of the new book has. Each record of it may stand in a book.
-pub(crate) fn text_size(alloc: Global, past: &Past, rows: &[Row]) -> Result<usize, AllocError>
+pub(crate) fn text_size<'a>(
+    alloc: Global,
+    past: &'a Past,
+    rows: &'a [Row],
+) -> Result<usize, AllocError>
     requires { AreRows rows.now }
     ensures size { IfOk result (λ size. size ≡ length (text_for past.now rows.now)) }
     ensures each { IfOk result (λ _. AllByRecursion IsRecord (new_records past.now rows.now)) }
 {
-    let items = items_of(alloc, past, rows)?;
-    let files = Files::new(past.sources(), rows);
+    let rows = Rows::new(alloc, rows)?;
+    let items = items_of(alloc, past, &rows)?;
+    let sources = past.sources();
+    let files = Files::new(sources, rows);
     let size = items_size(alloc, &files, &items)?;
     add_sizes(size, b"end\n".len())
+}
+
+/// What the text of the new book is written of: what stands at each path, and what the records are made of.
+pub(crate) fn parts_of<'a>(
+    alloc: Global,
+    past: &'a Past,
+    rows: &'a [Row],
+) -> Result<(States<'a>, Vec<Item<'a>>), AllocError>
+    requires { AreRows rows.now }
+    ensures states { IfOk result (λ parts. parts.0 ≡ states_after past.now rows.now) }
+    ensures items { IfOk result (λ parts.
+        AreItems (states_after past.now rows.now) parts.1.items (new_records past.now rows.now)) }
+{
+    let rows = Rows::new(alloc, rows)?;
+    let items = items_of(alloc, past, &rows)?;
+    let sources = past.sources();
+    let states = States::new(alloc, sources, rows)?;
+    Ok((states, items))
 }
 
 /// Writes the text of the new book. It needs no memory but to write faster.
@@ -55,8 +81,7 @@ pub(crate) fn new_text(
     requires { AreRows rows.now }
     ensures { IfOk result (λ text. text.items ≡ text_for past.now rows.now) }
 {
-    let items = items_of(alloc, past, rows)?;
-    let mut states = States::new(alloc, past.sources(), rows)?;
+    let (mut states, items) = parts_of(alloc, past, rows)?;
     let mut out = Plain::new(Vec::with_capacity(alloc, size)?);
     match write_text(&mut out, alloc, &mut states, &items) {
         Ok(()) => {

@@ -8,8 +8,8 @@ ghost use Rattle.redo_which.specs.Candidates.{book_path as path_of_book};
 ghost use Rattle.redo_past.specs.inside.Books.{IsRunReport, record_in, with_book_text, with_new_book};
 
 use crate::Past;
-use crate::items::{Item, items_of};
-use crate::new_book::{new_text, write_text};
+use crate::items::Item;
+use crate::new_book::{new_text, parts_of, write_text};
 use crate::past::book_path;
 use crate::states::States;
 use redo_bundle::{Broken, ByteOut, WriteFault, write_all};
@@ -88,9 +88,7 @@ impl RunReport {
         ensures untouched { IsErrOf result WriteFault.Memory → out.new ≡ out.old }
         ensures device { IsErrOf result WriteFault.Device ↔ (W.has_failed out.new ≡ true) }
     {
-        let rows = &self.report.rows;
-        let items = items_of(alloc, &self.past, rows)?;
-        let mut states = States::new(alloc, self.past.sources(), rows)?;
+        let (mut states, items) = parts_of(alloc, &self.past, &self.report.rows)?;
         write_with_book(out, &self.report, self.at, self.size, &mut states, &items)?;
         Ok(())
     }

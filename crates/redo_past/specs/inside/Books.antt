@@ -1,9 +1,12 @@
 -- What the new book is made of.
+use denote.Ref.{Bor}
 use Rattle.std.specs.Prelude.{◌≡◌, ◌≢◌, ◌<◌, Bool, true, false, not, ◌&&◌, List, [], ◌∷◌, ◌++◌, ℕ, Option, Some, None}
-use Rattle.std.specs.Prelude.{if◌then◌else◌, filter, filter_map, is_some, length, map}
+use Rattle.std.specs.Prelude.{if◌then◌else◌, filter, filter_map, is_some, length, map, option_copied}
 use Rattle.std.specs.Cmp.Lexicographic.{slice_cmp}
 use Rattle.std.specs.List.{AllByRecursion}
+use Rattle.std.specs.Map.{lookup}
 use Rattle.std.specs.Ordering.{is_lt, nat_cmp}
+use Rattle.std.specs.Str.{bytes_eq}
 use Rattle.std.specs.Vec.{with_item}
 use Rattle.redo_tree.specs.Tree.{Tree, file_at}
 use Rattle.redo_which.specs.Rule.{found_of, is_rule}
@@ -21,6 +24,10 @@ use Rattle.redo_past.specs.declared.items.Item.TheVariants as items
 -- rows in path order
 abbrev pub AreRows : List Row → Type 0
 AreRows rows = AreAscending (map (λ row. row.path) rows)
+
+-- the map has the row of each path that has one
+abbrev pub FindsRows : List (List ℕ × Bor Row) → List Row → Type 0
+FindsRows by_path rows = (path : List ℕ) → option_copied (lookup (bytes_eq path) by_path) ≡ row_at rows path
 
 -- the sources, and the rows of a run
 pub record StatesView : Type 0 where

@@ -11,12 +11,12 @@ split_at-requires c =
     subst (λ n. n ≤ length c.args.records.now) (sym c.count_before.ensures)
     (prefix_len-le-length (λ r. is_before c.args.path.now (record_of r)) c.args.records.now)
 
-pub carry-requires-clause-each : goal.carry-requires-clause-each
-carry-requires-clause-each c =
+pub carry-requires : goal.carry-requires
+carry-requires c =
     let front : map record_of c.split_at.result.0.now ≡ filter (is_before c.args.path.now) (map record_of c.args.records.now) =
     ap (map record_of) (c.split_at.ensures.front ∙ ap (λ n. take n c.args.records.now) c.count_before.ensures)
     ∙ front-kept c.args.path.now c.args.records.now c.requires.sorted in
-    subst (AllByRecursion IsRecord) (sym front) (all-kept IsRecord (is_before c.args.path.now) (map record_of c.args.records.now) c.requires.each)
+    record { each = subst (AllByRecursion IsRecord) (sym front) (all-kept IsRecord (is_before c.args.path.now) (map record_of c.args.records.now) c.requires.each) }
 
 pub returns-clause-known : goal.returns-clause-known
 returns-clause-known c =

@@ -1,5 +1,5 @@
-use Rattle.std.proofs.Common.{◌≡◌, ◌<◌, ◌+◌, ◌∙◌, ◌++◌, ◌∷◌, [], true, false, Option, Some, None, ap, arith, drop, refl}
-use Rattle.std.proofs.Common.{filter, if◌then◌else◌, length, map, subst, sym, Vec, Global}
+use Rattle.std.proofs.Common.{◌≡◌, ◌<◌, ◌+◌, ◌∙◌, ◌++◌, ◌∷◌, [], true, false, List, Option, Some, None, ap, arith, drop, refl}
+use Rattle.std.proofs.Common.{filter, if◌then◌else◌, length, map, slice_index_or, subst, sym, Vec, Global}
 use Rattle.std.proofs.lemmas.List.{drop_all}
 use Rattle.std.specs.List.{cons_option}
 use Rattle.std.specs.Prelude.{filter_map}
@@ -20,6 +20,7 @@ pub loop-row-preserved : goal.loop-row-preserved
 loop-row-preserved c =
     let past = c.args.past.now in
     let rows = c.args.rows.now in
+    let same_rows : c.in_order-in_order.result.now ≡ rows = c.in_order-in_order.ensures.rows in
     let states : StatesView = record { sources = past.sources; rows = rows } in
     let i = c.loop-row.row-index in
     let x : Row = c.row-item.result in
@@ -28,8 +29,9 @@ loop-row-preserved c =
     let f : Row → Option Record = record_if_built past.sources rows in
     let rest = filter_map f (drop (i + 1) rows) in
     let r = new_record past.sources rows x in
-    let below : i < length rows = omega (arith, c.loop-row-test.true) in
-    let step : filter_map f (drop i rows) ≡ cons_option (f x) rest = left-more f rows i x below c.row-item.is in
+    let below : i < length rows = subst (λ (rs : List Row). i < length rs) same_rows (omega (arith, c.loop-row-test.true)) in
+    let here : x ≡ slice_index_or rows i x = subst (λ (rs : List Row). x ≡ slice_index_or rs i x) same_rows c.row-item.is in
+    let step : filter_map f (drop i rows) ≡ cons_option (f x) rest = left-more f rows i x below here in
     let done = c.loop-row.invariant.known.0 in
     let are : AreItems states c.loop-row.items.items done = c.loop-row.invariant.known.1 in
     let was : done ++ joined keeps (filter_map f (drop i rows)) old ≡ new_records past rows = c.loop-row.invariant.known.2 in
@@ -39,7 +41,7 @@ loop-row-preserved c =
           let split : filter_map f (drop i rows) ≡ r ∷ rest =
           step ∙ ap (λ b. cons_option (if b then Some r else None) rest) told in
           let behind : map record_of w.in_ok-left.left.now ≡ filter (is_behind x.path) old = w.in_ok-left.ensures.left in
-          let bare : (q : Record) → q.target ≡ x.path → keeps q ≡ false = λ q same. not-carried past rows i x q c.requires below c.row-item.is (leaves-built x told) same in
+          let bare : (q : Record) → q.target ≡ x.path → keeps q ≡ false = λ q same. not-carried past rows i x q c.in_order-in_order.ensures.order below here (leaves-built x told) same in
           let left : map record_of c.if-has_record.left.now ≡ map record_of w.but_of-left.result.now = ap (λ l. map record_of l.now) w.left-is in
           let book : IsBook (map record_of w.in_ok-left.left.now) = subst IsBook (sym behind) (kept-book (is_behind x.path) old c.loop-row.invariant.left) in
           let others : joined keeps rest (map record_of c.if-has_record.left.now) ≡ joined keeps rest (map record_of w.in_ok-left.left.now) =
@@ -76,7 +78,8 @@ returns c =
     let done = c.loop-row.invariant.known.0 in
     let old = map record_of c.loop-row.left.now in
     let f : Row → Option Record = record_if_built past.sources rows in
-    let none : drop c.loop-row.row-index rows ≡ [] = drop_all c.loop-row.row-index rows (omega (arith, c.loop-row-test.false)) in
+    let none : drop c.loop-row.row-index rows ≡ [] =
+    subst (λ (rs : List Row). drop c.loop-row.row-index rs ≡ []) c.in_order-in_order.ensures.rows (drop_all c.loop-row.row-index c.in_order-in_order.result.now (omega (arith, c.loop-row-test.false))) in
     let all : done ++ filter (carries past rows) old ≡ new_records past rows =
     join-end (carries past rows) done (filter_map f (drop c.loop-row.row-index rows)) old (new_records past rows) (ap (filter_map f) none) c.loop-row.invariant.known.2 in
     subst (AreItems (record { sources = past.sources; rows = rows }) c.carry.new.items.items) all (c.in_ok-carry.ensures done c.loop-row.invariant.known.1)
