@@ -22,12 +22,13 @@ pub(crate) fn report_of(alloc: Global, given: &Given, table: &Table) -> Result<R
     requires told { AllTold given.now table.now }
     ensures { IfOk result (IsReportOf given.now table.now) }
 {
-    let mut report = Report {
-        rows: Vec::new(alloc),
-        files: Vec::new(alloc),
-        begun: Vec::new(alloc),
-    };
     let listed = in_order(alloc, given.sources(), given.request(), &table.targets)?;
+    let count = listed.len();
+    let mut report = Report {
+        rows: Vec::with_capacity(alloc, count)?,
+        files: Vec::with_capacity(alloc, count)?,
+        begun: Vec::with_capacity(alloc, count)?,
+    };
     for &(path, at) in &listed {
         let (row, begun) = row_of(alloc, given, table, path, at)?;
         add_row(row, begun, &mut report)?;
