@@ -76,7 +76,12 @@ impl Digest {
 fn has_capital(word: &[u8]) -> bool
     ensures { result ≡ list_any is_ascii_uppercase word.now }
 {
-    word.iter().any(|byte| byte.is_ascii_uppercase())
+    let mut found = false;
+    // No way out before the end: so a processor looks at many bytes at once.
+    for byte in word {
+        found |= byte.is_ascii_uppercase();
+    }
+    found
 }
 
 /// The state of a path: the digest of the file that stands there, or none where no file does.
