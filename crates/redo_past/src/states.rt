@@ -69,7 +69,8 @@ impl<'a> Files<'a> {
     }
 }
 
-/// What stands at each path when a run ends: the sources, and what was built by the rows. No source is digested twice. In a contract it is the sources and the rows.
+/// What stands at each path when a run ends: the sources, and what was built by the rows. No source is digested twice.
+/// In a contract it is the sources and the rows.
 #[derive(Drop)]
 pub(crate) struct States<'a> {
     sources: FileDigests<'a>,
