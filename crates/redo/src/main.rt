@@ -22,7 +22,7 @@ use std::process::ExitCode;
 use std::rt::Runtime;
 use std::sync::Wait;
 use std::thread::Threads;
-use std::{env, io};
+use std::{env, io, mem};
 
 /// The size of the buffer before standard output.
 const BUFFER_BYTES: usize = 65_536;
@@ -158,7 +158,19 @@ where
     let ended = match input {
         Input::Bundle => {
             let mut reader = Plain::new(rt.reader());
-            let exit = run_bundle(rt, alloc, &mut reader, writer, options, &NoGate, cause)?;
+            let mut kept = None;
+            let exit = run_bundle(
+                rt,
+                alloc,
+                &mut reader,
+                writer,
+                options,
+                &NoGate,
+                cause,
+                &mut kept,
+            )?;
+            // A leak on purpose: the process ends now, and the system takes back all memory at once.
+            mem::forget(kept);
             (exit, 0)
         }
         Input::Directory(dir) => {

@@ -10,6 +10,7 @@ use crate::request::requested;
 use crate::workers::{build_over, past_of};
 use crate::{Cause, Exit, Gate, Options, RunIoFault};
 use redo_bundle::{ByteIn, ByteOut, read_bundle_by_line, write_all};
+use redo_past::RunReport;
 use redo_path::Path;
 use redo_which::lookup::search;
 use std::alloc::Global;
@@ -21,7 +22,8 @@ use std::thread::Threads;
 /// the build has answered. The text of the new book goes out piece by piece, and never stands in memory.
 ///
 /// The report goes out in many small pieces: hand in a writer with a buffer, as `Plain::new` over std's `BufWriter`,
-/// and flush it afterwards.
+/// and flush it afterwards. Once it is out it stands in `kept`, with all that the run still has in memory: a program
+/// that ends with the run may forget that, rather than hand it back piece by piece.
 pub fn run_bundle<H: Threads + Wait + Sync, R: ByteIn, W: ByteOut, G: Gate>(
     rt: &H,
     alloc: Global,
@@ -30,6 +32,7 @@ pub fn run_bundle<H: Threads + Wait + Sync, R: ByteIn, W: ByteOut, G: Gate>(
     options: &Options,
     gate: &G,
     cause: &mut Cause,
+    kept: &mut Option<RunReport>,
 ) -> Result<Exit, RunIoFault>
     requires reader { R.has_failed reader.old ≡ false }
     requires writer { W.has_failed writer.old ≡ false }
@@ -56,6 +59,7 @@ pub fn run_bundle<H: Threads + Wait + Sync, R: ByteIn, W: ByteOut, G: Gate>(
     )?;
     let exit = exit_after(alloc, &report, &request)?;
     report.write(alloc, writer)?;
+    *kept = Some(report);
     Ok(exit)
 }
 

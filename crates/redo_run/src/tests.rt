@@ -88,6 +88,7 @@ fn run_through<R: Threads + Wait + Sync, G: Gate>(
         options,
         gate,
         &mut Cause::new(alloc),
+        &mut None,
     );
     let Plain { stream, broken: _ } = writer;
     Ok((outcome, stream))

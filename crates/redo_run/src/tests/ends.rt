@@ -118,6 +118,7 @@ fn a_reader_may_fail_at_any_call(rt: HostRuntime) -> Result<(), Fail> {
             &options,
             &NoGate,
             &mut Cause::new(alloc),
+            &mut None,
         );
         let Plain { stream, broken: _ } = writer;
         if call <= HELLO.len() {
@@ -147,6 +148,7 @@ fn a_writer_may_fail_at_any_call(rt: HostRuntime) -> Result<(), Fail> {
                 &options,
                 &NoGate,
                 &mut Cause::new(alloc),
+                &mut None,
             );
             let want = if call < HELLO_REPORT.len() {
                 Err(RunIoFault::Device)
@@ -176,6 +178,7 @@ fn a_refusal_of_memory_leaves_nothing(rt: HostRuntime) -> Result<(), Fail> {
         &options,
         &NoGate,
         &mut Cause::new(alloc),
+        &mut None,
     );
     if outcome == Err(RunIoFault::Memory) {
         assert_eq!(rt; writer.stream.len(), 300);
