@@ -1,6 +1,6 @@
 -- The row of a path, among rows in path order.
 use Rattle.std.proofs.Common.{◌≡◌, ℕ, zero, suc, ◌<◌, ◌≤◌, true, false, List, [], ◌∷◌, refl, sym, ap, subst, ◌∙◌, inl, inr}
-use Rattle.std.proofs.Common.{Bool, Bor, Some, None, cond, length, map, arith, option_copied, slice_index_or, take}
+use Rattle.std.proofs.Common.{Bool, Some, None, cond, length, map, arith, option_and_then, slice_get, slice_index_or, take}
 use Rattle.std.proofs.lemmas.Bool.{cases_Bool}
 use Rattle.std.proofs.lemmas.Map.Text.{is_eq-slice_cmp}
 use Rattle.std.specs.Cmp.Lexicographic.{nat_list_cmp_total, slice_cmp}
@@ -73,7 +73,7 @@ module _ {X : Type 0} (key : X → List ℕ) where
         | inr there ↦ rw there refl
       ])
 
--- a map with one value more has what was found before, and that value
-pub put-more : {X : Type 0} (found new : Option (Bor X)) (value : Bor X) (b c : Bool) (old all : Option X) → new ≡ cond b (Some value) found → b ≡ c → option_copied found ≡ old → all ≡ cond c (Some value.now) old → option_copied new ≡ all
-put-more found new value true c old all is same was more = ap option_copied is ∙ sym (more ∙ ap (λ d. cond d (Some value.now) old) (sym same))
-put-more found new value false c old all is same was more = ap option_copied is ∙ was ∙ sym (more ∙ ap (λ d. cond d (Some value.now) old) (sym same))
+-- numbers of items in a map with one more: what was found before is found, and that item
+pub put-more : {X : Type 0} (all : List X) (i : ℕ) (x : X) (found new : Option ℕ) (b c : Bool) (old whole : Option X) → slice_get all i ≡ Some x → new ≡ cond b (Some i) found → b ≡ c → option_and_then (slice_get all) found ≡ old → whole ≡ cond c (Some x) old → option_and_then (slice_get all) new ≡ whole
+put-more all i x found new true c old whole here is same was more = ap (option_and_then (slice_get all)) is ∙ here ∙ sym (more ∙ ap (λ d. cond d (Some x) old) (sym same))
+put-more all i x found new false c old whole here is same was more = ap (option_and_then (slice_get all)) is ∙ was ∙ sym (more ∙ ap (λ d. cond d (Some x) old) (sym same))

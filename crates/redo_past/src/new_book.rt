@@ -4,7 +4,7 @@ ghost use Rattle.std.specs.Prelude.{◌≡◌, IfOk, false, is_err, length, map}
 ghost use Rattle.std.specs.List.{AllByRecursion};
 ghost use Rattle.redo_bundle.specs.Bundle.{Writes};
 ghost use Rattle.redo_book.specs.Book.{IsRecord, book_lines, text_of};
-ghost use Rattle.redo_past.specs.inside.Books.{AreItems, AreRows, new_records, new_text as text_for, record_in};
+ghost use Rattle.redo_past.specs.inside.Books.{AreItems, new_records, new_text as text_for, record_in};
 ghost use Rattle.redo_past.specs.inside.Books.{states_after};
 
 use crate::Past;
@@ -15,7 +15,6 @@ use crate::sizes::items_size;
 use crate::states::{Files, States};
 use redo_book::write_end;
 use redo_bundle::{Broken, ByteOut, Plain};
-use redo_report::Row;
 use redo_which::{MissingLines, add_sizes};
 use std::alloc::{AllocError, Global};
 
@@ -23,13 +22,11 @@ use std::alloc::{AllocError, Global};
 pub(crate) fn text_size<'a>(
     alloc: Global,
     past: &'a Past,
-    rows: &'a [Row],
+    rows: Rows<'a>,
 ) -> Result<usize, AllocError>
-    requires { AreRows rows.now }
-    ensures size { IfOk result (λ size. size ≡ length (text_for past.now rows.now)) }
-    ensures each { IfOk result (λ _. AllByRecursion IsRecord (new_records past.now rows.now)) }
+    ensures size { IfOk result (λ size. size ≡ length (text_for past.now rows.entry)) }
+    ensures each { IfOk result (λ _. AllByRecursion IsRecord (new_records past.now rows.entry)) }
 {
-    let rows = Rows::new(alloc, rows)?;
     let items = items_of(alloc, past, &rows)?;
     let sources = past.sources();
     let files = Files::new(sources, rows);
@@ -41,14 +38,12 @@ pub(crate) fn text_size<'a>(
 pub(crate) fn parts_of<'a>(
     alloc: Global,
     past: &'a Past,
-    rows: &'a [Row],
+    rows: Rows<'a>,
 ) -> Result<(States<'a>, Vec<Item<'a>>), AllocError>
-    requires { AreRows rows.now }
-    ensures states { IfOk result (λ parts. parts.0 ≡ states_after past.now rows.now) }
+    ensures states { IfOk result (λ parts. parts.0 ≡ states_after past.now rows.entry) }
     ensures items { IfOk result (λ parts.
-        AreItems (states_after past.now rows.now) parts.1.items (new_records past.now rows.now)) }
+        AreItems (states_after past.now rows.entry) parts.1.items (new_records past.now rows.entry)) }
 {
-    let rows = Rows::new(alloc, rows)?;
     let items = items_of(alloc, past, &rows)?;
     let sources = past.sources();
     let states = States::new(alloc, sources, rows)?;
@@ -75,11 +70,10 @@ pub(crate) fn write_text<W: ByteOut>(
 pub(crate) fn new_text(
     alloc: Global,
     past: &Past,
-    rows: &[Row],
+    rows: Rows<'_>,
     size: usize,
 ) -> Result<Vec<u8>, AllocError>
-    requires { AreRows rows.now }
-    ensures { IfOk result (λ text. text.items ≡ text_for past.now rows.now) }
+    ensures { IfOk result (λ text. text.items ≡ text_for past.now rows.entry) }
 {
     let (mut states, items) = parts_of(alloc, past, rows)?;
     let mut out = Plain::new(Vec::with_capacity(alloc, size)?);

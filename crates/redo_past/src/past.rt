@@ -18,6 +18,7 @@ use crate::PastFault;
 use crate::books::put_file;
 use crate::named::named_by;
 use crate::new_book::{new_text, text_size};
+use crate::rows::{Rows, numbers_of};
 use crate::run_report::RunReport;
 use redo_book::{Book, BookRecord, read_book};
 use redo_path::Path;
@@ -259,8 +260,9 @@ impl Past {
     {
         self.tree().is_tree();
         no_other_file_is_taken_out();
-        let size = text_size(alloc, self, rows)?;
-        new_text(alloc, self, rows, size)
+        let numbers = numbers_of(alloc, rows)?;
+        let size = text_size(alloc, self, Rows::new(rows, &numbers))?;
+        new_text(alloc, self, Rows::new(rows, &numbers), size)
     }
 
     /// The report of a run with the new book among its files.
@@ -271,7 +273,9 @@ impl Past {
     {
         self.tree().is_tree();
         no_other_file_is_taken_out();
-        let size = text_size(alloc, self, &report.rows)?;
+        let numbers = numbers_of(alloc, &report.rows)?;
+        let rows = Rows::new(&report.rows, &numbers);
+        let size = text_size(alloc, self, rows)?;
         let Report {
             rows,
             mut files,
@@ -280,6 +284,6 @@ impl Past {
         let empty = Content::new(Vec::new(alloc))?;
         let at = put_file(&mut files, book_path(alloc)?, empty)?;
         let report = Report { rows, files, begun };
-        Ok(RunReport::new(self.share()?, report, at, size))
+        Ok(RunReport::new(self.share()?, report, numbers, at, size))
     }
 }

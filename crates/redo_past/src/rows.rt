@@ -2,7 +2,7 @@
 
 ghost use Rattle.std.specs.Prelude.{◌≡◌, IfOk, option_copied};
 ghost use Rattle.redo_past.specs.NewBook.{row_at};
-ghost use Rattle.redo_past.specs.inside.Books.{AreRows};
+ghost use Rattle.redo_past.specs.inside.Books.{AreRows, FindsRows};
 
 use redo_names::PathMap;
 use redo_path::Path;
@@ -10,11 +10,23 @@ use redo_report::Row;
 use std::alloc::{AllocError, Global};
 use std::marker::Model;
 
+/// The number of each of these rows, which stand in path order, by its path.
+pub(crate) fn numbers_of(alloc: Global, rows: &[Row]) -> Result<PathMap<usize>, AllocError>
+    requires { AreRows rows.now }
+    ensures { IfOk result (λ numbers. FindsRows numbers rows.now) }
+{
+    let mut numbers = PathMap::new(alloc);
+    for at in 0..rows.len() {
+        numbers.insert(rows[at].path.clone()?, at)?;
+    }
+    Ok(numbers)
+}
+
 /// The rows of a report, each found by its path in few steps. In a contract it is the list of them.
 #[derive(Drop)]
 pub(crate) struct Rows<'a> {
     in_order: &'a [Row],
-    by_path: PathMap<&'a Row>,
+    numbers: &'a PathMap<usize>,
 }
 
 impl<'a> Model for Rows<'a> {
@@ -26,20 +38,17 @@ impl<'a> Model for Rows<'a> {
 
     ghost view = { λ r. r.in_order.now };
 
-    ghost invariant = { λ r. AreRows r.in_order.now × FindsRows r.by_path r.in_order.now };
+    ghost invariant = { λ r. AreRows r.in_order.now × FindsRows r.numbers.now r.in_order.now };
 }
 
 impl<'a> Rows<'a> {
-    /// These rows, which stand in path order.
-    pub(crate) fn new(alloc: Global, in_order: &'a [Row]) -> Result<Rows<'a>, AllocError>
-        requires { AreRows in_order.now }
-        ensures { IfOk result (λ rows. rows ≡ in_order.now) }
+    /// These rows, which stand in path order, with their numbers.
+    pub(crate) fn new(in_order: &'a [Row], numbers: &'a PathMap<usize>) -> Rows<'a>
+        requires order { AreRows in_order.now }
+        requires numbers { FindsRows numbers.now in_order.now }
+        ensures { result ≡ in_order.now }
     {
-        let mut by_path = PathMap::new(alloc);
-        for row in in_order {
-            by_path.insert(row.path.clone()?, row)?;
-        }
-        Ok(Rows { in_order, by_path })
+        Rows { in_order, numbers }
     }
 
     /// The rows in path order.
@@ -54,8 +63,8 @@ impl<'a> Rows<'a> {
     pub(crate) fn find(&self, path: &Path) -> Option<&'a Row>
         ensures { option_copied result ≡ row_at self.now path.now }
     {
-        match self.by_path.get(path) {
-            Some(row) => Some(*row),
+        match self.numbers.get(path) {
+            Some(number) => self.in_order.get(*number),
             None => None,
         }
     }

@@ -11,8 +11,10 @@ use crate::Past;
 use crate::items::Item;
 use crate::new_book::{new_text, parts_of, write_text};
 use crate::past::book_path;
+use crate::rows::Rows;
 use crate::states::States;
 use redo_bundle::{Broken, ByteOut, WriteFault, write_all};
+use redo_names::PathMap;
 use redo_report::{Report, Row, write_end, write_file_head, write_files, write_head};
 use redo_tree::Content;
 use redo_which::BOOK;
@@ -26,6 +28,8 @@ pub struct RunReport {
     past: Past,
     /// The report with a file for the book, which has no bytes.
     report: Report,
+    /// The numbers of its rows, by their paths.
+    numbers: PathMap<usize>,
     /// The number of the book among the files.
     at: usize,
     /// How many bytes its text has.
@@ -40,18 +44,26 @@ impl Model for RunReport {
 
     ghost view = { λ r. with_new_book r.past r.report r.at };
 
-    ghost invariant = { λ r. IsRunReport r.past r.report r.at r.size };
+    ghost invariant = { λ r. IsRunReport r.past r.report r.numbers r.at r.size };
 }
 
 impl RunReport {
-    /// The report of a run over a past, whose new book is the file of this number and has a text of this size.
-    pub(crate) fn new(past: Past, report: Report, at: usize, size: usize) -> RunReport
-        requires { IsRunReport past report at size }
+    /// The report of a run over a past, whose rows have these numbers by their paths, and whose new book is the file of
+    /// this number and has a text of this size.
+    pub(crate) fn new(
+        past: Past,
+        report: Report,
+        numbers: PathMap<usize>,
+        at: usize,
+        size: usize,
+    ) -> RunReport
+        requires { IsRunReport past report numbers at size }
         ensures { result ≡ with_new_book past report at }
     {
         RunReport {
             past,
             report,
+            numbers,
             at,
             size,
         }
@@ -71,10 +83,12 @@ impl RunReport {
         let RunReport {
             past,
             mut report,
+            numbers,
             at,
             size,
         } = self;
-        let text = new_text(alloc, &past, &report.rows, size)?;
+        let rows = Rows::new(&report.rows, &numbers);
+        let text = new_text(alloc, &past, rows, size)?;
         report.files[at] = (book_path(alloc)?, Content::new(text)?);
         Ok(report)
     }
@@ -88,7 +102,8 @@ impl RunReport {
         ensures untouched { IsErrOf result WriteFault.Memory → out.new ≡ out.old }
         ensures device { IsErrOf result WriteFault.Device ↔ (W.has_failed out.new ≡ true) }
     {
-        let (mut states, items) = parts_of(alloc, &self.past, &self.report.rows)?;
+        let rows = Rows::new(&self.report.rows, &self.numbers);
+        let (mut states, items) = parts_of(alloc, &self.past, rows)?;
         write_with_book(out, &self.report, self.at, self.size, &mut states, &items)?;
         Ok(())
     }

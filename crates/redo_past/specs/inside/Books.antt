@@ -1,7 +1,6 @@
 -- What the new book is made of.
-use denote.Ref.{Bor}
 use Rattle.std.specs.Prelude.{◌≡◌, ◌≢◌, ◌<◌, Bool, true, false, not, ◌&&◌, List, [], ◌∷◌, ◌++◌, ℕ, Option, Some, None}
-use Rattle.std.specs.Prelude.{if◌then◌else◌, filter, filter_map, is_some, length, map, option_copied}
+use Rattle.std.specs.Prelude.{if◌then◌else◌, filter, filter_map, is_some, length, map, option_and_then, slice_get}
 use Rattle.std.specs.Cmp.Lexicographic.{slice_cmp}
 use Rattle.std.specs.List.{AllByRecursion}
 use Rattle.std.specs.Map.{lookup}
@@ -25,9 +24,10 @@ use Rattle.redo_past.specs.declared.items.Item.TheVariants as items
 abbrev pub AreRows : List Row → Type 0
 AreRows rows = AreAscending (map (λ row. row.path) rows)
 
--- the map has the row of each path that has one
-abbrev pub FindsRows : List (List ℕ × Bor Row) → List Row → Type 0
-FindsRows by_path rows = (path : List ℕ) → option_copied (lookup (bytes_eq path) by_path) ≡ row_at rows path
+-- the map has the number of the row of each path that has one
+abbrev pub FindsRows : List (List ℕ × ℕ) → List Row → Type 0
+FindsRows numbers rows =
+    (path : List ℕ) → option_and_then (slice_get rows) (lookup (bytes_eq path) numbers) ≡ row_at rows path
 
 -- the sources, and the rows of a run
 pub record StatesView : Type 0 where
@@ -130,8 +130,9 @@ with_book_text report at text =
 abbrev pub with_new_book : PastView → Report → ℕ → Report
 with_new_book past report at = with_book_text report at (new_text past report.rows.items)
 
--- the rows are in order, the book is one of the files, and its text has so many bytes
-pub record IsRunReport (past : PastView) (report : Report) (at n : ℕ) : Type 0 where
+-- the rows are in order and have these numbers, the book is one of the files, and its text has so many bytes
+pub record IsRunReport (past : PastView) (report : Report) (numbers : List (List ℕ × ℕ)) (at n : ℕ) : Type 0 where
   pub rows : AreRows report.rows.items
+  pub numbered : FindsRows numbers report.rows.items
   pub within : at < length report.files.items
   pub size : n ≡ length (new_text past report.rows.items)

@@ -18,7 +18,7 @@ returns c =
     let rows = report.rows.items in
     let at = c.in_ok-at.at in
     let law : Without past = λ p. let is : IsTree past.tree = search rules in c.no_other_file_is_taken_out.ensures past.tree (set_aside past.tree past.book) p is in
-    let each : AllByRecursion IsRecord (new_records past rows) = subst (λ rs. AllByRecursion IsRecord (new_records past rs)) c.deref-2.ensures.value c.in_ok-size.ensures.each in
+    let each : AllByRecursion IsRecord (new_records past rows) = subst (λ rs. AllByRecursion IsRecord (new_records past rs)) (c.new-rows.ensures ∙ c.deref-3.ensures.value) c.in_ok-size.ensures.each in
     let book : IsNewBook past rows (new_records past rows) = new-book past rows c.tree.ensures.past c.requires.rows law no-rule each in
     let text = new_text past rows in
     let put : Report = record { rows = report.rows; files = c.put_file.new.files; begun = report.begun } in

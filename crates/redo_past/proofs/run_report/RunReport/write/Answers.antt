@@ -15,10 +15,10 @@ returns-in_err-write_with_book-clause-writes g c =
     let at = c.self.inside.at in
     let states : StatesView = record { sources = past.sources; rows = report.rows.items } in
     let is : c.in_ok-states.states ≡ states =
-    subst (λ (rs : List Row). c.in_ok-states.states ≡ record { sources = past.sources; rows = rs }) c.deref.ensures.value c.in_ok-states.ensures.states in
+    subst (λ (rs : List Row). c.in_ok-states.states ≡ record { sources = past.sources; rows = rs }) (c.new-rows.ensures ∙ c.deref.ensures.value) c.in_ok-states.ensures.states in
     let are : map (record_in c.in_ok-states.states) c.deref-2.result.now ≡ new_records past report.rows.items =
     ap (λ s. map (record_in s) c.deref-2.result.now) is ∙ ap (map (record_in states)) c.deref-2.ensures.value
-    ∙ subst (λ (rs : List Row). map (record_in (record { sources = past.sources; rows = rs })) c.in_ok-states.items.items ≡ new_records past rs) c.deref.ensures.value c.in_ok-states.ensures.items.are in
+    ∙ subst (λ (rs : List Row). map (record_in (record { sources = past.sources; rows = rs })) c.in_ok-states.items.items ≡ new_records past rs) (c.new-rows.ensures ∙ c.deref.ensures.value) c.in_ok-states.ensures.items.are in
     let whole : report_text (with_book_text report at (text_of (book_lines (map (record_in c.in_ok-states.states) c.deref-2.result.now)))) true ≡ report_text c.args.self.now true =
     ap (λ rs. report_text (with_book_text report at (text_of (book_lines rs))) true) are ∙ ap (λ r. report_text r true) c.self.view_is in
     writes-failed _ c.in_err-write_with_book.field-0.0 c.from_residual-in_err-write_with_book.result c.from_residual-in_err-write_with_book.ensures.1 _ _ _
@@ -32,10 +32,10 @@ returns-clause-writes g c =
     let at = c.self.inside.at in
     let states : StatesView = record { sources = past.sources; rows = report.rows.items } in
     let is : c.in_ok-states.states ≡ states =
-    subst (λ (rs : List Row). c.in_ok-states.states ≡ record { sources = past.sources; rows = rs }) c.deref.ensures.value c.in_ok-states.ensures.states in
+    subst (λ (rs : List Row). c.in_ok-states.states ≡ record { sources = past.sources; rows = rs }) (c.new-rows.ensures ∙ c.deref.ensures.value) c.in_ok-states.ensures.states in
     let are : map (record_in c.in_ok-states.states) c.deref-2.result.now ≡ new_records past report.rows.items =
     ap (λ s. map (record_in s) c.deref-2.result.now) is ∙ ap (map (record_in states)) c.deref-2.ensures.value
-    ∙ subst (λ (rs : List Row). map (record_in (record { sources = past.sources; rows = rs })) c.in_ok-states.items.items ≡ new_records past rs) c.deref.ensures.value c.in_ok-states.ensures.items.are in
+    ∙ subst (λ (rs : List Row). map (record_in (record { sources = past.sources; rows = rs })) c.in_ok-states.items.items ≡ new_records past rs) (c.new-rows.ensures ∙ c.deref.ensures.value) c.in_ok-states.ensures.items.are in
     let whole : report_text (with_book_text report at (text_of (book_lines (map (record_in c.in_ok-states.states) c.deref-2.result.now)))) true ≡ report_text c.args.self.now true =
     ap (λ rs. report_text (with_book_text report at (text_of (book_lines rs))) true) are ∙ ap (λ r. report_text r true) c.self.view_is in
     subst (Appends (g.W.ByteOut.held c.args.out.now) (g.W.ByteOut.held c.write_with_book.new.out)) whole c.in_ok-write_with_book.ensures.writes
