@@ -3,7 +3,7 @@ use Rattle.std.proofs.Common.{◌≡◌, ◌+◌, ◌-◌, ◌<◌, ◌≤◌, �
 use Rattle.std.proofs.lemmas.List.{get_or-set_same, length-set}
 use Rattle.std.proofs.lemmas.Nat.{and_le_r}
 use Rattle.redo_names.specs.declared.index.Index.{Index}
-use Rattle.redo_names.specs.inside.Index.{hash_of, start_of, kept_over, AllTaken, AreOthersTo, AreTakenTo, IsAbsent, IsInRow, IsIndexOf, IsNowhere, IsOver, IsTried, KeepsOthers}
+use Rattle.redo_names.specs.inside.Index.{hash_of, start_of, mark_of, mark_in, number_in, kept_over, AllTaken, AreOthersTo, AreTakenTo, Holds, IsAbsent, IsInRow, IsIndexOf, IsNowhere, IsOver, IsTried, KeepsOthers}
 
 -- ---- what is looked for
 
@@ -41,6 +41,9 @@ there-or-last [] last zero q h = inr (cc)
 there-or-last [] last (suc i) q h = cc
 there-or-last (p ∷ ps) last zero q h = inl h
 there-or-last (p ∷ ps) last (suc i) q h = there-or-last ps last i q h
+
+pub holds-still : (paths : List (List ℕ)) (last q : List ℕ) (place : ℕ) → Holds paths q place → Holds (paths ++ last ∷ []) q place
+holds-still paths last q place h = (h.0, still-there paths last (number_in place) q h.1)
 
 -- ---- a row in which a free place was taken
 
@@ -89,22 +92,22 @@ module _ (places : List ℕ) (at v : ℕ) (some : 0 < v) (q : List ℕ) where
         at = r.at;
         tried = tried-still r.at r.tried;
         used = subst (λ n. 0 < n) (sym same) r.used;
-        here = still-there paths last (slice_index (set places at v) r.at - 1) q (subst (λ n. slice_get paths (n - 1) ≡ Some q) (sym same) r.here);
+        here = subst (Holds (paths ++ last ∷ []) q) (sym same) (holds-still paths last q (slice_index places r.at) r.here);
       }
 
-in-row-own : (places : List ℕ) (paths : List (List ℕ)) (text : List ℕ) (at : ℕ) → at < length places → IsTried places text at → IsInRow (set places at (length paths + 1)) (paths ++ text ∷ []) text
-in-row-own places paths text at inside tried =
-    let own = get_or-set_same places at (length paths + 1) 0 inside in
-    let number : length paths ≡ slice_index (set places at (length paths + 1)) at - 1 = omega arith in
+in-row-own : (places : List ℕ) (paths : List (List ℕ)) (text : List ℕ) (at v : ℕ) → 0 < v → number_in v ≡ length paths → mark_in v ≡ mark_of (hash_of text) → at < length places → IsTried places text at → IsInRow (set places at v) (paths ++ text ∷ []) text
+in-row-own places paths text at v some number mark inside tried =
+    let own = get_or-set_same places at v 0 inside in
+    let last : slice_get (paths ++ text ∷ []) (number_in v) ≡ Some text = subst (λ n. slice_get (paths ++ text ∷ []) n ≡ Some text) (sym number) (last-there paths text) in
     record {
       at = at;
-      tried = tried-still places at (length paths + 1) (omega arith) text at tried;
-      used = subst (λ n. 0 < n) (sym own) (omega arith);
-      here = subst (λ n. slice_get (paths ++ text ∷ []) n ≡ Some text) number (last-there paths text);
+      tried = tried-still places at v some text at tried;
+      used = subst (λ n. 0 < n) (sym own) some;
+      here = subst (Holds (paths ++ text ∷ []) text) (sym own) (mark, last);
     }
 
 more-paths : (index : Index) (paths : List (List ℕ)) (last q : List ℕ) → IsInRow index.places.items paths q ⊎ IsOver index paths q → IsInRow index.places.items (paths ++ last ∷ []) q ⊎ IsOver index (paths ++ last ∷ []) q
-more-paths index paths last q (inl r) = inl (record { at = r.at; tried = r.tried; used = r.used; here = still-there paths last (slice_index index.places.items r.at - 1) q r.here })
+more-paths index paths last q (inl r) = inl (record { at = r.at; tried = r.tried; used = r.used; here = holds-still paths last q (slice_index index.places.items r.at) r.here })
 more-paths index paths last q (inr o) = inr (record { number = o.number; taken = o.taken; kept = o.kept; here = still-there paths last o.number q o.here })
 
 -- ---- a text that is entered
@@ -117,12 +120,10 @@ entered-again index paths text n is found i q here = elim (there-or-last paths t
 ]
 
 -- a place in the row is free
-pub entered-free : (old new : Index) (paths : List (List ℕ)) (text : List ℕ) (at : ℕ) → IsIndexOf old paths → 8 ≤ length old.places.items → IsTried old.places.items text at → slice_index old.places.items at ≡ 0 → new.places.items ≡ set old.places.items at (length paths + 1)
-    → new.overflow.entries ≡ old.overflow.entries → IsIndexOf new (paths ++ text ∷ [])
-entered-free old new paths text at is room tried free row over i q here =
+pub entered-free : (old new : Index) (paths : List (List ℕ)) (text : List ℕ) (at v : ℕ) → IsIndexOf old paths → 8 ≤ length old.places.items → IsTried old.places.items text at → slice_index old.places.items at ≡ 0 → 0 < v → number_in v ≡ length paths
+    → mark_in v ≡ mark_of (hash_of text) → new.places.items ≡ set old.places.items at v → new.overflow.entries ≡ old.overflow.entries → IsIndexOf new (paths ++ text ∷ [])
+entered-free old new paths text at v is room tried free some number mark row over i q here =
     let places = old.places.items in
-    let v = length paths + 1 in
-    let some : 0 < v = omega arith in
     let InRow : List ℕ → Type 0 = λ ps. IsInRow ps (paths ++ text ∷ []) q in
     let Taken : List ℕ → Type 0 = λ ps. AllTaken ps q in
     elim (there-or-last paths text i q here) [
@@ -135,7 +136,7 @@ entered-free old new paths text at is room tried free row over i q here =
           here = still-there paths text o.number q o.here;
         })
       ]
-      | inr own ↦ inl (subst InRow (sym row) (subst (λ t. IsInRow (set places at v) (paths ++ text ∷ []) t) own (in-row-own places paths text at (within places text at room tried) tried)))
+      | inr own ↦ inl (subst InRow (sym row) (subst (λ t. IsInRow (set places at v) (paths ++ text ∷ []) t) own (in-row-own places paths text at v some number mark (within places text at room tried) tried)))
     ]
 
 -- none is, so it goes into the ordered map
@@ -150,7 +151,7 @@ entered-over old new paths text is taken row kept others i q here =
     }) in
     elim (there-or-last paths text i q here) [
       | inl was ↦ elim (is i q was) [
-        | inl r ↦ inl (subst (λ ps. IsInRow ps (paths ++ text ∷ []) q) (sym row) (record { at = r.at; tried = r.tried; used = r.used; here = still-there paths text (slice_index old.places.items r.at - 1) q r.here }))
+        | inl r ↦ inl (subst (λ ps. IsInRow ps (paths ++ text ∷ []) q) (sym row) (record { at = r.at; tried = r.tried; used = r.used; here = holds-still paths text q (slice_index old.places.items r.at) r.here }))
         | inr o ↦ elim (others q o.number o.kept) [
           | inl same ↦ own (sym same)
           | inr still ↦ inr (record {

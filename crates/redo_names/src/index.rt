@@ -1,9 +1,11 @@
-//! Where the numbers of paths are kept, by the hashes of their texts.
+//! Where the numbers of paths are kept, by the hashes of their texts. Beside a number stands a mark, a few bits of the
+//! hash, so that hardly a path is read but the one that is looked for.
 
 ghost use Rattle.std.specs.Prelude.{◌≡◌, ◌+◌, ◌-◌, ◌<◌, ◌≤◌, ◌^◌, ◌++◌, ◌∷◌, ◌↔◌, [], Some, None, IfOk, IfNone, IfSome};
-ghost use Rattle.std.specs.Prelude.{OnErr, OnOk, IsTrue, length, slice_get, slice_index};
-ghost use Rattle.redo_names.specs.inside.Index.{hash_of as hash_of_text, start_of as start_in, kept_over};
-ghost use Rattle.redo_names.specs.inside.Index.{AllTaken, IsAbsent, IsIndexOf, IsNowhere, IsSpot, KeepsOthers};
+ghost use Rattle.std.specs.Prelude.{OnErr, OnOk, IsTrue, bit_and, length, slice_get, slice_index};
+ghost use Rattle.redo_names.specs.inside.Index.{hash_of as hash_of_text, number_in as number_at, mark_in as mark_at};
+ghost use Rattle.redo_names.specs.inside.Index.{mark_of as mark_of_hash, kept_over};
+ghost use Rattle.redo_names.specs.inside.Index.{AllTaken, Holds, IsAbsent, IsIndexOf, IsNowhere, IsSpot, KeepsOthers};
 
 use redo_path::Path;
 use std::alloc::{AllocError, Global};
@@ -17,10 +19,13 @@ const TRIES: usize = 8;
 /// it can tell has places behind it, too.
 const FIRST: usize = 32 + TRIES - 1;
 
+/// How many numbers a place can tell from one another beside each of the 32 marks.
+const NUMBERS: u32 = 1 << 27;
+
 /// The numbers of some paths. The paths stand elsewhere, and are handed in at each call.
 #[derive(Drop)]
 pub(crate) struct Index {
-    /// One more than the number of a path that was put here; 0 in a free place.
+    /// One more than the number of a path that was put here and, above its bits, the path's mark; 0 in a free place.
     pub(crate) places: Vec<u32>,
     /// The numbers of the paths that found no free place, by their texts.
     pub(crate) overflow: BTreeMap<Vec<u8>, u32>,
@@ -32,7 +37,7 @@ pub(crate) enum Spot {
     /// At the path's number.
     Found(usize),
     /// At a free place, which is where the path belongs.
-    Free(usize),
+    Free { at: usize, hash: u64 },
     /// In the ordered map, where the path belongs.
     Over,
 }
@@ -46,12 +51,46 @@ fn hash_of(text: &[u8]) -> u64
     hasher.finish()
 }
 
-/// The first place that is tried for a text in a row of so many places.
-fn start_of(text: &[u8], places: usize) -> usize
-    ensures start { result ≡ start_in text.now places }
+/// The first place that is tried for a text with this hash in a row of so many places.
+fn start_of(hash: u64, places: usize) -> usize
+    ensures start { result ≡ bit_and hash (places - 8) }
     ensures within { result ≤ places - 8 }
 {
-    hash_of(text) as usize & places.saturating_sub(TRIES)
+    hash as usize & places.saturating_sub(TRIES)
+}
+
+/// The mark of a path with this hash. It is the top bits, since the first place comes from the low ones.
+fn mark_of(hash: u64) -> u32
+    ensures mark { result ≡ mark_of_hash hash }
+    ensures small { result < 2 ^ 5 }
+{
+    (hash >> 59) as u32
+}
+
+/// What stands in the place of a number whose path has this hash.
+fn place_of(number: u32, hash: u64) -> u32
+    requires { number + 1 < 2 ^ 27 }
+    ensures used { 0 < result }
+    ensures number { number_at result ≡ number }
+    ensures mark { mark_at result ≡ mark_of_hash hash }
+{
+    mark_of(hash) * NUMBERS + number + 1
+}
+
+/// The number that stands in a place.
+fn number_in(place: u32) -> u32
+    requires { 0 < place }
+    ensures { result ≡ number_at place }
+{
+    (place - 1) % NUMBERS
+}
+
+/// The mark that stands in a place.
+fn mark_in(place: u32) -> u32
+    requires { 0 < place }
+    ensures { result ≡ mark_at place }
+{
+    (place - 1) / NUMBERS
 }
 
 /// Whether the path of a number has this text.
@@ -64,12 +103,22 @@ fn is_at(paths: &[Path], number: usize, text: &[u8]) -> bool
     }
 }
 
-/// The number of a path that comes behind these. It is refused where it doesn't fit into a place.
+/// Whether a place holds the number of the path with this text. The path is read only where the mark is the text's.
+fn holds(place: u32, paths: &[Path], text: &[u8], hash: u64) -> bool
+    requires used { 0 < place }
+    requires hash { hash ≡ hash_of_text text.now }
+    ensures { IsTrue result ↔ Holds paths.now text.now place }
+{
+    mark_in(place) == mark_of(hash) && is_at(paths, number_in(place) as usize, text)
+}
+
+/// The number of a path that comes behind these. It is refused where it doesn't fit into a place beside a mark, which
+/// is after more than a hundred million paths.
 fn next_number(paths: &[Path]) -> Result<u32, AllocError>
     ensures number { IfOk result (λ number. number ≡ length paths.now) }
-    ensures fits { IfOk result (λ number. number + 1 < 2 ^ 32) }
+    ensures fits { IfOk result (λ number. number + 1 < 2 ^ 27) }
 {
-    if paths.len() >= u32::MAX as usize {
+    if paths.len() + 1 >= NUMBERS as usize {
         return Err(AllocError);
     }
     Ok(paths.len() as u32)
@@ -115,15 +164,15 @@ impl Index {
         requires { IsIndexOf self.now paths.now }
         ensures { IsSpot self.now paths.now text.now result }
     {
-        let start = start_of(text, self.places.len());
+        let hash = hash_of(text);
+        let start = start_of(hash, self.places.len());
         'tries: for at in start..start + TRIES {
             let place = self.place(at);
             if place == 0 {
-                return Spot::Free(at);
+                return Spot::Free { at, hash };
             }
-            let number = place as usize - 1;
-            if is_at(paths, number, text) {
-                return Spot::Found(number);
+            if holds(place, paths, text, hash) {
+                return Spot::Found(number_in(place) as usize);
             }
         }
         self.look_over(paths, text)
@@ -173,8 +222,8 @@ impl Index {
     {
         match self.look(paths, text) {
             Spot::Found(number) => Ok(Some(number)),
-            Spot::Free(at) => {
-                self.places[at] = next_number(paths)? + 1;
+            Spot::Free { at, hash } => {
+                self.places[at] = place_of(next_number(paths)?, hash);
                 Ok(None)
             }
             Spot::Over => {

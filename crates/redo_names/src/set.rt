@@ -83,7 +83,7 @@ impl PathSet {
     {
         match self.index.look(&self.paths, text) {
             Spot::Found(number) => Some(number),
-            Spot::Free(_) | Spot::Over => None,
+            Spot::Free { .. } | Spot::Over => None,
         }
     }
 

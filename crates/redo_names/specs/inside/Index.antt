@@ -1,5 +1,5 @@
 -- Where the numbers of paths are kept.
-use Rattle.std.specs.Prelude.{◌≡◌, ◌+◌, ◌-◌, ◌<◌, ◌≤◌, ◌⊎◌, ℕ, List, Option, Some, Vec, length, slice_get, slice_index}
+use Rattle.std.specs.Prelude.{◌≡◌, ◌+◌, ◌-◌, ◌/◌, ◌%◌, ◌^◌, ◌<◌, ◌≤◌, ◌⊎◌, ℕ, List, Option, Some, Vec, length, slice_get, slice_index}
 use Rattle.std.specs.Prelude.{bit_and}
 use Rattle.std.specs.declared.alloc.Global.{Global}
 use Rattle.std.specs.BTreeMap.{BTreeMap, get_by}
@@ -10,13 +10,29 @@ use Rattle.redo_names.specs.declared.index.Index.{Index}
 use Rattle.redo_names.specs.declared.index.Spot.{Spot}
 use Rattle.redo_names.specs.declared.index.Spot.TheVariants.{Found, Free, Over}
 
--- the hash of a path's text, which decides where a path is looked for first, and nothing that is answered
+-- the hash of a path's text, which decides where a path is looked for and by which mark, and nothing that is answered
 unfoldable pub hash_of : List ℕ → ℕ
 hash_of text = folding.finish (folding.write folding.initial text)
 
 -- the first place that is tried for a text in a row of so many places
 abbrev pub start_of : List ℕ → ℕ → ℕ
 start_of text places = bit_and (hash_of text) (places - 8)
+
+-- the mark of a path with this hash
+abbrev pub mark_of : ℕ → ℕ
+mark_of hash = hash / 2 ^ 59
+
+-- the number that stands in a place that is taken
+abbrev pub number_in : ℕ → ℕ
+number_in place = (place - 1) % 2 ^ 27
+
+-- the mark that stands beside it
+abbrev pub mark_in : ℕ → ℕ
+mark_in place = (place - 1) / 2 ^ 27
+
+-- in a place stand the mark of the text and the number of a path with it
+abbrev pub Holds : List (List ℕ) → List ℕ → ℕ → Type 0
+Holds paths text place = (mark_in place ≡ mark_of (hash_of text)) × (slice_get paths (number_in place) ≡ Some text)
 
 -- the number that the ordered map has for a text
 abbrev pub kept_over : BTreeMap (Vec ℕ Global) ℕ → List ℕ → Option ℕ
@@ -34,10 +50,10 @@ AreTakenTo places text end = (k : ℕ) → start_of text (length places) ≤ k �
 abbrev pub AllTaken : List ℕ → List ℕ → Type 0
 AllTaken places text = AreTakenTo places text (start_of text (length places) + 8)
 
--- none of those places up to this one is that of the text
+-- none of those places up to this one holds the text
 abbrev pub AreOthersTo : List ℕ → List (List ℕ) → List ℕ → ℕ → Type 0
 AreOthersTo places paths text end =
-    (k : ℕ) → start_of text (length places) ≤ k → k < end → slice_get paths (slice_index places k - 1) ≡ Some text → ⊥
+    (k : ℕ) → start_of text (length places) ≤ k → k < end → Holds paths text (slice_index places k) → ⊥
 
 -- nor is any that is tried for it
 abbrev pub IsNowhere : List ℕ → List (List ℕ) → List ℕ → Type 0
@@ -54,7 +70,7 @@ pub record IsInRow (places : List ℕ) (paths : List (List ℕ)) (text : List �
   pub at : ℕ
   pub tried : IsTried places text at
   pub used : 0 < slice_index places at
-  pub here : slice_get paths (slice_index places at - 1) ≡ Some text
+  pub here : Holds paths text (slice_index places at)
 
 -- the search for a text finds its path in the ordered map
 pub record IsOver (index : Index) (paths : List (List ℕ)) (text : List ℕ) : Type 0 where
@@ -72,8 +88,9 @@ IsIndexOf index paths =
 -- where the search for a text ends: at its path's number, or, where there is no such path, where that belongs
 abbrev pub IsSpot : Index → List (List ℕ) → List ℕ → Spot → Type 0
 IsSpot index paths text (Found n) = slice_get paths n ≡ Some text
-IsSpot index paths text (Free at) =
-    IsAbsent paths text × IsTried index.places.items text at × (slice_index index.places.items at ≡ 0)
+IsSpot index paths text (Free at hash) =
+    IsAbsent paths text × IsTried index.places.items text at × (slice_index index.places.items at ≡ 0) ×
+    (hash ≡ hash_of text)
 IsSpot index paths text Over = IsAbsent paths text × AllTaken index.places.items text
 
 -- what the ordered map has for other texts it still has

@@ -1,4 +1,5 @@
-use Rattle.std.proofs.Common.{◌+◌, ◌∙◌, ap, refl, Some, set}
+use Rattle.std.proofs.Common.{◌∙◌, ap, refl, Some}
+use Rattle.redo_names.specs.inside.Index.{mark_of}
 use Rattle.redo_names.proofs.IndexLemmas.{entered-again, entered-free, entered-over}
 use Rattle.redo_names.proofs.index.Index.enter.Goals as goal
 
@@ -6,10 +7,12 @@ pub returns-in-Found-clause-entered : goal.returns-in-Found-clause-entered
 returns-in-Found-clause-entered c =
     entered-again c.args.self.now c.args.paths.now c.args.text.now c.in-Found.number c.requires.index c.in-Found.ensures
 
-pub returns-in_ok-self-in-Free-clause-entered : goal.returns-in_ok-self-in-Free-clause-entered
-returns-in_ok-self-in-Free-clause-entered c =
-    entered-free c.args.self.now _ c.args.paths.now c.args.text.now c.in-Free.at c.requires.index c.requires.room c.in-Free.ensures.1 c.in-Free.ensures.2
-    (ap (λ n. set c.args.self.now.places.items c.in-Free.at (n + 1)) c.in_ok-self-in-Free.ensures.number) refl
+pub returns-in_ok-next_number-in-Free-clause-entered : goal.returns-in_ok-next_number-in-Free-clause-entered
+returns-in_ok-next_number-in-Free-clause-entered c =
+    let spot = c.in-Free.ensures in
+    let place = c.place_of.ensures in
+    entered-free c.args.self.now _ c.args.paths.now c.args.text.now c.in-Free.at c.place_of.result c.requires.index c.requires.room spot.1 spot.2 place.used
+    (place.number ∙ c.in_ok-next_number-in-Free.ensures.number) (place.mark ∙ ap mark_of spot.3) refl refl
 
 pub returns-in_ok-put_over-in-Over-clause-entered : goal.returns-in_ok-put_over-in-Over-clause-entered
 returns-in_ok-put_over-in-Over-clause-entered c =

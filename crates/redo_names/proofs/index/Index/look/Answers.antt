@@ -1,4 +1,5 @@
-use Rattle.std.proofs.Common.{◌≡◌, ◌∙◌, ap, sym, arith, length, slice_index}
+use Rattle.std.proofs.Common.{◌≡◌, ◌-◌, ◌∙◌, ap, sym, arith, length, slice_index}
+use Rattle.std.specs.Prelude.{bit_and}
 use Rattle.redo_names.specs.inside.Index.{start_of, IsTried}
 use Rattle.redo_names.proofs.IndexLemmas.{absent-free}
 use Rattle.redo_names.proofs.index.Index.look.Goals as goal
@@ -10,7 +11,7 @@ returns-then-place-eq0 c =
     let text = c.args.text.now in
     let at = c.tries.at in
     let size : index.places.len ≡ length places = omega arith in
-    let start : c.start_of-start.result ≡ start_of text (length places) = c.start_of-start.ensures.start ∙ ap (start_of text) (c.len.ensures ∙ size) in
+    let start : c.start_of-start.result ≡ start_of text (length places) = c.start_of-start.ensures.start ∙ ap (λ h. bit_and h (c.len.result - 8)) c.hash_of-hash.ensures ∙ ap (start_of text) (c.len.ensures ∙ size) in
     let tried : IsTried places text at = record { from = omega arith; near = omega arith; taken = c.tries.invariant.taken } in
     let free : slice_index places at ≡ 0 = sym c.place-place.ensures ∙ c.if-place-eq0.true in
-    (absent-free index c.args.paths.now text at c.requires tried free c.tries.invariant.others, tried, free)
+    (absent-free index c.args.paths.now text at c.requires tried free c.tries.invariant.others, tried, free, c.hash_of-hash.ensures)

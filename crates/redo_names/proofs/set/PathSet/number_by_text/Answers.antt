@@ -8,7 +8,7 @@ returns-in-Free c =
     let paths = c.deref.result.now in
     let text = c.args.text.now in
     let none : IsAbsent paths text = elim c.in-Free.is [
-      | inl free ↦ (subst (IsSpot c.self.inside.index paths text) free.1 c.look.ensures).0
+      | inl free ↦ (subst (IsSpot c.self.inside.index paths text) free.2 c.look.ensures).0
       | inr over ↦ (subst (IsSpot c.self.inside.index paths text) over c.look.ensures).0
     ] in
     absent-among paths c.args.self.now text text (c.deref.ensures.value ∙ c.self.view_is) refl none
