@@ -36,7 +36,7 @@ pub(crate) struct Index {
 pub(crate) enum Spot {
     /// At the path's number.
     Found(usize),
-    /// At a free place, which is where the path belongs.
+    /// At a free place, which is where the path belongs, with the hash of its text.
     Free { at: usize, hash: u64 },
     /// In the ordered map, where the path belongs.
     Over,
