@@ -24,7 +24,7 @@ use Rattle.redo_run.specs.Directories.{NeedsTooMany as DirNeedsTooMany}
 use Rattle.redo_run.specs.Directories.{ReportsTree, changed_from, with_book_last}
 use Rattle.redo_run.specs.Faults.{of_build, of_write}
 use Rattle.redo_run.specs.Skipping.{IsSoundOn, IsUnsafeOn}
-use Rattle.redo_run.specs.Runs.{Explains, ExplainsList, Lists, Reports, request_in, request_of}
+use Rattle.redo_run.specs.Runs.{Explains, ExplainsList, IsUntouched, Lists, Reports, request_in, request_of}
 use Rattle.redo_run.specs.Candidates.{candidate_text, search_text}
 use Rattle.redo_which.specs.Candidates.{Place}
 use Rattle.redo_which.specs.Rule.{chosen_of, missing_of}
@@ -157,3 +157,13 @@ module _ (tree : Tree) (target : List ℕ) where
     written = subst (Appends old new) made h;
     chosen = found_some f o _ found chosen is;
   }
+
+-- want of memory tells nothing of the text
+pub nothing_told : {X : Type 0} (text : Option X) → IfSome text (λ _. Unit {0})
+nothing_told None = tt
+nothing_told (Some x) = tt
+
+-- a report that is not written for want of memory leaves the writer as it was
+pub untouched_by_write : {W : Type 0} (fault : WriteFault) (old new : W) → (fault ≡ write.Memory → new ≡ old) → IsUntouched {A = Exit} {W = W} (Err (of_write fault)) old new
+untouched_by_write write.Device old new h = tt
+untouched_by_write write.Memory old new h = h refl

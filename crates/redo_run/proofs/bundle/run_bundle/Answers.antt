@@ -5,7 +5,7 @@ use Rattle.redo_run.specs.Runs.{request_of}
 use Rattle.redo_run.specs.Skipping.{IsSoundOn, IsUnsafeOn}
 use Rattle.redo_run.specs.declared.run_fault.RunFault.TheVariants as build
 use Rattle.redo_tree.specs.Tree.{Tree}
-use Rattle.redo_run.proofs.ToldLemmas.{explains_build, explains_write, reports}
+use Rattle.redo_run.proofs.ToldLemmas.{explains_build, explains_write, nothing_told, reports, untouched_by_write}
 use Rattle.redo_run.proofs.bundle.run_bundle.Goals as goal
 
 -- a past that isn't read has a refused book
@@ -61,3 +61,14 @@ returns-clause-report g c =
     reports c.args.options.now tree c.in_ok-request.request.items
     (c.in_ok-request.ensures ∙ ap request_of c.deref.ensures.value) _ _ _ report _ c.in_ok-exit.exit
     c.in_ok-tree.ensures.reads is sound refl c.in_ok-write.ensures.writes exit
+
+-- the exit isn't found for want of memory
+pub returns-in_err-exit-clause-fault : goal.returns-in_err-exit-clause-fault
+returns-in_err-exit-clause-fault g c =
+    let p = err_from_is_err_and c.from_residual-in_err-exit.result c.from_residual-in_err-exit.ensures.1 in
+    rw (p.1, p.2) (nothing_told (g.R.ByteIn.left c.args.reader.now))
+
+pub returns-in_err-write-clause-untouched : goal.returns-in_err-write-clause-untouched
+returns-in_err-write-clause-untouched g c =
+    let p = err_from_is_err_and c.from_residual-in_err-write.result c.from_residual-in_err-write.ensures.1 in
+    rw (p.1, p.2) (untouched_by_write c.in_err-write.field-0.0 _ _ (λ is. c.in_err-write.ensures.untouched (ap Err is)))
