@@ -1,14 +1,14 @@
 -- The search of an index: what is entered is found, and what was found before still is.
-use Rattle.std.proofs.Common.{◌≡◌, ◌+◌, ◌-◌, ◌<◌, ◌≤◌, ◌⊎◌, ℕ, zero, suc, List, [], ◌∷◌, ◌++◌, Some, refl, sym, ap, subst, arith, length, inl, inr, set, slice_get, slice_index}
-use Rattle.std.proofs.lemmas.List.{get_or-set_same, length-set}
+use Rattle.std.proofs.Common.{◌≡◌, ◌+◌, ◌-◌, ◌<◌, ◌≤◌, ◌⊎◌, ℕ, zero, suc, List, [], ◌∷◌, ◌++◌, Some, refl, sym, ap, subst, ◌∙◌, arith, length, inl, inr, set, slice_get, slice_index}
+use Rattle.std.proofs.lemmas.List.{get_or-set_same, length-append, length-set}
 use Rattle.std.proofs.lemmas.Nat.{and_le_r}
 use Rattle.redo_names.specs.declared.index.Index.{Index}
-use Rattle.redo_names.specs.inside.Index.{hash_of, start_of, mark_of, mark_in, number_in, kept_over, AllTaken, AreOthersTo, AreTakenTo, Holds, IsAbsent, IsInRow, IsIndexOf, IsNowhere, IsOver, IsTried, KeepsOthers}
+use Rattle.redo_names.specs.inside.Index.{hash_of, start_of, room_of, mark_of, mark_in, number_in, kept_over, AllTaken, AreFew, AreOthersTo, AreTakenTo, FindsEach, Holds, IsAbsent, IsInRow, IsIndexOf, IsNowhere, IsOver, IsRowOf, IsTried, KeepsOthers}
 
 -- ---- what is looked for
 
 -- a search that comes to a free place has looked at all places where the text may stand
-pub absent-free : (index : Index) (paths : List (List ℕ)) (text : List ℕ) (at : ℕ) → IsIndexOf index paths → IsTried index.places.items text at → slice_index index.places.items at ≡ 0 → AreOthersTo index.places.items paths text at → IsAbsent paths text
+pub absent-free : (index : Index) (paths : List (List ℕ)) (text : List ℕ) (at : ℕ) → FindsEach index paths → IsTried index.places.items text at → slice_index index.places.items at ≡ 0 → AreOthersTo index.places.items paths text at → IsAbsent paths text
 absent-free index paths text at is tried free others n here = elim (is n text here) [
   | inl r ↦
       let not_before : r.at < at → ⊥ = λ l. others r.at r.tried.from l r.here in
@@ -19,7 +19,7 @@ absent-free index paths text at is tried free others n here = elim (is n text he
   | inr o ↦ let t = o.taken at tried.from tried.near in absurd (omega arith)
 ]
 
-pub absent-over : (index : Index) (paths : List (List ℕ)) (text : List ℕ) → IsIndexOf index paths → IsNowhere index.places.items paths text → ((number : ℕ) → kept_over index.overflow text ≡ Some number → slice_get paths number ≡ Some text → ⊥) → IsAbsent paths text
+pub absent-over : (index : Index) (paths : List (List ℕ)) (text : List ℕ) → FindsEach index paths → IsNowhere index.places.items paths text → ((number : ℕ) → kept_over index.overflow text ≡ Some number → slice_get paths number ≡ Some text → ⊥) → IsAbsent paths text
 absent-over index paths text is others none n here = elim (is n text here) [
   | inl r ↦ others r.at r.tried.from r.tried.near r.here
   | inr o ↦ none o.number o.kept o.here
@@ -110,19 +110,19 @@ more-paths : (index : Index) (paths : List (List ℕ)) (last q : List ℕ) → I
 more-paths index paths last q (inl r) = inl (record { at = r.at; tried = r.tried; used = r.used; here = holds-still paths last q (slice_index index.places.items r.at) r.here })
 more-paths index paths last q (inr o) = inr (record { number = o.number; taken = o.taken; kept = o.kept; here = still-there paths last o.number q o.here })
 
--- ---- a text that is entered
+-- ---- a row after a text was entered
 
 -- it is that of one of the paths
-pub entered-again : (index : Index) (paths : List (List ℕ)) (text : List ℕ) (n : ℕ) → IsIndexOf index paths → slice_get paths n ≡ Some text → IsIndexOf index (paths ++ text ∷ [])
-entered-again index paths text n is found i q here = elim (there-or-last paths text i q here) [
+finds-again : (index : Index) (paths : List (List ℕ)) (text : List ℕ) (n : ℕ) → FindsEach index paths → slice_get paths n ≡ Some text → FindsEach index (paths ++ text ∷ [])
+finds-again index paths text n is found i q here = elim (there-or-last paths text i q here) [
   | inl old ↦ more-paths index paths text q (is i q old)
   | inr own ↦ more-paths index paths text q (is n q (subst (λ p. slice_get paths n ≡ Some p) own found))
 ]
 
 -- a place in the row is free
-pub entered-free : (old new : Index) (paths : List (List ℕ)) (text : List ℕ) (at v : ℕ) → IsIndexOf old paths → 8 ≤ length old.places.items → IsTried old.places.items text at → slice_index old.places.items at ≡ 0 → 0 < v → number_in v ≡ length paths
-    → mark_in v ≡ mark_of (hash_of text) → new.places.items ≡ set old.places.items at v → new.overflow.entries ≡ old.overflow.entries → IsIndexOf new (paths ++ text ∷ [])
-entered-free old new paths text at v is room tried free some number mark row over i q here =
+finds-free : (old new : Index) (paths : List (List ℕ)) (text : List ℕ) (at v : ℕ) → FindsEach old paths → 8 ≤ length old.places.items → IsTried old.places.items text at → slice_index old.places.items at ≡ 0 → 0 < v → number_in v ≡ length paths
+    → mark_in v ≡ mark_of (hash_of text) → new.places.items ≡ set old.places.items at v → new.overflow.entries ≡ old.overflow.entries → FindsEach new (paths ++ text ∷ [])
+finds-free old new paths text at v is room tried free some number mark row over i q here =
     let places = old.places.items in
     let InRow : List ℕ → Type 0 = λ ps. IsInRow ps (paths ++ text ∷ []) q in
     let Taken : List ℕ → Type 0 = λ ps. AllTaken ps q in
@@ -140,9 +140,9 @@ entered-free old new paths text at v is room tried free some number mark row ove
     ]
 
 -- none is, so it goes into the ordered map
-pub entered-over : (old new : Index) (paths : List (List ℕ)) (text : List ℕ) → IsIndexOf old paths → AllTaken old.places.items text → new.places.items ≡ old.places.items → kept_over new.overflow text ≡ Some (length paths) → KeepsOthers old.overflow new.overflow text
-    → IsIndexOf new (paths ++ text ∷ [])
-entered-over old new paths text is taken row kept others i q here =
+finds-over : (old new : Index) (paths : List (List ℕ)) (text : List ℕ) → FindsEach old paths → AllTaken old.places.items text → new.places.items ≡ old.places.items → kept_over new.overflow text ≡ Some (length paths) → KeepsOthers old.overflow new.overflow text
+    → FindsEach new (paths ++ text ∷ [])
+finds-over old new paths text is taken row kept others i q here =
     let own : text ≡ q → IsInRow new.places.items (paths ++ text ∷ []) q ⊎ IsOver new (paths ++ text ∷ []) q = λ e. inr (record {
       number = length paths;
       taken = subst (λ t. AllTaken new.places.items t) e (subst (λ ps. AllTaken ps text) (sym row) taken);
@@ -165,9 +165,55 @@ entered-over old new paths text is taken row kept others i q here =
       | inr e ↦ own e
     ]
 
--- an index with the same row and the same entries
-pub kept-same : (old new : Index) (paths : List (List ℕ)) → IsIndexOf old paths → new.places.items ≡ old.places.items → new.overflow.entries ≡ old.overflow.entries → IsIndexOf new paths
-kept-same old new paths is row over i q here = elim (is i q here) [
+-- nothing, and the row and the entries are the same
+finds-still : (old new : Index) (paths : List (List ℕ)) → FindsEach old paths → new.places.items ≡ old.places.items → new.overflow.entries ≡ old.overflow.entries → FindsEach new paths
+finds-still old new paths is row over i q here = elim (is i q here) [
   | inl r ↦ inl (subst (λ ps. IsInRow ps paths q) (sym row) r)
   | inr o ↦ inr (record { number = o.number; taken = subst (λ ps. AllTaken ps q) (sym row) o.taken; kept = rw over o.kept; here = o.here })
 ]
+
+-- ---- an index, with a row or without
+
+pub row-of : (index : Index) (paths : List (List ℕ)) → IsIndexOf index paths → 0 < length index.places.items → IsRowOf index paths
+row-of index paths (inl f) some = let none = ap length f.no_row in absurd (omega arith)
+row-of index paths (inr r) some = r
+
+few-more : (index : Index) (paths : List (List ℕ)) (text : List ℕ) → AreFew index paths → length paths < room_of (length index.places.items) → AreFew index (paths ++ text ∷ [])
+few-more index paths text f room =
+    let more = length-append paths (text ∷ []) in
+    let below : length paths < room_of 0 = subst (λ n. length paths < room_of n) (ap length f.no_row) room in
+    record { no_row = f.no_row; few = omega arith }
+
+-- the text is that of one of the paths
+pub entered-again : (index : Index) (paths : List (List ℕ)) (text : List ℕ) (n : ℕ) → IsIndexOf index paths → length paths < room_of (length index.places.items) → slice_get paths n ≡ Some text → IsIndexOf index (paths ++ text ∷ [])
+entered-again index paths text n (inl f) room found = inl (few-more index paths text f room)
+entered-again index paths text n (inr r) room found = inr (record { row = r.row; finds = finds-again index paths text n r.finds found })
+
+-- there is no row
+pub entered-few : (index : Index) (paths : List (List ℕ)) (text : List ℕ) → IsIndexOf index paths → length paths < room_of (length index.places.items) → index.places.items ≡ [] → IsIndexOf index (paths ++ text ∷ [])
+entered-few index paths text (inl f) room no_row = inl (few-more index paths text f room)
+entered-few index paths text (inr r) room no_row = let none = ap length no_row in let row = r.row in absurd (omega arith)
+
+-- a place in the row is free
+pub entered-free : (old new : Index) (paths : List (List ℕ)) (text : List ℕ) (at v : ℕ) → IsIndexOf old paths → 8 ≤ length old.places.items → IsTried old.places.items text at → slice_index old.places.items at ≡ 0 → 0 < v → number_in v ≡ length paths
+    → mark_in v ≡ mark_of (hash_of text) → new.places.items ≡ set old.places.items at v → new.overflow.entries ≡ old.overflow.entries → IsIndexOf new (paths ++ text ∷ [])
+entered-free old new paths text at v is row tried free some number mark places over =
+    let finds = (row-of old paths is (omega arith)).finds in
+    let size = ap length places ∙ length-set old.places.items at v in
+    inr (record { row = omega arith; finds = finds-free old new paths text at v finds row tried free some number mark places over })
+
+-- none is, so it goes into the ordered map
+pub entered-over : (old new : Index) (paths : List (List ℕ)) (text : List ℕ) → IsIndexOf old paths → 8 ≤ length old.places.items → AllTaken old.places.items text → new.places.items ≡ old.places.items → kept_over new.overflow text ≡ Some (length paths)
+    → KeepsOthers old.overflow new.overflow text → IsIndexOf new (paths ++ text ∷ [])
+entered-over old new paths text is row taken places kept others =
+    let finds = (row-of old paths is (omega arith)).finds in
+    let size = ap length places in
+    inr (record { row = omega arith; finds = finds-over old new paths text finds taken places kept others })
+
+-- the row and the entries are the same
+pub kept-same : (old new : Index) (paths : List (List ℕ)) → IsIndexOf old paths → new.places.items ≡ old.places.items → new.overflow.entries ≡ old.overflow.entries → IsIndexOf new paths
+kept-same old new paths (inl f) places over = inl (record { no_row = places ∙ f.no_row; few = f.few })
+kept-same old new paths (inr r) places over =
+    let size = ap length places in
+    let row = r.row in
+    inr (record { row = omega arith; finds = finds-still old new paths r.finds places over })

@@ -1,11 +1,14 @@
-//! Where the numbers of paths are kept, by the hashes of their texts. Beside a number stands a mark, a few bits of the
-//! hash, so that hardly a path is read but the one that is looked for.
+//! Where the numbers of paths are kept: in a row of places, by the hashes of the paths' texts. Beside a number stands a
+//! mark, a few bits of the hash, so that hardly a path is read but the one that is looked for. A few paths need no row:
+//! each is compared.
 
 ghost use Rattle.std.specs.Prelude.{◌≡◌, ◌+◌, ◌-◌, ◌<◌, ◌≤◌, ◌^◌, ◌++◌, ◌∷◌, ◌↔◌, [], Some, None, IfOk, IfNone, IfSome};
-ghost use Rattle.std.specs.Prelude.{OnErr, OnOk, IsTrue, bit_and, length, slice_get, slice_index};
+ghost use Rattle.std.specs.Prelude.{MatchOption, OnErr, OnOk, IsTrue, bit_and, length, slice_get, slice_index};
+ghost use Rattle.std.specs.Int.{IsPowerOfTwo};
 ghost use Rattle.redo_names.specs.inside.Index.{hash_of as hash_of_text, number_in as number_at, mark_in as mark_at};
-ghost use Rattle.redo_names.specs.inside.Index.{mark_of as mark_of_hash, kept_over};
-ghost use Rattle.redo_names.specs.inside.Index.{AllTaken, Holds, IsAbsent, IsIndexOf, IsNowhere, IsSpot, KeepsOthers};
+ghost use Rattle.redo_names.specs.inside.Index.{mark_of as mark_of_hash, room_of as room_of_row, kept_over};
+ghost use Rattle.redo_names.specs.inside.Index.{AllTaken, Holds, IsAbsent, IsIndexOf, IsNowhere, IsRowOf, IsSpot};
+ghost use Rattle.redo_names.specs.inside.Index.{KeepsOthers};
 
 use redo_path::Path;
 use std::alloc::{AllocError, Global};
@@ -15,9 +18,8 @@ use std::hash::{FoldHasher, Hasher};
 /// How many places of the row are tried for a path.
 const TRIES: usize = 8;
 
-/// How many places a row has first. A hash is cut to the bits of one less than a power of two, and the last place that
-/// it can tell has places behind it, too.
-const FIRST: usize = 32 + TRIES - 1;
+/// Up to so many paths need no row: a look-up compares each, and so no more texts than it may in a row.
+const FEW: usize = 8;
 
 /// How many numbers a place can tell from one another beside each of the 32 marks.
 const NUMBERS: u32 = 1 << 27;
@@ -25,7 +27,8 @@ const NUMBERS: u32 = 1 << 27;
 /// The numbers of some paths. The paths stand elsewhere, and are handed in at each call.
 #[derive(Drop)]
 pub(crate) struct Index {
-    /// One more than the number of a path that was put here and, above its bits, the path's mark; 0 in a free place.
+    /// The row: one more than the number of a path that was put here and, above its bits, the path's mark; 0 in a free
+    /// place. A few paths have no row, and then there are no places.
     pub(crate) places: Vec<u32>,
     /// The numbers of the paths that found no free place, by their texts.
     pub(crate) overflow: BTreeMap<Vec<u8>, u32>,
@@ -36,6 +39,8 @@ pub(crate) struct Index {
 pub(crate) enum Spot {
     /// At the path's number.
     Found(usize),
+    /// Behind the last of a few paths, which is where the path belongs.
+    Few,
     /// At a free place, which is where the path belongs, with the hash of its text.
     Free { at: usize, hash: u64 },
     /// In the ordered map, where the path belongs.
@@ -49,6 +54,25 @@ fn hash_of(text: &[u8]) -> u64
     let mut hasher = FoldHasher::default();
     hasher.write(text);
     hasher.finish()
+}
+
+/// How many paths a row of so many places has room for, so that about half of it is free, and a few where it has none.
+fn room_of(places: usize) -> usize
+    ensures { result ≡ room_of_row places }
+{
+    (places / 2).saturating_sub(TRIES).max(FEW)
+}
+
+/// How many places a row has that has room for so many paths; none where no number says it. A hash is cut to the bits
+/// of one less than a power of two, and the last place that these can tell has places behind it, too.
+fn row_for(paths: usize) -> Option<usize>
+    ensures form { IfSome result (λ places. IsPowerOfTwo (places - 7)) }
+    ensures row { IfSome result (λ places. 8 ≤ places) }
+    ensures room { IfSome result (λ places. paths ≤ room_of_row places) }
+{
+    let least = paths.checked_add(TRIES)?.checked_mul(2)?;
+    let told = (least - (TRIES - 1)).checked_next_power_of_two()?;
+    told.checked_add(TRIES - 1)
 }
 
 /// The first place that is tried for a text with this hash in a row of so many places.
@@ -112,6 +136,18 @@ fn holds(place: u32, paths: &[Path], text: &[u8], hash: u64) -> bool
     mark_in(place) == mark_of(hash) && is_at(paths, number_in(place) as usize, text)
 }
 
+/// The number of the path with this text among a few, each of which is compared; none where it isn't one of them.
+fn number_among(paths: &[Path], text: &[u8]) -> Option<usize>
+    ensures { MatchOption result (IsAbsent paths.now text.now) (λ n. slice_get paths.now n ≡ Some text.now) }
+{
+    'few: for number in 0..paths.len() {
+        if is_at(paths, number, text) {
+            return Some(number);
+        }
+    }
+    None
+}
+
 /// The number of a path that comes behind these. It is refused where it doesn't fit into a place beside a mark, which
 /// is after more than a hundred million paths.
 fn next_number(paths: &[Path]) -> Result<u32, AllocError>
@@ -135,11 +171,23 @@ impl Index {
         }
     }
 
+    /// No numbers, and room for those of so many paths. For a few it takes no memory.
+    pub(crate) fn with_capacity(alloc: Global, capacity: usize) -> Result<Index, AllocError>
+        ensures index { IfOk result (λ index. IsIndexOf index []) }
+        ensures room { IfOk result (λ index. capacity ≤ room_of_row (length index.places.items)) }
+    {
+        if capacity <= FEW {
+            return Ok(Index::new(alloc));
+        }
+        Index::of(alloc, &[], row_for(capacity).ok_or(AllocError)?)
+    }
+
     /// The numbers of these paths, in a row of so many places.
     fn of(alloc: Global, paths: &[Path], places: usize) -> Result<Index, AllocError>
-        requires { 8 ≤ places }
+        requires row { 8 ≤ places }
+        requires room { length paths.now ≤ room_of_row places }
         ensures index { IfOk result (λ index. IsIndexOf index paths.now) }
-        ensures room { IfOk result (λ index. 8 ≤ length index.places.items) }
+        ensures places { IfOk result (λ index. length index.places.items ≡ places) }
     {
         let mut index = Index::new(alloc);
         index.places.resize(places, 0)?;
@@ -164,6 +212,20 @@ impl Index {
         requires { IsIndexOf self.now paths.now }
         ensures { IsSpot self.now paths.now text.now result }
     {
+        if !self.places.is_empty() {
+            return self.look_in_row(paths, text);
+        }
+        match number_among(paths, text) {
+            Some(number) => Spot::Found(number),
+            None => Spot::Few,
+        }
+    }
+
+    /// Where the search for a text ends in an index that has a row.
+    fn look_in_row(&self, paths: &[Path], text: &[u8]) -> Spot
+        requires { IsRowOf self.now paths.now }
+        ensures { IsSpot self.now paths.now text.now result }
+    {
         let hash = hash_of(text);
         let start = start_of(hash, self.places.len());
         'tries: for at in start..start + TRIES {
@@ -180,7 +242,7 @@ impl Index {
 
     /// Where the search for a text ends that finds no free place and no such path in the row.
     fn look_over(&self, paths: &[Path], text: &[u8]) -> Spot
-        requires index { IsIndexOf self.now paths.now }
+        requires index { IsRowOf self.now paths.now }
         requires taken { AllTaken self.now.places.items text.now }
         requires others { IsNowhere self.now.places.items paths.now text.now }
         ensures { IsSpot self.now paths.now text.now result }
@@ -193,18 +255,16 @@ impl Index {
         Spot::Over
     }
 
-    /// Makes room for a path behind these, so that about half of the row is free.
+    /// Makes room for a path behind these, in a larger row where these are more than a few and fill theirs.
     pub(crate) fn make_room(&mut self, paths: &[Path]) -> Result<(), AllocError>
         requires { IsIndexOf self.old paths.now }
         ensures index { IsIndexOf self.new paths.now }
-        ensures room { OnOk result (8 ≤ length self.new.places.items) }
+        ensures room { OnOk result (length paths.now < room_of_row (length self.new.places.items)) }
     {
-        let places = self.places.len();
-        if paths.len() < (places / 2).saturating_sub(TRIES) {
-            return Ok(());
+        if paths.len() >= room_of(self.places.len()) {
+            let places = row_for(paths.len() + 1).ok_or(AllocError)?;
+            *self = Index::of(*self.places.allocator(), paths, places)?;
         }
-        let grown = places.saturating_mul(2).saturating_sub(TRIES - 1);
-        *self = Index::of(*self.places.allocator(), paths, grown.max(FIRST))?;
         Ok(())
     }
 
@@ -212,16 +272,17 @@ impl Index {
     /// answered.
     pub(crate) fn enter(&mut self, paths: &[Path], text: &[u8]) -> Result<Option<usize>, AllocError>
         requires index { IsIndexOf self.old paths.now }
-        requires room { 8 ≤ length self.old.places.items }
+        requires room { length paths.now < room_of_row (length self.old.places.items) }
         ensures number { IfOk result (λ found. IfSome found (λ n. slice_get paths.now n ≡ Some text.now)) }
         ensures new { IfOk result (λ found. IfNone found (IsAbsent paths.now text.now)) }
         ensures entered { OnOk result (IsIndexOf self.new (paths.now ++ text.now ∷ [])) }
         ensures kept { IfOk result (λ found. IfSome found (λ _. self.new ≡ self.old)) }
         ensures err { OnErr result (IsIndexOf self.new paths.now) }
-        ensures room { 8 ≤ length self.new.places.items }
+        ensures places { length self.new.places.items ≡ length self.old.places.items }
     {
         match self.look(paths, text) {
             Spot::Found(number) => Ok(Some(number)),
+            Spot::Few => Ok(None),
             Spot::Free { at, hash } => {
                 self.places[at] = place_of(next_number(paths)?, hash);
                 Ok(None)

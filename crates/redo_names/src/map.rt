@@ -43,6 +43,16 @@ impl<T> PathMap<T> {
         }
     }
 
+    /// No paths, and room for so many, which is made at once. A map that is filled beyond it grows as any other.
+    pub fn with_capacity(alloc: Global, capacity: usize) -> Result<PathMap<T>, AllocError>
+        ensures { IfOk result (λ map. map ≡ []) }
+    {
+        Ok(PathMap {
+            paths: PathSet::with_capacity(alloc, capacity)?,
+            values: Vec::with_capacity(alloc, capacity)?,
+        })
+    }
+
     /// How many paths there are.
     pub fn len(&self) -> usize
         ensures count { result ≡ length self.now }

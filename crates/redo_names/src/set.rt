@@ -41,6 +41,16 @@ impl PathSet {
         }
     }
 
+    /// No paths, and room for so many, which is made at once. A set that is filled beyond it grows as any other.
+    pub fn with_capacity(alloc: Global, capacity: usize) -> Result<PathSet, AllocError>
+        ensures { IfOk result (λ set. set ≡ []) }
+    {
+        Ok(PathSet {
+            paths: Vec::with_capacity(alloc, capacity)?,
+            index: Index::with_capacity(alloc, capacity)?,
+        })
+    }
+
     /// How many paths there are.
     pub fn len(&self) -> usize
         ensures count { result ≡ length self.now }
@@ -83,7 +93,7 @@ impl PathSet {
     {
         match self.index.look(&self.paths, text) {
             Spot::Found(number) => Some(number),
-            Spot::Free { .. } | Spot::Over => None,
+            Spot::Few | Spot::Free { .. } | Spot::Over => None,
         }
     }
 
@@ -105,6 +115,14 @@ impl PathSet {
                 Ok((number, true))
             }
         }
+    }
+
+    /// The paths, each at its number.
+    pub fn into_paths(self) -> Vec<Path>
+        ensures { result.items ≡ self }
+    {
+        let PathSet { paths, index: _ } = self;
+        paths
     }
 
     /// No path stands twice.

@@ -1,5 +1,6 @@
 //! Sets and maps of paths, by cases.
 
+use crate::index::Index;
 use crate::{PathMap, PathSet};
 use redo_path::{Path, PathFault, resolve};
 use std::alloc::Global;
@@ -7,6 +8,12 @@ use std::test::Fail;
 
 fn path(alloc: Global, word: &str) -> Result<Path, PathFault> {
     resolve(alloc, &Path::root(), word.as_bytes())
+}
+
+/// One of many paths, each of which has another number.
+fn numbered(alloc: Global, number: usize) -> Result<Path, Fail> {
+    let word = format!(in alloc; "d{number}/f")?;
+    Ok(path(alloc, &word)?)
 }
 
 #[test]
@@ -97,17 +104,100 @@ fn paths_of_one_hash_are_told_apart(rt: HostRuntime) -> Result<(), Fail> {
     Ok(())
 }
 
+/// Whether a set of no paths takes so many, finds each at its number, and doesn't find one more.
+fn takes(alloc: Global, mut set: PathSet, count: usize) -> Result<bool, Fail> {
+    for number in 0..count {
+        if set.insert(numbered(alloc, number)?)? != (number, true) {
+            return Ok(false);
+        }
+    }
+    for number in 0..count {
+        let place = numbered(alloc, number)?;
+        if set.number_of(&place) != Some(number) || set.insert(place)? != (number, false) {
+            return Ok(false);
+        }
+    }
+    Ok(set.len() == count && set.number_of(&numbered(alloc, count)?).is_none())
+}
+
+#[test]
+fn few_paths_are_found_as_many_are(rt: HostRuntime) -> Result<(), Fail> {
+    let alloc = rt.alloc();
+    for count in [0, 1, 7, 8, 9, 10] {
+        assert!(rt; takes(alloc, PathSet::new(alloc), count)?, "{count}");
+    }
+    Ok(())
+}
+
+#[test]
+fn room_that_is_made_at_once_may_be_left_or_outgrown(rt: HostRuntime) -> Result<(), Fail> {
+    let alloc = rt.alloc();
+    for room in [0, 5, 20] {
+        for count in [3, 12, 50] {
+            let set = PathSet::with_capacity(alloc, room)?;
+            assert!(rt; takes(alloc, set, count)?, "{count} in {room}");
+        }
+    }
+    Ok(())
+}
+
+#[test]
+fn a_map_with_room_has_the_value_of_each_path(rt: HostRuntime) -> Result<(), Fail> {
+    let alloc = rt.alloc();
+    for room in [0, 5, 20] {
+        let mut map = PathMap::with_capacity(alloc, room)?;
+        for number in 0..12 {
+            assert_eq!(rt;
+                map.insert(numbered(alloc, number)?, number)?,
+                None,
+                "{room}"
+            );
+        }
+        for number in 0..12 {
+            assert_eq!(rt; map.get(&numbered(alloc, number)?), Some(&number), "{room}");
+        }
+        assert_eq!(rt; map.get(&numbered(alloc, 12)?), None, "{room}");
+    }
+    Ok(())
+}
+
+#[test]
+fn a_set_hands_over_its_paths_in_order(rt: HostRuntime) -> Result<(), Fail> {
+    let alloc = rt.alloc();
+    let mut set = PathSet::new(alloc);
+    for word in ["b", "a", "b", "c"] {
+        set.insert(path(alloc, word)?)?;
+    }
+    let mut again = PathSet::new(alloc);
+    for place in &set.into_paths() {
+        again.insert(place.clone()?)?;
+    }
+    assert_eq!(rt; again.number_of(&path(alloc, "b")?), Some(0));
+    assert_eq!(rt; again.number_of(&path(alloc, "a")?), Some(1));
+    assert_eq!(rt; again.number_of(&path(alloc, "c")?), Some(2));
+    Ok(())
+}
+
+#[test]
+fn room_that_no_memory_has_is_refused(rt: HostRuntime) -> Result<(), Fail> {
+    let alloc = rt.alloc();
+    for room in [1 << 61, 1 << 62, usize::MAX / 2, usize::MAX - 8, usize::MAX] {
+        assert!(rt; Index::with_capacity(alloc, room).is_err(), "{room}");
+        assert!(rt; PathSet::with_capacity(alloc, room).is_err(), "{room}");
+    }
+    Ok(())
+}
+
 #[test]
 fn many_paths_keep_their_numbers(rt: HostRuntime) -> Result<(), Fail> {
     let alloc = rt.alloc();
     let mut set = PathSet::new(alloc);
     for number in 0..1000 {
-        let word = format!(in alloc; "d{number}/f")?;
-        assert_eq!(rt; set.insert(path(alloc, &word)?)?, (number, true));
+        assert_eq!(rt; set.insert(numbered(alloc, number)?)?, (number, true));
     }
     for number in 0..1000 {
-        let word = format!(in alloc; "d{number}/f")?;
-        assert_eq!(rt; set.number_by_text(word.as_bytes()), Some(number));
+        let place = numbered(alloc, number)?;
+        assert_eq!(rt; set.number_by_text(place.text()), Some(number));
     }
     Ok(())
 }

@@ -1,6 +1,6 @@
 -- Where the numbers of paths are kept.
-use Rattle.std.specs.Prelude.{◌≡◌, ◌+◌, ◌-◌, ◌/◌, ◌%◌, ◌^◌, ◌<◌, ◌≤◌, ◌⊎◌, ℕ, List, Option, Some, Vec}
-use Rattle.std.specs.Prelude.{bit_and, length, slice_get, slice_index}
+use Rattle.std.specs.Prelude.{◌≡◌, ◌+◌, ◌-◌, ◌/◌, ◌%◌, ◌^◌, ◌<◌, ◌≤◌, ◌⊎◌, ℕ, List, [], Option, Some, Vec}
+use Rattle.std.specs.Prelude.{bit_and, length, max, slice_get, slice_index}
 use Rattle.std.specs.declared.alloc.Global.{Global}
 use Rattle.std.specs.BTreeMap.{BTreeMap, get_by}
 use Rattle.std.specs.Cmp.Lexicographic.{slice_cmp}
@@ -8,7 +8,7 @@ use Rattle.std.specs.Hash.FoldHasher as folding
 use Rattle.std.specs.Ordering.{nat_cmp}
 use Rattle.redo_names.specs.declared.index.Index.{Index}
 use Rattle.redo_names.specs.declared.index.Spot.{Spot}
-use Rattle.redo_names.specs.declared.index.Spot.TheVariants.{Found, Free, Over}
+use Rattle.redo_names.specs.declared.index.Spot.TheVariants.{Found, Few, Free, Over}
 
 -- the hash of a path's text, which decides where a path is looked for and by which mark, and nothing that is answered
 unfoldable pub hash_of : List ℕ → ℕ
@@ -17,6 +17,10 @@ hash_of text = folding.finish (folding.write folding.initial text)
 -- the first place that is tried for a text in a row of so many places
 abbrev pub start_of : List ℕ → ℕ → ℕ
 start_of text places = bit_and (hash_of text) (places - 8)
+
+-- how many paths there is room for: without a row for a few, and else for about half as many as its places
+abbrev pub room_of : ℕ → ℕ
+room_of places = max (places / 2 - 8) 8
 
 -- the mark of a path with this hash
 abbrev pub mark_of : ℕ → ℕ
@@ -80,18 +84,37 @@ pub record IsOver (index : Index) (paths : List (List ℕ)) (text : List ℕ) : 
   pub here : slice_get paths number ≡ Some text
 
 -- the search for the text of each of these paths finds a path with it
-abbrev pub IsIndexOf : Index → List (List ℕ) → Type 0
-IsIndexOf index paths =
+abbrev pub FindsEach : Index → List (List ℕ) → Type 0
+FindsEach index paths =
     (n : ℕ) (text : List ℕ) → slice_get paths n ≡ Some text →
     IsInRow index.places.items paths text ⊎ IsOver index paths text
+
+-- there is a row, which has at least as many places as are tried for a path
+abbrev pub HasRow : Index → Type 0
+HasRow index = 8 ≤ length index.places.items
+
+-- there is a row, and each of these paths is found by it
+pub record IsRowOf (index : Index) (paths : List (List ℕ)) : Type 0 where
+  pub row : HasRow index
+  pub finds : FindsEach index paths
+
+-- there is no row, and the paths are so few that each is compared
+pub record AreFew (index : Index) (paths : List (List ℕ)) : Type 0 where
+  pub no_row : index.places.items ≡ []
+  pub few : length paths ≤ 8
+
+-- these are the paths whose numbers the index tells
+abbrev pub IsIndexOf : Index → List (List ℕ) → Type 0
+IsIndexOf index paths = AreFew index paths ⊎ IsRowOf index paths
 
 -- where the search for a text ends: at its path's number, or, where there is no such path, where that belongs
 abbrev pub IsSpot : Index → List (List ℕ) → List ℕ → Spot → Type 0
 IsSpot index paths text (Found n) = slice_get paths n ≡ Some text
+IsSpot index paths text Few = IsAbsent paths text × (index.places.items ≡ [])
 IsSpot index paths text (Free at hash) =
-    IsAbsent paths text × IsTried index.places.items text at × (slice_index index.places.items at ≡ 0) ×
-    (hash ≡ hash_of text)
-IsSpot index paths text Over = IsAbsent paths text × AllTaken index.places.items text
+    IsAbsent paths text × HasRow index × IsTried index.places.items text at ×
+    (slice_index index.places.items at ≡ 0) × (hash ≡ hash_of text)
+IsSpot index paths text Over = IsAbsent paths text × HasRow index × AllTaken index.places.items text
 
 -- what the ordered map has for other texts it still has
 abbrev pub KeepsOthers : BTreeMap (Vec ℕ Global) ℕ → BTreeMap (Vec ℕ Global) ℕ → List ℕ → Type 0

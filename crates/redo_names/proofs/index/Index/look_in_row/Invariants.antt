@@ -1,5 +1,5 @@
 use Rattle.redo_names.specs.inside.Index.{AreOthersTo, AreTakenTo}
-use Rattle.redo_names.proofs.index.Index.look.Given as goal
+use Rattle.redo_names.proofs.index.Index.look_in_row.Given as goal
 
 -- each place up to here is taken, and by another path
 abbrev pub invariant-tries : goal.invariant-tries
