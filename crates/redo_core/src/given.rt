@@ -163,7 +163,7 @@ impl Given {
 fn set_of(alloc: Global, paths: &[Path]) -> Result<PathSet, AllocError>
     ensures { IfOk result (λ set. (p : List ℕ) → is_among set p ≡ is_among paths.now p) }
 {
-    let mut set = PathSet::new(alloc);
+    let mut set = PathSet::with_capacity(alloc, paths.len())?;
     for path in paths {
         set.insert(path.clone()?)?;
     }

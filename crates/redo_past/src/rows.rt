@@ -15,7 +15,7 @@ pub(crate) fn numbers_of(alloc: Global, rows: &[Row]) -> Result<PathMap<usize>, 
     requires { AreRows rows.now }
     ensures { IfOk result (λ numbers. FindsRows numbers rows.now) }
 {
-    let mut numbers = PathMap::new(alloc);
+    let mut numbers = PathMap::with_capacity(alloc, rows.len())?;
     for at in 0..rows.len() {
         numbers.insert(rows[at].path.clone()?, at)?;
     }

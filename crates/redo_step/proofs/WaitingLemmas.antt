@@ -1,13 +1,9 @@
 -- A wait for operands is a wait for those of them that are no sources.
-use Rattle.std.proofs.Common.{◌≡◌, ℕ, suc, ◌+◌, ◌<◌, Bool, true, false, ◌&&◌, ◌||◌, cond, not, inl, inr, List, [], ◌∷◌}
+use Rattle.std.proofs.Common.{◌≡◌, ℕ, suc, ◌+◌, ◌<◌, Bool, true, false, ◌&&◌, ◌||◌, cond, not, List, [], ◌∷◌}
 use Rattle.std.proofs.Common.{◌++◌, length, drop, get_or, Result, Ok, Err, refl, sym, ap, ◌∙◌, add-one}
 use Rattle.std.specs.Prelude.{is_none, Some, IfSome}
 use Rattle.std.proofs.Math.Seq.{drop-cons}
-use Rattle.std.specs.List.{list_any}
-use Rattle.std.proofs.lemmas.Bool.{cases_Bool, both_ways}
-use Rattle.std.specs.Str.{bytes_eq}
 use Rattle.std.specs.Cmp.Lexicographic.{nat_list_eq_equiv}
-use lib.Pointwise.{bytes_decides}
 use Rattle.redo_record.specs.declared.deps.DepKind.TheVariants as kinds
 use Rattle.redo_step.specs.declared.halt.Halt.{Halt}
 use Rattle.redo_names.specs.Paths.{with_path}
@@ -79,19 +75,6 @@ among_in : (p : Path) (qs : List Path) → is_among qs p ≡ is_in qs p
 among_in p [] = refl
 among_in p (q ∷ qs) = λ i. nat_list_eq_equiv.symm q p i || among_in p qs i
 
-bytes_turn : (p q : Path) → bytes_eq p q ≡ true → bytes_eq q p ≡ true
-bytes_turn p q h = let e : p ≡ q = (bytes_decides p q).0 h in rw e ((bytes_decides q q).1 refl)
-
-bytes_sym : (p q : Path) → bytes_eq p q ≡ bytes_eq q p
-bytes_sym p q = elim (cases_Bool (bytes_eq p q)) [
-  | inl t ↦ rw (t, bytes_turn p q t) refl
-  | inr n ↦ elim (cases_Bool (bytes_eq q p)) [ inl t ↦ absurd (both_ways _ n (bytes_turn q p t)) | inr m ↦ rw (n, m) refl ]
-]
-
-in_any : (p : Path) (qs : List Path) → list_any (λ q. bytes_eq q p) qs ≡ is_in qs p
-in_any p [] = refl
-in_any p (q ∷ qs) = rw (bytes_sym q p, in_any p qs) refl
-
 module _ (ask : Ask) where
   new_goes : (found ps : List Path) (p : Path) → is_none (ask p) ≡ true → unanswered ask found (p ∷ ps) ≡ unanswered ask (cond (is_in found p) found (found ++ p ∷ [])) ps
   new_goes found ps p h = rw h ((elim (is_in found p) as (λ (v : Bool). cond (not v) (unanswered ask (found ++ p ∷ []) ps) (unanswered ask found ps) ≡ unanswered ask (cond v found (found ++ p ∷ [])) ps) [ true ↦ refl | false ↦ refl ]))
@@ -103,17 +86,8 @@ module _ (ask : Ask) where
     split : drop i paths ≡ p ∷ drop (i + 1) paths
     split = rw add-one (drop-cons paths i p lt ∙ ap (λ q. q ∷ drop (suc i) paths) (sym is))
 
-    pub none_goes : (new : List Path) → is_none (ask p) ≡ true → new ≡ cond (is_in found p) found (found ++ p ∷ []) → unanswered ask new (drop (i + 1) paths) ≡ total
-    none_goes new h n = rw n (sym (ap (unanswered ask found) split ∙ new_goes found (drop (i + 1) paths) p h) ∙ before)
-
     pub set_goes : (new : List Path) → is_none (ask p) ≡ true → new ≡ with_path found p → unanswered ask new (drop (i + 1) paths) ≡ total
-    set_goes new h n = none_goes new h (n ∙ ap (λ b. cond b found (found ++ p ∷ [])) (among_in p found))
+    set_goes new h n = rw (n, among_in p found) (sym (ap (unanswered ask found) split ∙ new_goes found (drop (i + 1) paths) p h) ∙ before)
 
     pub some_goes : (new : List Path) → is_none (ask p) ≡ false → new ≡ found → unanswered ask new (drop (i + 1) paths) ≡ total
     some_goes new h n = rw n (sym (ap (unanswered ask found) split ∙ known_goes found (drop (i + 1) paths) p h) ∙ before)
-
-    pub few_goes : (new : List Path) → is_none (ask p) ≡ true → list_any (λ q. bytes_eq q p) found ≡ false → new ≡ found ++ p ∷ [] → unanswered ask new (drop (i + 1) paths) ≡ total
-    few_goes new h k n = none_goes new h (rw (sym (in_any p found) ∙ k) n)
-
-    pub in_skips : (new : List Path) → is_none (ask p) ≡ true → list_any (λ q. bytes_eq q p) found ≡ true → new ≡ found → unanswered ask new (drop (i + 1) paths) ≡ total
-    in_skips new h k n = none_goes new h (rw (sym (in_any p found) ∙ k) n)

@@ -17,9 +17,6 @@ use redo_path::Path;
 use redo_record::Why;
 use std::alloc::{AllocError, Global};
 
-/// Up to how many targets are compared with each other rather than looked up.
-const FEW: usize = 8;
-
 /// A redo-ifchange: its line, and those of its operands that are no sources.
 #[derive(Debug, Drop)]
 pub(crate) struct Waiting {
@@ -88,43 +85,11 @@ fn without_answer<A: Answers>(
 ) -> Result<Vec<Path>, AllocError>
     ensures { IfOk result (λ found. found.items ≡ unanswered (A.ask answers.now) [] targets.now) }
 {
-    if targets.len() <= FEW {
-        few_without_answer(alloc, answers, targets)
-    } else {
-        many_without_answer(alloc, answers, targets)
-    }
-}
-
-/// For a few targets: each is compared with those found before.
-fn few_without_answer<A: Answers>(
-    alloc: Global,
-    answers: &A,
-    targets: &[Path],
-) -> Result<Vec<Path>, AllocError>
-    ensures { IfOk result (λ found. found.items ≡ unanswered (A.ask answers.now) [] targets.now) }
-{
-    let mut found: Vec<Path> = Vec::new(alloc);
-    for path in targets {
-        if answers.answer(path).is_none() && !found.contains(path) {
-            found.push(path.clone()?)?;
-        }
-    }
-    Ok(found)
-}
-
-/// For any number of targets.
-fn many_without_answer<A: Answers>(
-    alloc: Global,
-    answers: &A,
-    targets: &[Path],
-) -> Result<Vec<Path>, AllocError>
-    ensures { IfOk result (λ found. found.items ≡ unanswered (A.ask answers.now) [] targets.now) }
-{
-    let mut found = PathSet::new(alloc);
+    let mut found = PathSet::with_capacity(alloc, targets.len())?;
     for path in targets {
         if answers.answer(path).is_none() {
             found.insert(path.clone()?)?;
         }
     }
-    found.as_slice().to_vec(alloc)
+    Ok(found.into_paths())
 }

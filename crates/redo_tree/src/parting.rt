@@ -16,7 +16,7 @@ use std::alloc::{AllocError, Global};
 pub(crate) fn set_of(alloc: Global, paths: &[Path]) -> Result<PathSet, AllocError>
     ensures { IfOk result (λ set. (path : List ℕ) → is_among set path ≡ is_among paths.now path) }
 {
-    let mut set = PathSet::new(alloc);
+    let mut set = PathSet::with_capacity(alloc, paths.len())?;
     for path in paths {
         set.insert(path.clone()?)?;
     }
@@ -49,15 +49,15 @@ pub(crate) struct Kept {
 }
 
 impl Kept {
-    /// No entry has come yet.
-    pub(crate) fn new(alloc: Global) -> Kept
-        ensures entries { nodes_of result.entries ≡ [] }
-        ensures noted { AreNoted result.defaults [] }
+    /// No entry has come yet, and there is room for so many.
+    fn with_capacity(alloc: Global, entries: usize) -> Result<Kept, AllocError>
+        ensures entries { IfOk result (λ kept. nodes_of kept.entries ≡ []) }
+        ensures noted { IfOk result (λ kept. AreNoted kept.defaults []) }
     {
-        Kept {
-            entries: PathMap::new(alloc),
+        Ok(Kept {
+            entries: PathMap::with_capacity(alloc, entries)?,
             defaults: PathSet::new(alloc),
-        }
+        })
     }
 
     /// Keeps an entry that is a new one.
@@ -106,7 +106,7 @@ pub(crate) fn kept_of(
     ensures noted { IfOk result (λ kept. AreNoted kept.defaults (nodes_of kept.entries)) }
 {
     entries.each_once();
-    let mut kept = Kept::new(alloc);
+    let mut kept = Kept::with_capacity(alloc, entries.len())?;
     'entries: for number in 0..entries.len() {
         let (path, entry) = entries.at(number);
         kept.pass(alloc, names, path, entry)?;

@@ -1,6 +1,6 @@
 use Rattle.std.proofs.Common.{◌≡◌, [], drop}
 use Rattle.redo_step.specs.inside.Waiting.{unanswered}
-use Rattle.redo_step.proofs.wait.many_without_answer.Given as goal
+use Rattle.redo_step.proofs.wait.without_answer.Given as goal
 
 abbrev pub invariant-loop-path : goal.invariant-loop-path
 invariant-loop-path g l =

@@ -1,7 +1,7 @@
 use Rattle.std.proofs.Common.{rules, refl}
 use Rattle.redo_step.proofs.WaitingLemmas.{set_goes, some_goes}
-use Rattle.redo_step.proofs.wait.many_without_answer.Goals as goal
-use Rattle.redo_step.proofs.wait.many_without_answer.Goals.{then-is_none+in_ok-clone+in_ok-insert, else-is_none}
+use Rattle.redo_step.proofs.wait.without_answer.Goals as goal
+use Rattle.redo_step.proofs.wait.without_answer.Goals.{then-is_none+in_ok-clone+in_ok-insert, else-is_none}
 
 pub loop-path-preserved : goal.loop-path-preserved
 loop-path-preserved g c = elim c.if-is_none.branch [
