@@ -14,7 +14,9 @@ use clap::{ArgMatches, Error};
 use options::{Action, Call, Input, Refusal};
 use redo_bundle::Plain;
 use redo_path::Path;
-use redo_run::{Cause, Exit, NoGate, Options, run_bundle, run_dir, whichdo_bundle, whichdo_dir};
+use redo_run::{
+    Cause, Exit, NoObserver, Options, run_bundle, run_dir, whichdo_bundle, whichdo_dir,
+};
 use status::Fault;
 use std::alloc::Global;
 use std::io::{BufWriter, Write};
@@ -165,7 +167,7 @@ where
                 &mut reader,
                 writer,
                 options,
-                &NoGate,
+                &NoObserver,
                 cause,
                 &mut kept,
             )?;
@@ -174,7 +176,7 @@ where
             (exit, 0)
         }
         Input::Directory(dir) => {
-            let run = run_dir(rt, alloc, dir, writer, options, &NoGate, cause)?;
+            let run = run_dir(rt, alloc, dir, writer, options, &NoObserver, cause)?;
             (run.exit, run.passed)
         }
     };

@@ -115,43 +115,43 @@ pub record Goes (b c : Made) (line : List ℕ) : Type 0 where
   pub lines : flat_map record_lines (records_of c) ≡ flat_map record_lines (records_of b) ++ line ∷ []
   pub one : list_any is_newline line ≡ false
 
-begun : List ℕ → State → Record
-begun target state = record { target = target; state = state; entries = [] }
+bare_record : List ℕ → State → Record
+bare_record target state = record { target = target; state = state; entries = [] }
 
-new_record : (target : List ℕ) (state : State) → IsState state → IsPlace target → IsRecord (begun target state)
-unfolding begun IsDistinct
+new_record : (target : List ℕ) (state : State) → IsState state → IsPlace target → IsRecord (bare_record target state)
+unfolding bare_record IsDistinct
 new_record target state s t = record { target = t; state = s; entries = tt; once = tt }
 
 -- a book of one record without entries
 pub alone : (target : List ℕ) (state : State) → IsState state → IsPlace target → IsBook (record { target = target; state = state; entries = [] } ∷ [])
-unfolding begun IsStrictlySortedBy
+unfolding bare_record IsStrictlySortedBy
 alone target state s t = record { records = (new_record target state s t, tt); sorted = (tt, tt) }
 
-follows : (done : List Record) (last : Option Record) (target : List ℕ) (state : State) → IsStrictlySortedBy (slice_cmp nat_cmp) (targets_of (done ++ option_to_list last)) → (last ≡ None → done ≡ []) → may_follow last target ≡ true → IsStrictlySortedBy (slice_cmp nat_cmp) (targets_of ((done ++ option_to_list last) ++ begun target state ∷ []))
-unfolding begun IsStrictlySortedBy
+follows : (done : List Record) (last : Option Record) (target : List ℕ) (state : State) → IsStrictlySortedBy (slice_cmp nat_cmp) (targets_of (done ++ option_to_list last)) → (last ≡ None → done ≡ []) → may_follow last target ≡ true → IsStrictlySortedBy (slice_cmp nat_cmp) (targets_of ((done ++ option_to_list last) ++ bare_record target state ∷ []))
+unfolding bare_record IsStrictlySortedBy
 follows done None target state h none m = rw (none refl) (tt, tt)
 follows done (Some r) target state h none m =
     let lt = less_true (slice_cmp nat_cmp r.target target) m in
     let cut : targets_of (done ++ r ∷ []) ≡ targets_of done ++ r.target ∷ [] = map-append (λ r. r.target) done (r ∷ []) in
-    let cut2 : targets_of ((done ++ r ∷ []) ++ begun target state ∷ []) ≡ targets_of (done ++ r ∷ []) ++ target ∷ [] = map-append (λ r. r.target) (done ++ r ∷ []) (begun target state ∷ []) in
+    let cut2 : targets_of ((done ++ r ∷ []) ++ bare_record target state ∷ []) ≡ targets_of (done ++ r ∷ []) ++ target ∷ [] = map-append (λ r. r.target) (done ++ r ∷ []) (bare_record target state ∷ []) in
     let S : List (List ℕ) → Type 0 = λ ts. IsStrictlySortedBy (slice_cmp nat_cmp) ts in
     subst S (sym (cut2 ∙ ap (λ ts. ts ++ target ∷ []) cut)) (sorted_more (targets_of done) r.target target (subst S cut h) lt)
 
 target_goes : (b c : Made) (state : State) (target : List ℕ) → IsMade b → IsState state → IsPlace target → with_line b (Target state target) ≡ Some c → Goes b c (line_text (Target state target))
-unfolding begun
+unfolding bare_record
 target_goes b c state target h s t e =
-    let (may, is) = only_if-some (may_follow b.last target) (record { done = records_of b; last = Some (begun target state) }) c e in
+    let (may, is) = only_if-some (may_follow b.last target) (record { done = records_of b; last = Some (bare_record target state) }) c e in
     let rs = records_of b in
-    let d : Made = record { done = rs; last = Some (begun target state) } in
+    let d : Made = record { done = rs; last = Some (bare_record target state) } in
     let goes : Goes b d (line_text (Target state target)) = record {
       made = record {
         book = record {
-          records = AllByRecursion-append IsRecord rs (begun target state ∷ []) h.book.records (new_record target state s t, tt);
+          records = AllByRecursion-append IsRecord rs (bare_record target state ∷ []) h.book.records (new_record target state s t, tt);
           sorted = follows b.done b.last target state h.book.sorted h.empty may;
         };
         empty = λ e. apart cc;
       };
-      lines = flat_map-append record_lines rs (begun target state ∷ []);
+      lines = flat_map-append record_lines rs (bare_record target state ∷ []);
       one = one_line (Target state target) (s, t);
     } in
     subst (λ d. Goes b d (line_text (Target state target))) is goes

@@ -7,16 +7,16 @@
 //! the writers, on `redo_which` to add sizes up, on `hex` and `memchr`, and on `thiserror`.
 //!
 //! - `book`: books, in memory; `faults`: why a text was refused;
-//! - `reading`, `lines`, `begun`: a text, a line by itself, and what the lines so far have made;
+//! - `reading`, `lines`, `made`: a text, a line by itself, and what the lines so far have made;
 //! - `writing`, `sizes`: the lines, and how many bytes they have;
 //! - [`laws`]: a text is that of one book or has one first line at fault.
 #![tactic(auto)]
 
-mod begun;
 mod book;
 mod faults;
 pub mod laws;
 mod lines;
+mod made;
 mod reading;
 mod sizes;
 mod writing;

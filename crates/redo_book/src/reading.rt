@@ -5,7 +5,7 @@ ghost use Rattle.std.specs.List.{list_any};
 ghost use Rattle.redo_book.specs.Book.{IsText, Record, Refuses, RefusesAll, is_newline};
 ghost use Rattle.redo_book.specs.inside.Reading.{IsCut};
 
-use crate::begun::Begun;
+use crate::made::Made;
 use crate::{Book, BookFault};
 use memchr::memchr;
 use std::alloc::Global;
@@ -38,7 +38,7 @@ pub fn read_book(alloc: Global, text: &[u8]) -> Result<Book, BookFault>
     ensures first { IfErr result (λ fault. Refuses fault text.now) }
     ensures none { IfErr result (λ fault. RefusesAll fault text.now) }
 {
-    let mut begun = Begun::new(alloc);
+    let mut made = Made::new(alloc);
     let mut rest = text;
     let mut number = 1;
     'lines: loop {
@@ -47,11 +47,11 @@ pub fn read_book(alloc: Global, text: &[u8]) -> Result<Book, BookFault>
         };
         if line == b"end".as_slice() {
             if behind.is_empty() {
-                return Ok(begun.finish()?);
+                return Ok(made.finish()?);
             }
             return Err(BookFault::Line(number + 1));
         }
-        begun.add_line(alloc, number, line)?;
+        made.add_line(alloc, number, line)?;
         rest = behind;
         number += 1;
     }

@@ -11,7 +11,7 @@ use Rattle.redo_script.specs.Syntax.{Script}
 use Rattle.redo_script.specs.Texts.{script_in}
 use Rattle.redo_tree.specs.Tree.{Tree, Node, file_at, node_at}
 use Rattle.redo_which.specs.Candidates.{is_do_file}
-use Rattle.redo_which.specs.Rule.{Outcome as Found, Source, Directory, NoDirectory, NoRule, Rule, Arguments}
+use Rattle.redo_which.specs.Rule.{Found, Source, Directory, NoDirectory, NoRule, Rule, Arguments}
 use Rattle.redo_which.specs.Rule.{found_of, is_file, is_rule}
 use Rattle.redo_record.specs.declared.deps.Dep.{Dep}
 use Rattle.redo_record.specs.declared.deps.DepKind.{DepKind}

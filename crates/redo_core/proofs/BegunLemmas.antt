@@ -11,7 +11,7 @@ use Rattle.redo_step.specs.Job.{begun}
 use Rattle.redo_step.specs.JobView.{JobView, IsFit}
 use Rattle.redo_step.specs.Limits.{LimitsView}
 use Rattle.redo_which.specs.declared.Rule.{Rule as FoundRule}
-use Rattle.redo_which.specs.Rule.{Outcome as Found, Rule, found_of}
+use Rattle.redo_which.specs.Rule.{Found, Rule, found_of}
 use Rattle.redo_which.specs.Views.{arguments_view}
 use Rattle.redo_core.specs.Build.{GivenView}
 use Rattle.redo_core.specs.Views.{WorkView}

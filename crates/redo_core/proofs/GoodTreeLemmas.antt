@@ -13,7 +13,7 @@ use Rattle.redo_script.specs.Texts.{script_in}
 use Rattle.redo_tree.specs.Tree as tree_words
 use Rattle.redo_tree.specs.Tree.{Tree, IsTree, Node, bytes_of, file_at, node_at}
 use Rattle.redo_which.specs.Candidates.{Place, book_path, candidates_of, is_do_file, is_never_made, once, places_of}
-use Rattle.redo_which.specs.Rule.{Outcome as Found, Source, Directory, NoDirectory, NoRule, Rule, Arguments}
+use Rattle.redo_which.specs.Rule.{Found, Source, Directory, NoDirectory, NoRule, Rule, Arguments}
 use Rattle.redo_which.specs.Rule.{arguments_of, chosen_of, found_of, is_file, is_rule, missing_of}
 use Rattle.redo_record.specs.declared.deps.Dep.{Dep}
 use Rattle.redo_record.specs.declared.deps.DepKind.{DepKind}

@@ -5,7 +5,7 @@ use Rattle.std.specs.Prelude.{is_some}
 use Rattle.std.proofs.lemmas.Bool.{both_ways, not_from_false}
 use Rattle.redo_record.specs.declared.deps.Dep.{Dep}
 use Rattle.redo_tree.specs.Tree.{file_at}
-use Rattle.redo_which.specs.Rule.{Outcome as Found, Rule}
+use Rattle.redo_which.specs.Rule.{Found, Rule}
 use Rattle.redo_record.specs.declared.deps.DepKind.TheVariants.{Change}
 use Rattle.redo_step.specs.JobView.{JobView, found_deps, record_so_far, progress_of}
 use Rattle.redo_record.proofs.Public.{entered_operand, operand_entered, search_enters, whole_cases, whole_second}

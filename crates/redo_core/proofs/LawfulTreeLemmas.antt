@@ -15,7 +15,7 @@ use Rattle.redo_tree.specs.Tree as tree_words
 use Rattle.redo_tree.specs.Tree.{Tree, Node, node_at, file_at}
 use Rattle.redo_path.specs.Names.{parent_of}
 use Rattle.redo_which.specs.Candidates.{Place, candidates_of}
-use Rattle.redo_which.specs.Rule.{Outcome as Found, Source, Directory, NoDirectory, NoRule, Rule, is_file, missing_of}
+use Rattle.redo_which.specs.Rule.{Found, Source, Directory, NoDirectory, NoRule, Rule, is_file, missing_of}
 use Rattle.redo_which.specs.Rule.{chosen_of, arguments_of, found_of}
 use Rattle.redo_build.specs.Rules.{Ask, AreLawful, operands}
 use Rattle.redo_build.specs.Looking.{KeepsNothing}

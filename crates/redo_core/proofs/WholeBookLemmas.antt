@@ -8,7 +8,7 @@ use Rattle.std.proofs.lemmas.Bool.{both_ways, cases_Bool}
 use Rattle.std.proofs.lemmas.List.Elements.{All-weaker}
 use Rattle.redo_tree.specs.Tree.{Tree, IsTree, Node, file_at}
 use Rattle.redo_which.specs.Candidates.{is_do_file}
-use Rattle.redo_which.specs.Rule.{Outcome as Found, found_of, is_rule}
+use Rattle.redo_which.specs.Rule.{Found, found_of, is_rule}
 use Rattle.redo_record.specs.declared.deps.Dep.{Dep}
 use Rattle.redo_record.specs.declared.outcome.Outcome.{Outcome}
 use Rattle.redo_record.specs.declared.outcome.Outcome.TheVariants as outcomes

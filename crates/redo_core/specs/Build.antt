@@ -7,7 +7,7 @@ use Rattle.redo_record.specs.declared.outcome.Outcome.TheVariants.{Failed, Sourc
 use Rattle.redo_record.specs.declared.outcome.Why.TheVariants as why
 use Rattle.redo_tree.specs.Tree.{Tree, file_at, node_at}
 use Rattle.redo_which.specs.Candidates.{is_do_file}
-use Rattle.redo_which.specs.Rule.{Outcome as Found, Source, Directory, NoDirectory, NoRule, Rule, found_of}
+use Rattle.redo_which.specs.Rule.{Found, Source, Directory, NoDirectory, NoRule, Rule, found_of}
 use Rattle.redo_record.specs.Entries.{with_entries, search_deps}
 use Rattle.redo_record.specs.Progress.{Progress, at_once}
 use Rattle.redo_step.specs.Results.{by_script}

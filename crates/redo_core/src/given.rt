@@ -5,8 +5,8 @@ ghost use Rattle.std.specs.Arc.{arc_value};
 ghost use Rattle.redo_core.specs.Build.{rules_for};
 ghost use Rattle.redo_core.specs.Results.{IsGiven};
 
-use crate::reading::Reading;
 use crate::same::{are_same_paths, is_same_tree};
+use crate::scripts::Reading;
 use redo_names::PathSet;
 use redo_past::Past;
 use redo_past::laws::a_tree_has_one_past;

@@ -14,7 +14,8 @@
 //! - `board`: the board; `table`, `moves` and `begin` are its inside, and `same` compares by value; `opening`: why none
 //!   was opened.
 //! - `check`: how far the check of a target has come, which `moves` goes on with by looks.
-//! - `work`, `facts`, `fact`: a job on its way to a worker and back, and the decided targets that it knows.
+//! - `work`, `facts`, `fact`: a job on its way to a worker and back, and the decided targets that it knows; `scripts`:
+//!   its script, as it is read.
 //! - `given`: what a build is given, which all of these share; `build`: the cells of its decided targets.
 //! - `finish`: the report of a quiet board, which [`board::Board::finish`] completes by the new book.
 #![tactic(auto)]
@@ -30,8 +31,8 @@ mod given;
 pub mod laws;
 mod moves;
 pub mod opening;
-mod reading;
 mod same;
+mod scripts;
 mod table;
 #[cfg(test)]
 mod tests;

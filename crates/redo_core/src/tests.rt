@@ -5,4 +5,4 @@ mod checking;
 mod keeping;
 mod memory;
 mod opening;
-mod reading;
+mod scripts;

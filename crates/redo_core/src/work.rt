@@ -11,7 +11,7 @@ ghost use Rattle.redo_core.specs.inside.Ends.{IsEndAt};
 use crate::fact::Fact;
 use crate::facts::Facts;
 use crate::given::Given;
-use crate::reading::begun;
+use crate::scripts::begun;
 use redo_path::Path;
 use redo_record::Deps;
 use redo_step::{Job, Step};

@@ -35,7 +35,7 @@ use Rattle.redo_step.specs.contracts.parsed.Parsed as Parsed
 use Rattle.redo_step.specs.contracts.place.Place as Place
 use Rattle.redo_step.specs.contracts.job.Task as Task
 use Rattle.redo_step.specs.contracts.job.Job as Job
-use Rattle.redo_core.specs.contracts.reading.Reading as Reading
+use Rattle.redo_core.specs.contracts.scripts.Reading as Reading
 use Rattle.redo_core.specs.contracts.given.Given as Given
 use Rattle.redo_core.specs.contracts.fact.Fact as Fact
 use Rattle.redo_core.specs.contracts.facts.Facts as Facts

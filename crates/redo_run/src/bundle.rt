@@ -8,7 +8,7 @@ use crate::candidates::text_of_search;
 use crate::exit::exit_after;
 use crate::request::requested;
 use crate::workers::{build_over, past_of};
-use crate::{Cause, Exit, Gate, Options, RunIoFault};
+use crate::{Cause, Exit, Observer, Options, RunIoFault};
 use redo_bundle::{ByteIn, ByteOut, read_bundle_by_line, write_all};
 use redo_past::RunReport;
 use redo_path::Path;
@@ -24,13 +24,13 @@ use std::thread::Threads;
 /// The report goes out in many small pieces: hand in a writer with a buffer, as `Plain::new` over std's `BufWriter`,
 /// and flush it afterwards. Once it is out it stands in `kept`, with all that the run still has in memory: a program
 /// that ends with the run may forget that, rather than hand it back piece by piece.
-pub fn run_bundle<H: Threads + Wait + Sync, R: ByteIn, W: ByteOut, G: Gate>(
+pub fn run_bundle<H: Threads + Wait + Sync, R: ByteIn, W: ByteOut, O: Observer>(
     rt: &H,
     alloc: Global,
     reader: &mut R,
     writer: &mut W,
     options: &Options,
-    gate: &G,
+    observer: &O,
     cause: &mut Cause,
     kept: &mut Option<RunReport>,
 ) -> Result<Exit, RunIoFault>
@@ -55,7 +55,7 @@ pub fn run_bundle<H: Threads + Wait + Sync, R: ByteIn, W: ByteOut, G: Gate>(
         &request,
         options.limits,
         options.workers,
-        gate,
+        observer,
     )?;
     let exit = exit_after(alloc, &report, &request)?;
     report.write(alloc, writer)?;

@@ -2,8 +2,8 @@
 
 ghost use Rattle.std.specs.Prelude.{◌≡◌, ◌≤◌, [], length, map, vec_capacity, OnOk};
 
-use crate::gate::Gate;
 use crate::lookers::Lookers;
+use crate::observer::Observer;
 use crossbeam_channel::{Receiver, Sender};
 use redo_sync::{JobTaker, Numbered, Taken};
 use std::alloc::{AllocError, Global};
@@ -22,12 +22,12 @@ const MOST_OUT: usize = 128;
 const LOOKS: u32 = 64;
 
 /// A job that a worker advances, to send what it comes to. Of what the job is made the crew knows nothing.
-pub(crate) trait Advance<M, G: Gate>: Numbered + Drop {
+pub(crate) trait Advance<M, O: Observer>: Numbered + Drop {
     /// What this job may come to.
     ghost comes_to: { Self → M → Type 0 };
 
-    /// Tells the gate, and advances the job.
-    fn advance(self, gate: &G) -> M
+    /// Tells the observer, and advances the job.
+    fn advance(self, observer: &O) -> M
         ensures { comes_to self result };
 }
 
@@ -140,9 +140,9 @@ pub(crate) fn job_of_owner<J: Numbered + Drop, R: Wait>(
 }
 
 /// Takes jobs and sends what they came to, until the owner has ended.
-fn work<J: Advance<M, G>, M: Drop, R: Wait, G: Gate>(
+fn work<J: Advance<M, O>, M: Drop, R: Wait, O: Observer>(
     rt: &R,
-    gate: &G,
+    observer: &O,
     lookers: &Lookers,
     mut taker: JobTaker<J>,
     calls: Receiver<Call>,
@@ -155,7 +155,7 @@ fn work<J: Advance<M, G>, M: Drop, R: Wait, G: Gate>(
         let Some(job) = next_job(rt, lookers, &mut taker, &calls) else {
             break;
         };
-        if messages.send(rt, job.advance(gate)).is_err() {
+        if messages.send(rt, job.advance(observer)).is_err() {
             break;
         }
     }
@@ -166,14 +166,14 @@ fn work<J: Advance<M, G>, M: Drop, R: Wait, G: Gate>(
 pub(crate) fn start_all<
     's,
     E,
-    J: Advance<M, G> + Send + 's,
+    J: Advance<M, O> + Send + 's,
     M: Send + Drop + 's,
     R: Threads + Wait + Sync,
-    G: Gate,
+    O: Observer,
 >(
     scope: &Scope<'s, E>,
     rt: &'s R,
-    gate: &'s G,
+    observer: &'s O,
     takers: Vec<JobTaker<J>>,
     extension: Extension<'s, M>,
     hands: &mut Vec<Hand<J>>,
@@ -194,7 +194,7 @@ pub(crate) fn start_all<
         hands.reserve(1)?;
         let promise = OwnTaker(Snapshot::of(&taker));
         let hand = scope.spawn_with(promise, move || {
-            work(rt, gate, lookers, taker, called, sender)
+            work(rt, observer, lookers, taker, called, sender)
         })?;
         hands.push_reserved(hand);
     }

@@ -11,7 +11,7 @@ use crate::candidates::text_of_search;
 use crate::exit::exit_after;
 use crate::request::requested;
 use crate::workers::{build_over, past_of};
-use crate::{Cause, Exit, Gate, Options, RunDirFault};
+use crate::{Cause, Exit, Observer, Options, RunDirFault};
 use redo_bundle::{ByteOut, write_all};
 use redo_dir::{LoadFault, StoreFault, Stored, load_dir, load_dir_by, store_files};
 use redo_path::Path;
@@ -161,13 +161,13 @@ fn with_book_last(
 /// stored, those before it were, and no report is written; where the report can't be written, all files were stored.
 ///
 /// The report goes out in many small pieces: hand in a writer with a buffer, and flush it afterwards.
-pub fn run_dir<H: Threads + Wait + Sync + Files, W: ByteOut, G: Gate>(
+pub fn run_dir<H: Threads + Wait + Sync + Files, W: ByteOut, O: Observer>(
     rt: &H,
     alloc: Global,
     dir: &str,
     writer: &mut W,
     options: &Options,
-    gate: &G,
+    observer: &O,
     cause: &mut Cause,
 ) -> Result<DirRun, RunDirFault>
 where
@@ -191,7 +191,7 @@ where
         &request,
         options.limits,
         options.workers,
-        gate,
+        observer,
     )?;
     let exit = exit_after(alloc, &report, &request)?;
     let Report { rows, files, begun } = report.into_report(alloc)?;

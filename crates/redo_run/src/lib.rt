@@ -11,8 +11,8 @@
 //!
 //! - `one`: a build by one thread; `workers`: by many, or by one through a relay; `owner`: what the one does that has
 //!   the board; `crew`: what the workers do; `desk`: what the owner has before a run and after it; `lookers`: how many
-//!   workers look for a job; `of_build`: what they send each other; `gate`: who is told of each job; `picks`: a build
-//!   in an order that is given beforehand;
+//!   workers look for a job; `of_build`: what they send each other; `observer`: who is told of each job; `picks`: a
+//!   build in an order that is given beforehand;
 //! - `run_fault`: why a build has no report; `exit`: whether all that was requested is there;
 //! - `laws`: what the definitions say, as contracts of functions that do nothing;
 //! - `bundle`: the two calls over bundles; `options` and `fault`: what they take and refuse; `directory` and
@@ -28,9 +28,9 @@ mod dir_fault;
 mod directory;
 mod exit;
 mod fault;
-mod gate;
 pub mod laws;
 mod lookers;
+mod observer;
 mod of_build;
 mod one;
 mod options;
@@ -46,7 +46,7 @@ pub use dir_fault::RunDirFault;
 pub use directory::{DirRun, run_dir, whichdo_dir};
 pub use exit::Exit;
 pub use fault::RunIoFault;
-pub use gate::{Gate, NoGate};
+pub use observer::{NoObserver, Observer};
 pub use one::build_one;
 pub use options::Options;
 pub use picks::{Pick, drive};

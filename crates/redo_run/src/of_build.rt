@@ -6,7 +6,7 @@
 ghost use Rattle.std.specs.Prelude.{◌≡◌};
 
 use crate::crew::Advance;
-use crate::gate::Gate;
+use crate::observer::Observer;
 use redo_core::work::{Piece, Work};
 use redo_path::Path;
 use redo_sync::Numbered;
@@ -63,16 +63,16 @@ impl<B: Build> JobOf<B> {
     }
 }
 
-impl<B: Build, G: Gate> Advance<Message<B>, G> for JobOf<B> {
+impl<B: Build, O: Observer> Advance<Message<B>, O> for JobOf<B> {
     ghost use Rattle.std.specs.Prelude.{◌≡◌, IfOk};
 
     ghost comes_to = { λ job message. IfOk message (λ p.
         (p.piece.target ≡ job.work.target) × (p.piece.turn ≡ job.work.turn)) };
 
-    /// Tells the gate, and advances the script.
-    fn advance(self, gate: &G) -> Message<B> {
+    /// Tells the observer, and advances the script.
+    fn advance(self, observer: &O) -> Message<B> {
         let JobOf { work, build: _ } = self;
-        gate.enter(work.target(), work.turn());
+        observer.taken_up(work.target(), work.turn());
         let piece = work.advance()?;
         Ok(PieceOf {
             piece,

@@ -8,7 +8,7 @@ ghost use Rattle.redo_core.specs.Views.{limit_on, ready_count, request_on, rules
 ghost use Rattle.redo_run.specs.inside.Workers.{HasTakenOn, IsSameSource};
 
 use crate::crew::{Advance, Call, Lines, job_of_owner};
-use crate::gate::Gate;
+use crate::observer::Observer;
 use crate::of_build::{Build, JobOf, Message, PieceOf};
 use crossbeam_channel::Receiver;
 use redo_core::board::{Board, HandFault, Stop};
@@ -87,13 +87,13 @@ fn call_for_newest<B: Build, R: Wait>(
 
 /// Gives the newest job, takes it, and hands its piece in. Where a worker that looked has taken it first, its piece
 /// comes as any other's.
-fn advance_newest<B: Build, R: Wait, G: Gate>(
+fn advance_newest<B: Build, R: Wait, O: Observer>(
     rt: &R,
     board: &mut Board,
     source: &mut JobSource<JobOf<B>>,
     taker: &mut JobTaker<JobOf<B>>,
     lines: &Lines<'_, Message<B>>,
-    gate: &G,
+    observer: &O,
 ) -> Result<(), Stop>
     requires ready { 0 < ready_count board.old }
     requires of_build { board.old.given ≡ B.given }
@@ -110,7 +110,7 @@ fn advance_newest<B: Build, R: Wait, G: Gate>(
     let Some(job) = job_of_owner(rt, lines.lookers, taker) else {
         return Ok(());
     };
-    hand_in(rt, board, job.advance(gate)?)
+    hand_in(rt, board, job.advance(observer)?)
 }
 
 /// Receives one message, and hands its piece in. All senders are gone only where every worker has ended, which none
@@ -144,13 +144,13 @@ fn is_for_owner<B: Build>(board: &Board, lines: &Lines<'_, Message<B>>) -> bool 
 }
 
 /// Gives what is ready and hands in what comes, until nothing is ready or out.
-pub(crate) fn own<B: Build, R: Wait, G: Gate>(
+pub(crate) fn own<B: Build, R: Wait, O: Observer>(
     rt: &R,
     board: &mut Board,
     source: &mut JobSource<JobOf<B>>,
     taker: &mut JobTaker<JobOf<B>>,
     lines: &Lines<'_, Message<B>>,
-    gate: &G,
+    observer: &O,
 ) -> Result<(), Stop>
     requires of_build { board.old.given ≡ B.given }
     requires running { IsNone board.old.stopped }
@@ -166,7 +166,7 @@ pub(crate) fn own<B: Build, R: Wait, G: Gate>(
             return Ok(());
         }
         if board.ready() > 0 && is_for_owner(board, lines) {
-            advance_newest(rt, board, source, taker, lines, gate)?;
+            advance_newest(rt, board, source, taker, lines, observer)?;
         } else if board.ready() > 0 && board.out() < lines.most_out {
             call_for_newest(rt, board, source, lines)?;
         } else {

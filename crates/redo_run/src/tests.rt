@@ -2,7 +2,7 @@
 
 ghost use Rattle.std.specs.Prelude.{◌≡◌, ◌≤◌, false, IfOk};
 
-use crate::{Cause, Exit, Gate, NoGate, Options, RunIoFault, run_bundle};
+use crate::{Cause, Exit, NoObserver, Observer, Options, RunIoFault, run_bundle};
 use redo_bundle::Plain;
 use redo_path::{Path, resolve};
 use redo_step::Limits;
@@ -67,16 +67,16 @@ fn run<R: Threads + Wait + Sync>(
     bundle: &[u8],
     options: &Options,
 ) -> Result<(Outcome, Vec<u8>), Fail> {
-    run_through(rt, alloc, bundle, options, &NoGate)
+    run_through(rt, alloc, bundle, options, &NoObserver)
 }
 
-/// The same, with a gate that each worker passes before a script.
-fn run_through<R: Threads + Wait + Sync, G: Gate>(
+/// The same, with an observer that each worker passes before a script.
+fn run_through<R: Threads + Wait + Sync, O: Observer>(
     rt: &R,
     alloc: Global,
     bundle: &[u8],
     options: &Options,
-    gate: &G,
+    observer: &O,
 ) -> Result<(Outcome, Vec<u8>), Fail> {
     let mut reader = Plain::new(bundle);
     let mut writer = Plain::new(Vec::new(alloc));
@@ -86,7 +86,7 @@ fn run_through<R: Threads + Wait + Sync, G: Gate>(
         &mut reader,
         &mut writer,
         options,
-        gate,
+        observer,
         &mut Cause::new(alloc),
         &mut None,
     );

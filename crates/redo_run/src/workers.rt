@@ -17,9 +17,9 @@ ghost use Rattle.redo_run.specs.inside.Workers.{IsAnswerTo, IsStaffed};
 
 use crate::crew::{join_all, lines_for, start_all};
 use crate::desk::{Desk, EndedDesk, hand_out};
-use crate::gate::Gate;
 use crate::laws::keeping_is_sound;
 use crate::lookers::Lookers;
+use crate::observer::Observer;
 use crate::of_build::{Build, JobOf};
 use crate::owner::{never, own};
 use crate::run_fault::RunFault;
@@ -73,10 +73,10 @@ fn answer_of<B: Build, R: Wait>(
 }
 
 /// Runs a build to its end by the owner, and a worker in a thread of its own for each taker but the owner's.
-fn run_crew<'s, E, B: Build + Send + Sync + 's, R: Threads + Wait + Sync, G: Gate>(
+fn run_crew<'s, E, B: Build + Send + Sync + 's, R: Threads + Wait + Sync, O: Observer>(
     scope: &Scope<'s, E>,
     rt: &'s R,
-    gate: &'s G,
+    observer: &'s O,
     lookers: &'s Lookers,
     alloc: Global,
     desk: Desk<B>,
@@ -100,8 +100,8 @@ fn run_crew<'s, E, B: Build + Send + Sync + 's, R: Threads + Wait + Sync, G: Gat
     };
     let (lines, extension) = lines_for(alloc, takers.len(), lookers)?;
     let mut hands = Vec::new(alloc);
-    let ended = match start_all(scope, rt, gate, takers, extension, &mut hands) {
-        Ok(()) => own(rt, &mut board, &mut source, &mut taker, &lines, gate),
+    let ended = match start_all(scope, rt, observer, takers, extension, &mut hands) {
+        Ok(()) => own(rt, &mut board, &mut source, &mut taker, &lines, observer),
         Err(_) => Err(Stop::Memory),
     };
     // Nobody calls any more, and nobody reads messages: so the workers end.
@@ -118,9 +118,9 @@ fn run_crew<'s, E, B: Build + Send + Sync + 's, R: Threads + Wait + Sync, G: Gat
 
 /// The same in a scope of threads: all have ended when it returns. What the run has left comes out of the scope through
 /// a channel.
-fn run_in_scope<B: Build + Send + Sync, R: Threads + Wait + Sync, G: Gate>(
+fn run_in_scope<B: Build + Send + Sync, R: Threads + Wait + Sync, O: Observer>(
     rt: &R,
-    gate: &G,
+    observer: &O,
     lookers: &Lookers,
     alloc: Global,
     desk: Desk<B>,
@@ -143,7 +143,7 @@ fn run_in_scope<B: Build + Send + Sync, R: Threads + Wait + Sync, G: Gate>(
             ensures { result ≡ Err Stop.TooMany →
                 IsTooMany (rules_on desk.board) (request_on desk.board) (limit_on desk.board) }
         {
-            let desk = run_crew(scope, rt, gate, lookers, alloc, desk)?;
+            let desk = run_crew(scope, rt, observer, lookers, alloc, desk)?;
             hand_out(rt, &out, desk);
             Ok(())
         },
@@ -162,12 +162,12 @@ fn threads_for(workers: usize) -> usize
 }
 
 /// Runs a build that was opened.
-fn run_build<B: Build + Send + Sync, R: Threads + Wait + Sync, G: Gate>(
+fn run_build<B: Build + Send + Sync, R: Threads + Wait + Sync, O: Observer>(
     rt: &R,
     alloc: Global,
     board: Board,
     workers: usize,
-    gate: &G,
+    observer: &O,
 ) -> Result<(RunReport, Ledger<Work>), Stop>
     requires of_build { board.given ≡ B.given }
     requires running { IsNone board.stopped }
@@ -182,7 +182,7 @@ fn run_build<B: Build + Send + Sync, R: Threads + Wait + Sync, G: Gate>(
         source,
         takers,
     };
-    let ended = run_in_scope(rt, gate, &Lookers::new(), alloc, desk)?;
+    let ended = run_in_scope(rt, observer, &Lookers::new(), alloc, desk)?;
     answer_of(rt, alloc, ended)
 }
 
@@ -207,14 +207,14 @@ pub(crate) fn past_of<R: Threads + Sync>(
 /// workers do when, with the new book among its files, and the ledger shows that each job was taken once. What stands
 /// as the last run left it is kept; where that is safe, the report agrees with that of the sources alone. All threads
 /// have ended when it answers. It answers `Memory` too where a thread could not be started.
-pub fn build_many<R: Threads + Wait + Sync, G: Gate>(
+pub fn build_many<R: Threads + Wait + Sync, O: Observer>(
     rt: &R,
     alloc: Global,
     tree: Tree,
     request: &[Path],
     limits: Limits,
     workers: usize,
-    gate: &G,
+    observer: &O,
 ) -> Result<(Report, Ledger<Work>), RunFault>
     requires some { 1 ≤ workers }
     requires few { workers ≤ 64 }
@@ -228,19 +228,19 @@ pub fn build_many<R: Threads + Wait + Sync, G: Gate>(
     ensures only_unsafe { result ≡ Err RunFault.TooMany → IsUnsafeOn tree request.now limits }
 {
     let past = past_of(rt, alloc, tree, workers)?;
-    let (report, ledger) = build_over(rt, alloc, past, request, limits, workers, gate)?;
+    let (report, ledger) = build_over(rt, alloc, past, request, limits, workers, observer)?;
     Ok((report.into_report(alloc)?, ledger))
 }
 
 /// The same over what a run before has left. The new book has no text yet.
-pub(crate) fn build_over<R: Threads + Wait + Sync, G: Gate>(
+pub(crate) fn build_over<R: Threads + Wait + Sync, O: Observer>(
     rt: &R,
     alloc: Global,
     past: Past,
     request: &[Path],
     limits: Limits,
     workers: usize,
-    gate: &G,
+    observer: &O,
 ) -> Result<(RunReport, Ledger<Work>), RunFault>
     requires some { 1 ≤ workers }
     requires few { workers ≤ 64 }
@@ -257,5 +257,5 @@ pub(crate) fn build_over<R: Threads + Wait + Sync, G: Gate>(
     keeping_is_sound();
     past.tree().is_tree();
     let board = Board::over(alloc, past, request, limits)?;
-    Ok(run_build::<Brand, R, G>(rt, alloc, board, workers, gate)?)
+    Ok(run_build::<Brand, R, O>(rt, alloc, board, workers, observer)?)
 }

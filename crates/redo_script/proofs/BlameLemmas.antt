@@ -9,7 +9,7 @@ use Rattle.redo_script.specs.Syntax.{Script}
 use Rattle.redo_script.specs.Tokens.{Token, word, semicolon, newline, redirect, line_after}
 use Rattle.redo_script.specs.Grammar.{Item, is_named, command_form, condition_form, name_of, is_bound, knows_word}
 use Rattle.redo_script.specs.Grammar.{knows}
-use Rattle.redo_script.specs.Parsing.{Begun, Phase, at_command, in_command, behind_if, in_condition, before_then}
+use Rattle.redo_script.specs.Parsing.{PartialCommand, Phase, at_command, in_command, behind_if, in_condition, before_then}
 use Rattle.redo_script.specs.Parsing.{behind_fi, behind_for, behind_name, in_words, before_do, behind_done, Open, open_if}
 use Rattle.redo_script.specs.Parsing.{open_loop, ifs_in, names_in, Parser, is_empty, is_one_of, commands, words_outside}
 use Rattle.redo_script.specs.Parsing.{loop_words, if_words, or_shape, if_known, is_unfinished, no_redirection}
@@ -42,10 +42,10 @@ formed l false None known = λ e. cc e
 formed l false (Some x) true = tt
 formed l false (Some x) false = λ e. cc e
 
-command : (p : Parser) (b : Begun) → Blames (with_command p b)
+command : (p : Parser) (b : PartialCommand) → Blames (with_command p b)
 command p b = bound (ended_command (names_in p.opens) b) _ (formed b.line (is_unfinished b) (command_form b.name b.items b.redirection) (knows (names_in p.opens) b.items b.redirection)) (λ c. tt)
 
-condition : (p : Parser) (b : Begun) → Blames (with_condition p b)
+condition : (p : Parser) (b : PartialCommand) → Blames (with_condition p b)
 condition p b = bound (ended_condition (names_in p.opens) b) _ (formed b.line (is_unfinished b) (no_redirection b.redirection (condition_form b.name b.items)) (knows (names_in p.opens) b.items b.redirection)) (λ c. tt)
 
 else_blames : (p : Parser) (l : ℕ) (os : List Open) → Blames (at_else p l os)

@@ -15,10 +15,10 @@ use Rattle.redo_script.specs.Grammar.{by_newline, IsKeyword, keyword, name_of, i
 use Rattle.redo_script.specs.Grammar.{outermost, TakesWords, no_word, one_word, lists_words, opens_loop, opens_if}
 use Rattle.redo_script.specs.Grammar.{IsCommand, a_command, if_then, if_else, for_done, IsBlock, after_newlines, last}
 use Rattle.redo_script.specs.Grammar.{more, empty, unended, continues, IsProgram}
-use Rattle.redo_script.specs.Parsing.{Begun, Phase, at_command, in_command, behind_if, in_condition, before_then}
+use Rattle.redo_script.specs.Parsing.{PartialCommand, Phase, at_command, in_command, behind_if, in_condition, before_then}
 use Rattle.redo_script.specs.Parsing.{behind_fi, behind_for, behind_name, in_words, before_do, behind_done, Open, open_if}
 use Rattle.redo_script.specs.Parsing.{open_loop, openings, ifs_in, names_in, Parser, is_empty, with_last, is_one_of}
-use Rattle.redo_script.specs.Parsing.{commands, words_outside, loop_words, if_words, begun, closed, or_shape, if_known}
+use Rattle.redo_script.specs.Parsing.{commands, words_outside, loop_words, if_words, begin_command, closed, or_shape, if_known}
 use Rattle.redo_script.specs.Parsing.{is_unfinished, with_word, with_redirect, no_redirection, parse_on, statements_of}
 use Rattle.redo_script.specs.Parsing.{with_command, with_condition, ended_command, ended_condition, unless_open}
 use Rattle.redo_script.proofs.BitLemmas.{never, injected, bind_ok}
@@ -93,7 +93,7 @@ Takes false (Some a) red its ts items r rest = (k : ℕ) × (p : Bool) × (w : W
 Takes false None (Some red) its ts items r rest = AtSeparator ts × (ts ≡ rest) × (items ≡ its) × (r ≡ Some red)
 Takes false None None its ts items r rest = (others : List Item) × IsItems ts others r rest × (items ≡ its ++ others)
 
-record InCommand (b : Begun) (os : List Open) (s : Script) (ts : List Token) (script : Script) : Type 0 where
+record InCommand (b : PartialCommand) (os : List Open) (s : Script) (ts : List Token) (script : Script) : Type 0 where
   items : List Item
   r : Option Redirection
   rest : List Token
@@ -108,7 +108,7 @@ record AtThen (l : ℕ) (c : Condition) (os : List Open) (s : Script) (ts : List
   is : IsKeyword (codes "then") ts rest
   goes : Rest (open_if l c None s ∷ os) finish rest script
 
-record InCondition (b : Begun) (os : List Open) (s : Script) (ts : List Token) (script : Script) : Type 0 where
+record InCondition (b : PartialCommand) (os : List Open) (s : Script) (ts : List Token) (script : Script) : Type 0 where
   items : List Item
   r : Option Redirection
   rest : List Token
@@ -131,7 +131,7 @@ record BehindIf (l : ℕ) (os : List Open) (s : Script) (ts : List Token) (scrip
   w : Word
   others : List Token
   is : ts ≡ word k p w ∷ others
-  goes : InCondition (begun l (item p w)) os s others script
+  goes : InCondition (begin_command l (item p w)) os s others script
 
 record AtDo (l : ℕ) (name : List ℕ) (ws : List Word) (os : List Open) (s : Script) (ts : List Token) (script : Script) : Type 0 where
   rest : List Token
@@ -254,7 +254,7 @@ no_redirection_ok : (r : Option Redirection) (o : Option Condition) (c : Conditi
 no_redirection_ok None o c h = (refl, h)
 no_redirection_ok (Some r) o c h = none_some h
 
-if_closes : (os : List Open) (s : Script) (l k : ℕ) (v w : Word) (p : Bool) (t1 : List Token) (script : Script) → spells v (codes "if") ≡ true → ifs_in os < 16 → InCondition (begun l (item p w)) os s t1 script → Rest os s (word l true v ∷ word k p w ∷ t1) script
+if_closes : (os : List Open) (s : Script) (l k : ℕ) (v w : Word) (p : Bool) (t1 : List Token) (script : Script) → spells v (codes "if") ≡ true → ifs_in os < 16 → InCondition (begin_command l (item p w)) os s t1 script → Rest os s (word l true v ∷ word k p w ∷ t1) script
 if_closes os s l k v w p t1 script e lt g =
     let n = no_redirection_ok g.r (condition_form (item p w) g.items) g.c g.form in
     let items : IsItems t1 g.items None g.rest = subst (λ (x : Option Redirection). IsItems t1 g.items x g.rest) n.0 (subst (λ (x : List Item). IsItems t1 x g.r g.rest) (sym g.takes.2) g.takes.1) in
@@ -445,7 +445,7 @@ for_in_place ts f l w os s script e h = elim (cases_Bool (nat_lt (length (names_
 
 command_in_place : (ts : List Token) → Found ts → (l : ℕ) (w : Word) (os : List Open) (s script : Script) → is_one_of commands (item true w) ≡ true → parse_on (in_place os s) (word l true w ∷ ts) ≡ Ok script → Rest os s (word l true w ∷ ts) script
 command_in_place ts f l w os s script e h =
-    let g = f (in_command (begun l (item true w))) os s script (sym (command_begins l true w ts os s e) ∙ h) in
+    let g = f (in_command (begin_command l (item true w))) os s script (sym (command_begins l true w ts os s e) ∙ h) in
     let items : IsItems ts g.items g.r g.rest = subst (λ (x : List Item). IsItems ts x g.r g.rest) (sym g.takes.2) g.takes.1 in
     before_rest os s (simple l g.c finish) (word l true w ∷ ts) g.rest script (λ after. a_command items g.form g.known) g.goes
 
@@ -495,16 +495,16 @@ word_in_place ts f l true w os s script h =
     (λ n. name_in_place ts f l w os s script n h)
 
 -- commands that were begun
-abbrev pub TakesOf : Begun → List Token → List Item → Option Redirection → List Token → Type 0
+abbrev pub TakesOf : PartialCommand → List Token → List Item → Option Redirection → List Token → Type 0
 TakesOf b ts items r rest = Takes b.is_ill b.awaits b.redirection b.items ts items r rest
 
 -- what b takes from ts' is what b' takes from ts
-pub record Continues (b b' : Begun) (ts ts' : List Token) : Type 0 where
+pub record Continues (b b' : PartialCommand) (ts ts' : List Token) : Type 0 where
   pub line : b'.line ≡ b.line
   pub name : b'.name ≡ b.name
   pub takes : (items : List Item) (r : Option Redirection) (rest : List Token) → TakesOf b' ts items r rest → TakesOf b ts' items r rest
 
-abbrev pub state : ℕ → Item → List Item → Bool → Option Bool → Option Redirection → Begun
+abbrev pub state : ℕ → Item → List Item → Bool → Option Bool → Option Redirection → PartialCommand
 state l n its ill aw red = record { line = l; name = n; items = its; redirection = red; is_ill = ill; awaits = aw }
 
 pub word_continues : (l : ℕ) (n : Item) (its : List Item) (ill : Bool) (aw : Option Bool) (red : Option Redirection) (k : ℕ) (p : Bool) (w : Word) (ts : List Token) → Continues (state l n its ill aw red) (with_word (state l n its ill aw red) (item p w)) ts (word k p w ∷ ts)
@@ -521,7 +521,7 @@ redirect_continues l n its ill None (Some red) k a ts = record { line = refl; na
 redirect_continues l n its true None None k a ts = record { line = refl; name = refl; takes = λ items r rest x. absurd x }
 redirect_continues l n its false None None k a ts = record { line = refl; name = refl; takes = λ items r rest x. ([], subst (λ (y : Option Redirection). IsItems (redirect k a ∷ ts) [] y rest) (sym x.6) (subst (λ (y : List Token). IsItems (redirect k a ∷ y) [] (Some (record { appends = a; word = x.2 })) rest) (sym x.3) (redirected x.4)), x.5 ∙ sym (append-nil its)) }
 
-command_goes : (b b' : Begun) (os : List Open) (s : Script) (ts ts' : List Token) (script : Script) → Continues b b' ts ts' → InCommand b' os s ts script → InCommand b os s ts' script
+command_goes : (b b' : PartialCommand) (os : List Open) (s : Script) (ts ts' : List Token) (script : Script) → Continues b b' ts ts' → InCommand b' os s ts script → InCommand b os s ts' script
 command_goes b b' os s ts ts' script k g = record {
   items = g.items;
   r = g.r;
@@ -533,7 +533,7 @@ command_goes b b' os s ts ts' script k g = record {
   goes = subst (λ (x : ℕ). Ended os (with_last s (simple x g.c finish)) g.rest script) k.line g.goes;
 }
 
-condition_goes : (b b' : Begun) (os : List Open) (s : Script) (ts ts' : List Token) (script : Script) → Continues b b' ts ts' → InCondition b' os s ts script → InCondition b os s ts' script
+condition_goes : (b b' : PartialCommand) (os : List Open) (s : Script) (ts ts' : List Token) (script : Script) → Continues b b' ts ts' → InCondition b' os s ts script → InCondition b os s ts' script
 condition_goes b b' os s ts ts' script k g = record {
   items = g.items;
   r = g.r;
@@ -554,7 +554,7 @@ takes_end false None (Some red) its ts a e = (a, refl, refl, refl)
 takes_end false None None its ts a e = ([], none_left a, sym (append-nil its))
 
 -- a command ends, and what is behind it goes on
-command_ended : (b : Begun) (os : List Open) (s : Script) (ts : List Token) (script : Script) → AtSeparator ts → (go : Parser → Result Script ScriptFault) → (with_command (parser (in_command b) os s) b >>= go) ≡ Ok script → ((c : Command) → go (in_place os (with_last s (simple b.line c finish))) ≡ Ok script → Ended os (with_last s (simple b.line c finish)) ts script) → InCommand b os s ts script
+command_ended : (b : PartialCommand) (os : List Open) (s : Script) (ts : List Token) (script : Script) → AtSeparator ts → (go : Parser → Result Script ScriptFault) → (with_command (parser (in_command b) os s) b >>= go) ≡ Ok script → ((c : Command) → go (in_place os (with_last s (simple b.line c finish))) ≡ Ok script → Ended os (with_last s (simple b.line c finish)) ts script) → InCommand b os s ts script
 command_ended b os s ts script a go h next =
     let one = bind_ok (with_command (parser (in_command b) os s) b) go script h in
     let two = bind_ok (ended_command (names_in os) b) (λ c. Ok (in_place os (with_last s (simple b.line c finish)))) one.0 one.1 in
@@ -570,7 +570,7 @@ command_ended b os s ts script a go h next =
       goes = next two.0 (subst (λ (x : Parser). go x ≡ Ok script) (sym (injected two.2)) one.2);
     }
 
-condition_ended : (b : Begun) (os : List Open) (s : Script) (t : Token) (ts : List Token) (script : Script) → AtSeparator (t ∷ ts) → ((next : List Token) → SkipsNewlines ts next → Separates (t ∷ ts) next) → Found ts → (with_condition (parser (in_condition b) os s) b >>= λ q. parse_on q ts) ≡ Ok script → InCondition b os s (t ∷ ts) script
+condition_ended : (b : PartialCommand) (os : List Open) (s : Script) (t : Token) (ts : List Token) (script : Script) → AtSeparator (t ∷ ts) → ((next : List Token) → SkipsNewlines ts next → Separates (t ∷ ts) next) → Found ts → (with_condition (parser (in_condition b) os s) b >>= λ q. parse_on q ts) ≡ Ok script → InCondition b os s (t ∷ ts) script
 condition_ended b os s t ts script a sep f h =
     let one = bind_ok (with_condition (parser (in_condition b) os s) b) (λ q. parse_on q ts) script h in
     let two = bind_ok (ended_condition (names_in os) b) (λ c. Ok (parser (before_then b.line c) os s)) one.0 one.1 in
@@ -624,7 +624,7 @@ then_found ts f l c k true w os s script h = elim (cases_Bool (spells w (codes "
 condition_found : (ts : List Token) → Found ts → (l k : ℕ) (p : Bool) (w : Word) (os : List Open) (s script : Script) → parse_on (parser (behind_if l) os s) (word k p w ∷ ts) ≡ Ok script → BehindIf l os s (word k p w ∷ ts) script
 unfolding parse_on
 condition_found ts f l k p w os s script h = elim (cases_Bool (is_one_of conditions (item p w))) [
-  | inl e ↦ record { k = k; p = p; w = w; others = ts; is = refl; goes = f (in_condition (begun l (item p w))) os s script (rw e at h) }
+  | inl e ↦ record { k = k; p = p; w = w; others = ts; is = refl; goes = f (in_condition (begin_command l (item p w))) os s script (rw e at h) }
   | inr e ↦ elim (cases_Bool (is_one_of loop_words (item p w))) [ inl g ↦ never (rw (e, g) at h) | inr g ↦ never (rw (e, g) at h) ]
 ]
 

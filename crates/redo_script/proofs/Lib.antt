@@ -1,6 +1,6 @@
 pub mod WordLemmas
 pub mod RowExamples
-pub mod BegunCommandLemmas
+pub mod PartialCommandLemmas
 pub mod BitLemmas
 pub mod BlameLemmas
 pub mod FoundScriptLemmas

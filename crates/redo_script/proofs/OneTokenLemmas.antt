@@ -10,14 +10,14 @@ use Rattle.redo_script.specs.Grammar.{Item, spells, is_named, command_form, cond
 use Rattle.redo_script.specs.Grammar.{none_left, one_item, redirected, SkipsNewlines, here, past, Separates}
 use Rattle.redo_script.specs.Grammar.{by_semicolon, by_newline, IsKeyword, keyword, name_of, is_bound, knows_word, knows}
 use Rattle.redo_script.specs.Grammar.{TakesWords, no_word, one_word}
-use Rattle.redo_script.specs.Parsing.{Begun, at_command, in_command, in_condition, before_then, behind_fi}
+use Rattle.redo_script.specs.Parsing.{PartialCommand, at_command, in_command, in_condition, before_then, behind_fi}
 use Rattle.redo_script.specs.Parsing.{behind_name, in_words, before_do, behind_done, Phase, Open, open_if, open_loop}
 use Rattle.redo_script.specs.Parsing.{Parser, ifs_in, names_in}
 use Rattle.redo_script.specs.Parsing.{is_empty, with_last, is_one_of, commands, closed, parse_on}
 use Rattle.redo_script.proofs.NameLemmas.{item, spells_is, not_named}
 use Rattle.redo_script.specs.Refusals.{conditions}
 
-abbrev pub parts : ℕ → Item → List Item → Option Redirection → Begun
+abbrev pub parts : ℕ → Item → List Item → Option Redirection → PartialCommand
 parts l n items r = record { line = l; name = n; items = items; redirection = r; is_ill = false; awaits = None }
 
 abbrev pub state_at : Phase → List Open → Script → Parser
@@ -26,10 +26,10 @@ state_at phase os s = record { phase = phase; opens = os; so_far = s }
 abbrev pub in_place : List Open → Script → Parser
 in_place os s = record { phase = at_command; opens = os; so_far = s }
 
-abbrev pub within : Begun → List Open → Script → Parser
+abbrev pub within : PartialCommand → List Open → Script → Parser
 within b os s = record { phase = in_command b; opens = os; so_far = s }
 
-abbrev pub within_condition : Begun → List Open → Script → Parser
+abbrev pub within_condition : PartialCommand → List Open → Script → Parser
 within_condition b os s = record { phase = in_condition b; opens = os; so_far = s }
 
 abbrev pub awaiting_then : ℕ → Condition → List Open → Script → Parser

@@ -14,10 +14,10 @@ use Rattle.redo_script.specs.Grammar.{Separates, by_semicolon, by_newline, IsKey
 use Rattle.redo_script.specs.Grammar.{knows_word, Opening, an_if, a_loop, Nest, nest_in, in_if, TakesWords, no_word}
 use Rattle.redo_script.specs.Grammar.{one_word, ListsWords, lists_words, opens_loop, opens_if, IsCommand, a_command}
 use Rattle.redo_script.specs.Grammar.{if_then, if_else, for_done, IsBlock, after_newlines, IsList, last, more}
-use Rattle.redo_script.specs.Parsing.{Begun, Phase, at_command, in_command, behind_if, in_condition, before_then}
+use Rattle.redo_script.specs.Parsing.{PartialCommand, Phase, at_command, in_command, behind_if, in_condition, before_then}
 use Rattle.redo_script.specs.Parsing.{behind_fi, behind_for, behind_name, in_words, before_do, behind_done, Open, open_if}
 use Rattle.redo_script.specs.Parsing.{open_loop, openings, ifs_in, names_in, is_empty, with_last, is_one_of, commands}
-use Rattle.redo_script.specs.Parsing.{words_outside, loop_words, if_words, begun, closed, with_word, with_redirect}
+use Rattle.redo_script.specs.Parsing.{words_outside, loop_words, if_words, begin_command, closed, with_word, with_redirect}
 use Rattle.redo_script.specs.Parsing.{parse_on, statements_of, with_command, with_condition, ended_command}
 use Rattle.redo_script.specs.Parsing.{ended_condition, unless_open}
 use Rattle.redo_script.specs.Refusals.{IsPart, bare, full, IsOpened, to_then, to_else, to_do, IsPlace, outside, inside}
@@ -32,8 +32,8 @@ use Rattle.redo_script.specs.Refusals as refusals
 use Rattle.redo_script.proofs.BitLemmas.{never}
 use Rattle.redo_script.proofs.NameLemmas.{item, none_some}
 use Rattle.redo_script.proofs.OneTokenLemmas.{in_place, else_read, command_begins, word_taken}
-use Rattle.redo_script.proofs.BegunCommandLemmas.{IsBegun, begins, goes_word, goes_redirect, ends_well, EndsTest}
-use Rattle.redo_script.proofs.BegunCommandLemmas.{ends_test, ends_ill, test_ill}
+use Rattle.redo_script.proofs.PartialCommandLemmas.{IsPartial, begins, goes_word, goes_redirect, ends_well, EndsTest}
+use Rattle.redo_script.proofs.PartialCommandLemmas.{ends_test, ends_ill, test_ill}
 use Rattle.redo_script.proofs.FoundScriptLemmas.{if_opens, if_too_deep, for_opens, for_too_deep, then_out, do_out}
 use Rattle.redo_script.proofs.FoundScriptLemmas.{else_alone, else_in_loop, else_twice, else_early, fi_alone, fi_in_loop}
 use Rattle.redo_script.proofs.FoundScriptLemmas.{fi_early, fi_closes, done_alone, done_in_if, done_early, done_closes}
@@ -157,16 +157,16 @@ module _ (whole : List Token) where
     room : ifs_in os < 16
     place : IsPlace (openings os) (is_empty s) whole (word l true w ∷ ts)
 
-  record InCommand (b : Begun) (os : List Open) (s : Script) (ts : List Token) : Type 0 where
+  record InCommand (b : PartialCommand) (os : List Open) (s : Script) (ts : List Token) : Type 0 where
     l : ℕ
     p : Bool
     w : Word
     behind : List Token
     named : is_one_of commands (item p w) ≡ true
-    is_begun : IsBegun b behind ts (item p w) l
+    is_partial : IsPartial b behind ts (item p w) l
     place : IsPlace (openings os) (is_empty s) whole (word l p w ∷ behind)
 
-  record InTest (b : Begun) (os : List Open) (s : Script) (ts : List Token) : Type 0 where
+  record InTest (b : PartialCommand) (os : List Open) (s : Script) (ts : List Token) : Type 0 where
     l : ℕ
     k : ℕ
     p : Bool
@@ -176,7 +176,7 @@ module _ (whole : List Token) where
     is_if : spells v (codes "if") ≡ true
     room : ifs_in os < 16
     named : is_one_of conditions (item p w) ≡ true
-    is_begun : IsBegun b behind ts (item p w) l
+    is_partial : IsPartial b behind ts (item p w) l
     place : IsPlace (openings os) (is_empty s) whole (word l true v ∷ word k p w ∷ behind)
 
   record BeforeThen (l : ℕ) (c : Condition) (os : List Open) (s : Script) (ts : List Token) : Type 0 where
@@ -275,31 +275,31 @@ module _ (whole : List Token) where
   left_open (open_if l c' first before ∷ os) s fault g c h = stands (in_line l reasons.IfShape) fault g (ends_behind c) h
   left_open (open_loop l name ws before ∷ os) s fault g c h = stands (in_line l reasons.Shape) fault g (ends_behind c) h
 
-  command_over : (b : Begun) (os : List Open) (s : Script) (t : Token) (ts : List Token) (fault : ScriptFault) → AtSeparator (t ∷ ts) → Separates (t ∷ ts) ts → Refuses ts → InCommand b os s (t ∷ ts) → (with_command (parser (in_command b) os s) b >>= λ q. parse_on q ts) ≡ Err fault → FaultStands whole fault
+  command_over : (b : PartialCommand) (os : List Open) (s : Script) (t : Token) (ts : List Token) (fault : ScriptFault) → AtSeparator (t ∷ ts) → Separates (t ∷ ts) ts → Refuses ts → InCommand b os s (t ∷ ts) → (with_command (parser (in_command b) os s) b >>= λ q. parse_on q ts) ≡ Err fault → FaultStands whole fault
   command_over b os s t ts fault a sep f g h = go (ended_command (names_in os) b) refl
     where
       go : (x : Result Command ScriptFault) → ended_command (names_in os) b ≡ x → FaultStands whole fault
       go (Ok c) e =
-          let w = ends_well c g.is_begun a e in
+          let w = ends_well c g.is_partial a e in
           goes_on os (with_last s (simple b.line c finish)) ts fault f (place_more g.place (a_command {after = finish} w.is w.form w.known) sep) (full_last s (simple b.line c finish) refl) (rw e at h)
-      go (Err x) e = elim (ends_ill x g.is_begun a e) [
+      go (Err x) e = elim (ends_ill x g.is_partial a e) [
         | inl i ↦ stands (in_line g.l reasons.Shape) fault g.place (no_form g.named i.1) (rw (e, i.0) at h)
         | inr i ↦ stands (in_line g.l reasons.Unsupported) fault g.place (unbound i.1.is i.1.form i.1.unknown) (rw (e, i.0) at h)
       ]
 
-  command_at_end : (b : Begun) (os : List Open) (s : Script) (fault : ScriptFault) → InCommand b os s [] → (with_command (parser (in_command b) os s) b >>= λ q. unless_open q.opens q.so_far) ≡ Err fault → FaultStands whole fault
+  command_at_end : (b : PartialCommand) (os : List Open) (s : Script) (fault : ScriptFault) → InCommand b os s [] → (with_command (parser (in_command b) os s) b >>= λ q. unless_open q.opens q.so_far) ≡ Err fault → FaultStands whole fault
   command_at_end b os s fault g h = go (ended_command (names_in os) b) refl
     where
       go : (x : Result Command ScriptFault) → ended_command (names_in os) b ≡ x → FaultStands whole fault
       go (Ok c) e =
-          let w = ends_well c g.is_begun tt e in
+          let w = ends_well c g.is_partial tt e in
           left_open os (with_last s (simple b.line c finish)) fault g.place (a_command w.is w.form w.known) (rw e at h)
-      go (Err x) e = elim (ends_ill x g.is_begun tt e) [
+      go (Err x) e = elim (ends_ill x g.is_partial tt e) [
         | inl i ↦ stands (in_line g.l reasons.Shape) fault g.place (no_form g.named i.1) (rw (e, i.0) at h)
         | inr i ↦ stands (in_line g.l reasons.Unsupported) fault g.place (unbound i.1.is i.1.form i.1.unknown) (rw (e, i.0) at h)
       ]
 
-  test_over : (b : Begun) (os : List Open) (s : Script) (t : Token) (ts : List Token) (fault : ScriptFault) → AtSeparator (t ∷ ts) → Separates (t ∷ ts) ts → Refuses ts → InTest b os s (t ∷ ts) → (with_condition (parser (in_condition b) os s) b >>= λ q. parse_on q ts) ≡ Err fault → FaultStands whole fault
+  test_over : (b : PartialCommand) (os : List Open) (s : Script) (t : Token) (ts : List Token) (fault : ScriptFault) → AtSeparator (t ∷ ts) → Separates (t ∷ ts) ts → Refuses ts → InTest b os s (t ∷ ts) → (with_condition (parser (in_condition b) os s) b >>= λ q. parse_on q ts) ≡ Err fault → FaultStands whole fault
   test_over b os s t ts fault a sep f g h = go (ended_condition (names_in os) b) refl
     where
       then_next : (c : Condition) → EndsTest (names_in os) g.behind (t ∷ ts) (item g.p g.w) c → BeforeThen g.l c os s ts
@@ -322,21 +322,21 @@ module _ (whole : List Token) where
 
       go : (x : Result Condition ScriptFault) → ended_condition (names_in os) b ≡ x → FaultStands whole fault
       go (Ok c) e =
-          let next = then_next c (ends_test c g.is_begun a e) in
-          f (before_then b.line c) os s fault (subst (λ (x : ℕ). BeforeThen x c os s ts) (sym g.is_begun.line_is) next) (rw e at h)
-      go (Err x) e = elim (test_ill x g.is_begun a e) [
+          let next = then_next c (ends_test c g.is_partial a e) in
+          f (before_then b.line c) os s fault (subst (λ (x : ℕ). BeforeThen x c os s ts) (sym g.is_partial.line_is) next) (rw e at h)
+      go (Err x) e = elim (test_ill x g.is_partial a e) [
         | inl i ↦ stands (in_line g.l reasons.Shape) fault g.place (no_test g.is_if g.room g.named i.1) (rw (e, i.0) at h)
         | inr i ↦ stands (in_line g.l reasons.Unsupported) fault g.place (unbound_test g.is_if g.room i.1.is i.1.form i.1.unknown) (rw (e, i.0) at h)
       ]
 
-  test_at_end : (b : Begun) (os : List Open) (s : Script) (fault : ScriptFault) → InTest b os s [] → (with_condition (parser (in_condition b) os s) b >>= λ q. fault_at {A = Script} b.line reasons.IfShape) ≡ Err fault → FaultStands whole fault
+  test_at_end : (b : PartialCommand) (os : List Open) (s : Script) (fault : ScriptFault) → InTest b os s [] → (with_condition (parser (in_condition b) os s) b >>= λ q. fault_at {A = Script} b.line reasons.IfShape) ≡ Err fault → FaultStands whole fault
   test_at_end b os s fault g h = go (ended_condition (names_in os) b) refl
     where
       go : (x : Result Condition ScriptFault) → ended_condition (names_in os) b ≡ x → FaultStands whole fault
       go (Ok c) e =
-          let w = ends_test c g.is_begun tt e in
-          stands (in_line g.l reasons.IfShape) fault g.place (ends_before_then (a_condition g.is_if g.room w.is w.form w.known) (inl refl)) (rw (e, g.is_begun.line_is) at h)
-      go (Err x) e = elim (test_ill x g.is_begun tt e) [
+          let w = ends_test c g.is_partial tt e in
+          stands (in_line g.l reasons.IfShape) fault g.place (ends_before_then (a_condition g.is_if g.room w.is w.form w.known) (inl refl)) (rw (e, g.is_partial.line_is) at h)
+      go (Err x) e = elim (test_ill x g.is_partial tt e) [
         | inl i ↦ stands (in_line g.l reasons.Shape) fault g.place (no_test g.is_if g.room g.named i.1) (rw (e, i.0) at h)
         | inr i ↦ stands (in_line g.l reasons.Unsupported) fault g.place (unbound_test g.is_if g.room i.1.is i.1.form i.1.unknown) (rw (e, i.0) at h)
       ]
@@ -359,7 +359,7 @@ module _ (whole : List Token) where
   condition_here : (l k : ℕ) (os : List Open) (s : Script) (p : Bool) (w : Word) (ts : List Token) (fault : ScriptFault) → Refuses ts → BehindIf l os s (word k p w ∷ ts) → parse_on (parser (behind_if l) os s) (word k p w ∷ ts) ≡ Err fault → FaultStands whole fault
   unfolding parse_on
   condition_here l k os s p w ts fault f g h = elim (cases_Bool (is_one_of conditions (item p w))) [
-    | inl e ↦ f (in_condition (begun l (item p w))) os s fault (record { l = l; k = k; p = p; v = g.w; w = w; behind = ts; is_if = g.is_if; room = g.room; named = e; is_begun = begins l (item p w) ts; place = g.place }) (rw e at h)
+    | inl e ↦ f (in_condition (begin_command l (item p w))) os s fault (record { l = l; k = k; p = p; v = g.w; w = w; behind = ts; is_if = g.is_if; room = g.room; named = e; is_partial = begins l (item p w) ts; place = g.place }) (rw e at h)
     | inr e ↦ elim (cases_Bool (is_one_of loop_words (item p w))) [
       | inl m ↦ stands (in_line k reasons.Shape) fault g.place (loop_behind_if g.is_if g.room m) (rw (e, m) at h)
       | inr m ↦ stands (in_line l reasons.IfShape) fault g.place (no_condition g.is_if g.room (λ y. refutes y e) (λ y. refutes y m)) (rw (e, m) at h)
@@ -465,7 +465,7 @@ module _ (whole : List Token) where
 
   name_of_none : (ts : List Token) → Refuses ts → (l : ℕ) (w : Word) (os : List Open) (s : Script) (fault : ScriptFault) → IsPlace (openings os) (is_empty s) whole (word l true w ∷ ts) → IsNoKeyword w → parse_on (in_place os s) (word l true w ∷ ts) ≡ Err fault → FaultStands whole fault
   name_of_none ts f l w os s fault g n h = elim (cases_Bool (is_one_of commands (item true w))) [
-    | inl e ↦ f (in_command (begun l (item true w))) os s fault (record { l = l; p = true; w = w; behind = ts; named = e; is_begun = begins l (item true w) ts; place = g }) (sym (command_begins l true w ts os s e) ∙ h)
+    | inl e ↦ f (in_command (begin_command l (item true w))) os s fault (record { l = l; p = true; w = w; behind = ts; named = e; is_partial = begins l (item true w) ts; place = g }) (sym (command_begins l true w ts os s e) ∙ h)
     | inr e5 ↦ elim (cases_Bool (is_one_of words_outside (item true w))) [
       | inl e ↦ stands (in_line l reasons.Unsupported) fault g (left_out e) (sym (name_outside l w ts os s n e5 e) ∙ h)
       | inr e ↦ stands (in_line l reasons.UnknownCommand) fault g (unknown (rw (n.0, n.1, n.2, n.3) refl) (rw (n.4, n.5, n.6) refl) e5 e) (sym (name_unknown l w ts os s n e5 e) ∙ h)
@@ -505,9 +505,9 @@ module _ (whole : List Token) where
   one_token : (t : Token) (ts : List Token) → Refuses ts → Refuses (t ∷ ts)
   unfolding parse_on
   one_token (word l p w) ts f at_command os s fault g h = word_here ts f l p w os s fault g h
-  one_token (word l p w) ts f (in_command b) os s fault g h = f (in_command (with_word b (item p w))) os s fault (record { l = g.l; p = g.p; w = g.w; behind = g.behind; named = g.named; is_begun = goes_word l p w g.is_begun; place = g.place }) h
+  one_token (word l p w) ts f (in_command b) os s fault g h = f (in_command (with_word b (item p w))) os s fault (record { l = g.l; p = g.p; w = g.w; behind = g.behind; named = g.named; is_partial = goes_word l p w g.is_partial; place = g.place }) h
   one_token (word l p w) ts f (behind_if k) os s fault g h = condition_here k l os s p w ts fault f g h
-  one_token (word l p w) ts f (in_condition b) os s fault g h = f (in_condition (with_word b (item p w))) os s fault (record { l = g.l; k = g.k; p = g.p; v = g.v; w = g.w; behind = g.behind; is_if = g.is_if; room = g.room; named = g.named; is_begun = goes_word l p w g.is_begun; place = g.place }) h
+  one_token (word l p w) ts f (in_condition b) os s fault g h = f (in_condition (with_word b (item p w))) os s fault (record { l = g.l; k = g.k; p = g.p; v = g.v; w = g.w; behind = g.behind; is_if = g.is_if; room = g.room; named = g.named; is_partial = goes_word l p w g.is_partial; place = g.place }) h
   one_token (word l p w) ts f (before_then k c) os s fault g h = then_here k l c os s p w ts fault f g h
   one_token (word l p w) ts f (behind_fi k) os s fault g h = past_fi k l os s p w ts fault g h
   one_token (word l p w) ts f (behind_for k) os s fault g h = name_here k l os s p w ts fault f g h
@@ -538,9 +538,9 @@ module _ (whole : List Token) where
   one_token (newline l) ts f (before_do k name ws) os s fault g h = f (before_do k name ws) os s fault (record { begin = g.begin; mid = g.mid; room = g.room; lists = g.lists; separates = separates_on g.separates (past here); place = g.place }) h
   one_token (newline l) ts f (behind_done k) os s fault g h = goes_on os s ts fault f (place_more g.outer.place g.outer.command (by_newline here)) g.is_full h
   one_token (redirect l a) ts f at_command os s fault g h = stands (in_line l reasons.Shape) fault g a_redirection h
-  one_token (redirect l a) ts f (in_command b) os s fault g h = f (in_command (with_redirect b a)) os s fault (record { l = g.l; p = g.p; w = g.w; behind = g.behind; named = g.named; is_begun = goes_redirect l a g.is_begun; place = g.place }) h
+  one_token (redirect l a) ts f (in_command b) os s fault g h = f (in_command (with_redirect b a)) os s fault (record { l = g.l; p = g.p; w = g.w; behind = g.behind; named = g.named; is_partial = goes_redirect l a g.is_partial; place = g.place }) h
   one_token (redirect l a) ts f (behind_if k) os s fault g h = stands (in_line k reasons.IfShape) fault g.place (no_condition g.is_if g.room (λ x. x) (λ x. x)) h
-  one_token (redirect l a) ts f (in_condition b) os s fault g h = f (in_condition (with_redirect b a)) os s fault (record { l = g.l; k = g.k; p = g.p; v = g.v; w = g.w; behind = g.behind; is_if = g.is_if; room = g.room; named = g.named; is_begun = goes_redirect l a g.is_begun; place = g.place }) h
+  one_token (redirect l a) ts f (in_condition b) os s fault g h = f (in_condition (with_redirect b a)) os s fault (record { l = g.l; k = g.k; p = g.p; v = g.v; w = g.w; behind = g.behind; is_if = g.is_if; room = g.room; named = g.named; is_partial = goes_redirect l a g.is_partial; place = g.place }) h
   one_token (redirect l a) ts f (before_then k c) os s fault g h = not_then (redirect l a) ts fault g tt h
   one_token (redirect l a) ts f (behind_fi k) os s fault g h = stands (in_line k reasons.IfShape) fault g.inner (refusals.behind_fi g.is_fi refl (λ x. x) (λ x. x)) h
   one_token (redirect l a) ts f (behind_for k) os s fault g h = stands (in_line l reasons.Shape) fault g.place (no_name {t = redirect l a} g.is_for g.room tt) h

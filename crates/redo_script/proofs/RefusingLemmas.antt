@@ -11,7 +11,7 @@ use Rattle.redo_script.specs.Syntax.{byte, Word, Redirection, Command, Condition
 use Rattle.redo_script.specs.Tokens.{Token, word, semicolon, newline, redirect}
 use Rattle.redo_script.specs.Grammar.{Item, spells, is_named, command_form, condition_form, name_of, is_bound, knows_word}
 use Rattle.redo_script.specs.Grammar.{knows, AtSeparator, Opening, an_if, a_loop, Nest, nest_in, in_if}
-use Rattle.redo_script.specs.Parsing.{Begun, behind_if, behind_for, behind_name, in_words, before_do, Open, open_if}
+use Rattle.redo_script.specs.Parsing.{PartialCommand, behind_if, behind_for, behind_name, in_words, before_do, Open, open_if}
 use Rattle.redo_script.specs.Parsing.{open_loop, opening_of, openings, ifs_in, names_in, is_empty, is_one_of, commands}
 use Rattle.redo_script.specs.Parsing.{words_outside, loop_words, if_words, is_unfinished, no_redirection, ended_command}
 use Rattle.redo_script.specs.Parsing.{ended_condition, unless_open, parse_on, statements_of}
@@ -34,7 +34,7 @@ use Rattle.redo_script.proofs.FoundScriptLemmas.{else_alone, else_in_loop, else_
 use Rattle.redo_script.proofs.FoundScriptLemmas.{fi_early, fi_closes, done_alone, done_in_if, done_early, done_closes}
 use Rattle.redo_script.proofs.FoundScriptLemmas.{name_outside, name_unknown, for_unnamed, for_bound, TakesOf}
 use Rattle.redo_script.proofs.FoundScriptLemmas.{word_continues, redirect_continues, formed_ok, takes_end, parser}
-use Rattle.redo_script.proofs.BegunCommandLemmas.{formed_err, no_redirection_is}
+use Rattle.redo_script.proofs.PartialCommandLemmas.{formed_err, no_redirection_is}
 
 -- Reading up to a place of the grammar
 
@@ -85,13 +85,13 @@ place_read (inside {o} {os} g op p) =
 
 -- Commands and conditions that have no form
 
-abbrev NoForm : Begun → List Token → Type 0
+abbrev NoForm : PartialCommand → List Token → Type 0
 NoForm b ts = (items : List Item) (r : Option Redirection) (rest : List Token) (c : Command) → TakesOf b ts items r rest → command_form b.name items r ≡ Some c → ⊥
 
-abbrev NoTest : Begun → List Token → Type 0
+abbrev NoTest : PartialCommand → List Token → Type 0
 NoTest b ts = (items : List Item) (rest : List Token) (c : Condition) → TakesOf b ts items None rest → condition_form b.name items ≡ Some c → ⊥
 
-ended_ill : (names : List (List ℕ)) (b : Begun) (ts : List Token) → AtSeparator ts → NoForm b ts → ended_command names b ≡ fault_at b.line reasons.Shape
+ended_ill : (names : List (List ℕ)) (b : PartialCommand) (ts : List Token) → AtSeparator ts → NoForm b ts → ended_command names b ≡ fault_at b.line reasons.Shape
 ended_ill names b ts a none = go (ended_command names b) refl
   where
     go : (x : Result Command ScriptFault) → ended_command names b ≡ x → x ≡ fault_at b.line reasons.Shape
@@ -103,7 +103,7 @@ ended_ill names b ts a none = go (ended_command names b) refl
       | inr u ↦ absurd (none b.items b.redirection ts u.2.0 (takes_end b.is_ill b.awaits b.redirection b.items ts a u.1) u.2.1)
     ]
 
-ended_test : (names : List (List ℕ)) (b : Begun) (ts : List Token) → AtSeparator ts → NoTest b ts → ended_condition names b ≡ fault_at b.line reasons.Shape
+ended_test : (names : List (List ℕ)) (b : PartialCommand) (ts : List Token) → AtSeparator ts → NoTest b ts → ended_condition names b ≡ fault_at b.line reasons.Shape
 ended_test names b ts a none = go (ended_condition names b) refl
   where
     has_none : (c : Condition) → is_unfinished b ≡ false → no_redirection b.redirection (condition_form b.name b.items) ≡ Some c → ⊥
@@ -124,7 +124,7 @@ ended_test names b ts a none = go (ended_condition names b) refl
 abbrev shape_at : ℕ → Result Script ScriptFault
 shape_at l = fault_at l reasons.Shape
 
-command_ill : (ts : List Token) (b : Begun) (os : List Open) (s : Script) → NoForm b ts → parse_on (within b os s) ts ≡ shape_at b.line
+command_ill : (ts : List Token) (b : PartialCommand) (os : List Open) (s : Script) → NoForm b ts → parse_on (within b os s) ts ≡ shape_at b.line
 unfolding parse_on
 command_ill [] b os s none = rw (ended_ill (names_in os) b [] tt none) refl
 command_ill (semicolon l ∷ ts) b os s none = rw (ended_ill (names_in os) b (semicolon l ∷ ts) tt none) refl
@@ -136,7 +136,7 @@ command_ill (redirect k a ∷ ts) b os s none =
     let c = redirect_continues b.line b.name b.items b.is_ill b.awaits b.redirection k a ts in
     command_ill ts _ os s (λ items r rest d t form. none items r rest d (c.takes items r rest t) (rw c.name at form)) ∙ ap shape_at c.line
 
-test_ill : (ts : List Token) (b : Begun) (os : List Open) (s : Script) → NoTest b ts → parse_on (within_condition b os s) ts ≡ shape_at b.line
+test_ill : (ts : List Token) (b : PartialCommand) (os : List Open) (s : Script) → NoTest b ts → parse_on (within_condition b os s) ts ≡ shape_at b.line
 unfolding parse_on
 test_ill [] b os s none = rw (ended_test (names_in os) b [] tt none) refl
 test_ill (semicolon l ∷ ts) b os s none = rw (ended_test (names_in os) b (semicolon l ∷ ts) tt none) refl

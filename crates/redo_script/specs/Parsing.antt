@@ -12,7 +12,7 @@ use Rattle.redo_script.specs.Grammar.{Item, is_named, command_form, condition_fo
 use Rattle.redo_script.specs.Grammar.{knows, Opening, an_if, a_loop, nest_in}
 
 -- what was read of a command: its line, its name, its operands, and its redirection
-pub record Begun : Type 0 where
+pub record PartialCommand : Type 0 where
   pub line : ℕ
   pub name : Item
   pub items : List Item
@@ -25,9 +25,9 @@ pub record Begun : Type 0 where
 -- what is expected next
 pub data Phase : Type 0 where
   at_command : Phase
-  in_command : Begun → Phase
+  in_command : PartialCommand → Phase
   behind_if : (line : ℕ) → Phase
-  in_condition : Begun → Phase
+  in_condition : PartialCommand → Phase
   before_then : (line : ℕ) → Condition → Phase
   behind_fi : (line : ℕ) → Phase
   behind_for : (line : ℕ) → Phase
@@ -117,25 +117,26 @@ or_shape line false None = fault_at line reasons.Shape
 or_shape line false (Some x) = Ok x
 
 -- a command of which the name was read
-abbrev pub begun : ℕ → Item → Begun
-begun line name = record { line = line; name = name; items = []; redirection = None; is_ill = false; awaits = None }
+abbrev pub begin_command : ℕ → Item → PartialCommand
+begin_command line name =
+    record { line = line; name = name; items = []; redirection = None; is_ill = false; awaits = None }
 
 -- one more word of a command
-abbrev pub with_word : Begun → Item → Begun
+abbrev pub with_word : PartialCommand → Item → PartialCommand
 with_word b item = elim b.awaits [
   | Some appends ↦ record b { awaits = None; redirection = Some (record { appends = appends; word = item.word }) }
   | None ↦ elim b.redirection [ Some r ↦ record b { is_ill = true } | None ↦ record b { items = b.items ++ item ∷ [] } ]
 ]
 
 -- a redirection of a command
-abbrev pub with_redirect : Begun → Bool → Begun
+abbrev pub with_redirect : PartialCommand → Bool → PartialCommand
 with_redirect b appends = elim b.awaits [
   | Some a ↦ record b { is_ill = true }
   | None ↦ elim b.redirection [ Some r ↦ record b { is_ill = true } | None ↦ record b { awaits = Some appends } ]
 ]
 
 -- a command that can't end here
-abbrev pub is_unfinished : Begun → Bool
+abbrev pub is_unfinished : PartialCommand → Bool
 is_unfinished b = b.is_ill || elim b.awaits [ Some a ↦ true | None ↦ false ]
 
 -- what a command is, where each name in it is bound
@@ -144,7 +145,7 @@ if_known line true x = Ok x
 if_known line false x = fault_at line reasons.Unsupported
 
 -- the command that ends here, where these names are bound
-abbrev pub ended_command : List (List ℕ) → Begun → Result Command ScriptFault
+abbrev pub ended_command : List (List ℕ) → PartialCommand → Result Command ScriptFault
 ended_command names b =
     or_shape b.line (is_unfinished b) (command_form b.name b.items b.redirection)
     >>= if_known b.line (knows names b.items b.redirection)
@@ -155,19 +156,19 @@ no_redirection None c = c
 no_redirection (Some r) c = None
 
 -- the condition that ends here, where these names are bound
-abbrev pub ended_condition : List (List ℕ) → Begun → Result Condition ScriptFault
+abbrev pub ended_condition : List (List ℕ) → PartialCommand → Result Condition ScriptFault
 ended_condition names b =
     or_shape b.line (is_unfinished b) (no_redirection b.redirection (condition_form b.name b.items))
     >>= if_known b.line (knows names b.items b.redirection)
 
 -- one more statement
-abbrev pub with_command : Parser → Begun → Result Parser ScriptFault
+abbrev pub with_command : Parser → PartialCommand → Result Parser ScriptFault
 with_command p b = do
   c ← ended_command (names_in p.opens) b
   Ok (record p { phase = at_command; so_far = with_last p.so_far (simple b.line c finish) })
 
 -- then must come
-abbrev pub with_condition : Parser → Begun → Result Parser ScriptFault
+abbrev pub with_condition : Parser → PartialCommand → Result Parser ScriptFault
 with_condition p b = do
   c ← ended_condition (names_in p.opens) b
   Ok (record p { phase = before_then b.line c })
@@ -224,7 +225,7 @@ first_word p line item =
     else if is_named (codes "for") item then for_opened p line
     else if is_named (codes "do") item then fault_at line reasons.Shape
     else if is_named (codes "done") item then at_done p line p.opens
-    else (name_fault line item >>= λ none. Ok (record p { phase = in_command (begun line item) }))
+    else (name_fault line item >>= λ none. Ok (record p { phase = in_command (begin_command line item) }))
 
 -- a word where none may stand but those of a loop are told apart: these are Shape in their own line
 abbrev pub misplaced : {A : Type 0} → (line at : ℕ) → Item → Result A ScriptFault
@@ -235,7 +236,7 @@ misplaced line at item =
 abbrev pub condition_word : Parser → ℕ → ℕ → Item → Result Parser ScriptFault
 condition_word p line at item =
     if is_one_of (codes "test" ∷ codes "true" ∷ codes "false" ∷ []) item
-    then Ok (record p { phase = in_condition (begun line item) })
+    then Ok (record p { phase = in_condition (begin_command line item) })
     else misplaced line at item
 
 -- a word where then must stand

@@ -9,13 +9,12 @@
 //! - `fault`: what can be wrong.
 //! - `reader`: the passes over a text, and `parse`.
 //! - `bytes`, `spans`, `token`, `lexer`: from bytes to tokens; `lexer::runs`: many bytes at once.
-//! - `item`, `name`, `number`, `form`, `begun`, `open`, `parser`: from tokens to statements.
+//! - `item`, `name`, `number`, `form`, `partial`, `open`, `parser`: from tokens to statements.
 //! - `laws`: what ties the grammar to the functions that say which fault a text has. Each is a
 //!   function with nothing to run, whose contract is the law.
 #![tactic(auto)]
 
 mod ast;
-mod begun;
 mod bytes;
 mod fault;
 mod form;
@@ -26,6 +25,7 @@ mod name;
 mod number;
 mod open;
 mod parser;
+mod partial;
 mod reader;
 mod spans;
 #[cfg(test)]

@@ -14,14 +14,14 @@ ghost use Rattle.redo_script.specs.Parsing.{unless_open, end_by_phase, at_first,
 ghost use Rattle.redo_script.specs.Grammar.{name_of};
 ghost use Rattle.redo_script.specs.View.{condition_of, script_of, words_of};
 ghost use Rattle.redo_script.specs.inside.Lexer.{token_of};
-ghost use Rattle.redo_script.specs.inside.Parser.{item_of, begun_of, open_of, parser_of};
+ghost use Rattle.redo_script.specs.inside.Parser.{item_of, partial_of, open_of, parser_of};
 
 use crate::ast::{Condition, Script, Stmt, Word};
-use crate::begun::Begun;
 use crate::fault::{Reason, ScriptFault};
 use crate::item::Item;
 use crate::name::CommandName;
 use crate::open::{Open, OpenIf, OpenLoop, binds, count_ifs, count_loops};
+use crate::partial::PartialCommand;
 use crate::token::Token;
 use redo_bytes::Bytes;
 use std::alloc::Global;
@@ -53,7 +53,7 @@ pub struct Parser<'a> {
     alloc: Global,
     phase: Phase,
     /// The command or condition that is being read, where one is.
-    begun: Begun<'a>,
+    partial: PartialCommand<'a>,
     /// The condition that was read last.
     condition: Condition,
     /// The name and the words of the loop that was begun last.
@@ -243,7 +243,7 @@ impl<'a> Parser<'a> {
     {
         match CommandName::of(&item) {
             Some(name) if name.is_condition() => {
-                self.begun.begin(line, name);
+                self.partial.begin(line, name);
                 self.phase = Phase::InCondition;
                 Ok(())
             }
@@ -351,7 +351,7 @@ impl<'a> Parser<'a> {
             }
             return Parser::fault(line, Reason::UnknownCommand);
         };
-        self.begun.begin(line, name);
+        self.partial.begin(line, name);
         self.phase = Phase::InCommand;
         Ok(())
     }
@@ -363,7 +363,7 @@ impl<'a> Parser<'a> {
     {
         match self.phase {
             Phase::AtCommand => self.first_word(line, item),
-            Phase::InCommand | Phase::InCondition => self.begun.push_word(self.alloc, item),
+            Phase::InCommand | Phase::InCondition => self.partial.push_word(self.alloc, item),
             Phase::BehindIf(if_line) => self.condition_word(if_line, line, item),
             Phase::BeforeThen(if_line) => self.then_word(if_line, line, item),
             Phase::BehindFi(fi_line) => Parser::misplaced(fi_line, line, &item),
@@ -385,7 +385,7 @@ impl<'a> Parser<'a> {
                 Parser::fault(line, Reason::Shape)
             }
             Phase::InCommand | Phase::InCondition => {
-                self.begun.push_redirect(appends);
+                self.partial.push_redirect(appends);
                 Ok(())
             }
             Phase::BehindName(for_line) => Parser::fault(for_line, Reason::Shape),
@@ -399,10 +399,10 @@ impl<'a> Parser<'a> {
     /// Ends a command that stands by itself.
     #[tactic(auto, using(crate::proofs::StatementLemmas::simple_push))]
     fn end_command(&mut self) -> Result<(), ScriptFault>
-        ensures { Leaves parser_of self.new result (with_command (parser_of self.old) (begun_of self.old.begun)) }
+        ensures { Leaves parser_of self.new result (with_command (parser_of self.old) (partial_of self.old.partial)) }
     {
-        let line = self.begun.line();
-        let command = self.begun.command(self.alloc, &self.opens)?;
+        let line = self.partial.line();
+        let command = self.partial.command(self.alloc, &self.opens)?;
         self.so_far.push(Stmt::Simple(line, command))?;
         self.phase = Phase::AtCommand;
         Ok(())
@@ -410,10 +410,10 @@ impl<'a> Parser<'a> {
 
     /// Ends the command behind `if`.
     fn end_condition(&mut self) -> Result<(), ScriptFault>
-        ensures { Leaves parser_of self.new result (with_condition (parser_of self.old) (begun_of self.old.begun)) }
+        ensures { Leaves parser_of self.new result (with_condition (parser_of self.old) (partial_of self.old.partial)) }
     {
-        let line = self.begun.line();
-        self.condition = self.begun.condition(self.alloc, &self.opens)?;
+        let line = self.partial.line();
+        self.condition = self.partial.condition(self.alloc, &self.opens)?;
         self.phase = Phase::BeforeThen(line);
         Ok(())
     }
@@ -474,7 +474,7 @@ impl<'a> Parser<'a> {
         Parser {
             alloc,
             phase: Phase::AtCommand,
-            begun: Begun::new(alloc),
+            partial: PartialCommand::new(alloc),
             condition: Condition::True,
             name: Bytes::empty(),
             words: Vec::new(alloc),
@@ -511,7 +511,7 @@ impl<'a> Parser<'a> {
                 self.script()
             }
             Phase::InCondition => {
-                let line = self.begun.line();
+                let line = self.partial.line();
                 self.end_condition()?;
                 Parser::fault(line, Reason::IfShape)
             }

@@ -16,8 +16,8 @@ use Rattle.redo_record.specs.Entries.{is_entered}
 use Rattle.redo_step.specs.Setting.{Setting}
 use Rattle.redo_step.specs.Runs.{State, End, faulted, goes, ◌>>=◌}
 use Rattle.redo_step.specs.Words.{text_of, texts_of, path_of, paths_of}
-use Rattle.redo_step.specs.Reading.{answered_file, file_at, is_declared, file_of, contents_of, test_texts, holds}
-use Rattle.redo_step.specs.Reading.{tested}
+use Rattle.redo_step.specs.Files.{answered_file, file_at, is_declared, file_of, contents_of, test_texts, holds}
+use Rattle.redo_step.specs.Files.{tested}
 use Rattle.redo_step.specs.Outputs.{writer_texts, bytes_of, goal_at, goal_of, put, written}
 use Rattle.redo_step.specs.Statements.{condition_result}
 use Rattle.redo_step.specs.Declaring.{lacking, any_failed, waited, obstacle}

@@ -10,7 +10,7 @@ use Rattle.redo_step.specs.Runs.{State, End, exited, faulted, stopped, Run, goes
 use Rattle.redo_step.specs.Words.{texts_of, paths_of}
 use Rattle.redo_step.specs.Declaring.{declaring, lacks, lacking, any_failed, waited, changed, free_paths, created}
 use Rattle.redo_step.specs.Outputs.{written}
-use Rattle.redo_step.specs.Reading.{tested}
+use Rattle.redo_step.specs.Files.{tested}
 use Rattle.redo_step.specs.Statements.{with_status, with_state, command_run, condition_result, then_run, chosen}
 use Rattle.redo_step.specs.Statements.{turns, looped, run}
 use Rattle.redo_record.specs.Answers.{Ask}

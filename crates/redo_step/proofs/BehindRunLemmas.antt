@@ -13,7 +13,7 @@ use Rattle.redo_step.specs.Runs.{State, End, faulted, Run, goes, ends, end_state
 use Rattle.redo_step.specs.Words.{texts_of, paths_of}
 use Rattle.redo_step.specs.Declaring.{free_paths, declaring, lacking, any_failed, waited, changed, created}
 use Rattle.redo_step.specs.Outputs.{written}
-use Rattle.redo_step.specs.Reading.{tested}
+use Rattle.redo_step.specs.Files.{tested}
 use Rattle.redo_step.specs.Statements.{with_status, with_state, command_run, condition_result, then_run, chosen}
 use Rattle.redo_step.specs.Statements.{turns, looped, run}
 use Rattle.redo_step.specs.declared.place.Branch.{Branch}

@@ -21,7 +21,7 @@ use Rattle.redo_step.specs.Words.{texts_of, paths_of}
 use Rattle.redo_step.specs.Declaring.{declaring, lacking, any_failed, waited, changed, obstacle, free_of, free_paths}
 use Rattle.redo_step.specs.Declaring.{created}
 use Rattle.redo_step.specs.Outputs.{written}
-use Rattle.redo_step.specs.Reading.{tested}
+use Rattle.redo_step.specs.Files.{tested}
 use Rattle.redo_step.specs.Statements.{with_status, with_state, command_run, condition_result, then_run, chosen}
 use Rattle.redo_step.specs.Statements.{turns, looped, run}
 use Rattle.redo_step.specs.Agreeing.{held_in, IsFree, IsMet, AllMet, status_of}

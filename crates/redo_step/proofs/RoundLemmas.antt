@@ -10,7 +10,7 @@ use Rattle.redo_step.specs.declared.sink.Sink.{Sink}
 use Rattle.redo_step.specs.declared.halt.Halt.{Halt}
 use Rattle.redo_step.specs.Setting.{Setting}
 use Rattle.redo_step.specs.Runs.{End, ◌>>=◌, or_else, exited}
-use Rattle.redo_step.specs.Reading.{file_of, contents_of}
+use Rattle.redo_step.specs.Files.{file_of, contents_of}
 use Rattle.redo_step.specs.Formats.{takes_operands, once, again, formatted}
 use Rattle.redo_step.specs.Outputs.{joined}
 use Rattle.redo_record.specs.Answers.{Ask}

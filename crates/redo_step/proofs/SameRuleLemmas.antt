@@ -10,7 +10,7 @@ use Rattle.redo_path.specs.Names.{parent_of}
 use Rattle.redo_tree.specs.Tree as tree_words
 use Rattle.redo_tree.specs.Tree.{Tree, Node, node_at}
 use Rattle.redo_which.specs.Candidates.{Place, candidates_of}
-use Rattle.redo_which.specs.Rule.{Outcome as Found, Source, Directory, NoDirectory, NoRule, Rule, Arguments}
+use Rattle.redo_which.specs.Rule.{Found, Source, Directory, NoDirectory, NoRule, Rule, Arguments}
 use Rattle.redo_which.specs.Rule.{arguments_of}
 use Rattle.redo_which.specs.Rule.{chosen_among, chosen_of, found_of, is_file, is_rule, missing_among, missing_of}
 use Rattle.redo_record.specs.Paths.{IsAmong, Path}

@@ -16,8 +16,8 @@ use Rattle.redo_step.specs.Value.{value_of, value_bound}
 use Rattle.redo_step.specs.Setting.{Setting}
 use Rattle.redo_step.specs.Runs.{State, End, exited, faulted, ◌>>=◌, or_else}
 use Rattle.redo_step.specs.Words.{text_of, texts_of, path_of, paths_of}
-use Rattle.redo_step.specs.Reading.{answered_file, file_at, is_declared, file_of, contents_of, test_texts, holds}
-use Rattle.redo_step.specs.Reading.{tested}
+use Rattle.redo_step.specs.Files.{answered_file, file_at, is_declared, file_of, contents_of, test_texts, holds}
+use Rattle.redo_step.specs.Files.{tested}
 use Rattle.redo_step.specs.Formats.{print_of}
 use Rattle.redo_step.specs.Outputs.{is_third, goal_at, writer_texts, bytes_of, goal_of, bytes_or_none, limited, put}
 use Rattle.redo_step.specs.Outputs.{written}

@@ -12,8 +12,8 @@ use Rattle.redo_step.specs.Setting.{Setting}
 use Rattle.redo_step.specs.Runs.{State, End, exited, faulted, goes, ends, ◌>>=◌, or_else}
 use Rattle.redo_step.specs.Words.{path_of}
 use Rattle.redo_step.specs.Declaring.{declaring, lacks, is_in, lacking, any_failed, waited, changed}
-use Rattle.redo_step.specs.Reading.{answered_file, file_at, is_declared, file_of, contents_of, test_texts, holds}
-use Rattle.redo_step.specs.Reading.{tested}
+use Rattle.redo_step.specs.Files.{answered_file, file_at, is_declared, file_of, contents_of, test_texts, holds}
+use Rattle.redo_step.specs.Files.{tested}
 use Rattle.redo_step.specs.Outputs.{writer_texts, bytes_of, goal_of, put, written}
 use Rattle.redo_step.specs.Statements.{condition_result}
 use Rattle.redo_record.specs.Answers.{Ask, is_failure}

@@ -10,7 +10,7 @@ use Rattle.redo_step.specs.Runs.{State, End, Run, goes, ends, ◌>>=◌}
 use Rattle.redo_step.specs.Words.{texts_of, paths_of}
 use Rattle.redo_step.specs.Declaring.{declaring, free_paths, created, in_any_case}
 use Rattle.redo_step.specs.Outputs.{limited, goal_of, bytes_of, writer_texts, bytes_or_none, put, written}
-use Rattle.redo_step.specs.Reading.{tested}
+use Rattle.redo_step.specs.Files.{tested}
 use Rattle.redo_step.specs.Statements.{with_status, with_state, command_run, condition_result, then_run, run}
 use Rattle.redo_record.specs.Answers.{Ask}
 use Rattle.redo_step.specs.Reach.{Keeps, Reaches}

@@ -3,7 +3,7 @@ pub mod Value
 pub mod Setting
 pub mod Runs
 pub mod Words
-pub mod Reading
+pub mod Files
 pub mod Formats
 pub mod Outputs
 pub mod Declaring

@@ -9,7 +9,7 @@ use Rattle.redo_record.specs.Answers.{Ask}
 use Rattle.redo_record.specs.declared.deps.Dep.{Dep}
 use Rattle.redo_step.specs.Runs.{End, State, faulted, or_else, ◌>>=◌}
 use Rattle.redo_step.specs.Setting.{Setting}
-use Rattle.redo_step.specs.Reading.{contents_of}
+use Rattle.redo_step.specs.Files.{contents_of}
 use Rattle.redo_step.specs.Words.{path_of, text_of, texts_of}
 use Rattle.redo_step.specs.Formats.{print_of}
 

@@ -5,7 +5,7 @@ use Rattle.redo_script.specs.declared.ast.Parameter.TheVariants.{One, Two, Three
 use Rattle.redo_tree.specs.Tree as tree_words
 use Rattle.redo_tree.specs.Tree.{Tree, Node, node_at, file_at}
 pub use Rattle.redo_which.specs.Rule.{is_rule}
-use Rattle.redo_which.specs.Rule.{Outcome as Found, Arguments, found_of}
+use Rattle.redo_which.specs.Rule.{Found, Arguments, found_of}
 use Rattle.redo_record.specs.Paths.{Path}
 use Rattle.redo_step.specs.Path.{resolved}
 use Rattle.redo_step.specs.declared.scope.Binding.{Binding}

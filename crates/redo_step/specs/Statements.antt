@@ -9,7 +9,7 @@ use Rattle.redo_step.specs.Runs.{End, Run, State, ends, exited, faulted, goes, s
 use Rattle.redo_step.specs.Setting.{Setting, with_value}
 use Rattle.redo_step.specs.Declaring.{changed, created, free_operands, in_any_case}
 use Rattle.redo_step.specs.Words.{operands_of, texts_of}
-use Rattle.redo_step.specs.Reading.{tested}
+use Rattle.redo_step.specs.Files.{tested}
 use Rattle.redo_step.specs.Outputs.{written}
 
 -- a test as a command: where it doesn't hold it ends the script with status 1

@@ -5,7 +5,7 @@ ghost use Rattle.redo_script.specs.Syntax.{change};
 ghost use Rattle.redo_script.specs.View.{words_of, test_of, command_of, condition_of};
 ghost use Rattle.redo_step.specs.Words.{operands_of};
 ghost use Rattle.redo_step.specs.Declaring.{free_operands, changed, created, in_any_case};
-ghost use Rattle.redo_step.specs.Reading.{tested_in};
+ghost use Rattle.redo_step.specs.Files.{tested_in};
 ghost use Rattle.redo_step.specs.Statements.{command_run, condition_result};
 ghost use Rattle.redo_step.specs.inside.Kept.{HasOperands};
 ghost use Rattle.redo_step.specs.inside.Machine.{state_of, kept_by, given_by, run_by, IsMeant};

@@ -8,13 +8,14 @@
 //! - What a script is given: `limits`, `parsed` and `refusal`, `answers`.
 //! - A job and how it goes on: `job`, `machine`, `place`, `halt`.
 //! - Commands, one idea each: `scene` (what they see), `scope` (the names that loops bind), `text`, `value` and
-//!   `words`, `reading`, `printf`, `sink` and `writing`, `declaring`, `commands`.
+//!   `words`, `files`, `printf`, `sink` and `writing`, `declaring`, `commands`.
 //! - Laws over what scripts mean: `laws`.
 #![tactic(auto)]
 
 mod answers;
 mod commands;
 mod declaring;
+mod files;
 mod halt;
 mod job;
 mod laws;
@@ -23,7 +24,6 @@ mod machine;
 mod parsed;
 mod place;
 mod printf;
-mod reading;
 mod refusal;
 mod scene;
 mod scope;

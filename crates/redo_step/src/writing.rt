@@ -3,7 +3,7 @@
 ghost use Rattle.std.specs.Prelude.{◌≡◌, ◌++◌, ◌∷◌, [], OnOk, IfErr, OnSome, None, Some, option_map};
 ghost use Rattle.redo_script.specs.View.{writer_of, redirection_of};
 ghost use Rattle.redo_step.specs.Outputs.{joined, writer_texts, bytes_of, goal_of, written};
-ghost use Rattle.redo_step.specs.Reading.{contents_of};
+ghost use Rattle.redo_step.specs.Files.{contents_of};
 ghost use Rattle.redo_step.specs.Statements.{with_state};
 ghost use Rattle.redo_step.specs.inside.Machine.{state_of, end_by, kept_by, given_by, run_by, IsMeant};
 ghost use Rattle.redo_step.specs.inside.Scene.{scene_setting};

@@ -16,8 +16,8 @@ use Rattle.redo_book.specs.declared.book.BookEntry.{BookEntry}
 use Rattle.redo_book.specs.declared.book.BookEntry.TheVariants.{Change, Create, Always}
 use Rattle.redo_book.specs.declared.faults.BookFault.{BookFault}
 use Rattle.redo_book.specs.declared.faults.BookFault.TheVariants.{Line as LineAt, Memory}
-use Rattle.redo_book.specs.declared.begun.Begun.{Begun}
-use Rattle.redo_book.specs.declared.begun.Last.{Last}
+use Rattle.redo_book.specs.declared.made.Made.{Made as MadeHere}
+use Rattle.redo_book.specs.declared.made.Last.{Last}
 use Rattle.redo_book.specs.declared.lines.Line.{Line}
 use Rattle.redo_book.specs.declared.lines.Line.TheVariants.{Target, Entry}
 use Rattle.redo_book.specs.Book.{Record, is_newline, record_of, same_entry, text_of}
@@ -121,11 +121,11 @@ Keeps l entries = (l.deps ≡ deps_of entries) × (l.always ≡ list_any (same_e
 
 -- and these are the entries of the record that more may follow
 abbrev pub IsKept : Last → Type 0
-IsKept l = Keeps l l.begun.entries.items
+IsKept l = Keeps l l.book_record.entries.items
 
 -- what the code keeps of what the lines have made
-abbrev pub made_of : Begun → Made
-made_of b = record { done = map record_of b.done.items; last = option_map (λ l. record_of l.begun) b.last }
+abbrev pub made_of : MadeHere → Made
+made_of b = record { done = map record_of b.done.items; last = option_map (λ l. record_of l.book_record) b.last }
 
 -- a text begins with this line, and goes on behind its newline
 pub record IsCut (text line rest : List ℕ) : Type 0 where

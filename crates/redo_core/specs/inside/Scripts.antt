@@ -1,7 +1,7 @@
 -- The script of a work, read or not.
 use Rattle.std.specs.Prelude.{◌≡◌, ℕ, List, []}
 use Rattle.redo_record.specs.declared.outcome.Outcome.{Outcome}
-use Rattle.redo_which.specs.Rule.{Outcome as Found}
+use Rattle.redo_which.specs.Rule.{Found}
 use Rattle.redo_step.specs.JobView.{JobView}
 use Rattle.redo_record.specs.declared.deps.Dep.{Dep}
 use Rattle.redo_core.specs.inside.Works.{IsUnreadWork, IsWorkWith, all_asked, found_as, job_deps, known_in}

@@ -6,7 +6,7 @@ use Rattle.redo_script.specs.Texts.{script_in}
 use Rattle.redo_tree.specs.Tree.{file_at}
 use Rattle.redo_which.specs.declared.Rule.{Rule as FoundRule}
 use Rattle.redo_which.specs.Views.{arguments_view}
-use Rattle.redo_which.specs.Rule.{Rule, Outcome as Found, found_of}
+use Rattle.redo_which.specs.Rule.{Rule, Found, found_of}
 use Rattle.redo_record.specs.Entries.{with_all}
 use Rattle.redo_record.specs.declared.deps.Dep.{Dep}
 use Rattle.redo_record.specs.declared.outcome.Outcome.{Outcome}
@@ -34,6 +34,7 @@ abbrev pub more_known : Option (Box (List (List ℕ × Shown FactView)) Global) 
 more_known None = []
 more_known (Some more) = entries_known more.value
 
+-- the outcomes that a job knows
 abbrev pub known_in : Facts → List (List ℕ × Outcome)
 known_in facts = more_known facts.more ++ few_known facts.few.items
 

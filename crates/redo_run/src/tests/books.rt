@@ -2,7 +2,7 @@
 
 use super::workers::{ENDLESS, Files, paths_of, tree_of};
 use super::{GOOD, HELLO, HELLO_REPORT, options, run};
-use crate::{NoGate, RunFault, RunIoFault, build_many, build_one};
+use crate::{NoObserver, RunFault, RunIoFault, build_many, build_one};
 use redo_report::report_text;
 use redo_step::Limits;
 use redo_tree::Tree;
@@ -78,7 +78,7 @@ fn workers_tell_the_first_line_at_fault(rt: HostRuntime) -> Result<(), Fail> {
     for workers in [1, 8] {
         for (rule, book, line) in REFUSED {
             let tree = tree_with(alloc, book)?;
-            let found = build_many(&rt, alloc, tree, &request, limits, workers, &NoGate);
+            let found = build_many(&rt, alloc, tree, &request, limits, workers, &NoObserver);
             assert!(rt; found.err() == Some(RunFault::Book(line)), "{rule}");
         }
     }
@@ -119,7 +119,7 @@ fn a_refused_book_goes_before_too_many_targets(rt: HostRuntime) -> Result<(), Fa
         assert!(rt; found.err() == Some(fault), "one thread");
         for workers in [1, 8] {
             let tree = tree_of(alloc, files)?;
-            let found = build_many(&rt, alloc, tree, &request, limits, workers, &NoGate);
+            let found = build_many(&rt, alloc, tree, &request, limits, workers, &NoObserver);
             assert!(rt; found.err() == Some(fault), "{workers} workers");
         }
     }

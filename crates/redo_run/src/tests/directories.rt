@@ -4,7 +4,7 @@
 ghost use Rattle.std.specs.Prelude.{◌≤◌};
 
 use super::options;
-use crate::{Cause, Exit, NoGate, RunDirFault, run_dir, whichdo_dir};
+use crate::{Cause, Exit, NoObserver, RunDirFault, run_dir, whichdo_dir};
 use redo_bundle::Plain;
 use redo_path::{Path, resolve};
 use std::alloc::Global;
@@ -100,7 +100,7 @@ where
         dir.as_str(),
         &mut writer,
         &options,
-        &NoGate,
+        &NoObserver,
         &mut cause,
     );
     let Plain { stream, broken: _ } = writer;

@@ -3,7 +3,7 @@
 ghost use Rattle.std.specs.Prelude.{◌≡◌, None, false};
 
 use super::{GOOD, HELLO, HELLO_REPORT, options};
-use crate::{Cause, NoGate, RunIoFault, run_bundle};
+use crate::{Cause, NoObserver, RunIoFault, run_bundle};
 use redo_bundle::{Broken, BundleFault, ByteIn, ByteOut, Plain};
 use std::alloc::Global;
 use std::test::Fail;
@@ -116,7 +116,7 @@ fn a_reader_may_fail_at_any_call(rt: HostRuntime) -> Result<(), Fail> {
             &mut reader,
             &mut writer,
             &options,
-            &NoGate,
+            &NoObserver,
             &mut Cause::new(alloc),
             &mut None,
         );
@@ -146,7 +146,7 @@ fn a_writer_may_fail_at_any_call(rt: HostRuntime) -> Result<(), Fail> {
                 &mut reader,
                 &mut writer,
                 &options,
-                &NoGate,
+                &NoObserver,
                 &mut Cause::new(alloc),
                 &mut None,
             );
@@ -176,7 +176,7 @@ fn a_refusal_of_memory_leaves_nothing(rt: HostRuntime) -> Result<(), Fail> {
         &mut reader,
         &mut writer,
         &options,
-        &NoGate,
+        &NoObserver,
         &mut Cause::new(alloc),
         &mut None,
     );

@@ -3,7 +3,7 @@
 ghost use Rattle.std.specs.Prelude.{◌≤◌};
 
 use super::workers::{Files, paths_of};
-use crate::{NoGate, build_many};
+use crate::{NoObserver, build_many};
 use redo_path::{Path, resolve};
 use redo_report::report_text;
 use redo_step::Limits;
@@ -292,7 +292,7 @@ fn run_over<R: Threads + Wait + Sync>(
     let limits = Limits::new(100, 100).ok_or("no limits")?;
     let request = paths_of(alloc, &[word])?;
     let tree = tree_of_files(alloc, standing)?;
-    let (report, _ledger) = build_many(rt, alloc, tree, &request, limits, workers, &NoGate)?;
+    let (report, _ledger) = build_many(rt, alloc, tree, &request, limits, workers, &NoObserver)?;
     let text = report_text(alloc, &report, true)?;
     for (path, content) in report.files {
         standing.insert(path, content)?;

@@ -4,7 +4,7 @@ ghost use Rattle.std.specs.Prelude.{◌≤◌};
 
 use super::histories::{LONGER, Standing, tree_of_files, write_files};
 use super::workers::{Files, paths_of};
-use crate::{NoGate, build_many};
+use crate::{NoObserver, build_many};
 use redo_path::{Path, resolve};
 use redo_report::{Report, report_text};
 use redo_step::Limits;
@@ -54,7 +54,7 @@ fn built<R: Threads + Wait + Sync>(
     let limits = Limits::new(100, 100).ok_or("no limits")?;
     let request = paths_of(alloc, &[b"out"])?;
     let tree = tree_of_files(alloc, standing)?;
-    let (report, _ledger) = build_many(rt, alloc, tree, &request, limits, workers, &NoGate)?;
+    let (report, _ledger) = build_many(rt, alloc, tree, &request, limits, workers, &NoObserver)?;
     Ok(report)
 }
 

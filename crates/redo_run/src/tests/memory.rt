@@ -6,7 +6,7 @@ use super::books::GENERATED;
 use super::workers::{
     DIAMOND, DIAMOND_REPORT, ENDLESS, Files, RING, RING_REPORT, paths_of, tree_of,
 };
-use crate::{NoGate, RunFault, build_many, build_one};
+use crate::{NoObserver, RunFault, build_many, build_one};
 use redo_report::{Report, report_text};
 use redo_step::Limits;
 use std::alloc::Global;
@@ -59,7 +59,7 @@ fn four_workers_answer_as_ever_or_are_out_of_memory(rt: HostRuntime) -> Result<(
     for (rule, files, words, expected) in BUILDS {
         let request = paths_of(alloc, words)?;
         let tree = tree_of(alloc, files)?;
-        let found = build_many(&rt, alloc, tree, &request, limits, 4, &NoGate);
+        let found = build_many(&rt, alloc, tree, &request, limits, 4, &NoObserver);
         let report = found.map(|(report, _ledger)| report);
         assert!(rt; is_answer(alloc, report, expected)?, "{rule}");
     }

@@ -3,7 +3,7 @@
 ghost use Rattle.std.specs.Prelude.{◌≤◌};
 
 use super::{GOOD, options, run_through};
-use crate::{Gate, NoGate, RunFault, build_many};
+use crate::{NoObserver, Observer, RunFault, build_many};
 use redo_path::{Path, resolve};
 use redo_report::report_text;
 use redo_step::Limits;
@@ -109,21 +109,21 @@ pub(crate) fn paths_of(alloc: Global, words: &[&[u8]]) -> Result<Vec<Path>, Fail
 }
 
 /// The text of what so many workers build, or why they don't.
-fn built_by<R: Threads + Wait + Sync, G: Gate>(
+fn built_by<R: Threads + Wait + Sync, O: Observer>(
     rt: &R,
     alloc: Global,
     tree: Tree,
     words: &[&[u8]],
     targets: u32,
     workers: usize,
-    gate: &G,
+    observer: &O,
 ) -> Result<Result<Vec<u8>, RunFault>, Fail>
     requires some { 1 ≤ workers }
     requires few { workers ≤ 64 }
 {
     let limits = Limits::new(targets, 1_000_000).ok_or("no limits")?;
     let request = paths_of(alloc, words)?;
-    match build_many(rt, alloc, tree, &request, limits, workers, gate) {
+    match build_many(rt, alloc, tree, &request, limits, workers, observer) {
         Ok((report, _ledger)) => Ok(Ok(report_text(alloc, &report, true)?)),
         Err(fault) => Ok(Err(fault)),
     }
@@ -134,7 +134,7 @@ fn builds_a_diamond(rt: HostRuntime) -> Result<(), Fail> {
     let alloc = rt.alloc();
     for workers in [1, 8] {
         let tree = tree_of(alloc, DIAMOND)?;
-        let text = built_by(&rt, alloc, tree, &[b"top"], 100, workers, &NoGate)??;
+        let text = built_by(&rt, alloc, tree, &[b"top"], 100, workers, &NoObserver)??;
         assert_eq!(rt; text.as_slice(), DIAMOND_REPORT, "{workers} workers");
     }
     Ok(())
@@ -145,7 +145,7 @@ fn refuses_too_many_targets(rt: HostRuntime) -> Result<(), Fail> {
     let alloc = rt.alloc();
     for workers in [1, 8] {
         let tree = tree_of(alloc, ENDLESS)?;
-        let answer = built_by(&rt, alloc, tree, &[b"a"], 100, workers, &NoGate)?;
+        let answer = built_by(&rt, alloc, tree, &[b"a"], 100, workers, &NoObserver)?;
         assert!(rt;
             answer.err() == Some(RunFault::TooMany),
             "{workers} workers"
@@ -159,7 +159,7 @@ fn finds_cycles(rt: HostRuntime) -> Result<(), Fail> {
     let alloc = rt.alloc();
     for (rule, files, words, report) in CYCLES {
         let tree = tree_of(alloc, files)?;
-        let text = built_by(&rt, alloc, tree, words, 100, 8, &NoGate)??;
+        let text = built_by(&rt, alloc, tree, words, 100, 8, &NoObserver)??;
         assert_eq!(rt; text.as_slice(), report, "{rule}");
     }
     Ok(())
@@ -183,13 +183,13 @@ fn chain(alloc: Global) -> Result<Tree, Fail> {
 #[test]
 fn holds_the_limit_of_targets(rt: HostRuntime) -> Result<(), Fail> {
     let alloc = rt.alloc();
-    let text = built_by(&rt, alloc, chain(alloc)?, &[b"t101"], 100, 8, &NoGate)??;
+    let text = built_by(&rt, alloc, chain(alloc)?, &[b"t101"], 100, 8, &NoObserver)??;
     let lines = text.as_slice().split(|byte| *byte == b'\n');
     let without_file = lines
         .filter(|line| line.starts_with(b"built none "))
         .count();
     assert_eq!(rt; without_file, 99);
-    let answer = built_by(&rt, alloc, chain(alloc)?, &[b"t101"], 99, 8, &NoGate)?;
+    let answer = built_by(&rt, alloc, chain(alloc)?, &[b"t101"], 99, 8, &NoObserver)?;
     assert!(rt; answer.err() == Some(RunFault::TooMany));
     Ok(())
 }
@@ -202,8 +202,8 @@ struct Pair {
     in_vain: AtomicU64,
 }
 
-impl Gate for Pair {
-    fn enter(&self, target: &Path, _turn: u64) {
+impl Observer for Pair {
+    fn taken_up(&self, target: &Path, _turn: u64) {
         if target.text() == b"top".as_slice() {
             return;
         }
@@ -276,8 +276,8 @@ struct Crowd {
     too_many: AtomicU64,
 }
 
-impl Gate for Crowd {
-    fn enter(&self, _target: &Path, _turn: u64) {
+impl Observer for Crowd {
+    fn taken_up(&self, _target: &Path, _turn: u64) {
         self.entered.fetch_add(1, Ordering::SeqCst);
         self.inside.fetch_add(1, Ordering::SeqCst);
         for _ in 0..10_000u32 {
@@ -324,8 +324,8 @@ struct Notes {
 
 const DIAMOND_TARGETS: [&[u8]; 4] = [b"top", b"left", b"right", b"base"];
 
-impl Gate for Notes {
-    fn enter(&self, target: &Path, turn: u64) {
+impl Observer for Notes {
+    fn taken_up(&self, target: &Path, turn: u64) {
         let place = DIAMOND_TARGETS
             .iter()
             .position(|name| target.text() == *name);
@@ -412,11 +412,11 @@ const SOAKED: &[&[u8]] = &[
 #[test]
 fn one_report_in_every_order(rt: HostRuntime) -> Result<(), Fail> {
     let alloc = rt.alloc();
-    let first = built_by(&rt, alloc, soaked_tree(alloc)?, SOAKED, 200, 1, &NoGate)??;
+    let first = built_by(&rt, alloc, soaked_tree(alloc)?, SOAKED, 200, 1, &NoObserver)??;
     for (workers, rounds) in [(1, 10), (2, 20), (8, 20), (64, 3u32)] {
         for _ in 0..rounds {
             let tree = soaked_tree(alloc)?;
-            let text = built_by(&rt, alloc, tree, SOAKED, 200, workers, &NoGate)??;
+            let text = built_by(&rt, alloc, tree, SOAKED, 200, workers, &NoObserver)??;
             assert!(rt; text == first, "{workers} workers");
         }
     }

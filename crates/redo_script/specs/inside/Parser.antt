@@ -8,7 +8,7 @@ use Rattle.redo_script.specs.declared.item.Item.{Item as ItemTree}
 use Rattle.redo_script.specs.declared.item.Item.TheVariants as items
 use Rattle.redo_script.specs.declared.name.CommandName.{CommandName}
 use Rattle.redo_script.specs.declared.name.CommandName.TheVariants as names
-use Rattle.redo_script.specs.declared.begun.Begun.{Begun as BegunTree}
+use Rattle.redo_script.specs.declared.partial.PartialCommand.{PartialCommand as PartialTree}
 use Rattle.redo_script.specs.declared.ast.Condition.{Condition as ConditionTree}
 use Rattle.redo_script.specs.declared.parser.Phase.{Phase as PhaseTree}
 use Rattle.redo_script.specs.declared.parser.Phase.TheVariants as phases
@@ -17,7 +17,7 @@ use Rattle.redo_script.specs.declared.open.OpenLoop.{OpenLoop}
 use Rattle.redo_script.specs.declared.open.Open.{Open as OpenTree}
 use Rattle.redo_script.specs.declared.open.Open.TheVariants as trees
 use Rattle.redo_script.specs.declared.parser.Parser.{Parser as ParserTree}
-use Rattle.redo_script.specs.Parsing.{Begun, Open, open_if, open_loop, Parser}
+use Rattle.redo_script.specs.Parsing.{PartialCommand, Open, open_if, open_loop, Parser}
 use Rattle.redo_script.specs.Parsing.{Phase, at_command, in_command, behind_if, in_condition, before_then, behind_fi}
 use Rattle.redo_script.specs.Parsing.{behind_for, behind_name, in_words, before_do, behind_done}
 use Rattle.redo_script.specs.View.{symbols_of, words_of, redirection_of, condition_of, script_of}
@@ -45,8 +45,8 @@ abbrev pub word_named : CommandName → Item
 word_named name = record { is_plain = true; word = map byte (spelling_of name) }
 
 -- what was read of a command
-abbrev pub begun_of : BegunTree → Begun
-begun_of b = record {
+abbrev pub partial_of : PartialTree → PartialCommand
+partial_of b = record {
   line = b.line;
   name = word_named b.name;
   items = map item_of b.items.items;
@@ -57,11 +57,11 @@ begun_of b = record {
 
 -- what is expected next, with the command that is being read, and the condition, the name and the words that were read
 -- last
-abbrev pub phase_of : PhaseTree → BegunTree → ConditionTree → List ℕ → List Word → Phase
+abbrev pub phase_of : PhaseTree → PartialTree → ConditionTree → List ℕ → List Word → Phase
 phase_of phases.AtCommand b c name ws = at_command
-phase_of phases.InCommand b c name ws = in_command (begun_of b)
+phase_of phases.InCommand b c name ws = in_command (partial_of b)
 phase_of (phases.BehindIf line) b c name ws = behind_if line
-phase_of phases.InCondition b c name ws = in_condition (begun_of b)
+phase_of phases.InCondition b c name ws = in_condition (partial_of b)
 phase_of (phases.BeforeThen line) b c name ws = before_then line (condition_of c)
 phase_of (phases.BehindFi line) b c name ws = behind_fi line
 phase_of (phases.BehindFor line) b c name ws = behind_for line
@@ -92,7 +92,7 @@ stack_onto os (x ∷ xs) = stack_onto (open_of x ∷ os) xs
 -- where the parser stands
 abbrev pub parser_of : ParserTree → Parser
 parser_of p = record {
-  phase = phase_of p.phase p.begun p.condition p.name (words_of p.words.items);
+  phase = phase_of p.phase p.partial p.condition p.name (words_of p.words.items);
   opens = stack_onto [] p.opens.items;
   so_far = script_of p.so_far.items;
 }

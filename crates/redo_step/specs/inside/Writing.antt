@@ -5,7 +5,7 @@ use Rattle.redo_step.specs.declared.writing.Writing.{Writing}
 use Rattle.redo_step.specs.declared.writing.Writing.TheVariants as writings
 use Rattle.redo_step.specs.Setting.{Setting}
 use Rattle.redo_step.specs.Runs.{State, End, exited, Run, ◌>>=◌, or_else}
-use Rattle.redo_step.specs.Reading.{file_of}
+use Rattle.redo_step.specs.Files.{file_of}
 use Rattle.redo_step.specs.Outputs.{bytes_of, limited, put}
 use Rattle.redo_step.specs.Statements.{with_state}
 use Rattle.redo_record.specs.Answers.{Ask}

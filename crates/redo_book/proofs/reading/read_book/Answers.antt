@@ -76,6 +76,6 @@ lines-smaller c = shorter _ _ _ c.in-Some.ensures
 
 pub lines-init : goal.lines-init
 lines-init c = record {
-  kept = c.new-begun.ensures.kept;
-  reached = subst (λ m. Reached c.args.text.now m 1 c.args.text.now) (sym c.new-begun.ensures.made) (reached_first c.args.text.now);
+  kept = c.new-made.ensures.kept;
+  reached = subst (λ m. Reached c.args.text.now m 1 c.args.text.now) (sym c.new-made.ensures.made) (reached_first c.args.text.now);
 }

@@ -6,8 +6,8 @@ use Rattle.redo_book.proofs.reading.read_book.Given as goal
 -- the lines so far made what is kept of them, and the rest is left
 abbrev pub invariant-lines : goal.invariant-lines
 invariant-lines l = record {
-  kept : IfSome l.begun.last IsKept;
-  reached : Reached l.text (made_of l.begun) l.number l.rest;
+  kept : IfSome l.made.last IsKept;
+  reached : Reached l.text (made_of l.made) l.number l.rest;
 }
 
 abbrev pub decreases-lines : goal.decreases-lines

@@ -16,13 +16,13 @@ use Rattle.redo_run.proofs.workers.run_crew.Goals.{in-Ok, in-Err}
 -- jobs go to other threads
 pub start_all-requires-send-J : goal.start_all-requires-send-J
 start_all-requires-send-J g c κs within =
-    let job = arg-21-1 g.row.E g.row.B g.row.R g.row.G g.E.laws g.B.laws g.R.laws g.G.laws g.B.Build g.B.Build-dict g.R.Threads g.R.Threads-dict g.R.Wait g.R.Wait-dict g.G.Gate g.G.Gate-dict κs in
+    let job = arg-21-1 g.row.E g.row.B g.row.R g.row.O g.E.laws g.B.laws g.R.laws g.O.laws g.B.Build g.B.Build-dict g.R.Threads g.R.Threads-dict g.R.Wait g.R.Wait-dict g.O.Observer g.O.Observer-dict κs in
     param_send 1 job (arg_send _ yes _ (job_of_send (param 1 g.row.B) g.B.Build))
 
 -- and so do what they come to
 pub start_all-requires-send-M : goal.start_all-requires-send-M
 start_all-requires-send-M g c κs within =
-    let message = arg-21-2 g.row.E g.row.B g.row.R g.row.G g.E.laws g.B.laws g.R.laws g.G.laws g.B.Build g.B.Build-dict g.R.Threads g.R.Threads-dict g.R.Wait g.R.Wait-dict g.G.Gate g.G.Gate-dict κs in
+    let message = arg-21-2 g.row.E g.row.B g.row.R g.row.O g.E.laws g.B.laws g.R.laws g.O.laws g.B.Build g.B.Build-dict g.R.Threads g.R.Threads-dict g.R.Wait g.R.Wait-dict g.O.Observer g.O.Observer-dict κs in
     param_send 2 message (arg_send _ yes _ (message_send (param 1 g.row.B) g.B.Build))
 
 -- there is a taker for the owner

@@ -1,5 +1,5 @@
 use Rattle.std.proofs.Common.{drop}
-use Rattle.redo_step.specs.Reading.{contents_of}
+use Rattle.redo_step.specs.Files.{contents_of}
 use Rattle.redo_step.specs.inside.Scene.{scene_setting}
 use Rattle.redo_step.proofs.RoundLemmas.{Catted}
 use Rattle.redo_step.proofs.scene.Scene.cat.Given as goal

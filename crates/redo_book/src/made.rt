@@ -18,7 +18,7 @@ use std::alloc::{AllocError, Global};
 /// The record that more entries may follow.
 #[derive(Drop)]
 pub(crate) struct Last {
-    begun: BookRecord,
+    book_record: BookRecord,
     /// Its entries but `always`: each that comes is looked up here.
     deps: Deps,
     /// Whether `always` is one of them.
@@ -49,11 +49,11 @@ fn path_of(entry: &BookEntry) -> Option<&Path> {
 impl Last {
     /// A record without entries yet.
     fn new(alloc: Global, target: Path, state: Option<Digest>) -> Last
-        ensures begun { record_of result.begun ≡ record { target = target; state = state; entries = [] } }
+        ensures bare { record_of result.book_record ≡ record { target = target; state = state; entries = [] } }
         ensures kept { IsKept result }
     {
         Last {
-            begun: BookRecord {
+            book_record: BookRecord {
                 target,
                 state,
                 entries: Vec::new(alloc),
@@ -66,9 +66,9 @@ impl Last {
     /// Notes that `always` is an entry now, unless it is one.
     fn note_always(&mut self, number: u64) -> Result<(), BookFault>
         requires { IsKept self.old }
-        ensures new { Finds number result (new_entry self.old.begun.entries.items Always) }
-        ensures same { self.new.begun ≡ self.old.begun }
-        ensures kept { OnOk result (Keeps self.new (self.old.begun.entries.items ++ Always ∷ [])) }
+        ensures new { Finds number result (new_entry self.old.book_record.entries.items Always) }
+        ensures same { self.new.book_record ≡ self.old.book_record }
+        ensures kept { OnOk result (Keeps self.new (self.old.book_record.entries.items ++ Always ∷ [])) }
     {
         if self.always {
             return Err(BookFault::Line(number));
@@ -80,9 +80,9 @@ impl Last {
     /// Notes an entry that is to come, unless one of its kind and path is there.
     fn note(&mut self, number: u64, entry: &BookEntry) -> Result<(), BookFault>
         requires { IsKept self.old }
-        ensures new { Finds number result (new_entry self.old.begun.entries.items entry.now) }
-        ensures same { self.new.begun ≡ self.old.begun }
-        ensures kept { OnOk result (Keeps self.new (self.old.begun.entries.items ++ entry.now ∷ [])) }
+        ensures new { Finds number result (new_entry self.old.book_record.entries.items entry.now) }
+        ensures same { self.new.book_record ≡ self.old.book_record }
+        ensures kept { OnOk result (Keeps self.new (self.old.book_record.entries.items ++ entry.now ∷ [])) }
     {
         let Some(dep) = dep_of(entry)? else {
             return self.note_always(number);
@@ -97,29 +97,30 @@ impl Last {
     /// Adds an entry, unless one of its kind and path is there.
     fn add(&mut self, number: u64, entry: BookEntry) -> Result<(), BookFault>
         requires { IsKept self.old }
-        ensures adds { Makes number result (with_entry (record_of self.old.begun) entry) (record_of self.new.begun) }
+        ensures adds { Makes number result (with_entry (record_of self.old.book_record) entry)
+            (record_of self.new.book_record) }
         ensures kept { OnOk result (IsKept self.new) }
     {
         self.note(number, &entry)?;
-        self.begun.entries.push(entry)?;
+        self.book_record.entries.push(entry)?;
         Ok(())
     }
 }
 
 /// What the lines so far have made: the records that are whole, and the one that more entries may follow.
 #[derive(Drop)]
-pub(crate) struct Begun {
+pub(crate) struct Made {
     done: Vec<BookRecord>,
     last: Option<Last>,
 }
 
-impl Begun {
+impl Made {
     /// What no line has made.
-    pub(crate) fn new(alloc: Global) -> Begun
+    pub(crate) fn new(alloc: Global) -> Made
         ensures made { made_of result ≡ at_first }
         ensures kept { IfSome result.last IsKept }
     {
-        Begun {
+        Made {
             done: Vec::new(alloc),
             last: None,
         }
@@ -131,9 +132,12 @@ impl Begun {
         ensures { OnOk result (made_of self.new ≡ record { done = records_of (made_of self.old); last = None }) }
     {
         if let Some(last) = self.last.take() {
-            let Last { mut begun, .. } = last;
-            begun.entries.shrink_to_fit();
-            self.done.push(begun)?;
+            let Last {
+                mut book_record,
+                ..
+            } = last;
+            book_record.entries.shrink_to_fit();
+            self.done.push(book_record)?;
         }
         Ok(())
     }
@@ -143,7 +147,7 @@ impl Begun {
         ensures { result ≡ stands_behind (made_of self.now).last target.now }
     {
         match &self.last {
-            Some(last) => last.begun.target < *target,
+            Some(last) => last.book_record.target < *target,
             None => true,
         }
     }
@@ -190,7 +194,7 @@ impl Begun {
     fn likely(&self) -> Option<&Path> {
         let last = self.last.as_ref()?;
         let before = self.done.last()?;
-        path_of(before.entries.get(last.begun.entries.len())?)
+        path_of(before.entries.get(last.book_record.entries.len())?)
     }
 
     /// Adds a line, unless it says nothing that may stand there.

@@ -2,11 +2,11 @@
 
 ghost use Rattle.std.specs.Prelude.{◌≡◌, Ok, [], map, option_map};
 ghost use Rattle.redo_script.specs.Faults.{Gives, Leaves};
-ghost use Rattle.redo_script.specs.Parsing.{begun, with_word, with_redirect, is_unfinished};
+ghost use Rattle.redo_script.specs.Parsing.{begin_command, with_word, with_redirect, is_unfinished};
 ghost use Rattle.redo_script.specs.Grammar.{knows, knows_items};
 ghost use Rattle.redo_script.specs.Parsing.{ended_command, ended_condition, names_in};
 ghost use Rattle.redo_script.specs.View.{command_of, condition_of, word_of};
-ghost use Rattle.redo_script.specs.inside.Parser.{item_of, word_named, begun_of, stack_onto};
+ghost use Rattle.redo_script.specs.inside.Parser.{item_of, word_named, partial_of, stack_onto};
 
 use crate::ast::{Command, Condition, Redirection};
 use crate::fault::{Reason, ScriptFault};
@@ -31,7 +31,7 @@ fn all_known(items: &[Item], opens: &[Open]) -> bool
 
 /// What was read of a command. One place serves all commands of a script, one after the other.
 #[derive(Debug, Drop)]
-pub struct Begun<'a> {
+pub struct PartialCommand<'a> {
     line: u64,
     name: CommandName,
     items: Vec<Item<'a>>,
@@ -42,10 +42,10 @@ pub struct Begun<'a> {
     awaits: Option<bool>,
 }
 
-impl<'a> Begun<'a> {
+impl<'a> PartialCommand<'a> {
     /// No command yet.
-    pub fn new(alloc: Global) -> Begun<'a> {
-        Begun {
+    pub fn new(alloc: Global) -> PartialCommand<'a> {
+        PartialCommand {
             line: 0,
             name: CommandName::True,
             items: Vec::new(alloc),
@@ -58,7 +58,7 @@ impl<'a> Begun<'a> {
     /// Begins another command.
     #[inline(always)]
     pub fn begin(&mut self, line: u64, name: CommandName)
-        ensures { begun_of self.new ≡ begun line (word_named name) }
+        ensures { partial_of self.new ≡ begin_command line (word_named name) }
     {
         self.line = line;
         self.name = name;
@@ -69,7 +69,7 @@ impl<'a> Begun<'a> {
     }
 
     pub fn push_word(&mut self, alloc: Global, item: Item<'a>) -> Result<(), ScriptFault>
-        ensures { Leaves begun_of self.new result (Ok (with_word (begun_of self.old) (item_of item.entry))) }
+        ensures { Leaves partial_of self.new result (Ok (with_word (partial_of self.old) (item_of item.entry))) }
     {
         if let Some(appends) = self.awaits {
             let word = item.into_word(alloc)?;
@@ -84,7 +84,7 @@ impl<'a> Begun<'a> {
     }
 
     pub fn push_redirect(&mut self, appends: bool)
-        ensures { begun_of self.new ≡ with_redirect (begun_of self.old) appends }
+        ensures { partial_of self.new ≡ with_redirect (partial_of self.old) appends }
     {
         if self.awaits.is_some() || self.redirection.is_some() {
             self.is_ill = true;
@@ -94,15 +94,15 @@ impl<'a> Begun<'a> {
     }
 
     fn is_unfinished(&self) -> bool
-        ensures { result ≡ is_unfinished (begun_of self.now) }
+        ensures { result ≡ is_unfinished (partial_of self.now) }
     {
         self.is_ill || self.awaits.is_some()
     }
 
     /// Whether each name in the command is bound by one of these.
     fn is_known(&self, opens: &[Open]) -> bool
-        ensures { result ≡ knows (names_in (stack_onto [] opens.now)) (begun_of self.now).items
-            (begun_of self.now).redirection }
+        ensures { result ≡ knows (names_in (stack_onto [] opens.now)) (partial_of self.now).items
+            (partial_of self.now).redirection }
     {
         all_known(&self.items, opens)
             && match &self.redirection {
@@ -120,7 +120,7 @@ impl<'a> Begun<'a> {
     /// The command that ends here, inside these.
     pub fn command(&mut self, alloc: Global, opens: &[Open]) -> Result<Command, ScriptFault>
         ensures { Gives command_of result
-            (ended_command (names_in (stack_onto [] opens.now)) (begun_of self.old)) }
+            (ended_command (names_in (stack_onto [] opens.now)) (partial_of self.old)) }
     {
         let shape = ScriptFault {
             line: self.line,
@@ -147,7 +147,7 @@ impl<'a> Begun<'a> {
     /// The condition that ends here, inside these.
     pub fn condition(&mut self, alloc: Global, opens: &[Open]) -> Result<Condition, ScriptFault>
         ensures { Gives condition_of result
-            (ended_condition (names_in (stack_onto [] opens.now)) (begun_of self.old)) }
+            (ended_condition (names_in (stack_onto [] opens.now)) (partial_of self.old)) }
     {
         let shape = ScriptFault {
             line: self.line,

@@ -9,7 +9,7 @@ use Rattle.redo_script.specs.Syntax.{Word, Redirection, Command, Condition}
 use Rattle.redo_script.specs.Tokens.{Token, word, redirect}
 use Rattle.redo_script.specs.Grammar.{Item, command_form, condition_form, AtSeparator, IsItems, none_left, one_item}
 use Rattle.redo_script.specs.Grammar.{redirected, knows}
-use Rattle.redo_script.specs.Parsing.{Begun, begun, or_shape, if_known, is_unfinished, with_word, with_redirect}
+use Rattle.redo_script.specs.Parsing.{PartialCommand, begin_command, or_shape, if_known, is_unfinished, with_word, with_redirect}
 use Rattle.redo_script.specs.Parsing.{no_redirection, ended_command, ended_condition}
 use Rattle.redo_script.specs.Refusals.{in_line, HasNoForm, HasNoTest}
 use Rattle.redo_script.proofs.NameLemmas.{item, none_some}
@@ -48,7 +48,7 @@ items_end (one_item g) a = absurd a
 items_end (redirected h) a = absurd a
 
 -- what b takes from ts' is left for b'
-abbrev Gives : Begun → Begun → List Token → List Token → Type 0
+abbrev Gives : PartialCommand → PartialCommand → List Token → List Token → Type 0
 Gives b b' ts ts' = (items : List Item) (r : Option Redirection) (rest : List Token) → TakesOf b ts' items r rest → TakesOf b' ts items r rest
 
 word_gives : (l : ℕ) (n : Item) (its : List Item) (ill : Bool) (aw : Option Bool) (red : Option Redirection) (k : ℕ) (p : Bool) (w : Word) (ts : List Token) → Gives (state l n its ill aw red) (with_word (state l n its ill aw red) (item p w)) ts (word k p w ∷ ts)
@@ -83,16 +83,16 @@ takes_at false None None its ts items r rest x a =
     (refl, x.2 ∙ (ap (λ (y : List Item). its ++ y) e.0 ∙ append-nil its), e.1)
 
 -- a command that was begun behind these tokens, as far as it was read
-pub record IsBegun (b : Begun) (ts rest : List Token) (name : Item) (line : ℕ) : Type 0 where
+pub record IsPartial (b : PartialCommand) (ts rest : List Token) (name : Item) (line : ℕ) : Type 0 where
   pub line_is : b.line ≡ line
   pub name_is : b.name ≡ name
   pub takes : (items : List Item) (r : Option Redirection) (end : List Token) → TakesOf b rest items r end → IsItems ts items r end
   pub gives : (items : List Item) (r : Option Redirection) (end : List Token) → IsItems ts items r end → TakesOf b rest items r end
 
-pub begins : (line : ℕ) (name : Item) (ts : List Token) → IsBegun (begun line name) ts ts name line
+pub begins : (line : ℕ) (name : Item) (ts : List Token) → IsPartial (begin_command line name) ts ts name line
 begins line name ts = record { line_is = refl; name_is = refl; takes = λ items r end x. rw x.2 x.1; gives = λ items r end g. (items, g, refl) }
 
-pub goes_word : {b : Begun} {ts rest : List Token} {name : Item} {line : ℕ} (k : ℕ) (p : Bool) (w : Word) → IsBegun b ts (word k p w ∷ rest) name line → IsBegun (with_word b (item p w)) ts rest name line
+pub goes_word : {b : PartialCommand} {ts rest : List Token} {name : Item} {line : ℕ} (k : ℕ) (p : Bool) (w : Word) → IsPartial b ts (word k p w ∷ rest) name line → IsPartial (with_word b (item p w)) ts rest name line
 goes_word {b} {ts} {rest} k p w g =
     let c = word_continues b.line b.name b.items b.is_ill b.awaits b.redirection k p w rest in
     let d = word_gives b.line b.name b.items b.is_ill b.awaits b.redirection k p w rest in
@@ -103,7 +103,7 @@ goes_word {b} {ts} {rest} k p w g =
       gives = λ items r end x. d items r end (g.gives items r end x);
     }
 
-pub goes_redirect : {b : Begun} {ts rest : List Token} {name : Item} {line : ℕ} (k : ℕ) (a : Bool) → IsBegun b ts (redirect k a ∷ rest) name line → IsBegun (with_redirect b a) ts rest name line
+pub goes_redirect : {b : PartialCommand} {ts rest : List Token} {name : Item} {line : ℕ} (k : ℕ) (a : Bool) → IsPartial b ts (redirect k a ∷ rest) name line → IsPartial (with_redirect b a) ts rest name line
 goes_redirect {b} {ts} {rest} k a g =
     let c = redirect_continues b.line b.name b.items b.is_ill b.awaits b.redirection k a rest in
     let d = redirect_gives b.line b.name b.items b.is_ill b.awaits b.redirection k a rest in
@@ -122,7 +122,7 @@ pub record EndsWell (names : List (List ℕ)) (ts rest : List Token) (name : Ite
   pub form : command_form name items r ≡ Some c
   pub known : knows names items r ≡ true
 
-pub ends_well : {names : List (List ℕ)} {b : Begun} {ts rest : List Token} {name : Item} {line : ℕ} (c : Command) → IsBegun b ts rest name line → AtSeparator rest → ended_command names b ≡ Ok c → EndsWell names ts rest name c
+pub ends_well : {names : List (List ℕ)} {b : PartialCommand} {ts rest : List Token} {name : Item} {line : ℕ} (c : Command) → IsPartial b ts rest name line → AtSeparator rest → ended_command names b ≡ Ok c → EndsWell names ts rest name c
 ends_well {names} {b} {ts} {rest} {name} c g a h =
     let form = formed_ok b.line (is_unfinished b) (command_form b.name b.items b.redirection) (knows names b.items b.redirection) c h in
     record {
@@ -143,7 +143,7 @@ pub no_redirection_is : (r : Option Redirection) (o : Option Condition) (c : Con
 no_redirection_is None o c h = (refl, h)
 no_redirection_is (Some r) o c h = none_some h
 
-pub ends_test : {names : List (List ℕ)} {b : Begun} {ts rest : List Token} {name : Item} {line : ℕ} (c : Condition) → IsBegun b ts rest name line → AtSeparator rest → ended_condition names b ≡ Ok c → EndsTest names ts rest name c
+pub ends_test : {names : List (List ℕ)} {b : PartialCommand} {ts rest : List Token} {name : Item} {line : ℕ} (c : Condition) → IsPartial b ts rest name line → AtSeparator rest → ended_condition names b ≡ Ok c → EndsTest names ts rest name c
 ends_test {names} {b} {ts} {rest} {name} c g a h =
     let form = formed_ok b.line (is_unfinished b) (no_redirection b.redirection (condition_form b.name b.items)) (knows names b.items b.redirection) c h in
     let n = no_redirection_is b.redirection (condition_form b.name b.items) c form.1 in
@@ -170,7 +170,7 @@ pub record EndsUnbound (names : List (List ℕ)) (ts rest : List Token) (name : 
   pub form : command_form name items r ≡ Some c
   pub unknown : knows names items r ≡ false
 
-pub ends_ill : {names : List (List ℕ)} {b : Begun} {ts rest : List Token} {name : Item} {line : ℕ} (f : ScriptFault) → IsBegun b ts rest name line → AtSeparator rest → ended_command names b ≡ Err f → ((f ≡ in_line line reasons.Shape) × HasNoForm name ts) ⊎ ((f ≡ in_line line reasons.Unsupported) × EndsUnbound names ts rest name)
+pub ends_ill : {names : List (List ℕ)} {b : PartialCommand} {ts rest : List Token} {name : Item} {line : ℕ} (f : ScriptFault) → IsPartial b ts rest name line → AtSeparator rest → ended_command names b ≡ Err f → ((f ≡ in_line line reasons.Shape) × HasNoForm name ts) ⊎ ((f ≡ in_line line reasons.Unsupported) × EndsUnbound names ts rest name)
 ends_ill {names} {b} {ts} {rest} {name} {line} f g a h = elim (formed_err b.line (is_unfinished b) (command_form b.name b.items b.redirection) (knows names b.items b.redirection) f h) [
   | inl i ↦ inl (
     rw g.line_is at i.0,
@@ -198,7 +198,7 @@ pub record TestUnbound (names : List (List ℕ)) (ts rest : List Token) (name : 
   pub form : condition_form name items ≡ Some c
   pub unknown : knows names items None ≡ false
 
-pub test_ill : {names : List (List ℕ)} {b : Begun} {ts rest : List Token} {name : Item} {line : ℕ} (f : ScriptFault) → IsBegun b ts rest name line → AtSeparator rest → ended_condition names b ≡ Err f → ((f ≡ in_line line reasons.Shape) × HasNoTest name ts) ⊎ ((f ≡ in_line line reasons.Unsupported) × TestUnbound names ts rest name)
+pub test_ill : {names : List (List ℕ)} {b : PartialCommand} {ts rest : List Token} {name : Item} {line : ℕ} (f : ScriptFault) → IsPartial b ts rest name line → AtSeparator rest → ended_condition names b ≡ Err f → ((f ≡ in_line line reasons.Shape) × HasNoTest name ts) ⊎ ((f ≡ in_line line reasons.Unsupported) × TestUnbound names ts rest name)
 test_ill {names} {b} {ts} {rest} {name} {line} f g a h = elim (formed_err b.line (is_unfinished b) (no_redirection b.redirection (condition_form b.name b.items)) (knows names b.items b.redirection) f h) [
   | inl i ↦ inl (
     rw g.line_is at i.0,

@@ -1,7 +1,7 @@
 //! What `cat` and `test -f` see of a path.
 
 ghost use Rattle.std.specs.Prelude.{◌≡◌, None, option_copied};
-ghost use Rattle.redo_step.specs.Reading.{file_of, answered_file};
+ghost use Rattle.redo_step.specs.Files.{file_of, answered_file};
 ghost use Rattle.redo_step.specs.inside.Machine.{kept_by, given_by, IsMeant};
 ghost use Rattle.redo_step.specs.inside.Scene.{scene_setting};
 

@@ -4,11 +4,11 @@ use Rattle.redo_record.specs.Entries.{is_entered, with_entry as with_dep}
 use Rattle.redo_book.specs.Book.{same_entry}
 use Rattle.redo_book.specs.inside.Reading.{dep_of, deps_of, only_if}
 use Rattle.redo_book.proofs.EntryLemmas.{always_more, deps_more, entered}
-use Rattle.redo_book.proofs.begun.Last.note.Goals as goal
+use Rattle.redo_book.proofs.made.Last.note.Goals as goal
 
 pub returns-then-contains-clause-new : goal.returns-then-contains-clause-new
 returns-then-contains-clause-new c =
-    let es = c.args.self.now.begun.entries.items in
+    let es = c.args.self.now.book_record.entries.items in
     let d = c.in-Some.dep in
     let is : dep_of c.args.entry.now ≡ Some d = sym c.in_ok-dep.ensures ∙ c.in-Some.is in
     let found : list_any (same_entry c.args.entry.now) es ≡ true =
@@ -17,7 +17,7 @@ returns-then-contains-clause-new c =
 
 pub returns-clause-new : goal.returns-clause-new
 returns-clause-new c =
-    let es = c.args.self.now.begun.entries.items in
+    let es = c.args.self.now.book_record.entries.items in
     let d = c.in-Some.dep in
     let is : dep_of c.args.entry.now ≡ Some d = sym c.in_ok-dep.ensures ∙ c.in-Some.is in
     let found : list_any (same_entry c.args.entry.now) es ≡ false =
@@ -26,7 +26,7 @@ returns-clause-new c =
 
 pub returns-clause-kept : goal.returns-clause-kept
 returns-clause-kept c =
-    let es = c.args.self.now.begun.entries.items in
+    let es = c.args.self.now.book_record.entries.items in
     let d = c.in-Some.dep in
     let is : dep_of c.args.entry.now ≡ Some d = sym c.in_ok-dep.ensures ∙ c.in-Some.is in
     let new : is_entered (deps_of es) d.kind d.path ≡ false =

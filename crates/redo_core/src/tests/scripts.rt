@@ -1,7 +1,7 @@
 //! Scripts that are read for several targets.
 
 use crate::given::Given;
-use crate::reading::script;
+use crate::scripts::script;
 use redo_past::Past;
 use redo_path::{Path, resolve};
 use redo_step::Limits;
