@@ -6,8 +6,8 @@
 //! stands on redo_tree and redo_which for trees and rules, on redo_digest and redo_book for books and the digests in
 //! them, on redo_record and redo_report for what a run came to, and on redo_bundle for the writers.
 //!
-//! - `past`: the tree, the sources and the book, and what a run leaves; `named`: which files its book tells digests of;
-//!   `faults`: why a tree is refused;
+//! - `past`: the tree, the sources and the book, and what a run leaves; `named`: which files its book tells digests of,
+//!   and which the new one will; `faults`: why a tree is refused;
 //! - `standing`: whether a path stands as a book tells; `rows`: the rows of a report, found by their paths; `states`:
 //!   what stands at each path when a run ends;
 //! - `items`: what the records of the new book are made of, in order; `carrying`: those that are carried; `records`:

@@ -1,20 +1,27 @@
 //! The files that a book tells digests of.
 
+use crate::records::has_record;
 use redo_book::{Book, BookEntry};
 use redo_digest::Digest;
 use redo_path::Path;
+use redo_record::DepKind;
+use redo_report::Row;
 use redo_tree::Tree;
 use std::alloc::{AllocError, Global};
 
-/// Names the entry at a path, where the book tells the digest of a file there.
-fn name(named: &mut [bool], tree: &Tree, path: &Path, state: &Option<Digest>) {
-    if state.is_none() {
-        return;
-    }
+/// Names the entry at a path, if there is one.
+fn name(named: &mut [bool], tree: &Tree, path: &Path) {
     if let Some(number) = tree.number_of(path) {
         if let Some(is_named) = named.get_mut(number) {
             *is_named = true;
         }
+    }
+}
+
+/// Names the entry at a path, where the book tells the digest of a file there.
+fn name_told(named: &mut [bool], tree: &Tree, path: &Path, state: &Option<Digest>) {
+    if state.is_some() {
+        name(named, tree, path);
     }
 }
 
@@ -24,12 +31,42 @@ pub(crate) fn named_by(alloc: Global, tree: &Tree, book: &Book) -> Result<Vec<bo
     let mut named = Vec::new(alloc);
     named.resize(tree.len(), false)?;
     for record in book.records() {
-        name(&mut named, tree, &record.target, &record.state);
+        name_told(&mut named, tree, &record.target, &record.state);
         for entry in &record.entries {
             if let BookEntry::Change(state, path) = entry {
-                name(&mut named, tree, path, state);
+                name_told(&mut named, tree, path, state);
             }
         }
+    }
+    Ok(named)
+}
+
+/// Names the entries of a tree that a row depends on, if the new book has a record of it.
+fn name_needs(named: &mut [bool], tree: &Tree, row: &Row) {
+    if !has_record(row) {
+        return;
+    }
+    let parts = row.deps.parts();
+    if let Some(do_file) = parts.do_file {
+        name(named, tree, do_file);
+    }
+    for dep in parts.own {
+        if dep.kind == DepKind::Change {
+            name(named, tree, &dep.path);
+        }
+    }
+}
+
+/// Which entries of a tree the new book will tell digests of, by their numbers.
+pub(crate) fn named_after(
+    alloc: Global,
+    tree: &Tree,
+    rows: &[Row],
+) -> Result<Vec<bool>, AllocError> {
+    let mut named = Vec::new(alloc);
+    named.resize(tree.len(), false)?;
+    for row in rows {
+        name_needs(&mut named, tree, row);
     }
     Ok(named)
 }

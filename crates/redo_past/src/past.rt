@@ -199,6 +199,31 @@ impl Past {
         })
     }
 
+    /// The same, in which the named files of the sources keep their digests: `named` tells it of each number. They are
+    /// made by up to so many threads.
+    pub(crate) fn with_digests_by<R: Threads + Sync>(
+        self,
+        rt: &R,
+        alloc: Global,
+        threads: usize,
+        named: &[bool],
+    ) -> Result<Past, AllocError>
+        ensures { IfOk result (λ past. past ≡ self) }
+    {
+        let Past {
+            tree,
+            sources,
+            book,
+        } = self;
+        let sources = Tree::clone(&sources)?.keep_digests_by(rt, threads, named);
+        let sources = Arc::new(alloc, sources)?;
+        Ok(Past {
+            tree,
+            sources,
+            book,
+        })
+    }
+
     /// The book and the sources are those of the tree, as laws of pasts ask.
     pub fn is_past(&self)
         ensures { IsPast self.now }

@@ -9,6 +9,7 @@ ghost use Rattle.redo_past.specs.inside.Books.{IsRunReport, record_in, with_book
 
 use crate::Past;
 use crate::items::Item;
+use crate::named::named_after;
 use crate::new_book::{new_text, parts_of, write_text};
 use crate::past::book_path;
 use crate::rows::Rows;
@@ -20,6 +21,7 @@ use redo_tree::Content;
 use redo_which::BOOK;
 use std::alloc::{AllocError, Global};
 use std::marker::Model;
+use std::thread::Threads;
 
 /// The report of a run with the new book among its files. The text of the book, which may be long, isn't made before it
 /// is written. In a contract it is the report with that text.
@@ -74,6 +76,38 @@ impl RunReport {
         ensures { result.now ≡ self.now.rows.items }
     {
         &self.report.rows
+    }
+
+    /// The same report, for which up to so many threads have made the digests of the sources that the new book tells.
+    /// Without it they are made one after another as the book is written. After an earlier run most of them were made
+    /// before, and so none is made here.
+    pub fn with_digests_by<R: Threads + Sync>(
+        self,
+        rt: &R,
+        alloc: Global,
+        threads: usize,
+    ) -> Result<RunReport, AllocError>
+        ensures { IfOk result (λ report. report ≡ self) }
+    {
+        if threads <= 1 || !self.past.book().records().is_empty() {
+            return Ok(self);
+        }
+        let RunReport {
+            past,
+            report,
+            numbers,
+            at,
+            size,
+        } = self;
+        let named = named_after(alloc, past.sources(), &report.rows)?;
+        let past = past.with_digests_by(rt, alloc, threads, &named)?;
+        Ok(RunReport {
+            past,
+            report,
+            numbers,
+            at,
+            size,
+        })
     }
 
     /// The report with the text of the new book in memory.

@@ -611,12 +611,17 @@ const REPORT: &str = "built 0 .a\ndep change .a.do\nbuilt 3 a\ndep change a.do\n
     file 0 .a\n\nfile 308 .redo-book\ntarget NOTHING .a\nchange NOTHING .a.do\ntarget ABC a\nchange ABC a.do\nend\n\n\
     file 3 a\nabc\nend\n";
 
+/// The tree that it is of.
+const SCRIPTS: [(&str, &str); 2] = [(".a.do", ""), ("a.do", "abc")];
+
+/// Its rows.
+const BUILT: [Line; 2] = [(".a", End::File(""), &[]), ("a", End::File("abc"), &[])];
+
 #[test]
 fn a_report_goes_out_with_its_book_as_far_as_there_is_room(rt: HostRuntime) -> Result<(), Fail> {
     let alloc = rt.alloc();
-    let past = Past::open(alloc, tree(alloc, &[(".a.do", ""), ("a.do", "abc")])?)?;
-    let lines: [Line; 2] = [(".a", End::File(""), &[]), ("a", End::File("abc"), &[])];
-    let report = reported(alloc, &past, &lines)?;
+    let past = Past::open(alloc, tree(alloc, &SCRIPTS)?)?;
+    let report = reported(alloc, &past, &BUILT)?;
     let meant = spelled(alloc, REPORT)?;
     for room in 0..=meant.len() {
         let mut device = vec![in alloc; 0u8; room]?;
@@ -628,5 +633,18 @@ fn a_report_goes_out_with_its_book_as_far_as_there_is_room(rt: HostRuntime) -> R
     assert_eq!(rt; report.rows().len(), 2);
     let text = report_text(alloc, &report.into_report(alloc)?, true)?;
     assert_eq!(rt; text.as_slice(), meant.as_slice());
+    Ok(())
+}
+
+#[test]
+fn threads_that_make_digests_for_the_new_book_change_nothing(rt: HostRuntime) -> Result<(), Fail> {
+    let alloc = rt.alloc();
+    let meant = spelled(alloc, REPORT)?;
+    for threads in [0, 1, 3] {
+        let past = Past::open(alloc, tree(alloc, &SCRIPTS)?)?;
+        let report = reported(alloc, &past, &BUILT)?.with_digests_by(&rt, alloc, threads)?;
+        let text = report_text(alloc, &report.into_report(alloc)?, true)?;
+        assert_eq!(rt; text.as_slice(), meant.as_slice(), "{threads}");
+    }
     Ok(())
 }

@@ -46,11 +46,13 @@ fn is_all_taken<B: Build>(ledger: &Ledger<JobOf<B>>) -> bool
     ledger.left().is_empty()
 }
 
-/// What a run came to once all workers are in. No run comes here while jobs are ready, out or left.
-fn answer_of<B: Build, R: Wait>(
+/// What a run came to once all workers are in. No run comes here while jobs are ready, out or left. The digests that
+/// the new book tells are made by up to so many threads.
+fn answer_of<B: Build, R: Threads + Wait + Sync>(
     rt: &R,
     alloc: Global,
     desk: EndedDesk<B>,
+    threads: usize,
 ) -> Result<(RunReport, Ledger<Work>), Stop>
     ensures { IsAnswerTo B.given result }
 {
@@ -69,7 +71,8 @@ fn answer_of<B: Build, R: Wait>(
         never(rt)
     }
     let ledger = Ledger::of(alloc, &ledger)?;
-    Ok((board.finish()?, ledger))
+    let report = board.finish()?.with_digests_by(rt, alloc, threads)?;
+    Ok((report, ledger))
 }
 
 /// Runs a build to its end by the owner, and a worker in a thread of its own for each taker but the owner's.
@@ -183,7 +186,7 @@ fn run_build<B: Build + Send + Sync, R: Threads + Wait + Sync, O: Observer>(
         takers,
     };
     let ended = run_in_scope(rt, observer, &Lookers::new(), alloc, desk)?;
-    answer_of(rt, alloc, ended)
+    answer_of(rt, alloc, ended, workers)
 }
 
 /// What a run before has left in a tree. The files that its book tells digests of are digested by up to so many

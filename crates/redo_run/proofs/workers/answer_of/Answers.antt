@@ -4,6 +4,7 @@ use Rattle.redo_build.specs.Theorems.{ShowsBuild}
 use Rattle.redo_core.specs.Build.{GivenView}
 use Rattle.redo_core.specs.Results.{IsResult}
 use Rattle.redo_core.specs.Views.{IsQuietBoard, limit_on, request_on, rules_on}
+use Rattle.redo_report.specs.declared.report.Report.{Report}
 use Rattle.redo_sync.specs.Relay.{Pair, Shares, SharesOut}
 use Rattle.redo_run.proofs.LedgerLemmas.{begun_shared, once_shared, without_memory}
 use Rattle.redo_run.proofs.workers.answer_of.Goals as goal
@@ -17,7 +18,7 @@ returns-in_err-ledger-2 g c = without_memory _ _ (search rules)
 -- what the takers took is what the board had taken
 pub returns : goal.returns
 returns g c =
-    let b = c.desk.inside.board in let given = c.desk.inside.source.given in let result = c.in_ok-finish.field-0 in
+    let b = c.desk.inside.board in let given = c.desk.inside.source.given in let result = c.in_ok-report.report in
     let ended = c.desk.invariant in
     let ledger = c.in_ok-ledger.ledger in
     let none : (ledger.left ≡ []) × SharesOut ledger.given ledger.taken [] = search rules in
@@ -26,7 +27,8 @@ returns g c =
     let quiet : IsQuietBoard b = search rules in
     let shows : ShowsBuild (rules_on b) (request_on b) (limit_on b) b.state = search rules in
     let once = once_shared given ledger.taken out (c.what_was_taken.ensures.counted b given ended.taken) in
-    let is : IsResult b.given result = c.in_ok-finish.ensures in
+    let R : Report → Type 0 = λ r. IsResult b.given r in
+    let is : R result = subst R (sym c.in_ok-report.ensures) c.in_ok-finish.ensures in
     let of_given = c.what_was_taken.ensures.begun b given is.report ended.taken quiet shows is.built in
     let begun = begun_shared given ledger.taken out is.report.begun.items c.counts_tell.ensures.taken of_given in
     let None : Shares → Type 0 = λ s. s.left ≡ [] in
