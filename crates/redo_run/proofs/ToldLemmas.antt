@@ -1,7 +1,7 @@
 -- What a run over a bundle tells of the text that it read.
 use Rattle.std.proofs.Common.{rules, ◌≡◌, ◌↔◌, ◌∙◌, [], ◌∷◌, length, List, ℕ, Bool, Option, Some, None, IsTrue, is_some}
 use Rattle.std.proofs.Common.{option_map, true, false, sym, subst, refl}
-use Rattle.std.specs.Prelude.{IfSome, IsSome, Err}
+use Rattle.std.specs.Prelude.{IfSome, IsSome, Err, Result}
 use Rattle.std.specs.Io.KnownBytes.{Appends}
 use Rattle.redo_core.specs.Results.{IsGiven, IsRefused, IsResultOn, NeedsTooMany}
 use Rattle.redo_report.specs.ReportText.{report_text}
@@ -9,10 +9,12 @@ use Rattle.redo_report.specs.declared.report.Report.{Report}
 use Rattle.redo_bundle.specs.Bundle.{IsBundle, Writes}
 use Rattle.redo_bundle.specs.declared.faults.WriteFault.{WriteFault}
 use Rattle.redo_bundle.specs.declared.faults.WriteFault.TheVariants as write
+use Rattle.redo_bundle.specs.declared.faults.BundleFault.TheVariants as bundle
 use Rattle.redo_dir.specs.Directory.{IsLoaded, places_in}
 use Rattle.redo_tree.specs.Tree.{Tree}
 use Rattle.redo_run.specs.declared.directory.DirRun.{DirRun}
 use Rattle.redo_run.specs.declared.options.Options.{Options}
+use Rattle.redo_run.specs.declared.fault.RunIoFault.{RunIoFault}
 use Rattle.redo_run.specs.declared.fault.RunIoFault.TheVariants as run
 use Rattle.redo_run.specs.declared.exit.Exit.{Exit}
 use Rattle.redo_run.specs.declared.run_fault.RunFault.{RunFault}
@@ -167,3 +169,27 @@ nothing_told (Some x) = tt
 pub untouched_by_write : {W : Type 0} (fault : WriteFault) (old new : W) → (fault ≡ write.Memory → new ≡ old) → IsUntouched {A = Exit} {W = W} (Err (of_write fault)) old new
 untouched_by_write write.Device old new h = tt
 untouched_by_write write.Memory old new h = h refl
+
+-- a run's fault is that of a report which is not written
+abbrev pub Unwritten : WriteFault → RunIoFault → Type 0
+Unwritten fault told = ◌≡◌ {A = Result Exit RunIoFault} (Err (of_write fault)) (Err told)
+
+-- a report that is not written tells of no failure of the reader, where there was none
+pub no_read_by_write : (fault : WriteFault) (failed : Bool) → (failed ≡ true → ⊥) →
+    (Unwritten fault (run.Bundle bundle.Read) → failed ≡ true) ×
+    (failed ≡ true → Unwritten fault (run.Bundle bundle.Read))
+no_read_by_write write.Device failed h = (λ e. absurd cc, λ e. absurd (h e))
+no_read_by_write write.Memory failed h = (λ e. absurd cc, λ e. absurd (h e))
+
+-- it tells of a failure of the writer exactly where there was one
+pub device_by_write : (fault : WriteFault) (failed : Bool) → (fault ≡ write.Device → failed ≡ true) →
+    (failed ≡ true → fault ≡ write.Device) →
+    (Unwritten fault run.Device → failed ≡ true) ×
+    (failed ≡ true → Unwritten fault run.Device)
+device_by_write write.Device failed to from = (λ e. to refl, λ e. refl)
+device_by_write write.Memory failed to from = (λ e. absurd cc, λ e. absurd (let is = from e in cc))
+
+-- it is no bundle's want of memory
+pub no_memory_by_write : (fault : WriteFault) → Unwritten fault (run.Bundle bundle.Memory) → ⊥
+no_memory_by_write write.Device e = cc
+no_memory_by_write write.Memory e = cc

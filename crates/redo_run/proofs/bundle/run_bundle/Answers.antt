@@ -5,7 +5,8 @@ use Rattle.redo_run.specs.Runs.{request_of}
 use Rattle.redo_run.specs.Skipping.{IsSoundOn, IsUnsafeOn}
 use Rattle.redo_run.specs.declared.run_fault.RunFault.TheVariants as build
 use Rattle.redo_tree.specs.Tree.{Tree}
-use Rattle.redo_run.proofs.ToldLemmas.{explains_build, explains_write, nothing_told, reports, untouched_by_write}
+use Rattle.redo_run.proofs.ToldLemmas.{device_by_write, explains_build, explains_write, no_memory_by_write, no_read_by_write}
+use Rattle.redo_run.proofs.ToldLemmas.{nothing_told, reports, untouched_by_write}
 use Rattle.redo_run.proofs.bundle.run_bundle.Goals as goal
 
 -- a past that isn't read has a refused book
@@ -72,3 +73,19 @@ pub returns-in_err-write-clause-untouched : goal.returns-in_err-write-clause-unt
 returns-in_err-write-clause-untouched g c =
     let p = err_from_is_err_and c.from_residual-in_err-write.result c.from_residual-in_err-write.ensures.1 in
     rw (p.1, p.2) (untouched_by_write c.in_err-write.field-0.0 _ _ (λ is. c.in_err-write.ensures.untouched (ap Err is)))
+
+pub returns-in_err-write-clause-read : goal.returns-in_err-write-clause-read
+returns-in_err-write-clause-read g c =
+    let p = err_from_is_err_and c.from_residual-in_err-write.result c.from_residual-in_err-write.ensures.1 in
+    rw (p.1, p.2) (no_read_by_write c.in_err-write.field-0.0 _ (λ failed. let read = c.in_ok-tree.ensures.read.1 failed in cc))
+
+pub returns-in_err-write-clause-device : goal.returns-in_err-write-clause-device
+returns-in_err-write-clause-device g c =
+    let p = err_from_is_err_and c.from_residual-in_err-write.result c.from_residual-in_err-write.ensures.1 in
+    let device = c.in_err-write.ensures.device in
+    rw (p.1, p.2) (device_by_write c.in_err-write.field-0.0 _ (λ is. device.0 (ap Err is)) (λ failed. let is = device.1 failed in cc))
+
+pub returns-in_err-write-clause-memory : goal.returns-in_err-write-clause-memory
+returns-in_err-write-clause-memory g c =
+    let p = err_from_is_err_and c.from_residual-in_err-write.result c.from_residual-in_err-write.ensures.1 in
+    rw (p.1, p.2) (no_memory_by_write c.in_err-write.field-0.0)
