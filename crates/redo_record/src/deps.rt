@@ -168,6 +168,18 @@ impl Deps {
         Ok(())
     }
 
+    /// Lets all entries go. Where they were few, their room is kept for others.
+    pub fn clear(&mut self)
+        ensures { self.new ≡ [] }
+    {
+        match &mut self.store {
+            Store::Few(entries) => entries.clear(),
+            Store::Many(many) => {
+                self.store = Store::Few(Vec::new(*many.entries.allocator()));
+            }
+        }
+    }
+
     pub fn contains(&self, dep: &Dep) -> bool
         ensures { result ≡ is_entered self.now dep.now.kind dep.now.path }
     {
