@@ -1,6 +1,6 @@
 -- Entries are looked up by their kind and path.
 use Rattle.std.proofs.Common.{◌≡◌, ℕ, Bool, true, false, cond, not, ◌||◌, List, [], ◌∷◌, ◌++◌, refl, sym, ap, ◌∙◌}
-use Rattle.std.proofs.Common.{Some, None}
+use Rattle.std.proofs.Common.{Some, None, ◌≢◌, arith, length, length-append}
 use Rattle.std.proofs.lemmas.List.Elements.{filter_map-append}
 use Rattle.std.proofs.lemmas.List.Folds.{list_any-append}
 use Rattle.std.specs.List.{filter_map, list_any}
@@ -68,6 +68,22 @@ deps_more es e d h new =
     let one : filter_map dep_of (e ∷ []) ≡ d ∷ [] = rw h refl in
     ap (λ b. cond b (deps_of es) (deps_of es ++ record { kind = d.kind; path = d.path } ∷ [])) new
     ∙ sym (filter_map-append dep_of es (e ∷ []) ∙ ap (λ ds. deps_of es ++ ds) one)
+
+-- an entry was there if there are as many as before it was put in
+pub not_put : (ds : List Dep) (d : Dep) → length (with_dep ds d.kind d.path) ≡ length ds → is_entered ds d.kind d.path ≡ true
+not_put ds d =
+    elim (is_entered ds d.kind d.path) as (λ b. length (cond b ds (ds ++ record { kind = d.kind; path = d.path } ∷ [])) ≡ length ds → b ≡ true) [
+      | true ↦ λ h. refl
+      | false ↦ λ h. absurd (let more = length-append ds (record { kind = d.kind; path = d.path } ∷ []) in omega arith)
+    ]
+
+-- and it wasn't if there are not
+pub was_put : (ds : List Dep) (d : Dep) → length (with_dep ds d.kind d.path) ≢ length ds → is_entered ds d.kind d.path ≡ false
+was_put ds d =
+    elim (is_entered ds d.kind d.path) as (λ b. length (cond b ds (ds ++ record { kind = d.kind; path = d.path } ∷ [])) ≢ length ds → b ≡ false) [
+      | true ↦ λ h. absurd (h refl)
+      | false ↦ λ h. refl
+    ]
 
 pub deps_always : (es : List BookEntry) → deps_of (es ++ Always ∷ []) ≡ deps_of es
 deps_always [] = refl

@@ -1,6 +1,6 @@
 //! What the lines of a book have made so far.
 
-ghost use Rattle.std.specs.Prelude.{◌≡◌, ◌++◌, ◌∷◌, [], IfOk, IfSome, OnOk};
+ghost use Rattle.std.specs.Prelude.{◌≡◌, ◌++◌, ◌∷◌, [], IfOk, IfSome, OnOk, map};
 ghost use Rattle.redo_book.specs.declared.book.BookEntry.TheVariants.{Always};
 ghost use Rattle.redo_book.specs.Book.{IsBook, record_of};
 ghost use Rattle.redo_book.specs.inside.Reading.{Finds, IsKept, Keeps, Makes, at_first, dep_of as dep_in, made_of};
@@ -14,6 +14,7 @@ use redo_digest::Digest;
 use redo_path::Path;
 use redo_record::{Dep, DepKind, Deps};
 use std::alloc::{AllocError, Global};
+use std::mem;
 
 /// The record that more entries may follow.
 #[derive(Drop)]
@@ -63,6 +64,31 @@ impl Last {
         }
     }
 
+    /// Begins the record of a target in the place of this one, which is whole and is answered. Records that follow one
+    /// another are mostly alike, so the new one has room at once for as many entries as this one has, and these are
+    /// looked up where this one's were.
+    fn begin(
+        &mut self,
+        alloc: Global,
+        target: Path,
+        state: Option<Digest>,
+    ) -> Result<BookRecord, AllocError>
+        ensures whole { IfOk result (λ whole. whole ≡ self.old.book_record) }
+        ensures bare { OnOk result (record_of self.new.book_record ≡
+            record { target = target; state = state; entries = [] }) }
+        ensures kept { OnOk result (IsKept self.new) }
+    {
+        let entries = Vec::with_capacity(alloc, self.book_record.entries.len())?;
+        self.deps.clear();
+        self.always = false;
+        let next = BookRecord {
+            target,
+            state,
+            entries,
+        };
+        Ok(mem::replace(&mut self.book_record, next))
+    }
+
     /// Notes that `always` is an entry now, unless it is one.
     fn note_always(&mut self, number: u64) -> Result<(), BookFault>
         requires { IsKept self.old }
@@ -87,10 +113,11 @@ impl Last {
         let Some(dep) = dep_of(entry)? else {
             return self.note_always(number);
         };
-        if self.deps.contains(&dep) {
+        let before = self.deps.len();
+        self.deps.insert(dep)?;
+        if self.deps.len() == before {
             return Err(BookFault::Line(number));
         }
-        self.deps.insert(dep)?;
         Ok(())
     }
 
@@ -105,6 +132,15 @@ impl Last {
         self.book_record.entries.push(entry)?;
         Ok(())
     }
+}
+
+/// Puts a whole record behind the others. From now on its entries take no more room than they need.
+fn put_whole(done: &mut Vec<BookRecord>, mut whole: BookRecord) -> Result<(), AllocError>
+    ensures { OnOk result (map record_of done.new.items ≡ map record_of done.old.items ++ record_of whole ∷ []) }
+{
+    whole.entries.shrink_to_fit();
+    done.push(whole)?;
+    Ok(())
 }
 
 /// What the lines so far have made: the records that are whole, and the one that more entries may follow.
@@ -124,22 +160,6 @@ impl Made {
             done: Vec::new(alloc),
             last: None,
         }
-    }
-
-    /// Puts the record that more entries might have followed with the whole ones. From now on its entries take no more
-    /// room than they need.
-    fn close(&mut self) -> Result<(), AllocError>
-        ensures { OnOk result (made_of self.new ≡ record { done = records_of (made_of self.old); last = None }) }
-    {
-        if let Some(last) = self.last.take() {
-            let Last {
-                mut book_record,
-                ..
-            } = last;
-            book_record.entries.shrink_to_fit();
-            self.done.push(book_record)?;
-        }
-        Ok(())
     }
 
     /// Whether the record of a target may come next.
@@ -167,8 +187,12 @@ impl Made {
         if !self.may_follow(&target) {
             return Err(BookFault::Line(number));
         }
-        self.close()?;
-        self.last = Some(Last::new(alloc, target, state));
+        let Some(last) = &mut self.last else {
+            self.last = Some(Last::new(alloc, target, state));
+            return Ok(());
+        };
+        let whole = last.begin(alloc, target, state)?;
+        put_whole(&mut self.done, whole)?;
         Ok(())
     }
 
@@ -213,11 +237,15 @@ impl Made {
     }
 
     /// The book of the records.
-    pub(crate) fn finish(mut self) -> Result<Book, AllocError>
+    pub(crate) fn finish(self) -> Result<Book, AllocError>
         requires { IsBook (records_of (made_of self)) }
         ensures { IfOk result (λ book. book ≡ records_of (made_of self)) }
     {
-        self.close()?;
-        Ok(Book::of_records(self.done))
+        let Made { mut done, last } = self;
+        if let Some(last) = last {
+            let Last { book_record, .. } = last;
+            put_whole(&mut done, book_record)?;
+        }
+        Ok(Book::of_records(done))
     }
 }

@@ -195,6 +195,49 @@ fn an_entry_is_once_among_many(rt: HostRuntime) -> Result<(), Fail> {
     Ok(())
 }
 
+/// Lines of a record with 40 entries, of two kinds.
+fn record_of_many(alloc: Global, target: &str) -> Result<Vec<u8>, Fail> {
+    let mut text = format!(in alloc; "target none {target}\n")?;
+    for number in 0..20 {
+        let lines = format!(in alloc; "create c{number}\nchange none c{number}\n")?;
+        text.push_str(lines.as_str())?;
+    }
+    Ok(text.into_bytes())
+}
+
+#[test]
+fn what_a_record_has_the_next_may_have(rt: HostRuntime) -> Result<(), Fail> {
+    let alloc = rt.alloc();
+    for (lines, fault) in [
+        ("target none b\nend\n", None),
+        (
+            "target none b\ncreate c0\ncreate c1\nalways\ntarget none c\ncreate c1\nalways\nend\n",
+            None,
+        ),
+        (
+            "target none b\ncreate c0\nchange none c0\ncreate c0\nend\n",
+            Some(45),
+        ),
+        (
+            "target none b\nalways\ntarget none c\nalways\nalways\nend\n",
+            Some(46),
+        ),
+    ] {
+        let mut bytes = record_of_many(alloc, "a")?;
+        bytes.extend_from_slice(lines.as_bytes())?;
+        assert_eq!(rt;
+            fault_of(alloc, &bytes),
+            fault.map(BookFault::Line),
+            "{lines}"
+        );
+    }
+    let mut bytes = record_of_many(alloc, "a")?;
+    bytes.extend_from_slice(record_of_many(alloc, "b")?.as_slice())?;
+    bytes.extend_from_slice(b"create d\ncreate c19\nend\n")?;
+    assert_eq!(rt; fault_of(alloc, &bytes), Some(BookFault::Line(84)));
+    Ok(())
+}
+
 #[test]
 fn a_written_book_is_read_back(rt: HostRuntime) -> Result<(), Fail> {
     let alloc = rt.alloc();
