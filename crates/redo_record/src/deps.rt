@@ -25,8 +25,9 @@ pub struct Dep {
     pub path: Path,
 }
 
-/// Up to how many entries are compared with each other rather than looked up.
-const FEW: usize = 8;
+/// Up to how many entries are compared with each other rather than looked up. Looking one up takes more steps than
+/// comparing it with so many, and most records have fewer.
+const FEW: usize = 16;
 
 /// Where entries are kept. Many are boxed, since most records have a few entries and each target has one.
 #[derive(Drop)]
