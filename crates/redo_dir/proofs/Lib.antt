@@ -1,6 +1,6 @@
 pub mod EntryNameLemmas
+pub mod FrontLemmas
 pub mod LevelLemmas
 pub mod LoadedLemmas
 pub mod LookedLemmas
-pub mod StoredFileLemmas
 pub mod TextLemmas

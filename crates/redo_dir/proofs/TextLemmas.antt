@@ -1,9 +1,8 @@
 -- Lists of paths that are text, and trees of them.
-use Rattle.std.proofs.Common.{◌≡◌, ◌<◌, ◌+◌, ℕ, List, [], ◌∷◌, get_or, length, map, take, refl, sym, ap, subst, zero}
-use Rattle.std.proofs.Common.{suc, arith, Option, Some, None, ◌++◌, ◌∙◌}
+use Rattle.std.proofs.Common.{◌≡◌, ℕ, List, [], ◌∷◌, map, take, refl, sym, ap, subst}
+use Rattle.std.proofs.Common.{Option, Some, None, ◌++◌, ◌∙◌}
 use Rattle.std.specs.Prelude.{Err, IsUtf8, slice_get, Ok}
 use Rattle.std.specs.List.{AllByRecursion}
-use Rattle.redo_path.proofs.ApartLemmas.{apart}
 use Rattle.redo_dir.specs.declared.storing.Unwritten.{Unwritten}
 use Rattle.redo_dir.specs.declared.storing.Unwritten.TheVariants.{Device, Name, Memory}
 use Rattle.redo_dir.specs.declared.faults.StoreFault.{StoreFault}
@@ -20,23 +19,6 @@ use Rattle.redo_tree.specs.declared.faults.TreeFault.{TreeFault}
 use Rattle.redo_tree.specs.Tree.{Node, Directory, File, Tree, added, refusal, with_node}
 use Rattle.redo_dir.specs.Directory.{HasTextPaths, HasTexts, MeansText, fault_at}
 use Rattle.redo_dir.specs.inside.Levels.{with_waiting}
-
--- what a list that was made of another one has at a place
-pub at_map : {A : Type 0} (f : A → List ℕ) (xs : List A) (k : ℕ) (d : A) → k < length xs → d ≡ get_or xs k d → slice_get (map f xs) k ≡ Some (f d)
-at_map f [] k d l e = absurd (omega arith)
-at_map f (x ∷ xs) zero d l e = ap (λ y. Some (f y)) (sym e)
-at_map f (x ∷ xs) (suc k) d l e = at_map f xs k d (omega arith) e
-
-texts_suc : (paths : List (List ℕ)) (k : ℕ) (path : List ℕ) → slice_get paths k ≡ Some path → IsUtf8 path → AllByRecursion IsUtf8 (take k paths) → AllByRecursion IsUtf8 (take (suc k) paths)
-texts_suc [] k path e u h = apart cc
-texts_suc (x ∷ xs) zero path e u h = let same : x ≡ path = cc in (subst IsUtf8 (sym same) u, tt)
-texts_suc (x ∷ xs) (suc k) path e u h = (h.0, texts_suc xs k path e u h.1)
-
--- one path more is text
-pub texts_next : (paths : List (List ℕ)) (k : ℕ) (path : List ℕ) → slice_get paths k ≡ Some path → IsUtf8 path → AllByRecursion IsUtf8 (take k paths) → AllByRecursion IsUtf8 (take (k + 1) paths)
-texts_next paths k path e u h =
-    let more : suc k ≡ k + 1 = omega arith in
-    subst (λ n. AllByRecursion IsUtf8 (take n paths)) more (texts_suc paths k path e u h)
 
 refused_so : (paths : List (List ℕ)) (k : ℕ) (path : List ℕ) (fault : Unwritten) → slice_get paths k ≡ Some path → MeansText {A = Unit {0}} (Err fault) path → AllByRecursion IsUtf8 (take k paths) → HasTexts {A = Unit {0}} (Err (fault_at fault k)) paths
 refused_so paths k path (Device kind) e w h = (path, e, w, h)

@@ -1,24 +1,23 @@
 //! Writing files into a directory of the system, each of which appears whole or not at all.
 
-ghost use Rattle.std.specs.Prelude.{◌≡◌, ◌++◌, ◌∷◌, [], map, take, IfOk, OnErr, OnOk, string_bytes};
-ghost use Rattle.std.specs.Path.{path_buf_bytes, path_join};
-ghost use Rattle.redo_dir.specs.Directory.{HasTexts, IsBeside, MeansText, fault_at, places_in, stored_count};
-ghost use Rattle.redo_dir.specs.Directory.{temporary_name};
+ghost use Rattle.std.specs.Prelude.{◌≡◌, ◌++◌, ◌∷◌, [], ◌<◌, IfErr, IfOk, IsUtf8, List, OnErr, OnOk, length, map};
+ghost use Rattle.std.specs.Prelude.{take, ℕ};
+ghost use Rattle.std.specs.Path.{path_join};
+ghost use Rattle.redo_dir.specs.Directory.{HasTexts, MeansText, fault_at, places_in, stored_count};
+ghost use Rattle.redo_dir.specs.inside.Batches.{Advances, IsFront, KeepsDrafts, Names, Stops};
 
 use crate::StoreFault;
-use crate::whole::{Whole, finish};
+use crate::batches::{FILES_OF_A_BATCH, front_of, threads_for, write_by, write_in_turn};
+use crate::whole::{Draft, Whole};
 use redo_path::Path;
 use redo_tree::Content;
 use std::alloc::{AllocError, AllocFailed, Global};
-use std::fs::File;
+use std::io;
 use std::io::ErrorKind;
 use std::marker::Model;
-use std::path::{Path as SystemPath, PathBuf};
+use std::path::Path as SystemPath;
 use std::rt::Files;
-use std::{fs, io};
-
-/// How many names are tried for a new file.
-const MOST_TRIES: u64 = 1000;
+use std::thread::Threads;
 
 /// Why one file was not written.
 #[derive(Clone, Copy, Debug, PartialEq, Eq)]
@@ -62,49 +61,6 @@ impl From<io::Error> for Unwritten {
     }
 }
 
-/// The name of a new file, of the tries at one.
-fn temporary_name(alloc: Global, number: u64) -> Result<String, AllocError>
-    ensures { IfOk result (λ name. string_bytes name ≡ temporary_name number) }
-{
-    let mut name = String::from_str(alloc, ".redo-")?;
-    name.push_str(&number.to_string(alloc)?)?;
-    name.push_str(".tmp")?;
-    Ok(name)
-}
-
-/// Makes a new file in the directory of the target, under a name that nothing has.
-fn begin<R: Files>(rt: &R, alloc: Global, target: &PathBuf) -> io::Result<(R::File, PathBuf)>
-    ensures { IfOk result (λ made. IsBeside (path_buf_bytes target.now) (path_buf_bytes made.1)) }
-{
-    for number in 0..MOST_TRIES {
-        let name = temporary_name(alloc, number)?;
-        let beside = target.with_file_name(alloc, &name)?;
-        match File::create_new(rt, beside.as_path()) {
-            Ok(file) => return Ok((file, beside)),
-            Err(error) if error.kind() == ErrorKind::AlreadyExists => {}
-            Err(error) => return Err(error),
-        }
-    }
-    Err(io::Error::from(ErrorKind::AlreadyExists))
-}
-
-/// Writes a file, which appears whole or not at all.
-fn write_file<R: Files>(
-    rt: &R,
-    alloc: Global,
-    target: PathBuf,
-    content: &Content,
-) -> io::Result<Whole>
-    ensures { IfOk result (λ whole. whole ≡ (path_buf_bytes target, content.now)) }
-{
-    let (file, beside) = begin(rt, alloc, &target)?;
-    let outcome = finish(rt, file, &beside, target, content);
-    if outcome.is_err() {
-        let _removed = fs::remove_file(rt, beside.as_path());
-    }
-    outcome
-}
-
 /// What was written by [`store_files`], which alone makes one: the files' places in the system and their
 /// bytes, in the order in which they were written.
 #[derive(Drop)]
@@ -133,49 +89,129 @@ impl Stored {
         }
     }
 
-    /// Writes one file more.
-    fn write<R: Files>(
-        &mut self,
-        rt: &R,
-        alloc: Global,
-        dir: &str,
-        path: &Path,
-        content: &Content,
-    ) -> Result<(), Unwritten>
-        ensures text { MeansText result path.now }
-        ensures file { OnOk result (self.new ≡ self.old ++ (path_join dir.now path.now, content.now) ∷ []) }
+    /// Gives one draft more its name.
+    fn name<R: Files>(&mut self, rt: &R, draft: Draft) -> Result<(), Unwritten>
+        ensures text { (path : List ℕ) → IsUtf8 path → MeansText result path }
+        ensures file { OnOk result (self.new ≡ self.old ++ draft ∷ []) }
         ensures kept { OnErr result (self.new ≡ self.old) }
     {
-        let Ok(text) = str::from_utf8(path.text()) else {
-            return Err(Unwritten::Name);
-        };
-        // So that no file is written that can't be noted.
-        self.files.reserve(1)?;
-        let target = SystemPath::new(dir).join(alloc, text)?;
-        let whole = write_file(rt, alloc, target, content)?;
+        let whole = draft.finish(rt)?;
         self.files.push(whole)?;
         Ok(())
     }
 
-    /// Writes files, in the order of the list, and stops at the first that can't be written.
-    fn write_each<R: Files>(
+    /// Gives drafts that were written their names, in their order, up to the first that can't have its own. Of that one
+    /// and of those behind it nothing is left.
+    fn name_each<R: Files>(&mut self, rt: &R, drafts: Vec<Draft>) -> Result<(), Unwritten>
+        ensures { Names self.old drafts.items self.new result }
+    {
+        let mut outcome = Ok(());
+        'drafts: for draft in drafts {
+            if outcome.is_ok() {
+                outcome = self.name(rt, draft);
+            } else {
+                draft.discard(rt);
+            }
+        }
+        outcome
+    }
+
+    /// Stores files together: writes all of them, and then gives them their names. Those before one of which no draft
+    /// can be made are stored alone.
+    fn store_front<R: Files, W: Fn(&[(Path, Content)], &mut [Draft])>(
         &mut self,
         rt: &R,
         alloc: Global,
+        write: &W,
+        dir: &str,
+        files: &[(Path, Content)],
+    ) -> Result<(), Unwritten>
+        requires files { 0 < length files.now }
+        requires write { W.IsAlwaysCallable write.now }
+        requires keeps { KeepsDrafts W.Fn write.now }
+        ensures { Advances dir.now files.now self.old self.new result }
+    {
+        let mut drafts = drafts_of(alloc, dir, files)?;
+        // So that no file is written that can't be noted.
+        self.files.reserve(drafts.len())?;
+        write(files, &mut drafts);
+        self.name_each(rt, drafts)
+    }
+
+    /// Stores files, in the order of the list, so many together at most, and stops at the first that can't be stored.
+    fn store_each<R: Files, W: Fn(&[(Path, Content)], &mut [Draft])>(
+        &mut self,
+        rt: &R,
+        alloc: Global,
+        most: usize,
+        write: &W,
         dir: &str,
         files: &[(Path, Content)],
     ) -> Result<(), StoreFault>
-        requires { self.old ≡ [] }
+        requires empty { self.old ≡ [] }
+        requires write { W.IsAlwaysCallable write.now }
+        requires keeps { KeepsDrafts W.Fn write.now }
         ensures text { HasTexts result (map (λ file. file.0) files.now) }
         ensures files { self.new ≡ places_in dir.now (take (stored_count result files.now) files.now) }
     {
-        for (place, (path, content)) in files.iter().enumerate() {
-            if let Err(fault) = self.write(rt, alloc, dir, path, content) {
-                return Err(at_place(fault, place));
+        while self.files.len() < files.len() {
+            let front = front_of(&files[self.files.len()..], most);
+            if let Err(fault) = self.store_front(rt, alloc, write, dir, front) {
+                return Err(at_place(fault, self.files.len()));
             }
         }
         Ok(())
     }
+}
+
+/// The draft of one file.
+fn draft_of(alloc: Global, dir: &str, path: &Path, content: &Content) -> Result<Draft, Unwritten>
+    ensures text { MeansText result path.now }
+    ensures draft { IfOk result (λ draft. draft ≡ (path_join dir.now path.now, content.now)) }
+{
+    let Ok(text) = str::from_utf8(path.text()) else {
+        return Err(Unwritten::Name);
+    };
+    let target = SystemPath::new(dir).join(alloc, text)?;
+    Ok(Draft::new(target, content.clone()?))
+}
+
+/// Notes the draft of one file more.
+fn add_draft(
+    drafts: &mut Vec<Draft>,
+    alloc: Global,
+    dir: &str,
+    path: &Path,
+    content: &Content,
+) -> Result<(), Unwritten>
+    ensures text { MeansText result path.now }
+    ensures draft { OnOk result (drafts.new.items ≡
+        drafts.old.items ++ (path_join dir.now path.now, content.now) ∷ []) }
+    ensures kept { OnErr result (drafts.new.items ≡ drafts.old.items) }
+{
+    let draft = draft_of(alloc, dir, path, content)?;
+    drafts.push(draft)?;
+    Ok(())
+}
+
+/// Drafts of the first of some files, of as many as can be made; or why none of the very first can.
+fn drafts_of(alloc: Global, dir: &str, files: &[(Path, Content)]) -> Result<Vec<Draft>, Unwritten>
+    requires { 0 < length files.now }
+    ensures some { IfOk result (λ drafts. 0 < length drafts.items) }
+    ensures front { IfOk result (λ drafts. IsFront dir.now files.now drafts.items) }
+    ensures fault { IfErr result (Stops files.now 0) }
+{
+    let mut drafts = Vec::new(alloc);
+    for (path, content) in files {
+        if let Err(fault) = add_draft(&mut drafts, alloc, dir, path, content) {
+            if drafts.is_empty() {
+                return Err(fault);
+            }
+            // It comes first once those before it are stored.
+            return Ok(drafts);
+        }
+    }
+    Ok(drafts)
 }
 
 /// The fault of the file at a place of the list.
@@ -187,6 +223,25 @@ fn at_place(fault: Unwritten, place: usize) -> StoreFault
         Unwritten::Name => StoreFault::Name(place),
         Unwritten::Memory => StoreFault::Memory(place),
     }
+}
+
+/// Stores files, so many together at most, which are written by `write`.
+fn store<R: Files, W: Fn(&[(Path, Content)], &mut [Draft])>(
+    rt: &R,
+    alloc: Global,
+    most: usize,
+    write: &W,
+    dir: &str,
+    files: &[(Path, Content)],
+) -> (Stored, Result<(), StoreFault>)
+    requires write { W.IsAlwaysCallable write.now }
+    requires keeps { KeepsDrafts W.Fn write.now }
+    ensures text { HasTexts result.1 (map (λ file. file.0) files.now) }
+    ensures files { result.0 ≡ places_in dir.now (take (stored_count result.1 files.now) files.now) }
+{
+    let mut stored = Stored::new(alloc);
+    let outcome = stored.store_each(rt, alloc, most, write, dir, files);
+    (stored, outcome)
 }
 
 /// Writes files into a directory of the system, in the order of the list, and stops at the first that
@@ -205,7 +260,43 @@ pub fn store_files<R: Files>(
     ensures text { HasTexts result.1 (map (λ file. file.0) files.now) }
     ensures files { result.0 ≡ places_in dir.now (take (stored_count result.1 files.now) files.now) }
 {
-    let mut stored = Stored::new(alloc);
-    let outcome = stored.write_each(rt, alloc, dir, files);
-    (stored, outcome)
+    store(
+        rt,
+        alloc,
+        1,
+        &|_, drafts| write_in_turn(rt, alloc, drafts),
+        dir,
+        files,
+    )
+}
+
+/// Writes files as [`store_files`] does, by so many threads at most, of which the caller's is one. Where there is
+/// enough to do for several, a batch of files is written beside their places before the first of them takes its own, in
+/// the order of the list; so a run that is killed may leave a batch of temporary files. Zero workers are taken as one.
+/// The threads open files, so what `R` opens is to be `Send`.
+pub fn store_files_by<R: Files + Threads + Sync>(
+    rt: &R,
+    alloc: Global,
+    workers: usize,
+    dir: &str,
+    files: &[(Path, Content)],
+) -> (Stored, Result<(), StoreFault>)
+where
+    R::File: Send,
+    R::Dir: Send,
+    ensures text { HasTexts result.1 (map (λ file. file.0) files.now) }
+    ensures files { result.0 ≡ places_in dir.now (take (stored_count result.1 files.now) files.now) }
+{
+    let most = match threads_for(workers, files) {
+        1 => 1,
+        _ => FILES_OF_A_BATCH,
+    };
+    store(
+        rt,
+        alloc,
+        most,
+        &|files, drafts| write_by(rt, alloc, threads_for(workers, files), drafts),
+        dir,
+        files,
+    )
 }

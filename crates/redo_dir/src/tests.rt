@@ -2,7 +2,7 @@
 //! which it makes and removes. The helpers are small, and a test holds little more than its
 //! directory, so that each is proved in a few seconds.
 
-use crate::{LoadFault, StoreFault, load_dir, load_dir_by, store_files};
+use crate::{LoadFault, StoreFault, load_dir, load_dir_by, store_files, store_files_by};
 use redo_path::{Path, PathFault, resolve};
 use redo_tree::{Content, Tree};
 use std::alloc::Global;
@@ -22,6 +22,9 @@ const LONGEST_NAME: usize = 255;
 const LONG_TEXT: usize = 4080;
 
 const LONG_NAME: &str = "twenty-bytes-of-text";
+
+/// The directories in which numbered files are stored.
+const DIRS: [&str; 4] = ["d0", "d1", "d2", "d3"];
 
 fn path(alloc: Global, word: &[u8]) -> Result<Path, PathFault> {
     let root = Path::root();
@@ -249,6 +252,63 @@ fn store_fault(
     Ok(store_files(rt, rt.alloc(), dir.as_str(), &list).1.err())
 }
 
+/// Adds numbered files to a list, from one number up to another, in turn to each of the four directories. Each file
+/// holds its number.
+fn add_numbered(
+    alloc: Global,
+    list: &mut Vec<(Path, Content)>,
+    from: usize,
+    to: usize,
+) -> Result<(), Fail> {
+    for number in from..to {
+        let word = format!(in alloc; "d{}/{number}", number % 4)?;
+        let text = format!(in alloc; "{number}")?;
+        list.push(listed(alloc, word.as_bytes(), text.as_str())?)?;
+    }
+    Ok(())
+}
+
+/// A new directory with the four below it.
+fn four_directories(rt: &HostRuntime) -> Result<PathBuf, Fail> {
+    let dir = new_directory(rt)?;
+    make_dirs(rt, &dir, &DIRS)?;
+    Ok(dir)
+}
+
+/// Stores files by so many threads: why not all of them.
+fn store_fault_by<R: Files + Threads + Sync>(
+    rt: &R,
+    alloc: Global,
+    workers: usize,
+    dir: &PathBuf,
+    list: &[(Path, Content)],
+) -> Option<StoreFault>
+where
+    R::File: Send,
+    R::Dir: Send,
+{
+    store_files_by(rt, alloc, workers, dir.as_str(), list)
+        .1
+        .err()
+}
+
+/// The four directories with these files.
+fn tree_with(alloc: Global, files: &[(Path, Content)]) -> Result<Tree, Fail> {
+    let mut tree = tree_of(alloc, &DIRS, &[])?;
+    for (path, content) in files {
+        tree.add_file(path, content.bytes().to_vec(alloc)?)?;
+    }
+    Ok(tree)
+}
+
+/// Whether a directory holds the four and these files, and nothing else, as a temporary file.
+fn holds(rt: &HostRuntime, dir: &PathBuf, files: &[(Path, Content)]) -> Result<bool, Fail> {
+    let meant = tree_with(rt.alloc(), files)?;
+    let mut place = String::new(rt.alloc());
+    let (tree, passed) = load_dir(rt, rt.alloc(), dir.as_str(), &mut place)?;
+    Ok(tree == meant && passed == 0)
+}
+
 // ---- reading
 
 #[test]
@@ -461,5 +521,88 @@ fn a_missing_directory_is_written_to_by_an_empty_list_alone(rt: HostRuntime) -> 
     remove(&rt, &dir)?;
     assert_eq!(rt; found, Some(StoreFault::Device(0, ErrorKind::NotFound)));
     assert_eq!(rt; nothing, None);
+    Ok(())
+}
+
+// ---- writing by several threads
+
+/// Stores a list by so many threads of a handle: why not all of it, and whether exactly the first so many files stand
+/// there.
+fn stored_by<R: Files + Threads + Sync>(
+    rt: &HostRuntime,
+    handle: &R,
+    workers: usize,
+    list: &[(Path, Content)],
+    count: usize,
+) -> Result<(Option<StoreFault>, bool), Fail>
+where
+    R::File: Send,
+    R::Dir: Send,
+{
+    let dir = four_directories(rt)?;
+    let fault = store_fault_by(handle, rt.alloc(), workers, &dir, list);
+    let stand = holds(rt, &dir, &list[..count.min(list.len())])?;
+    remove(rt, &dir)?;
+    Ok((fault, stand))
+}
+
+#[test]
+fn threads_store_what_one_stores(rt: HostRuntime) -> Result<(), Fail> {
+    let mut list = Vec::new(rt.alloc());
+    add_numbered(rt.alloc(), &mut list, 0, 600)?;
+    for workers in [0, 1, 3, 8] {
+        let (fault, all) = stored_by(&rt, &rt, workers, &list, 600)?;
+        assert_eq!(rt; fault, None);
+        assert!(rt; all);
+    }
+    Ok(())
+}
+
+/// 600 numbered files, and one in their middle.
+fn with_middle(alloc: Global, middle: &[u8]) -> Result<Vec<(Path, Content)>, Fail> {
+    let mut list = Vec::new(alloc);
+    add_numbered(alloc, &mut list, 0, 300)?;
+    list.push(listed(alloc, middle, "x")?)?;
+    add_numbered(alloc, &mut list, 300, 600)?;
+    Ok(list)
+}
+
+#[test]
+fn threads_store_nothing_behind_a_fault(rt: HostRuntime) -> Result<(), Fail> {
+    let list = [
+        (
+            b"no/b".as_slice(),
+            StoreFault::Device(300, ErrorKind::NotFound),
+        ),
+        (b"d1", StoreFault::Device(300, ErrorKind::IsADirectory)),
+        (b"d1/\xff", StoreFault::Name(300)),
+    ];
+    for (middle, fault) in list {
+        let files = with_middle(rt.alloc(), middle)?;
+        for workers in [1, 3, 8] {
+            let (found, those_before) = stored_by(&rt, &rt, workers, &files, 300)?;
+            assert_eq!(rt; found, Some(fault));
+            assert!(rt; those_before);
+        }
+    }
+    Ok(())
+}
+
+#[test]
+fn a_file_named_as_another_ones_temporary_file_is_stored(rt: HostRuntime) -> Result<(), Fail> {
+    // A batch would write the second file under the name of the first, and the third under that of the last.
+    let mut list = list_of(
+        rt.alloc(),
+        &[
+            (b"d0/.redo-1.tmp", "first"),
+            (b"d0/a", "second"),
+            (b"d0/b", "third"),
+        ],
+    )?;
+    add_numbered(rt.alloc(), &mut list, 0, 100)?;
+    list.push(listed(rt.alloc(), b"d0/.redo-2.tmp", "last")?)?;
+    let (fault, all) = stored_by(&rt, &rt, 4, &list, list.len())?;
+    assert_eq!(rt; fault, None);
+    assert!(rt; all);
     Ok(())
 }

@@ -1,0 +1,84 @@
+//! Which files are stored together, and by how many threads they are written.
+
+ghost use Rattle.std.specs.Prelude.{◌≡◌, ◌<◌, length, take};
+
+use crate::whole::Draft;
+use redo_path::Path;
+use redo_tree::Content;
+use std::alloc::Global;
+use std::rt::Files;
+use std::thread;
+use std::thread::Threads;
+
+/// How many files are written at most before the first of them gets its name: that many temporary files a run leaves
+/// behind that is killed.
+pub(crate) const FILES_OF_A_BATCH: usize = 256;
+
+/// How many files a thread is to have at least, so that few files start no thread.
+const FILES_OF_A_THREAD: usize = 16;
+
+/// Whether the file could have the name of another's temporary file.
+fn looks_temporary(path: &Path) -> bool {
+    path.name().starts_with(b".redo-")
+}
+
+/// The first files of a list, which are stored together: so many at most. One that could have the name of another's
+/// temporary file is stored by itself, so that it takes no such file's place.
+pub(crate) fn front_of(files: &[(Path, Content)], most: usize) -> &[(Path, Content)]
+    requires { 0 < length files.now }
+    ensures some { 0 < length result.now }
+    ensures front { result.now ≡ take (length result.now) files.now }
+{
+    let most = most.min(files.len());
+    let others = files[..most]
+        .iter()
+        .take_while(|file| !looks_temporary(&file.0))
+        .count();
+    &files[..others.max(1)]
+}
+
+/// By how many threads files are written: by so many workers at most, and by no more than have enough to do. Files of
+/// one directory that are made at the same time wait for one another in the system, so there are no more threads than
+/// directories that follow one another.
+pub(crate) fn threads_for(workers: usize, files: &[(Path, Content)]) -> usize
+    ensures { 0 < result }
+{
+    let turns = files
+        .windows(2)
+        .filter(|pair| pair[0].0.parent_text() != pair[1].0.parent_text())
+        .count();
+    (files.len() / FILES_OF_A_THREAD)
+        .min(workers)
+        .min(turns.saturating_add(1))
+        .max(1)
+}
+
+/// Writes drafts one after another.
+pub(crate) fn write_in_turn<R: Files>(rt: &R, alloc: Global, drafts: &mut [Draft])
+    ensures { drafts.new ≡ drafts.old }
+{
+    for draft in drafts {
+        draft.write(rt, alloc, 0);
+    }
+}
+
+/// Writes drafts by so many threads. Each tries other names first, so that those of one directory seldom try the same.
+pub(crate) fn write_by<R: Files + Threads + Sync>(
+    rt: &R,
+    alloc: Global,
+    threads: usize,
+    drafts: &mut [Draft],
+)
+where
+    R::File: Send,
+    R::Dir: Send,
+    requires { 0 < threads }
+    ensures { drafts.new ≡ drafts.old }
+{
+    thread::for_each_mut(
+        rt,
+        drafts,
+        threads,
+        &|number, draft| draft.write(rt, alloc, number as u64),
+    );
+}
