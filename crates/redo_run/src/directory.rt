@@ -13,7 +13,7 @@ use crate::request::requested;
 use crate::workers::{build_over, past_of};
 use crate::{Cause, Exit, Observer, Options, RunDirFault};
 use redo_bundle::{ByteOut, write_all};
-use redo_dir::{LoadFault, StoreFault, Stored, load_dir, load_dir_by, store_files};
+use redo_dir::{LoadFault, StoreFault, Stored, load_dir, load_dir_by, store_files_by};
 use redo_path::Path;
 use redo_report::{Report, write_report};
 use redo_tree::{Content, Tree};
@@ -77,17 +77,21 @@ where
     loaded
 }
 
-/// Stores files. Where one can't be stored, the cause names it.
-fn store<H: Files>(
+/// Stores files by up to so many threads. Where one can't be stored, the cause names it.
+fn store<H: Files + Threads + Sync>(
     rt: &H,
     alloc: Global,
+    threads: usize,
     dir: &str,
     files: &[(Path, Content)],
     cause: &mut Cause,
 ) -> Result<Stored, StoreFault>
+where
+    H::File: Send,
+    H::Dir: Send,
     ensures { IfOk result (λ stored. stored ≡ places_in dir.now files.now) }
 {
-    let (stored, outcome) = store_files(rt, alloc, dir, files);
+    let (stored, outcome) = store_files_by(rt, alloc, threads, dir, files);
     match outcome {
         Ok(()) => Ok(stored),
         Err(fault) => {
@@ -154,8 +158,8 @@ fn with_book_last(
 
 /// Reads a directory with all that is below it, builds the targets of its sources, writes the files that were built and
 /// the new book into the directory, and then writes the report, without the files. A file that already stood there as
-/// it came out is not written again. The workers read the directory and make the digests that the book is compared
-/// with, too; what they open is to be `Send`.
+/// it came out is not written again. The workers read the directory, make the digests that the book is compared with,
+/// and write the files, too; what they open is to be `Send`.
 ///
 /// Nothing is written before the build has answered. The book is stored behind all other files. Where a file can't be
 /// stored, those before it were, and no report is written; where the report can't be written, all files were stored.
@@ -196,7 +200,7 @@ where
     let exit = exit_after(alloc, &report, &request)?;
     let Report { rows, files, begun } = report.into_report(alloc)?;
     let files = with_book_last(alloc, changed(alloc, &tree, files)?)?;
-    let stored = store(rt, alloc, dir, &files, cause)?;
+    let stored = store(rt, alloc, options.workers, dir, &files, cause)?;
     let report = Report { rows, files, begun };
     write_report(writer, &report, false)?;
     Ok(DirRun {
