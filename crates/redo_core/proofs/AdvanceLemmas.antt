@@ -1,13 +1,15 @@
 -- A work that is advanced comes to what its piece says.
-use Rattle.std.proofs.Common.{◌≡◌, ℕ, ◌+◌, ◌<◌, ◌↔◌, List, [], ◌∷◌, filter, Option, Some, None, inl, inr}
-use Rattle.std.proofs.Common.{Bool, true, refl, sym, ap, subst, ◌∙◌, arith, length, slice_get, Global}
-use Rattle.std.specs.Prelude.{is_none, Box}
+use Rattle.std.proofs.Common.{◌≡◌, ℕ, ◌+◌, ◌↔◌, List, [], ◌∷◌, filter, Option, Some, None, inl, inr, Bool, true, not}
+use Rattle.std.proofs.Common.{◌&&◌, refl, sym, ap, subst, ◌∙◌, Global}
+use Rattle.std.specs.Prelude.{is_none, is_some, Box}
+use Rattle.std.specs.declared.vec.Vec.{Vec}
 use Rattle.std.proofs.lemmas.Bool.{and_from, cases_Bool}
 use Rattle.redo_record.specs.declared.deps.Dep.{Dep}
 use Rattle.redo_record.specs.declared.outcome.Outcome.{Outcome}
 use Rattle.redo_step.specs.declared.job.Done.{Done}
-use Rattle.redo_record.specs.Progress.{Progress}
-use Rattle.redo_step.specs.Setting.{Setting, is_rule}
+use Rattle.redo_record.specs.Progress.{Progress, changes}
+use Rattle.redo_tree.specs.Tree.{Tree, file_at}
+use Rattle.redo_step.specs.Setting.{Setting, is_rule, setting_by}
 use Rattle.redo_step.specs.Reach.{Keeps}
 use Rattle.redo_step.specs.JobView.{JobView, job_setting, progress_of, record_so_far, IsFit}
 use Rattle.redo_step.specs.Job.{AsksFor, EndsAs, with_rest}
@@ -17,7 +19,7 @@ use Rattle.redo_build.specs.Outcomes.{outcome_at}
 use Rattle.redo_build.specs.Schedule.{only}
 use Rattle.redo_core.specs.Build.{GivenView, rules_for}
 use Rattle.redo_build.specs.inside.Turns.{IsPiece, progress_at_turn}
-use Rattle.redo_core.specs.inside.Works.{IsWorkWith, IsJobOf, IsStopped, AreKnownBelow, all_asked, job_deps, told_in}
+use Rattle.redo_core.specs.inside.Works.{IsWorkWith, IsJobOf, IsStopped, all_asked, job_deps, told_in, waited_by}
 use Rattle.redo_core.specs.inside.Decided.{IsDecided}
 use Rattle.redo_build.specs.Lacking.{lacking_under}
 use Rattle.redo_core.specs.inside.Ends.{IsEndAt, end_progress}
@@ -28,11 +30,11 @@ use Rattle.redo_core.specs.declared.work.Begun.{Begun}
 use Rattle.redo_core.specs.declared.facts.Facts.{Facts}
 use Rattle.redo_build.proofs.DepthLemmas.{cases_Option}
 use Rattle.redo_build.proofs.HandoverLemmas.{piece-begun, piece-fact}
-use Rattle.redo_core.proofs.AllAskedLemmas.{asked-first, asked-second}
-use Rattle.redo_core.proofs.JobLemmas.{entry-operand, job_progress}
+use Rattle.redo_core.proofs.AllAskedLemmas.{asked-first}
+use Rattle.redo_core.proofs.JobLemmas.{job_progress}
 use Rattle.redo_core.proofs.LawfulTreeLemmas.{lawful_for}
-use Rattle.redo_record.specs.Entries.{IsBeginning, with_all}
-use Rattle.redo_core.proofs.PrefixLemmas.{asks-begins, beginning-get, beginning-length, keeps-itself}
+use Rattle.redo_record.specs.Entries.{with_all}
+use Rattle.redo_core.proofs.StopLemmas.{MoreAnswers, keeps-itself, stopped-lacks}
 use Rattle.redo_build.proofs.TurnLemmas.{only-among, only-some}
 
 -- What lacks
@@ -69,6 +71,18 @@ ended-lacks r lawful p ask = (
       let found = (lawful.each p).lacking ask stopped in
       one_passes (λ q. is_none (ask q)) (asked_under r p ask) found.0 found.1 (rw found.2 refl) nothing,
 )
+
+-- what has a source is left out, and then what has an answer
+no-sources : (source : List ℕ → Option (List ℕ)) (ask : Ask) (ps : List (List ℕ)) →
+    filter (λ q. is_none (source q) && is_none (ask q)) ps ≡ filter (λ q. is_none (ask q)) (filter (λ q. not (is_some (source q))) ps)
+no-sources source ask [] = refl
+no-sources source ask (p ∷ ps) = elim (cases_Option (source p)) [
+  | inl none ↦ elim (cases_Bool (is_none (ask p))) [
+    | inl t ↦ rw (none, t) (ap (λ qs. p ∷ qs) (no-sources source ask ps))
+    | inr f ↦ rw (none, f) (no-sources source ask ps)
+  ]
+  | inr some ↦ rw some.1 (no-sources source ask ps)
+]
 
 -- how far a target comes as its script does, which is begun behind a check that asked for these
 abbrev pub behind_asked : List Dep → Progress → Progress
@@ -191,15 +205,14 @@ module _ (given : GivenView) (job : JobView) (facts : Facts) (work : IsWorkWith 
     still_set : job_setting later ≡ job_setting job
     still_set = ap job_setting asks.same
 
-    begins : IsBeginning job.state.entries later.state.entries
-    begins = asks-begins (told_in facts) job later paths work-fits asks
-
-    still_known : AreKnownBelow (rules_for given) later (told_in facts) facts.gained
-    still_known k d q below get is none =
-        let within : k < length job.state.entries = omega (arith, below, work.gained) in
-        let before : slice_get job.state.entries k ≡ Some d = sym (beginning-get job.state.entries later.state.entries begins k within) ∙ get in
-        let asked = asked-second r facts.asked (job_deps job) q (work.declared q (entry-operand r job.state.entries k d q before is)) in
-        has-all q asked none
+    -- it waits for the paths that it names
+    paths-are : MoreAnswers → paths ≡ waited_by (rules_for given) (record { job = later; facts = facts })
+    unfolding setting_by
+    paths-are law =
+        let known = told_in facts in
+        let S : Tree → Type 0 = λ tree. paths ≡ filter (λ q. is_none (file_at tree q) && is_none (known q)) (changes later.state.entries) in
+        let own : S job.tree = stopped-lacks law (job_setting job) known asks.script paths later.state asks.lacks in
+        subst S work.is_job.of_tree own ∙ no-sources (file_at given.past.sources) known (changes later.state.entries)
 
     -- a script that asks for more is at its next turn
     pub advanced-stopped : IsStopped given work.is_work.depth work.is_work.looks job.target job.turn later facts
@@ -213,22 +226,22 @@ module _ (given : GivenView) (job : JobView) (facts : Facts) (work : IsWorkWith 
           behind = work.behind;
           checked = λ q m none. has-all q (asked-first r facts.asked (job_deps job) q m) none;
           goes_on = λ ask keeps. asks.fits ask (subst (λ (x : Setting). Keeps x later.state.entries (told_in facts) ask) still_set keeps);
-          within = omega (arith, work.gained, beginning-length job.state.entries later.state.entries begins);
-          gained = still_known;
           own = sym (job_progress given job work.is_job (told_in facts)) ∙ asks.progress;
         }
 
     -- it is the end of a piece that stopped
-    pub stopped-end : (begun : Box Begun Global) → begun.value ≡ record { job = later; facts = facts } → IsEndAt given job.target job.turn (Stopped begun)
+    pub stopped-end : MoreAnswers → (begun : Box Begun Global) (lacks : Vec (List ℕ) Global) → begun.value ≡ record { job = later; facts = facts } → lacks.items ≡ paths →
+        IsEndAt given job.target job.turn (Stopped begun lacks)
     unfolding advanced-piece
-    stopped-end begun is =
+    stopped-end law begun lacks is same =
         record {
           is_piece = rw is (advanced-piece (record { outcome = None; deps = record_so_far later }) asks.progress);
-          is_end = rw is advanced-stopped;
+          is_end = (rw is advanced-stopped, same ∙ rw is (paths-are law));
         }
 
-    pub asks-progress : (begun : Box Begun Global) → begun.value ≡ record { job = later; facts = facts } → end_progress (Stopped begun) ≡ (rules_for given).progress job.target (told_in facts)
-    asks-progress begun is = rw is (work-progress (record { outcome = None; deps = record_so_far later }) asks.progress)
+    pub asks-progress : (begun : Box Begun Global) (lacks : Vec (List ℕ) Global) → begun.value ≡ record { job = later; facts = facts } →
+        end_progress (Stopped begun lacks) ≡ (rules_for given).progress job.target (told_in facts)
+    asks-progress begun lacks is = rw is (work-progress (record { outcome = None; deps = record_so_far later }) asks.progress)
 
   -- what the piece says has an outcome exactly where the work lacks nothing
   pub end-lacks : (end : End) → end_progress end ≡ (rules_for given).progress job.target (told_in facts) →

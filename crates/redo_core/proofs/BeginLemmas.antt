@@ -79,10 +79,10 @@ none-only given asked a none q = ap (λ ds. only (operands (rules_for given) ds)
 
 -- a check that is due asked for nothing yet
 pub begun-due : (given : GivenView) (p : List ℕ) (held : InCheck) → found_of given.past.sources p ≡ found_as held.rule → known_in held.facts ≡ [] →
-    held.facts.gained ≡ 0 → held.facts.asked ≡ [] → held.check.asked ≡ [] → ((a : Ask) → IsDueCheck given p a held.check) →
+    held.facts.asked ≡ [] → held.check.asked ≡ [] → ((a : Ask) → IsDueCheck given p a held.check) →
     (a : Ask) → IsDueWith (rules_for given) a given p 0 held
-begun-due given p held found known gained behind asked due a = record {
-  is_held = record { found = found; at_first = refl; none_gained = gained; none_behind = behind };
+begun-due given p held found known behind asked due a = record {
+  is_held = record { found = found; at_first = refl; none_behind = behind };
   is_due = due a;
   answered = λ q m none. none-asked given held.check.asked asked q m;
   exact = λ q. none-told held.facts known q ∙ sym (none-only given held.check.asked a asked q);
@@ -90,8 +90,8 @@ begun-due given p held found known gained behind asked due a = record {
 
 -- a script that isn't in check, or whose check fell at once, has what a work needs
 pub begun-unread : (given : GivenView) (p : List ℕ) (rule : FoundRule) (facts : Facts) → found_of given.past.sources p ≡ found_as rule → known_in facts ≡ [] →
-    facts.gained ≡ 0 → facts.asked ≡ [] → IsBegunBehind given p [] nothing_known → IsUnreadWork given p (found_as rule) facts
-begun-unread given p rule facts found known gained asked behind =
+    facts.asked ≡ [] → IsBegunBehind given p [] nothing_known → IsUnreadWork given p (found_as rule) facts
+begun-unread given p rule facts found known asked behind =
     let r = rules_for given in
     let first : IsWork r p 0 [] = record {
       depth = 0;
@@ -109,7 +109,6 @@ begun-unread given p rule facts found known gained asked behind =
       is_work = work.0;
       exact = work.1;
       behind = subst B (sym asked) (behind-moves given p [] nothing_known (told_in facts) behind (λ q m. absurd m));
-      gained = gained;
     }
 
 -- whatever is known

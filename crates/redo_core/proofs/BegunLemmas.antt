@@ -37,7 +37,6 @@ begun-work given target rule parsed is_found script fits found facts unread = re
   behind = unread.behind;
   declared = λ q m. m;
   goes_on = λ later keeps. fits later;
-  gained = unread.gained;
   few = omega arith;
 }
 

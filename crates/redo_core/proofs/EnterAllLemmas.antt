@@ -1,7 +1,8 @@
 -- Entering paths one after the other.
-use Rattle.std.proofs.Common.{◌≡◌, ℕ, zero, suc, ◌+◌, ◌<◌, Bool, cond, not, List, [], ◌∷◌, ◌++◌, Some, inl, inr, length}
-use Rattle.std.proofs.Common.{take, drop, take-append-drop, slice_get, filter, filter_map, refl, sym, ap, subst, ◌∙◌}
-use Rattle.std.proofs.Common.{arith}
+use Rattle.std.proofs.Common.{◌≡◌, ℕ, zero, suc, ◌+◌, ◌<◌, Bool, false, cond, not, List, [], ◌∷◌, ◌++◌, Some, inl, inr}
+use Rattle.std.proofs.Common.{length, take, drop, take-append-drop, slice_get, filter, filter_map, refl, sym, ap, subst}
+use Rattle.std.proofs.Common.{◌∙◌, arith}
+use Rattle.std.proofs.lemmas.Bool.{cases_Bool}
 use Rattle.std.proofs.lemmas.List.Elements.{filter_map-append, filter-append}
 use Rattle.redo_record.specs.declared.deps.Dep.{Dep}
 use Rattle.redo_record.specs.Paths.{IsAmong, is_among}
@@ -10,10 +11,8 @@ use Rattle.redo_core.specs.Build.{GivenView, rules_for}
 use Rattle.redo_build.specs.Schedule.{Entry, paths_of, entered, new_entry}
 use Rattle.redo_core.specs.inside.Slots.{table_entries, IsTableOf, AreEnteredInto}
 use Rattle.redo_core.specs.declared.table.Table.{Table}
-use Rattle.redo_core.specs.inside.Works.{IsOperand}
-use Rattle.redo_build.proofs.PathLemmas.{is_among-from}
-use Rattle.redo_core.proofs.TableSteps.{operand-entry, operand-path}
-use Rattle.redo_build.proofs.SeenLemmas.{entered-longer}
+use Rattle.redo_build.proofs.PathLemmas.{is_among-from, with_new-first}
+use Rattle.redo_build.proofs.SeenLemmas.{entered-longer, paths_of-entered}
 
 pub entered-append : (r : Rules) (es : List Entry) (ps qs : List (List ℕ)) → entered r es (ps ++ qs) ≡ entered r (entered r es ps) qs
 entered-append r es [] qs = refl
@@ -30,49 +29,33 @@ operands-append r ds es =
     ap (filter test) (filter_map-append (λ (d : Dep). changed d.kind d.path) ds es) ∙
     filter-append test (filter_map (λ (d : Dep). changed d.kind d.path) ds) (filter_map (λ (d : Dep). changed d.kind d.path) es)
 
-pub take-more : (ds : List Dep) (i : ℕ) (d : Dep) → slice_get ds i ≡ Some d → take (i + 1) ds ≡ take i ds ++ d ∷ []
-take-more [] i d h = cc
-take-more (x ∷ ds) zero d h = let same : x ≡ d = cc in ap (λ y. y ∷ []) same
-take-more (x ∷ ds) (suc i) d h = let e : suc i + 1 ≡ suc (i + 1) = omega arith in rw e (ap (λ l. x ∷ l) (take-more ds i d h))
+-- paths that are left out add nothing where each was seen
+pub entered-passed : (r : Rules) (f : List ℕ → Bool) (es : List Entry) (ps : List (List ℕ)) →
+    ((q : List ℕ) → IsAmong ps q → f q ≡ false → IsAmong (paths_of es) q) → entered r es (filter f ps) ≡ entered r es ps
+entered-passed r f es [] h = refl
+entered-passed r f es (p ∷ ps) h = elim (cases_Bool (f p)) [
+  | inl t ↦
+      let A : List (List ℕ) → Type 0 = λ xs. (q : List ℕ) → IsAmong ps q → f q ≡ false → IsAmong xs q in
+      let wider = subst A (sym (paths_of-entered r es (p ∷ []))) (λ q m n. with_new-first (paths_of es) (p ∷ []) q (h q (inr m) n)) in
+      rw t (entered-passed r f (entered r es (p ∷ [])) ps wider)
+  | inr n ↦ rw (n, is_among-from (paths_of es) p (h p (inl refl) n)) (entered-passed r f es ps (λ q m. h q (inr m)))
+]
 
-pub one-operand : (r : Rules) (d : Dep) → IsOperand r d d.path → operands r (d ∷ []) ≡ d.path ∷ []
-one-operand r d is = rw (is.0, is.1) refl
-
-none_among : (ps : List (List ℕ)) → ((q : List ℕ) → IsAmong ps q → ⊥) → ps ≡ []
-none_among [] h = refl
-none_among (p ∷ ps) h = absurd (h p (inl refl))
-
-pub no-operand : (r : Rules) (d : Dep) → (IsOperand r d d.path → ⊥) → operands r (d ∷ []) ≡ []
-no-operand r d un = none_among (operands r (d ∷ [])) (λ q m.
-    let found = operand-entry r (d ∷ []) q m in
-    absurd (elim (found.0) as (λ (k : ℕ). slice_get (d ∷ []) k ≡ Some found.1 → ⊥) [
-      | zero ↦ λ h.
-          let same : d ≡ found.1 = cc in
-          let P : Dep → Type 0 = λ x. IsOperand r x q in
-          let Q : List ℕ → Type 0 = λ x. IsOperand r d x in
-          let here = subst P (sym same) found.3 in
-          un (subst Q (sym (operand-path r d q here)) here)
-      | suc k ↦ λ h. nothing k found.1 h
-    ] found.2))
-  where
-    nothing : (k : ℕ) (x : Dep) → slice_get {X = Dep} [] k ≡ Some x → ⊥
-    nothing k x h = cc
-
--- some entries and one more
-pub operands-more : (r : Rules) (ds : List Dep) (i : ℕ) (d : Dep) → slice_get ds i ≡ Some d → operands r (take (i + 1) ds) ≡ operands r (take i ds) ++ operands r (d ∷ [])
-operands-more r ds i d get = ap (operands r) (take-more ds i d get) ∙ operands-append r (take i ds) (d ∷ [])
+-- some paths and one more
+pub path-take : (ps : List (List ℕ)) (i : ℕ) (p : List ℕ) → slice_get ps i ≡ Some p → take (i + 1) ps ≡ take i ps ++ p ∷ []
+path-take [] i p h = cc
+path-take (x ∷ ps) zero p h = let same : x ≡ p = cc in ap (λ y. y ∷ []) same
+path-take (x ∷ ps) (suc i) p h = let e : suc i + 1 ≡ suc (i + 1) = omega arith in rw e (ap (λ l. x ∷ l) (path-take ps i p h))
 
 -- where one passes the limit, all do
-pub too-many : (r : Rules) (es mid : List Entry) (limit : ℕ) (ds : List Dep) (i : ℕ) (d : Dep) → slice_get ds i ≡ Some d → IsOperand r d d.path →
-    mid ≡ entered r es (operands r (take i ds)) → limit < length (entered r mid (d.path ∷ [])) → limit < length (entered r es (operands r ds))
-too-many r es mid limit ds i d get is at many =
-    let front = operands-more r ds i d get ∙ ap (λ xs. operands r (take i ds) ++ xs) (one-operand r d is) in
-    let both = ap (operands r) (sym (take-append-drop (i + 1) ds)) ∙ operands-append r (take (i + 1) ds) (drop (i + 1) ds) in
-    let so_far : entered r mid (d.path ∷ []) ≡ entered r es (operands r (take (i + 1) ds)) =
-    ap (λ xs. entered r xs (d.path ∷ [])) at ∙ sym (entered-append r es (operands r (take i ds)) (d.path ∷ [])) ∙ ap (entered r es) (sym front) in
-    let all : entered r es (operands r ds) ≡ entered r (entered r es (operands r (take (i + 1) ds))) (operands r (drop (i + 1) ds)) =
-    ap (entered r es) both ∙ entered-append r es (operands r (take (i + 1) ds)) (operands r (drop (i + 1) ds)) in
-    omega (arith, many, ap length so_far, ap length all, entered-longer r (entered r es (operands r (take (i + 1) ds))) (operands r (drop (i + 1) ds)))
+pub too-many : (r : Rules) (es mid : List Entry) (limit : ℕ) (ps : List (List ℕ)) (i : ℕ) (p : List ℕ) → slice_get ps i ≡ Some p →
+    mid ≡ entered r es (take i ps) → limit < length (entered r mid (p ∷ [])) → limit < length (entered r es ps)
+too-many r es mid limit ps i p get at many =
+    let so_far : entered r mid (p ∷ []) ≡ entered r es (take (i + 1) ps) =
+    ap (λ xs. entered r xs (p ∷ [])) at ∙ sym (entered-append r es (take i ps) (p ∷ [])) ∙ ap (entered r es) (sym (path-take ps i p get)) in
+    let all : entered r es ps ≡ entered r (entered r es (take (i + 1) ps)) (drop (i + 1) ps) =
+    ap (entered r es) (sym (take-append-drop (i + 1) ps)) ∙ entered-append r es (take (i + 1) ps) (drop (i + 1) ps) in
+    omega (arith, many, ap length so_far, ap length all, entered-longer r (entered r es (take (i + 1) ps)) (drop (i + 1) ps))
 
 module _ (given : GivenView) where
   abbrev r : Rules

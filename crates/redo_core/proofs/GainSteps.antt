@@ -28,12 +28,11 @@ decided-fact Out h = cc
 decided-fact (Decided f) h = (f, refl)
 
 -- a fact that was put to the others, behind some of them
-pub adds-fact : (fact : FactView) (old new : Facts) (ks ms : List (List ℕ × Outcome)) → new.gained ≡ old.gained → new.asked ≡ old.asked →
+pub adds-fact : (fact : FactView) (old new : Facts) (ks ms : List (List ℕ × Outcome)) → new.asked ≡ old.asked →
     ((q : List ℕ) → told_in old q ≡ first_of (lookup (bytes_eq q) ks) (lookup (bytes_eq q) ms)) →
     ((q : List ℕ) → told_in new q ≡ first_of (lookup (bytes_eq q) ks) (cond (bytes_eq fact.target q) (Some fact.outcome) (lookup (bytes_eq q) ms))) →
     AddsFact fact old new
-adds-fact fact old new ks ms same asked was now = record {
-  same = same;
+adds-fact fact old new ks ms asked was now = record {
   asked = asked;
   kept = λ q none. elim (cases_Option (lookup (bytes_eq q) ks)) [
     | inl no_few ↦ elim (cases_Bool (bytes_eq fact.target q)) [
@@ -69,29 +68,29 @@ put-first : (b : Bool) (o : Outcome) (x y : Option Outcome) → first_of (cond b
 put-first true o x y = refl
 put-first false o x y = refl
 
-pub adds-few : (fact : Shown FactView) (old new : Facts) → new.gained ≡ old.gained → new.asked ≡ old.asked → more_known new.more ≡ more_known old.more → new.few.items ≡ old.few.items ++ fact ∷ [] →
+pub adds-few : (fact : Shown FactView) (old new : Facts) → new.asked ≡ old.asked → more_known new.more ≡ more_known old.more → new.few.items ≡ old.few.items ++ fact ∷ [] →
     AddsFact fact.value old new
-adds-few fact old new same asked more few =
+adds-few fact old new asked more few =
     let key = fact.value.target in
     let outcome = fact.value.outcome in
     let ks = few_known old.few.items in
     let ms = more_known old.more in
     let both = ap few_known few ∙ map-push old.few.items fact in
-    adds-fact fact.value old new (ms ++ ks) [] same asked
+    adds-fact fact.value old new (ms ++ ks) [] asked
     (λ q. sym (first-alone (lookup (bytes_eq q) (ms ++ ks))))
     (λ q. ap (λ xs. lookup (bytes_eq q) (more_known new.more ++ xs)) both ∙ ap (λ xs. lookup (bytes_eq q) (xs ++ (ks ++ (key, outcome) ∷ []))) more ∙
     ap (lookup (bytes_eq q)) (sym (append_assoc ms ks ((key, outcome) ∷ []))) ∙ lookup-append (bytes_eq q) (ms ++ ks) ((key, outcome) ∷ []) ∙
     ap (λ b. first_of (lookup (bytes_eq q) (ms ++ ks)) (cond b (Some outcome) None)) (either-way key q))
 
-pub adds-more : (fact : Shown FactView) (old new : Facts) → new.gained ≡ old.gained → new.asked ≡ old.asked → new.few ≡ old.few →
+pub adds-more : (fact : Shown FactView) (old new : Facts) → new.asked ≡ old.asked → new.few ≡ old.few →
     ((q : List ℕ) → lookup (bytes_eq q) (more_known new.more) ≡ cond (bytes_eq fact.value.target q) (Some fact.value.outcome) (lookup (bytes_eq q) (more_known old.more))) →
     AddsFact fact.value old new
-adds-more fact old new same asked few more =
+adds-more fact old new asked few more =
     let key = fact.value.target in
     let outcome = fact.value.outcome in
     let ks = few_known old.few.items in
     let ms = more_known old.more in
-    adds-fact fact.value old new [] (ms ++ ks) same asked (λ q. refl)
+    adds-fact fact.value old new [] (ms ++ ks) asked (λ q. refl)
     (λ q. ap (λ (v : Vec (Shown FactView) Global). lookup (bytes_eq q) (more_known new.more ++ few_known v.items)) few ∙ lookup-append (bytes_eq q) (more_known new.more) ks ∙
     ap (λ a. first_of a (lookup (bytes_eq q) ks)) (more q) ∙ put-first (bytes_eq key q) outcome (lookup (bytes_eq q) ms) (lookup (bytes_eq q) ks) ∙
     ap (cond (bytes_eq key q) (Some outcome)) (sym (lookup-append (bytes_eq q) ms ks)))

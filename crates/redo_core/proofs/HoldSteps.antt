@@ -10,8 +10,9 @@ use Rattle.redo_build.specs.Schedule.{Entry, outcomes_of}
 use Rattle.redo_build.specs.inside.Standing.{AreStanding}
 use Rattle.redo_core.specs.inside.Slots.{rounds_of, table_entries, slot_entry, stage_deps, stage_outcome, is_stage_due, is_stage_ready}
 use Rattle.redo_core.specs.inside.Slots.{path_at, Fits, AllWatched, IsPlace}
-use Rattle.redo_core.specs.inside.Slots.{AreNumbers, IsNumbered, waited_by, IsTable, IsTableOf, IsStandingTable}
+use Rattle.redo_core.specs.inside.Slots.{AreNumbers, IsNumbered, IsTable, IsTableOf, IsStandingTable}
 use Rattle.redo_core.specs.inside.Slots.{IsWaitingWith, IsLackingAt, IsHeldAt, IsWatchAdded, IsLookedAt}
+use Rattle.redo_core.specs.inside.Works.{waited_by}
 use Rattle.redo_core.specs.declared.table.Parked.{Parked}
 use Rattle.redo_core.specs.declared.table.Slot.{Slot}
 use Rattle.redo_core.specs.declared.table.Stage.{Stage}
@@ -106,8 +107,6 @@ module _ (given : GivenView) (t : Table) (newly_ready : List ℕ) (table : IsTab
         checked = w.checked;
         own = w.own;
         goes_on = w.goes_on;
-        gained_within = w.gained_within;
-        gained = w.gained;
       }))
 
   pub held-table : IsTableOf given v newly_ready

@@ -1,9 +1,7 @@
 -- What a job asks for, and how far it comes.
-use Rattle.std.proofs.Common.{◌≡◌, ℕ, zero, suc, ◌<◌, List, [], ◌∷◌, true, false, not, Some, filter_map, slice_get}
-use Rattle.std.proofs.Common.{refl, ap, subst, ◌∙◌, inl, inr, arith}
+use Rattle.std.proofs.Common.{◌≡◌, ℕ, zero, suc, ◌<◌, List, [], true, false, refl, subst, inl, inr, arith}
 use Rattle.std.specs.Prelude.{is_some}
-use Rattle.std.proofs.lemmas.Bool.{both_ways, not_from_false}
-use Rattle.redo_record.specs.declared.deps.Dep.{Dep}
+use Rattle.std.proofs.lemmas.Bool.{both_ways}
 use Rattle.redo_tree.specs.Tree.{file_at}
 use Rattle.redo_which.specs.Rule.{Found, Rule}
 use Rattle.redo_record.specs.declared.deps.DepKind.TheVariants.{Change}
@@ -11,28 +9,11 @@ use Rattle.redo_step.specs.JobView.{JobView, found_deps, record_so_far, progress
 use Rattle.redo_record.proofs.Public.{entered_operand, operand_entered, search_enters, whole_cases, whole_second}
 use Rattle.redo_record.specs.Entries.{is_entered}
 use Rattle.redo_record.specs.Paths.{IsAmong}
-use Rattle.redo_build.specs.Rules.{Ask, Rules, changed, operands}
+use Rattle.redo_build.specs.Rules.{Ask, operands}
 use Rattle.redo_core.specs.Build.{IsFit, GivenView, rules_for, sources_for}
-use Rattle.redo_core.specs.inside.Works.{IsJobOf, IsOperand, job_deps}
-use Rattle.redo_build.proofs.DepthLemmas.{cases_Option, operand-target}
-use Rattle.redo_build.proofs.QueueLemmas.{filter-keeps}
+use Rattle.redo_core.specs.inside.Works.{IsJobOf, job_deps}
+use Rattle.redo_build.proofs.DepthLemmas.{operand-target}
 use Rattle.redo_core.proofs.LawfulTreeLemmas.{fit_found, lawful_for}
-
--- an entry that is waited for is an operand
-
-entry-changes : (ds : List Dep) (k : ℕ) (d : Dep) (q : List ℕ) → slice_get ds k ≡ Some d → changed d.kind d.path ≡ Some q → IsAmong (filter_map (λ x. changed x.kind x.path) ds) q
-entry-changes [] k d q at is = cc
-entry-changes (x ∷ ds) zero d q at is =
-    let same : x ≡ d = cc in
-    let here : changed x.kind x.path ≡ Some q = ap (λ (y : Dep). changed y.kind y.path) same ∙ is in
-    rw here (inl refl)
-entry-changes (x ∷ ds) (suc k) d q at is =
-    let rest = entry-changes ds k d q at is in
-    elim (cases_Option (changed x.kind x.path)) [ inl none ↦ rw none rest | inr some ↦ rw some.1 (inr rest) ]
-
-pub entry-operand : (r : Rules) (ds : List Dep) (k : ℕ) (d : Dep) (q : List ℕ) → slice_get ds k ≡ Some d → IsOperand r d q → IsAmong (operands r ds) q
-entry-operand r ds k d q at is =
-    filter-keeps (λ p. not (r.is_source p)) (filter_map (λ x. changed x.kind x.path) ds) q (entry-changes ds k d q at is.0) (not_from_false (r.is_source q) is.1)
 
 module _ (given : GivenView) (job : JobView) (is_job : IsJobOf given job) where
   -- the record of the search waits for the .do file alone, which is a source

@@ -23,7 +23,7 @@ pub mod AllAskedLemmas
 pub mod TableSteps
 pub mod EnterSteps
 pub mod PutSteps
-pub mod PrefixLemmas
+pub mod StopLemmas
 pub mod FactLemmas
 pub mod BeginLemmas
 pub mod BegunLemmas

@@ -281,7 +281,7 @@ module _ (given : GivenView) (u : Table) (at : ℕ) (held : Box InCheck Global) 
             let due = fits given u at held may in
             let waits : IsWaitingCheck given p (outcomes_of ew) q (record held.value.check { asked = more }) = due-waits given p (outcomes_of ew) held.value.check q due.is_due next in
             record {
-              is_held = record { found = due.is_held.found; at_first = due.is_held.at_first; none_gained = due.is_held.none_gained; none_behind = due.is_held.none_behind };
+              is_held = record { found = due.is_held.found; at_first = due.is_held.at_first; none_behind = due.is_held.none_behind };
               waits = waiting-moves given p (outcomes_of ew) (outcomes_of (table_entries r lim v)) q (record held.value.check { asked = more }) waits
                   (λ x m other. asked-same x (other-asked x m (λ is'. other (sym is'))));
               answered = λ x m other none. due.answered x (other-asked x m other) (asked-same x (other-asked x m other) ∙ none);

@@ -11,7 +11,7 @@ use Rattle.redo_build.specs.Rules.{Ask, Rules, operands}
 use Rattle.redo_build.specs.Outcomes.{outcome_at}
 use Rattle.redo_core.specs.Build.{GivenView, rules_for}
 use Rattle.redo_build.specs.Schedule.{Entry, outcome_of, outcomes_of, entry_of, only}
-use Rattle.redo_core.specs.inside.Works.{all_asked, job_deps, told_in, IsWorkWith}
+use Rattle.redo_core.specs.inside.Works.{all_asked, job_deps, told_in, waited_by, IsWorkWith}
 use Rattle.redo_core.specs.inside.Checking.{IsBegunBehind, TellsAlike}
 use Rattle.redo_build.specs.inside.Turns.{IsWork}
 use Rattle.redo_core.proofs.AllAskedLemmas.{asked-cases, asked-second}
@@ -19,7 +19,7 @@ use Rattle.redo_core.proofs.CheckingLemmas.{behind-moves}
 use Rattle.redo_record.specs.Entries.{with_all}
 use Rattle.redo_record.specs.declared.deps.Dep.{Dep}
 use Rattle.redo_core.specs.inside.Slots.{path_at, table_entries, slot_entries, slot_entry, stage_outcome}
-use Rattle.redo_core.specs.inside.Slots.{is_stage_decided, AllFit, Fits, IsDecidedSlot, IsDecidedNumber, IsFactAt, waited_by}
+use Rattle.redo_core.specs.inside.Slots.{is_stage_decided, AllFit, Fits, IsDecidedSlot, IsDecidedNumber, IsFactAt}
 use Rattle.redo_core.specs.inside.Slots.{IsFed, IsFedAs, Gains}
 use Rattle.redo_core.specs.declared.facts.Facts.{Facts}
 use Rattle.redo_core.specs.declared.table.Parked.{Parked}
@@ -34,7 +34,7 @@ use Rattle.redo_core.proofs.JobLemmas.{asked_of_job, asked_by_job}
 use Rattle.redo_build.proofs.TurnLemmas.{only-among}
 use Rattle.redo_core.proofs.SlotLemmas.{entry_of-slots, slice_get-below_some}
 use Rattle.redo_core.proofs.TableLemmas.{get-set_cases, get-set_other}
-use Rattle.redo_core.proofs.TableSteps.{operand-entry, waited-declared, waited-place}
+use Rattle.redo_core.proofs.TableSteps.{waited-declared, waited-place}
 use Rattle.redo_core.proofs.GainSteps.{decided-fact}
 use Rattle.redo_core.proofs.NewlyReadyLemmas.{distinct-place}
 use Rattle.redo_core.proofs.NumberLemmas.{numbers-number, numbers-path}
@@ -162,7 +162,7 @@ module _ (given : GivenView) (t : Table) (at : ℕ) (slot : Slot) (parked : Park
         (fact.value.target ≡ q) × (outcomes_of (table_entries (rules_for given) given.limits.targets t) q ≡ Some fact.value.outcome)
     fact-known = fact-kept given t u at gone out slots fed.distinct fed.fits
 
-    module _ (facts : Facts) (g : Gains u parked.operands.items parked.begun.value.job parked.begun.value.facts facts) where
+    module _ (facts : Facts) (g : Gains u parked.operands.items parked.begun.value.facts facts) where
       abbrev job : JobView
       job = parked.begun.value.job
 
@@ -172,7 +172,7 @@ module _ (given : GivenView) (t : Table) (at : ℕ) (slot : Slot) (parked : Park
       -- what it holds is known, and asked for
       told : (q : List ℕ) (o : Outcome) → told_in facts q ≡ Some o →
           IsAmong (operands (rules_for given) (all_asked parked.begun.value.job parked.begun.value.facts)) q × (outcomes_of (table_entries (rules_for given) given.limits.targets t) q ≡ Some o)
-      told q o h = elim (g.below.origin q o h) [
+      told q o h = elim (g.origin q o h) [
         | inl old ↦ fed.waits.told q o old
         | inr new ↦
             let path = numbers-number t.targets parked.operands.items (waited_by r parked.begun.value) new.k new.n fed.numbered new.number in
@@ -182,7 +182,7 @@ module _ (given : GivenView) (t : Table) (at : ℕ) (slot : Slot) (parked : Park
             subst P same (
               asked-second r parked.begun.value.facts.asked (job_deps parked.begun.value.job) path.0
                   (asked_of_job given parked.begun.value.job fed.waits.is_job (omega (arith, fed.waits.at_turn, fed.waits.stopped)) path.0
-                  (waited-declared r parked.begun.value.job.state.entries parked.begun.value.facts.gained path.0 (slice_get-among (waited_by r parked.begun.value) new.k path.0 path.1))),
+                  (waited-declared r parked.begun.value path.0 (slice_get-among (waited_by r parked.begun.value) new.k path.0 path.1))),
               known.1 ∙ ap Some new.outcome,
             )
       ]
@@ -190,26 +190,20 @@ module _ (given : GivenView) (t : Table) (at : ℕ) (slot : Slot) (parked : Park
       -- it holds all that the job asked for
       own_complete : (q : List ℕ) → IsAmong (operands (rules_for given) (job_deps parked.begun.value.job)) q → told_in facts q ≡ None → ⊥
       own_complete q m none =
-          let entries = parked.begun.value.job.state.entries in
-          let found = operand-entry r entries q (asked_by_job given parked.begun.value.job fed.waits.is_job q m) in
-          elim (cases_lt found.0 parked.begun.value.facts.gained) [
-            | inl before ↦ fed.waits.gained found.0 found.1 q before found.2 found.3 (g.below.kept q none)
-            | inr after' ↦
-                let place = waited-place r entries parked.begun.value.facts.gained found.0 found.1 q after' found.2 found.3 in
-                let number = numbers-path t.targets parked.operands.items (waited_by r parked.begun.value) place.0 q fed.numbered place.1 in
-                let decided = gain-decided place.0 number.0 number.1 in
-                let fact = decided-fact decided.0.stage decided.2 in
-                let there : IsFactAt u number.0 fact.0 = (decided.0, decided.1, fact.1) in
-                let known = fact-known number.0 q fact.0 number.2 there in
-                let target : List ℕ = fact.0.value.target in
-                let lost : told_in facts target ≡ None = ap (told_in facts) known.0 ∙ none in
-                g.below.known place.0 number.0 fact.0 (slice_get-below_some parked.operands.items place.0 number.0 number.1) number.1 there lost
-          ]
+          let place = waited-place r parked.begun.value q (asked_by_job given parked.begun.value.job fed.waits.is_job q m) (g.kept q none) in
+          let number = numbers-path t.targets parked.operands.items (waited_by r parked.begun.value) place.0 q fed.numbered place.1 in
+          let decided = gain-decided place.0 number.0 number.1 in
+          let fact = decided-fact decided.0.stage decided.2 in
+          let there : IsFactAt u number.0 fact.0 = (decided.0, decided.1, fact.1) in
+          let known = fact-known number.0 q fact.0 number.2 there in
+          let target : List ℕ = fact.0.value.target in
+          let lost : told_in facts target ≡ None = ap (told_in facts) known.0 ∙ none in
+          g.known place.0 number.0 fact.0 (slice_get-below_some parked.operands.items place.0 number.0 number.1) number.1 there lost
 
       -- and all that the check did
       complete : (q : List ℕ) → IsAmong (operands (rules_for given) (all_asked parked.begun.value.job parked.begun.value.facts)) q → told_in facts q ≡ None → ⊥
       complete q m none = elim (asked-cases r parked.begun.value.facts.asked (job_deps parked.begun.value.job) q m) [
-        | inl first ↦ fed.waits.checked q first (g.below.kept q none)
+        | inl first ↦ fed.waits.checked q first (g.kept q none)
         | inr second ↦ own_complete q second none
       ]
 
@@ -231,7 +225,7 @@ module _ (given : GivenView) (t : Table) (at : ℕ) (slot : Slot) (parked : Park
       held-alike q m = elim (cases_Option (told_in parked.begun.value.facts q)) [
         | inl lost ↦ absurd (fed.waits.checked q m lost)
         | inr some ↦ elim (cases_Option (told_in facts q)) [
-          | inl none ↦ absurd (let was = g.below.kept q none in let bad = sym was ∙ some.1 in cc)
+          | inl none ↦ absurd (let was = g.kept q none in let bad = sym was ∙ some.1 in cc)
           | inr now ↦ some.1 ∙ sym (fed.waits.told q some.0 some.1).1 ∙ (told q now.0 now.1).1 ∙ sym now.1
         ]
       ]
@@ -241,7 +235,7 @@ module _ (given : GivenView) (t : Table) (at : ℕ) (slot : Slot) (parked : Park
           let one = behind-moves given (path_at t.targets at) parked.begun.value.facts.asked (told_in parked.begun.value.facts) (told_in facts) fed.waits.behind held-alike in
           let P : List ℕ → Type 0 = λ p. IsBegunBehind given p parked.begun.value.facts.asked (told_in facts) in
           let Q : List Dep → Type 0 = λ ds. IsBegunBehind given parked.begun.value.job.target ds (told_in facts) in
-          subst Q (sym g.below.asked) (subst P (sym fed.waits.of_target) one)
+          subst Q (sym g.asked) (subst P (sym fed.waits.of_target) one)
 
       -- it holds the outcomes of a work of all that was asked for
       fits-work : (work : IsWork (rules_for given) parked.begun.value.job.target parked.begun.value.job.turn (all_asked parked.begun.value.job facts)) ×
@@ -249,7 +243,7 @@ module _ (given : GivenView) (t : Table) (at : ℕ) (slot : Slot) (parked : Park
       fits-work =
           let P : List Dep → Type 0 = λ ds. (work : IsWork r parked.begun.value.job.target parked.begun.value.job.turn ds) ×
           ((q : List ℕ) → told_in facts q ≡ only (operands r ds) (outcome_at r work.depth) q) in
-          subst P (ap (λ ds. with_all ds (job_deps parked.begun.value.job)) (sym g.below.asked)) (fed.is_work, exact)
+          subst P (ap (λ ds. with_all ds (job_deps parked.begun.value.job)) (sym g.asked)) (fed.is_work, exact)
 
       pub fed-work : IsWorkWith given parked.begun.value.job facts
       fed-work = record {
@@ -260,7 +254,7 @@ module _ (given : GivenView) (t : Table) (at : ℕ) (slot : Slot) (parked : Park
         declared = λ q m. asked_of_job given parked.begun.value.job fed.waits.is_job (omega (arith, fed.waits.at_turn, fed.waits.stopped)) q m;
         goes_on = λ later keeps. fed.waits.goes_on later (record {
           same = λ p o none entered known. elim (cases_Option (told_in facts p)) [
-            | inl lost ↦ absurd (let was = g.below.kept p lost in let bad = sym was ∙ known in cc)
+            | inl lost ↦ absurd (let was = g.kept p lost in let bad = sym was ∙ known in cc)
             | inr some ↦
                 let one = (fed.waits.told p o known).1 in
                 let two = (told p some.0 some.1).1 in
@@ -268,6 +262,5 @@ module _ (given : GivenView) (t : Table) (at : ℕ) (slot : Slot) (parked : Park
                 keeps.same p o none entered (some.1 ∙ both)
           ];
         });
-        gained = g.all;
         few = fed.few;
       }

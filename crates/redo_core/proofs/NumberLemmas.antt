@@ -1,10 +1,10 @@
 -- Numbers of paths.
-use Rattle.std.proofs.Common.{slice_get, slice_set, ◌≡◌, ℕ, zero, suc, ◌≤◌, false, inl, inr, List, [], ◌∷◌, ◌++◌, drop}
-use Rattle.std.proofs.Common.{Some, refl, ap, subst, arith}
-use Rattle.redo_record.specs.declared.deps.Dep.{Dep}
+use Rattle.std.proofs.Common.{slice_get, slice_set, ◌≡◌, ℕ, zero, suc, false, inl, inr, List, [], ◌∷◌, ◌++◌}
+use Rattle.std.proofs.Common.{Some, refl, ap, subst}
 use Rattle.redo_record.specs.Paths.{IsAmong}
 use Rattle.redo_build.specs.Rules.{Rules}
-use Rattle.redo_core.specs.inside.Slots.{AreNumbers, IsNumbered, AllNumbered, is_stage_waiting, waited_by}
+use Rattle.redo_core.specs.inside.Slots.{AreNumbers, IsNumbered, AllNumbered, is_stage_waiting}
+use Rattle.redo_core.specs.inside.Works.{waited_by}
 use Rattle.redo_core.specs.declared.table.Slot.{Slot}
 use Rattle.redo_core.specs.declared.table.Stage.{Stage}
 use Rattle.redo_core.specs.declared.table.Stage.TheVariants.{Due, Checking, Waiting, Ready, Out, Decided}
@@ -75,15 +75,3 @@ among-place (x ∷ qs) q m = elim m [
   | inl here ↦ (zero, ap Some here)
   | inr later ↦ let found = among-place qs q later in (suc found.0, found.1)
 ]
-
--- places among the entries from one on
-pub drop-place : (ds : List Dep) (n k : ℕ) (d : Dep) → n ≤ k → slice_get ds k ≡ Some d → (j : ℕ) × (slice_get (drop n ds) j ≡ Some d)
-drop-place ds zero k d h g = (k, g)
-drop-place [] (suc n) k d h g = cc
-drop-place (x ∷ ds) (suc n) zero d h g = absurd (omega arith)
-drop-place (x ∷ ds) (suc n) (suc k) d h g = drop-place ds n k d (omega arith) g
-
-pub place-drop : (ds : List Dep) (n j : ℕ) (d : Dep) → slice_get (drop n ds) j ≡ Some d → (k : ℕ) × (slice_get ds k ≡ Some d)
-place-drop ds zero j d g = (j, g)
-place-drop [] (suc n) j d g = cc
-place-drop (x ∷ ds) (suc n) j d g = let found = place-drop ds n j d g in (suc found.0, found.1)

@@ -1,5 +1,5 @@
 -- The opening of a build on the table.
-use Rattle.std.proofs.Common.{slice_get, ◌≡◌, ℕ, zero, suc, ◌+◌, ◌*◌, ◌<◌, ◌≤◌, Bool, true, false, cond, not, List, [], ◌∷◌}
+use Rattle.std.proofs.Common.{slice_get, ◌≡◌, ℕ, ◌+◌, ◌*◌, ◌<◌, ◌≤◌, Bool, true, false, cond, not, List, [], ◌∷◌}
 use Rattle.std.proofs.Common.{◌++◌, Some, inl, inr, length, take, drop, take-append-drop, refl, sym, ap, subst}
 use Rattle.std.proofs.Common.{◌∙◌, arith}
 use Rattle.std.proofs.lemmas.Bool.{cases_Bool}
@@ -25,13 +25,8 @@ use Rattle.redo_build.proofs.PathLemmas.{is_among-true, with_new-second}
 use Rattle.redo_build.proofs.SeenLemmas.{paths_of-entered, entered-longer}
 use Rattle.redo_core.proofs.LawfulTreeLemmas.{lawful_for}
 use Rattle.redo_build.proofs.SoundLemmas.{IsSound, opening-sound}
-use Rattle.redo_core.proofs.EnterAllLemmas.{entered-append, entered-seen}
+use Rattle.redo_core.proofs.EnterAllLemmas.{entered-append, entered-seen, path-take}
 use Rattle.redo_core.proofs.EnqueueLemmas.{enqueued-table, enqueued-watched, enqueued-state}
-
-path-take : (ps : List (List ℕ)) (i : ℕ) (p : List ℕ) → slice_get ps i ≡ Some p → take (i + 1) ps ≡ take i ps ++ p ∷ []
-path-take [] i p h = cc
-path-take (x ∷ ps) zero p h = let same : x ≡ p = cc in ap (λ y. y ∷ []) same
-path-take (x ∷ ps) (suc i) p h = let e : suc i + 1 ≡ suc (i + 1) = omega arith in rw e (ap (λ l. x ∷ l) (path-take ps i p h))
 
 pub targets-more : (r : Rules) (ps : List (List ℕ)) (i : ℕ) (p : List ℕ) → slice_get ps i ≡ Some p → targets_in r (take (i + 1) ps) ≡ targets_in r (take i ps) ++ targets_in r (p ∷ [])
 targets-more r ps i p get = ap (targets_in r) (path-take ps i p get) ∙ filter-append (λ q. not (r.is_source q)) (take i ps) (p ∷ [])

@@ -12,8 +12,9 @@ use Rattle.redo_core.specs.Views.{FactView}
 use Rattle.redo_core.specs.inside.Slots.{rounds_of, table_entries, entries_from, slot_entry, stage_deps, stage_outcome, path_at}
 use Rattle.redo_core.specs.inside.Slots.{is_stage_out, is_stage_due, is_stage_ready, is_stage_waiting, Fits, AllWatched, IsPlace}
 use Rattle.redo_core.specs.inside.Slots.{IsTable, IsTableOf, IsPutBack, IsDecidedAt, IsParkedAt, IsDecidedStage}
-use Rattle.redo_core.specs.inside.Slots.{IsParkedStage, IsWaitingWith, IsNumbered, AreNumbers, waited_by}
+use Rattle.redo_core.specs.inside.Slots.{IsParkedStage, IsWaitingWith, IsNumbered, AreNumbers}
 use Rattle.std.specs.Prelude.{Box}
+use Rattle.redo_core.specs.inside.Works.{waited_by}
 use Rattle.std.specs.declared.vec.Vec.{Vec}
 use Rattle.redo_core.proofs.NumberLemmas.{numbered-set, numbered-still}
 use Rattle.redo_core.specs.declared.work.Begun.{Begun}

@@ -137,9 +137,6 @@ module _ (given : GivenView) (t : Table) (at : ℕ) (slot : Slot) (awaiting : Aw
             found : found_of given.past.sources (path_at t.targets at) ≡ found_as held.rule
             found = checking.is_held.found ∙ ap found_as (sym rule)
 
-            none_gained : held.facts.gained ≡ 0
-            none_gained = ap (λ (f : Facts). f.gained) own ∙ adds.same ∙ checking.is_held.none_gained
-
             exact-held : (q : List ℕ) → told_in held.facts q ≡
                 only (operands (rules_for given) held.check.asked) (outcomes_of (table_entries (rules_for given) given.limits.targets t)) q
             exact-held q =
@@ -155,7 +152,6 @@ module _ (given : GivenView) (t : Table) (at : ℕ) (slot : Slot) (awaiting : Aw
               is_held = record {
                 found = found;
                 at_first = checking.is_held.at_first;
-                none_gained = none_gained;
                 none_behind = ap (λ (f : Facts). f.asked) own ∙ adds.asked ∙ checking.is_held.none_behind;
               };
               is_due = due;
@@ -207,7 +203,6 @@ module _ (given : GivenView) (t : Table) (at : ℕ) (slot : Slot) (awaiting : Aw
                     (answered-alike r (lawful_for given) a (outcome_at r deep.0.depth) held.check.asked deep.1 answered-held) q;
                 behind = behind-moves given p held.check.asked a (told_in held.facts) behind-held
                     (λ q m. sym (exact-held q ∙ only-among (operands r held.check.asked) a q m));
-                gained = none_gained;
               }
 
               pub resumed-ready : (work : WorkView) → work.given ≡ given → work.target ≡ path_at t.targets at → work.turn ≡ 0 → work.deps ≡ held.check.asked →

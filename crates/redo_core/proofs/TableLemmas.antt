@@ -1,6 +1,7 @@
 -- What changes of single slots keep.
-use Rattle.std.proofs.Common.{drop, remove, slice_get, slice_set, ◌≡◌, ℕ, zero, suc, ◌<◌, true, ◌⊎◌, inl, inr, List, []}
+use Rattle.std.proofs.Common.{remove, slice_get, slice_set, ◌≡◌, ℕ, zero, suc, ◌<◌, true, ◌⊎◌, inl, inr, List, []}
 use Rattle.std.proofs.Common.{◌∷◌, ◌++◌, length, length-set, Some, None, refl, sym, ap, subst, ◌∙◌, arith, bytes_eq}
+use Rattle.std.specs.Prelude.{is_none}
 use Rattle.std.proofs.lemmas.Bool.{cases_Bool, both_ways}
 use Rattle.redo_record.specs.Paths.{IsAmong, AreDistinct, is_among}
 use Rattle.redo_build.specs.Rules.{Ask, Rules, AreLawful, Extends, operands}
@@ -9,8 +10,8 @@ use Rattle.redo_record.specs.declared.deps.Dep.{Dep}
 use Rattle.redo_build.specs.Outcomes.{outcome_at}
 use Rattle.redo_build.specs.Schedule.{only, outcome_of, outcomes_of}
 use Rattle.redo_core.specs.inside.Slots.{rounds_of, entries_from, slot_entry, stage_deps, stage_outcome, path_at, is_stage_waiting}
-use Rattle.redo_core.specs.inside.Slots.{Fits, AllAnswered, AllFit, waited_by, AllWatched, AllWatchersBelow, IsWatched, IsPlace}
-use Rattle.redo_core.specs.inside.Works.{all_asked}
+use Rattle.redo_core.specs.inside.Slots.{Fits, AllAnswered, AllFit, AllWatched, AllWatchersBelow, IsWatched, IsPlace}
+use Rattle.redo_core.specs.inside.Works.{all_asked, told_in, waited_by}
 use Rattle.redo_core.specs.inside.Checking.{TellsAlike}
 use Rattle.redo_core.specs.declared.table.Slot.{Slot}
 use Rattle.redo_core.specs.declared.table.Stage.{Stage}
@@ -19,7 +20,7 @@ use Rattle.redo_build.proofs.DepthLemmas.{cases_Option, operand-target}
 use Rattle.redo_build.proofs.QueueLemmas.{slice_get-among}
 use Rattle.redo_core.proofs.SlotLemmas.{entry_of-slots, slot_entries-set}
 use Rattle.std.proofs.lemmas.Slice.Eq.{bytes_eq-Decides}
-use Rattle.redo_build.proofs.PathLemmas.{is_among-true}
+use Rattle.redo_build.proofs.PathLemmas.{filter-from, is_among-true}
 use Rattle.redo_core.proofs.CheckingLemmas.{due-moves, waiting-moves}
 use Rattle.redo_core.proofs.LawfulTreeLemmas.{lawful_for}
 use Rattle.redo_core.specs.Build.{GivenView, rules_for}
@@ -154,7 +155,8 @@ Fits-more given a b p turn (Waiting parked) more h =
       answered = λ k q below at none. elim (cases_Option (a q)) [
         | inl no_answer ↦ h.answered k q below at no_answer
         | inr some ↦
-            let target = operand-target r lawful (drop parked.begun.value.facts.gained parked.begun.value.job.state.entries) q (slice_get-among (waited_by r parked.begun.value) k q at) in
+            let target = operand-target r lawful parked.begun.value.job.state.entries q
+            (filter-from (λ x. is_none (told_in parked.begun.value.facts x)) (operands r parked.begun.value.job.state.entries) q (slice_get-among (waited_by r parked.begun.value) k q at)) in
             let also = more q some.0 target some.1 in cc
       ];
       told = λ q o known. let was = h.told q o known in (was.0, more q o (operand-target r lawful (all_asked parked.begun.value.job parked.begun.value.facts) q was.0) was.1);
@@ -162,8 +164,6 @@ Fits-more given a b p turn (Waiting parked) more h =
       checked = h.checked;
       own = h.own;
       goes_on = h.goes_on;
-      gained_within = h.gained_within;
-      gained = h.gained;
     }
 Fits-more given a b p turn (Ready work) more h =
     let r = rules_for given in

@@ -1,10 +1,11 @@
 -- Looking again at what waits keeps the entries.
 use Rattle.std.proofs.Common.{slice_get, slice_set, ◌≡◌, ℕ, zero, suc, ◌+◌, ◌<◌, ◌≤◌, Bool, true, false}
-use Rattle.std.proofs.Common.{◌⊎◌, inl, inr, List, [], ◌∷◌, ◌++◌, length, length-set, filter, filter_map, drop}
-use Rattle.std.proofs.Common.{Some, None, not, refl, sym, ap, subst, ◌∙◌, arith}
-use Rattle.std.proofs.lemmas.Bool.{cases_Bool, both_ways, not-true}
+use Rattle.std.proofs.Common.{◌⊎◌, inl, inr, List, [], ◌∷◌, ◌++◌, length, length-set, filter}
+use Rattle.std.proofs.Common.{Some, None, refl, sym, ap, subst, ◌∙◌, arith}
+use Rattle.std.specs.Prelude.{is_none}
+use Rattle.std.proofs.lemmas.Bool.{cases_Bool, both_ways}
 use Rattle.redo_record.specs.Paths.{IsAmong, AreDistinct}
-use Rattle.redo_build.specs.Rules.{Ask, Rules, AreLawful, Extends, operands, changed}
+use Rattle.redo_build.specs.Rules.{Ask, Rules, AreLawful, Extends, operands}
 use Rattle.redo_build.specs.Outcomes.{outcome_at}
 use Rattle.redo_core.specs.Build.{GivenView, rules_for}
 use Rattle.redo_build.specs.Schedule.{Entry, known_to, only, outcome_of, outcomes_of, entry_of}
@@ -12,19 +13,19 @@ use Rattle.redo_core.specs.inside.Slots.{rounds_of, table_entries, entries_from,
 use Rattle.redo_core.specs.inside.Slots.{stage_outcome, path_at, is_stage_due, is_stage_out, is_stage_ready}
 use Rattle.redo_core.specs.inside.Slots.{is_stage_waiting}
 use Rattle.redo_core.specs.inside.Slots.{is_stage_decided, Fits, AllWatched, AllAnswered, AreDecidedFrom, AreNumbers}
-use Rattle.redo_core.specs.inside.Slots.{IsNumbered, waited_by, IsDecidedNumber, IsOperand, IsWatched, IsPlace}
+use Rattle.redo_core.specs.inside.Slots.{IsNumbered, IsDecidedNumber, IsWatched, IsPlace}
 use Rattle.redo_core.specs.inside.Slots.{ArePlacesOnce, AreDue, IsQueue, IsTable, IsTableOf, IsParked, IsLookedAt, IsLackingAt}
 use Rattle.redo_core.specs.inside.Slots.{IsWatchAdded, IsMadeReadyAt, IsFed, IsStandingTable, IsDecidedSlot}
-use Rattle.redo_core.specs.inside.Works.{all_asked, job_deps, told_in}
+use Rattle.redo_core.specs.inside.Works.{all_asked, job_deps, told_in, waited_by}
+use Rattle.redo_core.specs.declared.work.Begun.{Begun}
 use Rattle.redo_core.specs.declared.table.Slot.{Slot}
 use Rattle.redo_core.specs.declared.table.Table.{Table}
 use Rattle.redo_core.specs.declared.table.Parked.{Parked}
 use Rattle.redo_core.specs.declared.table.Stage.{Stage}
 use Rattle.redo_core.specs.declared.table.Stage.TheVariants.{Due, Checking, Waiting, Ready, Out, Decided}
-use Rattle.redo_build.proofs.PathLemmas.{filter-passes, filter-from}
-use Rattle.redo_build.proofs.QueueLemmas.{slice_get-among}
-use Rattle.redo_core.proofs.NumberLemmas.{numbers-number, numbers-path, numbered-set, among-place, drop-place}
-use Rattle.redo_core.proofs.NumberLemmas.{place-drop}
+use Rattle.redo_build.proofs.PathLemmas.{filter-from}
+use Rattle.redo_build.proofs.QueueLemmas.{filter-keeps, slice_get-among}
+use Rattle.redo_core.proofs.NumberLemmas.{numbers-number, numbers-path, numbered-set, among-place}
 use Rattle.redo_build.proofs.DepthLemmas.{cases_Option}
 use Rattle.redo_core.proofs.LawfulTreeLemmas.{lawful_for}
 use Rattle.redo_core.proofs.AllAskedLemmas.{asked-cases, asked-second, first-alike, told-alike}
@@ -33,41 +34,11 @@ use Rattle.redo_core.proofs.TableLemmas.{fits-set, place-slice_get, place-append
 use Rattle.redo_core.proofs.TableLemmas.{get-set_cases, get-set_same, IsWatched-set, watchers-set}
 use Rattle.redo_build.proofs.HandoverLemmas.{taken-work, taken-deep}
 use Rattle.redo_build.proofs.TurnBoundLemmas.{turn-below}
-use Rattle.redo_core.proofs.JobLemmas.{asked_of_job, asked_by_job, entry-operand}
+use Rattle.redo_core.proofs.JobLemmas.{asked_of_job, asked_by_job}
 use Rattle.redo_build.specs.inside.Turns.{IsWork}
-use Rattle.redo_record.specs.declared.deps.DepKind.{DepKind}
-use Rattle.redo_record.specs.declared.deps.DepKind.TheVariants.{Change, Create, Always}
 use Rattle.redo_core.proofs.SlotLemmas.{entry_of-slots, paths_of-slots, slice_get-from, slice_get-below_some}
 use Rattle.redo_record.specs.declared.deps.Dep.{Dep}
 use Rattle.redo_record.specs.declared.outcome.Outcome.{Outcome}
-
-changed-path : (kind : DepKind) (p q : List ℕ) → changed kind p ≡ Some q → p ≡ q
-changed-path Change p q h = cc
-changed-path Create p q h = cc
-changed-path Always p q h = cc
-
-pub operand-path : (r : Rules) (d : Dep) (q : List ℕ) → IsOperand r d q → d.path ≡ q
-operand-path r d q is = changed-path d.kind d.path q is.0
-
-changes-entry : (ds : List Dep) (q : List ℕ) → IsAmong (filter_map (λ d. changed d.kind d.path) ds) q → (k : ℕ) × (d : Dep) × (slice_get ds k ≡ Some d) × (changed d.kind d.path ≡ Some q)
-changes-entry [] q m = absurd m
-changes-entry (d ∷ ds) q m =
-    let behind : IsAmong (filter_map (λ x. changed x.kind x.path) ds) q → (k : ℕ) × (x : Dep) × (slice_get (d ∷ ds) k ≡ Some x) × (changed x.kind x.path ≡ Some q) =
-    λ later. let found = changes-entry ds q later in (suc found.0, found.1, found.2, found.3) in
-    elim (cases_Option (changed d.kind d.path)) [
-      | inl none ↦ behind (rw none at m)
-      | inr some ↦ elim (rw some.1 at m) as (λ _. (k : ℕ) × (x : Dep) × (slice_get (d ∷ ds) k ≡ Some x) × (changed x.kind x.path ≡ Some q)) [
-        | inl here ↦ (zero, d, refl, some.1 ∙ ap Some here)
-        | inr later ↦ behind later
-      ]
-    ]
-
--- what a record waits for stands in it
-pub operand-entry : (r : Rules) (ds : List Dep) (q : List ℕ) → IsAmong (operands r ds) q → (k : ℕ) × (d : Dep) × (slice_get ds k ≡ Some d) × IsOperand r d q
-operand-entry r ds q m =
-    let passes = filter-passes (λ p. not (r.is_source p)) (filter_map (λ d. changed d.kind d.path) ds) q m in
-    let found = changes-entry ds q (filter-from (λ p. not (r.is_source p)) (filter_map (λ d. changed d.kind d.path) ds) q m) in
-    (found.0, found.1, found.2, (found.3, not-true (r.is_source q) passes))
 
 pub open-outcome : (stage : Stage) → is_stage_decided stage ≡ false → stage_outcome stage ≡ None
 open-outcome (Due d) h = refl
@@ -177,19 +148,15 @@ module _ (slots : List Slot) (ready newly_ready : List ℕ) (at : ℕ) (old new 
         once = once-push newly_ready at queue.once (λ m. out (inr m));
       }
 
--- what is waited for stands among what was declared
-pub waited-declared : (r : Rules) (ds : List Dep) (n : ℕ) (q : List ℕ) → IsAmong (operands r (drop n ds)) q → IsAmong (operands r ds) q
-waited-declared r ds n q m =
-    let found = operand-entry r (drop n ds) q m in
-    let place = place-drop ds n found.0 found.1 found.2 in
-    entry-operand r ds place.0 found.1 q place.1 found.3
+-- what is waited for was asked for
+pub waited-declared : (r : Rules) (begun : Begun) (q : List ℕ) → IsAmong (waited_by r begun) q → IsAmong (operands r begun.job.state.entries) q
+waited-declared r begun q m = filter-from (λ x. is_none (told_in begun.facts x)) (operands r begun.job.state.entries) q m
 
--- an operand that was declared from one place on is waited for
-pub waited-place : (r : Rules) (ds : List Dep) (n k : ℕ) (d : Dep) (q : List ℕ) → n ≤ k → slice_get ds k ≡ Some d → IsOperand r d q →
-    (j : ℕ) × (slice_get (operands r (drop n ds)) j ≡ Some q)
-waited-place r ds n k d q h g is =
-    let place = drop-place ds n k d h g in
-    among-place (operands r (drop n ds)) q (entry-operand r (drop n ds) place.0 d q place.1 is)
+-- and what was asked for and has no answer is waited for
+pub waited-place : (r : Rules) (begun : Begun) (q : List ℕ) → IsAmong (operands r begun.job.state.entries) q → told_in begun.facts q ≡ None →
+    (k : ℕ) × (slice_get (waited_by r begun) k ≡ Some q)
+waited-place r begun q m none =
+    among-place (waited_by r begun) q (filter-keeps (λ x. is_none (told_in begun.facts x)) (operands r begun.job.state.entries) q m (rw none refl))
 
 pub number-decided : (t : Table) (q : List ℕ) (n : ℕ) → slice_get t.targets n ≡ Some q → IsDecidedNumber t n → IsDecidedSlot t q
 number-decided t q n path d = record { at = n; slot = d.0; path = path; there = d.1; decided = d.2 }
@@ -281,19 +248,16 @@ module _ (given : GivenView) (t : Table) (newly_ready : List ℕ) (table : IsTab
     -- what is waited for is asked for
     pub waited_asked : (q : List ℕ) → IsAmong (waited_by (rules_for given) parked.begun.value) q →
         IsAmong (operands (rules_for given) (all_asked parked.begun.value.job parked.begun.value.facts)) q
-    waited_asked q m = own_asked q (waited-declared r parked.begun.value.job.state.entries parked.begun.value.facts.gained q m)
+    waited_asked q m = own_asked q (waited-declared r parked.begun.value q m)
 
     -- nothing from the first operand that was not looked at on is undecided
     module _ (rest : AreDecidedFrom t parked.operands.items parked.held (length parked.operands.items)) where
       declared_answered : (q : List ℕ) → IsAmong (operands (rules_for given) parked.begun.value.job.state.entries) q →
           outcomes_of (table_entries (rules_for given) given.limits.targets t) q ≡ None → ⊥
       declared_answered q m none =
-          let entries = parked.begun.value.job.state.entries in
-          let found = operand-entry r entries q m in
-          elim (Rattle.std.proofs.lemmas.Bool.cases_lt found.0 parked.begun.value.facts.gained) [
-            | inl before ↦ parked_held q (parked_fits.gained found.0 found.1 q before found.2 found.3) none
-            | inr after' ↦
-                let place = waited-place r entries parked.begun.value.facts.gained found.0 found.1 q after' found.2 found.3 in
+          elim (cases_Option (told_in parked.begun.value.facts q)) [
+            | inl lost ↦
+                let place = waited-place r parked.begun.value q m lost in
                 elim (Rattle.std.proofs.lemmas.Bool.cases_lt place.0 parked.held) [
                   | inl before ↦ parked_fits.answered place.0 q before place.1 none
                   | inr later ↦
@@ -301,6 +265,7 @@ module _ (given : GivenView) (t : Table) (newly_ready : List ℕ) (table : IsTab
                       decided-known q (number-decided t q number.0 number.2
                       (rest place.0 number.0 later (slice_get-below_some parked.operands.items place.0 number.0 number.1) number.1)) none
                 ]
+            | inr some ↦ let known = parked_told q some.0 some.1 in let bad = sym known ∙ none in cc
           ]
 
       pub parked_answered : AllAnswered (rules_for given) (outcomes_of (table_entries (rules_for given) given.limits.targets t))

@@ -1,6 +1,6 @@
 -- What a handed in piece does to the table is what the schedule says.
-use Rattle.std.proofs.Common.{map, slice_get, ◌≡◌, ℕ, zero, suc, ◌+◌, ◌<◌, ◌≤◌, max, Bool, true, false, cond}
-use Rattle.std.proofs.Common.{◌&&◌, ◌⊎◌, inl, inr, List, [], ◌∷◌, ◌++◌, length, take, drop, take-append-drop, filter}
+use Rattle.std.proofs.Common.{map, slice_get, ◌≡◌, ℕ, zero, suc, ◌+◌, ◌<◌, max, Bool, true, false, cond}
+use Rattle.std.proofs.Common.{◌&&◌, ◌⊎◌, inl, inr, List, [], ◌∷◌, ◌++◌, length, filter}
 use Rattle.std.proofs.Common.{Option, Some, None, refl, sym, ap, subst, ◌∙◌, arith, Global}
 use Rattle.std.proofs.lemmas.Bool.{cases_Bool, cases_lt}
 use Rattle.redo_record.specs.declared.deps.Dep.{Dep}
@@ -10,7 +10,7 @@ use Rattle.redo_step.specs.JobView.{JobView, found_deps, record_so_far}
 use Rattle.redo_record.specs.Entries.{is_entered, with_entry, with_all}
 use Rattle.redo_record.specs.Progress.{Progress}
 use Rattle.redo_record.specs.Paths.{IsAmong, AreDistinct, is_among}
-use Rattle.redo_record.proofs.Public.{entered_operand, one_entered, operand_entered, sources_alone}
+use Rattle.redo_record.proofs.Public.{entered_operand, one_entered, operand_entered, operand_target, sources_alone}
 use Rattle.redo_build.specs.Rules.{Ask, Rules, AreLawful, Extends, operands}
 use Rattle.redo_build.specs.Outcomes.{outcome_at}
 use Rattle.redo_core.specs.Build.{GivenView, rules_for, sources_for}
@@ -21,14 +21,14 @@ use Rattle.redo_build.specs.Schedule.Phase.{Script}
 use Rattle.redo_build.specs.inside.Standing.{decided_count, rounds, AreStanding}
 use Rattle.redo_build.specs.inside.Turns.{CameTo, IsBegunAt, begins_at, deps_at_turn}
 use Rattle.redo_core.specs.Views.{FactView}
-use Rattle.redo_core.specs.inside.Works.{all_asked, job_deps, told_in, IsStopped}
+use Rattle.redo_core.specs.inside.Works.{all_asked, job_deps, told_in, waited_by, IsStopped}
 use Rattle.redo_core.specs.inside.Checking.{IsBegunBehind}
 use Rattle.redo_core.specs.inside.Ends.{end_progress}
 use Rattle.redo_core.specs.inside.Slots.{rounds_of, table_entries, table_state, slot_entry, stage_deps, stage_outcome}
-use Rattle.redo_core.specs.inside.Slots.{is_stage_out, path_at, AreNumbers, waited_by, IsWaitingWith}
+use Rattle.redo_core.specs.inside.Slots.{is_stage_out, path_at, AreNumbers, IsWaitingWith}
 use Rattle.redo_core.specs.inside.Slots.{AreEnteredInto, IsParkedStage, IsParkedAt, MayConclude, IsConcludedAt, concluded_entry}
 use Rattle.redo_core.specs.inside.Slots.{IsOutThere, MayTakeIn, IsPutBackThere, state_after}
-use Rattle.std.specs.Prelude.{Box}
+use Rattle.std.specs.Prelude.{Box, is_none}
 use Rattle.std.specs.declared.vec.Vec.{Vec}
 use Rattle.redo_core.specs.declared.table.Parked.{Parked}
 use Rattle.redo_core.specs.declared.work.Begun.{Begun}
@@ -49,9 +49,8 @@ use Rattle.redo_build.proofs.StandingLemmas.{outcomes_of-deep}
 use Rattle.redo_build.proofs.SoundLemmas.{IsSound, opening-sound, run-sound, happens-sound, out-parts}
 use Rattle.redo_build.proofs.HandoverLemmas.{looks_agree, piece-advanced}
 use Rattle.redo_core.proofs.SlotLemmas.{entry_of-slots, paths_of-slots, slice_get-from, slice_get-below_some}
-use Rattle.redo_core.proofs.TableSteps.{operand-entry}
 use Rattle.redo_core.proofs.PutSteps.{put-entries, parked-table, parked-watched}
-use Rattle.redo_core.proofs.EnterAllLemmas.{entered-append, entered-seen, operands-append}
+use Rattle.redo_core.proofs.EnterAllLemmas.{entered-append, entered-passed, entered-seen, operands-append}
 
 count-some : (xs : List Slot) (at : ℕ) (slot : Slot) → slice_get xs at ≡ Some slot → is_stage_out slot.stage ≡ true → 0 < length (filter (λ y. is_stage_out y.stage) xs)
 count-some [] at slot h out = cc
@@ -95,7 +94,7 @@ all-entered r es ds (x ∷ xs) =
         let K : Rattle.redo_record.specs.declared.deps.DepKind.DepKind → Type 0 = λ k. is_entered ds k x.path ≡ true in
         let P : List ℕ → Type 0 = λ p. is_entered ds Change p ≡ true in
         let there = subst P kind.1 (subst K kind.0 t) in
-        let source = (operand-entry r (x ∷ []) q m).3.1 in
+        let source = operand_target r.is_source (x ∷ []) q m in
         let A : List (List ℕ) → Type 0 = λ ps. IsAmong ps q in
         subst A (sym (paths_of-entered r es (operands r ds))) (with_new-second (paths_of es) (operands r ds) q (entered_operand r.is_source ds q source there))
 
@@ -267,11 +266,19 @@ module _ (given : GivenView) (t : Table) (at : ℕ) (end : End) (may : MayTakeIn
         }
 
   -- a script that stopped
-  module _ (begun : Box Begun Global) (stopped : end ≡ Stopped begun) where
-    pub is_stopped : IsStopped given may.is_end.is_piece.depth may.is_end.is_piece.looks (path_at t.targets at) may.slot.turn begun.value.job begun.value.facts
-    is_stopped =
+  module _ (begun : Box Begun Global) (paths : Vec (List ℕ) Global) (stopped : end ≡ Stopped begun paths) where
+    is_stop : IsStopped given may.is_end.is_piece.depth may.is_end.is_piece.looks (path_at t.targets at) may.slot.turn begun.value.job begun.value.facts ×
+        (paths.items ≡ waited_by (rules_for given) begun.value)
+    is_stop =
         let P : End → Type 0 = λ x. Rattle.redo_core.specs.inside.Ends.IsEndOf given may.is_end.is_piece.depth may.is_end.is_piece.looks target may.slot.turn x in
         subst P stopped may.is_end.is_end
+
+    pub is_stopped : IsStopped given may.is_end.is_piece.depth may.is_end.is_piece.looks (path_at t.targets at) may.slot.turn begun.value.job begun.value.facts
+    is_stopped = is_stop.0
+
+    -- the paths are those that it waits for
+    pub paths-waited : paths.items ≡ waited_by (rules_for given) begun.value
+    paths-waited = is_stop.1
 
     way : CameTo (rules_for given) (path_at t.targets at) (outcomes_of (table_entries (rules_for given) given.limits.targets t)) (rounds (slot_entry (rules_for given) (outcome_at (rules_for given) given.limits.targets) (path_at t.targets at) may.slot)) ×
         (stage_deps (rules_for given) (outcome_at (rules_for given) given.limits.targets) (path_at t.targets at) (rounds_of may.slot) may.slot.stage ≡
@@ -349,12 +356,10 @@ module _ (given : GivenView) (t : Table) (at : ℕ) (end : End) (may : MayTakeIn
           | inr no' ↦ absurd (let bad = rw no' at held in cc)
         ]
 
-    -- entering what it declared since is entering all that its record asks for
-    pub enters-same : entered (rules_for given) (table_entries (rules_for given) given.limits.targets t) (operands (rules_for given) (drop begun.value.facts.gained begun.value.job.state.entries)) ≡
+    -- entering what it waits for is entering all that its record asks for, since what has an answer was seen
+    pub enters-same : entered (rules_for given) (table_entries (rules_for given) given.limits.targets t) (waited_by (rules_for given) begun.value) ≡
         entered (rules_for given) (table_entries (rules_for given) given.limits.targets t) (operands (rules_for given) (end_progress end).deps)
     enters-same =
-        let old = take begun.value.facts.gained begun.value.job.state.entries in
-        let new = drop begun.value.facts.gained begun.value.job.state.entries in
         let none = sources_alone (rules_for given).is_source (found_deps begun.value.job) (found_sources given begun.value.job is_stopped.is_job) in
         let checked = entered-seen r es (operands r begun.value.facts.asked) (λ q m. elim (cases_Option (told_in begun.value.facts q)) [
           | inl lost ↦ absurd (is_stopped.checked q m lost)
@@ -363,25 +368,15 @@ module _ (given : GivenView) (t : Table) (at : ℕ) (end : End) (may : MayTakeIn
         let whole = all-entered r es begun.value.facts.asked (record_so_far begun.value.job)
         ∙ ap (λ xs. entered r xs (operands r (record_so_far begun.value.job))) checked
         ∙ all-entered r es (found_deps begun.value.job) begun.value.job.state.entries ∙ ap (λ qs. entered r (entered r es qs) (operands r begun.value.job.state.entries)) none in
-        let parts = ap (operands r) (sym (take-append-drop begun.value.facts.gained begun.value.job.state.entries)) ∙ operands-append r old new in
-        let seen = entered-seen r es (operands r old) (λ q m.
-        let found = operand-entry r old q m in
-        let at-old = take-get begun.value.job.state.entries begun.value.facts.gained found.0 found.1 found.2 in
+        let seen = entered-passed r (λ q. is_none (told_in begun.value.facts q)) es (operands r begun.value.job.state.entries) (λ q m known.
         elim (cases_Option (told_in begun.value.facts q)) [
-          | inl lost ↦ absurd (is_stopped.gained found.0 found.1 q at-old.0 at-old.1 found.3 lost)
+          | inl lost ↦ absurd (let bad = rw lost at known in cc)
           | inr some ↦ sound.standing.closed target q e entry-there (held-known q some.0 some.1).0
         ]) in
         let E : End → List Entry = λ x. entered r es (operands r (end_progress x).deps) in
-        sym (ap E stopped ∙ whole ∙ ap (entered r es) parts ∙ entered-append r es (operands r old) (operands r new) ∙ ap (λ xs. entered r xs (operands r new)) seen)
-      where
-        take-get : (xs : List Dep) (n k : ℕ) (x : Dep) → slice_get (take n xs) k ≡ Some x → (k < n) × (slice_get xs k ≡ Some x)
-        take-get [] zero k x h = cc
-        take-get [] (suc n) k x h = cc
-        take-get (y ∷ xs) zero k x h = cc
-        take-get (y ∷ xs) (suc n) zero x h = (omega arith, h)
-        take-get (y ∷ xs) (suc n) (suc k) x h = let rest = take-get xs n k x h in (omega (arith, rest.0), rest.1)
+        seen ∙ sym (ap E stopped ∙ whole)
 
-    pub after-length : length (entered (rules_for given) (table_entries (rules_for given) given.limits.targets t) (operands (rules_for given) (drop begun.value.facts.gained begun.value.job.state.entries))) ≡ length (state_after given Script t at).entries
+    pub after-length : length (entered (rules_for given) (table_entries (rules_for given) given.limits.targets t) (waited_by (rules_for given) begun.value)) ≡ length (state_after given Script t at).entries
     unfolding moved
     after-length =
         let wide = entered r es (operands r (end_progress end).deps) in
@@ -391,7 +386,7 @@ module _ (given : GivenView) (t : Table) (at : ℕ) (end : End) (may : MayTakeIn
         length-put [] x = refl
         length-put (y ∷ xs) x = elim (cases_Bool (Rattle.std.proofs.Common.bytes_eq y.path x.path)) [ inl t' ↦ rw t' refl | inr f ↦ rw f (ap suc (length-put xs x)) ]
 
-    module _ (v : Table) (newly_ready : List ℕ) (a : AreEnteredInto given t v newly_ready (operands (rules_for given) (drop begun.value.facts.gained begun.value.job.state.entries))) where
+    module _ (v : Table) (newly_ready : List ℕ) (a : AreEnteredInto given t v newly_ready (waited_by (rules_for given) begun.value)) where
       there-still : slice_get v.slots.items at ≡ Some may.slot
       there-still = a.slots_kept at may.slot may.there
 
@@ -415,16 +410,16 @@ module _ (given : GivenView) (t : Table) (at : ℕ) (end : End) (may : MayTakeIn
       wider-distinct : AreDistinct v.targets
       wider-distinct =
           let P : List (List ℕ) → Type 0 = AreDistinct in
-          let paths = ap paths_of a.entries ∙ paths_of-entered r es (operands r (drop begun.value.facts.gained begun.value.job.state.entries)) in
+          let paths = ap paths_of a.entries ∙ paths_of-entered r es (waited_by r begun.value) in
           let keys = paths_of-slots r (outcome_at r given.limits.targets) v.targets v.slots.items a.table.one_each in
-          subst P keys (subst P (sym paths) (with_new-distinct (paths_of es) (operands r (drop begun.value.facts.gained begun.value.job.state.entries)) sound.standing.distinct))
+          subst P keys (subst P (sym paths) (with_new-distinct (paths_of es) (waited_by r begun.value) sound.standing.distinct))
 
       wider-known : (q : List ℕ) (o : Outcome) → outcomes_of (table_entries (rules_for given) given.limits.targets t) q ≡ Some o → outcomes_of (table_entries (rules_for given) given.limits.targets v) q ≡ Some o
       wider-known q o h =
           let P : List Entry → Type 0 = λ xs. outcomes_of xs q ≡ Some o in
           let old = outcomes_of-entry es q o h in
-          subst P (sym a.entries) (outcomes_of-at (entered r es (operands r (drop begun.value.facts.gained begun.value.job.state.entries))) q old.0
-          (entry_of-entered_old r es (operands r (drop begun.value.facts.gained begun.value.job.state.entries)) q old.0 old.1) ∙ old.2)
+          subst P (sym a.entries) (outcomes_of-at (entered r es (waited_by r begun.value)) q old.0
+          (entry_of-entered_old r es (waited_by r begun.value) q old.0 old.1) ∙ old.2)
 
       one-more : begun.value.job.turn ≡ suc may.slot.turn
       one-more = omega (arith, is_stopped.at_turn)
@@ -465,8 +460,6 @@ module _ (given : GivenView) (t : Table) (at : ℕ) (end : End) (may : MayTakeIn
           checked = is_stopped.checked;
           own = (let B : List ℕ → Type 0 = λ p. (sources_for given).progress p (told_in begun.value.facts) ≡ record { outcome = None; deps = record_so_far begun.value.job } in subst B (sym path-still) is_stopped.own);
           goes_on = is_stopped.goes_on;
-          gained_within = is_stopped.within;
-          gained = is_stopped.gained;
         }
 
         parked-moved : table_entries (rules_for given) given.limits.targets u ≡ moved

@@ -21,22 +21,18 @@ pub(crate) struct Facts {
     more: Option<Box<PathMap<Known<Fact>>>>,
     /// What the target's check asked for, before its script was begun. Of each there is a fact.
     pub(crate) asked: Deps,
-    /// Of so many of the entries that the script declared first, each that is waited for has its fact here.
-    pub(crate) gained: usize,
 }
 
 impl Facts {
     /// No facts.
     pub(crate) fn new(alloc: Global) -> Facts
         ensures empty { known_in result ≡ [] }
-        ensures gained { result.gained ≡ 0 }
         ensures asked { result.asked ≡ [] }
     {
         Facts {
             few: Vec::new(alloc),
             more: None,
             asked: Deps::new(alloc),
-            gained: 0,
         }
     }
 
@@ -55,7 +51,6 @@ impl Facts {
     /// Makes room for so many more facts, as far as they are among the first few.
     pub(crate) fn reserve(&mut self, additional: usize) -> Result<(), AllocError>
         ensures known { known_in self.new ≡ known_in self.old }
-        ensures gained { self.new.gained ≡ self.old.gained }
         ensures asked { self.new.asked ≡ self.old.asked }
     {
         let room = FEW.saturating_sub(self.few.len());

@@ -127,7 +127,7 @@ impl Given {
     }
 
     /// Whether a path is a source.
-    pub(crate) fn is_source(&self, path: &Path) -> bool
+    fn is_source(&self, path: &Path) -> bool
         ensures { result ≡ (rules_for self.now).is_source path.now }
     {
         self.sources().file(path).is_some()

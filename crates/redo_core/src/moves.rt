@@ -1,7 +1,6 @@
 //! What the opening and a handed in piece do to the table.
-ghost use Rattle.std.specs.Prelude.{◌≡◌, ◌<◌, ◌≤◌, ℕ, [], drop, not, is_some, length, IfOk, OnOk, Err};
+ghost use Rattle.std.specs.Prelude.{◌≡◌, ◌<◌, ℕ, [], length, IfOk, OnOk, Err};
 ghost use Rattle.redo_core.specs.Build.{rules_for};
-ghost use Rattle.redo_build.specs.Rules.{operands};
 ghost use Rattle.redo_core.specs.inside.Slots.{IsPlace, AreNumbers, IsTableOf, IsStandingTable, AreEnteredInto};
 ghost use Rattle.redo_core.specs.inside.Slots.{AreTooMany, AreLookedAt, AreEnqueued, MayTakeIn, IsPutBackThere};
 ghost use Rattle.redo_core.specs.inside.Slots.{IsTakenIn, IsFirstTable, targets_in, table_entries, state_after};
@@ -15,11 +14,10 @@ ghost use Rattle.redo_core.specs.inside.Checking.{asks_next};
 use crate::board::Stop;
 use crate::build::Build;
 use crate::fact::Fact;
-use crate::table::{Awaiting, InCheck, Table, is_operand};
+use crate::table::{Awaiting, InCheck, Table};
 use crate::work::{Begun, End};
 use redo_names::PathSet;
 use redo_path::Path;
-use redo_record::Dep;
 use std::alloc::{AllocError, Global};
 use std::collections::{BTreeSet, VecDeque};
 use std::sync::Arc;
@@ -47,29 +45,24 @@ impl Table {
         Ok(table)
     }
 
-    /// Enters what some entries of a record wait for, as far as it is new, and gives the numbers.
+    /// Enters some paths, as far as they are new, and gives their numbers.
     fn enter_all(
         &mut self,
-        deps: &[Dep],
+        paths: &[Path],
         build: &Build,
         newly_ready: &mut Vec<u32>,
     ) -> Result<Vec<u32>, Stop>
         requires table { IsTableOf build.now self.old newly_ready.old.items }
-        ensures ok { OnOk result (AreEnteredInto build.now self.old self.new newly_ready.new.items
-            (operands (rules_for build.now) deps.now)) }
-        ensures numbers { IfOk result (λ ns. AreNumbers self.new.targets ns.items
-            (operands (rules_for build.now) deps.now)) }
+        ensures ok { OnOk result (AreEnteredInto build.now self.old self.new newly_ready.new.items paths.now) }
+        ensures numbers { IfOk result (λ ns. AreNumbers self.new.targets ns.items paths.now) }
         ensures too_many { result ≡ Err Stop.TooMany →
             AreTooMany (rules_for build.now) build.now.limits.targets
-            (table_entries (rules_for build.now) build.now.limits.targets self.old)
-            (operands (rules_for build.now) deps.now) }
+            (table_entries (rules_for build.now) build.now.limits.targets self.old) paths.now }
     {
-        let mut numbers = Vec::with_capacity(self.allocator(), deps.len())?;
-        for dep in deps {
-            if is_operand(build, dep) {
-                let at = self.enter(&dep.path, build, newly_ready)?;
-                numbers.push(at)?;
-            }
+        let mut numbers = Vec::with_capacity(self.allocator(), paths.len())?;
+        for path in paths {
+            let at = self.enter(path, build, newly_ready)?;
+            numbers.push(at)?;
         }
         Ok(numbers)
     }
@@ -122,22 +115,23 @@ impl Table {
         self.settle_all(&watchers, build, newly_ready)
     }
 
-    /// Parks a job that was out and stopped, with what it asks for entered, and looks at it.
+    /// Parks a job that was out and stopped, with the paths that it waits for entered, and looks at it.
     fn suspend(
         &mut self,
         at: usize,
         begun: Box<Begun>,
+        paths: Vec<Path>,
         build: &Build,
         newly_ready: &mut Vec<u32>,
     ) -> Result<(), Stop>
-        requires may { MayTakeIn build.now self.old at (End.Stopped begun) }
+        requires may { MayTakeIn build.now self.old at (End.Stopped begun paths) }
         requires none_newly_ready { newly_ready.old.items ≡ [] }
         ensures ok { OnOk result (IsPutBackThere build.now (state_after build.now Script self.old at) self.old self.new
             newly_ready.new.items []) }
         ensures too_many { result ≡ Err Stop.TooMany →
             build.now.limits.targets < length (state_after build.now Script self.old at).entries }
     {
-        let operands = self.enter_all(asked(&begun), build, newly_ready)?;
+        let operands = self.enter_all(&paths, build, newly_ready)?;
         self.park(at, begun, operands);
         self.settle(at as u32, build, newly_ready)?;
         Ok(())
@@ -153,7 +147,13 @@ impl Table {
         let mut newly_ready = Vec::new(self.allocator());
         match end {
             End::Ended(fact, _asked) => self.conclude(at, fact, build, &mut newly_ready)?,
-            End::Stopped(begun) => self.suspend(at, begun, build, &mut newly_ready)?,
+            End::Stopped { begun, paths } => self.suspend(
+                at,
+                begun,
+                paths,
+                build,
+                &mut newly_ready,
+            )?,
         }
         self.enqueue(newly_ready)?;
         Ok(())
@@ -280,12 +280,4 @@ impl Table {
         self.take_in(at, end, build)?;
         self.look_ahead(build)
     }
-}
-
-/// The entries that a script declared since its facts were gathered.
-fn asked(begun: &Begun) -> &[Dep]
-    requires { begun.now.facts.gained ≤ length begun.now.job.state.entries }
-    ensures { result.now ≡ drop begun.now.facts.gained begun.now.job.state.entries }
-{
-    &begun.job.declared().as_slice()[begun.facts.gained..]
 }

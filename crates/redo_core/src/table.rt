@@ -1,9 +1,9 @@
 //! The numbered table of the targets that were seen.
-ghost use Rattle.std.specs.Prelude.{◌≡◌, ℕ, List, ◌↔◌, ◌<◌, ◌≤◌, ◌+◌, ◌++◌, ◌∷◌, [], IsTrue, OnOk, IfOk, IfSome};
+ghost use Rattle.std.specs.Prelude.{◌≡◌, ℕ, List, ◌↔◌, ◌<◌, ◌≤◌, ◌+◌, ◌++◌, ◌∷◌, [], OnOk, IfOk, IfSome};
 ghost use Rattle.std.specs.Prelude.{IfNone, MatchOption, length, slice_get, Some, None};
 ghost use Rattle.redo_record.specs.Paths.{IsAmong, AreDistinct};
 ghost use Rattle.redo_core.specs.Build.{rules_for};
-ghost use Rattle.redo_core.specs.inside.Slots.{IsOperand, IsPlace, IsDecidedNumber, GainsOne, IsLackingAt};
+ghost use Rattle.redo_core.specs.inside.Slots.{IsPlace, IsDecidedNumber, GainsOne, IsLackingAt};
 ghost use Rattle.redo_core.specs.inside.Slots.{AreDecidedFrom, is_stage_decided, is_stage_ready, is_stage_out};
 ghost use Rattle.redo_core.specs.inside.Slots.{IsOutSlotAt, IsWaitingThere, IsHeldAt, IsTableOf, IsStandingTable};
 ghost use Rattle.redo_core.specs.inside.Slots.{IsWatchAdded, IsMadeReadyAt, IsFed, IsLookedAt, IsBegun, IsPushed};
@@ -21,8 +21,6 @@ use crate::facts::Facts;
 use crate::work::{Begun, Work};
 use redo_names::PathSet;
 use redo_path::Path;
-use redo_record::{Dep, DepKind};
-use redo_step::Job;
 use redo_sync::Known;
 use redo_which::Rule;
 use std::alloc::{AllocError, Global};
@@ -141,13 +139,6 @@ fn find_near(targets: &PathSet, guess: usize, path: &Path) -> Option<usize>
     find(targets, path)
 }
 
-/// Whether an entry of a record is waited for.
-pub(crate) fn is_operand(build: &Build, dep: &Dep) -> bool
-    ensures { IsTrue result ↔ IsOperand (rules_for build.now) dep.now dep.now.path }
-{
-    dep.kind == DepKind::Change && !build.given().is_source(&dep.path)
-}
-
 impl Table {
     /// The allocator of the table.
     pub(crate) fn allocator(&self) -> Global {
@@ -221,15 +212,14 @@ impl Table {
     }
 
     /// Takes over the facts of the decided targets that a job waited for, which are all that it lacked.
-    fn gain(&self, operands: &[u32], job: &Job, facts: &mut Facts) -> Result<(), AllocError>
+    fn gain(&self, operands: &[u32], facts: &mut Facts) -> Result<(), AllocError>
         requires { (k n : ℕ) → slice_get operands.now k ≡ Some n → IsDecidedNumber self.now n }
-        ensures { OnOk result (Gains self.now operands.now job.now facts.old facts.new) }
+        ensures { OnOk result (Gains self.now operands.now facts.old facts.new) }
     {
         facts.reserve(operands.len())?;
         for at in operands {
             self.gain_one(*at, facts)?;
         }
-        facts.gained = job.declared().len();
         Ok(())
     }
 
@@ -250,8 +240,7 @@ impl Table {
             operands,
             held: _,
         } = parked;
-        let Begun { job, facts } = &mut *begun;
-        self.gain(&operands, job, facts)?;
+        self.gain(&operands, &mut begun.facts)?;
         let slot = &mut self.slots[at];
         slot.stage = Stage::Ready(Work::of(own, begun));
         Ok(())

@@ -14,7 +14,7 @@ use crate::given::Given;
 use crate::scripts::begun;
 use redo_path::Path;
 use redo_record::Deps;
-use redo_step::{Job, Step};
+use redo_step::{Job, Step, more_answers};
 use redo_sync::Numbered;
 use redo_which::Rule;
 use std::alloc::{AllocError, Global};
@@ -84,11 +84,11 @@ pub struct Piece {
 }
 
 /// How a script came to stand: it ended, and its target's check had asked for something before it was begun, or it
-/// stopped with what is left of it.
+/// stopped with what is left of it, for want of the answers to some paths.
 #[derive(Drop)]
 pub(crate) enum End {
     Ended(Fact, Deps),
-    Stopped(Box<Begun>),
+    Stopped { begun: Box<Begun>, paths: Vec<Path> },
 }
 
 impl Model for Piece {
@@ -271,7 +271,12 @@ fn advance_job(given: Arc<Given>, number: u32, job: Job, facts: Facts) -> Result
             let fact = Fact::of(own, path, outcome, deps, true);
             End::Ended(fact, facts.into_asked())
         }
-        Step::Asks { job, paths: _paths } => End::Stopped(Box::new(alloc, Begun { job, facts })?),
+        Step::Asks { job, paths } => {
+            // By this law the paths are those that the declared entries lack.
+            more_answers();
+            let begun = Box::new(alloc, Begun { job, facts })?;
+            End::Stopped { begun, paths }
+        }
     };
     Ok(Piece {
         given,

@@ -104,7 +104,7 @@ pub work_send : IsSend (Work.the_field).row
 work_send = search (work_script_send, given_send, given_sync, sendable, heap.crosses) depth 20
 
 pub end_send : IsSend (End.the_field).row
-end_send = search (fact_send, deps.the_send, begun_send, sendable, heap.crosses) depth 20
+end_send = search (fact_send, deps.the_send, begun_send, path.the_send, sendable, heap.crosses) depth 20
 
 pub piece_send : IsSend (Piece.the_field).row
 piece_send = search (end_send, given_send, given_sync, path.the_send, sendable, heap.crosses) depth 20

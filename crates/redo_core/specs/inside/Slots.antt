@@ -1,17 +1,16 @@
 -- How a board keeps its entries.
 use Rattle.std.specs.Prelude.{◌≡◌, ◌⊎◌, ℕ, ◌+◌, ◌<◌, ◌≤◌, Bool, true, false, not, List, [], ◌∷◌, ◌++◌, Option, Some}
-use Rattle.std.specs.Prelude.{None, IsNone, if◌then◌else◌, map, length, drop, filter, slice_get, slice_set}
+use Rattle.std.specs.Prelude.{None, IsNone, if◌then◌else◌, map, length, filter, slice_get, slice_set}
 use Rattle.std.specs.Prelude.{unwrap_or, IsSorted, IsPermutation, Box}
 use Rattle.std.specs.Ordering.{nat_cmp}
 use Rattle.std.specs.declared.alloc.Global.{Global}
 use Rattle.std.specs.declared.vec.Vec.{Vec}
-pub use Rattle.redo_core.specs.inside.Works.{IsOperand}
 use Rattle.redo_build.specs.Rules.{Ask, Rules, Extends, operands}
 use Rattle.redo_core.specs.inside.Works.{IsUnreadWork, all_asked, found_as, told_in, AddsFact, IsJobOf, GoesOn}
-use Rattle.redo_core.specs.inside.Works.{AreKnownBelow}
+use Rattle.redo_core.specs.inside.Works.{waited_by}
 use Rattle.redo_core.specs.declared.facts.Facts.{Facts}
 use Rattle.redo_sync.specs.Shown.{Shown}
-use Rattle.redo_step.specs.JobView.{JobView, record_so_far}
+use Rattle.redo_step.specs.JobView.{record_so_far}
 use Rattle.redo_record.specs.Paths.{IsAmong, AreDistinct}
 use Rattle.redo_core.specs.declared.board.Stop.TheVariants.{TooMany}
 use Rattle.redo_build.specs.Outcomes.{outcome_at, IsTooMany}
@@ -124,10 +123,6 @@ IsParked given p turn work = (work.given ≡ given) × (work.target ≡ p) × (w
 abbrev pub AnsweredBelow : Ask → List (List ℕ) → ℕ → Type 0
 AnsweredBelow a qs i = (k : ℕ) (q : List ℕ) → k < i → slice_get qs k ≡ Some q → a q ≡ None → ⊥
 
--- what a script asked for and has no facts of yet
-abbrev pub waited_by : Rules → Begun → List (List ℕ)
-waited_by r begun = operands r (drop begun.facts.gained begun.job.state.entries)
-
 -- the numbers are those of the paths, one for one
 abbrev pub AreNumbers : List (List ℕ) → List ℕ → List (List ℕ) → Type 0
 AreNumbers ps [] [] = Unit {0}
@@ -139,8 +134,7 @@ AreNumbers ps (n ∷ ns) (q ∷ qs) = (slice_get ps n ≡ Some q) × AreNumbers 
 abbrev pub AllAnswered : Rules → Ask → List Dep → Type 0
 AllAnswered r a deps = (q : List ℕ) → IsAmong (operands r deps) q → a q ≡ None → ⊥
 
--- a job that waits, with the outcomes that it holds: they are among those known, and those of the first entries that
--- it declared
+-- a job that waits, with the outcomes that it holds, which are among those known
 pub record IsWaitingWith (r : Rules) (a : Ask) (given : GivenView) (p : List ℕ) (turn : ℕ) (parked : Parked)
     : Type 0 where
   pub is_job : IsJobOf given parked.begun.value.job
@@ -153,8 +147,6 @@ pub record IsWaitingWith (r : Rules) (a : Ask) (given : GivenView) (p : List ℕ
   pub behind : IsBegunBehind given p parked.begun.value.facts.asked (told_in parked.begun.value.facts)
   pub checked : AllAnswered r (told_in parked.begun.value.facts) parked.begun.value.facts.asked
   pub goes_on : GoesOn parked.begun.value.job (told_in parked.begun.value.facts)
-  pub gained_within : parked.begun.value.facts.gained ≤ length parked.begun.value.job.state.entries
-  pub gained : AreKnownBelow r parked.begun.value.job (told_in parked.begun.value.facts) parked.begun.value.facts.gained
   pub own : (sources_for given).progress p (told_in parked.begun.value.facts) ≡
       record { outcome = None; deps = record_so_far parked.begun.value.job }
 
@@ -162,7 +154,6 @@ pub record IsWaitingWith (r : Rules) (a : Ask) (given : GivenView) (p : List ℕ
 pub record IsHeldWith (given : GivenView) (p : List ℕ) (turn : ℕ) (held : InCheck) : Type 0 where
   pub found : found_of given.past.sources p ≡ found_as held.rule
   pub at_first : turn ≡ 0
-  pub none_gained : held.facts.gained ≡ 0
   pub none_behind : held.facts.asked ≡ []
 
 -- a target whose check can go on, with the outcomes of all that it asked for, and no others
@@ -380,11 +371,9 @@ pub record GainsBelow (t : Table) (ns : List ℕ) (old new : Facts) (i : ℕ) : 
   pub known : (k n : ℕ) (fact : Shown FactView) → k < i → slice_get ns k ≡ Some n → IsFactAt t n fact →
       told_in new fact.value.target ≡ None → ⊥
 
--- the facts hold those of all the numbers, and hold nothing else that is new: so they have those of all the job's
--- entries
-pub record Gains (t : Table) (ns : List ℕ) (job : JobView) (old new : Facts) : Type 0 where
-  pub all : new.gained ≡ length job.state.entries
-  pub below : GainsBelow t ns old new (length ns)
+-- the facts hold those of all the numbers, and hold nothing else that is new
+abbrev pub Gains : Table → List ℕ → Facts → Facts → Type 0
+Gains t ns old new = GainsBelow t ns old new (length ns)
 
 -- the job of a slot is parked
 abbrev pub IsWaitingThere : Table → ℕ → Type 0

@@ -1,6 +1,6 @@
 -- Jobs as the board keeps them, with the outcomes that they hold.
-use Rattle.std.specs.Prelude.{◌≡◌, ◌⊎◌, ℕ, zero, suc, false, ◌+◌, ◌<◌, ◌≤◌, List, [], Some, None, map, length}
-use Rattle.std.specs.Prelude.{slice_get, unwrap_or, Box, Option, ◌++◌}
+use Rattle.std.specs.Prelude.{◌≡◌, ◌⊎◌, ℕ, zero, suc, ◌+◌, ◌<◌, List, [], Some, None, map, filter, is_none}
+use Rattle.std.specs.Prelude.{unwrap_or, Box, Option, ◌++◌}
 use Rattle.std.specs.declared.alloc.Global.{Global}
 use Rattle.redo_script.specs.Texts.{script_in}
 use Rattle.redo_tree.specs.Tree.{file_at}
@@ -14,13 +14,14 @@ use Rattle.redo_sync.specs.Shown.{Shown}
 use Rattle.redo_step.specs.JobView.{JobView, job_setting, whole_of, IsFit, record_so_far}
 use Rattle.redo_step.specs.Reach.{Keeps}
 use Rattle.redo_record.specs.Paths.{IsAmong}
-use Rattle.redo_build.specs.Rules.{Ask, Rules, changed, operands}
+use Rattle.redo_build.specs.Rules.{Ask, Rules, operands}
 use Rattle.redo_build.specs.Outcomes.{outcome_at}
 use Rattle.redo_build.specs.Schedule.{only}
 use Rattle.redo_build.specs.inside.Turns.{IsWork, deps_at_turn}
 use Rattle.redo_core.specs.Build.{GivenView, rules_for, sources_for}
 use Rattle.redo_core.specs.Views.{FactView, WorkView, told_by}
 use Rattle.redo_core.specs.declared.facts.Facts.{Facts}
+use Rattle.redo_core.specs.declared.work.Begun.{Begun}
 use Rattle.redo_core.specs.inside.Checking.{IsBegunBehind}
 
 -- the paths of some facts with their outcomes
@@ -51,16 +52,15 @@ all_asked job facts = with_all facts.asked (job_deps job)
 
 -- a fact is known now too, and nothing else is new: what was known keeps its answer
 pub record AddsFact (fact : FactView) (old new : Facts) : Type 0 where
-  pub same : new.gained ≡ old.gained
   pub asked : new.asked ≡ old.asked
   pub kept : (q : List ℕ) → told_in new q ≡ None → told_in old q ≡ None
   pub origin : (q : List ℕ) (o : Outcome) → told_in new q ≡ Some o →
       (told_in old q ≡ Some o) ⊎ ((fact.target ≡ q) × (fact.outcome ≡ o))
   pub known : told_in new fact.target ≡ None → ⊥
 
--- the path of an entry of a record that is waited for
-abbrev pub IsOperand : Rules → Dep → List ℕ → Type 0
-IsOperand r d q = (changed d.kind d.path ≡ Some q) × (r.is_source q ≡ false)
+-- what a script asked for and has no facts of yet, in the order of its entries
+abbrev pub waited_by : Rules → Begun → List (List ℕ)
+waited_by r begun = filter (λ q. is_none (told_in begun.facts q)) (operands r begun.job.state.entries)
 
 -- the job is that of its target: with the rule that the search finds, on the script that the .do file holds
 pub record IsJobOf (given : GivenView) (job : JobView) : Type 0 where
@@ -72,12 +72,6 @@ pub record IsJobOf (given : GivenView) (job : JobView) : Type 0 where
 -- the job can go on under each ask that keeps these answers to what it declared
 abbrev pub GoesOn : JobView → Ask → Type 0
 GoesOn job known = (later : Ask) → Keeps (job_setting job) job.state.entries known later → IsFit job later
-
--- of the first so many entries that a job declared, each that is waited for has an answer
-abbrev pub AreKnownBelow : Rules → JobView → Ask → ℕ → Type 0
-AreKnownBelow r job known n =
-    (k : ℕ) (d : Dep) (q : List ℕ) → k < n → slice_get job.state.entries k ≡ Some d → IsOperand r d q →
-    known q ≡ None → ⊥
 
 -- what the search finds where there is this rule
 abbrev pub found_as : FoundRule → Found
@@ -94,7 +88,6 @@ pub record IsWorkWith (given : GivenView) (job : JobView) (facts : Facts) : Type
   pub declared : (q : List ℕ) → IsAmong (operands (rules_for given) job.state.entries) q →
       IsAmong (operands (rules_for given) (job_deps job)) q
   pub goes_on : GoesOn job (told_in facts)
-  pub gained : facts.gained ≡ length job.state.entries
   pub few : job.turn < 65536
 
 -- a work before its script is read: it has the rule that the search finds, and the build's outcomes for all that its
@@ -105,7 +98,6 @@ pub record IsUnreadWork (given : GivenView) (target : List ℕ) (found : Found) 
   pub exact : (q : List ℕ) →
       told_in facts q ≡ only (operands (rules_for given) facts.asked) (outcome_at (rules_for given) is_work.depth) q
   pub behind : IsBegunBehind given target facts.asked (told_in facts)
-  pub gained : facts.gained ≡ 0
 
 -- a job that stopped at a turn, behind so many looks: it is at the next, with the outcomes of the build at this depth
 -- for all that it had asked for before
@@ -120,8 +112,6 @@ pub record IsStopped (given : GivenView) (depth looks : ℕ) (target : List ℕ)
   pub behind : IsBegunBehind given target facts.asked (told_in facts)
   pub checked : (q : List ℕ) → IsAmong (operands (rules_for given) facts.asked) q → told_in facts q ≡ None → ⊥
   pub goes_on : GoesOn job (told_in facts)
-  pub within : facts.gained ≤ length job.state.entries
-  pub gained : AreKnownBelow (rules_for given) job (told_in facts) facts.gained
   pub own : (sources_for given).progress target (told_in facts) ≡ record { outcome = None; deps = record_so_far job }
 
 -- a work holds the outcomes of the build at some depth for all that it asked for, and no others

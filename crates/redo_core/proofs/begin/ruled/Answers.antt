@@ -22,7 +22,7 @@ returns-in-Some c =
     let held : InCheck = record { rule = c.args.rule; check = c.in-Some.check; facts = c.new-facts.result } in
     let H : InCheck → Type 0 = λ h. ((a : Ask) → IsDueWith (rules_for given) a given p 0 h) × (h.check.asked ≡ []) in
     let both = subst H (sym c.in_ok-held.ensures.ok) (
-      begun-due given p held c.requires c.new-facts.ensures.empty c.new-facts.ensures.gained c.new-facts.ensures.asked due.0 due.1,
+      begun-due given p held c.requires c.new-facts.ensures.empty c.new-facts.ensures.asked due.0 due.1,
       due.0,
     ) in
     (both.0, both.1, ruled given p c.args.rule c.requires)
@@ -36,7 +36,7 @@ behind c =
 pub unread-requires : goal.unread-requires
 unread-requires c =
     rw (c.in_ok-own.ensures, c.in_ok-target.ensures.cases) (begun-unread c.args.build.now c.args.path.now c.args.rule c.new-facts.result c.requires
-    c.new-facts.ensures.empty c.new-facts.ensures.gained c.new-facts.ensures.asked (behind (goal.at-unread-requires c).In_default))
+    c.new-facts.ensures.empty c.new-facts.ensures.asked (behind (goal.at-unread-requires c).In_default))
 
 pub returns : goal.returns
 returns c =

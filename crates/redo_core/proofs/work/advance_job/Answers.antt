@@ -1,4 +1,4 @@
-use Rattle.std.proofs.Common.{◌≡◌, true, sym, ap, subst, ◌∙◌}
+use Rattle.std.proofs.Common.{◌≡◌, true, refl, sym, ap, subst, ◌∙◌}
 use Rattle.std.specs.Arc.{arc_value}
 use Rattle.redo_record.specs.declared.outcome.Outcome.{Outcome}
 use Rattle.redo_core.specs.Views.{FactView}
@@ -11,7 +11,7 @@ use Rattle.redo_core.proofs.AdvanceLemmas.{work-fits, fact-parts, stopped-end, e
 use Rattle.redo_core.proofs.AdvanceLemmas.{end-lacks}
 use Rattle.redo_core.proofs.work.advance_job.Goals as goal
 use Rattle.redo_core.proofs.work.advance_job.Goals.{in-Ended+in_ok-own-in-Ended+in_ok-path-in-Ended+in_ok-deps-in-Ended}
-use Rattle.redo_core.proofs.work.advance_job.Goals.{in-Asks+in_ok-new-in-Asks}
+use Rattle.redo_core.proofs.work.advance_job.Goals.{in-Asks+in_ok-begun-in-Asks}
 
 pub advance-requires-clause-fits : goal.advance-requires-clause-fits
 advance-requires-clause-fits c = work-fits (arc_value c.args.given) c.args.job c.args.facts c.requires
@@ -42,7 +42,7 @@ invariant_of-result c =
           w.into_asked.ensures
           (ap (λ (f : FactView). f.given) w.of-fact.ensures ∙ w.in_ok-own-in-Ended.ensures)
           (ap (λ (f : FactView). f.target) w.of-fact.ensures ∙ path))
-      | in-Asks+in_ok-new-in-Asks w ↦ subst P (sym w.end-is) (stopped-end given job facts c.requires w.in-Asks.job w.in-Asks._paths.items (rw w.in-Asks.is at c.in_ok-done.ensures) w.in_ok-new-in-Asks.field-0 w.in_ok-new-in-Asks.ensures.ok)
+      | in-Asks+in_ok-begun-in-Asks w ↦ subst P (sym w.end-is) (stopped-end given job facts c.requires w.in-Asks.job w.in-Asks.paths.items (rw w.in-Asks.is at c.in_ok-done.ensures) w.more_answers.ensures w.in_ok-begun-in-Asks.begun w.in-Asks.paths w.in_ok-begun-in-Asks.ensures.ok refl)
     ])
 
 pub returns-clause-progress : goal.returns-clause-progress
@@ -58,7 +58,7 @@ returns-clause-progress c =
           (ap (λ (f : FactView). f.outcome) w.of-fact.ensures ∙ w.keep_digest.ensures)
           (ap (λ (f : FactView). f.deps) w.of-fact.ensures ∙ w.in_ok-deps-in-Ended.ensures.ok)
           w.into_asked.ensures)
-      | in-Asks+in_ok-new-in-Asks w ↦ subst P (sym w.end-is) (asks-progress given job facts c.requires w.in-Asks.job w.in-Asks._paths.items (rw w.in-Asks.is at c.in_ok-done.ensures) w.in_ok-new-in-Asks.field-0 w.in_ok-new-in-Asks.ensures.ok)
+      | in-Asks+in_ok-begun-in-Asks w ↦ subst P (sym w.end-is) (asks-progress given job facts c.requires w.in-Asks.job w.in-Asks.paths.items (rw w.in-Asks.is at c.in_ok-done.ensures) w.in_ok-begun-in-Asks.begun w.in-Asks.paths w.in_ok-begun-in-Asks.ensures.ok)
     ]
 
 pub returns-clause-ended : goal.returns-clause-ended

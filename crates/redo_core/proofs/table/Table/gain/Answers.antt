@@ -1,4 +1,4 @@
-use Rattle.std.proofs.Common.{◌≡◌, ◌⊎◌, None, Some, length, arith, ap, subst, ◌∙◌}
+use Rattle.std.proofs.Common.{◌≡◌, ◌⊎◌, None, Some, arith, ap, subst, ◌∙◌}
 use Rattle.redo_build.specs.Rules.{Ask}
 use Rattle.redo_core.specs.inside.Slots.{IsToldBy}
 use Rattle.redo_core.specs.Views.{told_by}
@@ -19,15 +19,12 @@ pub returns : goal.returns
 returns c =
     let same : told_in c.reserve.new.self ≡ told_in c.args.facts.now = ap told_by c.reserve.ensures.known in
     record {
-      all = c.len-facts.ensures ∙ ap length c.declared.ensures;
-      below = record {
-        asked = c.loop-at.invariant.asked ∙ c.reserve.ensures.asked;
-        kept = λ q none.
-            let P : Ask → Type 0 = λ ask. ask q ≡ None in
-            subst P same (c.loop-at.invariant.kept q none);
-        origin = λ q o told.
-            let P : Ask → Type 0 = λ ask. (ask q ≡ Some o) ⊎ IsToldBy c.args.self.now c.args.operands.now q o in
-            subst P same (c.loop-at.invariant.origin q o told);
-        known = λ k n fact below. c.loop-at.invariant.known k n fact (omega (arith, below));
-      };
+      asked = c.loop-at.invariant.asked ∙ c.reserve.ensures.asked;
+      kept = λ q none.
+          let P : Ask → Type 0 = λ ask. ask q ≡ None in
+          subst P same (c.loop-at.invariant.kept q none);
+      origin = λ q o told.
+          let P : Ask → Type 0 = λ ask. (ask q ≡ Some o) ⊎ IsToldBy c.args.self.now c.args.operands.now q o in
+          subst P same (c.loop-at.invariant.origin q o told);
+      known = λ k n fact below. c.loop-at.invariant.known k n fact (omega (arith, below));
     }

@@ -49,8 +49,8 @@ of-requires c =
     let inside : c.deref_mut.result.now ≡ c.in-Waiting.parked.begun.value = c.deref_mut.ensures.value in
     let own : arc_value c.in_ok-own.own ≡ c.args.build.now = c.in_ok-own.ensures in
     let u = record t { slots = with_item t.slots c.args.at (gone d) } in
-    let P : List ℕ → Type 0 = λ ns. Gains u ns c.in-Waiting.parked.begun.value.job c.in-Waiting.parked.begun.value.facts c.gain.new.facts in
-    let Q : Begun → Type 0 = λ b. Gains u c.deref.result.now b.job b.facts c.gain.new.facts in
+    let P : List ℕ → Type 0 = λ ns. Gains u ns c.in-Waiting.parked.begun.value.facts c.gain.new.facts in
+    let Q : Begun → Type 0 = λ b. Gains u c.deref.result.now b.facts c.gain.new.facts in
     rw (own, inside) (fed-work c.args.build.now t c.args.at slot c.in-Waiting.parked fed
     u (gone d) c.replace-stage.ensures.after refl refl c.gain.new.facts (subst P c.deref.ensures.value (subst Q inside c.in_ok-gain.ensures)))
 
@@ -80,7 +80,7 @@ returns c =
         ap (λ (w : WorkView). w.given) c.of.ensures ∙ c.in_ok-own.ensures,
         ap (λ (w : WorkView). w.target) c.of.ensures ∙ ap (λ (b : Begun). b.job.target) c.deref_mut.ensures.value,
         ap (λ (w : WorkView). w.turn) c.of.ensures ∙ ap (λ (b : Begun). b.job.turn) c.deref_mut.ensures.value,
-        ap (λ (w : WorkView). w.deps) c.of.ensures ∙ ap (λ ds. with_all ds (job_deps c.deref_mut.result.now.job)) c.in_ok-gain.ensures.below.asked ∙
+        ap (λ (w : WorkView). w.deps) c.of.ensures ∙ ap (λ ds. with_all ds (job_deps c.deref_mut.result.now.job)) c.in_ok-gain.ensures.asked ∙
             ap (λ (b : Begun). all_asked b.job b.facts) c.deref_mut.ensures.value,
       );
       slots = set-twice t.slots.items c.args.at (gone d) _;
