@@ -1,6 +1,6 @@
 -- What a script declares stands behind what was declared before.
 use Rattle.std.proofs.Common.{◌≡◌, ℕ, Bool, true, false, cond, List, [], ◌∷◌, refl, sym, ◌∙◌, Result, Ok, Err}
-use Rattle.std.proofs.Common.{append-nil, drop}
+use Rattle.std.proofs.Common.{append-nil}
 use Rattle.redo_script.specs.Syntax.{Command, write, test, change, create, always, always_true, always_false, exit}
 use Rattle.redo_script.specs.Syntax.{Script, finish, simple, choice, loop}
 use Rattle.redo_record.specs.declared.deps.Dep.{Dep}
@@ -16,10 +16,6 @@ use Rattle.redo_step.specs.Outputs.{written}
 use Rattle.redo_step.specs.Files.{tested}
 use Rattle.redo_step.specs.Statements.{with_status, with_state, command_run, condition_result, then_run, chosen}
 use Rattle.redo_step.specs.Statements.{turns, looped, run}
-use Rattle.redo_step.specs.declared.place.Branch.{Branch}
-use Rattle.redo_step.specs.declared.place.Branch.TheVariants.{First, Second}
-use Rattle.redo_step.specs.declared.place.Place.{Place, Before, Within', InTurn'}
-use Rattle.redo_step.specs.Place.{Rest, turns_of, skip, inside, in_turn, left_at}
 use Rattle.redo_record.specs.Answers.{Ask}
 use Rattle.redo_step.proofs.StepLemmas.{written_entries}
 use Rattle.redo_record.proofs.BehindLemmas.{beginning-refl, beginning-trans, entries-begin}
@@ -95,34 +91,3 @@ run-begins setting ask (loop line name ws body rest) s =
     then-begins s.entries (looped (texts_of setting line ws) (λ value. run (with_value setting name value) ask body) s) (run setting ask rest)
     (looped-begins (texts_of setting line ws) (λ value. run (with_value setting name value) ask body) (λ value. run-begins (with_value setting name value) ask body) s)
     (run-begins setting ask rest)
-
--- so does what is left from a place on
-abbrev pub LeftBegins : Ask → (Setting → Script → Rest) → Type 0
-LeftBegins ask left = (setting : Setting) (c : Script) (s : State) → IsBeginning s.entries (end_state (left setting c ask s)).entries
-
-inside-begins : (ask : Ask) (branch : Branch) (left : Setting → Script → Rest) → LeftBegins ask left → LeftBegins ask (inside branch left)
-inside-begins ask First left part setting finish s = run-begins setting ask finish s
-inside-begins ask Second left part setting finish s = run-begins setting ask finish s
-inside-begins ask First left part setting (simple line c rest) s = run-begins setting ask finish s
-inside-begins ask Second left part setting (simple line c rest) s = run-begins setting ask finish s
-inside-begins ask First left part setting (choice line c first second rest) s = then-begins s.entries (left setting first ask s) (run setting ask rest) (part setting first s) (run-begins setting ask rest)
-inside-begins ask Second left part setting (choice line c first second rest) s = then-begins s.entries (left setting second ask s) (run setting ask rest) (part setting second s) (run-begins setting ask rest)
-inside-begins ask First left part setting (loop line name ws body rest) s = run-begins setting ask finish s
-inside-begins ask Second left part setting (loop line name ws body rest) s = run-begins setting ask finish s
-
-in_turn-begins : (ask : Ask) (values : List (List ℕ)) (left : Setting → Script → Rest) → LeftBegins ask left → LeftBegins ask (in_turn values left)
-in_turn-begins ask [] left part setting c s = run-begins setting ask finish s
-in_turn-begins ask (value ∷ values) left part setting finish s = run-begins setting ask finish s
-in_turn-begins ask (value ∷ values) left part setting (simple line c rest) s = run-begins setting ask finish s
-in_turn-begins ask (value ∷ values) left part setting (choice line c first second rest) s = run-begins setting ask finish s
-in_turn-begins ask (value ∷ values) left part setting (loop line name ws body rest) s =
-    then-begins s.entries (then_run (left (with_value setting name value) body ask s) (turns_of setting name body values ask)) (run setting ask rest)
-    (then-begins s.entries (left (with_value setting name value) body ask s) (turns_of setting name body values ask) (part (with_value setting name value) body s)
-    (turns-begins (λ value. run (with_value setting name value) ask body) (λ value. run-begins (with_value setting name value) ask body) values))
-    (run-begins setting ask rest)
-
-pub left-begins : (setting : Setting) (ask : Ask) (place : Place) (c : Script) (s : State) → IsBeginning s.entries (end_state (left_at place setting c ask s)).entries
-unfolding left_at
-left-begins setting ask (Before n) c s = run-begins setting ask (skip n c) s
-left-begins setting ask (Within' n branch p place) c s = inside-begins ask branch (left_at place) (λ inner. left-begins inner ask place) setting (skip n c) s
-left-begins setting ask (InTurn' n values turn p place) c s = in_turn-begins ask (drop turn values) (left_at place) (λ inner. left-begins inner ask place) setting (skip n c) s

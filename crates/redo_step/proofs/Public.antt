@@ -12,15 +12,11 @@ use Rattle.redo_record.specs.declared.outcome.Outcome.TheVariants.{Built}
 use Rattle.redo_step.specs.Setting.{is_source, Setting, setting_of}
 use Rattle.redo_record.specs.Progress.{IsLawful}
 use Rattle.redo_record.specs.Entries.{IsBeginning, is_entered, search_deps}
-use Rattle.redo_step.specs.Runs.{State, end_state}
-use Rattle.redo_step.specs.Place.{left_at}
-use Rattle.redo_step.specs.declared.place.Place.{Place}
 use Rattle.redo_record.specs.Answers.{Ask}
 use Rattle.redo_record.specs.Paths.{IsAmong, Path}
 use Rattle.redo_step.specs.Agreeing.{AreAlike, IsMet, AllAgree, IsFollowed, held_in}
 use Rattle.redo_step.specs.Results.{by_script}
 use Rattle.redo_step.proofs.AgreeingLemmas as agreeing
-use Rattle.redo_step.proofs.BehindRunLemmas as behind
 use Rattle.redo_step.proofs.DoFileLemmas as named
 use Rattle.redo_step.proofs.FollowedLemmas as followed
 use Rattle.redo_step.proofs.LawfulScriptLemmas as lawful
@@ -33,11 +29,6 @@ pub progress_is_lawful : (setting : Setting) (missing : List Path) (do_file : Pa
     (parsed : Result Script ScriptFault) → is_source setting do_file ≡ true →
     IsLawful (is_source setting) (by_script setting (search_deps missing do_file) parsed)
 progress_is_lawful = lawful.script-lawful
-
--- what is left of a script declares behind what was declared before
-pub rest_declares_behind : (setting : Setting) (ask : Ask) (place : Place) (script : Script) (s : State) →
-    IsBeginning s.entries (end_state (left_at place setting script ask s)).entries
-rest_declares_behind = behind.left-begins
 
 -- Records
 
