@@ -1,6 +1,6 @@
 -- The newly ready numbers go into the queue, and the table shows what the schedule enqueues.
-use Rattle.std.proofs.Common.{map, slice_get, take, drop, ◌-◌, ◌≤◌, ◌≡◌, ℕ, zero, suc, ◌+◌, ◌<◌, List, [], ◌∷◌, ◌++◌}
-use Rattle.std.proofs.Common.{append-nil, length, inl, inr, ◌⊎◌, refl, sym, ap, subst, ◌∙◌}
+use Rattle.std.proofs.Common.{map, ◌-◌, ◌≡◌, ℕ, ◌+◌, List, [], ◌∷◌, ◌++◌}
+use Rattle.std.proofs.Common.{append-nil, inl, inr, refl, sym, ap, subst, ◌∙◌}
 use Rattle.std.proofs.Common.{arith}
 use Rattle.std.proofs.lemmas.List.{map-append}
 use Rattle.redo_record.specs.Paths.{AreDistinct}
@@ -9,7 +9,6 @@ use Rattle.redo_build.specs.Outcomes.{outcome_at}
 use Rattle.redo_core.specs.Build.{GivenView, rules_for}
 use Rattle.redo_build.specs.Schedule.{Entry, State, enqueued}
 use Rattle.redo_build.specs.inside.Standing.{AreStanding}
-use Rattle.redo_record.specs.declared.deps.Dep.{Dep}
 use Rattle.redo_core.proofs.SlotLemmas.{slice_get-from, paths_of-slots}
 use Rattle.redo_core.specs.inside.Slots.{IsPutBackThere, IsTakenIn, IsLookedAt, AreLookedAt, table_entries}
 use Rattle.redo_core.specs.inside.Slots.{table_state, path_at, IsPlace, IsQueue, IsTable, IsTableOf, AllWatched}
@@ -73,16 +72,6 @@ module _ (given : GivenView) (request : List (List ℕ)) (t u : Table) (newly_re
       let S : List (List ℕ) → State = λ qs. record { entries = table_entries r given.limits.targets t; ready = qs } in
       let first : table_state r given.limits.targets u ≡ S (map (path_at t.targets) (t.ready.items ++ w.sorted)) = rw (w.rest.0, w.rest.1, w.queue) refl in
       first ∙ ap S (map-append (path_at t.targets) t.ready.items w.sorted ∙ ap (λ qs. map (path_at t.targets) t.ready.items ++ qs) (sym paths))
-
-take-whole : (xs : List Dep) (n : ℕ) → length xs ≤ n → take n xs ≡ xs
-take-whole [] zero h = refl
-take-whole [] (suc n) h = refl
-take-whole (x ∷ xs) zero h = absurd (omega arith)
-take-whole (x ∷ xs) (suc n) h = ap (λ ys. x ∷ ys) (take-whole xs n (omega arith))
-
--- the rest of a slice, from a number on
-pub slice-rest : (xs : List Dep) (n : ℕ) → take (length xs - n) (drop n xs) ≡ drop n xs
-slice-rest xs n = take-whole (drop n xs) (length xs - n) (omega (arith, Rattle.std.proofs.Common.length-drop n xs))
 
 map-same : (f g : ℕ → List ℕ) (xs : List ℕ) → ((k : ℕ) → IsPlace xs k → f k ≡ g k) → map f xs ≡ map g xs
 map-same f g [] h = refl

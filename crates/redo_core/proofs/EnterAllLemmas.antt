@@ -9,7 +9,7 @@ use Rattle.redo_record.specs.Paths.{IsAmong, is_among}
 use Rattle.redo_build.specs.Rules.{Rules, operands, changed}
 use Rattle.redo_core.specs.Build.{GivenView, rules_for}
 use Rattle.redo_build.specs.Schedule.{Entry, paths_of, entered, new_entry}
-use Rattle.redo_core.specs.inside.Slots.{table_entries, IsTableOf, AreEnteredInto}
+use Rattle.redo_core.specs.inside.Slots.{table_entries, AreEnteredInto}
 use Rattle.redo_core.specs.declared.table.Table.{Table}
 use Rattle.redo_build.proofs.PathLemmas.{is_among-from, with_new-first}
 use Rattle.redo_build.proofs.SeenLemmas.{entered-longer, paths_of-entered}
@@ -60,9 +60,6 @@ too-many r es mid limit ps i p get at many =
 module _ (given : GivenView) where
   abbrev r : Rules
   r = rules_for given
-
-  pub enter-none : (t : Table) (newly_ready : List ℕ) → IsTableOf given t newly_ready → AreEnteredInto given t t newly_ready []
-  enter-none t newly_ready table = record { table = table; entries = refl; rest = (refl, refl); keys_kept = λ k p h. h; slots_kept = λ k slot h. h; watched = λ pending all. all }
 
   -- some paths, and then others
   pub enter-more : (t u v : Table) (newly_ready newly_ready' : List ℕ) (ps qs : List (List ℕ)) → AreEnteredInto given t u newly_ready ps → AreEnteredInto given u v newly_ready' qs →

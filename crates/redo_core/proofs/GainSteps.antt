@@ -110,14 +110,6 @@ same-fact t n f g a b =
     let stages : Decided f ≡ Decided g = sym a.2 ∙ ap (λ (y : Slot). y.stage) slot ∙ b.2 in
     cc
 
-pub gains-begin : (t : Table) (ns : List ℕ) (facts : Facts) → GainsBelow t ns facts facts 0
-gains-begin t ns facts = record {
-  asked = refl;
-  kept = λ q h. h;
-  origin = λ q o h. inl h;
-  known = λ k n fact below. absurd (omega (arith, below));
-}
-
 -- one number more
 pub gains-step : (t : Table) (ns : List ℕ) (old mid new : Facts) (i n : ℕ) → slice_get ns i ≡ Some n →
     GainsBelow t ns old mid i → GainsOne t n mid new → GainsBelow t ns old new (i + 1)
