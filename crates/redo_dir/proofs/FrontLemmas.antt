@@ -40,20 +40,17 @@ front_append dir files [] more h k = k
 front_append dir [] (x ∷ xs) more h k = absurd h
 front_append dir (f ∷ fs) (x ∷ xs) more h k = (h.0, h.1, front_append dir fs xs more h.2 k)
 
-front_length : (dir : List ℕ) (files front : Files) → IsFront dir files front → length front ≤ length files
-front_length dir files [] h = omega arith
-front_length dir [] (x ∷ xs) h = absurd h
-front_length dir (f ∷ fs) (x ∷ xs) h = let l = front_length dir fs xs h.2 in omega (arith, l)
-
+-- where they stand
 front_places : (dir : List ℕ) (files front : Files) → IsFront dir files front → front ≡ places_in dir (take (length front) files)
 front_places dir files [] h = refl
 front_places dir [] (x ∷ xs) h = absurd h
 front_places dir (f ∷ fs) (x ∷ xs) h = ap (λ y. y ∷ xs) h.0 ∙ ap (λ ys. (path_join dir f.0, f.1) ∷ ys) (front_places dir fs xs h.2)
 
-front_texts : (dir : List ℕ) (files front : Files) → IsFront dir files front → AllByRecursion IsUtf8 (take (length front) (paths_of files))
-front_texts dir files [] h = tt
-front_texts dir [] (x ∷ xs) h = absurd h
-front_texts dir (f ∷ fs) (x ∷ xs) h = (h.1, front_texts dir fs xs h.2)
+-- their paths are text
+front_are_texts : (dir : List ℕ) (files front : Files) → IsFront dir files front → AllByRecursion IsUtf8 (take (length front) (paths_of files))
+front_are_texts dir files [] h = tt
+front_are_texts dir [] (x ∷ xs) h = absurd h
+front_are_texts dir (f ∷ fs) (x ∷ xs) h = (h.1, front_are_texts dir fs xs h.2)
 
 -- all files
 pub all_places : (dir : List ℕ) (files front : Files) → IsFront dir files front → length files ≤ length front → front ≡ places_in dir (take (length files) files)
@@ -168,4 +165,4 @@ places_before dir files front fault answer h same =
     front_places dir files front h ∙ ap (λ n. places_in dir (take n files)) (sym (ap place_of same ∙ place_at fault (length front)))
 
 pub texts_before : (dir : List ℕ) (files front : Files) (fault : Unwritten) (answer : StoreFault) → IsFront dir files front → Stops files (length front) fault → answer ≡ fault_at fault (length front) → HasTexts {A = Unit {0}} (Err answer) (paths_of files)
-texts_before dir files front fault answer h s same = refused_at (paths_of files) (length front) s.0 fault answer s.1 s.2 (front_texts dir files front h) same
+texts_before dir files front fault answer h s same = refused_at (paths_of files) (length front) s.0 fault answer s.1 s.2 (front_are_texts dir files front h) same

@@ -10,16 +10,20 @@ use std::rt::Files;
 use std::thread;
 use std::thread::Threads;
 
-/// How many files are written at most before the first of them gets its name: that many temporary files a run leaves
-/// behind that is killed.
+/// How many files are written at most before the first of them gets its name. A run that is killed leaves at most so
+/// many temporary files.
 pub(crate) const FILES_OF_A_BATCH: usize = 256;
 
-/// How many files a thread is to have at least, so that few files start no thread.
+/// How many files there have to be for each thread, so that few files start no thread.
 const FILES_OF_A_THREAD: usize = 16;
 
-/// Whether the file could have the name of another's temporary file.
+/// Whether the file could have the name of another's temporary file, also where the system takes capital letters for
+/// small ones.
 fn looks_temporary(path: &Path) -> bool {
-    path.name().starts_with(b".redo-")
+    let front: &[u8] = b".redo-";
+    path.name()
+        .get(..front.len())
+        .is_some_and(|name| name.eq_ignore_ascii_case(front))
 }
 
 /// The first files of a list, which are stored together: so many at most. One that could have the name of another's
@@ -62,7 +66,8 @@ pub(crate) fn write_in_turn<R: Files>(rt: &R, alloc: Global, drafts: &mut [Draft
     }
 }
 
-/// Writes drafts by so many threads. Each tries other names first, so that those of one directory seldom try the same.
+/// Writes drafts by so many threads. Each draft tries names from that of its own place on, so that those of one
+/// directory seldom try the same.
 pub(crate) fn write_by<R: Files + Threads + Sync>(
     rt: &R,
     alloc: Global,

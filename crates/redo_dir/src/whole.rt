@@ -13,8 +13,8 @@ use std::path::PathBuf;
 use std::rt::Files;
 use std::{fs, io};
 
-/// How many names are tried for a new file.
-const MOST_TRIES: u64 = 1000;
+/// How many names are tried for a new file. Runs that were killed may each have left a batch of them.
+const MOST_TRIES: u64 = 100_000;
 
 /// The name of a new file, of the tries at one.
 fn temporary_name(alloc: Global, number: u64) -> Result<String, AllocError>
@@ -131,7 +131,7 @@ impl Draft {
         self.written = write_beside(rt, alloc, &self.target, self.content.bytes(), first);
     }
 
-    /// Gives the temporary file its name, or removes it.
+    /// Gives the temporary file its name, or removes it; where there is none, says why.
     pub fn finish<R: Files>(self, rt: &R) -> io::Result<Whole>
         ensures { IfOk result (λ whole. whole ≡ self) }
     {
