@@ -273,8 +273,8 @@ pub fn store_files<R: Files>(
 /// Writes files as [`store_files`] does, by so many threads at most, of which the caller's is one. Where there is
 /// enough to do for several, a batch of files is written beside their places before the first of them takes its own, in
 /// the order of the list; so a run that is killed may leave a batch of temporary files. Zero workers are taken as one.
-/// The threads open files, so what `R` opens is to be `Send`. No path is to lie below another of the list: there a fault
-/// may be of another kind, and a temporary file may stay behind a link that stood in the place of the upper one.
+/// The threads open files, so what `R` opens is to be `Send`. No path is to lie below another of the list: there a
+/// fault may be of another kind, and a temporary file may stay behind a link that stood in the place of the upper one.
 pub fn store_files_by<R: Files + Threads + Sync>(
     rt: &R,
     alloc: Global,
