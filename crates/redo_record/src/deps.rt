@@ -25,8 +25,7 @@ pub struct Dep {
     pub path: Path,
 }
 
-/// Up to how many entries are compared with each other rather than looked up. Looking one up takes more steps than
-/// comparing it with so many, and most records have fewer.
+/// Up to how many entries are compared with each other rather than looked up. Most records have fewer.
 const FEW: usize = 16;
 
 /// Where entries are kept. Many are boxed, since most records have a few entries and each target has one.
