@@ -24,13 +24,14 @@ SPINNING = 5
 
 
 def find():
-    """The program's path: what REDO names, or that of this repository, which is built first where it is old."""
+    """The program's path: what REDO names, or the one that bin/redo runs, which is built first where there is none."""
     named = os.environ.get("REDO")
     if named:
         return os.path.abspath(named)
     top = os.path.dirname(os.path.dirname(os.path.abspath(__file__)))
-    subprocess.run([top + "/bin/redo", "--help"], stdout=subprocess.DEVNULL, check=True)
-    return top + "/crates/redo/out/redo"
+    subprocess.run([top + "/bin/redo", "--version"], stdout=subprocess.DEVNULL, check=True)
+    which = subprocess.run([top + "/bin/redo", "--built"], stdout=subprocess.PIPE, text=True, check=True).stdout
+    return f"{top}/{which.partition(':')[0]}"
 
 
 REDO = find()
