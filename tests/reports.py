@@ -236,3 +236,18 @@ def with_book(tree, report):
     """The report of a run over a tree, with the new book among the files of the report."""
     head, files = parts(as_bytes(report))
     return whole(head, {**files, BOOK: new_book(states(tree), book_of(tree), head, files)})
+
+
+def report_of(rows, kept=()):
+    """The report of these paths, each with what became of it and its record. Bytes are its file's, None stands for no
+    file, and words are those of its row. Those with a rule in their record were begun, but for those that are kept."""
+    head, begun, files = [], [], {}
+    for path in in_order(rows):
+        end, record = rows[path]
+        words = end if isinstance(end, str) else "built none" if end is None else f"built {len(end)}"
+        head += [f"{words} {path}", *(f"dep {entry}" for entry in record)]
+        if path not in kept and any(entry.startswith("change ") for entry in record):
+            begun.append(f"begun {path}")
+        if isinstance(end, bytes):
+            files[path] = end
+    return whole(os.fsencode("\n".join([*head, *begun, "end\n"])), files)

@@ -36,6 +36,3 @@ pub use faults::PastFault;
 pub use past::Past;
 pub use run_report::RunReport;
 pub use standing::has_state;
-
-#[cfg(test)]
-mod tests;

@@ -28,8 +28,6 @@ mod parser;
 mod partial;
 mod reader;
 mod spans;
-#[cfg(test)]
-mod tests;
 mod token;
 
 pub use ast::{Command, Condition, Parameter, Part, Redirection, Script, Stmt, Test, Word, Writer};

@@ -43,6 +43,3 @@ pub use laws::{
 pub use limits::Limits;
 pub use parsed::Parsed;
 pub use refusal::Refusal;
-
-#[cfg(test)]
-mod tests;
