@@ -34,6 +34,4 @@ pub mod opening;
 mod same;
 mod scripts;
 mod table;
-#[cfg(test)]
-mod tests;
 pub mod work;

@@ -21,6 +21,3 @@ mod whole;
 pub use faults::{LoadFault, StoreFault};
 pub use loading::{load_dir, load_dir_by};
 pub use storing::{Stored, store_files, store_files_by};
-
-#[cfg(test)]
-mod tests;

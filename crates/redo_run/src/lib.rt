@@ -52,6 +52,3 @@ pub use options::Options;
 pub use picks::{Pick, drive};
 pub use run_fault::RunFault;
 pub use workers::build_many;
-
-#[cfg(test)]
-mod tests;

@@ -28,6 +28,3 @@ pub use open::relay;
 pub use rule::Numbered;
 pub use source::JobSource;
 pub use taker::{JobTaker, Taken};
-
-#[cfg(test)]
-mod tests;

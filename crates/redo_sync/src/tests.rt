@@ -1,4 +1,0 @@
-//! Cells and relays of small values, in one thread and in several.
-
-mod cells;
-mod relay;

@@ -1,0 +1,108 @@
+//! A writer that fails at any of its calls. In the program a buffer of 64 KiB stands before it, so it fails only once
+//! the run has written, in `tests/failing-calls` too.
+
+ghost use Rattle.std.specs.Prelude.{◌≡◌, None, false};
+
+use crate::trees::{limits_of, paths_of};
+use redo_bundle::{Broken, ByteOut, Plain};
+use redo_run::{Cause, Exit, NoObserver, Options, RunIoFault, run_bundle};
+use std::alloc::Global;
+use std::sync::Wait;
+use std::test::Fail;
+use std::thread::Threads;
+
+const HELLO: &str = "file 8 hello.do\necho hi\n\nend\n";
+
+/// Takes one byte a call, and fails at a call, counted from 0: by an error, or by taking nothing.
+#[derive(Drop)]
+struct Sink {
+    text: Vec<u8>,
+    fails_at: usize,
+    takes_nothing: bool,
+    broken: bool,
+}
+
+impl ByteOut for Sink {
+    ghost held = { λ _. None };
+
+    ghost has_failed = { λ s. s.broken };
+
+    fn write(&mut self, buf: &[u8]) -> Result<usize, Broken> {
+        let Some(byte) = buf.first() else {
+            return Ok(0);
+        };
+        if self.text.len() == self.fails_at || self.text.push(*byte).is_err() {
+            self.broken = true;
+            return if self.takes_nothing {
+                Ok(0)
+            } else {
+                Err(Broken)
+            };
+        }
+        Ok(1)
+    }
+
+    fn failed(&self) -> bool {
+        self.broken
+    }
+}
+
+fn make_sink(alloc: Global, fails_at: usize, takes_nothing: bool) -> Sink
+    ensures { result.broken ≡ false }
+{
+    Sink {
+        text: Vec::new(alloc),
+        fails_at,
+        takes_nothing,
+        broken: false,
+    }
+}
+
+/// Builds `hello`, and answers how the run ends.
+fn run_to<R: Threads + Wait + Sync, W: ByteOut>(
+    rt: &R,
+    alloc: Global,
+    writer: &mut W,
+) -> Result<Result<Exit, RunIoFault>, Fail>
+    requires { W.has_failed writer.old ≡ false }
+{
+    let options = Options {
+        targets: paths_of(alloc, "hello")?,
+        workers: 1,
+        limits: limits_of(1)?,
+    };
+    Ok(run_bundle(
+        rt,
+        alloc,
+        &mut Plain::new(HELLO.as_bytes()),
+        writer,
+        &options,
+        &NoObserver,
+        &mut Cause::new(alloc),
+        &mut None,
+    ))
+}
+
+#[test]
+fn a_writer_may_fail_at_any_call(rt: HostRuntime) -> Result<(), Fail> {
+    let alloc = rt.alloc();
+    let mut whole = Plain::new(Vec::new(alloc));
+    assert!(rt; run_to(&rt, alloc, &mut whole)? == Ok(Exit::Good));
+    let Plain {
+        stream: report,
+        broken: _,
+    } = whole;
+    assert!(rt; report.starts_with(b"built 3 hello\n"));
+    for call in 0..report.len() {
+        for takes_nothing in [false, true] {
+            let mut sink = make_sink(alloc, call, takes_nothing);
+            let outcome = run_to(&rt, alloc, &mut sink)?;
+            assert!(rt; outcome == Err(RunIoFault::Device), "call {call}");
+            assert!(rt;
+                sink.text.len() == call && report.starts_with(&sink.text),
+                "call {call}"
+            );
+        }
+    }
+    Ok(())
+}

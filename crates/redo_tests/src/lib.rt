@@ -1,0 +1,31 @@
+//! Tests of what can't be seen of the program from outside.
+//!
+//! Whole runs are tested by the scripts in `tests/`, which need no proof. Here is what they can't reach: calls that the
+//! program makes in one way alone, or not at all, and what a call leaves behind a refusal. The crate has no code of its
+//! own, and calls what the others offer to everyone.
+//!
+//! - `cells`, `relay`: what threads share without a lock;
+//! - `trees`: trees, as bundles, and what else the tests share;
+//! - `pieces`: pieces that don't belong to a board, and a board at its limit;
+//! - `picks`: builds in an order that is given beforehand;
+//! - `observers`: which jobs workers take up, and how many at a time;
+//! - `ends`: a writer that fails at any of its calls;
+//! - `memory`: what a call leaves that is refused memory; `tests/refused-memory` refuses it.
+#![tactic(auto)]
+
+#[cfg(test)]
+mod cells;
+#[cfg(test)]
+mod ends;
+#[cfg(test)]
+mod memory;
+#[cfg(test)]
+mod observers;
+#[cfg(test)]
+mod picks;
+#[cfg(test)]
+mod pieces;
+#[cfg(test)]
+mod relay;
+#[cfg(test)]
+mod trees;

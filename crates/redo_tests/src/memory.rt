@@ -1,0 +1,244 @@
+//! What a call leaves that was refused memory: `tests/refused-memory` refuses each allocation of these tests in turn,
+//! one in each run.
+
+use crate::pieces::{answer, counts, first_piece};
+use crate::trees::{
+    DIAMOND, DIAMOND_REPORT, REFUSED_BOOK, RING, RING_REPORT, limits_of, paths_of, tree_of,
+};
+use redo_core::board::{Board, HandFault, Stop};
+use redo_core::opening::OpenFault;
+use redo_core::work::{Piece, Work};
+use redo_path::Path;
+use redo_report::{Report, report_text};
+use redo_run::{NoObserver, RunFault, build_many, build_one};
+use redo_sync::{Cells, JobTaker, Numbered, Taken, relay};
+use redo_tree::Tree;
+use std::alloc::Global;
+use std::sync::Arc;
+use std::test::Fail;
+
+/// Each target asks for another one.
+const ENDLESS: &str = "file 20 default.do\nredo-ifchange \"$1\"x\n\nend\n";
+
+/// A rule for `hello`, and what a run has made of it.
+const GENERATED: &str = "file 8 hello.do\necho hi\n\nfile 3 hello\nhi\n\nfile 82 .redo-book\n\
+    target 98ea6e4f216f2fb4b69fff9b3a44842c38686ca685f3f55dc48c5d3fb1107be4 hello\nend\n\nend\n";
+
+const GENERATED_REPORT: &str = "built 3 hello\ndep change hello.do\nbegun hello\nend\n";
+
+/// A rule, a bundle, the requested words, and the report, without its files, or why there is none.
+const BUILDS: [(&str, &str, &str, &str); 5] = [
+    ("a diamond", DIAMOND, "top", DIAMOND_REPORT),
+    ("a ring", RING, "t u", RING_REPORT),
+    ("too many", ENDLESS, "a", "TooMany"),
+    ("a generated file", GENERATED, "hello", GENERATED_REPORT),
+    ("a refused book", REFUSED_BOOK, "a", "Book(2)"),
+];
+
+/// Whether a build came to what is expected, or was out of memory and is the first that was.
+fn is_answer(
+    alloc: Global,
+    found: Result<Report, RunFault>,
+    expected: &str,
+    was_refused: &mut bool,
+) -> Result<bool, Fail> {
+    match found {
+        Ok(report) => Ok(report_text(alloc, &report, false)?.as_slice() == expected.as_bytes()),
+        Err(RunFault::Memory) => {
+            let is_first = !*was_refused;
+            *was_refused = true;
+            Ok(is_first)
+        }
+        Err(fault) => Ok(format!(in alloc; "{fault:?}")?.as_str() == expected),
+    }
+}
+
+#[test]
+fn one_thread_answers_as_ever_or_is_out_of_memory(rt: HostRuntime) -> Result<(), Fail> {
+    let alloc = rt.alloc();
+    let mut was_refused = false;
+    for (rule, bundle, words, expected) in BUILDS {
+        let request = paths_of(alloc, words)?;
+        let found = build_one(alloc, tree_of(alloc, bundle)?, &request, limits_of(100)?);
+        assert!(rt;
+            is_answer(alloc, found, expected, &mut was_refused)?,
+            "{rule}"
+        );
+    }
+    Ok(())
+}
+
+#[test]
+fn four_workers_answer_as_ever_or_are_out_of_memory(rt: HostRuntime) -> Result<(), Fail> {
+    let alloc = rt.alloc();
+    let mut was_refused = false;
+    for (rule, bundle, words, expected) in BUILDS {
+        let request = paths_of(alloc, words)?;
+        let tree = tree_of(alloc, bundle)?;
+        let found = build_many(&rt, alloc, tree, &request, limits_of(100)?, 4, &NoObserver);
+        let report = found.map(|(report, _ledger)| report);
+        assert!(rt;
+            is_answer(alloc, report, expected, &mut was_refused)?,
+            "{rule}"
+        );
+    }
+    Ok(())
+}
+
+/// How often a target of the diamond is taken: `top`, `left` and `right` twice, and `base` once.
+const TAKES: usize = 7;
+
+/// Opens a board of the diamond over a tree, or none where memory runs out.
+fn opened(alloc: Global, tree: &Arc<Tree>) -> Result<Option<Board>, Fail> {
+    let request = paths_of(alloc, "top")?;
+    match Board::open(alloc, Arc::try_clone(tree)?, &request, limits_of(100)?) {
+        Ok(board) => Ok(Some(board)),
+        Err(OpenFault::Memory) => Ok(None),
+        Err(OpenFault::TooMany) => Err("too many targets")?,
+        Err(OpenFault::Book(_)) => Err("a book in a tree without one")?,
+    }
+}
+
+/// Takes the first target that is ready. A take that was refused has changed nothing, so it is made again.
+fn taken(board: &mut Board) -> Result<Work, Fail> {
+    if board.ready() == 0 {
+        Err("nothing is ready")?;
+    }
+    let before = counts(board);
+    if let Ok(work) = board.take(0) {
+        return Ok(work);
+    }
+    if counts(board) != before || board.ready() == 0 {
+        Err("a refused take has taken something")?;
+    }
+    Ok(board.take(0)?)
+}
+
+/// Hands a piece in, and tells whether the board goes on. One that was refused memory has stopped, and answers so for
+/// good.
+fn goes_on(alloc: Global, board: &mut Board, piece: Piece) -> Result<bool, Fail> {
+    match answer(board, piece)? {
+        None => Ok(true),
+        Some(HandFault::Memory) => {
+            let later = answer(board, first_piece(alloc, 100)?)?;
+            let is_stopped = board.stopped() == Some(Stop::Memory)
+                && counts(board) == (0, 0, false);
+            if !is_stopped || !matches!(later, Some(HandFault::Memory)) {
+                Err("a board goes on without memory")?;
+            }
+            Ok(false)
+        }
+        Some(_) => Err("a piece was refused")?,
+    }
+}
+
+/// Builds the diamond over a tree. Answers the report's text, or none where memory ran out on the way.
+fn built(alloc: Global, tree: &Arc<Tree>) -> Result<Option<Vec<u8>>, Fail> {
+    let Some(mut board) = opened(alloc, tree)? else {
+        return Ok(None);
+    };
+    for _ in 0..TAKES {
+        let Ok(piece) = taken(&mut board)?.advance() else {
+            return Ok(None);
+        };
+        if !goes_on(alloc, &mut board, piece)? {
+            return Ok(None);
+        }
+    }
+    if !board.quiet() {
+        Err("not quiet")?;
+    }
+    match board.finish().and_then(|report| report.into_report(alloc)) {
+        Ok(report) => Ok(Some(report_text(alloc, &report, false)?)),
+        Err(_) => Ok(None),
+    }
+}
+
+/// Whether a text, where there is one, is the diamond's report.
+fn is_report(text: &Option<Vec<u8>>) -> bool {
+    match text {
+        Some(text) => text.as_slice() == DIAMOND_REPORT.as_bytes(),
+        None => true,
+    }
+}
+
+/// A job that a refused call lost leaves the tree whole that it shared.
+#[test]
+fn a_refusal_ends_one_build_alone(rt: HostRuntime) -> Result<(), Fail> {
+    let alloc = rt.alloc();
+    let tree = Arc::new(alloc, tree_of(alloc, DIAMOND)?)?;
+    let one = built(alloc, &tree)?;
+    let other = built(alloc, &tree)?;
+    assert!(rt; one.is_some() || other.is_some());
+    assert!(rt; is_report(&one) && is_report(&other));
+    Ok(())
+}
+
+/// A job that is nothing but its turn.
+#[derive(Drop)]
+struct Ticket {
+    target: Path,
+    turn: u64,
+}
+
+impl Numbered for Ticket {
+    ghost number = { λ t. (t.target, t.turn) };
+
+    fn target(&self) -> &Path {
+        &self.target
+    }
+
+    fn turn(&self) -> u64 {
+        self.turn
+    }
+}
+
+/// How many jobs are given: the queue grows twice on the way.
+const JOBS: u64 = 200;
+
+/// The turn of the job that is taken within 1,000 tries, none of which may be refused.
+fn turn_taken(taker: &mut JobTaker<Ticket>) -> Result<u64, Fail> {
+    for _ in 0..1000 {
+        match taker.try_take() {
+            Ok(Taken::Job(job)) => return Ok(job.turn()),
+            Ok(Taken::Empty | Taken::Again) => (),
+            Err(_) => Err("a taker was refused memory")?,
+        }
+    }
+    Err("no job")?
+}
+
+#[test]
+fn a_refused_job_comes_back_and_each_is_taken(rt: HostRuntime) -> Result<(), Fail> {
+    let (mut source, mut takers) = relay(rt.alloc(), 1)?;
+    for turn in 0..JOBS {
+        let target = Path::root();
+        if let Err((back, _)) = source.give(Ticket { target, turn }) {
+            assert_eq!(rt; back.turn(), turn);
+            source.give(back).map_err(|e| e.1)?;
+        }
+    }
+    let mut taker = takers.pop().ok_or("no taker")?;
+    for turn in 0..JOBS {
+        assert_eq!(rt; turn_taken(&mut taker)?, turn);
+    }
+    Ok(())
+}
+
+#[test]
+fn a_refused_value_comes_back_and_may_be_published(rt: HostRuntime) -> Result<(), Fail> {
+    let cells = Cells::new(rt.alloc(), 1)?;
+    for value in [7u64, 8] {
+        let known = match Cells::publish(&cells, 0, value) {
+            Ok(known) => known,
+            Err((back, _)) => {
+                assert_eq!(rt; back, value);
+                Cells::publish(&cells, 0, back).map_err(|e| e.1)?
+            }
+        };
+        assert_eq!(rt; *known.read(), value);
+    }
+    let seen = Cells::look(&cells, 0)?.ok_or("the cell is empty")?;
+    assert_eq!(rt; *seen.read(), 7);
+    Ok(())
+}

@@ -1,0 +1,165 @@
+//! Which jobs workers take up, how often, and how many at a time.
+
+use crate::trees::{DIAMOND, DIAMOND_REPORT, limits_of, paths_of, tree_of};
+use redo_bundle::Plain;
+use redo_path::Path;
+use redo_report::report_text;
+use redo_run::{Cause, Exit, Observer, Options, build_many, run_bundle};
+use std::alloc::{AllocError, Global};
+use std::sync::atomic::AtomicU64;
+use std::sync::atomic::Ordering::SeqCst;
+use std::test::Fail;
+use std::thread::yield_now;
+
+/// Two targets without dependencies, and one that asks for both.
+const TWO: &str =
+    "file 7 a.do\necho a\n\nfile 7 b.do\necho b\n\nfile 18 top.do\nredo-ifchange a b\n\nend\n";
+
+/// Holds who enters until two have entered, for so many yields at most, and notes who waited in vain. The target `top`
+/// isn't held.
+#[derive(Drop)]
+struct Pair {
+    entered: AtomicU64,
+    in_vain: AtomicU64,
+}
+
+impl Observer for Pair {
+    fn taken_up(&self, target: &Path, _turn: u64) {
+        if target.text() == b"top".as_slice() {
+            return;
+        }
+        self.entered.fetch_add(1, SeqCst);
+        for _ in 0..1_000_000u32 {
+            if self.entered.load(SeqCst) >= 2 {
+                return;
+            }
+            yield_now();
+        }
+        self.in_vain.fetch_add(1, SeqCst);
+    }
+}
+
+/// Two that are requested, and two that become ready later.
+#[test]
+fn both_must_be_inside_a_run(rt: HostRuntime) -> Result<(), Fail> {
+    let alloc = rt.alloc();
+    for words in ["a b", "top"] {
+        let pair = Pair {
+            entered: AtomicU64::new(0),
+            in_vain: AtomicU64::new(0),
+        };
+        let options = Options {
+            targets: paths_of(alloc, words)?,
+            workers: 2,
+            limits: limits_of(3)?,
+        };
+        let outcome = run_bundle(
+            &rt,
+            alloc,
+            &mut Plain::new(TWO.as_bytes()),
+            &mut Plain::new(Vec::new(alloc)),
+            &options,
+            &pair,
+            &mut Cause::new(alloc),
+            &mut None,
+        );
+        assert!(rt; outcome == Ok(Exit::Good), "{words}");
+        assert_eq!(rt; pair.entered.load(SeqCst), 2, "{words}");
+        assert_eq!(rt; pair.in_vain.load(SeqCst), 0, "{words}");
+    }
+    Ok(())
+}
+
+/// The jobs of a diamond: each script from its first statement on, and once more three that stopped.
+const JOBS: [(&[u8], u64); 7] = [
+    (b"base", 0),
+    (b"left", 0),
+    (b"left", 1),
+    (b"right", 0),
+    (b"right", 1),
+    (b"top", 0),
+    (b"top", 1),
+];
+
+/// Counts how often each job entered, and how often another one did. It holds who enters until more are inside than
+/// there are workers, for so many yields at most, and counts how often that was so.
+#[derive(Drop)]
+struct Crowd {
+    workers: u64,
+    entered: Vec<AtomicU64>,
+    strange: AtomicU64,
+    inside: AtomicU64,
+    too_many: AtomicU64,
+}
+
+impl Crowd {
+    /// Before anyone has entered.
+    fn new(alloc: Global, workers: u64) -> Result<Crowd, AllocError> {
+        let mut entered = Vec::new(alloc);
+        for _ in JOBS {
+            entered.push(AtomicU64::new(0))?;
+        }
+        Ok(Crowd {
+            workers,
+            entered,
+            strange: AtomicU64::new(0),
+            inside: AtomicU64::new(0),
+            too_many: AtomicU64::new(0),
+        })
+    }
+
+    /// Counts a job.
+    fn note(&self, target: &Path, turn: u64) {
+        let place = JOBS
+            .iter()
+            .position(|job| target.text() == job.0 && turn == job.1);
+        match place.and_then(|place| self.entered.get(place)) {
+            Some(count) => count.fetch_add(1, SeqCst),
+            None => self.strange.fetch_add(1, SeqCst),
+        };
+    }
+
+    /// Whether each job entered once, and nothing else did.
+    fn saw_each_once(&self) -> bool {
+        self.strange.load(SeqCst) == 0 && self.entered.iter().all(|count| count.load(SeqCst) == 1)
+    }
+}
+
+impl Observer for Crowd {
+    fn taken_up(&self, target: &Path, turn: u64) {
+        self.note(target, turn);
+        self.inside.fetch_add(1, SeqCst);
+        for _ in 0..10_000u32 {
+            if self.inside.load(SeqCst) > self.workers {
+                self.too_many.fetch_add(1, SeqCst);
+                break;
+            }
+            yield_now();
+        }
+        self.inside.fetch_sub(1, SeqCst);
+    }
+}
+
+#[test]
+fn each_job_enters_once_and_no_more_are_inside_than_workers(rt: HostRuntime) -> Result<(), Fail> {
+    let alloc = rt.alloc();
+    for workers in [1usize, 2, 8] {
+        let crowd = Crowd::new(alloc, workers as u64)?;
+        let request = paths_of(alloc, "top")?;
+        let tree = tree_of(alloc, DIAMOND)?;
+        let built = build_many(&rt, alloc, tree, &request, limits_of(4)?, workers, &crowd);
+        let (report, ledger) = built?;
+        let text = report_text(alloc, &report, false)?;
+        assert_eq!(rt;
+            text.as_slice(),
+            DIAMOND_REPORT.as_bytes(),
+            "{workers} workers"
+        );
+        assert!(rt;
+            ledger.left().is_empty() && crowd.saw_each_once(),
+            "{workers} workers"
+        );
+        assert_eq!(rt; crowd.too_many.load(SeqCst), 0, "{workers} workers");
+    }
+    Ok(())
+}

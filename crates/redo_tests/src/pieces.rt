@@ -1,0 +1,145 @@
+//! Boards that are driven by hand, and pieces that don't belong to them.
+
+use crate::trees::{DIAMOND, limits_of, paths_of, tree_of};
+use redo_core::board::{Board, HandFault, Stop};
+use redo_core::work::{Piece, Work};
+use std::alloc::Global;
+use std::sync::Arc;
+use std::test::Fail;
+
+/// A board over the tree of a bundle, for these words and with this limit of targets.
+fn board_of(alloc: Global, bundle: &str, words: &str, targets: u32) -> Result<Board, Fail> {
+    let tree = Arc::new(alloc, tree_of(alloc, bundle)?)?;
+    let request = paths_of(alloc, words)?;
+    Ok(Board::open(alloc, tree, &request, limits_of(targets)?)?)
+}
+
+/// Takes the first target that is ready.
+fn take(board: &mut Board) -> Result<Work, Fail> {
+    if board.ready() == 0 {
+        Err("nothing is ready")?;
+    }
+    Ok(board.take(0)?)
+}
+
+/// The first piece of a board of its own.
+fn first_piece_of(alloc: Global, bundle: &str, words: &str, targets: u32) -> Result<Piece, Fail> {
+    let mut board = board_of(alloc, bundle, words, targets)?;
+    Ok(take(&mut board)?.advance()?)
+}
+
+/// The first piece of another board of the diamond for `top`.
+pub(crate) fn first_piece(alloc: Global, targets: u32) -> Result<Piece, Fail> {
+    first_piece_of(alloc, DIAMOND, "top", targets)
+}
+
+/// The answer to a piece of the board's build.
+pub(crate) fn answer(board: &mut Board, piece: Piece) -> Result<Option<HandFault>, Fail> {
+    if !board.belongs(&piece) {
+        Err("a piece of another build")?;
+    }
+    Ok(board.hand_in(piece).err())
+}
+
+/// How many targets are ready, how many are out, and whether the board is quiet.
+pub(crate) fn counts(board: &Board) -> (usize, usize, bool) {
+    (board.ready(), board.out(), board.quiet())
+}
+
+/// Takes the first target that is ready and hands it in, so many times.
+fn go(board: &mut Board, steps: usize) -> Result<(), Fail> {
+    for _ in 0..steps {
+        let piece = take(board)?.advance()?;
+        if answer(board, piece)?.is_some() {
+            Err("a piece was refused")?;
+        }
+    }
+    Ok(())
+}
+
+/// Whether a board gives back the first piece of another as a stranger, and stands then as it is said.
+fn gives_back(
+    alloc: Global,
+    board: &mut Board,
+    stands: (usize, usize, bool),
+) -> Result<bool, Fail> {
+    let piece = first_piece(alloc, 100)?;
+    let is_back = match answer(board, piece)? {
+        Some(HandFault::Stranger(back)) => {
+            back.target().text() == b"top".as_slice() && back.turn() == 0 && !back.ended()
+        }
+        _ => false,
+    };
+    Ok(is_back && counts(board) == stands)
+}
+
+#[test]
+fn strangers_and_pieces_of_an_old_turn_come_back(rt: HostRuntime) -> Result<(), Fail> {
+    let alloc = rt.alloc();
+    let mut board = board_of(alloc, DIAMOND, "top", 100)?;
+    assert!(rt;
+        gives_back(alloc, &mut board, (1, 0, false))?,
+        "its target isn't out"
+    );
+    go(&mut board, 6)?;
+    let work = take(&mut board)?;
+    assert!(rt; work.target().text() == b"top".as_slice() && work.turn() == 1);
+    assert!(rt;
+        gives_back(alloc, &mut board, (0, 1, false))?,
+        "its turn is an old one"
+    );
+    Ok(())
+}
+
+/// What another build has, what stands before the diamond in its bundle, the requested words, the limit of targets,
+/// and whether it is the same build as that of `left` with a limit of 100.
+const BUILDS: [(&str, &str, &str, u32, bool); 6] = [
+    ("the same", "", "left", 100, true),
+    ("another tree", "dir d\n", "left", 100, false),
+    (
+        "another book",
+        "file 4 .redo-book\nend\n\n",
+        "left",
+        100,
+        false,
+    ),
+    ("another request", "", "top", 100, false),
+    ("the request twice", "", "left left", 100, false),
+    ("another limit", "", "left", 99, false),
+];
+
+#[test]
+fn a_build_is_known_by_its_tree_request_and_limits(rt: HostRuntime) -> Result<(), Fail> {
+    let alloc = rt.alloc();
+    let board = board_of(alloc, DIAMOND, "left", 100)?;
+    for (what, front, words, targets, is_same) in BUILDS {
+        let bundle = format!(in alloc; "{front}{DIAMOND}")?;
+        let piece = first_piece_of(alloc, &bundle, words, targets)?;
+        assert!(rt; board.belongs(&piece) == is_same, "a piece: {what}");
+        let tree = tree_of(alloc, &bundle)?;
+        let request = paths_of(alloc, words)?;
+        let is_for = board.is_for(&tree, &request, limits_of(targets)?);
+        assert!(rt; is_for == is_same, "a board: {what}");
+    }
+    Ok(())
+}
+
+/// Whether a board answers to a piece that too many targets are needed, and has stopped.
+fn is_stopped_by(board: &mut Board, piece: Piece) -> Result<bool, Fail> {
+    let is_told = matches!(answer(board, piece)?, Some(HandFault::TooMany));
+    Ok(is_told && board.stopped() == Some(Stop::TooMany) && counts(board) == (0, 0, false))
+}
+
+#[test]
+fn a_board_stops_at_its_limit(rt: HostRuntime) -> Result<(), Fail> {
+    let alloc = rt.alloc();
+    let mut board = board_of(alloc, DIAMOND, "top", 2)?;
+    let piece = take(&mut board)?.advance()?;
+    assert!(rt;
+        is_stopped_by(&mut board, piece)?,
+        "the first piece asks for one target too many"
+    );
+    let later = first_piece(alloc, 2)?;
+    assert!(rt; is_stopped_by(&mut board, later)?, "a later piece");
+    Ok(())
+}

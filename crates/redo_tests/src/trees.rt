@@ -1,0 +1,56 @@
+//! Trees, as bundles, and what builds over them are given.
+
+use redo_bundle::{Plain, read_bundle};
+use redo_path::{Path, resolve};
+use redo_step::Limits;
+use redo_tree::Tree;
+use std::alloc::Global;
+use std::test::Fail;
+
+/// `top` asks for `left` and `right`, and both ask for `base`.
+pub(crate) const DIAMOND: &str = "file 7 base.do\necho b\n\n\
+    file 28 left.do\nredo-ifchange base\ncat base\n\n\
+    file 28 right.do\nredo-ifchange base\ncat base\n\n\
+    file 40 top.do\nredo-ifchange left right\ncat left right\n\nend\n";
+
+/// The report of `top`, without its files.
+pub(crate) const DIAMOND_REPORT: &str = "built 2 base\ndep change base.do\n\
+    built 2 left\ndep change left.do\ndep change base\n\
+    built 2 right\ndep change right.do\ndep change base\n\
+    built 4 top\ndep change top.do\ndep change left\ndep change right\n\
+    begun base\nbegun left\nbegun right\nbegun top\nend\n";
+
+/// `a` and `b` ask for each other, `t` asks for `a`, and `u` for nothing.
+pub(crate) const RING: &str = "file 16 a.do\nredo-ifchange b\n\nfile 16 b.do\nredo-ifchange a\n\n\
+    file 16 t.do\nredo-ifchange a\n\nfile 7 u.do\necho u\n\nend\n";
+
+/// The report of `t` and `u`, without its files.
+pub(crate) const RING_REPORT: &str = "cyclic a\ndep change a.do\ndep change b\n\
+    cyclic b\ndep change b.do\ndep change a\ncyclic t\ndep change t.do\ndep change a\n\
+    built 2 u\ndep change u.do\nbegun a\nbegun b\nbegun t\nbegun u\nend\n";
+
+/// A book whose second line is at fault.
+pub(crate) const REFUSED_BOOK: &str = "file 5 .redo-book\nend\nx\nend\n";
+
+/// The tree of a bundle.
+pub(crate) fn tree_of(alloc: Global, bundle: &str) -> Result<Tree, Fail> {
+    let mut reader = Plain::new(bundle.as_bytes());
+    Ok(read_bundle(alloc, &mut reader)?)
+}
+
+/// The paths that words name, which stand between blanks.
+pub(crate) fn paths_of(alloc: Global, words: &str) -> Result<Vec<Path>, Fail> {
+    let root = Path::root();
+    let mut paths = Vec::new(alloc);
+    for word in words.split(' ') {
+        if !word.is_empty() {
+            paths.push(resolve(alloc, &root, word.as_bytes())?)?;
+        }
+    }
+    Ok(paths)
+}
+
+/// Limits of so many targets, and of 100 bytes a file.
+pub(crate) fn limits_of(targets: u32) -> Result<Limits, Fail> {
+    Ok(Limits::new(targets, 100).ok_or("limits")?)
+}
