@@ -8,6 +8,7 @@ ghost use Rattle.std.specs.Prelude.{◌≡◌, false};
 mod causes;
 mod options;
 mod status;
+mod version;
 
 use clap::error::ErrorKind;
 use clap::{ArgMatches, Error};
@@ -220,32 +221,5 @@ fn list<H: Runtime>(
 fn note_passed<H: Runtime>(rt: &H, passed: u64) {
     if passed != 0 {
         let _shown = eprintln!(rt; "redo: {passed} names passed over");
-    }
-}
-
-#[cfg(test)]
-mod tests {
-    use super::{buffered, flush};
-    use crate::status::Fault;
-    use std::io::Write;
-    use std::test::Fail;
-
-    /// What comes of three bytes that go through the buffer to a device with so much room.
-    fn gone_out(rt: &HostRuntime, room: &mut [u8]) -> Result<Result<(), Fault>, Fail> {
-        let Ok(mut writer) = buffered(rt.alloc(), room) else {
-            return Err("no memory".into());
-        };
-        writer.write_all(b"end")?;
-        Ok(flush(&mut writer))
-    }
-
-    #[test]
-    fn what_is_in_the_buffer_goes_out_or_the_output_failed(rt: HostRuntime) -> Result<(), Fail> {
-        let mut room = [0u8; 3];
-        assert_eq!(rt; gone_out(&rt, room.as_mut_slice())?, Ok(()));
-        assert_eq!(rt; room.as_slice(), b"end".as_slice());
-        let mut small = [0u8; 2];
-        assert_eq!(rt; gone_out(&rt, small.as_mut_slice())?, Err(Fault::Output));
-        Ok(())
     }
 }

@@ -2,6 +2,7 @@
 
 ghost use Rattle.std.specs.Prelude.{◌≤◌};
 
+use crate::version::VERSION;
 use clap::{Arg, ArgAction, ArgMatches, Command, value_parser};
 use redo_path::{Path, PathFault, resolve};
 use redo_run::Options;
@@ -10,9 +11,6 @@ use std::alloc::{AllocError, AllocFailed, Global};
 use std::io;
 use std::io::ErrorKind;
 use thiserror::Error;
-
-/// The program's version, as `--version` prints it.
-const VERSION: &str = "0.1.0";
 
 /// The program's limits: 65,536 targets, and 16 MiB a file.
 pub(crate) const TARGETS: u32 = 65_536;
@@ -228,178 +226,5 @@ fn options(alloc: Global, matches: &ArgMatches<'_>) -> Result<Options, Refusal> 
             limits,
         }),
         None => unreachable!(),
-    }
-}
-
-#[cfg(test)]
-mod tests {
-    use super::{Action, Call, Input, Refusal, bad_target, call_of, command};
-    use crate::status::of_parse;
-    use redo_path::PathFault;
-    use std::alloc::Global;
-    use std::io;
-    use std::io::ErrorKind;
-    use std::test::Fail;
-
-    /// What the words come to: a call, a refusal of the program's own, or (`None`) one of the parse.
-    fn read(alloc: Global, words: &[&str]) -> Result<Option<Result<Call, Refusal>>, Fail> {
-        match command(alloc)?.try_get_matches_from(words) {
-            Ok(matches) => Ok(Some(call_of(alloc, &matches))),
-            Err(_) => Ok(None),
-        }
-    }
-
-    #[test]
-    fn refuses_words_in_the_order_of_the_manual(rt: HostRuntime) -> Result<(), Fail> {
-        let alloc = rt.alloc();
-        let rows: [(&[&str], Refusal); 9] = [
-            (&["redo"], Refusal::NoKeepGoing),
-            (&["redo", "--bundle", "-C", "d", "/x"], Refusal::NoKeepGoing),
-            (
-                &["redo", "-k", "--bundle", "-C", "d", "/x"],
-                Refusal::BundleAndDirectory,
-            ),
-            (
-                &["redo", "--whichdo", "/x", "--bundle", "y"],
-                Refusal::TargetsBesideWhichdo,
-            ),
-            (&["redo", "-k", "--bundle", "/x"], Refusal::BadTarget),
-            (&["redo", "-k", "--bundle", "a", "../x"], Refusal::BadTarget),
-            (&["redo", "-k", "--bundle", ""], Refusal::BadTarget),
-            (
-                &["redo", "--whichdo", "../x", "--bundle"],
-                Refusal::BadTarget,
-            ),
-            (&["redo", "-k", "/x"], Refusal::BadTarget),
-        ];
-        for (words, refusal) in rows {
-            let Some(Err(found)) = read(alloc, words)? else {
-                return Err("no refusal".into());
-            };
-            assert_eq!(rt; found, refusal);
-        }
-        Ok(())
-    }
-
-    #[test]
-    fn a_word_that_is_not_utf_8_is_a_bad_target(rt: HostRuntime) -> Result<(), Fail> {
-        let rows = [
-            (ErrorKind::InvalidData, Refusal::BadTarget),
-            (ErrorKind::OutOfMemory, Refusal::Memory),
-        ];
-        for (kind, refusal) in rows {
-            assert_eq!(rt; Refusal::from(io::Error::from(kind)), refusal);
-        }
-        Ok(())
-    }
-
-    #[test]
-    fn refuses_what_it_does_not_know(rt: HostRuntime) -> Result<(), Fail> {
-        let alloc = rt.alloc();
-        let rows: [&[&str]; 5] = [
-            &["redo", "-j", "0", "-k", "--bundle"],
-            &["redo", "-j", "65", "-k", "--bundle"],
-            &["redo", "-j", "many", "-k", "--bundle"],
-            &["redo", "-x"],
-            &["redo", "--whichdo"],
-        ];
-        for words in rows {
-            assert!(rt; read(alloc, words)?.is_none());
-        }
-        Ok(())
-    }
-
-    #[test]
-    fn reads_calls(rt: HostRuntime) -> Result<(), Fail> {
-        let alloc = rt.alloc();
-        let Some(Ok(call)) = read(
-            alloc,
-            &["redo", "-j", "64", "-v", "-k", "--bundle", "a", "./b"],
-        )?
-        else {
-            return Err("no call".into());
-        };
-        assert!(rt; call.verbose);
-        let Action::Build(options, input) = call.action else {
-            return Err("no build".into());
-        };
-        assert!(rt; matches!(input, Input::Bundle));
-        assert_eq!(rt; options.workers, 64);
-        assert_eq!(rt; options.targets.len(), 2);
-        assert_eq!(rt; options.targets[1].text(), b"b".as_slice());
-        assert_eq!(rt; options.limits.targets(), 65_536);
-        assert_eq!(rt; options.limits.file_bytes(), 16_777_216);
-        let Some(Ok(call)) = read(alloc, &["redo", "--whichdo", "a//x", "-C", "d"])? else {
-            return Err("no call".into());
-        };
-        assert!(rt; !call.verbose);
-        let Action::Whichdo(target, input) = call.action else {
-            return Err("no search".into());
-        };
-        assert_eq!(rt; target.text(), b"a/x".as_slice());
-        let Input::Directory(dir) = input else {
-            return Err("no directory".into());
-        };
-        assert_eq!(rt; dir.as_str(), "d");
-        Ok(())
-    }
-
-    #[test]
-    fn reads_what_is_left_out(rt: HostRuntime) -> Result<(), Fail> {
-        let alloc = rt.alloc();
-        let Some(Ok(call)) = read(alloc, &["redo", "-k"])? else {
-            return Err("no call".into());
-        };
-        let Action::Build(options, input) = call.action else {
-            return Err("no build".into());
-        };
-        assert_eq!(rt; options.workers, 1);
-        assert_eq!(rt; options.targets.len(), 0);
-        let Input::Directory(dir) = input else {
-            return Err("no directory".into());
-        };
-        assert_eq!(rt; dir.as_str(), ".");
-        Ok(())
-    }
-
-    #[test]
-    fn help_and_the_version_are_no_refusals(rt: HostRuntime) -> Result<(), Fail> {
-        let rows = [
-            ("--help", 0),
-            ("-h", 0),
-            ("--version", 0),
-            ("-x", 2),
-            ("--jobs=0", 2),
-        ];
-        for (word, status) in rows {
-            let Err(error) = command(rt.alloc())?.try_get_matches_from(&["redo", word]) else {
-                return Err("no refusal".into());
-            };
-            assert_eq!(rt; of_parse(&error), status, "{word}");
-        }
-        Ok(())
-    }
-
-    #[test]
-    fn finds_the_word_that_names_no_target(rt: HostRuntime) -> Result<(), Fail> {
-        let alloc = rt.alloc();
-        let rows: [(&[&str], Option<(&str, PathFault)>); 3] = [
-            (
-                &["redo", "-k", "a", "../x", "/y"],
-                Some(("../x", PathFault::Above)),
-            ),
-            (
-                &["redo", "--whichdo", "/y"],
-                Some(("/y", PathFault::Absolute)),
-            ),
-            (&["redo", "-k"], None),
-        ];
-        for (words, expected) in rows {
-            let Ok(matches) = command(alloc)?.try_get_matches_from(words) else {
-                return Err("no matches".into());
-            };
-            assert!(rt; bad_target(alloc, &matches) == expected);
-        }
-        Ok(())
     }
 }
