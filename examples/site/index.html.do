@@ -1,11 +1,10 @@
 #!/bin/sh -e
-# The front page links to all others. Each is built when its turn comes; pages that are named together, in one
-# redo-ifchange before the loop, would be built side by side.
-redo-ifchange header.part footer.part
+# The front page links to all others. One redo-ifchange names them all: each is built even if another fails, and several
+# side by side with -j. A redo-ifchange inside the loop would build one after another, and end at the first that fails.
+redo-ifchange header.part footer.part about.html news.html guide/start.html
 cat header.part
 echo '<h1>Contents</h1>'
 for page in about news guide/start; do
-    redo-ifchange $page.html
     echo "<p><a href=\"$page.html\">$page</a></p>"
 done
 cat footer.part
