@@ -114,21 +114,47 @@ fn taken(board: &mut Board) -> Result<Work, Fail> {
     Ok(board.take(0)?)
 }
 
-/// Hands a piece in, and tells whether the board goes on. One that was refused memory has stopped, and answers so for
-/// good.
-fn goes_on(alloc: Global, board: &mut Board, piece: Piece) -> Result<bool, Fail> {
+/// Whether a board is out of memory for a piece. It takes in any other.
+fn is_refused(board: &mut Board, piece: Piece) -> Result<bool, Fail> {
     match answer(board, piece)? {
-        None => Ok(true),
-        Some(HandFault::Memory) => {
-            let later = answer(board, first_piece(alloc, 100)?)?;
-            let is_stopped = board.stopped() == Some(Stop::Memory)
-                && counts(board) == (0, 0, false);
-            if !is_stopped || !matches!(later, Some(HandFault::Memory)) {
-                Err("a board goes on without memory")?;
-            }
-            Ok(false)
-        }
+        None => Ok(false),
+        Some(HandFault::Memory) => Ok(true),
         Some(_) => Err("a piece was refused")?,
+    }
+}
+
+/// A board that was refused memory has stopped, and answers so for good.
+fn stays_stopped(alloc: Global, board: &mut Board) -> Result<(), Fail> {
+    if board.stopped() != Some(Stop::Memory) || counts(board) != (0, 0, false) {
+        Err("a board goes on without memory")?;
+    }
+    let later = first_piece(alloc, 100)?;
+    if !is_refused(board, later)? {
+        Err("a stopped board takes in a piece")?;
+    }
+    Ok(())
+}
+
+/// Takes a target and hands it in. Answers whether there was memory for it.
+fn go_on(alloc: Global, board: &mut Board) -> Result<bool, Fail> {
+    let Ok(piece) = taken(board)?.advance() else {
+        return Ok(false);
+    };
+    if is_refused(board, piece)? {
+        stays_stopped(alloc, board)?;
+        return Ok(false);
+    }
+    Ok(true)
+}
+
+/// The text of a quiet board's report, or none where memory runs out.
+fn text_of(alloc: Global, board: Board) -> Result<Option<Vec<u8>>, Fail> {
+    if !board.quiet() {
+        Err("not quiet")?;
+    }
+    match board.finish().and_then(|report| report.into_report(alloc)) {
+        Ok(report) => Ok(Some(report_text(alloc, &report, false)?)),
+        Err(_) => Ok(None),
     }
 }
 
@@ -138,20 +164,11 @@ fn built(alloc: Global, tree: &Arc<Tree>) -> Result<Option<Vec<u8>>, Fail> {
         return Ok(None);
     };
     for _ in 0..TAKES {
-        let Ok(piece) = taken(&mut board)?.advance() else {
-            return Ok(None);
-        };
-        if !goes_on(alloc, &mut board, piece)? {
+        if !go_on(alloc, &mut board)? {
             return Ok(None);
         }
     }
-    if !board.quiet() {
-        Err("not quiet")?;
-    }
-    match board.finish().and_then(|report| report.into_report(alloc)) {
-        Ok(report) => Ok(Some(report_text(alloc, &report, false)?)),
-        Err(_) => Ok(None),
-    }
+    text_of(alloc, board)
 }
 
 /// Whether a text, where there is one, is the diamond's report.

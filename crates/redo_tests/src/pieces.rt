@@ -91,36 +91,32 @@ fn strangers_and_pieces_of_an_old_turn_come_back(rt: HostRuntime) -> Result<(), 
     Ok(())
 }
 
-/// What another build has, what stands before the diamond in its bundle, the requested words, the limit of targets,
-/// and whether it is the same build as that of `left` with a limit of 100.
-const BUILDS: [(&str, &str, &str, u32, bool); 6] = [
-    ("the same", "", "left", 100, true),
-    ("another tree", "dir d\n", "left", 100, false),
-    (
-        "another book",
-        "file 4 .redo-book\nend\n\n",
-        "left",
-        100,
-        false,
-    ),
-    ("another request", "", "top", 100, false),
-    ("the request twice", "", "left left", 100, false),
-    ("another limit", "", "left", 99, false),
-];
+/// Whether a board for `left`, with a limit of 100, takes a piece of another build for its own, and is for that build:
+/// both or neither. That build has some text before the diamond in its bundle.
+fn is_one_with(alloc: Global, front: &str, words: &str, targets: u32) -> Result<bool, Fail> {
+    let board = board_of(alloc, DIAMOND, "left", 100)?;
+    let bundle = format!(in alloc; "{front}{DIAMOND}")?;
+    let piece = first_piece_of(alloc, &bundle, words, targets)?;
+    let tree = tree_of(alloc, &bundle)?;
+    let request = paths_of(alloc, words)?;
+    let is_for = board.is_for(&tree, &request, limits_of(targets)?);
+    if board.belongs(&piece) != is_for {
+        Err("a board and a piece of one build")?;
+    }
+    Ok(is_for)
+}
 
 #[test]
 fn a_build_is_known_by_its_tree_request_and_limits(rt: HostRuntime) -> Result<(), Fail> {
     let alloc = rt.alloc();
-    let board = board_of(alloc, DIAMOND, "left", 100)?;
-    for (what, front, words, targets, is_same) in BUILDS {
-        let bundle = format!(in alloc; "{front}{DIAMOND}")?;
-        let piece = first_piece_of(alloc, &bundle, words, targets)?;
-        assert!(rt; board.belongs(&piece) == is_same, "a piece: {what}");
-        let tree = tree_of(alloc, &bundle)?;
-        let request = paths_of(alloc, words)?;
-        let is_for = board.is_for(&tree, &request, limits_of(targets)?);
-        assert!(rt; is_for == is_same, "a board: {what}");
+    assert!(rt; is_one_with(alloc, "", "left", 100)?, "the same");
+    for front in ["dir d\n", "file 4 .redo-book\nend\n\n"] {
+        assert!(rt; !is_one_with(alloc, front, "left", 100)?, "{front}");
     }
+    for words in ["top", "left left"] {
+        assert!(rt; !is_one_with(alloc, "", words, 100)?, "{words}");
+    }
+    assert!(rt; !is_one_with(alloc, "", "left", 99)?, "another limit");
     Ok(())
 }
 
