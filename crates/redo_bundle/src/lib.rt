@@ -22,6 +22,3 @@ pub use ends::{Broken, ByteIn, ByteOut, Plain};
 pub use faults::{BundleFault, WriteFault};
 pub use reading::{read_bundle, read_bundle_by_line};
 pub use writing::{write_all, write_bundle, write_parts};
-
-#[cfg(test)]
-mod tests;

@@ -162,6 +162,3 @@ impl fmt::Debug for Bytes {
         f.debug_list().entries(self.as_slice()).finish()
     }
 }
-
-#[cfg(test)]
-mod tests;

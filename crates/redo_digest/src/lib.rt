@@ -12,6 +12,3 @@ mod digest;
 pub mod laws;
 
 pub use digest::{DIGITS, Digest, state_of};
-
-#[cfg(test)]
-mod tests;

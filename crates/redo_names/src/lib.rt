@@ -16,6 +16,3 @@ mod set;
 
 pub use map::PathMap;
 pub use set::PathSet;
-
-#[cfg(test)]
-mod tests;

@@ -250,6 +250,3 @@ pub(crate) fn share(text: Vec<u8>) -> Result<Path, AllocError>
     let text = Bytes::from_vec(text)?;
     Ok(Path { text })
 }
-
-#[cfg(test)]
-mod tests;

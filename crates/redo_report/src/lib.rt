@@ -10,8 +10,6 @@
 
 mod lines;
 mod report;
-#[cfg(test)]
-mod tests;
 mod text;
 
 pub use lines::write_missing;

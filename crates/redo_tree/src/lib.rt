@@ -22,6 +22,3 @@ pub use content::Content;
 pub use entries::{Entry, Kind, Tree};
 pub use faults::TreeFault;
 pub use file_digests::FileDigests;
-
-#[cfg(test)]
-mod tests;

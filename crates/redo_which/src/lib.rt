@@ -77,6 +77,3 @@ pub enum Found {
     /// A candidate is a file.
     Rule(Rule),
 }
-
-#[cfg(test)]
-mod tests;

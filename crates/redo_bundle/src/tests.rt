@@ -1,5 +1,0 @@
-//! Small bundles, a table for each rule.
-
-mod ends;
-mod reading;
-mod writing;
