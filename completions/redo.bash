@@ -1,0 +1,102 @@
+# Completions of redo for bash, version 4 or later: options, and behind them targets, which are those that the book of
+# the tree names and those that its .do files make. The tree is the directory of -C, or else the current one.
+
+_redo_options=(
+    "-j            Run at most N scripts side by side, 1 to 64"
+    "--jobs        Run at most N scripts side by side, 1 to 64"
+    "-k            Keep going though targets fail; required when targets are built"
+    "--keep-going  Keep going though targets fail; required when targets are built"
+    "--bundle      Read the tree as a bundle from standard input"
+    "-C            Read the tree from a directory"
+    "--whichdo     Print where the rule of TARGET is looked for, and build nothing"
+    "-v            Say the cause behind a message, where it is known"
+    "--verbose     Say the cause behind a message, where it is known"
+    "-h            Print help"
+    "--help        Print help"
+    "-V            Print version"
+    "--version     Print version"
+)
+
+# _redo_plain WORD: sets REPLY to a word of the command line without its quotes.
+_redo_plain() {
+    case $1 in
+    \'*) REPLY=${1#\'} REPLY=${REPLY%\'} ;;
+    \"*) REPLY=${1#\"} REPLY=${REPLY%\"} ;;
+    # Without -r, read takes a backslash as the shell does.
+    *) IFS= read REPLY <<<"$1" ;;
+    esac
+}
+
+# _redo_offer WORD..: offers those that begin as the word at the cursor does, each once.
+_redo_offer() {
+    local it
+    local -A offered
+    for it; do
+        [[ $it == "$word"* && ! ${offered[$it]-} ]] || continue
+        offered[$it]=yes
+        COMPREPLY+=("$it")
+    done
+}
+
+# One program is started for all targets of the book, and none for the .do files.
+_redo_offer_targets() {
+    local path names=()
+    if [[ -f $dir/.redo-book ]]; then
+        mapfile -t names < <(sed -n 's/^target [0-9a-z]* //p' "$dir/.redo-book")
+    fi
+    for path in "$dir/$word"*.do; do
+        path=${path#"$dir/"}
+        case ${path##*/} in
+        default.do | default.*.do) ;;
+        *) [[ ! -f $dir/$path ]] || names+=("${path%.do}") ;;
+        esac
+    done
+    _redo_offer "${names[@]}"
+    compopt -o filenames 2>/dev/null
+}
+
+# Where bash lists the options and inserts none, each has its description.
+_redo_offer_options() {
+    _redo_offer "${_redo_options[@]}"
+    [[ ${#COMPREPLY[@]} -gt 1 && ${COMP_TYPE-} == @(33|63|64) ]] || COMPREPLY=("${COMPREPLY[@]%% *}")
+}
+
+_redo() {
+    local at awaited= dir=. ended= whichdo= word REPLY
+    COMPREPLY=()
+    # The option that awaits the word at the cursor. An = is a word of its own.
+    for ((at = 1; at < COMP_CWORD; at++)); do
+        _redo_plain "${COMP_WORDS[at]}"
+        if [[ $awaited ]]; then
+            [[ $REPLY != = ]] || continue
+            [[ $awaited != dir ]] || dir=$REPLY
+            awaited=
+        elif [[ ! $ended ]]; then
+            case $REPLY in
+            --) ended=yes ;;
+            -j | -[kv]*j | --jobs) awaited=number ;;
+            -C | -[kv]*C) awaited=dir ;;
+            -C?*) dir=${REPLY#-C} ;;
+            --whichdo) awaited=target whichdo=yes ;;
+            esac
+        fi
+    done
+    [[ $dir != '~' && $dir != '~/'* ]] || dir=$HOME${dir#\~}
+    _redo_plain "${COMP_WORDS[COMP_CWORD]}"
+    word=$REPLY
+    [[ ! $awaited || $word != = ]] || word=
+    case $awaited in
+    number) _redo_offer {1..64} ;;
+    dir)
+        mapfile -t COMPREPLY < <(compgen -d -- "$word")
+        compopt -o filenames 2>/dev/null
+        ;;
+    target) _redo_offer_targets ;;
+    *)
+        [[ $whichdo || ! $ended && $word == -* ]] || _redo_offer_targets
+        [[ $ended || ${#COMPREPLY[@]} -gt 0 || $word && $word != -* ]] || _redo_offer_options
+        ;;
+    esac
+}
+
+complete -F _redo redo

@@ -1,0 +1,44 @@
+# Completions of redo for fish: options, and behind them targets, which are those that the book of the tree names and
+# those that its .do files make. The tree is the directory of -C, or else the current one.
+
+function __redo_targets --description "The targets of the tree"
+    set -l dir .
+    set -l before
+    for word in (commandline -opc)
+        switch "$before"
+            case -C '-k*C' '-v*C'
+                set dir $word
+        end
+        switch $word
+            case --
+                break
+            case -C
+            case '-C*'
+                set dir (string sub -s 3 -- $word)
+        end
+        set before $word
+    end
+    set dir (string replace -r '^~(?=/|$)' $HOME -- $dir | string replace -r '/+$' '')
+    if test -f $dir/.redo-book
+        string replace -rf '^target \S+ ' '' <$dir/.redo-book
+    end
+    # The word at the cursor, without its quotes.
+    set -l beginning (commandline -ct | string replace -r '^--whichdo=' '' | string replace -ra '[\\\\"\']' '')
+    for file in $dir/"$beginning"*.do
+        set file (string replace -- $dir/ '' $file)
+        if test -f $dir/$file; and not string match -qr '(^|/)default(\..*)?\.do$' -- $file
+            string replace -r '\.do$' '' -- $file
+        end
+    end
+end
+
+complete -c redo -f
+complete -c redo -s j -l jobs -x -a "(seq 64)" -d "Run at most N scripts side by side, 1 to 64"
+complete -c redo -s k -l keep-going -d "Keep going though targets fail; required when targets are built"
+complete -c redo -l bundle -d "Read the tree as a bundle from standard input"
+complete -c redo -s C -x -a "(__fish_complete_directories (commandline -ct))" -d "Read the tree from a directory"
+complete -c redo -l whichdo -x -a "(__redo_targets)" -d "Print where the rule of TARGET is looked for, and build nothing"
+complete -c redo -s v -l verbose -d "Say the cause behind a message, where it is known"
+complete -c redo -s h -l help -d "Print help"
+complete -c redo -s V -l version -d "Print version"
+complete -c redo -n "not __fish_contains_opt whichdo" -a "(__redo_targets)"
