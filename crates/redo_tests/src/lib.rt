@@ -10,9 +10,12 @@
 //! - `picks`: builds in an order that is given beforehand;
 //! - `observers`: which jobs workers take up, and how many at a time;
 //! - `ends`: a writer that fails at any of its calls;
+//! - `answers`: calls that no run makes;
 //! - `memory`: what a call leaves that is refused memory; `tests/refused-memory` refuses it.
 #![tactic(auto)]
 
+#[cfg(test)]
+mod answers;
 #[cfg(test)]
 mod cells;
 #[cfg(test)]

@@ -1,5 +1,8 @@
 //! Trees, as bundles, and what builds over them are given.
 
+ghost use Rattle.std.specs.Prelude.{IfOk};
+ghost use Rattle.redo_bundle.specs.Bundle.{HasSmallFiles};
+
 use redo_bundle::{Plain, read_bundle};
 use redo_path::{Path, resolve};
 use redo_step::Limits;
@@ -33,7 +36,9 @@ pub(crate) const RING_REPORT: &str = "cyclic a\ndep change a.do\ndep change b\n\
 pub(crate) const REFUSED_BOOK: &str = "file 5 .redo-book\nend\nx\nend\n";
 
 /// The tree of a bundle.
-pub(crate) fn tree_of(alloc: Global, bundle: &str) -> Result<Tree, Fail> {
+pub(crate) fn tree_of(alloc: Global, bundle: &str) -> Result<Tree, Fail>
+    ensures { IfOk result HasSmallFiles }
+{
     let mut reader = Plain::new(bundle.as_bytes());
     Ok(read_bundle(alloc, &mut reader)?)
 }
