@@ -91,19 +91,42 @@ fn strangers_and_pieces_of_an_old_turn_come_back(rt: HostRuntime) -> Result<(), 
     Ok(())
 }
 
+/// Whether a board takes the first piece of another one for its own.
+fn takes_piece(
+    board: &Board,
+    alloc: Global,
+    bundle: &str,
+    words: &str,
+    targets: u32,
+) -> Result<bool, Fail> {
+    let piece = first_piece_of(alloc, bundle, words, targets)?;
+    Ok(board.belongs(&piece))
+}
+
+/// Whether a board is for the build of this tree, request and limit.
+fn is_for(
+    board: &Board,
+    alloc: Global,
+    bundle: &str,
+    words: &str,
+    targets: u32,
+) -> Result<bool, Fail> {
+    let limits = limits_of(targets)?;
+    let tree = tree_of(alloc, bundle)?;
+    let request = paths_of(alloc, words)?;
+    Ok(board.is_for(&tree, &request, limits))
+}
+
 /// Whether a board for `left`, with a limit of 100, takes a piece of another build for its own, and is for that build:
 /// both or neither. That build has some text before the diamond in its bundle.
 fn is_one_with(alloc: Global, front: &str, words: &str, targets: u32) -> Result<bool, Fail> {
-    let board = board_of(alloc, DIAMOND, "left", 100)?;
     let bundle = format!(in alloc; "{front}{DIAMOND}")?;
-    let piece = first_piece_of(alloc, &bundle, words, targets)?;
-    let tree = tree_of(alloc, &bundle)?;
-    let request = paths_of(alloc, words)?;
-    let is_for = board.is_for(&tree, &request, limits_of(targets)?);
-    if board.belongs(&piece) != is_for {
+    let board = board_of(alloc, DIAMOND, "left", 100)?;
+    let takes = takes_piece(&board, alloc, &bundle, words, targets)?;
+    if takes != is_for(&board, alloc, &bundle, words, targets)? {
         Err("a board and a piece of one build")?;
     }
-    Ok(is_for)
+    Ok(takes)
 }
 
 #[test]
