@@ -17,9 +17,7 @@ ghost use Rattle.std.specs.Prelude.{◌≡◌, ◌++◌, ◌∷◌, [], IfOk, If
 ghost use Rattle.std.specs.Cmp.{partial_equiv_from_equiv};
 ghost use Rattle.std.specs.Cmp.Lexicographic.{nat_list_cmp_total, nat_list_eq_equiv, pointwise, slice_cmp, texts_po};
 ghost use Rattle.std.specs.Cmp.Lexicographic.{texts_ties};
-ghost use Rattle.std.specs.Cmp.Rules.{hashing};
 ghost use Rattle.std.specs.Ordering.{nat_cmp};
-ghost use Rattle.std.proofs.Common.{rules};
 ghost use Rattle.redo_path.specs.declared.PathFault.TheVariants.{Memory};
 ghost use Rattle.redo_path.specs.Names.{IsPath, name_of, names, parent_of};
 
@@ -30,7 +28,6 @@ mod words;
 use redo_bytes::Bytes;
 use std::alloc::{AllocError, AllocFailed, Global};
 use std::cmp::Ordering;
-use std::hash::{Hash, Hasher};
 use std::marker::Model;
 use text::last_name;
 pub use text::{LONGEST_NAME, LONGEST_PATH, parent_of_text};
@@ -228,17 +225,6 @@ impl Ord for Path {
 
     fn cmp(&self, other: &Path) -> Ordering {
         self.text().cmp(other.text())
-    }
-}
-
-impl Hash for Path {
-    // The text as a whole, which is fed many bytes at a time.
-    ghost hash_input = { λ path. path ∷ [] };
-
-    ghost respects_eq = { Prim.search (hashing, rules) };
-
-    fn hash<H: Hasher>(&self, state: &mut H) {
-        state.write(self.text());
     }
 }
 

@@ -10,7 +10,7 @@ use std::alloc::{AllocError, Global};
 use std::marker::Model;
 
 /// Whether a target is to be made again when a path changes, when it comes to exist, or in any case.
-#[derive(Clone, Copy, Debug, PartialEq, Eq, Hash)]
+#[derive(Clone, Copy, Debug, PartialEq, Eq)]
 pub enum DepKind {
     Change,
     Create,
@@ -19,7 +19,7 @@ pub enum DepKind {
 }
 
 /// An entry of a record.
-#[derive(Clone, Debug, PartialEq, Eq, Hash, Drop)]
+#[derive(Clone, Debug, PartialEq, Eq, Drop)]
 pub struct Dep {
     pub kind: DepKind,
     pub path: Path,
