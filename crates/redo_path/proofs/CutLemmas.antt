@@ -13,7 +13,8 @@ use Rattle.redo_path.specs.Names.{is_slash, is_control, IsPart, names, parts, te
 use Rattle.redo_path.proofs.PartLemmas.{text_of-names}
 use Rattle.redo_path.specs.declared.PathFault.{PathFault}
 use Rattle.redo_path.specs.declared.PathFault.TheVariants.{Empty, Absolute, Above, BadByte, LongName, LongPath, Memory}
-use Rattle.redo_path.specs.Resolve.{word_fault, step, walk, resolved, within_limit, Answers, Leads, ◌>>=◌}
+use Rattle.redo_path.specs.Resolve.{word_fault, step, walk, resolved, within_limit, Answers, ◌>>=◌}
+use Rattle.redo_path.specs.inside.Walking.{Leads}
 use Rattle.std.specs.Option.{option_map, option_map_or}
 use Rattle.std.proofs.lemmas.List.Sums.{prefix_len-le-length}
 use borrow.Author.Tests.{ltb-false}

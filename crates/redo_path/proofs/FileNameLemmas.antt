@@ -7,10 +7,17 @@ use Rattle.std.specs.Prelude.{Result, Ok, Err}
 use Rattle.std.specs.Str.{bytes_eq}
 use Rattle.redo_path.specs.declared.PathFault.{PathFault}
 use Rattle.redo_path.specs.declared.PathFault.TheVariants.{Absolute, BadByte, LongName}
-use Rattle.redo_path.specs.Names.{is_control, parts, names, text_of, child_of, IsPart, IsFileName}
+use Rattle.redo_path.specs.Names.{is_control, parts, names, text_of, child_of, IsPart}
 use Rattle.redo_path.specs.Resolve.{Answers, step, walk, word_fault, resolved, within_limit, ◌>>=◌}
 use Rattle.redo_path.proofs.PartLemmas.{names-child, parts-name, text_of-names}
 use Rattle.redo_path.proofs.CanonicalLemmas.{no_control, no_place_of, not_same}
+
+-- a name of any length
+pub record IsFileName (name : List ℕ) : Type 0 where
+  pub nonempty : name ≢ []
+  pub not_here : name ≢ codes "."
+  pub not_parent : name ≢ codes ".."
+  pub part : IsPart name
 
 some_name : (name : List ℕ) → name ≢ [] → bytes_eq name [] ≡ false
 some_name name h = not_same name [] h

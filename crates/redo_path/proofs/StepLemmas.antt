@@ -7,7 +7,8 @@ use Rattle.std.specs.Str.{bytes_eq}
 use Rattle.redo_path.specs.declared.PathFault.{PathFault}
 use Rattle.redo_path.specs.declared.PathFault.TheVariants.{Memory}
 use Rattle.redo_path.specs.Names.{IsName, IsPart, names, child_of}
-use Rattle.redo_path.specs.Resolve.{Leads, step}
+use Rattle.redo_path.specs.Resolve.{step}
+use Rattle.redo_path.specs.inside.Walking.{Leads}
 use Rattle.redo_path.proofs.PartLemmas.{names-child, AllByRecursion-append}
 
 -- a part that is none of the special ones

@@ -1,7 +1,8 @@
 //! Where a path's text is cut, and how long it may be.
 
 ghost use Rattle.std.specs.Prelude.{◌≡◌, ◌++◌, ◌∷◌, [], IfSome, option_copied};
-ghost use Rattle.redo_path.specs.Names.{IsNameStart, IsPath, name_of, names, parent_of};
+ghost use Rattle.redo_path.specs.Names.{IsPath, name_of, names, parent_of};
+ghost use Rattle.redo_path.specs.inside.Walking.{IsNameStart};
 
 use bstr::ByteSlice;
 

@@ -8,7 +8,8 @@ ghost use Rattle.std.specs.Prelude.{◌≡◌, ◌↔◌, Err, IfErr, IfOk, IsOk
 ghost use Rattle.std.specs.List.{AllByRecursion};
 ghost use Rattle.redo_path.specs.declared.PathFault.TheVariants.{Memory};
 ghost use Rattle.redo_path.specs.Names.{IsName, IsPart, child_of, is_control, names, parts};
-ghost use Rattle.redo_path.specs.Resolve.{Answers, Leads, resolved, step, up_from, within_limit, word_fault};
+ghost use Rattle.redo_path.specs.Resolve.{Answers, resolved, step, up_from, within_limit, word_fault};
+ghost use Rattle.redo_path.specs.inside.Walking.{Leads};
 
 use crate::text::name_start;
 use crate::{LONGEST_NAME, LONGEST_PATH, Path, PathFault, share};

@@ -11,7 +11,8 @@ use Rattle.std.proofs.Common.{inl, inr}
 use Rattle.redo_names.specs.Paths.{IsAmong}
 use Rattle.std.specs.Cmp.Lexicographic.{pointwise, same_text}
 use Rattle.std.specs.List.{AllByRecursion, list_any}
-use Rattle.redo_path.specs.Names.{IsNameStart, IsPart, child_of, is_slash, name_of, parent_of}
+use Rattle.redo_path.specs.Names.{IsPart, child_of, is_slash, name_of, parent_of}
+use Rattle.redo_path.specs.inside.Walking.{IsNameStart}
 use Rattle.redo_path.proofs.PartLemmas.{AllByRecursion-append, before_last-start, name_of-start}
 use Rattle.redo_tree.specs.Tree.{Directory, File, HasNoDefaults, IsNoted, Node, NotesDefaults, Tree, bytes_of}
 use Rattle.redo_tree.specs.Tree.{default_dir, is_default, node_at, top}

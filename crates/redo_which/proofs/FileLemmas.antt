@@ -11,7 +11,7 @@ use Rattle.redo_path.proofs.ApartLemmas.{apart}
 use Rattle.redo_path.proofs.PartLemmas.{AllByRecursion-append, names-child, parts-name, text_of-names}
 use Rattle.redo_path.specs.declared.PathFault.TheVariants.{LongName, LongPath}
 use Rattle.redo_path.specs.Names.{IsPart, child_of, is_control, is_slash, names, parts, text_of}
-use Rattle.redo_path.specs.Names.{IsFileName as IsChildName}
+use Rattle.redo_path.proofs.FileNameLemmas.{IsFileName as IsChildName}
 use Rattle.redo_path.specs.Resolve.{resolved, step, walk, within_limit, word_fault, ◌>>=◌}
 use Rattle.redo_which.specs.Candidates.{is_dot, suffixes}
 

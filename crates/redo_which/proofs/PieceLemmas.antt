@@ -6,10 +6,10 @@ use Rattle.std.specs.List.{AllByRecursion}
 use Rattle.std.specs.Prelude.{Result, Ok, Err, nat_le}
 use Rattle.redo_path.proofs.ApartLemmas.{apart}
 use Rattle.redo_path.proofs.CanonicalLemmas.{path-resolved}
-use Rattle.redo_path.proofs.FileNameLemmas.{resolved-file}
+use Rattle.redo_path.proofs.FileNameLemmas.{IsFileName, resolved-file}
 use Rattle.redo_path.specs.declared.PathFault.{PathFault}
 use Rattle.redo_path.specs.declared.PathFault.TheVariants.{LongName, LongPath}
-use Rattle.redo_path.specs.Names.{IsFileName, IsPart, IsPath, child_of, is_control, is_slash}
+use Rattle.redo_path.specs.Names.{IsPart, IsPath, child_of, is_control, is_slash}
 use Rattle.redo_path.specs.Resolve.{resolved}
 use Rattle.redo_which.proofs.FileLemmas.{do_file_name}
 use Rattle.redo_which.specs.Candidates.{Place, place_at}

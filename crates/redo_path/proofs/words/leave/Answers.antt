@@ -1,6 +1,6 @@
 use Rattle.std.proofs.Common.{◌≡◌, ◌-◌, subst, arith, take, length, ◌<◌}
 use Rattle.std.proofs.lemmas.Grind.{common_steps}
-use Rattle.redo_path.specs.Names.{IsNameStart}
+use Rattle.redo_path.specs.inside.Walking.{IsNameStart}
 use Rattle.redo_path.proofs.PartLemmas.{up_from-start}
 use Rattle.redo_path.proofs.words.leave.Goals as goal
 
