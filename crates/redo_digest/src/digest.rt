@@ -2,10 +2,10 @@
 
 ghost use Rattle.std.specs.Char.{is_ascii_uppercase};
 ghost use Rattle.std.specs.List.{list_any};
-ghost use Rattle.std.specs.Prelude.{◌≡◌, option_copied};
+ghost use Rattle.std.specs.Prelude.{◌≡◌};
 ghost use Rattle.hex.specs.Hex.{encode_lower};
 ghost use Rattle.sha2.specs.Sha256.{sha256};
-ghost use Rattle.redo_digest.specs.Digest.{IsDigest, IsState, digest_of, state_of as state_in};
+ghost use Rattle.redo_digest.specs.Digest.{IsDigest, IsState, digest_of};
 
 use sha2::{Digest as _, Sha256};
 use std::marker::Model;
@@ -82,15 +82,4 @@ fn has_capital(word: &[u8]) -> bool
         found |= byte.is_ascii_uppercase();
     }
     found
-}
-
-/// The state of a path: the digest of the file that stands there, or none where no file does.
-pub fn state_of(file: Option<&[u8]>) -> Option<Digest>
-    ensures value { result ≡ state_in (option_copied file.entry) }
-    ensures state { IsState result }
-{
-    match file {
-        Some(content) => Some(Digest::of(content)),
-        None => None,
-    }
 }
