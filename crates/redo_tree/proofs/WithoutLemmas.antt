@@ -1,18 +1,18 @@
--- What stands where in a tree without some of its files, and which files are taken out.
+-- What stands where in a tree without some of its files.
 use Rattle.std.proofs.Common.{◌≡◌, ◌&&◌, List, [], ◌∷◌, ℕ, Bool, true, false, cond, not, refl, sym, ap, subst, ◌∙◌}
 use Rattle.std.proofs.Common.{Option, Some, None, IsSome, inl, inr}
 use Rattle.std.proofs.lemmas.Bool.{cases_Bool}
 use Rattle.std.proofs.lemmas.Map.Keys.{sorted_head, sorted_tail}
 use Rattle.std.specs.Cmp.Lexicographic.{same_text, slice_cmp, texts_ties}
-use Rattle.std.specs.List.{AllByRecursion, cons_option, filter}
+use Rattle.std.specs.List.{AllByRecursion, filter}
 use Rattle.std.specs.List.Sorted.{IsStrictlySortedBy}
-use Rattle.std.specs.Map.{keys_of, lookup}
+use Rattle.std.specs.Map.{keys_of}
 use Rattle.std.specs.Ordering.{is_eq, nat_cmp}
-use Rattle.std.specs.Prelude.{bytes_eq, is_some, option_and_then}
+use Rattle.std.specs.Prelude.{is_some, option_and_then}
 use Rattle.std.specs.declared.cmp.Ordering.TheVariants.{Less}
 use Rattle.redo_names.specs.Paths.{AreDistinct, IsAmong, is_among}
 use Rattle.redo_path.specs.Names.{IsPath}
-use Rattle.redo_tree.specs.Tree.{Directory, File, IsTree, Node, Tree, bytes_of, file_at, files_among}
+use Rattle.redo_tree.specs.Tree.{Directory, File, IsTree, Node, Tree, bytes_of, file_at}
 use Rattle.redo_tree.specs.Tree.{is_file_among, node_at, without}
 
 -- ---- entries that pass a test
@@ -133,61 +133,11 @@ IsTree-without t ps is = record {
       directory_stays t ps dir is (is.parents path dir before e);
 }
 
--- ---- the files that are taken out
-
--- what is found of the files behind an entry, where the entry is the one that is looked for
-none_behind : (ps : List (List ℕ)) (e : List ℕ × Node) (es : Tree) (q : List ℕ) → is_eq (slice_cmp nat_cmp q e.0) ≡ true → IsBefore e.0 (keys_of es) → lookup (bytes_eq q) (files_among es ps) ≡ cond (is_among ps q) (file_at es q) None → lookup (bytes_eq q) (files_among es ps) ≡ None
-none_behind ps e es q at head ih = ih ∙ ap (λ o. cond (is_among ps q) (option_and_then bytes_of o) None) (before_here q e es at head) ∙ sym (none_there (is_among ps q))
-
-file_here : (ps : List (List ℕ)) (k : List ℕ) (node : Node) (es : Tree) (q : List ℕ) (c b : Bool) → is_among ps k ≡ c → is_eq (slice_cmp nat_cmp q k) ≡ b → IsBefore k (keys_of es) → lookup (bytes_eq q) (files_among es ps) ≡ cond (is_among ps q) (file_at es q) None
-    → lookup (bytes_eq q) (cons_option (option_and_then (λ bytes. cond c (Some (k, bytes)) None) (bytes_of node)) (files_among es ps)) ≡ cond (is_among ps q) (option_and_then bytes_of (cond b (Some node) (node_at es q))) None
-file_here ps k Directory es q c true among at head ih = none_behind ps (k, Directory) es q at head ih ∙ none_there (is_among ps q)
-file_here ps k Directory es q c false among at head ih = ih
-file_here ps k (File bytes) es q true true among at head ih =
-    let same : bytes_eq q k ≡ true = texts_ties q k ∙ at in
-    let there : is_among ps q ≡ true = ap (is_among ps) (is_here q k at) ∙ among in
-    rw (same, there) refl
-file_here ps k (File bytes) es q true false among at head ih =
-    let other : bytes_eq q k ≡ false = texts_ties q k ∙ at in
-    rw other ih
-file_here ps k (File bytes) es q false true among at head ih =
-    let gone : is_among ps q ≡ false = ap (is_among ps) (is_here q k at) ∙ among in
-    none_behind ps (k, File bytes) es q at head ih ∙ sym (ap (λ b. cond b (Some bytes) None) gone)
-file_here ps k (File bytes) es q false false among at head ih = ih
-
-files_at : (ps : List (List ℕ)) (t : Tree) (q : List ℕ) → IsStrictlySortedBy (slice_cmp nat_cmp) (keys_of t) → lookup (bytes_eq q) (files_among t ps) ≡ cond (is_among ps q) (file_at t q) None
-files_at ps [] q h = none_there (is_among ps q)
-files_at ps (e ∷ es) q h = file_here ps e.0 e.1 es q (is_among ps e.0) (is_eq (slice_cmp nat_cmp q e.0)) refl refl (sorted_head (slice_cmp nat_cmp) e.0 (keys_of es) h) (files_at ps es q (sorted_tail (slice_cmp nat_cmp) e.0 (keys_of es) h))
-
-pub file_found : (t : Tree) (ps : List (List ℕ)) (q : List ℕ) → IsTree t → lookup (bytes_eq q) (files_among t ps) ≡ cond (is_among ps q) (file_at t q) None
-file_found t ps q is = files_at ps t q is.sorted
-
-keys-files : (P : List ℕ → Type 0) (ps : List (List ℕ)) (t : Tree) → AllByRecursion P (keys_of t) → AllByRecursion P (keys_of (files_among t ps))
-keys-files P ps [] h = tt
-keys-files P ps ((k, Directory) ∷ es) h = keys-files P ps es h.1
-keys-files P ps ((k, File bytes) ∷ es) h = elim (is_among ps k) as (λ b. AllByRecursion P (keys_of (cons_option (cond b (Some (k, bytes)) None) (files_among es ps)))) [
-  | true ↦ (h.0, keys-files P ps es h.1)
-  | false ↦ keys-files P ps es h.1
-]
-
-pub files_rise : (ps : List (List ℕ)) (t : Tree) → IsStrictlySortedBy (slice_cmp nat_cmp) (keys_of t) → IsStrictlySortedBy (slice_cmp nat_cmp) (keys_of (files_among t ps))
-unfolding IsStrictlySortedBy
-files_rise ps [] h = tt
-files_rise ps ((k, Directory) ∷ es) h = files_rise ps es h.1
-files_rise ps ((k, File bytes) ∷ es) h = elim (is_among ps k) as (λ b. IsStrictlySortedBy (slice_cmp nat_cmp) (keys_of (cons_option (cond b (Some (k, bytes)) None) (files_among es ps)))) [
-  | true ↦ (keys-files (λ q. slice_cmp nat_cmp k q ≡ Less) ps es h.0, files_rise ps es h.1)
-  | false ↦ files_rise ps es h.1
-]
-
 -- ---- lists that have the same paths
 
 pub without-same : (ps qs : List (List ℕ)) (t : Tree) → ((p : List ℕ) → is_among ps p ≡ is_among qs p) → without t ps ≡ without t qs
 without-same ps qs [] same = refl
 without-same ps qs (e ∷ es) same = λ i. cond (not (is_some (bytes_of e.1) && same e.0 i)) (e ∷ without-same ps qs es same i) (without-same ps qs es same i)
-
-pub files-same : (ps qs : List (List ℕ)) (t : Tree) → ((p : List ℕ) → is_among ps p ≡ is_among qs p) → files_among t ps ≡ files_among t qs
-files-same ps qs [] same = refl
-files-same ps qs (e ∷ es) same = λ i. cons_option (option_and_then (λ bytes. cond (same e.0 i) (Some (e.0, bytes)) None) (bytes_of e.1)) (files-same ps qs es same i)
 
 -- with no paths the tree is the same
 pub without-none : (t : Tree) → without t [] ≡ t

@@ -1,5 +1,5 @@
 -- A tree: what stands at each path, in the order of the paths' texts.
-use Rattle.std.specs.Prelude.{◌≡◌, ◌&&◌, Bool, true, nat_eq, ℕ, List, [], ◌∷◌, ◌++◌, codes, filter_map, fold, length}
+use Rattle.std.specs.Prelude.{◌≡◌, ◌&&◌, Bool, true, nat_eq, ℕ, List, [], ◌∷◌, ◌++◌, codes, fold, length}
 use Rattle.std.specs.Prelude.{Option, Some, None, Result, Ok, Err, IsSome, option_and_then, option_map, refl}
 use Rattle.std.specs.Prelude.{if◌then◌else◌, filter, is_some, not}
 use Rattle.std.specs.BTreeMap.{insert_entry, is_at}
@@ -82,14 +82,6 @@ trees_alike =
     lists_equiv (and_equiv (on_equiv (λ e. e.0) nat_list_eq_equiv)
     (on_equiv (λ e. bytes_of e.1) (options_equiv nat_list_eq_equiv)))
 
--- the path of an entry that is a file
-abbrev pub file_path : List ℕ × Node → Option (List ℕ)
-file_path e = option_map (λ _. e.0) (bytes_of e.1)
-
--- the paths of the files, in path order
-abbrev pub files_of : Tree → List (List ℕ)
-files_of tree = filter_map file_path tree
-
 -- an entry is a file at one of these paths
 abbrev pub is_file_among : List (List ℕ) → List ℕ × Node → Bool
 is_file_among paths e = is_some (bytes_of e.1) && is_among paths e.0
@@ -97,15 +89,6 @@ is_file_among paths e = is_some (bytes_of e.1) && is_among paths e.0
 -- the tree but the files at these paths
 abbrev pub without : Tree → List (List ℕ) → Tree
 without tree paths = filter (λ e. not (is_file_among paths e)) tree
-
--- the path and the bytes of an entry that is a file at one of these paths
-abbrev pub file_among : List (List ℕ) → List ℕ × Node → Option (List ℕ × List ℕ)
-file_among paths e =
-    option_and_then (λ bytes. if is_among paths e.0 then Some (e.0, bytes) else None) (bytes_of e.1)
-
--- the files at these paths, in path order
-abbrev pub files_among : Tree → List (List ℕ) → List (List ℕ × List ℕ)
-files_among tree paths = filter_map (file_among paths) tree
 
 -- why nothing goes below what stands in the parent's place
 abbrev pub parent_refusal : Option Node → Option TreeFault

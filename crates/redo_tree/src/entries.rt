@@ -1,19 +1,19 @@
 //! The tree: what stands at each path.
 //!
-//! Entries are kept in the order in which they were added. They are sorted for [`Tree::in_order`] and
-//! [`Tree::files`] alone, so memory may run out there and while a bundle is written.
+//! Entries are kept in the order in which they were added. They are sorted for [`Tree::in_order`] alone, so memory may
+//! run out there and while a bundle is written.
 
 ghost use Rattle.std.specs.Prelude.{◌≡◌, ◌<◌, ◌^◌, ◌↔◌, IfOk, IfSome, IsTrue, OnOk, false, length, option_copied, map};
 ghost use Rattle.std.specs.Prelude.{option_map, is_some, List, ℕ};
 ghost use Rattle.std.specs.Cmp.{partial_equiv_from_equiv};
 ghost use Rattle.redo_path.specs.Names.{IsPath};
-ghost use Rattle.redo_tree.specs.Tree.{Directory, File, top, node_at, kind_of, file_at, files_of, node_of, refusal};
+ghost use Rattle.redo_tree.specs.Tree.{Directory, File, top, node_at, kind_of, file_at, node_of, refusal};
 ghost use Rattle.redo_tree.specs.Tree.{added, tree_eq, trees_alike, default_dir as dir_of_default};
 ghost use Rattle.redo_tree.specs.Tree.{is_default as begins_and_ends, Adds, Allows, HasNoDefaults, IsNoted, IsTree};
-ghost use Rattle.redo_tree.specs.Tree.{tree_of, AreAmong, HasEntry, IsKept, files_among, without};
+ghost use Rattle.redo_tree.specs.Tree.{tree_of, AreAmong, HasEntry, IsKept, without};
 
 use crate::digests::{keep_digests, keep_digests_by};
-use crate::parting::{Kept, kept_of, put_named, set_of};
+use crate::parting::{Kept, kept_of, set_of};
 use crate::{Content, FileDigests, TreeFault};
 use redo_names::{PathMap, PathSet};
 use redo_path::Path;
@@ -183,20 +183,6 @@ impl Tree {
         sorted(alloc, &self.entries)
     }
 
-    /// The paths of the files, in path order: that of the paths' bytes.
-    pub fn files(&self, alloc: Global) -> Result<Vec<&Path>, AllocError>
-        ensures { IfOk result (λ paths. map (λ p. p.now) paths.items ≡ files_of self.now) }
-    {
-        let mut paths = Vec::new(alloc);
-        for (path, entry) in self.in_order(alloc)? {
-            match entry {
-                Entry::File(_) => paths.push(path)?,
-                Entry::Directory => {}
-            }
-        }
-        Ok(paths)
-    }
-
     /// The tree without the files at these paths. Directories stay, and paths at which no file stands are passed over.
     /// No content is copied: it is shared with this tree.
     pub fn without(&self, alloc: Global, out: &[Path]) -> Result<Tree, AllocError>
@@ -215,36 +201,6 @@ impl Tree {
         kept.entries.each_once();
         let Kept { entries, defaults } = kept;
         Ok(Tree::of_entries(alloc, entries, defaults))
-    }
-
-    /// The tree without the files at these paths, and these files in path order.
-    pub fn part(
-        &self,
-        alloc: Global,
-        out: &[Path],
-    ) -> Result<(Tree, Vec<(Path, Content)>), AllocError>
-        ensures tree { IfOk result (λ parts. parts.0 ≡ without self.now out.now) }
-        ensures files { IfOk result (λ parts. parts.1.items ≡ files_among self.now out.now) }
-    {
-        let names = set_of(alloc, out)?;
-        let left = self.without_named(alloc, &names)?;
-        let files = self.named_files(alloc, &names)?;
-        Ok((left, files))
-    }
-
-    /// The files at these paths, in path order. They share their contents with this tree.
-    fn named_files(
-        &self,
-        alloc: Global,
-        names: &PathSet,
-    ) -> Result<Vec<(Path, Content)>, AllocError>
-        ensures { IfOk result (λ files. files.items ≡ files_among self.now names.now) }
-    {
-        let mut files = Vec::new(alloc);
-        for (path, entry) in self.in_order(alloc)? {
-            put_named(&mut files, names, path, entry)?;
-        }
-        Ok(files)
     }
 
     /// The tree, in which the named files keep their digests: `named` tells it of each number. They are read once for

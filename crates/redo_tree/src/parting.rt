@@ -3,11 +3,11 @@
 ghost use Rattle.std.specs.Prelude.{◌≡◌, ◌++◌, ◌∷◌, [], ℕ, List, IfOk, None, OnOk, bytes_eq, false};
 ghost use Rattle.std.specs.Map.{lookup};
 ghost use Rattle.redo_names.specs.Paths.{is_among};
-ghost use Rattle.redo_tree.specs.Tree.{files_among, is_file_among, node_of, without};
+ghost use Rattle.redo_tree.specs.Tree.{is_file_among, node_of, without};
 ghost use Rattle.redo_tree.specs.inside.Parting.{AreNoted, nodes_of};
 
+use crate::Entry;
 use crate::entries::note_default;
-use crate::{Content, Entry};
 use redo_names::{PathMap, PathSet};
 use redo_path::Path;
 use std::alloc::{AllocError, Global};
@@ -112,24 +112,4 @@ pub(crate) fn kept_of(
         kept.pass(alloc, names, path, entry)?;
     }
     Ok(kept)
-}
-
-/// Puts an entry last, if it is a file of one of these names.
-pub(crate) fn put_named(
-    files: &mut Vec<(Path, Content)>,
-    names: &PathSet,
-    path: &Path,
-    entry: &Entry,
-) -> Result<(), AllocError>
-    ensures { OnOk result (files.new.items ≡
-        files.old.items ++ files_among ((path.now, node_of entry.now) ∷ []) names.now) }
-{
-    match entry {
-        Entry::File(content) if is_named(names, path) => {
-            let file = (path.clone()?, content.clone()?);
-            files.push(file)?;
-            Ok(())
-        }
-        _ => Ok(()),
-    }
 }
