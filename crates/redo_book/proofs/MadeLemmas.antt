@@ -12,6 +12,7 @@ use Rattle.std.specs.declared.cmp.Ordering.{Ordering}
 use Rattle.std.specs.declared.cmp.Ordering.TheVariants.{Less, Equal, Greater}
 use Rattle.std.specs.Prelude.{option_and_then, option_map}
 use Rattle.std.specs.Str.{bytes_eq}
+use Rattle.redo_path.specs.Names.{IsBelowRoot}
 use Rattle.redo_path.proofs.ApartLemmas.{apart}
 use Rattle.redo_path.proofs.PartLemmas.{AllByRecursion-append, AllByRecursion-front}
 use Rattle.redo_book.specs.declared.book.BookEntry.{BookEntry}
@@ -19,7 +20,7 @@ use Rattle.redo_book.specs.declared.book.BookEntry.TheVariants.{Change, Create, 
 use Rattle.redo_book.specs.declared.lines.Line.{Line}
 use Rattle.redo_book.specs.declared.lines.Line.TheVariants.{Target, Entry}
 use Rattle.redo_digest.specs.Digest.{IsState, State}
-use Rattle.redo_book.specs.Book.{IsBook, IsEntry, IsPlace, IsRecord, Record, entry_line, is_newline}
+use Rattle.redo_book.specs.Book.{IsBook, IsEntry, IsRecord, Record, entry_line, is_newline}
 use Rattle.redo_book.specs.Book.{record_lines, same_entry, targets_of}
 use Rattle.redo_book.specs.inside.Reading.{Made, at_first, line_of, may_follow, next, records_of}
 use Rattle.redo_book.specs.inside.Reading.{with_entry, with_line}
@@ -118,12 +119,12 @@ pub record Goes (b c : Made) (line : List ℕ) : Type 0 where
 bare_record : List ℕ → State → Record
 bare_record target state = record { target = target; state = state; entries = [] }
 
-new_record : (target : List ℕ) (state : State) → IsState state → IsPlace target → IsRecord (bare_record target state)
+new_record : (target : List ℕ) (state : State) → IsState state → IsBelowRoot target → IsRecord (bare_record target state)
 unfolding bare_record IsDistinct
 new_record target state s t = record { target = t; state = s; entries = tt; once = tt }
 
 -- a book of one record without entries
-pub alone : (target : List ℕ) (state : State) → IsState state → IsPlace target → IsBook (record { target = target; state = state; entries = [] } ∷ [])
+pub alone : (target : List ℕ) (state : State) → IsState state → IsBelowRoot target → IsBook (record { target = target; state = state; entries = [] } ∷ [])
 unfolding bare_record IsStrictlySortedBy
 alone target state s t = record { records = (new_record target state s t, tt); sorted = (tt, tt) }
 
@@ -137,7 +138,7 @@ follows done (Some r) target state h none m =
     let S : List (List ℕ) → Type 0 = λ ts. IsStrictlySortedBy (slice_cmp nat_cmp) ts in
     subst S (sym (cut2 ∙ ap (λ ts. ts ++ target ∷ []) cut)) (sorted_more (targets_of done) r.target target (subst S cut h) lt)
 
-target_goes : (b c : Made) (state : State) (target : List ℕ) → IsMade b → IsState state → IsPlace target → with_line b (Target state target) ≡ Some c → Goes b c (line_text (Target state target))
+target_goes : (b c : Made) (state : State) (target : List ℕ) → IsMade b → IsState state → IsBelowRoot target → with_line b (Target state target) ≡ Some c → Goes b c (line_text (Target state target))
 unfolding bare_record
 target_goes b c state target h s t e =
     let (may, is) = only_if-some (may_follow b.last target) (record { done = records_of b; last = Some (bare_record target state) }) c e in

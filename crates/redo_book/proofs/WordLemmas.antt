@@ -16,12 +16,12 @@ use Rattle.redo_digest.proofs.SpellingLemmas.{digest_is, digest_spelled}
 use Rattle.redo_digest.specs.Digest.{IsDigest, IsState, State, digest_of}
 use Rattle.redo_path.proofs.ApartLemmas.{apart}
 use Rattle.redo_path.proofs.CanonicalLemmas.{path-resolved, printable_path, resolved-path}
-use Rattle.redo_path.specs.Names.{IsPath, is_control}
+use Rattle.redo_path.specs.Names.{IsBelowRoot, IsPath, is_control}
 use Rattle.redo_path.specs.Resolve.{resolved}
 use Rattle.redo_book.specs.declared.book.BookEntry.TheVariants.{Change, Create, Always}
 use Rattle.redo_book.specs.declared.lines.Line.{Line}
 use Rattle.redo_book.specs.declared.lines.Line.TheVariants.{Target, Entry}
-use Rattle.redo_book.specs.Book.{IsEntry, IsPlace, entry_line, is_newline, state_text}
+use Rattle.redo_book.specs.Book.{IsEntry, entry_line, is_newline, state_text}
 use Rattle.redo_book.specs.inside.Reading.{line_of, only_if, place_of, split_state, stated}
 
 pub only_if-some : {A : Type 0} (b : Bool) (x y : A) → only_if b x ≡ Some y → (b ≡ true) × (x ≡ y)
@@ -52,20 +52,20 @@ ok_some (Err e) x h = apart cc
 root_path : IsPath []
 root_path = record { each = tt; short = omega arith }
 
-pub place_spelled : (path : List ℕ) → IsPlace path → place_of path ≡ Some path
+pub place_spelled : (path : List ℕ) → IsBelowRoot path → place_of path ≡ Some path
 place_spelled path h = rw (resolved-path path h.0 h.1, bytes_same path) refl
 
 not_the_root : (word meant : List ℕ) → resolved [] word ≡ Ok meant → word ≢ []
 not_the_root [] meant h e = apart cc
 not_the_root (b ∷ bs) meant h e = cc
 
-pub place_is : (word path : List ℕ) → place_of word ≡ Some path → (word ≡ path) × IsPlace path
+pub place_is : (word path : List ℕ) → place_of word ≡ Some path → (word ≡ path) × IsBelowRoot path
 place_is word path h =
     let (meant, some, kept) = then_some (λ p. only_if (bytes_eq p word) p) (result_ok (resolved [] word)) path h in
     let ok = ok_some (resolved [] word) meant some in
     let (same, is) = only_if-some (bytes_eq meant word) meant path kept in
     let e : word ≡ path = sym (same_bytes meant word same) ∙ is in
-    (e, subst IsPlace e (not_the_root word meant ok, subst IsPath (same_bytes meant word same) (path-resolved [] word meant root_path ok)))
+    (e, subst IsBelowRoot e (not_the_root word meant ok, subst IsPath (same_bytes meant word same) (path-resolved [] word meant root_path ok)))
 
 -- a path stands in a line
 no_newline : (xs : List ℕ) → AllByRecursion (λ byte. is_control byte ≡ false) xs → list_any is_newline xs ≡ false
@@ -76,7 +76,7 @@ no_newline (x ∷ xs) h =
       | false ↦ λ e. no_newline xs h.1
     ] refl
 
-pub place_line : (path : List ℕ) → IsPlace path → list_any is_newline path ≡ false
+pub place_line : (path : List ℕ) → IsBelowRoot path → list_any is_newline path ≡ false
 place_line path h = no_newline path (printable_path path h.1)
 
 -- ---- digests
@@ -205,14 +205,14 @@ state_is words word state h =
           ] refl k
     ] refl h
 
-pub stated_spelled : (state : State) (path : List ℕ) → IsState state → IsPlace path → stated (state_text state ++ 32 ∷ path) ≡ Some (state, path)
+pub stated_spelled : (state : State) (path : List ℕ) → IsState state → IsBelowRoot path → stated (state_text state ++ 32 ∷ path) ≡ Some (state, path)
 stated_spelled state path h at = rw (state_spelled state path h, place_spelled path at) refl
 
 -- the words are a state and a path
 pub record IsStated (words : List ℕ) (state : State) (path : List ℕ) : Type 0 where
   pub whole : words ≡ state_text state ++ 32 ∷ path
   pub spelled : IsState state
-  pub place : IsPlace path
+  pub place : IsBelowRoot path
 
 pub stated_is : (words : List ℕ) (state : State) (path : List ℕ) → stated words ≡ Some (state, path) → IsStated words state path
 stated_is words state path h =
@@ -225,7 +225,7 @@ stated_is words state path h =
     record {
       whole = is.whole ∙ (λ i. state_text (s_is i) ++ 32 ∷ (e ∙ p_is) i);
       spelled = subst IsState s_is is.spelled;
-      place = subst IsPlace p_is at;
+      place = subst IsBelowRoot p_is at;
     }
 
 -- ---- a line
@@ -236,7 +236,7 @@ line_text (Target state path) = codes "target " ++ state_text state ++ 32 ∷ pa
 line_text (Entry e) = entry_line e
 
 abbrev pub IsLine : Line → Type 0
-IsLine (Target state path) = IsState state × IsPlace path
+IsLine (Target state path) = IsState state × IsBelowRoot path
 IsLine (Entry e) = IsEntry e
 
 pub line_spelled : (line : Line) → IsLine line → line_of (line_text line) ≡ Some line

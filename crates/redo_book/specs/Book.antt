@@ -8,7 +8,7 @@ use Rattle.std.specs.Ordering.{nat_cmp}
 use Rattle.std.specs.Str.{bytes_eq}
 use Rattle.hex.specs.Hex.{encode_lower}
 use Rattle.redo_digest.specs.Digest.{IsState, State}
-use Rattle.redo_path.specs.Names.{IsPath}
+use Rattle.redo_path.specs.Names.{IsBelowRoot, IsPath}
 use Rattle.redo_book.specs.declared.book.BookRecord.{BookRecord}
 use Rattle.redo_book.specs.declared.faults.BookFault.{BookFault}
 use Rattle.redo_book.specs.declared.faults.BookFault.TheVariants.{Line, Memory}
@@ -52,13 +52,9 @@ book_lines book = flat_map record_lines book ++ codes "end" ∷ []
 abbrev pub text_of : List (List ℕ) → List ℕ
 text_of lines = flat_map (λ line. line ++ 10 ∷ []) lines
 
--- a path below the root
-abbrev pub IsPlace : List ℕ → Type 0
-IsPlace path = (path ≢ []) × IsPath path
-
 abbrev pub IsEntry : BookEntry → Type 0
-IsEntry (Change state path) = IsState state × IsPlace path
-IsEntry (Create path) = IsPlace path
+IsEntry (Change state path) = IsState state × IsBelowRoot path
+IsEntry (Create path) = IsBelowRoot path
 IsEntry Always = Unit {0}
 
 -- whether two entries are of one kind and one path, whatever the states
@@ -75,7 +71,7 @@ same_entry Always (Create q) = false
 
 -- the target lies below the root, and so does each path; no kind and path stands twice
 pub record IsRecord (r : Record) : Type 0 where
-  pub target : IsPlace r.target
+  pub target : IsBelowRoot r.target
   pub state : IsState r.state
   pub entries : AllByRecursion IsEntry r.entries
   pub once : IsDistinct same_entry r.entries

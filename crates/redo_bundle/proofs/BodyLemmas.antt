@@ -10,6 +10,7 @@ use Rattle.std.specs.Option.{option_or}
 use Rattle.std.specs.Prelude.{Result, Ok, Err, OnOk, option_map, codes, ◌&&◌, decimal, slice_index}
 use Rattle.std.specs.Str.{bytes_eq}
 use Rattle.std.specs.Io.KnownBytes.{Consumes}
+use Rattle.redo_path.specs.Names.{IsBelowRoot}
 use Rattle.redo_bundle.specs.declared.faults.BundleFault.{BundleFault}
 use Rattle.redo_bundle.specs.declared.faults.BundleFault.TheVariants.{Line, Path, Tree as TreeAt, Truncated, Read}
 use Rattle.redo_bundle.specs.declared.faults.BundleFault.TheVariants.{Memory}
@@ -18,7 +19,7 @@ use Rattle.redo_tree.specs.declared.faults.TreeFault.TheVariants as tree
 use Rattle.redo_tree.specs.Tree.{Node, Directory, File, Tree, added, Adds}
 use Rattle.redo_bundle.specs.Bundle.{is_newline, is_space, size_of, header_of, path_fault, tree_fault, body_fault}
 use Rattle.redo_bundle.specs.Bundle.{entry_fault, spelling}
-use Rattle.redo_bundle.specs.inside.Steps.{told, Finds, Refuses, IsPlace, AddsFile, AddsEntry, is_read}
+use Rattle.redo_bundle.specs.inside.Steps.{told, Finds, Refuses, AddsFile, AddsEntry, is_read}
 use Rattle.redo_bundle.proofs.LineLemmas.{split_first}
 
 -- ---- directories
@@ -178,11 +179,11 @@ directory_refuses (Err (Line k)) n tree line word a h e = entry_known (Line k) n
 directory_refuses (Err (Path k f)) n tree line word a h e = entry_known (Path k f) n tree line word a h e
 directory_refuses (Err (TreeAt k f)) n tree line word a h e = entry_known (TreeAt k f) n tree line word a h e
 
-pub adds_directory : (old new : Tree) (line word : List ℕ) (a b : Option (List ℕ)) (r : Result (Unit {0}) BundleFault) → header_of line ≡ Some (None, word) → OnOk r (IsPlace word) → OnOk r (added old word Directory ≡ Ok new) → Consumes a b [] → OnOk r (AddsEntry old new line a b)
+pub adds_directory : (old new : Tree) (line word : List ℕ) (a b : Option (List ℕ)) (r : Result (Unit {0}) BundleFault) → header_of line ≡ Some (None, word) → OnOk r (IsBelowRoot word) → OnOk r (added old word Directory ≡ Ok new) → Consumes a b [] → OnOk r (AddsEntry old new line a b)
 adds_directory old new line word a b (Ok x) h place adds p = ((word, Directory), (place.0, place.1, tt), adds, [], ap (λ l. l ++ 10 ∷ []) (sym (header_dir line word h)), p)
 adds_directory old new line word a b (Err f) h place adds p = tt
 
-pub adds_file : (old new : Tree) (line word : List ℕ) (size : ℕ) (a b : Option (List ℕ)) (r : Result (Unit {0}) BundleFault) → header_of line ≡ Some (Some size, word) → OnOk r (IsPlace word) → OnOk r (AddsFile old new word size a b) → OnOk r (AddsEntry old new line a b)
+pub adds_file : (old new : Tree) (line word : List ℕ) (size : ℕ) (a b : Option (List ℕ)) (r : Result (Unit {0}) BundleFault) → header_of line ≡ Some (Some size, word) → OnOk r (IsBelowRoot word) → OnOk r (AddsFile old new word size a b) → OnOk r (AddsEntry old new line a b)
 adds_file old new line word size a b (Ok x) h place adds =
     let (bytes, l, added, p) = adds in
     let k = header_file_is line word size h in

@@ -10,7 +10,7 @@ use Rattle.std.specs.Str.{bytes_eq}
 use Rattle.redo_tree.proofs.GrowLemmas.{onward}
 use Rattle.redo_path.proofs.ApartLemmas.{apart}
 use Rattle.redo_path.specs.declared.PathFault.{PathFault}
-use Rattle.redo_path.specs.Names.{IsPath}
+use Rattle.redo_path.specs.Names.{IsBelowRoot, IsPath}
 use Rattle.redo_path.specs.Resolve.{resolved}
 use Rattle.redo_path.proofs.CanonicalLemmas.{path-resolved}
 use Rattle.redo_bundle.specs.declared.faults.BundleFault.{BundleFault}
@@ -19,7 +19,6 @@ use Rattle.redo_tree.specs.declared.faults.TreeFault.{TreeFault}
 use Rattle.redo_tree.specs.Tree.{Node, Directory, File, Tree, top, added}
 use Rattle.redo_bundle.specs.Bundle.{IsBundleOrRefused, IsEntry, is_newline, header_of, path_fault, tree_fault}
 use Rattle.redo_bundle.specs.Bundle.{body_fault, entry_fault, fault_at, body_of, spelling}
-use Rattle.redo_bundle.specs.inside.Steps.{IsPlace}
 use Rattle.redo_bundle.proofs.BodyLemmas.{header_dir, header_file_is, same_bytes, spelled}
 use Rattle.redo_bundle.proofs.LineLemmas.{drop-cons-one, newline_is, split_first}
 use Rattle.redo_bundle.proofs.OnceLemmas.{Ends, Reading}
@@ -80,10 +79,10 @@ not_the_root n [] h e = apart cc
 not_the_root n (b ∷ bs) h e = cc
 
 -- a path below the root
-place : (n : ℕ) (path : List ℕ) → path_fault n path ≡ None → IsPlace path
+place : (n : ℕ) (path : List ℕ) → path_fault n path ≡ None → IsBelowRoot path
 place n path h = (not_the_root n path h, path-resolved [] path path root_path (names_itself n path h))
 
-directory_next : (n : ℕ) (tree : Tree) (text line path rest : List ℕ) → text ≡ line ++ 10 ∷ rest → header_of line ≡ Some (None, path) → IsPlace path → tree_fault n tree path Directory ≡ None → Next tree text
+directory_next : (n : ℕ) (tree : Tree) (text line path rest : List ℕ) → text ≡ line ++ 10 ∷ rest → header_of line ≡ Some (None, path) → IsBelowRoot path → tree_fault n tree path Directory ≡ None → Next tree text
 directory_next n tree text line path rest whole header at h =
     let t = taken n tree path Directory h in
     record {
@@ -104,7 +103,7 @@ ends_line : (n : ℕ) (b : Bool) (o : Option BundleFault) → cond b o (Some (Li
 ends_line n true o h = (refl, h)
 ends_line n false o h = apart cc
 
-file_next : (n : ℕ) (tree : Tree) (text line path rest : List ℕ) (size : ℕ) → text ≡ line ++ 10 ∷ rest → header_of line ≡ Some (Some size, path) → IsPlace path → body_fault n tree (Some size) path rest ≡ None → Next tree text
+file_next : (n : ℕ) (tree : Tree) (text line path rest : List ℕ) (size : ℕ) → text ≡ line ++ 10 ∷ rest → header_of line ≡ Some (Some size, path) → IsBelowRoot path → body_fault n tree (Some size) path rest ≡ None → Next tree text
 file_next n tree text line path rest size whole header at h =
     let long = long_enough n size rest _ h in
     let newline = ends_line n (is_newline (slice_index rest size)) (tree_fault n tree path (File (take size rest))) long.1 in
@@ -124,7 +123,7 @@ file_next n tree text line path rest size whole header at h =
           ∙ sym (ap (λ l. l ++ more) (spelled line path bytes size said.0 l) ∙ append_assoc line (10 ∷ (bytes ++ 10 ∷ [])) more ∙ ap (λ r. line ++ 10 ∷ r) (append_assoc bytes (10 ∷ []) more));
     }
 
-header_next : (n : ℕ) (tree : Tree) (text line rest : List ℕ) (header : Option ℕ × List ℕ) → text ≡ line ++ 10 ∷ rest → header_of line ≡ Some header → IsPlace header.1 → body_fault n tree header.0 header.1 rest ≡ None → Next tree text
+header_next : (n : ℕ) (tree : Tree) (text line rest : List ℕ) (header : Option ℕ × List ℕ) → text ≡ line ++ 10 ∷ rest → header_of line ≡ Some header → IsBelowRoot header.1 → body_fault n tree header.0 header.1 rest ≡ None → Next tree text
 header_next n tree text line rest (None, path) whole header at h = directory_next n tree text line path rest whole header at h
 header_next n tree text line rest (Some size, path) whole header at h = file_next n tree text line path rest size whole header at h
 

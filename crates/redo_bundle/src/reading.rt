@@ -6,10 +6,11 @@ ghost use Rattle.std.specs.Prelude.{Err, IfOk, OnOk, IfSome, IsErrOf, position};
 ghost use Rattle.std.specs.Io.KnownBytes.{Consumes, IsAtEnd, prepend_known};
 ghost use Rattle.std.specs.List.{position_or_len};
 ghost use Rattle.std.specs.Option.{option_or};
+ghost use Rattle.redo_path.specs.Names.{IsBelowRoot};
 ghost use Rattle.redo_tree.specs.Tree.{Directory, added};
 ghost use Rattle.redo_bundle.specs.Bundle.{HasSmallFiles, Reads, ReadsEach, is_newline, is_space, size_of, header_of};
 ghost use Rattle.redo_bundle.specs.Bundle.{path_fault, tree_fault, body_fault, entry_fault, fault_at};
-ghost use Rattle.redo_bundle.specs.inside.Steps.{is_read, Finds, Refuses, IsLine, IsPlace, AddsFile, AddsEntry};
+ghost use Rattle.redo_bundle.specs.inside.Steps.{is_read, Finds, Refuses, IsLine, AddsFile, AddsEntry};
 ghost use Rattle.redo_bundle.specs.inside.Steps.{AddsNext, told, words_of, line_fault, size_fault, newline_fault};
 ghost use Rattle.redo_bundle.specs.inside.Steps.{file_fault};
 
@@ -191,7 +192,7 @@ fn read_header(line: &[u8]) -> Option<(Option<usize>, &[u8])>
 /// The path of a header, which has to be spelled as the path's text.
 fn read_path(alloc: Global, number: u64, word: &[u8]) -> Result<Path, BundleFault>
     ensures path { IfOk result (λ path. path ≡ word.now) }
-    ensures place { OnOk result (IsPlace word.now) }
+    ensures place { OnOk result (IsBelowRoot word.now) }
     ensures fault { Finds result (path_fault number word.now) }
     ensures quiet { is_read result ≡ false }
 {
@@ -226,7 +227,7 @@ fn read_directory(
     tree: &mut Tree,
     word: &[u8],
 ) -> Result<(), BundleFault>
-    ensures place { OnOk result (IsPlace word.now) }
+    ensures place { OnOk result (IsBelowRoot word.now) }
     ensures adds { OnOk result (added tree.old word.now Directory ≡ Ok tree.new) }
     ensures fault { Finds result (option_or (path_fault number word.now)
         (tree_fault number tree.old word.now Directory)) }
@@ -270,7 +271,7 @@ fn read_file<R: ByteIn>(
     word: &[u8],
 ) -> Result<(), BundleFault>
     requires { R.has_failed reader.old ≡ false }
-    ensures place { OnOk result (IsPlace word.now) }
+    ensures place { OnOk result (IsBelowRoot word.now) }
     ensures adds { OnOk result (AddsFile tree.old tree.new word.now size
         (prepend_known held.old (R.left reader.old)) (prepend_known held.new (R.left reader.new))) }
     ensures fault { Refuses result (prepend_known held.old (R.left reader.old))

@@ -8,10 +8,9 @@ use Rattle.std.specs.List.{AllByRecursion}
 use Rattle.std.specs.Prelude.{Option, Some, None, codes, flat_map}
 use Rattle.redo_path.proofs.ApartLemmas.{apart}
 use Rattle.redo_path.proofs.PartLemmas.{AllByRecursion-append}
-use Rattle.redo_path.specs.Names.{IsPath}
+use Rattle.redo_path.specs.Names.{IsBelowRoot, IsPath}
 use Rattle.redo_digest.specs.Digest.{IsState, State, state_of}
 use Rattle.redo_digest.proofs.DigestLemmas.{digest_of_content}
-use Rattle.redo_which.specs.Missing.{IsBelow}
 use Rattle.redo_record.specs.declared.deps.Dep.{Dep}
 use Rattle.redo_record.specs.declared.deps.DepKind.TheVariants as kinds
 use Rattle.redo_record.specs.Answers.{file_in}
@@ -105,7 +104,7 @@ module _ (states : StatesView) where
 
   -- ---- missing candidates
 
-  noted-creates : (paths : List (List ℕ)) → AllByRecursion IsBelow paths → noted states.sources states.rows (creates paths) ≡ map Create paths
+  noted-creates : (paths : List (List ℕ)) → AllByRecursion IsBelowRoot paths → noted states.sources states.rows (creates paths) ≡ map Create paths
   noted-creates [] h = refl
   noted-creates ([] ∷ paths) h = absurd (h.0.0 refl)
   noted-creates ((byte ∷ bytes) ∷ paths) h = ap (λ es. Create (byte ∷ bytes) ∷ es) (noted-creates paths h.1)
@@ -114,14 +113,14 @@ module _ (states : StatesView) where
   create-lines [] = refl
   create-lines (path ∷ paths) = ap (λ t. (codes "create " ++ path ++ 10 ∷ []) ++ t) (create-lines paths)
 
-  pub creates-text : (paths : List (List ℕ)) → AllByRecursion IsBelow paths → noted_text states (creates paths) ≡ create_lines paths
+  pub creates-text : (paths : List (List ℕ)) → AllByRecursion IsBelowRoot paths → noted_text states (creates paths) ≡ create_lines paths
   creates-text paths h = ap (λ entries. text_of (map entry_line entries)) (noted-creates paths h) ∙ create-lines paths
 
   -- lines with that front are these
-  pub front-text : (front : List ℕ) (paths : List (List ℕ)) → front ≡ codes "create " → AllByRecursion IsBelow paths → flat_map (λ path. front ++ path ++ 10 ∷ []) paths ≡ noted_text states (creates paths)
+  pub front-text : (front : List ℕ) (paths : List (List ℕ)) → front ≡ codes "create " → AllByRecursion IsBelowRoot paths → flat_map (λ path. front ++ path ++ 10 ∷ []) paths ≡ noted_text states (creates paths)
   front-text front paths e h = ap (λ f. flat_map (λ path. f ++ path ++ 10 ∷ []) paths) e ∙ sym (creates-text paths h)
 
-  all-created : (paths : List (List ℕ)) → AllByRecursion IsBelow paths → AllByRecursion IsEntry (map Create paths)
+  all-created : (paths : List (List ℕ)) → AllByRecursion IsBelowRoot paths → AllByRecursion IsEntry (map Create paths)
   all-created [] h = tt
   all-created (path ∷ paths) h = (h.0, all-created paths h.1)
 
@@ -167,7 +166,7 @@ module _ (states : StatesView) where
   always-sized [] h = apart cc
   always-sized (byte ∷ bytes) h = record { size = refl; each = tt }
 
-  pub creates-sized : (front : List ℕ) (paths : List (List ℕ)) (n : ℕ) → front ≡ codes "create " → AllByRecursion IsBelow paths → n ≡ length (flat_map (λ path. front ++ path ++ 10 ∷ []) paths) → AreSized states (creates paths) n
+  pub creates-sized : (front : List ℕ) (paths : List (List ℕ)) (n : ℕ) → front ≡ codes "create " → AllByRecursion IsBelowRoot paths → n ≡ length (flat_map (λ path. front ++ path ++ 10 ∷ []) paths) → AreSized states (creates paths) n
   creates-sized front paths n e h is = record {
     size = is ∙ ap length (front-text front paths e h);
     each = subst (AllByRecursion IsEntry) (sym (noted-creates paths h)) (all-created paths h);

@@ -9,12 +9,12 @@ use Rattle.redo_path.proofs.ApartLemmas.{apart}
 use Rattle.std.proofs.lemmas.Bool.Decides.{Decides-eqb}
 use Rattle.redo_path.proofs.CanonicalLemmas.{named-resolved}
 use Rattle.redo_path.proofs.PartLemmas.{AllByRecursion-append, AllByRecursion-front}
-use Rattle.redo_path.specs.Names.{IsName, IsPath, child_of, name_of, names, parent_of, text_of}
+use Rattle.redo_path.specs.Names.{IsBelowRoot, IsName, IsPath, child_of, name_of, names, parent_of, text_of}
 use Rattle.redo_path.specs.declared.PathFault.{PathFault}
 use Rattle.redo_path.specs.Resolve.{resolved}
 use Rattle.redo_which.specs.Candidates.{LiesIn, Place, candidates_of, defaults_in, fronts, is_never_made, once, place_at}
 use Rattle.redo_which.specs.Candidates.{places_of, suffixes, upward, with_new}
-use Rattle.redo_which.specs.Missing.{AreDistinct, AreFirst, AreNewAfter, IsBelow, IsTarget, first_candidates}
+use Rattle.redo_which.specs.Missing.{AreDistinct, AreFirst, AreNewAfter, IsTarget, first_candidates}
 use Rattle.redo_which.specs.inside.Distinct.{above, defaults_by, distinct_places, without_whole}
 use Rattle.redo_which.proofs.FileLemmas.{IsFileName, IsFileName-default, IsFileName-named, NoSlash, child-resolved}
 use Rattle.redo_which.proofs.FileLemmas.{default_file, named_file, not_same}
@@ -181,10 +181,10 @@ none-do path target count first h = sym (not_do path count (candidates_of target
 not_the_root : (path : List ℕ) → IsDo path → path ≢ []
 not_the_root path h e = let bad : true ≡ false = sym h ∙ ap (λ p. ends_with nat_eq p (codes ".do")) e in apart cc
 
-all_below : (count : ℕ) (list : List Place) → AllByRecursion (λ p. IsDoFile p.do_file) list → AllByRecursion IsBelow (map (λ p. p.do_file) (take count list))
+all_below : (count : ℕ) (list : List Place) → AllByRecursion (λ p. IsDoFile p.do_file) list → AllByRecursion IsBelowRoot (map (λ p. p.do_file) (take count list))
 all_below zero list h = tt
 all_below (suc n) [] h = tt
 all_below (suc n) (p ∷ ps) h = ((not_the_root p.do_file h.0.ends, h.0.is_path), all_below n ps h.1)
 
-pub first-below : (target : List ℕ) (count : ℕ) → AreFirst target count → AllByRecursion IsBelow (first_candidates target count)
+pub first-below : (target : List ℕ) (count : ℕ) → AreFirst target count → AllByRecursion IsBelowRoot (first_candidates target count)
 first-below target count first = all_below count (candidates_of target) (do_candidates target first.is_target)

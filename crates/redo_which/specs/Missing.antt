@@ -1,6 +1,6 @@
 -- The first candidates of a target, by their number.
-use Rattle.std.specs.Prelude.{◌≡◌, ◌≢◌, ◌≤◌, false, IfSome, ℕ, List, [], ◌∷◌, ◌++◌, length, map, take, bytes_eq}
-use Rattle.redo_path.specs.Names.{IsPath, parent_of}
+use Rattle.std.specs.Prelude.{◌≡◌, ◌≤◌, false, IfSome, ℕ, List, [], ◌∷◌, ◌++◌, length, map, take, bytes_eq}
+use Rattle.redo_path.specs.Names.{parent_of}
 use Rattle.std.specs.List.{list_any}
 use Rattle.redo_which.specs.Candidates.{LiesIn, candidates_of}
 
@@ -16,10 +16,6 @@ AreNewAfter before (p ∷ ps) = (list_any (λ other. bytes_eq p other) before �
 -- no path stands twice
 abbrev pub AreDistinct : List (List ℕ) → Type 0
 AreDistinct paths = AreNewAfter [] paths
-
--- a path below the root
-abbrev pub IsBelow : List ℕ → Type 0
-IsBelow path = (path ≢ []) × IsPath path
 
 -- a path that is the root, or lies in its parent
 abbrev pub IsTarget : List ℕ → Type 0

@@ -4,7 +4,8 @@ ghost use Rattle.std.specs.Prelude.{◌≡◌, ◌≤◌, ◌∷◌, List, ℕ, 
 ghost use Rattle.std.specs.Prelude.{take};
 ghost use Rattle.std.specs.Iterator.Adapters.{take_count, take_source};
 ghost use Rattle.std.specs.List.{AllByRecursion, list_any};
-ghost use Rattle.redo_which.specs.Missing.{AreDistinct, AreFirst, IsBelow, first_candidates};
+ghost use Rattle.redo_path.specs.Names.{IsBelowRoot};
+ghost use Rattle.redo_which.specs.Missing.{AreDistinct, AreFirst, first_candidates};
 
 use crate::candidate_ref::CandidateRef;
 use crate::candidates::Candidates;
@@ -70,7 +71,7 @@ impl Missing {
 
     /// Each lies below the top directory.
     pub fn each_below(&self)
-        ensures { AllByRecursion IsBelow self.now }
+        ensures { AllByRecursion IsBelowRoot self.now }
     {
         // A field is read so that the invariant is at hand in the proof. Nothing runs.
         let _ = &self.target;

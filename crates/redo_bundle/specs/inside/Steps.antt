@@ -4,7 +4,7 @@ use Rattle.std.specs.Prelude.{◌++◌, ◌≢◌, option_map, Option, Some, Non
 use Rattle.std.specs.Prelude.{if◌then◌else◌}
 use Rattle.std.specs.List.{before_first, after_first, list_any}
 use Rattle.std.specs.Io.KnownBytes.{Consumes}
-use Rattle.redo_path.specs.Names.{IsPath}
+use Rattle.redo_path.specs.Names.{IsBelowRoot, IsPath}
 use Rattle.redo_bundle.specs.declared.faults.WriteFault.{WriteFault}
 use Rattle.redo_bundle.specs.declared.faults.WriteFault.TheVariants as write
 use Rattle.redo_tree.specs.declared.faults.TreeFault.{TreeFault}
@@ -66,10 +66,6 @@ words_of words =
     if list_any is_space words
     then option_map (λ size. (size, after_first is_space words)) (size_of (before_first is_space words))
     else None
-
--- a path below the root
-abbrev pub IsPlace : List ℕ → Type 0
-IsPlace word = (word ≢ []) × IsPath word
 
 -- a file of this size was read and added
 abbrev pub AddsFile : Tree → Tree → List ℕ → ℕ → Option (List ℕ) → Option (List ℕ) → Type 0
