@@ -10,7 +10,8 @@ use Rattle.std.specs.Str.{bytes_eq}
 use Rattle.redo_path.proofs.PartLemmas.{AllByRecursion-front}
 use Rattle.redo_path.specs.Names.{IsName, IsPart, is_slash, name_of, names, text_of}
 use Rattle.redo_path.specs.Resolve.{resolved}
-use Rattle.redo_which.specs.Candidates.{LiesIn, Place, candidates_of, defaults_in, fronts, is_never_made, is_dot, once}
+use Rattle.redo_which.specs.Candidates.{Place, candidates_of, defaults_in, fronts, is_never_made, is_dot, once}
+use Rattle.redo_which.specs.inside.First.{LiesIn}
 use Rattle.redo_which.specs.Candidates.{place_at, places_of, suffixes, upward}
 use Rattle.redo_which.specs.inside.Distinct.{above, defaults_by, distinct_places, without_whole}
 use Rattle.redo_which.proofs.OnceLemmas.{once-distinct}

@@ -12,9 +12,10 @@ use Rattle.redo_path.proofs.PartLemmas.{AllByRecursion-append, AllByRecursion-fr
 use Rattle.redo_path.specs.Names.{IsBelowRoot, IsName, IsPath, child_of, name_of, names, parent_of, text_of}
 use Rattle.redo_path.specs.declared.PathFault.{PathFault}
 use Rattle.redo_path.specs.Resolve.{resolved}
-use Rattle.redo_which.specs.Candidates.{LiesIn, Place, candidates_of, defaults_in, fronts, is_never_made, once, place_at}
+use Rattle.redo_which.specs.Candidates.{Place, candidates_of, defaults_in, fronts, is_never_made, once, place_at}
 use Rattle.redo_which.specs.Candidates.{places_of, suffixes, upward, with_new}
-use Rattle.redo_which.specs.Missing.{AreDistinct, AreFirst, AreNewAfter, IsTarget, first_candidates}
+use Rattle.redo_which.specs.Missing.{AreDistinct, AreNewAfter}
+use Rattle.redo_which.specs.inside.First.{AreFirst, IsTarget, LiesIn, first_candidates}
 use Rattle.redo_which.specs.inside.Distinct.{above, defaults_by, distinct_places, without_whole}
 use Rattle.redo_which.proofs.FileLemmas.{IsFileName, IsFileName-default, IsFileName-named, NoSlash, child-resolved}
 use Rattle.redo_which.proofs.FileLemmas.{default_file, named_file, not_same}

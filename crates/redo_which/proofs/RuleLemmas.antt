@@ -7,7 +7,7 @@ use Rattle.redo_path.specs.Names.{parent_of}
 use Rattle.redo_tree.specs.Tree.{Tree, Directory, node_at}
 use Rattle.redo_which.proofs.PlaceLemmas.{missing_among-next}
 use Rattle.redo_which.specs.Candidates.{Place, candidates_of}
-use Rattle.redo_which.specs.Missing.{first_candidates}
+use Rattle.redo_which.specs.inside.First.{first_candidates}
 use Rattle.redo_which.specs.Rule.{Rule, arguments_of, chosen_of, found_of, is_file, missing_among, missing_of}
 
 pub rule_found : (tree : Tree) (target dir : List ℕ) (place : Place) → node_at tree target ≡ None → parent_of target ≡ Some dir → node_at tree dir ≡ Some Directory → chosen_of tree target ≡ Some place

@@ -7,7 +7,8 @@ use Rattle.std.specs.Prelude.{IfSome, flat_map, nat_eq}
 use Rattle.redo_path.proofs.ApartLemmas.{apart}
 use Rattle.redo_path.specs.Names.{name_of, names, parent_of}
 use Rattle.std.specs.Prelude.{◌||◌, bytes_eq}
-use Rattle.redo_which.specs.Candidates.{LiesIn, Place, book_path, candidates_of, defaults_in, is_dot, place_at, suffixes, upward}
+use Rattle.redo_which.specs.Candidates.{Place, book_path, candidates_of, defaults_in, is_dot, place_at, suffixes, upward}
+use Rattle.redo_which.specs.inside.First.{LiesIn}
 use Rattle.redo_which.specs.inside.Slots.{IsFirstDot, shorter, slots_above, slots_by}
 use Rattle.redo_which.specs.inside.Distinct.{above, defaults_by, distinct_places, without_whole}
 use Rattle.redo_which.proofs.PlaceLemmas.{upward-first, upward-next, upward_left}

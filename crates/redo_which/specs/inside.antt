@@ -1,4 +1,5 @@
 pub mod Distinct
+pub mod First
 pub mod Passed
 pub mod Pieces
 pub mod Slots

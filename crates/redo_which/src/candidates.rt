@@ -8,7 +8,7 @@ ghost use Rattle.std.specs.Option.{option_to_list};
 ghost use Rattle.std.specs.Str.{bytes_eq};
 ghost use Rattle.redo_path.specs.Names.{IsPart, IsPath};
 ghost use Rattle.redo_which.specs.Candidates.{book_path, candidates_of, is_dot, suffixes};
-ghost use Rattle.redo_which.specs.Missing.{IsTarget};
+ghost use Rattle.redo_which.specs.inside.First.{IsTarget};
 ghost use Rattle.redo_which.specs.inside.Passed.{Passes, places_left};
 ghost use Rattle.redo_which.specs.inside.Slots.{IsFirstDot, IsNext, shorter, slots_above, slots_by, slots_left};
 ghost use Rattle.redo_which.specs.inside.Distinct.{distinct_places, without_whole};

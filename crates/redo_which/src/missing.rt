@@ -5,7 +5,8 @@ ghost use Rattle.std.specs.Prelude.{take};
 ghost use Rattle.std.specs.Iterator.Adapters.{take_count, take_source};
 ghost use Rattle.std.specs.List.{AllByRecursion, list_any};
 ghost use Rattle.redo_path.specs.Names.{IsBelowRoot};
-ghost use Rattle.redo_which.specs.Missing.{AreDistinct, AreFirst, first_candidates};
+ghost use Rattle.redo_which.specs.Missing.{AreDistinct};
+ghost use Rattle.redo_which.specs.inside.First.{AreFirst, first_candidates};
 
 use crate::candidate_ref::CandidateRef;
 use crate::candidates::Candidates;
@@ -25,7 +26,7 @@ pub struct Missing {
 
 impl Model for Missing {
     ghost use Rattle.std.specs.Prelude.{List, ℕ};
-    ghost use Rattle.redo_which.specs.Missing.{AreFirst, first_candidates};
+    ghost use Rattle.redo_which.specs.inside.First.{AreFirst, first_candidates};
 
     ghost Value = { List (List ℕ) };
 

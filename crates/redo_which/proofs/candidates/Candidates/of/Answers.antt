@@ -2,7 +2,8 @@ use Rattle.std.proofs.Common.{◌≤◌, ◌^◌, ◌∙◌, ◌||◌, [], ap, a
 use Rattle.std.specs.List.{ends_with}
 use Rattle.std.specs.Prelude.{bytes_eq, flat_map, IfSome}
 use Rattle.redo_path.specs.Names.{parent_of}
-use Rattle.redo_which.specs.Candidates.{LiesIn, Place, book_path}
+use Rattle.redo_which.specs.Candidates.{Place, book_path}
+use Rattle.redo_which.specs.inside.First.{LiesIn}
 use Rattle.redo_which.specs.inside.Distinct.{distinct_places}
 use Rattle.redo_which.specs.inside.Slots.{slots_left}
 use Rattle.redo_which.proofs.DistinctLemmas.{few-candidates}
