@@ -4,7 +4,6 @@ use crate::trees::{paths_of, tree_of};
 use redo_book::{book_text, read_book};
 use redo_bundle::{Plain, write_bundle};
 use redo_past::Past;
-use redo_which::lookup::candidates;
 use std::test::Fail;
 
 /// A directory with a file, and a script.
@@ -17,15 +16,6 @@ fn a_tree_is_written(rt: HostRuntime) -> Result<(), Fail> {
     let mut writer = Plain::new(Vec::new(alloc));
     write_bundle(alloc, &mut writer, &tree)?;
     assert_eq!(rt; writer.stream.as_slice(), TREE.as_bytes());
-    Ok(())
-}
-
-#[test]
-fn candidates_of_a_target_are_listed(rt: HostRuntime) -> Result<(), Fail> {
-    let alloc = rt.alloc();
-    let paths = paths_of(alloc, "a/x")?;
-    let target = paths.first().ok_or("no path")?;
-    assert_eq!(rt; candidates(alloc, target)?.len(), 3);
     Ok(())
 }
 

@@ -116,14 +116,6 @@ impl<'a> CandidateRef<'a> {
         Path::of_text(alloc, &text)
     }
 
-    /// The candidate, with paths of its own.
-    pub(crate) fn to_candidate(&self, alloc: Global) -> Result<Candidate, AllocError>
-        ensures { IfOk result (λ candidate. place_of candidate ≡ self.now) }
-    {
-        let do_file = self.do_file(alloc)?;
-        self.with_path(alloc, do_file)
-    }
-
     /// The candidate with this path, which is that of its .do file.
     pub(crate) fn with_path(&self, alloc: Global, do_file: Path) -> Result<Candidate, AllocError>
         requires { do_file ≡ self.now.do_file }
