@@ -1,6 +1,7 @@
 //! The lines of missing candidates, target after target.
 
-ghost use Rattle.std.specs.Prelude.{◌≡◌, ◌+◌, ◌++◌, ◌∷◌, [], IfOk, OnOk, flat_map, length};
+ghost use Rattle.std.specs.Prelude.{◌≡◌, ◌≤◌, ◌+◌, ◌^◌, ◌↔◌, ◌⊎◌, ◌++◌, ◌∷◌, [], IfOk, IsErr, OnErr, OnOk};
+ghost use Rattle.std.specs.Prelude.{drop, flat_map, length, map};
 ghost use Rattle.redo_which.specs.Lines.{lines_of};
 
 use crate::candidate_ref::CandidateRef;
@@ -63,6 +64,7 @@ impl<'a> MissingLines<'a> {
     pub fn keep(&mut self, rest: &Tail<'a>) -> Result<(), AllocError>
         ensures front { self.new.0 ≡ self.old.0 }
         ensures kept { OnOk result (self.new.1 ≡ rest.now) }
+        ensures refused { OnErr result (self.new.1 ≡ []) }
     {
         if rest.is_same(&self.kept) {
             return Ok(());
@@ -75,11 +77,14 @@ impl<'a> MissingLines<'a> {
         Ok(())
     }
 
-    /// How many bytes the lines of all these candidates take. Those behind the first are kept.
+    /// How many bytes the lines of all these candidates take. Those behind the first are kept, also where the sum is
+    /// refused; where they themselves are, none are.
     pub fn size(&mut self, missing: &'a Missing) -> Result<usize, AllocError>
         ensures front { self.new.0 ≡ self.old.0 }
         ensures size { IfOk result (λ n. n
             ≡ length (flat_map (λ path. self.old.0 ++ path ++ 10 ∷ []) missing.now)) }
+        ensures refused { OnErr result ((self.new.1 ≡ []) ⊎
+            (map (λ place. place.do_file) self.new.1 ≡ drop 1 missing.now)) }
     {
         let Some((first, rest)) = missing.split_first() else {
             return Ok(0);
@@ -92,7 +97,8 @@ impl<'a> MissingLines<'a> {
 
 /// So many bytes together. A sum that is too large for memory is refused as such.
 pub fn add_sizes(first: usize, second: usize) -> Result<usize, AllocError>
-    ensures { IfOk result (λ sum. sum ≡ first + second) }
+    ensures sum { IfOk result (λ sum. sum ≡ first + second) }
+    ensures refused { IsErr result ↔ (2 ^ 64 ≤ first + second) }
 {
     first.checked_add(second).ok_or(AllocError)
 }

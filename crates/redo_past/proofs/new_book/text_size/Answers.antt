@@ -20,7 +20,7 @@ returns-clause-size c =
     ap (λ rs. text_of (book_lines rs)) (sym c.in_ok-items.ensures.are) ∙ items-text states items in
     let size : c.in_ok-size.size ≡ length (flat_map (item_text states) items) =
     c.in_ok-size.ensures.size ∙ ap (λ s. length (flat_map (item_text s) c.deref-2.result.now)) is ∙ ap (λ xs. length (flat_map (item_text states) xs)) all in
-    if-so _ _ c.add_sizes.result (λ n sum. sum ∙ ap (λ m. m + 4) size ∙ sym (ap length text ∙ length-append (flat_map (item_text states) items) (codes "end\n"))) c.add_sizes.ensures
+    if-so _ _ c.add_sizes.result (λ n sum. sum ∙ ap (λ m. m + 4) size ∙ sym (ap length text ∙ length-append (flat_map (item_text states) items) (codes "end\n"))) c.add_sizes.ensures.sum
 
 pub returns-clause-each : goal.returns-clause-each
 returns-clause-each c =
@@ -30,4 +30,4 @@ returns-clause-each c =
     let is : c.new-files.result ≡ states = search rules in
     let all : map (record_in c.new-files.result) c.deref-2.result.now ≡ new_records past rows =
     ap (λ s. map (record_in s) c.deref-2.result.now) is ∙ ap (map (record_in states)) c.deref-2.ensures.value ∙ c.in_ok-items.ensures.are in
-    if-so _ _ c.add_sizes.result (λ n sum. subst (AllByRecursion IsRecord) all c.in_ok-size.ensures.each) c.add_sizes.ensures
+    if-so _ _ c.add_sizes.result (λ n sum. subst (AllByRecursion IsRecord) all c.in_ok-size.ensures.each) c.add_sizes.ensures.sum

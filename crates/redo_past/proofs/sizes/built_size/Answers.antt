@@ -16,7 +16,7 @@ returns-clause-size c =
     let row = c.args.row.now in
     let target = c.target_size.ensures (state_of (file_in row.outcome)) (state-is _) (sym c.has_made.ensures) in
     let entries = c.in_ok-entries.ensures.size.size ∙ ap (λ ds. length (noted_text files ds)) c.deref-2.ensures in
-    if-so _ _ c.add_sizes.result (λ n is. built-sized files row c.target_size.result c.in_ok-entries.entries n target entries is) c.add_sizes.ensures
+    if-so _ _ c.add_sizes.result (λ n is. built-sized files row c.target_size.result c.in_ok-entries.entries n target entries is) c.add_sizes.ensures.sum
 
 pub returns-clause-record : goal.returns-clause-record
 returns-clause-record c =
@@ -28,4 +28,4 @@ returns-clause-record c =
       state = state-is _;
       entries = subst (λ ds. AllByRecursion IsEntry (of ds)) c.deref-2.ensures c.in_ok-entries.ensures.size.each;
       once = subst (λ ds. IsDistinct same_entry (of ds)) c.deref.ensures (noted-once S R c.deref.result.now c.each_once.ensures);
-    }) c.add_sizes.ensures
+    }) c.add_sizes.ensures.sum

@@ -14,6 +14,6 @@ returns-clause-size c =
     let do_file = change_of (option_copied parts.do_file) in
     let searched : AreSized files (missing ++ do_file) c.in_ok-searched.searched =
     more-sized files missing do_file c.in_ok-candidates_size.field-0 c.do_file_size.result c.in_ok-searched.searched
-    (c.in_ok-candidates_size.ensures.size files) c.do_file_size.ensures c.in_ok-searched.ensures in
+    (c.in_ok-candidates_size.ensures.size files) c.do_file_size.ensures c.in_ok-searched.ensures.sum in
     if-so _ _ c.add_sizes-2.result (λ n is. subst (λ ds. AreSized files ds n) (sym c.parts-parts.ensures)
-    (more-sized files (missing ++ do_file) parts.own.now c.in_ok-searched.searched c.in_ok-own_size.field-0 n searched c.in_ok-own_size.ensures is)) c.add_sizes-2.ensures
+    (more-sized files (missing ++ do_file) parts.own.now c.in_ok-searched.searched c.in_ok-own_size.field-0 n searched c.in_ok-own_size.ensures is)) c.add_sizes-2.ensures.sum

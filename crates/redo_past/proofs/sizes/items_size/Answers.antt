@@ -17,7 +17,7 @@ loop-item-preserved c =
     let below : i < length items = omega (arith, c.loop-item-test.true) in
     record {
       front = c.in_ok-item_size.ensures.front ∙ c.loop-item.invariant.front;
-      size = c.in_ok-size.ensures ∙ ap (λ n. n + c.in_ok-item_size.field-0) c.loop-item.invariant.size ∙ ap (λ n. length (flat_map (item_text c.args.files.now) (take i items)) + n) c.in_ok-item_size.ensures.size
+      size = c.in_ok-size.ensures.sum ∙ ap (λ n. n + c.in_ok-item_size.field-0) c.loop-item.invariant.size ∙ ap (λ n. length (flat_map (item_text c.args.files.now) (take i items)) + n) c.in_ok-item_size.ensures.size
           ∙ items-more (item_text c.args.files.now) items i c.item-item.result below c.item-item.is;
       each = records-more IsRecord (record_in c.args.files.now) items i c.item-item.result below c.item-item.is c.loop-item.invariant.each c.in_ok-item_size.ensures.«record»;
     }

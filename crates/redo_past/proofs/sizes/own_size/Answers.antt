@@ -15,4 +15,4 @@ loop-dep-preserved c =
     let x : Dep = c.dep-item.result in
     let below : i < length own = omega (arith, c.loop-dep-test.true, c.loop-dep.auto.dep-index-end) in
     let step : take (i + 1) own ≡ take i own ++ x ∷ [] = take_more own i x below ∙ ap (λ d. take i own ++ d ∷ []) (sym c.dep-item.is) in
-    subst (λ ds. AreSized c.args.files.now ds c.in_ok-size.size) (sym step) (more-sized c.args.files.now (take i own) (x ∷ []) c.loop-dep.size c.entry_size.result c.in_ok-size.size c.loop-dep.invariant c.entry_size.ensures c.in_ok-size.ensures)
+    subst (λ ds. AreSized c.args.files.now ds c.in_ok-size.size) (sym step) (more-sized c.args.files.now (take i own) (x ∷ []) c.loop-dep.size c.entry_size.result c.in_ok-size.size c.loop-dep.invariant c.entry_size.ensures c.in_ok-size.ensures.sum)

@@ -15,6 +15,6 @@ returns-clause-size c =
     rw (← same) (sum-so c.add_sizes-2.result (c.in_ok-line.line + c.len.result) (length (flat_map (λ path. front ++ path ++ 10 ∷ []) c.args.missing.now))
     (λ sum is. lines-size front first.do_file (lines_of front rest) (flat_map (λ path. front ++ path ++ 10 ∷ []) c.args.missing.now) c.in_ok-line.line sum
     (lines-split front first rest c.args.missing.now c.in-Some.ensures.some)
-    (c.in_ok-line.ensures ∙ ap (λ n. length front + (n + 1)) c.size.ensures)
+    (c.in_ok-line.ensures.sum ∙ ap (λ n. length front + (n + 1)) c.size.ensures)
     (is ∙ ap (λ n. c.in_ok-line.line + n) (c.len.ensures ∙ c.self.inside.text.ok.0 ∙ ap length behind)))
-    c.add_sizes-2.ensures)
+    c.add_sizes-2.ensures.sum)
