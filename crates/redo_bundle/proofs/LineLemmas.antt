@@ -1,20 +1,22 @@
 -- Where a line ends in bytes that come in pieces.
 use Rattle.std.proofs.Common.{◌≡◌, ℕ, zero, suc, ◌+◌, ◌*◌, ◌-◌, ◌<◌, ◌≤◌, Bool, true, false, cond, not, List, [], ◌∷◌}
 use Rattle.std.proofs.Common.{◌++◌, length, take, drop, get_or, refl, sym, ap, subst, ◌∙◌, arith, Option, Some, None}
-use Rattle.std.proofs.Common.{lt-ltb, append_assoc, append-nil, IfSome, add-one, ◌^◌, nat_le, take-append-drop}
+use Rattle.std.proofs.Common.{lt-ltb, append_assoc, append-nil, inl, inr, IfSome, add-one, ◌^◌, nat_le, take-append-drop}
 use Rattle.std.proofs.lemmas.Grind.{common_steps}
 use Rattle.std.proofs.lemmas.List.Sums.{prefix_len-le-length, prefix_len_stops, split_at_first, fold-append}
 use Rattle.std.specs.List.{list_any, position_or_len, position, before_first, after_first, fold}
 use Rattle.std.proofs.lemmas.List.{length-take-le}
 use Rattle.std.proofs.lemmas.List.Prefix.{front_rest}
-use Rattle.std.proofs.Math.Seq.{drop-cons}
-use Rattle.std.specs.Prelude.{option_map, codes, ◌&&◌, ◌||◌, decimal}
+use Rattle.std.proofs.Math.Seq.{drop-cons, take-append-add}
+use Rattle.std.specs.Prelude.{Err, option_map, codes, ◌&&◌, ◌||◌, decimal}
 use Rattle.std.specs.Str.{bytes_eq}
-use Rattle.std.specs.Io.KnownBytes.{Consumes, prepend_known}
+use Rattle.std.specs.Io.KnownBytes.{Consumes, IsAtEnd, prepend_known}
 use Rattle.std.proofs.KnownBytes.{Consumes-trans}
-use Rattle.redo_bundle.specs.declared.faults.BundleFault.TheVariants.{Line}
-use Rattle.redo_bundle.specs.Bundle.{is_newline, is_space, size_of, header_of}
-use Rattle.redo_bundle.specs.inside.Steps.{words_of, line_fault}
+use Rattle.redo_bundle.specs.declared.faults.BundleFault.{BundleFault}
+use Rattle.redo_bundle.specs.declared.faults.BundleFault.TheVariants.{Line, Path, Tree as TreeAt, Truncated, Read}
+use Rattle.redo_bundle.specs.declared.faults.BundleFault.TheVariants.{Memory}
+use Rattle.redo_bundle.specs.Bundle.{IsHeader, is_newline, is_space, size_of, header_of}
+use Rattle.redo_bundle.specs.inside.Steps.{IsLine, Shows, words_of, line_fault}
 use borrow.Author.Tests.{ltb-false}
 
 cond_none : (b : Bool) (n : ℕ) → cond b (Some n) None ≡ None → b ≡ false
@@ -175,6 +177,52 @@ long_known (Some x) (Some y) held line n p one h =
 
 pub line_too_long : (a b left : Option (List ℕ)) (held line : List ℕ) (n : ℕ) → Consumes a b line → Consumes b (prepend_known held left) [] → list_any is_newline line ≡ false → 1100 < length line + position_or_len is_newline held → IfSome a (λ text. line_fault n text ≡ Some (Line n))
 line_too_long a b left held line n p q one h = long_known a left held line n (subst (Consumes a (prepend_known held left)) (append-nil line) (Consumes-trans a b _ line [] p q)) one h
+
+-- ---- the header that a refusal shows
+
+before-append : (p : ℕ → Bool) (xs ys : List ℕ) → list_any p xs ≡ false → before_first p (xs ++ ys) ≡ xs ++ before_first p ys
+before-append p xs ys none = ap (λ k. take k (xs ++ ys)) (end-append p xs ys none) ∙ take-append-add xs ys (position_or_len p ys)
+
+rest_known : (a left : Option (List ℕ)) (held line : List ℕ) → Consumes a (prepend_known held left) line → held ≡ [] → IsAtEnd left → list_any is_newline line ≡ false → IfSome a (λ text. IsHeader text line)
+rest_known None left held line p none end one = tt
+rest_known (Some x) None held line p none end one = absurd p
+rest_known (Some x) (Some y) held line p none end one =
+    let whole : x ≡ line ++ [] = p ∙ ap (λ l. line ++ l) ((λ i. none i ++ end i)) in
+    inl (sym (ap (before_first is_newline) whole ∙ before-append is_newline line [] one ∙ append-nil line))
+
+beginning_known : (a left : Option (List ℕ)) (held line : List ℕ) → Consumes a (prepend_known held left) line → list_any is_newline line ≡ false → 1100 < length line + position_or_len is_newline held → IfSome a (λ text. IsHeader text line)
+beginning_known None left held line p one h = tt
+beginning_known (Some x) None held line p one h = absurd p
+beginning_known (Some x) (Some y) held line p one h =
+    let whole : before_first is_newline x ≡ line ++ before_first is_newline (held ++ y) = ap (before_first is_newline) p ∙ before-append is_newline line (held ++ y) one in
+    let long : 1100 < length (before_first is_newline x) =
+    (let at = ap (position_or_len is_newline) p ∙ end-append is_newline line (held ++ y) one in
+    let more = end-le is_newline held y in
+    omega (arith, at, more, length-take-le (position_or_len is_newline x) x (prefix_len-le-length (λ b. not (is_newline b)) x))) in
+    inr (long, (before_first is_newline (held ++ y), whole))
+
+-- a whole line is one, and a newline behind it
+pub shows_line : (a b : Option (List ℕ)) (line : List ℕ) → IsLine line → Consumes a b (line ++ 10 ∷ []) → IfSome a (λ text. IsHeader text line)
+shows_line None b line h p = tt
+shows_line (Some x) None line h p = absurd p
+shows_line (Some x) (Some y) line h p = inl (sym (ap (before_first is_newline) (p ∙ append_assoc line (10 ∷ []) y) ∙ (cut_first is_newline line 10 y h.one refl).before))
+
+-- the input ended in the line
+pub shows_rest : (a b left : Option (List ℕ)) (held line : List ℕ) → Consumes a b line → Consumes b (prepend_known held left) [] → held ≡ [] → IsAtEnd left → list_any is_newline line ≡ false → IfSome a (λ text. IsHeader text line)
+shows_rest a b left held line p q none end one = rest_known a left held line (subst (Consumes a (prepend_known held left)) (append-nil line) (Consumes-trans a b _ line [] p q)) none end one
+
+-- the line is too long, and this much of it was read
+pub shows_beginning : (a b left : Option (List ℕ)) (held line : List ℕ) → Consumes a b line → Consumes b (prepend_known held left) [] → list_any is_newline line ≡ false → 1100 < length line + position_or_len is_newline held → IfSome a (λ text. IsHeader text line)
+shows_beginning a b left held line p q one h = beginning_known a left held line (subst (Consumes a (prepend_known held left)) (append-nil line) (Consumes-trans a b _ line [] p q)) one h
+
+-- whatever the fault
+pub shows : (f : BundleFault) (left : Option (List ℕ)) (line : List ℕ) → IfSome left (λ text. IsHeader text line) → Shows {A = Bool} (Err f) left line
+shows Read left line h = tt
+shows Memory left line h = tt
+shows Truncated left line h = h
+shows (Line k) left line h = h
+shows (Path k f) left line h = h
+shows (TreeAt k f) left line h = h
 
 not_false : (b : Bool) → not b ≡ false → b ≡ true
 not_false true h = refl

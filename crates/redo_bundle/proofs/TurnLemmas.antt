@@ -4,18 +4,18 @@ use Rattle.std.proofs.Common.{sym, ap, subst, ◌∙◌, arith, Option, Some, No
 use Rattle.std.proofs.Common.{IfSome}
 use Rattle.std.proofs.lemmas.Grind.{common_steps, flat_map-append}
 use Rattle.std.specs.List.{AllByRecursion}
-use Rattle.std.specs.Prelude.{Result, Ok, Err, codes}
+use Rattle.std.specs.Prelude.{Ok, Err, codes}
 use Rattle.std.specs.Str.{bytes_eq}
 use Rattle.std.specs.Io.KnownBytes.{Consumes, IsAtEnd, prepend_known}
 use Rattle.std.proofs.KnownBytes.{Consumes-trans}
 use Rattle.redo_bundle.specs.declared.faults.BundleFault.{BundleFault}
 use Rattle.redo_bundle.specs.declared.faults.BundleFault.TheVariants.{Line, Path, Tree as TreeAt, Truncated, Read}
 use Rattle.redo_bundle.specs.declared.faults.BundleFault.TheVariants.{Memory}
-use Rattle.redo_tree.specs.declared.faults.TreeFault.{TreeFault}
 use Rattle.redo_tree.specs.Tree.{Node, Directory, File, Tree, top, grown}
-use Rattle.redo_bundle.specs.Bundle.{is_newline, entry_fault, fault_at, IsEntry, IsRefused, Reads, spelling, body_of}
-use Rattle.redo_bundle.specs.inside.Steps.{Refuses, IsLine, AddsNext}
-use Rattle.redo_tree.proofs.GrowLemmas.{onward, length-added, grown-append, onward}
+use Rattle.redo_bundle.specs.Bundle.{is_newline, entry_fault, fault_at, IsEntry, IsHeader, IsRefused, IsRefusedAt, Reads}
+use Rattle.redo_bundle.specs.Bundle.{ShowsHeader, spelling, body_of}
+use Rattle.redo_bundle.specs.inside.Steps.{Refuses, Shows, IsLine, AddsNext}
+use Rattle.redo_tree.proofs.GrowLemmas.{length-added, grown-append}
 use Rattle.redo_bundle.proofs.LineLemmas.{IsCut, cut_first}
 
 -- ---- one turn
@@ -129,6 +129,21 @@ reads_fault Truncated (Some x) (Some y) tree n r h = refused x y tree n Truncate
 reads_fault (Line k) (Some x) (Some y) tree n r h = refused x y tree n (Line k) r h
 reads_fault (Path k f) (Some x) (Some y) tree n r h = refused x y tree n (Path k f) r h
 reads_fault (TreeAt k f) (Some x) (Some y) tree n r h = refused x y tree n (TreeAt k f) r h
+
+refused_at : (x y : List ℕ) (tree : Tree) (n : ℕ) (f : BundleFault) (line : List ℕ) → Reached (Some x) (Some y) tree n → fault_at n tree y ≡ Some f → IsHeader y line → IsRefusedAt x f line
+refused_at x y tree n f line r h l =
+    (r.es, tree, y, record { entries = r.entries; whole = r.came; makes = r.makes }, ap (λ k. fault_at k tree y) r.number ∙ h, l)
+
+-- a fault was found at this header
+pub shows_header : (f : BundleFault) (start b : Option (List ℕ)) (tree : Tree) (n : ℕ) (line : List ℕ) → Reached start b tree n → Refuses {A = Bool} (Err f) b (fault_at n tree) → Shows {A = Bool} (Err f) b line → IfSome start (λ text. ShowsHeader (Err f) line text)
+shows_header f None b tree n line r h l = tt
+shows_header f (Some x) None tree n line r h l = absurd r.came
+shows_header Read (Some x) (Some y) tree n line r h l = tt
+shows_header Memory (Some x) (Some y) tree n line r h l = tt
+shows_header Truncated (Some x) (Some y) tree n line r h l = refused_at x y tree n Truncated line r h l
+shows_header (Line k) (Some x) (Some y) tree n line r h l = refused_at x y tree n (Line k) line r h l
+shows_header (Path k f) (Some x) (Some y) tree n line r h l = refused_at x y tree n (Path k f) line r h l
+shows_header (TreeAt k f) (Some x) (Some y) tree n line r h l = refused_at x y tree n (TreeAt k f) line r h l
 
 -- an entry that was read is one more in the tree
 pub longer : (b c : Option (List ℕ)) (old new : Tree) → AddsNext old new b c → length new ≡ length old + 1

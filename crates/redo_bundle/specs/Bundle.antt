@@ -1,5 +1,5 @@
 -- Bundles: the bytes of a tree, entry by entry.
-use Rattle.std.specs.Prelude.{◌≡◌, ◌≢◌, ◌≤◌, ◌+◌, ◌-◌, ◌*◌, ◌^◌, ◌==◌, ◌&&◌, ◌⊎◌, not, fold, Bool, ℕ, List, [], ◌∷◌}
+use Rattle.std.specs.Prelude.{◌≡◌, ◌≢◌, ◌<◌, ◌≤◌, ◌+◌, ◌-◌, ◌*◌, ◌^◌, ◌==◌, ◌&&◌, ◌⊎◌, not, fold, Bool, ℕ, List, [], ◌∷◌}
 use Rattle.std.specs.Prelude.{◌++◌, flat_map, length, take, drop, slice_index, nat_lt, nat_le, Option, Some, None}
 use Rattle.std.specs.Prelude.{Result, Ok, Err, codes, decimal, if◌then◌else◌, option_map}
 use Rattle.std.specs.List.{AllByRecursion, after_first, before_first, list_any}
@@ -100,6 +100,18 @@ IsRefused text fault =
     (es : List (List ℕ × Node)) × (tree : Tree) × (rest : List ℕ) × Begins text es tree rest ×
     (fault_at (length es + 1) tree rest ≡ Some fault)
 
+-- the line that a text begins with, or of one that is too long for a header a beginning
+abbrev pub IsHeader : List ℕ → List ℕ → Type 0
+IsHeader text line =
+    let whole = before_first is_newline text in
+    (line ≡ whole) ⊎ ((1100 < length whole) × ((more : List ℕ) × (whole ≡ line ++ more)))
+
+-- the first fault of a text, and the header that was read last when it was found
+abbrev pub IsRefusedAt : List ℕ → BundleFault → List ℕ → Type 0
+IsRefusedAt text fault line =
+    (es : List (List ℕ × Node)) × (tree : Tree) × (rest : List ℕ) × Begins text es tree rest ×
+    (fault_at (length es + 1) tree rest ≡ Some fault) × IsHeader rest line
+
 -- the text is a bundle, or has a first fault
 abbrev pub IsBundleOrRefused : List ℕ → Type 0
 IsBundleOrRefused text = ((tree : Tree) × IsBundle text tree) ⊎ ((fault : BundleFault) × IsRefused text fault)
@@ -110,6 +122,13 @@ Reads (Ok tree) text = IsBundle text tree
 Reads (Err Read) text = Unit {0}
 Reads (Err Memory) text = Unit {0}
 Reads (Err fault) text = IsRefused text fault
+
+-- a text that was refused has its first fault at this header
+abbrev pub ShowsHeader : Result Tree BundleFault → List ℕ → List ℕ → Type 0
+ShowsHeader (Ok tree) line text = Unit {0}
+ShowsHeader (Err Read) line text = Unit {0}
+ShowsHeader (Err Memory) line text = Unit {0}
+ShowsHeader (Err fault) line text = IsRefusedAt text fault line
 
 -- each tree of the text was read, unless reading or memory failed
 abbrev pub ReadsEach : Result Tree BundleFault → List ℕ → Type 0

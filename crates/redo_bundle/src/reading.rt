@@ -8,9 +8,9 @@ ghost use Rattle.std.specs.List.{position_or_len};
 ghost use Rattle.std.specs.Option.{option_or};
 ghost use Rattle.redo_path.specs.Names.{IsBelowRoot};
 ghost use Rattle.redo_tree.specs.Tree.{Directory, added};
-ghost use Rattle.redo_bundle.specs.Bundle.{HasSmallFiles, Reads, ReadsEach, is_newline, is_space, size_of, header_of};
+ghost use Rattle.redo_bundle.specs.Bundle.{HasSmallFiles, Reads, ReadsEach, ShowsHeader, is_newline, is_space, size_of, header_of};
 ghost use Rattle.redo_bundle.specs.Bundle.{path_fault, tree_fault, body_fault, entry_fault, fault_at};
-ghost use Rattle.redo_bundle.specs.inside.Steps.{is_read, Finds, Refuses, IsLine, AddsFile, AddsEntry};
+ghost use Rattle.redo_bundle.specs.inside.Steps.{is_read, Finds, Refuses, Shows, IsLine, AddsFile, AddsEntry};
 ghost use Rattle.redo_bundle.specs.inside.Steps.{AddsNext, told, words_of, line_fault, size_fault, newline_fault};
 ghost use Rattle.redo_bundle.specs.inside.Steps.{file_fault};
 
@@ -57,6 +57,7 @@ fn read_line<R: ByteIn>(
     ensures bytes { OnOk result (Consumes (prepend_known held.old (R.left reader.old))
         (prepend_known held.new (R.left reader.new)) (line.new.items ++ 10 ∷ [])) }
     ensures fault { Refuses result (prepend_known held.old (R.left reader.old)) (line_fault number) }
+    ensures header { Shows result (prepend_known held.old (R.left reader.old)) line.new.items }
     ensures failed { R.has_failed reader.new ≡ is_read result }
 {
     line.clear();
@@ -323,6 +324,7 @@ fn read_next<R: ByteIn>(
         Consumes (prepend_known held.old (R.left reader.old)) (prepend_known held.new (R.left reader.new))
         (codes "end\n") × (held.new ≡ []) × IsAtEnd (R.left reader.new) }
     ensures fault { Refuses result (prepend_known held.old (R.left reader.old)) (fault_at number tree.old) }
+    ensures header { Shows result (prepend_known held.old (R.left reader.old)) line.new.items }
     ensures failed { R.has_failed reader.new ≡ is_read result }
 {
     read_line(held, reader, number, line)?;
@@ -368,6 +370,7 @@ pub fn read_bundle_by_line<R: ByteIn>(
     requires { R.has_failed reader.old ≡ false }
     ensures reads { IfSome (R.left reader.old) (λ text. Reads result text) }
     ensures each { IfSome (R.left reader.old) (λ text. ReadsEach result text) }
+    ensures header { IfSome (R.left reader.old) (λ text. ShowsHeader result line.new.items text) }
     ensures whole { OnOk result (IfSome (R.left reader.new) (λ rest. rest ≡ [])) }
     ensures small { IfOk result HasSmallFiles }
     ensures read { IsErrOf result BundleFault.Read ↔ (R.has_failed reader.new ≡ true) }

@@ -1,10 +1,9 @@
 -- What each step of reading a bundle finds.
 use Rattle.std.specs.Prelude.{◌≡◌, ◌≤◌, ℕ, Bool, true, false, List, [], ◌∷◌, length, slice_index, nat_lt, nat_le, not}
-use Rattle.std.specs.Prelude.{◌++◌, ◌≢◌, option_map, Option, Some, None, Result, Ok, Err, codes, decimal, IfSome}
+use Rattle.std.specs.Prelude.{◌++◌, option_map, Option, Some, None, Result, Ok, Err, codes, decimal, IfSome}
 use Rattle.std.specs.Prelude.{if◌then◌else◌}
 use Rattle.std.specs.List.{before_first, after_first, list_any}
 use Rattle.std.specs.Io.KnownBytes.{Consumes}
-use Rattle.redo_path.specs.Names.{IsBelowRoot, IsPath}
 use Rattle.redo_bundle.specs.declared.faults.WriteFault.{WriteFault}
 use Rattle.redo_bundle.specs.declared.faults.WriteFault.TheVariants as write
 use Rattle.redo_tree.specs.declared.faults.TreeFault.{TreeFault}
@@ -12,7 +11,7 @@ use Rattle.redo_tree.specs.declared.faults.TreeFault.TheVariants as tree
 use Rattle.redo_tree.specs.Tree.{Node, Directory, File, Tree, added}
 use Rattle.redo_bundle.specs.declared.faults.BundleFault.{BundleFault}
 use Rattle.redo_bundle.specs.declared.faults.BundleFault.TheVariants.{Line, Tree as TreeAt, Truncated, Read, Memory}
-use Rattle.redo_bundle.specs.Bundle.{IsEntry, is_newline, is_space, size_of, spelling}
+use Rattle.redo_bundle.specs.Bundle.{IsEntry, IsHeader, is_newline, is_space, size_of, spelling}
 
 -- a step answered that the reader failed
 abbrev pub is_read : {A : Type 0} → Result A BundleFault → Bool
@@ -33,6 +32,13 @@ Refuses (Ok x) left meant = Unit {0}
 Refuses (Err Read) left meant = Unit {0}
 Refuses (Err Memory) left meant = Unit {0}
 Refuses (Err fault) left meant = IfSome left (λ text. meant text ≡ Some fault)
+
+-- after a refusal this is the header line of what was left, where that is known
+abbrev pub Shows : {A : Type 0} → Result A BundleFault → Option (List ℕ) → List ℕ → Type 0
+Shows (Ok x) left line = Unit {0}
+Shows (Err Read) left line = Unit {0}
+Shows (Err Memory) left line = Unit {0}
+Shows (Err fault) left line = IfSome left (λ text. IsHeader text line)
 
 -- a header line, without its newline
 pub record IsLine (line : List ℕ) : Type 0 where

@@ -4,7 +4,7 @@ use Rattle.std.proofs.lemmas.Result.{err_from_is_err_and}
 use Rattle.redo_bundle.specs.Bundle.{Reads}
 use Rattle.redo_bundle.proofs.OnceLemmas.{reads_each}
 use Rattle.redo_bundle.proofs.TurnLemmas.{Reached, Reached-first, Reached-next, longer, nothing_held, reads_all}
-use Rattle.redo_bundle.proofs.TurnLemmas.{reads_fault}
+use Rattle.redo_bundle.proofs.TurnLemmas.{reads_fault, shows_header}
 use Rattle.redo_bundle.proofs.SmallLemmas.{reached_small}
 use Rattle.redo_bundle.proofs.reading.read_bundle_by_line.Goals as goal
 
@@ -22,6 +22,11 @@ returns-in_err-read_next-clause-reads g c =
 pub returns-in_err-read_next-clause-each : goal.returns-in_err-read_next-clause-each
 returns-in_err-read_next-clause-each g c =
     reads_each _ (g.R.ByteIn.left c.args.reader.now) (returns-in_err-read_next-clause-reads g c)
+
+pub returns-in_err-read_next-clause-header : goal.returns-in_err-read_next-clause-header
+returns-in_err-read_next-clause-header g c =
+    let p = err_from_is_err_and c.from_residual-in_err-read_next.result c.from_residual-in_err-read_next.ensures.1 in
+    rw (p.1, p.2) (shows_header _ _ _ _ _ _ (subst (Reached _ _ _) (sym c.len-number.ensures.count) c.loop-tree.invariant.reached) c.in_err-read_next.ensures.fault c.in_err-read_next.ensures.header)
 
 pub loop-tree-preserved : goal.loop-tree-preserved
 loop-tree-preserved g c = record {

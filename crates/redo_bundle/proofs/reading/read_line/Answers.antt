@@ -2,8 +2,17 @@ use Rattle.std.proofs.Common.{arith, ◌≡◌, ◌++◌, ◌∷◌, [], take, s
 use Rattle.std.proofs.lemmas.Grind.{common_steps}
 use Rattle.std.specs.List.{list_any, position_or_len}
 use Rattle.redo_bundle.specs.Bundle.{is_newline}
-use Rattle.redo_bundle.proofs.LineLemmas.{came-more, line_too_long, any-append, none_before, upto_newline}
+use Rattle.redo_bundle.proofs.LineLemmas.{came-more, line_too_long, any-append, none_before, shows_beginning, shows_rest, upto_newline}
 use Rattle.redo_bundle.proofs.reading.read_line.Goals as goal
+
+pub returns-then-not-branch-clause-header : goal.returns-then-not-branch-clause-header
+returns-then-not-branch-clause-header g c =
+    let end = c.in_ok-fill.ensures.end (grind (arith, common_steps)) in
+    shows_rest _ _ _ c.fill.new.self _ c.loop-held.invariant.came c.in_ok-fill.ensures.bytes end.0 end.1 c.loop-held.invariant.line.one
+
+pub returns-then-end-len-clause-header : goal.returns-then-end-len-clause-header
+returns-then-end-len-clause-header g c =
+    shows_beginning _ _ _ c.fill.new.self _ c.loop-held.invariant.came c.in_ok-fill.ensures.bytes c.loop-held.invariant.line.one (let e = c.line_end-end.ensures in grind (arith, common_steps))
 
 pub returns-then-end-len-clause-fault : goal.returns-then-end-len-clause-fault
 returns-then-end-len-clause-fault g c =

@@ -6,6 +6,7 @@ use Rattle.std.specs.Str.{bytes_eq}
 use Rattle.std.specs.Io.KnownBytes.{prepend_known}
 use Rattle.redo_bundle.specs.Bundle.{entry_fault}
 use Rattle.redo_bundle.specs.inside.Steps.{Refuses}
+use Rattle.redo_bundle.proofs.LineLemmas.{shows, shows_line}
 use Rattle.redo_bundle.proofs.TurnLemmas.{behind_end, behind_line}
 use Rattle.redo_bundle.proofs.reading.read_next.Goals as goal
 
@@ -21,3 +22,11 @@ returns-in_err-read_entry-clause-fault g c =
     let other : bytes_eq line (codes "end") ≡ false = grind (arith, common_steps) in
     let p = err_from_is_err_and c.from_residual-in_err-read_entry.result c.from_residual-in_err-read_entry.ensures.1 in
     rw (p.1, p.2) (behind_line _ c.args.number c.args.tree.now line _ _ c.in_ok-read_line.ensures.line other c.in_ok-read_line.ensures.bytes (subst (λ l. Refuses {A = Unit {0}} (Err c.in_err-read_entry.field-0.0) (prepend_known c.read_line.new.held (g.R.ByteIn.left c.read_line.new.reader)) (entry_fault c.args.number c.args.tree.now l)) c.deref.ensures.value c.in_err-read_entry.ensures.fault))
+
+pub returns-then-branch-clause-header : goal.returns-then-branch-clause-header
+returns-then-branch-clause-header g c = shows_line _ _ c.read_line.new.line.items c.in_ok-read_line.ensures.line c.in_ok-read_line.ensures.bytes
+
+pub returns-in_err-read_entry-clause-header : goal.returns-in_err-read_entry-clause-header
+returns-in_err-read_entry-clause-header g c =
+    let p = err_from_is_err_and c.from_residual-in_err-read_entry.result c.from_residual-in_err-read_entry.ensures.1 in
+    rw p.1 (shows _ _ c.read_line.new.line.items (shows_line _ _ c.read_line.new.line.items c.in_ok-read_line.ensures.line c.in_ok-read_line.ensures.bytes))
