@@ -29,3 +29,4 @@ pub mod StatementLemmas
 pub mod StopTokenLemmas
 pub mod TableLemmas
 pub mod WholeScriptLemmas
+pub mod WholeTextLemmas

@@ -2,8 +2,9 @@
 use Rattle.std.specs.Prelude.{◌≡◌, ◌⊎◌, ℕ, true, false, List, ◌∷◌, ◌++◌}
 use Rattle.redo_script.specs.declared.fault.ScriptFault.{ScriptFault}
 use Rattle.redo_script.specs.declared.fault.Reason.TheVariants as reasons
+use Rattle.redo_script.specs.Syntax.{Script}
 use Rattle.redo_script.specs.Tokens.{Token, AreTokens}
-use Rattle.redo_script.specs.Texts.{has_no_nul, interpreter_is_fit}
+use Rattle.redo_script.specs.Texts.{IsScript, has_no_nul, interpreter_is_fit}
 use Rattle.redo_script.specs.Places.{line_from, StopsAtByte, StopsAtEnd}
 use Rattle.redo_script.specs.Refusals.{in_line, FaultStands}
 
@@ -26,3 +27,7 @@ pub data IsRefused : List ℕ → ScriptFault → Type 0 where
   by_commands : {text : List ℕ} {ts : List Token} {fault : ScriptFault} →
       has_no_nul text ≡ true → interpreter_is_fit text ≡ true → AreTokens text ts → FaultStands ts fault →
       IsRefused text fault
+
+-- the text is a script, or has a fault
+abbrev pub IsScriptOrRefused : List ℕ → Type 0
+IsScriptOrRefused text = ((script : Script) × IsScript text script) ⊎ ((fault : ScriptFault) × IsRefused text fault)

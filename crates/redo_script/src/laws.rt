@@ -10,7 +10,7 @@ ghost use Rattle.redo_script.specs.Syntax.{Script};
 ghost use Rattle.redo_script.specs.Grammar.{IsProgram};
 ghost use Rattle.redo_script.specs.Parsing.{statements_of};
 ghost use Rattle.redo_script.specs.Refusals.{FaultStands};
-ghost use Rattle.redo_script.specs.Refused.{IsRefused};
+ghost use Rattle.redo_script.specs.Refused.{IsRefused, IsScriptOrRefused};
 ghost use Rattle.redo_script.specs.Texts.{IsScript, script_in};
 
 /// Bytes that have tokens by the grammar are read as these.
@@ -69,7 +69,29 @@ pub fn faults_of_the_table_are_answered()
     ensures { (ts : List Token) (fault : ScriptFault) → FaultStands ts fault → statements_of ts ≡ Err fault }
 {}
 
-/// A text that has a fault is refused with it, and so it has at most one.
+/// A text that has a fault by the tables is refused with it.
 pub fn faults_of_texts_are_answered()
     ensures { (text : List ℕ) (fault : ScriptFault) → IsRefused text fault → script_in text ≡ Err fault }
+{}
+
+/// A text that is refused has this fault by the tables.
+pub fn refused_texts_have_their_fault()
+    ensures { (text : List ℕ) (fault : ScriptFault) → script_in text ≡ Err fault → IsRefused text fault }
+{}
+
+/// A text is a script by the grammar, or it has a fault by the tables.
+pub fn each_text_is_a_script_or_refused()
+    ensures { (text : List ℕ) → IsScriptOrRefused text }
+{}
+
+/// A script has no fault.
+pub fn a_script_has_no_fault()
+    ensures { (text : List ℕ) (script : Script) (fault : ScriptFault) →
+        IsScript text script → IsRefused text fault → ⊥ }
+{}
+
+/// A text has at most one fault.
+pub fn a_text_has_one_fault()
+    ensures { (text : List ℕ) (fault other : ScriptFault) →
+        IsRefused text fault → IsRefused text other → fault ≡ other }
 {}
