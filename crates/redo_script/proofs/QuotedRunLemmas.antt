@@ -12,7 +12,8 @@ use Rattle.redo_script.specs.declared.ast.Parameter.{Parameter}
 use Rattle.redo_script.specs.declared.fault.ScriptFault.{ScriptFault}
 use Rattle.redo_script.specs.Syntax.{byte, quoted}
 use Rattle.redo_script.specs.Tokens.{is_escaped, line_after, begins_word}
-use Rattle.redo_script.specs.Reading.{Reader, read_on, parameter_named, with_symbols}
+use Rattle.redo_script.specs.Reading.{Reader, read_on, parameter_named}
+use Rattle.redo_script.specs.inside.Calls.{with_symbols}
 use Rattle.redo_script.specs.inside.Runs.{is_special, is_quote, all_quotable, ends_plainly}
 use Rattle.redo_script.specs.inside.Lexer.{with_quoted}
 use Rattle.redo_script.proofs.BitLemmas.{injected}

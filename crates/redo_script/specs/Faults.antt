@@ -26,8 +26,3 @@ Fails fault read = (fault ≡ no_memory) ⊎ (read ≡ Err fault)
 abbrev pub Gives : {X Y : Type 0} → (X → Y) → Result X ScriptFault → Result Y ScriptFault → Type 0
 Gives view (Ok x) read = read ≡ Ok (view x)
 Gives view (Err e) read = Fails e read
-
--- What a call left, seen by view, is what reading says, where the call reports no fault.
-abbrev pub Leaves : {U X Y : Type 0} → (X → Y) → X → Result U ScriptFault → Result Y ScriptFault → Type 0
-Leaves view new (Ok u) read = read ≡ Ok (view new)
-Leaves view new (Err e) read = Fails e read

@@ -176,11 +176,6 @@ option_condition (Some c) = elim c [
   | exit n ↦ None
 ]
 
--- a condition without operands
-abbrev pub alone : Condition → List Item → Option Condition
-alone c [] = Some c
-alone c (i ∷ items) = None
-
 -- the condition of this name and operands; none where they aren't of the form of one
 abbrev pub condition_form : Item → List Item → Option Condition
 condition_form name items = option_condition (bare_form name items)

@@ -56,10 +56,6 @@ with_token r t = record r { mode = modes.Gap; tokens = r.tokens ++ t ∷ [] }
 abbrev pub with_symbol : Reader → Mode → Symbol → Reader
 with_symbol r m s = record r { mode = m; word = r.word ++ s ∷ [] }
 
--- more symbols of the word
-abbrev pub with_symbols : Reader → Mode → Word → Reader
-with_symbols r m w = record r { mode = m; word = r.word ++ w }
-
 -- no word is begun
 abbrev pub with_no_word : Reader → Reader
 with_no_word r = record r { word = [] }

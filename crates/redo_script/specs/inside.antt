@@ -1,3 +1,4 @@
+pub mod Calls
 pub mod Lexer
 pub mod Parser
 pub mod Passes

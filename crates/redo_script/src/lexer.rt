@@ -3,14 +3,15 @@
 mod runs;
 
 ghost use Rattle.std.specs.Prelude.{◌≡◌, ◌+◌, ◌<◌, ◌≤◌, ◌^◌, map, Ok, OnOk, IfOk, IfErr, []};
-ghost use Rattle.redo_script.specs.Faults.{Gives, Leaves, fault_at, no_memory};
+ghost use Rattle.redo_script.specs.Faults.{Gives, fault_at, no_memory};
+ghost use Rattle.redo_script.specs.inside.Calls.{Leaves, with_symbols};
 ghost use Rattle.redo_script.specs.Syntax.{byte as byte_symbol, named_bare, named_quoted};
 ghost use Rattle.redo_script.specs.View.{symbols_of_part};
 ghost use Rattle.redo_script.specs.Reading.{next_byte, at_end, at_start, in_word, gap_byte, word_byte};
 ghost use Rattle.redo_script.specs.Reading.{in_single, in_double, after_backslash, after_dollar};
 ghost use Rattle.redo_script.specs.Reading.{after_quoted_dollar, after_redirect, parameter_named, with_name};
 ghost use Rattle.redo_script.specs.Reading.{with_name_byte, in_name, in_quoted_name};
-ghost use Rattle.redo_script.specs.Reading.{with_word, with_token, with_symbol, with_symbols, with_quote};
+ghost use Rattle.redo_script.specs.Reading.{with_word, with_token, with_symbol, with_quote};
 ghost use Rattle.redo_script.specs.Reading.{with_begun_word};
 ghost use Rattle.redo_script.specs.declared.fault.Reason.TheVariants as reasons;
 ghost use Rattle.redo_script.specs.declared.lexer.Mode.TheVariants as modes;

@@ -1,7 +1,8 @@
 //! A command as far as it was read.
 
 ghost use Rattle.std.specs.Prelude.{◌≡◌, Ok, [], map, option_map};
-ghost use Rattle.redo_script.specs.Faults.{Gives, Leaves};
+ghost use Rattle.redo_script.specs.Faults.{Gives};
+ghost use Rattle.redo_script.specs.inside.Calls.{Leaves};
 ghost use Rattle.redo_script.specs.Parsing.{begin_command, with_word, with_redirect, is_unfinished};
 ghost use Rattle.redo_script.specs.Grammar.{knows, knows_items};
 ghost use Rattle.redo_script.specs.Parsing.{ended_command, ended_condition, names_in};

@@ -1,9 +1,9 @@
 //! From bytes to tokens, many bytes at once: words that stand in the text as they are, and bytes that are alike.
 
 ghost use Rattle.std.specs.Prelude.{◌≡◌, ◌+◌, ◌<◌, ◌≤◌, ◌^◌, map, Ok, OnOk, IfOk, ◌∷◌, ◌⊎◌, length};
-ghost use Rattle.redo_script.specs.Faults.{Leaves};
+ghost use Rattle.redo_script.specs.inside.Calls.{Leaves, with_symbols};
 ghost use Rattle.redo_script.specs.Syntax.{byte as byte_symbol};
-ghost use Rattle.redo_script.specs.Reading.{read_on, with_symbols};
+ghost use Rattle.redo_script.specs.Reading.{read_on};
 ghost use Rattle.redo_script.specs.declared.lexer.Mode.TheVariants as modes;
 ghost use Rattle.redo_script.specs.inside.Runs.{ReadsOn};
 ghost use Rattle.redo_script.specs.inside.Lexer.{reader_of};
