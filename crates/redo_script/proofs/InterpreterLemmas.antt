@@ -2,7 +2,7 @@
 use Rattle.std.proofs.Common.{◌≡◌, ◌≢◌, ℕ, true, false, ◌&&◌, ◌==◌, List, [], ◌∷◌, ◌++◌, refl, inl, inr}
 use Rattle.std.specs.Prelude.{codes}
 use Rattle.std.proofs.lemmas.Bool.{cases_Bool, eqb-true, and_parts, both_ways}
-use Rattle.redo_script.specs.Bytes.{same_bytes}
+use Rattle.std.specs.Str.{bytes_eq}
 use Rattle.redo_script.specs.Texts.{first_line, interpreter_is_fit}
 
 pub no_interpreter : (text : List ℕ) → ((rest : List ℕ) → text ≢ codes "#!" ++ rest) → interpreter_is_fit text ≡ true
@@ -17,13 +17,13 @@ no_interpreter (a ∷ b ∷ bs) h = elim (cases_Bool ((a == 35) && (b == 33))) [
   | inr e ↦ rw e refl
 ]
 
-line_begins : (text p : List ℕ) → same_bytes (first_line text) p ≡ true → (rest : List ℕ) × (text ≡ p ++ rest)
+line_begins : (text p : List ℕ) → bytes_eq (first_line text) p ≡ true → (rest : List ℕ) × (text ≡ p ++ rest)
 line_begins text [] h = (text, refl)
 line_begins [] (c ∷ p) h = absurd (both_ways false refl h)
 line_begins (b ∷ bs) (c ∷ p) h = elim (cases_Bool (b == 10)) [
   | inl e ↦ absurd (both_ways false refl (rw e at h))
   | inr e ↦
-      let q = and_parts (b == c) (same_bytes (first_line bs) p) (rw e at h) in
+      let q = and_parts (b == c) (bytes_eq (first_line bs) p) (rw e at h) in
       let same : b ≡ c = eqb-true b c q.0 in
       let on = line_begins bs p q.1 in
       let others : bs ≡ p ++ on.0 = on.1 in
@@ -31,7 +31,7 @@ line_begins (b ∷ bs) (c ∷ p) h = elim (cases_Bool (b == 10)) [
 ]
 
 pub other_interpreter : (rest : List ℕ) → ((more : List ℕ) → rest ≢ codes "/bin/sh -e" ++ more) → interpreter_is_fit (codes "#!" ++ rest) ≡ false
-other_interpreter rest h = elim (cases_Bool (same_bytes (first_line rest) (codes "/bin/sh -e"))) [
+other_interpreter rest h = elim (cases_Bool (bytes_eq (first_line rest) (codes "/bin/sh -e"))) [
   | inl e ↦ let on = line_begins rest (codes "/bin/sh -e") e in absurd (h on.0 on.1)
   | inr e ↦ e
 ]

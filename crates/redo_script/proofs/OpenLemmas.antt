@@ -1,18 +1,11 @@
 -- What is open, as the code counts it and as contracts see it.
-use Rattle.std.proofs.Common.{◌≡◌, ℕ, suc, ◌+◌, ◌≤◌, ◌==◌, ◌&&◌, Bool, true, false, ◌||◌, List, [], ◌∷◌, length, refl, sym, ap, ◌∙◌, arith}
-use lib.Pointwise.{pointwise}
+use Rattle.std.proofs.Common.{◌≡◌, ℕ, suc, ◌+◌, ◌≤◌, Bool, true, false, ◌||◌, List, [], ◌∷◌, length, refl, ◌∙◌, arith}
+use Rattle.std.specs.Str.{bytes_eq}
 use Rattle.redo_script.specs.declared.open.Open.{Open as OpenTree}
 use Rattle.redo_script.specs.declared.open.Open.TheVariants as trees
-use Rattle.redo_script.specs.Bytes.{same_bytes}
 use Rattle.redo_script.specs.Grammar.{is_bound}
 use Rattle.redo_script.specs.Parsing.{Open, ifs_in, names_in}
 use Rattle.redo_script.specs.inside.Parser.{open_of, stack_onto, ifs_among, loops_among, bound_among}
-
-pub same_pointwise : (a b : List ℕ) → pointwise (◌==◌) a b ≡ same_bytes a b
-same_pointwise [] [] = refl
-same_pointwise [] (y ∷ b) = refl
-same_pointwise (x ∷ a) [] = refl
-same_pointwise (x ∷ a) (y ∷ b) = ap (λ r. (x == y) && r) (same_pointwise a b)
 
 ifs_onto : (os : List Open) (xs : List OpenTree) → ifs_in (stack_onto os xs) ≡ ifs_among xs + ifs_in os
 ifs_onto os [] = omega arith
@@ -53,7 +46,7 @@ or_none false = refl
 bound_onto : (name : List ℕ) (os : List Open) (xs : List OpenTree) → is_bound (names_in (stack_onto os xs)) name ≡ (bound_among name xs || is_bound (names_in os) name)
 bound_onto name os [] = refl
 bound_onto name os (trees.If o ∷ xs) = bound_onto name (open_of (trees.If o) ∷ os) xs
-bound_onto name os (trees.Loop o ∷ xs) = bound_onto name (open_of (trees.Loop o) ∷ os) xs ∙ or_either (same_bytes o.name name) (bound_among name xs) (is_bound (names_in os) name)
+bound_onto name os (trees.Loop o ∷ xs) = bound_onto name (open_of (trees.Loop o) ∷ os) xs ∙ or_either (bytes_eq o.name name) (bound_among name xs) (is_bound (names_in os) name)
 
 pub bound_are : (name : List ℕ) (xs : List OpenTree) → is_bound (names_in (stack_onto [] xs)) name ≡ bound_among name xs
 bound_are name xs = bound_onto name [] xs ∙ or_none (bound_among name xs)

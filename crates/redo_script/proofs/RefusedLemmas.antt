@@ -1,6 +1,6 @@
 -- Tokens that are no program have the fault of the table.
 use Rattle.std.proofs.Common.{◌≡◌, ℕ, ◌<◌, Bool, true, false, List, [], ◌∷◌, ◌++◌, length, Option, Some, None, Result, Ok}
-use Rattle.std.proofs.Common.{Err, refl, sym, ap, ◌∙◌, subst, inl, inr}
+use Rattle.std.proofs.Common.{Err, refl, sym, ◌∙◌, subst, inl, inr}
 use Rattle.std.specs.Prelude.{codes, nat_lt}
 use Rattle.std.specs.Option.{is_some}
 use Rattle.std.proofs.lemmas.Bool.{cases_Bool, both_ways, ltb-true, ltb-false}
@@ -31,7 +31,7 @@ use Rattle.redo_script.specs.Refusals.{unknown, no_form, unbound, FaultStands}
 use Rattle.redo_script.specs.Refusals as refusals
 use Rattle.redo_script.proofs.BitLemmas.{never}
 use Rattle.redo_script.proofs.NameLemmas.{item, none_some}
-use Rattle.redo_script.proofs.OneTokenLemmas.{in_place, else_read, command_begins, word_taken}
+use Rattle.redo_script.proofs.OneTokenLemmas.{in_place, else_read, command_begins}
 use Rattle.redo_script.proofs.PartialCommandLemmas.{IsPartial, begins, goes_word, goes_redirect, ends_well, EndsTest}
 use Rattle.redo_script.proofs.PartialCommandLemmas.{ends_test, ends_ill, test_ill}
 use Rattle.redo_script.proofs.FoundScriptLemmas.{if_opens, if_too_deep, for_opens, for_too_deep, then_out, do_out}

@@ -1,5 +1,5 @@
 -- Tokens that have a fault of the table are refused with it.
-use Rattle.std.proofs.Common.{◌≡◌, ℕ, ◌<◌, ◌≤◌, Bool, true, false, ◌&&◌, List, [], ◌∷◌, length, Option, Some, None}
+use Rattle.std.proofs.Common.{◌≡◌, ℕ, ◌<◌, ◌≤◌, Bool, true, false, List, [], ◌∷◌, length, Option, Some, None}
 use Rattle.std.proofs.Common.{Result, Ok, Err, refl, sym, ap, ◌∙◌, subst, inl, inr, map}
 use Rattle.std.specs.Prelude.{codes}
 use Rattle.std.specs.Option.{is_some}
@@ -16,7 +16,7 @@ use Rattle.redo_script.specs.Parsing.{open_loop, opening_of, openings, ifs_in, n
 use Rattle.redo_script.specs.Parsing.{words_outside, loop_words, if_words, is_unfinished, no_redirection, ended_command}
 use Rattle.redo_script.specs.Parsing.{ended_condition, unless_open, parse_on, statements_of}
 use Rattle.redo_script.specs.Refusals.{IsPart, bare, full, IsOpened, to_then, to_else, to_do, IsPlace, outside, inside}
-use Rattle.redo_script.specs.Refusals.{in_line, conditions, AtOneOf, IsNoThen, IsNoDo, IsNoName, line_of, MayElse, MayFi}
+use Rattle.redo_script.specs.Refusals.{conditions, AtOneOf, IsNoThen, IsNoDo, IsNoName, line_of, MayElse, MayFi}
 use Rattle.redo_script.specs.Refusals.{MayDone, fault_inside, HasCondition, a_condition, some_words, IsWrong, a_separator}
 use Rattle.redo_script.specs.Refusals.{a_redirection, too_deep, no_condition, loop_behind_if, no_test, unbound_test}
 use Rattle.redo_script.specs.Refusals.{no_then, loop_before_then, ends_before_then, then_alone, no_else_here}

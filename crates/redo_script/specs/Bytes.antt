@@ -70,13 +70,6 @@ is_plain b = is_letter b || is_digit b || is_among (codes "_-./+,:=@%!") b
 abbrev pub is_blank : ℕ → Bool
 is_blank b = (b == space) || (b == tab)
 
--- the two are the same bytes
-abbrev pub same_bytes : List ℕ → List ℕ → Bool
-same_bytes [] [] = true
-same_bytes [] (b ∷ bs) = false
-same_bytes (a ∷ x) [] = false
-same_bytes (a ∷ x) (b ∷ bs) = (a == b) && same_bytes x bs
-
 -- every byte is one that a name goes on with
 abbrev pub all_continue : List ℕ → Bool
 all_continue [] = true

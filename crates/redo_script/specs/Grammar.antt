@@ -1,7 +1,8 @@
 -- The statements of a list of tokens, as a relation by cases.
 use Rattle.std.specs.Prelude.{◌≡◌, ℕ, suc, ◌+◌, ◌-◌, ◌*◌, ◌<◌, Bool, true, false, ◌&&◌, ◌||◌, ◌==◌, nat_le}
 use Rattle.std.specs.Prelude.{if◌then◌else◌, List, [], ◌∷◌, ◌++◌, length, map, Option, Some, None, is_none, codes}
-use Rattle.redo_script.specs.Bytes.{is_digit, same_bytes, is_name}
+use Rattle.std.specs.Str.{bytes_eq}
+use Rattle.redo_script.specs.Bytes.{is_digit, is_name}
 use Rattle.redo_script.specs.Syntax.{byte, quoted, bare, named_quoted, named_bare, Word, Redirection}
 use Rattle.redo_script.specs.Syntax.{Test, is_file, equal, differ, echo, printf, cat, Command, write, test, change}
 use Rattle.redo_script.specs.Syntax.{create, always, always_true, always_false, exit}
@@ -53,7 +54,7 @@ name_of item = if item.is_plain then as_name (literal_on [] item.word) else None
 -- one of these names
 abbrev pub is_bound : List (List ℕ) → List ℕ → Bool
 is_bound [] name = false
-is_bound (n ∷ names) name = same_bytes n name || is_bound names name
+is_bound (n ∷ names) name = bytes_eq n name || is_bound names name
 
 -- each name in the word is one of these
 abbrev pub knows_word : List (List ℕ) → Word → Bool

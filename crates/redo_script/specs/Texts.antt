@@ -1,9 +1,9 @@
 -- The script of a whole text, and the fault of a text that has none.
 use Rattle.std.specs.Prelude.{◌≡◌, ℕ, Bool, true, false, ◌&&◌, ◌==◌, if◌then◌else◌, List, [], ◌∷◌, Result, Ok, codes}
+use Rattle.std.specs.Str.{bytes_eq}
 use Rattle.redo_script.specs.declared.fault.ScriptFault.{ScriptFault}
 use Rattle.redo_script.specs.declared.fault.Reason.TheVariants as reasons
 use Rattle.redo_script.specs.Bytes as bytes
-use Rattle.redo_script.specs.Bytes.{same_bytes}
 use Rattle.redo_script.specs.Faults.{◌>>=◌, fault_at}
 use Rattle.redo_script.specs.Syntax.{Script}
 use Rattle.redo_script.specs.Tokens.{Token, AreTokens, line_after}
@@ -24,7 +24,7 @@ begins_interpreter (a ∷ b ∷ bs) = (a == bytes.hash) && (b == bytes.bang)
 
 -- an interpreter line, where the text begins with one, is exactly this one
 abbrev pub interpreter_is_fit : List ℕ → Bool
-interpreter_is_fit text = if begins_interpreter text then same_bytes (first_line text) (codes "#!/bin/sh -e") else true
+interpreter_is_fit text = if begins_interpreter text then bytes_eq (first_line text) (codes "#!/bin/sh -e") else true
 
 -- no byte is 0
 abbrev pub has_no_nul : List ℕ → Bool

@@ -1,7 +1,7 @@
 //! Ifs and loops that are open where reading stands.
 
 ghost use Rattle.std.specs.Prelude.{◌≡◌, List, [], ◌∷◌, Err, length};
-ghost use Rattle.redo_script.specs.Bytes.{same_bytes};
+ghost use Rattle.std.specs.Str.{bytes_eq};
 ghost use Rattle.redo_script.specs.Grammar.{is_bound};
 ghost use Rattle.redo_script.specs.Parsing.{Open as OpenTree, ifs_in, names_in, unless_open};
 ghost use Rattle.redo_script.specs.Syntax.{Script as ScriptTree};
@@ -85,9 +85,8 @@ pub fn count_loops(opens: &[Open]) -> usize
     count
 }
 
-#[tactic(auto, using(crate::proofs::OpenLemmas::same_pointwise))]
 fn is_same(name: &[u8], other: &[u8]) -> bool
-    ensures { result ≡ same_bytes name.now other.now }
+    ensures { result ≡ bytes_eq name.now other.now }
 {
     name == other
 }

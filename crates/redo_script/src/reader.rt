@@ -1,12 +1,12 @@
 //! From a whole text to its tree.
 
 ghost use Rattle.std.specs.Prelude.{◌≡◌, ◌≢◌, [], IfOk, IfErr, Ok, not};
+ghost use Rattle.std.specs.Str.{bytes_eq};
 ghost use Rattle.redo_script.specs.Faults.{Gives, no_memory};
 ghost use Rattle.redo_script.specs.declared.fault.Reason.TheVariants as reasons;
 ghost use Rattle.redo_script.specs.inside.Passes.{script_by_tokens};
 ghost use Rattle.redo_script.specs.Syntax.{Script as ScriptTree};
 ghost use Rattle.redo_script.specs.View.{script_of};
-ghost use Rattle.redo_script.specs.Bytes.{same_bytes};
 ghost use Rattle.redo_script.specs.Texts.{IsScript, has_no_nul, first_line, nul_from, interpreter_is_fit};
 ghost use Rattle.redo_script.specs.Texts.{script_in};
 ghost use Rattle.redo_script.specs.Refused.{IsRefused};
@@ -55,7 +55,7 @@ fn refuse_nul(text: &[u8]) -> Result<(), ScriptFault>
 
 /// Whether a line ends before these bytes.
 fn is_line_end(rest: &[u8]) -> bool
-    ensures { result ≡ same_bytes (first_line rest.now) [] }
+    ensures { result ≡ bytes_eq (first_line rest.now) [] }
 {
     matches!(rest, [] | [b'\n', ..])
 }

@@ -1,7 +1,7 @@
 -- What contracts see of the reader of statements.
 use Rattle.std.specs.Prelude.{◌+◌, ℕ, Bool, true, false, ◌&&◌, ◌||◌, nat_le, if◌then◌else◌, length, List, [], ◌∷◌, map}
 use Rattle.std.specs.Prelude.{Option, None, option_map, codes}
-use Rattle.redo_script.specs.Bytes.{same_bytes}
+use Rattle.std.specs.Str.{bytes_eq}
 use Rattle.redo_script.specs.Syntax.{byte, Word}
 use Rattle.redo_script.specs.Grammar.{at_most, digits_value, Item}
 use Rattle.redo_script.specs.declared.item.Item.{Item as ItemTree}
@@ -118,4 +118,4 @@ loops_among (trees.Loop o ∷ xs) = loops_among xs + 1
 abbrev pub bound_among : List ℕ → List OpenTree → Bool
 bound_among name [] = false
 bound_among name (trees.If o ∷ xs) = bound_among name xs
-bound_among name (trees.Loop o ∷ xs) = same_bytes o.name name || bound_among name xs
+bound_among name (trees.Loop o ∷ xs) = bytes_eq o.name name || bound_among name xs
