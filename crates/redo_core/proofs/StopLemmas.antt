@@ -4,6 +4,7 @@ use Rattle.std.proofs.Common.{filter, bytes_eq, Result, Ok, Err, refl, sym, ap, 
 use Rattle.std.proofs.lemmas.Bool.{cases_Bool, both_ways}
 use Rattle.std.proofs.lemmas.List.Elements.{filter_map-append, filter-append}
 use Rattle.std.proofs.lemmas.Slice.Eq.{bytes_eq-Decides}
+use Rattle.std.specs.Cmp.Lexicographic.{nat_list_eq_equiv}
 use Rattle.redo_script.specs.Syntax.{Command, write, test, change, create, always, always_true, always_false, exit}
 use Rattle.redo_script.specs.Syntax.{Condition, Script, finish, simple, choice, loop}
 use Rattle.redo_record.specs.declared.deps.Dep.{Dep}
@@ -12,10 +13,10 @@ use Rattle.redo_record.specs.declared.deps.DepKind.TheVariants.{Change, Create, 
 use Rattle.redo_record.specs.declared.outcome.Why.TheVariants as why
 use Rattle.redo_record.specs.Answers.{Ask}
 use Rattle.redo_record.specs.Entries.{is_entered, with_entries}
-use Rattle.redo_record.specs.Paths.{Path}
+use Rattle.redo_record.specs.Paths.{Path, is_among, with_new, with_path}
 use Rattle.redo_record.specs.Progress.{changed as change_of, changes}
 use Rattle.redo_step.specs.Begins.{AreKnown, Begins}
-use Rattle.redo_step.specs.Declaring.{any_failed, changed, created, declaring, is_in, lacking, lacks, waited}
+use Rattle.redo_step.specs.Declaring.{any_failed, changed, created, declaring, lacking, lacks, waited}
 use Rattle.redo_step.specs.Reach.{Keeps}
 use Rattle.redo_step.specs.Runs.{State, End, exited, faulted, stopped, Run, goes, ends, end_state, start}
 use Rattle.redo_step.specs.Setting.{Setting, with_value}
@@ -41,18 +42,21 @@ lacked setting ask es = filter (lacks setting ask) (changes es)
 -- Lists
 
 module _ (f : Path → Bool) where
-  in-entry : (k : DepKind) (q : Path) (es : List Dep) (p : Path) → is_in (filter f (changes es)) p ≡ (f p && is_entered es Change p) →
-      is_in (filter f (changes (record { kind = k; path = q } ∷ es))) p ≡ (f p && is_entered (record { kind = k; path = q } ∷ es) Change p)
+  in-entry : (k : DepKind) (q : Path) (es : List Dep) (p : Path) → is_among (filter f (changes es)) p ≡ (f p && is_entered es Change p) →
+      is_among (filter f (changes (record { kind = k; path = q } ∷ es))) p ≡ (f p && is_entered (record { kind = k; path = q } ∷ es) Change p)
   in-entry Create q es p h = h
   in-entry Always q es p h = h
   in-entry Change q es p h = elim (cases_Bool (bytes_eq p q)) [
     | inl same ↦
         let is : p ≡ q = (bytes_eq-Decides p q).0 same in
+        let back : bytes_eq q p ≡ true = nat_list_eq_equiv.symm q p ∙ same in
         elim (cases_Bool (f q)) [
-          | inl t ↦ let own : f p ≡ true = ap f is ∙ t in rw (t, own, same) refl
+          | inl t ↦ let own : f p ≡ true = ap f is ∙ t in rw (t, own, same, back) refl
           | inr n ↦ let own : f p ≡ false = ap f is ∙ n in rw (n, own) (rw own at h)
         ]
-    | inr other ↦ elim (cases_Bool (f q)) [ inl t ↦ rw (t, other) h | inr n ↦ rw (n, other) h ]
+    | inr other ↦
+        let back : bytes_eq q p ≡ false = nat_list_eq_equiv.symm q p ∙ other in
+        elim (cases_Bool (f q)) [ inl t ↦ rw (t, other, back) h | inr n ↦ rw (n, other) h ]
   ]
 
   nothing-in : (b : Bool) → false ≡ (b && false)
@@ -60,7 +64,7 @@ module _ (f : Path → Bool) where
   nothing-in false = refl
 
   -- what passes of the change entries
-  pub in-passed : (es : List Dep) (p : Path) → is_in (filter f (changes es)) p ≡ (f p && is_entered es Change p)
+  pub in-passed : (es : List Dep) (p : Path) → is_among (filter f (changes es)) p ≡ (f p && is_entered es Change p)
   in-passed [] p = nothing-in (f p)
   in-passed (e ∷ es) p = in-entry e.kind e.path es p (in-passed es p)
 
@@ -70,7 +74,13 @@ module _ (f : Path → Bool) where
       ap (filter f) (filter_map-append (λ d. change_of d.kind d.path) es (record { kind = Change; path = p } ∷ [])) ∙
       filter-append f (changes es) (p ∷ [])
 
-none-in : (xs : List Path) → ((p : Path) → is_in xs p ≡ true → ⊥) → xs ≡ []
+path-kept : (found : List Path) (p : Path) → is_among found p ≡ true → with_path found p ≡ found
+path-kept found p h = ap (λ b. cond b found (found ++ p ∷ [])) h
+
+path-new : (found : List Path) (p : Path) → is_among found p ≡ false → with_path found p ≡ found ++ p ∷ []
+path-new found p h = ap (λ b. cond b found (found ++ p ∷ [])) h
+
+none-in : (xs : List Path) → ((p : Path) → is_among xs p ≡ true → ⊥) → xs ≡ []
 none-in [] h = refl
 none-in (x ∷ xs) h = let here : bytes_eq x x ≡ true = (bytes_eq-Decides x x).1 refl in absurd (h x (rw here refl))
 
@@ -88,23 +98,29 @@ module _ (setting : Setting) (ask : Ask) where
         ]
       ])
 
+  lacking-first : (found ps : List Path) (p : Path) → lacks setting ask p ≡ true → lacking setting ask found (p ∷ ps) ≡ lacking setting ask (with_path found p) ps
+  lacking-first found ps p t = ap (λ b. with_new found (cond b (p ∷ filter (lacks setting ask) ps) (filter (lacks setting ask) ps))) t
+
   -- the operands of a redo-ifchange that lack answers are what the entries lack behind it
   lacking-lacked : (found ps : List Path) (es : List Dep) → found ≡ lacked setting ask es → lacking setting ask found ps ≡ lacked setting ask (with_entries es Change ps)
   lacking-lacked found [] es h = h
   lacking-lacked found (p ∷ ps) es h =
       let f : Path → Bool = lacks setting ask in
-      let inside : is_in found p ≡ (f p && is_entered es Change p) = ap (λ xs. is_in xs p) h ∙ in-passed f es p in
+      let inside : is_among found p ≡ (f p && is_entered es Change p) = ap (λ xs. is_among xs p) h ∙ in-passed f es p in
       let last = passed-last f es p in
       elim (cases_Bool (is_entered es Change p)) [
         | inl there ↦ elim (cases_Bool (f p)) [
-          | inl t ↦ let old : is_in found p ≡ true = inside ∙ rw (t, there) refl in rw (t, old, there) (lacking-lacked found ps es h)
+          | inl t ↦ let old : is_among found p ≡ true = inside ∙ rw (t, there) refl in
+              let more : lacking setting ask found ps ≡ lacked setting ask (with_entries es Change (p ∷ ps)) = rw there (lacking-lacked found ps es h) in
+              lacking-first found ps p t ∙ ap (λ xs. lacking setting ask xs ps) (path-kept found p old) ∙ more
           | inr n ↦ rw (n, there) (lacking-lacked found ps es h)
         ]
         | inr absent ↦ elim (cases_Bool (f p)) [
           | inl t ↦
-              let new : is_in found p ≡ false = inside ∙ rw (t, absent) refl in
-              rw (t, new, absent) (lacking-lacked (found ++ p ∷ []) ps (es ++ record { kind = Change; path = p } ∷ [])
-              (ap (λ xs. xs ++ p ∷ []) h ∙ sym (last ∙ rw t refl)))
+              let new : is_among found p ≡ false = inside ∙ rw (t, absent) refl in
+              let more : lacking setting ask (found ++ p ∷ []) ps ≡ lacked setting ask (with_entries es Change (p ∷ ps)) = rw absent (lacking-lacked (found ++ p ∷ []) ps (es ++ record { kind = Change; path = p } ∷ [])
+              (ap (λ xs. xs ++ p ∷ []) h ∙ sym (last ∙ rw t refl))) in
+              lacking-first found ps p t ∙ ap (λ xs. lacking setting ask xs ps) (path-new found p new) ∙ more
           | inr n ↦ rw (n, absent) (lacking-lacked found ps (es ++ record { kind = Change; path = p } ∷ [])
               (h ∙ sym (last ∙ rw n (append-nil (lacked setting ask es)))))
         ]

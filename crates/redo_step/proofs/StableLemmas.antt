@@ -1,17 +1,18 @@
 -- What is known under an ask stays so under one that keeps its answers.
 use Rattle.std.proofs.Common.{◌≡◌, ℕ, Bool, true, false, ◌&&◌, cond, not, Option, Some, None, Result, Ok, Err, List, []}
 use Rattle.std.proofs.Common.{◌∷◌, ◌++◌, refl, subst}
+use Rattle.std.specs.List.{filter}
 use Rattle.std.specs.Prelude.{is_some, is_none}
 use Rattle.redo_script.specs.Syntax.{Word, Redirection, Test, is_file, equal, differ, Writer, echo, printf, cat}
 use Rattle.redo_script.specs.Syntax.{Condition, if_test, if_true, if_false}
 use Rattle.redo_record.specs.declared.deps.DepKind.TheVariants as kinds
 use Rattle.redo_record.specs.declared.outcome.Why.TheVariants as why
 use Rattle.redo_record.specs.declared.outcome.Outcome.{Outcome}
-use Rattle.redo_record.specs.Paths.{Path}
+use Rattle.redo_record.specs.Paths.{Path, is_among, with_new, with_path}
 use Rattle.redo_step.specs.Setting.{Setting}
 use Rattle.redo_step.specs.Runs.{State, End, exited, faulted, goes, ends, ◌>>=◌, or_else}
 use Rattle.redo_step.specs.Words.{path_of}
-use Rattle.redo_step.specs.Declaring.{declaring, lacks, is_in, lacking, any_failed, waited, changed}
+use Rattle.redo_step.specs.Declaring.{declaring, lacks, lacking, any_failed, waited, changed}
 use Rattle.redo_step.specs.Files.{answered_file, file_at, is_declared, file_of, contents_of, test_texts, holds}
 use Rattle.redo_step.specs.Files.{tested}
 use Rattle.redo_step.specs.Outputs.{writer_texts, bytes_of, goal_of, put, written}
@@ -95,15 +96,19 @@ not_nil : (found : List Path) (p : Path) → found ++ (p ∷ []) ≡ [] → ⊥
 not_nil [] p e = cc
 not_nil (q ∷ qs) p e = cc
 
+path_there : (found : List Path) (p : Path) → with_path found p ≡ [] → ⊥
+path_there found p e =
+    (elim (is_among found p) as (λ (u : Bool). is_among found p ≡ u → cond u found (found ++ p ∷ []) ≡ [] → ⊥) [
+      | false ↦ λ i g. not_nil found p g
+      | true ↦ λ i g. let none : is_among found p ≡ false = rw g refl in cc
+    ]) refl e
+
 pub lacking-nil : (setting : Setting) (ask : Ask) (found ps : List Path) → lacking setting ask found ps ≡ [] → (found ≡ []) × AllAnswered setting ask ps
 lacking-nil setting ask found [] e = (e, tt)
 lacking-nil setting ask found (p ∷ ps) e =
-    (elim (lacks setting ask p) as (λ (v : Bool). lacks setting ask p ≡ v → cond (v && not (is_in found p)) (lacking setting ask (found ++ p ∷ []) ps) (lacking setting ask found ps) ≡ [] → (found ≡ []) × AllAnswered setting ask (p ∷ ps)) [
+    (elim (lacks setting ask p) as (λ (v : Bool). lacks setting ask p ≡ v → with_new found (cond v (p ∷ filter (lacks setting ask) ps) (filter (lacks setting ask) ps)) ≡ [] → (found ≡ []) × AllAnswered setting ask (p ∷ ps)) [
       | false ↦ λ l g. let rest = lacking-nil setting ask found ps g in (rest.0, (l, rest.1))
-      | true ↦ λ l. (elim (is_in found p) as (λ (u : Bool). is_in found p ≡ u → cond (not u) (lacking setting ask (found ++ p ∷ []) ps) (lacking setting ask found ps) ≡ [] → (found ≡ []) × AllAnswered setting ask (p ∷ ps)) [
-        | false ↦ λ i g. absurd (not_nil found p (lacking-nil setting ask (found ++ p ∷ []) ps g).0)
-        | true ↦ λ i g. let rest = lacking-nil setting ask found ps g in let none : is_in found p ≡ false = rw rest.0 refl in absurd cc
-      ]) refl
+      | true ↦ λ l g. absurd (path_there found p (lacking-nil setting ask (with_path found p) ps g).0)
     ]) refl e
 
 pub lacking-answered : (setting : Setting) (ask : Ask) (found ps : List Path) → AllAnswered setting ask ps → lacking setting ask found ps ≡ found

@@ -3,11 +3,10 @@ use Rattle.std.proofs.Common.{◌≡◌, ℕ, suc, ◌+◌, ◌<◌, Bool, true,
 use Rattle.std.proofs.Common.{◌++◌, length, drop, get_or, Result, Ok, Err, refl, sym, ap, ◌∙◌, add-one}
 use Rattle.std.specs.Prelude.{is_none, Some, IfSome}
 use Rattle.std.proofs.Math.Seq.{drop-cons}
-use Rattle.std.specs.Cmp.Lexicographic.{nat_list_eq_equiv}
+use Rattle.std.specs.List.{filter}
 use Rattle.redo_record.specs.declared.deps.DepKind.TheVariants as kinds
 use Rattle.redo_step.specs.declared.halt.Halt.{Halt}
-use Rattle.redo_names.specs.Paths.{with_path}
-use Rattle.redo_record.specs.Paths.{Path, is_among}
+use Rattle.redo_record.specs.Paths.{Path, with_new, with_path}
 use Rattle.redo_script.specs.Syntax.{Word, Command, change}
 use Rattle.redo_step.specs.declared.halt.Halt.TheVariants as stops
 use Rattle.redo_step.specs.declared.wait.Waiting.{Waiting}
@@ -16,7 +15,7 @@ use Rattle.redo_step.specs.inside.Kept.{HasOperands}
 use Rattle.redo_record.proofs.EntryLemmas.{with_entries-again}
 use Rattle.redo_step.specs.Setting.{Setting}
 use Rattle.redo_step.specs.Runs.{State, End, stopped, ends}
-use Rattle.redo_step.specs.Declaring.{declaring, is_in, lacking, any_failed, waited, changed}
+use Rattle.redo_step.specs.Declaring.{declaring, lacking, lacks, any_failed, waited, changed}
 use Rattle.redo_step.specs.Words.{operands_of}
 use Rattle.redo_step.specs.Statements.{command_run}
 use Rattle.redo_record.specs.Answers.{Ask, is_failure}
@@ -27,11 +26,14 @@ abbrev pub KeptOnStop : {X : Type 0} → Waiting → Result X Halt → Type 0
 KeptOnStop w result = (s : State) (ps : List Path) → run_by result s ≡ Some (ends (stopped ps) s) → kept_by result ≡ Some w
 
 module _ (setting : Setting) (ask : Ask) where
+  filtered : (ps : List Path) → filter (lacks setting ask) ps ≡ filter (λ p. is_none (ask p)) (targets_in setting ps)
+  filtered [] = refl
+  filtered (p ∷ ps) =
+      elim (is_none (setting.source p)) as (λ (v : Bool). cond (v && is_none (ask p)) (p ∷ filter (lacks setting ask) ps) (filter (lacks setting ask) ps) ≡ filter (λ p. is_none (ask p)) (cond v (p ∷ targets_in setting ps) (targets_in setting ps)))
+      [ true ↦ (λ i. cond (is_none (ask p)) (p ∷ filtered ps i) (filtered ps i)) | false ↦ filtered ps ]
+
   pub lacking_is : (found ps : List Path) → lacking setting ask found ps ≡ unanswered ask found (targets_in setting ps)
-  lacking_is found [] = refl
-  lacking_is found (p ∷ ps) =
-      elim (is_none (setting.source p)) as (λ (v : Bool). cond ((v && is_none (ask p)) && not (is_in found p)) (lacking setting ask (found ++ p ∷ []) ps) (lacking setting ask found ps) ≡ unanswered ask found (cond v (p ∷ targets_in setting ps) (targets_in setting ps)))
-      [ true ↦ rw (lacking_is (found ++ p ∷ []) ps, lacking_is found ps) refl | false ↦ lacking_is found ps ]
+  lacking_is found ps = ap (with_new found) (filtered ps)
 
   pub any_failed_is : (ps : List Path) → any_failed setting ask ps ≡ any_failure ask (targets_in setting ps)
   any_failed_is [] = refl
@@ -71,13 +73,9 @@ module _ (setting : Setting) (ask : Ask) where
 
 -- Gathering what has no answer
 
-among_in : (p : Path) (qs : List Path) → is_among qs p ≡ is_in qs p
-among_in p [] = refl
-among_in p (q ∷ qs) = λ i. nat_list_eq_equiv.symm q p i || among_in p qs i
-
 module _ (ask : Ask) where
-  new_goes : (found ps : List Path) (p : Path) → is_none (ask p) ≡ true → unanswered ask found (p ∷ ps) ≡ unanswered ask (cond (is_in found p) found (found ++ p ∷ [])) ps
-  new_goes found ps p h = rw h ((elim (is_in found p) as (λ (v : Bool). cond (not v) (unanswered ask (found ++ p ∷ []) ps) (unanswered ask found ps) ≡ unanswered ask (cond v found (found ++ p ∷ [])) ps) [ true ↦ refl | false ↦ refl ]))
+  new_goes : (found ps : List Path) (p : Path) → is_none (ask p) ≡ true → unanswered ask found (p ∷ ps) ≡ unanswered ask (with_path found p) ps
+  new_goes found ps p h = rw h refl
 
   known_goes : (found ps : List Path) (p : Path) → is_none (ask p) ≡ false → unanswered ask found (p ∷ ps) ≡ unanswered ask found ps
   known_goes found ps p h = rw h refl
@@ -87,7 +85,7 @@ module _ (ask : Ask) where
     split = rw add-one (drop-cons paths i p lt ∙ ap (λ q. q ∷ drop (suc i) paths) (sym is))
 
     pub set_goes : (new : List Path) → is_none (ask p) ≡ true → new ≡ with_path found p → unanswered ask new (drop (i + 1) paths) ≡ total
-    set_goes new h n = rw (n, among_in p found) (sym (ap (unanswered ask found) split ∙ new_goes found (drop (i + 1) paths) p h) ∙ before)
+    set_goes new h n = rw n (sym (ap (unanswered ask found) split ∙ new_goes found (drop (i + 1) paths) p h) ∙ before)
 
     pub some_goes : (new : List Path) → is_none (ask p) ≡ false → new ≡ found → unanswered ask new (drop (i + 1) paths) ≡ total
     some_goes new h n = rw n (sym (ap (unanswered ask found) split ∙ known_goes found (drop (i + 1) paths) p h) ∙ before)

@@ -6,8 +6,8 @@ use Rattle.redo_record.specs.declared.deps.DepKind.{DepKind}
 use Rattle.redo_record.specs.declared.deps.DepKind.TheVariants as kinds
 use Rattle.redo_record.specs.declared.outcome.Why.{Why}
 use Rattle.redo_record.specs.declared.outcome.Why.TheVariants as why
-use Rattle.std.specs.Str.{bytes_eq}
-use Rattle.redo_record.specs.Paths.{Path}
+use Rattle.std.specs.List.{filter}
+use Rattle.redo_record.specs.Paths.{Path, with_new}
 use Rattle.redo_record.specs.Answers.{Ask, is_failure}
 use Rattle.redo_record.specs.Entries.{with_entries}
 use Rattle.redo_step.specs.Runs.{End, Run, State, ends, faulted, goes, stopped, ◌>>=◌}
@@ -22,17 +22,9 @@ declaring s kind ps = record s { entries = with_entries s.entries kind ps }
 abbrev pub lacks : Setting → Ask → Path → Bool
 lacks setting ask p = is_none (setting.source p) && is_none (ask p)
 
--- whether a path is one of these
-abbrev pub is_in : List Path → Path → Bool
-is_in [] p = false
-is_in (q ∷ qs) p = bytes_eq p q || is_in qs p
-
 -- those that lack an answer, each once, behind those found before
 abbrev pub lacking : Setting → Ask → List Path → List Path → List Path
-lacking setting ask found [] = found
-lacking setting ask found (p ∷ ps) =
-    if lacks setting ask p && not (is_in found p) then lacking setting ask (found ++ p ∷ []) ps
-    else lacking setting ask found ps
+lacking setting ask found ps = with_new found (filter (lacks setting ask) ps)
 
 -- no source, and answered as failed
 abbrev pub has_failed : Setting → Ask → Path → Bool

@@ -2,10 +2,9 @@
 use Rattle.std.specs.Prelude.{ℕ, Bool, false, ◌&&◌, ◌||◌, not, is_none, List, [], ◌∷◌, ◌++◌, if◌then◌else◌}
 use Rattle.std.specs.List.{filter}
 use Rattle.redo_record.specs.declared.outcome.Why.TheVariants as why
-use Rattle.redo_record.specs.Paths.{Path}
+use Rattle.redo_record.specs.Paths.{Path, with_new}
 use Rattle.redo_step.specs.Setting.{Setting}
 use Rattle.redo_step.specs.Runs.{State, faulted, stopped, Run, goes, ends}
-use Rattle.redo_step.specs.Declaring.{is_in}
 use Rattle.redo_record.specs.Answers.{Ask, is_failure}
 
 -- those of these paths that are no sources
@@ -14,9 +13,7 @@ targets_in setting ps = filter (λ p. is_none (setting.source p)) ps
 
 -- those of these targets that have no answer, each once, behind those found before
 abbrev pub unanswered : Ask → List Path → List Path → List Path
-unanswered ask found [] = found
-unanswered ask found (p ∷ ps) =
-    if is_none (ask p) && not (is_in found p) then unanswered ask (found ++ p ∷ []) ps else unanswered ask found ps
+unanswered ask found ps = with_new found (filter (λ p. is_none (ask p)) ps)
 
 -- whether one of these targets failed
 abbrev pub any_failure : Ask → List Path → Bool
