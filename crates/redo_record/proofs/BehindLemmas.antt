@@ -1,10 +1,14 @@
 -- Entries behind others.
-use Rattle.std.proofs.Common.{Bool, true, false, cond, List, [], ◌∷◌, ◌++◌, refl, sym, ap, ◌∙◌, append_assoc}
+use Rattle.std.proofs.Common.{◌≡◌, Bool, true, false, cond, List, [], ◌∷◌, ◌++◌, refl, sym, ap, ◌∙◌, append_assoc}
 use Rattle.std.proofs.Common.{append-nil}
 use Rattle.redo_record.specs.declared.deps.Dep.{Dep}
 use Rattle.redo_record.specs.declared.deps.DepKind.{DepKind}
-use Rattle.redo_record.specs.Entries.{IsBeginning, is_entered, with_entry, with_entries}
+use Rattle.redo_record.specs.Entries.{is_entered, with_entry, with_entries}
 use Rattle.redo_record.specs.Paths.{Path}
+
+-- the second list begins with the first
+abbrev pub IsBeginning : List Dep → List Dep → Type 0
+IsBeginning xs ys = (more : List Dep) × (ys ≡ xs ++ more)
 
 pub beginning-refl : (xs : List Dep) → IsBeginning xs xs
 beginning-refl xs = ([], sym (append-nil xs))

@@ -68,7 +68,3 @@ AreOnce (d ∷ ds) = (is_entered ds d.kind d.path ≡ false) × AreOnce ds
 -- what is entered stays entered
 pub record Extends (old new : List Dep) : Type 0 where
   pub still : (kind : DepKind) (p : Path) → is_entered old kind p ≡ true → is_entered new kind p ≡ true
-
--- the second list begins with the first
-abbrev pub IsBeginning : List Dep → List Dep → Type 0
-IsBeginning xs ys = (more : List Dep) × (ys ≡ xs ++ more)

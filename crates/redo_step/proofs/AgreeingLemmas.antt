@@ -15,7 +15,7 @@ use Rattle.redo_record.specs.declared.outcome.Why.{Why}
 use Rattle.redo_record.specs.declared.outcome.Why.TheVariants as why
 use Rattle.redo_record.specs.Paths.{Path}
 use Rattle.redo_record.specs.Answers.{Ask}
-use Rattle.redo_record.specs.Entries.{is_entered, with_all, IsBeginning}
+use Rattle.redo_record.specs.Entries.{is_entered, with_all}
 use Rattle.redo_step.specs.Setting.{Setting, with_value}
 use Rattle.redo_step.specs.Runs.{State, End, exited, faulted, stopped, Run, goes, ends, end_state, start, ◌>>=◌}
 use Rattle.redo_step.specs.Words.{texts_of, paths_of}
@@ -28,7 +28,7 @@ use Rattle.redo_step.specs.Statements.{turns, looped, run, meaning, result_of}
 use Rattle.redo_step.specs.Results.{outcome_of, after_run, by_script}
 use Rattle.redo_step.specs.Agreeing.{AreAlike, IsMet, AllMet, AllAgree, IsFollowed, status_of}
 use Rattle.redo_record.proofs.EntryLemmas.{AllEntered, AllEntered-with_entries}
-use Rattle.redo_record.proofs.BehindLemmas.{beginning-refl}
+use Rattle.redo_record.proofs.BehindLemmas.{IsBeginning, beginning-refl}
 use Rattle.redo_record.proofs.OperandLemmas.{all_cases, all_first, all_second}
 use Rattle.redo_step.proofs.BehindRunLemmas.{created-begins, then-begins, turns-begins, run-begins}
 use Rattle.redo_step.proofs.AlikeLemmas.{texts_same, paths_same, operands_same, written_same, tested_same}

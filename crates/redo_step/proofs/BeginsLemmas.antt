@@ -17,13 +17,13 @@ use Rattle.redo_record.specs.Answers.{Ask}
 use Rattle.redo_record.specs.declared.deps.Dep.{Dep}
 use Rattle.redo_step.specs.Reach.{Keeps}
 use Rattle.redo_record.specs.Entries.{Extends}
-use Rattle.redo_step.specs.Begins.{AreKnown, Awaits, IsEnd, Begins}
+use Rattle.redo_step.specs.Begins.{AreKnown, Awaits, Begins}
 use Rattle.redo_record.proofs.EntryLemmas.{Extends-refl, Extends-trans, Extends-with_entries, AllEntered}
 use Rattle.redo_record.proofs.EntryLemmas.{AllEntered-with_entries}
 use Rattle.redo_step.proofs.RunLemmas.{Keeps-extends, Keeps-turn}
 use Rattle.redo_step.proofs.StableLemmas.{lacking-nil, lacking-answered, answered_later}
 use Rattle.redo_step.proofs.StepLemmas.{command_goes, command_stays, written_entries}
-use Rattle.redo_step.proofs.SettledLemmas.{IsOver, over_bind, Settled, texts_over, paths_over, free_over}
+use Rattle.redo_step.proofs.SettledLemmas.{IsEnd, IsOver, over_bind, Settled, texts_over, paths_over, free_over}
 use Rattle.redo_step.proofs.SettledLemmas.{written_settled, tested_settled, condition_settled}
 use Rattle.redo_step.proofs.KnownLemmas.{known_changes, known_creates, known_always, answered_or, known_later}
 

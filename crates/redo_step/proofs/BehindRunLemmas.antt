@@ -6,7 +6,6 @@ use Rattle.redo_script.specs.Syntax.{Script, finish, simple, choice, loop}
 use Rattle.redo_record.specs.declared.deps.Dep.{Dep}
 use Rattle.redo_record.specs.declared.deps.DepKind.TheVariants as kinds
 use Rattle.redo_record.specs.declared.outcome.Why.TheVariants as why
-use Rattle.redo_record.specs.Entries.{IsBeginning}
 use Rattle.redo_record.specs.Paths.{Path}
 use Rattle.redo_step.specs.Setting.{Setting, with_value}
 use Rattle.redo_step.specs.Runs.{State, End, faulted, Run, goes, ends, end_state, ◌>>=◌}
@@ -18,7 +17,7 @@ use Rattle.redo_step.specs.Statements.{with_status, with_state, command_run, con
 use Rattle.redo_step.specs.Statements.{turns, looped, run}
 use Rattle.redo_record.specs.Answers.{Ask}
 use Rattle.redo_step.proofs.StepLemmas.{written_entries}
-use Rattle.redo_record.proofs.BehindLemmas.{beginning-refl, beginning-trans, entries-begin}
+use Rattle.redo_record.proofs.BehindLemmas.{IsBeginning, beginning-refl, beginning-trans, entries-begin}
 
 module _ (setting : Setting) (ask : Ask) where
   waited-begins : (line : ℕ) (ps qs : List Path) (s : State) → IsBeginning s.entries (end_state (waited setting ask line ps qs s)).entries

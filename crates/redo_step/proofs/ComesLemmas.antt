@@ -28,8 +28,10 @@ use Rattle.redo_step.specs.Runs.{State, End, stopped, goes, ends}
 use Rattle.redo_step.specs.Statements.{run, then_run, chosen, looped, command_run, condition_result}
 use Rattle.redo_step.specs.Words.{texts_of}
 use Rattle.redo_record.specs.Answers.{Ask}
-use Rattle.redo_step.specs.Place.{Rest, all_of, and_then, turns_of, skip, inside, in_turn, branch_of, body_in, Standing}
-use Rattle.redo_step.specs.Place.{stands_at, left_at}
+use Rattle.redo_step.specs.Place.{Rest, all_of, and_then, turns_of, skip, inside, in_turn}
+use Rattle.redo_step.specs.inside.Stands.{branch_of, body_in, Standing}
+use Rattle.redo_step.specs.Place.{left_at}
+use Rattle.redo_step.specs.inside.Stands.{stands_at}
 use Rattle.redo_step.specs.Reach.{Reaches}
 use Rattle.redo_step.specs.inside.Machine.{end_of, end_by, kept_by, run_by, IsMeant, Comes, IsStopBefore, IsWithin, IsInTurn, IsPassed}
 use Rattle.redo_step.specs.inside.Machine.{turns_from, AreRun, IsTurn, picked, HasBranch, HasNoBranch, HasTurns, HasNoTurn}

@@ -8,7 +8,8 @@ use Rattle.redo_record.specs.declared.deps.DepKind.{DepKind}
 use Rattle.redo_record.specs.declared.deps.DepKind.TheVariants as kinds
 use Rattle.redo_record.specs.Paths.{Path}
 use Rattle.redo_record.specs.Answers.{Ask}
-use Rattle.redo_record.specs.Entries.{same_kind, is_entered, with_entry, with_entries, with_all, Extends, IsBeginning}
+use Rattle.redo_record.specs.Entries.{same_kind, is_entered, with_entry, with_entries, with_all, Extends}
+use Rattle.redo_record.proofs.BehindLemmas.{IsBeginning}
 use Rattle.redo_step.specs.Setting.{Setting, with_value}
 use Rattle.redo_step.specs.Agreeing.{Agrees, AllAgree, IsDeclared, IsFollowed}
 use Rattle.redo_record.proofs.EntryLemmas.{bytes_eq-refl, same_kind-refl, Extends-with_entry, is_entered-with_entry}

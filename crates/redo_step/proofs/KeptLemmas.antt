@@ -16,7 +16,8 @@ use Rattle.redo_step.specs.declared.wait.Waiting.{Waiting}
 use Rattle.redo_step.specs.Setting.{Setting}
 use Rattle.redo_step.specs.Runs.{State, goes}
 use Rattle.redo_record.specs.Answers.{Ask}
-use Rattle.redo_step.specs.Place.{all_of, behind_first, skip, branch_of, body_in, Standing, stands_at}
+use Rattle.redo_step.specs.Place.{all_of, behind_first, skip}
+use Rattle.redo_step.specs.inside.Stands.{branch_of, body_in, Standing, stands_at}
 use Rattle.redo_step.specs.inside.Waiting.{waited_on, unanswered}
 use Rattle.redo_step.specs.declared.machine.Turns.{Turns}
 use Rattle.redo_step.specs.inside.Machine.{run_by, IsMeant, Comes, IsStopBefore, HasBranch, HasTurns, IsTurn}

@@ -9,9 +9,10 @@ use Rattle.redo_record.specs.declared.deps.Dep.{Dep}
 use Rattle.redo_record.specs.declared.deps.DepKind.{DepKind}
 use Rattle.redo_record.specs.declared.deps.DepKind.TheVariants.{Always, Change, Create}
 use Rattle.redo_record.specs.declared.outcome.Outcome.TheVariants.{Built}
+use Rattle.redo_record.proofs.BehindLemmas.{IsBeginning}
 use Rattle.redo_step.specs.Setting.{is_source, Setting, setting_of}
 use Rattle.redo_record.specs.Progress.{IsLawful}
-use Rattle.redo_record.specs.Entries.{IsBeginning, is_entered, search_deps}
+use Rattle.redo_record.specs.Entries.{is_entered, search_deps}
 use Rattle.redo_record.specs.Answers.{Ask}
 use Rattle.redo_record.specs.Paths.{IsAmong, Path}
 use Rattle.redo_step.specs.Agreeing.{AreAlike, IsMet, AllAgree, IsFollowed, held_in}

@@ -11,7 +11,7 @@ use Rattle.redo_record.specs.declared.deps.DepKind.TheVariants as kinds
 use Rattle.redo_record.specs.declared.outcome.Why.TheVariants as why
 use Rattle.redo_record.specs.Paths.{Path}
 use Rattle.redo_record.specs.Answers.{Ask}
-use Rattle.redo_record.specs.Entries.{is_entered, search_deps, with_all, with_entry, with_entries, IsBeginning}
+use Rattle.redo_record.specs.Entries.{is_entered, search_deps, with_all, with_entry, with_entries}
 use Rattle.redo_step.specs.Setting.{Setting, with_value}
 use Rattle.redo_step.specs.Runs.{State, End, faulted, Run, goes, ends, end_state, start, ◌>>=◌}
 use Rattle.redo_step.specs.Words.{texts_of, paths_of}
@@ -21,7 +21,7 @@ use Rattle.redo_step.specs.Files.{tested}
 use Rattle.redo_step.specs.Results.{by_script}
 use Rattle.redo_step.specs.Statements.{with_status, with_state, command_run, condition_result, then_run, chosen}
 use Rattle.redo_step.specs.Statements.{turns, looped, run, meaning}
-use Rattle.redo_record.proofs.BehindLemmas.{beginning-refl, beginning-trans, entry-begins}
+use Rattle.redo_record.proofs.BehindLemmas.{IsBeginning, beginning-refl, beginning-trans, entry-begins}
 use Rattle.redo_record.proofs.FoundLemmas.{entered_cases}
 use Rattle.redo_record.proofs.OperandLemmas.{all_cases}
 use Rattle.redo_step.proofs.FollowedLemmas.{entered-other}

@@ -14,7 +14,7 @@ use Rattle.redo_step.specs.Path.{resolved}
 use Rattle.redo_record.specs.declared.outcome.Outcome.{Outcome}
 use Rattle.redo_step.specs.Value.{value_of, value_bound}
 use Rattle.redo_step.specs.Setting.{Setting}
-use Rattle.redo_step.specs.Runs.{State, End, exited, faulted, ◌>>=◌, or_else}
+use Rattle.redo_step.specs.Runs.{State, End, exited, faulted, stopped, ◌>>=◌, or_else}
 use Rattle.redo_step.specs.Words.{text_of, texts_of, path_of, paths_of}
 use Rattle.redo_step.specs.Files.{answered_file, file_at, is_declared, file_of, contents_of, test_texts, holds}
 use Rattle.redo_step.specs.Files.{tested}
@@ -27,7 +27,13 @@ use Rattle.redo_record.specs.Answers.{Ask}
 use Rattle.redo_record.specs.Entries.{is_entered}
 use Rattle.redo_record.specs.declared.deps.Dep.{Dep}
 use Rattle.redo_step.specs.Reach.{Keeps}
-use Rattle.redo_step.specs.Begins.{AreKnown, IsEnd}
+use Rattle.redo_step.specs.Begins.{AreKnown}
+
+-- it ended, and lacks no answer
+abbrev pub IsEnd : End → Type 0
+IsEnd (exited n) = Unit {0}
+IsEnd (faulted w) = Unit {0}
+IsEnd (stopped ps) = ⊥
 
 -- it isn't stopped
 abbrev pub IsOver : {A : Type 0} → Result A End → Type 0

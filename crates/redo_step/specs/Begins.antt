@@ -21,12 +21,6 @@ pub record Awaits (setting : Setting) (ask later : Ask) (s : State) (run : Run) 
   pub stays : (p : Path) → is_entered s.entries kinds.Change p ≡ true → lacks setting later p ≡ true →
       (ps : List Path) × (run ≡ ends (stopped ps) s)
 
--- it ended, and lacks no answer
-abbrev pub IsEnd : End → Type 0
-IsEnd (exited n) = Unit {0}
-IsEnd (faulted w) = Unit {0}
-IsEnd (stopped ps) = ⊥
-
 -- a run that ended is the same run under the other ask; of one that stopped see above
 abbrev pub Ends : Setting → Ask → Ask → End → State → Run → Type 0
 Ends setting ask later (exited n) s run = (run ≡ ends (exited n) s) × AreKnown setting ask s.entries

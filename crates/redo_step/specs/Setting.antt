@@ -24,10 +24,10 @@ pub record Setting : Type 0 where
   pub bound : List Binding
 
 -- whether a directory stands there
-abbrev pub is_directory : Option Node → Bool
-is_directory None = false
-is_directory (Some tree_words.Directory) = true
-is_directory (Some (tree_words.File bytes)) = false
+abbrev pub has_directory : Option Node → Bool
+has_directory None = false
+has_directory (Some tree_words.Directory) = true
+has_directory (Some (tree_words.File bytes)) = false
 
 -- the bytes that a parameter stands for
 abbrev pub value_in : Arguments → Parameter → List ℕ
@@ -40,7 +40,7 @@ value_in a Three = a.three
 unfoldable pub setting_by : Tree → (Path → Found) → ℕ → Path → Arguments → Setting
 setting_by tree found limit target a = record {
   source = file_at tree;
-  is_directory = λ p. is_directory (node_at tree p);
+  is_directory = λ p. has_directory (node_at tree p);
   has_rule = λ p. is_rule (found p);
   target = target;
   directory = a.dir;

@@ -5,6 +5,7 @@ pub mod Parts
 pub mod Printing
 pub mod Scene
 pub mod Sink
+pub mod Stands
 pub mod Text
 pub mod Waiting
 pub mod Writing

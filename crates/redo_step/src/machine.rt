@@ -3,7 +3,8 @@
 ghost use Rattle.std.specs.Prelude.{◌≡◌, ◌+◌, ◌<◌, ◌^◌, IfOk, IfSome, IfNone, length};
 ghost use Rattle.redo_script.specs.View.{script_of};
 ghost use Rattle.redo_script.specs.Syntax.{finish};
-ghost use Rattle.redo_step.specs.Place.{all_of, and_then, skip, left_at, stands_at};
+ghost use Rattle.redo_step.specs.Place.{all_of, and_then, skip, left_at};
+ghost use Rattle.redo_step.specs.inside.Stands.{stands_at};
 ghost use Rattle.redo_step.specs.inside.Kept.{IsKept};
 ghost use Rattle.redo_step.specs.inside.Machine.{state_of, Comes, IsStopBefore, IsWithin, IsInTurn, IsPassed};
 ghost use Rattle.redo_step.specs.inside.Machine.{turns_from, AreRun, IsTurn, HasBranch, HasNoBranch, HasTurns};

@@ -10,7 +10,7 @@ use Rattle.redo_step.specs.Setting.{Setting}
 use Rattle.redo_step.specs.Runs.{State}
 use Rattle.redo_step.specs.Words.{operands_of}
 use Rattle.redo_step.specs.Declaring.{declaring}
-use Rattle.redo_step.specs.Place.{Standing, stands_at}
+use Rattle.redo_step.specs.inside.Stands.{Standing, stands_at}
 use Rattle.redo_step.specs.inside.Waiting.{targets_in}
 
 -- It waits for the operands that this command's words name, and they are declared.

@@ -19,7 +19,8 @@ use Rattle.redo_step.specs.declared.place.Branch.TheVariants.{First, Second}
 use Rattle.redo_step.specs.declared.place.Place.{Before, Within', InTurn'}
 use Rattle.redo_script.specs.declared.ast.Stmt.{Stmt}
 use Rattle.redo_script.specs.View.{before, script_of}
-use Rattle.redo_step.specs.Place.{Rest, all_of, and_then, turns_of, skip, inside, in_turn, stands_at, left_at}
+use Rattle.redo_step.specs.Place.{Rest, all_of, and_then, turns_of, skip, inside, in_turn, left_at}
+use Rattle.redo_step.specs.inside.Stands.{stands_at}
 use Rattle.redo_step.specs.Reach.{Reaches}
 use Rattle.redo_step.specs.inside.Kept.{IsKept}
 
