@@ -10,8 +10,7 @@ use Rattle.std.specs.Io.KnownBytes.{Appends}
 use Rattle.redo_bundle.specs.Bundle.{Writes}
 use Rattle.redo_bundle.proofs.PieceLemmas.{Writes-then, Writes-cut}
 use Rattle.redo_book.specs.declared.book.BookEntry.{BookEntry}
-use Rattle.redo_book.specs.declared.book.BookRecord.{BookRecord}
-use Rattle.redo_book.specs.Book.{book_lines, entry_line, record_lines, record_of, text_of}
+use Rattle.redo_book.specs.Book.{entry_line, text_of}
 
 -- the text of what is left is that of the next, and of those behind it
 dropped : {A : Type 0} (f : A → List ℕ) (xs : List A) (i : ℕ) (x default : A) → i < length xs → x ≡ slice_index_or xs i default →
@@ -45,17 +44,3 @@ entry_text e = entry_line e ++ 10 ∷ []
 -- the entries' lines, one by one
 pub entries-text : (es : List BookEntry) → text_of (map entry_line es) ≡ flat_map entry_text es
 entries-text es = flat_map-map (λ line. line ++ 10 ∷ []) entry_line es
-
--- a record's lines with their newlines
-abbrev pub record_text : BookRecord → List ℕ
-record_text r = text_of (record_lines (record_of r))
-
--- the records' lines, one record after another, and the end
-pub book-text : (rs : List BookRecord) → text_of (book_lines (map record_of rs)) ≡ flat_map record_text rs ++ codes "end\n"
-book-text [] = refl
-book-text (r ∷ rs) =
-    let lines = flat_map record_lines (map record_of rs) in
-    ap text_of (append_assoc (record_lines (record_of r)) lines (codes "end" ∷ []))
-    ∙ flat_map-append (λ line. line ++ 10 ∷ []) (record_lines (record_of r)) (lines ++ codes "end" ∷ [])
-    ∙ ap (λ t. record_text r ++ t) (book-text rs)
-    ∙ sym (append_assoc (record_text r) (flat_map record_text rs) (codes "end\n"))

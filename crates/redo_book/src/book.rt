@@ -82,16 +82,6 @@ impl Book {
         Book { records }
     }
 
-    /// Puts a record behind the others, whose targets have to stand before it.
-    pub fn push(&mut self, next: BookRecord) -> Result<(), AllocError>
-        requires { IsBook (self.old ++ record_of next ∷ []) }
-        ensures ok { OnOk result (self.new ≡ self.old ++ record_of next ∷ []) }
-        ensures err { OnErr result (self.new ≡ self.old) }
-    {
-        self.records.push(next)?;
-        Ok(())
-    }
-
     /// The number of a target's record in the order of their targets, from 0, if there is one.
     pub fn number_of(&self, target: &Path) -> Option<usize>
         ensures found { option_and_then (λ n. slice_get self.now n) result ≡ record_at self.now target.now }

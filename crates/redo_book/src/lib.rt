@@ -26,5 +26,5 @@ pub use faults::BookFault;
 pub use reading::read_book;
 pub use sizes::{always_size, change_size, create_size, record_size, target_size};
 pub use writing::{
-    book_text, write_always, write_change, write_create, write_end, write_record, write_target,
+    write_always, write_change, write_create, write_end, write_record, write_target,
 };

@@ -1,17 +1,16 @@
-//! The text of a book, written line by line. Nothing here allocates but [`book_text`], so the records of a book needn't
-//! stand in memory together, nor the entries of one.
+//! The text of a book, written line by line. Nothing here allocates, so the records of a book needn't stand in memory
+//! together, nor the entries of one.
 
-ghost use Rattle.std.specs.Prelude.{◌≡◌, ◌++◌, ◌∷◌, [], IfOk, codes, false, is_err, map};
+ghost use Rattle.std.specs.Prelude.{◌≡◌, ◌++◌, ◌∷◌, [], codes, false, is_err, map};
 ghost use Rattle.redo_bundle.specs.Bundle.{Writes};
 ghost use Rattle.redo_book.specs.declared.book.BookEntry.TheVariants.{Always, Change, Create};
-ghost use Rattle.redo_book.specs.Book.{IsText, book_lines, entry_line, record_lines, record_of, state_text};
+ghost use Rattle.redo_book.specs.Book.{entry_line, record_lines, record_of, state_text};
 ghost use Rattle.redo_book.specs.Book.{target_line, text_of};
 
-use crate::{Book, BookEntry, BookRecord};
-use redo_bundle::{Broken, ByteOut, Plain, write_all, write_parts};
+use crate::{BookEntry, BookRecord};
+use redo_bundle::{Broken, ByteOut, write_all, write_parts};
 use redo_digest::Digest;
 use redo_path::Path;
-use std::alloc::{AllocError, Global};
 
 /// Writes the line of a target, with which its record begins.
 pub fn write_target<W: ByteOut>(
@@ -76,34 +75,6 @@ pub fn write_end<W: ByteOut>(out: &mut W) -> Result<(), Broken>
     ensures failed { W.has_failed out.new ≡ is_err result }
 {
     write_all(out, b"end\n")
-}
-
-/// The text of a book, as [`read_book`](crate::read_book) reads it.
-pub fn book_text(alloc: Global, book: &Book) -> Result<Vec<u8>, AllocError>
-    ensures text { IfOk result (λ text. text.items ≡ text_of (book_lines book.now)) }
-    ensures readable { IsText (text_of (book_lines book.now)) book.now }
-{
-    let mut out = Plain::new(Vec::new(alloc));
-    match write_book(&mut out, book.records()) {
-        Ok(()) => {
-            let Plain { stream, broken: _ } = out;
-            Ok(stream)
-        }
-        Err(Broken) => Err(AllocError),
-    }
-}
-
-/// Writes the text of the book of these records.
-fn write_book<W: ByteOut>(out: &mut W, records: &[BookRecord]) -> Result<(), Broken>
-    requires { W.has_failed out.old ≡ false }
-    ensures writes { Writes (W.held out.old) (W.held out.new) result
-        (text_of (book_lines (map record_of records.now))) }
-    ensures failed { W.has_failed out.new ≡ is_err result }
-{
-    for record in records {
-        write_record(out, record)?;
-    }
-    write_end(out)
 }
 
 /// Writes the lines of entries.

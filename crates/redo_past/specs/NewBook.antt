@@ -93,10 +93,6 @@ pub record IsNewBook (past : PastView) (rows : List Row) (book : List Record) : 
   pub ordered : IsBook book
   pub records : (r : Record) → Contains book r ↔ (IsOfRow past.sources rows r ⊎ IsCarried past rows r)
 
--- the text is that of the book that a run leaves
-abbrev pub IsNewText : PastView → List Row → List ℕ → Type 0
-IsNewText past rows text = (book : List Record) × IsNewBook past rows book × (text ≡ text_of (book_lines book))
-
 -- the files with one more at its place in path order
 abbrev pub with_file : List (List ℕ × List ℕ) → List ℕ → List ℕ → List (List ℕ × List ℕ)
 with_file files path bytes = insert_entry (slice_cmp nat_cmp) files path bytes

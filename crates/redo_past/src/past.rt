@@ -4,7 +4,7 @@ ghost use Rattle.std.specs.Prelude.{◌≡◌, ◌<◌, ◌∷◌, [], true, Som
 ghost use Rattle.std.specs.Prelude.{option_and_then, slice_get};
 ghost use Rattle.redo_which.specs.Rule.{found_of, is_rule};
 ghost use Rattle.redo_report.specs.Reports.{AreAscending, row_paths};
-ghost use Rattle.redo_past.specs.NewBook.{IsNewText, IsResultOf};
+ghost use Rattle.redo_past.specs.NewBook.{IsResultOf};
 ghost use Rattle.std.specs.Arc.{arc_value};
 ghost use Rattle.redo_tree.specs.Tree.{file_at};
 ghost use Rattle.redo_book.specs.Book.{record_of, IsText};
@@ -17,7 +17,7 @@ ghost use Rattle.redo_which.specs.Candidates.{book_path as path_of_book};
 use crate::PastFault;
 use crate::books::put_file;
 use crate::named::named_by;
-use crate::new_book::{new_text, text_size};
+use crate::new_book::text_size;
 use crate::rows::{Rows, numbers_of};
 use crate::run_report::RunReport;
 use redo_book::{Book, BookRecord, read_book};
@@ -273,21 +273,6 @@ impl Past {
         } else {
             None
         }
-    }
-
-    /// The text of the book that a run leaves, by the rows of its report. It has a record for each target that was
-    /// built, with the states of what this depended on, and the records of the old book whose targets have a rule,
-    /// stand as the last run left them and weren't built. No record is made of a row. A run that writes its report
-    /// needs no such text: its [`RunReport`] writes it line by line.
-    pub fn new_book_text(&self, alloc: Global, rows: &[Row]) -> Result<Vec<u8>, AllocError>
-        requires { AreAscending (map (λ row. row.path) rows.now) }
-        ensures { IfOk result (λ text. IsNewText self.now rows.now text.items) }
-    {
-        self.tree().is_tree();
-        no_other_file_is_taken_out();
-        let numbers = numbers_of(alloc, rows)?;
-        let size = text_size(alloc, self, Rows::new(rows, &numbers))?;
-        new_text(alloc, self, Rows::new(rows, &numbers), size)
     }
 
     /// The report of a run with the new book among its files.
