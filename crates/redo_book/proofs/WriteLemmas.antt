@@ -1,8 +1,9 @@
 -- What is written line by line, as far as it went, and the sizes of lines.
 use Rattle.std.proofs.Common.{◌≡◌, ◌<◌, ◌+◌, ◌∙◌, ℕ, zero, suc, drop, slice_index_or, arith, List, [], ◌∷◌, ◌++◌}
-use Rattle.std.proofs.Common.{length, map, Option, refl, sym, ap, subst, append_assoc}
+use Rattle.std.proofs.Common.{◌≤◌, get_or, take, length, map, Option, refl, sym, ap, subst, append_assoc}
 use Rattle.std.proofs.lemmas.Grind.{flat_map-append}
-use Rattle.std.proofs.lemmas.List.Folds.{flat_map-map}
+use Rattle.std.proofs.lemmas.List.{length-append}
+use Rattle.std.proofs.lemmas.List.Folds.{flat_map-map, length-flat_map-take}
 use Rattle.std.proofs.lemmas.Result.{err_from_is_err_and}
 use Rattle.std.specs.Prelude.{Result, Err, codes, flat_map}
 use Rattle.std.specs.Result.{IsErrAnd}
@@ -44,3 +45,12 @@ entry_text e = entry_line e ++ 10 ∷ []
 -- the entries' lines, one by one
 pub entries-text : (es : List BookEntry) → text_of (map entry_line es) ≡ flat_map entry_text es
 entries-text es = flat_map-map (λ line. line ++ 10 ∷ []) entry_line es
+
+-- the lines before an entry, and its own, are no more than all
+pub sized-within : (line : List ℕ) (es : List BookEntry) (i : ℕ) (e : BookEntry) → i < length es → e ≡ get_or es i e → length (text_of (line ∷ map entry_line (take i es))) + length (entry_text e) ≤ length (text_of (line ∷ map entry_line es))
+sized-within line es i e below is =
+    let some = length-flat_map-take entry_text es i e below in
+    let here : length (text_of (line ∷ map entry_line (take i es))) ≡ length (line ++ 10 ∷ []) + length (flat_map entry_text (take i es)) = length-append (line ++ 10 ∷ []) (text_of (map entry_line (take i es))) ∙ ap (λ t. length (line ++ 10 ∷ []) + length t) (entries-text (take i es)) in
+    let all : length (text_of (line ∷ map entry_line es)) ≡ length (line ++ 10 ∷ []) + length (flat_map entry_text es) = length-append (line ++ 10 ∷ []) (text_of (map entry_line es)) ∙ ap (λ t. length (line ++ 10 ∷ []) + length t) (entries-text es) in
+    let same : length (entry_text e) ≡ length (entry_text (get_or es i e)) = ap (λ x. length (entry_text x)) is in
+    omega (arith, some, here, all, same)

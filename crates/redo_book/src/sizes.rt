@@ -1,7 +1,7 @@
 //! How many bytes the lines of a book have, newlines and all, which is known before they are written. Of a state it is
 //! enough to know whether it is that of a file: no digest is made.
 
-ghost use Rattle.std.specs.Prelude.{◌≡◌, ◌≤◌, ◌++◌, ◌∷◌, [], IfOk, is_some, length};
+ghost use Rattle.std.specs.Prelude.{◌≡◌, ◌≤◌, ◌^◌, ◌++◌, ◌∷◌, [], IfOk, OnErr, is_some, length};
 ghost use Rattle.redo_digest.specs.Digest.{IsState, State};
 ghost use Rattle.redo_book.specs.declared.book.BookEntry.TheVariants.{Always, Change, Create};
 ghost use Rattle.redo_book.specs.Book.{entry_line, record_lines, record_of, state_text, target_line, text_of};
@@ -44,7 +44,8 @@ pub fn always_size() -> usize
 
 /// The size of the lines of a record. Where it would be no number of this type, the lines fit into no memory.
 pub fn record_size(record: &BookRecord) -> Result<usize, AllocError>
-    ensures { IfOk result (λ n. n ≡ length (text_of (record_lines (record_of «record».now)))) }
+    ensures size { IfOk result (λ n. n ≡ length (text_of (record_lines (record_of «record».now)))) }
+    ensures refused { OnErr result (2 ^ 64 ≤ length (text_of (record_lines (record_of «record».now)))) }
 {
     let mut size = target_size(is_of_file(&record.state), &record.target);
     for entry in &record.entries {
