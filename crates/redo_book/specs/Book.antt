@@ -1,4 +1,4 @@
--- Books: what the targets of the last run came to and depended on, and the text of this.
+-- Books: what became of the targets of the last run and what they depended on, and the text of a book.
 use Rattle.std.specs.Prelude.{◌≡◌, ◌≢◌, ◌+◌, ◌==◌, ℕ, Bool, true, false, List, [], ◌∷◌, ◌++◌, Option, Some, None}
 use Rattle.std.specs.Prelude.{◌⊎◌, MatchBool, codes, find, flat_map, length, map}
 use Rattle.std.specs.Cmp.Lexicographic.{slice_cmp}
@@ -15,17 +15,17 @@ use Rattle.redo_book.specs.declared.faults.BookFault.TheVariants.{Line, Memory}
 use Rattle.redo_book.specs.declared.book.BookEntry.{BookEntry}
 use Rattle.redo_book.specs.declared.book.BookEntry.TheVariants.{Change, Create, Always}
 
--- what a target came to, and what it depended on, in the order in which that was recorded
+-- what became of a target, and what it depended on, in the order in which that was recorded
 pub record Record : Type 0 where
   pub target : List ℕ
   pub state : State
   pub entries : List BookEntry
 
--- what the code keeps of a record
+-- the record that the code stores
 abbrev pub record_of : BookRecord → Record
 record_of r = record { target = r.target; state = r.state; entries = r.entries.items }
 
--- a state in a line
+-- a state's text
 abbrev pub state_text : State → List ℕ
 state_text None = codes "none"
 state_text (Some digest) = encode_lower digest
@@ -48,7 +48,7 @@ record_lines r = target_line r.state r.target ∷ map entry_line r.entries
 abbrev pub book_lines : List Record → List (List ℕ)
 book_lines book = flat_map record_lines book ++ codes "end" ∷ []
 
--- each line, with its newline
+-- each line followed by a newline
 abbrev pub text_of : List (List ℕ) → List ℕ
 text_of lines = flat_map (λ line. line ++ 10 ∷ []) lines
 
@@ -57,7 +57,7 @@ IsEntry (Change state path) = IsState state × IsBelowRoot path
 IsEntry (Create path) = IsBelowRoot path
 IsEntry Always = Unit {0}
 
--- whether two entries are of one kind and one path, whatever the states
+-- whether two entries have the same kind and path, whatever their states
 abbrev pub same_entry : BookEntry → BookEntry → Bool
 same_entry (Change s p) (Change t q) = bytes_eq p q
 same_entry (Create p) (Create q) = bytes_eq p q
@@ -69,7 +69,7 @@ same_entry (Create p) Always = false
 same_entry Always (Change t q) = false
 same_entry Always (Create q) = false
 
--- the target lies below the root, and so does each path; no kind and path stands twice
+-- the target and each path are below the root, and no kind and path occur twice
 pub record IsRecord (r : Record) : Type 0 where
   pub target : IsBelowRoot r.target
   pub state : IsState r.state
@@ -79,7 +79,7 @@ pub record IsRecord (r : Record) : Type 0 where
 abbrev pub targets_of : List Record → List (List ℕ)
 targets_of book = map (λ r. r.target) book
 
--- the records stand in the order of their targets, each target once
+-- the records are sorted by target, each target once
 pub record IsBook (book : List Record) : Type 0 where
   pub records : AllByRecursion IsRecord book
   pub sorted : IsStrictlySortedBy (slice_cmp nat_cmp) (targets_of book)
@@ -96,8 +96,8 @@ Begins lines = (book : List Record) × (rest : List ℕ) × IsText (text_of line
 abbrev pub is_newline : ℕ → Bool
 is_newline byte = byte == 10
 
--- line n is the first at fault: some book's text begins with the lines before it, and none with it, too; or it has no
--- newline, and the text is no book's
+-- line n is the first at fault: some book's text begins with the lines before it, but none with line n as well; or it
+-- has no newline, and the text is no book's
 pub record IsRefused (text : List ℕ) (n : ℕ) : Type 0 where
   pub lines : List (List ℕ)
   pub rest : List ℕ

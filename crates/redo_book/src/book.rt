@@ -13,29 +13,28 @@ use std::alloc::{AllocError, Global};
 use std::cmp::Ordering;
 use std::marker::Model;
 
-/// What a target is to be made again for.
+/// When a target must be rebuilt.
 #[derive(Clone, Debug, PartialEq, Eq, Drop)]
 pub enum BookEntry {
-    /// This file was there, or none was, and that has changed.
+    /// When this path's state is no longer this: the digest of the file there, or none.
     Change(Option<Digest>, Path),
-    /// Something has come to exist.
+    /// When something comes to exist at this path.
     Create(Path),
-    /// In any case.
+    /// Always.
     Always,
 }
 
-/// What a target came to in the last run, and what it depended on.
+/// What became of a target in the last run, and what it depended on.
 #[derive(Clone, Debug, PartialEq, Eq, Drop)]
 pub struct BookRecord {
     pub target: Path,
-    /// The digest of its file, or none where it made no file.
+    /// The digest of its file, or `None` if it made no file.
     pub state: Option<Digest>,
     /// In the order in which they were recorded.
     pub entries: Vec<BookEntry>,
 }
 
-/// The records of a run, in the order of their targets, each target once. In a contract it is the list of
-/// these records.
+/// The records of a run, sorted by target, each target once. In a contract it is the list of these records.
 #[derive(Debug, Drop)]
 pub struct Book {
     records: Vec<BookRecord>,
@@ -52,7 +51,7 @@ impl Model for Book {
     ghost invariant = { λ b. IsBook (map record_of b.records.items) };
 }
 
-/// The place of a target's record, or where it would stand.
+/// The index of a target's record, or where it would be inserted.
 fn search(records: &[BookRecord], target: &Path) -> Result<usize, usize>
     ensures within { IsSearchInRange result (length records.now) }
     ensures place { IsBinarySearchResult (λ r. slice_cmp nat_cmp r.target target.now) records.now result }
@@ -82,7 +81,7 @@ impl Book {
         Book { records }
     }
 
-    /// The number of a target's record in the order of their targets, from 0, if there is one.
+    /// The number of a target's record, from 0 in the order of targets; `None` if there is none.
     pub fn number_of(&self, target: &Path) -> Option<usize>
         ensures found { option_and_then (λ n. slice_get self.now n) result ≡ record_at self.now target.now }
         ensures within { IfSome result (λ n. n < length self.now) }
@@ -103,7 +102,7 @@ impl Book {
         }
     }
 
-    /// The records, in the order of their targets.
+    /// The records, sorted by target.
     pub fn records(&self) -> &[BookRecord]
         ensures records { map record_of result.now ≡ self.now }
         ensures book { IsBook self.now }

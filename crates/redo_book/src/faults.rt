@@ -8,11 +8,11 @@ use thiserror::Error;
 /// Why a book was not read.
 #[derive(Clone, Copy, Debug, PartialEq, Eq, Error)]
 pub enum BookFault {
-    /// This line is the first at fault, counted from 1. Where the text ends too early, behind a
-    /// newline or without any line, it is the one that is missing.
+    /// The first line at fault, from 1. If the text ends too early, after a newline or without any line, it is the line
+    /// that is missing.
     #[error("line {0} is at fault")]
     Line(u64),
-    /// No memory was left.
+    /// Out of memory.
     #[error("out of memory")]
     Memory,
 }

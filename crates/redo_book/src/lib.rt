@@ -1,14 +1,14 @@
-//! The book of the last run: what each target came to, and what it depended on, with the state that each had.
+//! The book of the last run: what became of each target, and what it depended on, with the state that each had.
 //!
-//! [`read_book`] makes a book of its text, and refuses any other text by its first line at fault. A text is written
-//! line by line to a [`ByteOut`](redo_bundle::ByteOut), so that a large one never stands whole in memory, and the sizes
-//! of its lines are known before ([`record_size`] and the others), as the place that it goes to may ask for its length
-//! first. The crate stands on `redo_digest`, `redo_path` and `redo_record` for what a book holds, on `redo_bundle` for
-//! the writers, on `redo_which` to add sizes up, on `hex` and `memchr`, and on `thiserror`.
+//! [`read_book`] makes a book from its text; for any other text it reports the first line at fault. A text can be
+//! written line by line to a [`ByteOut`](redo_bundle::ByteOut), so that a large one need not be whole in memory. The
+//! sizes of its lines are known in advance ([`record_size`] and the others), since the destination may ask for the
+//! length first. Depends on `redo_digest`, `redo_path` and `redo_record` for what a book holds, on `redo_bundle` for
+//! writers, on `redo_which` for adding up sizes, on `hex` and `memchr`, and on `thiserror`.
 //!
-//! - `book`: books, in memory; `faults`: why a text was refused;
-//! - `reading`, `lines`, `made`: a text, a line by itself, and what the lines so far have made;
-//! - `writing`, `sizes`: the lines, and how many bytes they have;
+//! - `book`: books in memory; `faults`: why a text was refused;
+//! - `reading`, `lines`, `made`: a text, a single line, and what the lines so far have made;
+//! - `writing`, `sizes`: the lines, and their sizes in bytes;
 //! - [`laws`]: a text is that of one book or has one first line at fault.
 #![tactic(auto)]
 

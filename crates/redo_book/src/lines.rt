@@ -1,4 +1,4 @@
-//! Lines of a book, each by itself.
+//! Single lines of a book.
 
 ghost use Rattle.std.specs.Prelude.{◌≡◌, option_map};
 ghost use Rattle.redo_book.specs.inside.Reading.{Finds, line_of, place_of, split_state as split_at_state, stated};
@@ -8,14 +8,14 @@ use redo_digest::{DIGITS, Digest};
 use redo_path::{Path, PathFault, resolve};
 use std::alloc::Global;
 
-/// A line, but the last: that of a target, or of what it depends on.
+/// A line other than the last one: that of a target, or of an entry of its record.
 #[derive(Drop)]
 pub(crate) enum Line {
     Target(Option<Digest>, Path),
     Entry(BookEntry),
 }
 
-/// The path below the top directory whose text this is. Where `like` is that path, its bytes are shared.
+/// The path below the top directory with this text. If `like` is that path, the result is a clone of it.
 fn read_path(
     alloc: Global,
     number: u64,
@@ -30,7 +30,7 @@ fn read_path(
     }
 }
 
-/// The path below the top directory whose text this is, made anew.
+/// The path below the top directory with this text, made anew.
 fn resolve_path(alloc: Global, number: u64, word: &[u8]) -> Result<Path, BookFault>
     ensures { Finds number result (place_of word.now) }
 {
@@ -47,7 +47,7 @@ fn resolve_path(alloc: Global, number: u64, word: &[u8]) -> Result<Path, BookFau
     }
 }
 
-/// The state behind the first word of a line, and the word behind that.
+/// The state after the first word of a line, and the word after the state.
 fn split_state(words: &[u8]) -> Option<(Option<Digest>, &[u8])>
     ensures { option_map (λ s. (s.0, s.1.now)) result ≡ split_at_state words.now }
 {
@@ -60,7 +60,7 @@ fn split_state(words: &[u8]) -> Option<(Option<Digest>, &[u8])>
     Some((Some(digest), word))
 }
 
-/// The state and the path behind the first word of a line.
+/// The state and the path after the first word of a line.
 fn read_stated(
     alloc: Global,
     number: u64,
@@ -75,7 +75,7 @@ fn read_stated(
     }
 }
 
-/// What a line says. Where it is an entry's and its path is `like`, the bytes of that are shared.
+/// What a line says. If it is an entry's and its path is `like`, the path is a clone of that.
 pub(crate) fn read_line(
     alloc: Global,
     number: u64,

@@ -16,17 +16,17 @@ use redo_record::{Dep, DepKind, Deps};
 use std::alloc::{AllocError, Global};
 use std::mem;
 
-/// The record that more entries may follow.
+/// The record that may get more entries.
 #[derive(Drop)]
 pub(crate) struct Last {
     book_record: BookRecord,
-    /// Its entries but `always`: each that comes is looked up here.
+    /// Its entries other than `always`. Each new one is looked up here.
     deps: Deps,
-    /// Whether `always` is one of them.
+    /// Whether it has the entry `always`.
     always: bool,
 }
 
-/// The dependency that an entry stands for; `always` is none.
+/// The dependency of an entry; `None` for `always`.
 fn dep_of(entry: &BookEntry) -> Result<Option<Dep>, AllocError>
     ensures { IfOk result (λ dep. dep ≡ dep_in entry.now) }
 {
@@ -39,7 +39,7 @@ fn dep_of(entry: &BookEntry) -> Result<Option<Dep>, AllocError>
     Ok(Some(Dep { kind, path }))
 }
 
-/// The path that an entry has; `always` has none.
+/// The path of an entry; `None` for `always`.
 fn path_of(entry: &BookEntry) -> Option<&Path> {
     match entry {
         BookEntry::Change(_, path) | BookEntry::Create(path) => Some(path),
@@ -48,7 +48,7 @@ fn path_of(entry: &BookEntry) -> Option<&Path> {
 }
 
 impl Last {
-    /// A record without entries yet.
+    /// A record without entries.
     fn new(alloc: Global, target: Path, state: Option<Digest>) -> Last
         ensures bare { record_of result.book_record ≡ record { target = target; state = state; entries = [] } }
         ensures kept { IsKept result }
@@ -64,9 +64,9 @@ impl Last {
         }
     }
 
-    /// Begins the record of a target in the place of this one, which is whole and is answered. Records that follow one
-    /// another are mostly alike, so the new one has room at once for as many entries as this one has, and these are
-    /// looked up where this one's were.
+    /// Starts the record of a target in place of this one, which is complete and is returned. Most successive records
+    /// are alike, so the new one gets room at once for as many entries as this one has, and the set for looking them up
+    /// is reused.
     fn begin(
         &mut self,
         alloc: Global,
@@ -89,7 +89,7 @@ impl Last {
         Ok(mem::replace(&mut self.book_record, next))
     }
 
-    /// Notes that `always` is an entry now, unless it is one.
+    /// Notes `always` as an entry. It is a fault if it is one already.
     fn note_always(&mut self, number: u64) -> Result<(), BookFault>
         requires { IsKept self.old }
         ensures new { Finds number result (new_entry self.old.book_record.entries.items Always) }
@@ -103,7 +103,7 @@ impl Last {
         Ok(())
     }
 
-    /// Notes an entry that is to come, unless one of its kind and path is there.
+    /// Notes the next entry. It is a fault if there is one of its kind and path already.
     fn note(&mut self, number: u64, entry: &BookEntry) -> Result<(), BookFault>
         requires { IsKept self.old }
         ensures new { Finds number result (new_entry self.old.book_record.entries.items entry.now) }
@@ -121,7 +121,7 @@ impl Last {
         Ok(())
     }
 
-    /// Adds an entry, unless one of its kind and path is there.
+    /// Adds an entry. It is a fault if there is one of its kind and path already.
     fn add(&mut self, number: u64, entry: BookEntry) -> Result<(), BookFault>
         requires { IsKept self.old }
         ensures adds { Makes number result (with_entry (record_of self.old.book_record) entry)
@@ -134,7 +134,7 @@ impl Last {
     }
 }
 
-/// Puts a whole record behind the others. From now on its entries take no more room than they need.
+/// Adds a complete record after the others. From now on its entries take no more room than they need.
 fn put_whole(done: &mut Vec<BookRecord>, mut whole: BookRecord) -> Result<(), AllocError>
     ensures { OnOk result (map record_of done.new.items ≡ map record_of done.old.items ++ record_of whole ∷ []) }
 {
@@ -143,7 +143,7 @@ fn put_whole(done: &mut Vec<BookRecord>, mut whole: BookRecord) -> Result<(), Al
     Ok(())
 }
 
-/// What the lines so far have made: the records that are whole, and the one that more entries may follow.
+/// What the lines so far have made: the complete records, and the one that may get more entries.
 #[derive(Drop)]
 pub(crate) struct Made {
     done: Vec<BookRecord>,
@@ -151,7 +151,7 @@ pub(crate) struct Made {
 }
 
 impl Made {
-    /// What no line has made.
+    /// Nothing made yet.
     pub(crate) fn new(alloc: Global) -> Made
         ensures made { made_of result ≡ at_first }
         ensures kept { IfSome result.last IsKept }
@@ -172,7 +172,7 @@ impl Made {
         }
     }
 
-    /// Begins the record of a target, unless it stands out of order.
+    /// Starts the record of a target, unless it is out of order.
     fn add_target(
         &mut self,
         alloc: Global,
@@ -196,7 +196,7 @@ impl Made {
         Ok(())
     }
 
-    /// Adds what a line says, unless it may not stand there.
+    /// Adds what a line says, unless it is out of place.
     fn add(&mut self, alloc: Global, number: u64, line: Line) -> Result<(), BookFault>
         requires { IfSome self.old.last IsKept }
         ensures adds { Makes number result (with_line (made_of self.old) line) (made_of self.new) }
@@ -211,17 +211,17 @@ impl Made {
         }
     }
 
-    /// The path that the next entry is likely to have: that of the entry at its place in the record before the last.
-    /// Records that follow one another are mostly of neighbours in one directory, which looked for the same candidates
-    /// but for the first, so most of their paths are the same. Made anew for each line, these would take more memory
-    /// than all else in a book.
+    /// The path that the next entry is likely to have: that of the entry at the same position in the previous record.
+    /// Most successive records are of neighbours in one directory. Their searches looked for the same candidates but
+    /// for the first, so most of their paths are the same. Made anew for each line, these would take more memory than
+    /// all else in a book.
     fn likely(&self) -> Option<&Path> {
         let last = self.last.as_ref()?;
         let before = self.done.last()?;
         path_of(before.entries.get(last.book_record.entries.len())?)
     }
 
-    /// Adds a line, unless it says nothing that may stand there.
+    /// Adds a line, unless it says nothing or something out of place.
     pub(crate) fn add_line(
         &mut self,
         alloc: Global,

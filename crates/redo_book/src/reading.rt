@@ -10,14 +10,14 @@ use crate::{Book, BookFault};
 use memchr::memchr;
 use std::alloc::Global;
 
-/// Where the first newline stands.
+/// The offset of the first newline.
 fn newline_at(bytes: &[u8]) -> Option<usize>
     ensures { result ≡ position is_newline bytes.now }
 {
     memchr(b'\n', bytes)
 }
 
-/// The first line, and what is behind its newline.
+/// The first line, and the text after its newline.
 fn split_line(text: &[u8]) -> Option<(&[u8], &[u8])>
     ensures { MatchOption result (list_any is_newline text.now ≡ false) (λ cut. IsCut text.now cut.0.now cut.1.now) }
 {
@@ -27,11 +27,11 @@ fn split_line(text: &[u8]) -> Option<(&[u8], &[u8])>
 
 /// Reads a book.
 ///
-/// It has a line `target <state> <path>` for each record, the targets rising, each followed by a line for each of the
-/// record's entries, which is `change <state> <path>`, `create <path>` or `always`, and at last the line `end`. A state
-/// is 64 hexadecimal digits in lower case, or `none`. Each line ends with a newline, and nothing follows the last. A
-/// path lies below the top directory and is spelled as its text, and no record has two entries of one kind and one
-/// path. The first line is answered that is not so.
+/// A book has a line `target <state> <path>` for each record, in strict order of targets. After it comes a line for
+/// each entry of the record: `change <state> <path>`, `create <path>` or `always`. The last line is `end`. A state is
+/// 64 lower-case hexadecimal digits, or `none`. Each line ends with a newline, and nothing follows the last. A path is
+/// below the top directory and is written as its text, and no record has two entries of the same kind and path. The
+/// first line that breaks these rules is reported.
 pub fn read_book(alloc: Global, text: &[u8]) -> Result<Book, BookFault>
     ensures book { IfOk result (λ book. IsText text.now book) }
     ensures only { IfOk result (λ book. (other : List Record) → IsText text.now other → other ≡ book) }

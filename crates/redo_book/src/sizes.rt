@@ -1,5 +1,5 @@
-//! How many bytes the lines of a book have, newlines and all, which is known before they are written. Of a state it is
-//! enough to know whether it is that of a file: no digest is made.
+//! The sizes in bytes of the lines of a book, with their newlines, before they are written. Of a state only one thing
+//! matters, whether it is that of a file: no digest is made.
 
 ghost use Rattle.std.specs.Prelude.{◌≡◌, ◌≤◌, ◌^◌, ◌++◌, ◌∷◌, [], IfOk, OnErr, is_some, length};
 ghost use Rattle.redo_digest.specs.Digest.{IsState, State};
@@ -12,7 +12,7 @@ use redo_path::Path;
 use redo_which::add_sizes;
 use std::alloc::AllocError;
 
-/// The size of the line of a target, which was made as a file or not.
+/// The size of a `target` line, given whether the target made a file.
 pub fn target_size(has_file: bool, target: &Path) -> usize
     ensures { (state : State) → IsState state → is_some state ≡ has_file →
         result ≡ length (target_line state target.now ++ 10 ∷ []) }
@@ -20,7 +20,7 @@ pub fn target_size(has_file: bool, target: &Path) -> usize
     b"target ".len() + stated_size(has_file, target)
 }
 
-/// The size of the line of a path that was depended on, at which a file stands or not.
+/// The size of a `change` line, given whether a file is at the path.
 pub fn change_size(has_file: bool, path: &Path) -> usize
     ensures { (state : State) → IsState state → is_some state ≡ has_file →
         result ≡ length (entry_line (Change state path.now) ++ 10 ∷ []) }
@@ -28,21 +28,21 @@ pub fn change_size(has_file: bool, path: &Path) -> usize
     b"change ".len() + stated_size(has_file, path)
 }
 
-/// The size of the line of a path that isn't to come to exist.
+/// The size of a `create` line.
 pub fn create_size(path: &Path) -> usize
     ensures { result ≡ length (entry_line (Create path.now) ++ 10 ∷ []) }
 {
     b"create \n".len() + path.text().len()
 }
 
-/// The size of the line of a target that is to be made again in any case.
+/// The size of an `always` line.
 pub fn always_size() -> usize
     ensures { result ≡ length (entry_line Always ++ 10 ∷ []) }
 {
     b"always\n".len()
 }
 
-/// The size of the lines of a record. Where it would be no number of this type, the lines fit into no memory.
+/// The size of the lines of a record. It fails on overflow, since such lines fit into no memory.
 pub fn record_size(record: &BookRecord) -> Result<usize, AllocError>
     ensures size { IfOk result (λ n. n ≡ length (text_of (record_lines (record_of «record».now)))) }
     ensures refused { OnErr result (2 ^ 64 ≤ length (text_of (record_lines (record_of «record».now)))) }
@@ -65,7 +65,7 @@ fn entry_size(entry: &BookEntry) -> usize
     }
 }
 
-/// Whether a state is that of a file, and so has a digest with its bytes.
+/// Whether a state is that of a file. Calling `bytes` brings the digest's invariant into the proof.
 fn is_of_file(state: &Option<Digest>) -> bool
     ensures told { result ≡ is_some state.now }
     ensures state { IsState state.now }
@@ -76,7 +76,7 @@ fn is_of_file(state: &Option<Digest>) -> bool
     }
 }
 
-/// The size of a state, a path and a newline, as they stand behind the first word of a line.
+/// The size of a state, a path and a newline, as they follow the first word of a line.
 fn stated_size(has_file: bool, path: &Path) -> usize
     ensures size { (state : State) → IsState state → is_some state ≡ has_file →
         result ≡ length (state_text state ++ 32 ∷ path.now ++ 10 ∷ []) }
@@ -85,7 +85,7 @@ fn stated_size(has_file: bool, path: &Path) -> usize
     state_size(has_file) + b" \n".len() + path.text().len()
 }
 
-/// The size of a state.
+/// The size of a state's text.
 fn state_size(has_file: bool) -> usize
     ensures size { (state : State) → IsState state → is_some state ≡ has_file → result ≡ length (state_text state) }
     ensures bound { result ≤ 64 }

@@ -12,7 +12,7 @@ use redo_bundle::{Broken, ByteOut, write_all, write_parts};
 use redo_digest::Digest;
 use redo_path::Path;
 
-/// Writes the line of a target, with which its record begins.
+/// Writes a `target` line, the first of a record.
 pub fn write_target<W: ByteOut>(
     out: &mut W,
     target: &Path,
@@ -25,7 +25,7 @@ pub fn write_target<W: ByteOut>(
     write_stated(out, b"target ", state, target)
 }
 
-/// Writes the line of a path that was depended on, with its state.
+/// Writes a `change` line: a path that was depended on, and its state.
 pub fn write_change<W: ByteOut>(
     out: &mut W,
     state: &Option<Digest>,
@@ -39,7 +39,7 @@ pub fn write_change<W: ByteOut>(
     write_stated(out, b"change ", state, path)
 }
 
-/// Writes the line of a path that isn't to come to exist.
+/// Writes a `create` line.
 pub fn write_create<W: ByteOut>(out: &mut W, path: &Path) -> Result<(), Broken>
     requires { W.has_failed out.old ≡ false }
     ensures writes { Writes (W.held out.old) (W.held out.new) result (entry_line (Create path.now) ++ 10 ∷ []) }
@@ -48,7 +48,7 @@ pub fn write_create<W: ByteOut>(out: &mut W, path: &Path) -> Result<(), Broken>
     write_parts(out, &[b"create ", path.text(), b"\n"])
 }
 
-/// Writes the line of a target that is to be made again in any case.
+/// Writes an `always` line.
 pub fn write_always<W: ByteOut>(out: &mut W) -> Result<(), Broken>
     requires { W.has_failed out.old ≡ false }
     ensures writes { Writes (W.held out.old) (W.held out.new) result (entry_line Always ++ 10 ∷ []) }
@@ -102,7 +102,7 @@ fn write_entry<W: ByteOut>(out: &mut W, entry: &BookEntry) -> Result<(), Broken>
     }
 }
 
-/// Writes the line of a state and a path behind a word, to which its space belongs.
+/// Writes a line of a word with its space, a state and a path.
 fn write_stated<W: ByteOut>(
     out: &mut W,
     word: &[u8],

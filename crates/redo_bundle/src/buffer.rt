@@ -1,4 +1,4 @@
-//! What came from a reader and was not used yet.
+//! Bytes that were read and not used yet.
 
 ghost use Rattle.std.specs.Prelude.{◌≡◌, ◌<◌, ◌≤◌, ℕ, List, [], length, drop, take, true, false, is_err, Ok, IfOk};
 ghost use Rattle.std.specs.Prelude.{OnOk};
@@ -8,10 +8,10 @@ use crate::{Broken, ByteIn};
 use std::alloc::{AllocError, Global};
 use std::marker::Model;
 
-/// How much is asked of a reader in one call.
+/// How many bytes a reader is asked for in one call.
 const PIECE: usize = 65536;
 
-/// What came from a reader and was not used yet. In a contract it is these bytes.
+/// Bytes that were read and not used yet. In a contract it is these bytes.
 #[derive(Drop)]
 pub(crate) struct Held {
     piece: Vec<u8>,
@@ -28,7 +28,7 @@ impl Model for Held {
 }
 
 impl Held {
-    /// A buffer that holds nothing.
+    /// An empty buffer.
     pub(crate) fn new(alloc: Global) -> Result<Held, AllocError>
         ensures { IfOk result (λ held. held ≡ []) }
     {
@@ -41,14 +41,14 @@ impl Held {
         })
     }
 
-    /// The bytes that are held.
+    /// The bytes in the buffer.
     pub(crate) fn bytes(&self) -> &[u8]
         ensures { result.now ≡ self.now }
     {
         &self.piece[self.from..self.to]
     }
 
-    /// Passes over the first bytes.
+    /// Drops the first `count` bytes.
     pub(crate) fn skip(&mut self, count: usize)
         requires { count ≤ length self.old }
         ensures { self.new ≡ drop count self.old }
@@ -56,7 +56,7 @@ impl Held {
         self.from += count;
     }
 
-    /// Reads a piece where nothing is held. At the end of the input nothing is held afterwards.
+    /// Reads a piece if the buffer is empty. Returns `false` at the end of the input, with the buffer empty.
     pub(crate) fn fill<R: ByteIn>(&mut self, reader: &mut R) -> Result<bool, Broken>
         requires { R.has_failed reader.old ≡ false }
         ensures more { result ≡ Ok true → 0 < length self.new }

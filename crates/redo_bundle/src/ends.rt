@@ -1,4 +1,4 @@
-//! The two ends of a bundle: what gives bytes, and what takes them.
+//! The two ends of a bundle: where its bytes come from, and where they go.
 
 ghost use Rattle.std.specs.Prelude.{◌≡◌, ◌≤◌, length, IfOk, is_err, false, List, ℕ, Option, Bool};
 ghost use Rattle.std.specs.Io.KnownBytes.{ReadConsumes, WriteAppends};
@@ -6,19 +6,19 @@ ghost use Rattle.redo_bundle.specs.Ends.{failed_write};
 
 use std::io::{Read, Write};
 
-/// A call of a reader or a writer failed. Why is not kept.
+/// A call of a reader or a writer failed. The cause isn't kept.
 #[derive(Clone, Copy, Debug, PartialEq, Eq)]
 pub struct Broken;
 
-/// Gives bytes until its end, or until it fails. It is asked for nothing after a failure.
+/// Gives bytes until its end, or until it fails. After a failure it isn't asked again.
 pub trait ByteIn {
-    // The bytes that are left, where they are known.
+    // The bytes that are left, if they are known.
     ghost left: { Self → Option (List ℕ) };
     // Whether a call has failed.
     ghost has_failed: { Self → Bool };
 
-    /// Puts some of the bytes that are left at the front of `buf`, and answers how many. None means
-    /// the end, where `buf` has any room.
+    /// Puts some of the bytes that are left at the front of `buf`, and returns how many. 0 means the end, unless `buf`
+    /// is empty.
     fn read(&mut self, buf: &mut [u8]) -> Result<usize, Broken>
         requires { has_failed self.old ≡ false }
         ensures bound { IfOk result (λ n. n ≤ length buf.new) }
@@ -30,15 +30,14 @@ pub trait ByteIn {
         ensures { result ≡ has_failed self.now };
 }
 
-/// Takes bytes until it fails. It is given nothing after a failure.
+/// Takes bytes until it fails. After a failure it is given nothing.
 pub trait ByteOut {
-    // The bytes that it holds, where they are known.
+    // The bytes that it holds, if they are known.
     ghost held: { Self → Option (List ℕ) };
-    // Whether a call has failed: it answered an error, or took nothing of some bytes.
+    // Whether a call has failed: it returned an error, or took none of some bytes.
     ghost has_failed: { Self → Bool };
 
-    /// Takes some bytes from the front of `buf`, and answers how many. To take none of some bytes is
-    /// a failure.
+    /// Takes some bytes from the front of `buf`, and returns how many. It is a failure to take none of some bytes.
     fn write(&mut self, buf: &[u8]) -> Result<usize, Broken>
         requires { has_failed self.old ≡ false }
         ensures bound { IfOk result (λ n. n ≤ length buf.now) }
@@ -50,8 +49,8 @@ pub trait ByteOut {
         ensures { result ≡ has_failed self.now };
 }
 
-/// A reader or a writer of std, with the mark that a call has failed. Any error is a failure,
-/// whatever its kind; to go on after an interrupted call, hand in a stream that does.
+/// A reader or writer of std that records whether a call has failed. Any error is a failure, whatever its kind; to
+/// retry interrupted calls, pass a stream that does.
 #[derive(Drop)]
 pub struct Plain<S> {
     pub stream: S,
@@ -59,7 +58,7 @@ pub struct Plain<S> {
 }
 
 impl<S> Plain<S> {
-    /// A stream that has not failed yet.
+    /// A stream that hasn't failed yet.
     pub fn new(stream: S) -> Plain<S>
         ensures stream { result.stream ≡ stream }
         ensures works { result.broken ≡ false }

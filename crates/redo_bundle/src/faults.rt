@@ -8,10 +8,10 @@ use redo_tree::TreeFault;
 use std::alloc::{AllocError, AllocFailed};
 use thiserror::Error;
 
-/// Why a bundle was refused. Headers are counted from 1; `end` and a byte behind it count on.
+/// Why a bundle was refused. Headers are numbered from 1; `end` and a byte after it count on.
 #[derive(Clone, Copy, Debug, PartialEq, Eq, Error)]
 pub enum BundleFault {
-    /// The header has none of the forms, or no newline follows a file's bytes, or a byte follows `end`.
+    /// The line is no header, or no newline follows a file's bytes, or a byte follows `end`.
     #[error("line {0} is no header, or what ends an entry is missing")]
     Line(u64),
     /// The path of the header is refused.
@@ -26,7 +26,7 @@ pub enum BundleFault {
     /// The reader failed.
     #[error("the reader failed")]
     Read,
-    /// No memory was left.
+    /// Out of memory.
     #[error("out of memory")]
     Memory,
 }
@@ -61,13 +61,13 @@ impl<T: Drop> From<AllocFailed<T>> for BundleFault {
     }
 }
 
-/// Why a bundle was not written. A beginning of its text went out.
+/// Why a bundle was not written. A prefix of its text has been written.
 #[derive(Clone, Copy, Debug, PartialEq, Eq, Error)]
 pub enum WriteFault {
     /// The writer failed.
     #[error("the writer failed")]
     Device,
-    /// No memory was left.
+    /// Out of memory.
     #[error("out of memory")]
     Memory,
 }

@@ -1,4 +1,4 @@
-//! What the definitions of bundles say together. The functions do nothing: each contract is a law.
+//! Theorems about the definitions of bundles. The functions do nothing; each contract is a law.
 
 ghost use Rattle.std.specs.Prelude.{◌≡◌, ◌↔◌, ℕ, List, true};
 ghost use Rattle.redo_tree.specs.Tree.{IsTree, Tree, tree_eq};
@@ -15,18 +15,18 @@ pub fn a_bundle_has_no_fault()
     ensures { (text : List ℕ) (tree : Tree) (fault : BundleFault) → IsBundle text tree → IsRefused text fault → ⊥ }
 {}
 
-/// A text is refused by one fault at most.
+/// A text is refused by at most one fault.
 pub fn a_text_has_one_fault()
     ensures { (text : List ℕ) (fault other : BundleFault) → IsRefused text fault → IsRefused text other →
         fault ≡ other }
 {}
 
-/// A text that is no bundle is refused, so reading that doesn't fail answers a tree exactly for the bundles.
+/// A text that is no bundle is refused. So reading, unless it fails, returns a tree exactly for bundles.
 pub fn each_text_is_a_bundle_or_refused()
     ensures { (text : List ℕ) → IsBundleOrRefused text }
 {}
 
-/// The bundle of a tree is read as that tree.
+/// The bundle of a tree reads back as that tree.
 pub fn a_written_tree_is_read_back()
     ensures { (tree : Tree) → IsTree tree → HasSmallFiles tree → IsBundle (bundle_of tree) tree }
 {}

@@ -1,14 +1,13 @@
-//! A tree's text as a bundle: how it is read and written.
+//! Bundles, the text form of a tree: reading and writing them.
 //!
-//! [`read_bundle`] makes a tree of a stream of bytes, and refuses what is no bundle by the first fault in it;
-//! [`write_bundle`] writes a tree in path order, so that it is read back as the same tree. Both work over the two small
-//! traits [`ByteIn`] and [`ByteOut`], whose contracts name the bytes and say whether a call has failed. The crate
-//! stands on
-//! `redo_tree` and `redo_path`, on `itoa`, which spells numbers, and on `thiserror`.
+//! [`read_bundle`] makes a tree from a stream of bytes, or reports the first fault in it; [`write_bundle`] writes a
+//! tree in path order, so that it reads back as the same tree. Both use two small traits, [`ByteIn`] and [`ByteOut`],
+//! whose contracts name the bytes and say whether a call has failed. Depends on `redo_tree` and `redo_path`, on `itoa`
+//! for formatting numbers and on `thiserror`.
 //!
-//! - `ends`: where bytes come from and go to; `buffer`: what came and was not used yet;
+//! - `ends`: where bytes come from and go to; `buffer`: bytes that were read and not used yet;
 //! - `reading`, `writing`: bundles, entry by entry; `faults`: why a bundle was refused, or not written;
-//! - [`laws`]: a text is a bundle of one tree or has one first fault, and a tree's bundle is read as that tree.
+//! - [`laws`]: a text is a bundle of one tree or has one first fault, and a tree's bundle reads back as that tree.
 #![tactic(auto)]
 
 mod buffer;

@@ -1,4 +1,4 @@
-//! Reading a bundle: a step for each part of an entry, over a buffer of what came and was not used.
+//! Reading a bundle: a function for each part of an entry, over a buffer of bytes that were read and not used yet.
 
 ghost use Rattle.std.specs.Prelude.{◌≡◌, ◌≢◌, ◌<◌, ◌≤◌, ◌+◌, ◌-◌, ◌*◌, ◌^◌, ◌↔◌, ℕ, List, [], ◌∷◌, ◌++◌, length, drop};
 ghost use Rattle.std.specs.Prelude.{take, codes, Bool, true, false, is_err, Option, Some, None, option_map, Result, Ok};
@@ -21,20 +21,20 @@ use redo_path::{Path, PathFault, resolve};
 use redo_tree::{Tree, TreeFault};
 use std::alloc::Global;
 
-/// The most bytes of a header line, without its newline.
+/// The most bytes in a header line, without its newline.
 const LONGEST_LINE: usize = 1100;
 
-/// The most bytes of a file.
+/// The most bytes in a file.
 const LARGEST_FILE: usize = 1 << 30;
 
-/// Where the first newline stands.
+/// The offset of the first newline.
 fn newline_at(bytes: &[u8]) -> Option<usize>
     ensures { result ≡ position is_newline bytes.now }
 {
     bytes.iter().position(|byte| *byte == b'\n')
 }
 
-/// Where the first newline stands, or the length.
+/// The offset of the first newline, or the length if there is none.
 #[tactic(auto, using(crate::proofs::LineLemmas::position_some, crate::proofs::LineLemmas::position_none))]
 fn line_end(bytes: &[u8]) -> usize
     ensures { result ≡ position_or_len is_newline bytes.now }
@@ -45,7 +45,7 @@ fn line_end(bytes: &[u8]) -> usize
     }
 }
 
-/// Reads a header line and its newline, in place of a line.
+/// Reads a header line into `line`, without the newline, which it consumes too.
 fn read_line<R: ByteIn>(
     held: &mut Held,
     reader: &mut R,
@@ -80,7 +80,7 @@ fn read_line<R: ByteIn>(
     }
 }
 
-/// Reads the bytes of a file, which grow with what comes.
+/// Reads `size` bytes of a file. Memory grows with the bytes that arrive.
 fn read_bytes<R: ByteIn>(
     alloc: Global,
     held: &mut Held,
@@ -107,7 +107,7 @@ fn read_bytes<R: ByteIn>(
     Ok(bytes)
 }
 
-/// Reads the newline behind a file's bytes.
+/// Reads the newline after a file's bytes.
 fn read_newline<R: ByteIn>(held: &mut Held, reader: &mut R, number: u64) -> Result<(), BundleFault>
     requires { R.has_failed reader.old ≡ false }
     ensures bytes { OnOk result (Consumes (prepend_known held.old (R.left reader.old))
@@ -125,7 +125,7 @@ fn read_newline<R: ByteIn>(held: &mut Held, reader: &mut R, number: u64) -> Resu
     Ok(())
 }
 
-/// Reads the bytes of a file, and the newline behind them.
+/// Reads the bytes of a file and the newline after them.
 fn read_body<R: ByteIn>(
     alloc: Global,
     held: &mut Held,
@@ -145,7 +145,7 @@ fn read_body<R: ByteIn>(
     Ok(bytes)
 }
 
-/// The number that decimal digits spell, where it is no larger than a file may be.
+/// The size, at most 2^30, that these bytes spell in plain decimal; `None` for anything else.
 fn read_size(digits: &[u8]) -> Option<usize>
     ensures { result ≡ size_of digits.now }
 {
@@ -160,14 +160,14 @@ fn read_size(digits: &[u8]) -> Option<usize>
     (spelled.format(sum).as_bytes() == digits).then_some(sum)
 }
 
-/// Where the first blank stands.
+/// The offset of the first space.
 fn blank_at(bytes: &[u8]) -> Option<usize>
     ensures { result ≡ position is_space bytes.now }
 {
     bytes.iter().position(|byte| *byte == b' ')
 }
 
-/// The size and the path that follow the first word of a file's header.
+/// The size and the path after the first word of a file's header.
 #[tactic(auto, using(crate::proofs::LineLemmas::words_none, crate::proofs::LineLemmas::words_at))]
 fn read_words(words: &[u8]) -> Option<(usize, &[u8])>
     ensures { option_map (λ f. (f.0, f.1.now)) result ≡ words_of words.now }
@@ -177,7 +177,7 @@ fn read_words(words: &[u8]) -> Option<(usize, &[u8])>
     Some((size, &words[blank + 1..]))
 }
 
-/// What a header line says: the size of a file, none of a directory, and the path.
+/// Parses a header line: the size of a file, `None` for a directory, and the path.
 #[tactic(auto, using(crate::proofs::LineLemmas::header_none, crate::proofs::LineLemmas::header_file))]
 fn read_header(line: &[u8]) -> Option<(Option<usize>, &[u8])>
     ensures { option_map (λ h. (h.0, h.1.now)) result ≡ header_of line.now }
@@ -190,7 +190,7 @@ fn read_header(line: &[u8]) -> Option<(Option<usize>, &[u8])>
     Some((Some(size), path))
 }
 
-/// The path of a header, which has to be spelled as the path's text.
+/// The path of a header, which must be written as the path's text.
 fn read_path(alloc: Global, number: u64, word: &[u8]) -> Result<Path, BundleFault>
     ensures path { IfOk result (λ path. path ≡ word.now) }
     ensures place { OnOk result (IsBelowRoot word.now) }
@@ -210,7 +210,7 @@ fn read_path(alloc: Global, number: u64, word: &[u8]) -> Result<Path, BundleFaul
     }
 }
 
-/// What the tree answered, as an answer on an entry.
+/// The tree's result as a result for the entry with this number.
 fn tell(number: u64, outcome: Result<(), TreeFault>) -> Result<(), BundleFault>
     ensures { result ≡ told number outcome }
 {
@@ -239,7 +239,7 @@ fn read_directory(
     tell(number, outcome)
 }
 
-/// Reads the bytes of a file, and adds it at a path.
+/// Reads the bytes of a file and adds it at a path.
 fn add_file<R: ByteIn>(
     alloc: Global,
     held: &mut Held,
@@ -283,7 +283,7 @@ fn read_file<R: ByteIn>(
     add_file(alloc, held, reader, number, tree, size, &path)
 }
 
-/// Reads what a header announces, and adds the entry to the tree.
+/// Reads what follows a header line and adds the entry to the tree.
 fn read_entry<R: ByteIn>(
     alloc: Global,
     held: &mut Held,
@@ -305,7 +305,7 @@ fn read_entry<R: ByteIn>(
     }
 }
 
-/// Reads one more entry, or the end: whether there was an entry. Its line is read in place of a line.
+/// Reads one more entry or the end, and returns whether it was an entry. The line goes into `line`.
 fn read_next<R: ByteIn>(
     alloc: Global,
     held: &mut Held,
@@ -338,15 +338,15 @@ fn read_next<R: ByteIn>(
     Ok(true)
 }
 
-/// Reads a bundle to the end of the input, in pieces of 64 KiB. A file's bytes are copied once, out
-/// of the piece, and memory grows with the bytes that came, whatever length a header states.
+/// Reads a bundle to the end of the input, in pieces of 64 KiB. A file's bytes are copied once, out of the piece, and
+/// memory grows with the bytes that arrive, whatever length a header states.
 ///
-/// A bundle is entries and then the line `end`, with nothing behind it. An entry is a line
-/// `dir <path>`, or a line `file <length> <path>`, that many bytes (at most 1,073,741,824, in plain
-/// decimal without leading zeros) and a newline. A header line has at most 1,100 bytes, a path is
-/// spelled as its text, and a directory comes before what it holds. The first fault in the order of
-/// the text is answered; of one entry it is the line's form, then its path, its content, and what
-/// the tree says of it. After `Err` the reader may have given any part of its bytes.
+/// A bundle is a sequence of entries, then the line `end`, then nothing. An entry is a line `dir <path>`, or a line
+/// `file <length> <path>` followed by that many bytes (at most 1,073,741,824) and a newline. The length is in plain
+/// decimal without leading zeros. A header line has at most 1,100 bytes, a path is written as its text, and a directory
+/// comes before what it holds. The first fault in the text is reported; within an entry the order is: the form of the
+/// line, the path, the content, and what the tree says of it. After `Err` the reader may have given any part of its
+/// bytes.
 pub fn read_bundle<R: ByteIn>(alloc: Global, reader: &mut R) -> Result<Tree, BundleFault>
     requires { R.has_failed reader.old ≡ false }
     ensures reads { IfSome (R.left reader.old) (λ text. Reads result text) }
@@ -359,9 +359,9 @@ pub fn read_bundle<R: ByteIn>(alloc: Global, reader: &mut R) -> Result<Tree, Bun
     read_bundle_by_line(alloc, reader, &mut line)
 }
 
-/// Reads a bundle as [`read_bundle`] does, each header line in place of `line`. So after a refusal the
-/// caller can show the line that it is about: it is the last of which anything was read, without its
-/// newline, and a beginning of it where it is too long or the input ends in it.
+/// Reads a bundle as [`read_bundle`] does, each header line into `line`. So after a refusal the caller can show the
+/// line at fault: the header line read last, without its newline, or the start of it if the line is too long or the
+/// input ends in it.
 pub fn read_bundle_by_line<R: ByteIn>(
     alloc: Global,
     reader: &mut R,
@@ -378,7 +378,7 @@ pub fn read_bundle_by_line<R: ByteIn>(
     let mut held = Held::new(alloc)?;
     let mut tree = Tree::new(alloc)?;
     loop {
-        // The top directory counts for the header that comes.
+        // The tree counts the top directory, so its size is the number of the next header.
         let number = tree.len() as u64;
         if !read_next(alloc, &mut held, reader, number, &mut tree, line)? {
             return Ok(tree);

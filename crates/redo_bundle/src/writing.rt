@@ -10,8 +10,8 @@ use redo_path::Path;
 use redo_tree::{Entry, Tree};
 use std::alloc::{AllocError, Global};
 
-/// Writes all of the bytes, in as many calls as the writer takes. A writer that takes nothing of
-/// what is left has failed. After a failure it holds a beginning of the bytes.
+/// Writes all of the bytes, in as many calls as the writer needs. A writer that takes none of the remaining bytes has
+/// failed. After a failure it has taken a prefix of the bytes.
 pub fn write_all<W: ByteOut>(writer: &mut W, bytes: &[u8]) -> Result<(), Broken>
     requires { W.has_failed writer.old ≡ false }
     ensures writes { Writes (W.held writer.old) (W.held writer.new) result bytes.now }
@@ -28,8 +28,7 @@ pub fn write_all<W: ByteOut>(writer: &mut W, bytes: &[u8]) -> Result<(), Broken>
     Ok(())
 }
 
-/// Writes bytes that lie in several places, one after another. After a failure the writer holds a
-/// beginning of them.
+/// Writes several pieces of bytes, one after another. After a failure the writer has taken a prefix of them.
 pub fn write_parts<W: ByteOut>(writer: &mut W, parts: &[&[u8]]) -> Result<(), Broken>
     requires { W.has_failed writer.old ≡ false }
     ensures writes { Writes (W.held writer.old) (W.held writer.new) result (flat_map (λ part. part.now) parts.now) }
@@ -80,9 +79,9 @@ fn write_entry<W: ByteOut>(
     Ok(())
 }
 
-/// Writes the directories and files below the top directory as a bundle, in path order; the form is
-/// that of [`read_bundle`](crate::read_bundle). No file may have more than 1,073,741,824 bytes, which
-/// `read_bundle` ensures. After `Err` a beginning of the text went out.
+/// Writes the directories and files below the top directory as a bundle, in path order, in the form that
+/// [`read_bundle`](crate::read_bundle) reads. No file may have more than 1,073,741,824 bytes; none has in a tree that
+/// `read_bundle` made. After `Err` a prefix of the text has been written.
 pub fn write_bundle<W: ByteOut>(
     alloc: Global,
     writer: &mut W,

@@ -1,8 +1,8 @@
-//! Bytes that clones share, the short ones in place.
+//! Byte strings that clones share; short ones are stored in place.
 //!
-//! A build keeps many small texts: the paths of its targets, scripts of a line, files of a word. [`Bytes`]
-//! keeps up to 22 bytes in itself, so that they take no memory beside it and are copied with it. More
-//! bytes stand in memory once, and the clones share them. Stands on the standard library alone.
+//! A build keeps many short texts: target paths, one-line scripts, one-word files. [`Bytes`] stores up to 22 bytes in
+//! itself, so they need no allocation and are copied with it. A longer string is allocated once, and its clones share
+//! it. Depends on the standard library alone.
 #![tactic(auto)]
 
 ghost use Rattle.std.specs.Prelude.{◌≡◌, ◌<◌, [], IfNone, IfOk, IfSome, length, nat_eq};
@@ -15,25 +15,25 @@ use std::fmt;
 use std::marker::Model;
 use std::sync::ArcSlice;
 
-/// Up to how many bytes lie in the value itself, which so has the size of three words.
+/// The most bytes that the value itself stores. With 22 it is three words in size.
 const SHORT: usize = 22;
 
-/// A few bytes, in place, and how many they are.
+/// A short byte string, stored in place, with its length.
 #[derive(Clone, Copy)]
 struct Short {
     len: u8,
     bytes: [u8; SHORT],
 }
 
-/// Bytes that lie here, or that are shared.
+/// A byte string, stored in place or shared.
 #[derive(Drop)]
 enum Kept {
     Short(Short),
     Shared(ArcSlice<u8>),
 }
 
-/// A list of bytes that doesn't change. A clone copies up to 22 bytes, and shares more. In a contract it is
-/// the list of its bytes.
+/// An immutable byte string. A clone copies up to 22 bytes and shares a longer string. In a contract it is the list of
+/// its bytes.
 pub struct Bytes {
     kept: Kept,
 }
@@ -50,7 +50,7 @@ impl Model for Bytes {
 }
 
 impl Short {
-    /// A copy of these bytes, where they are few enough.
+    /// Copies the bytes, or returns `None` if there are more than 22.
     fn of(bytes: &[u8]) -> Option<Short>
         ensures fit { IfSome result IsFit }
         ensures few { IfSome result (λ short. bytes_of short ≡ bytes.now) }
@@ -77,7 +77,7 @@ impl Short {
 }
 
 impl Bytes {
-    /// No bytes, which take no memory.
+    /// The empty string, which takes no memory.
     pub fn empty() -> Bytes
         ensures { result ≡ [] }
     {
@@ -90,7 +90,7 @@ impl Bytes {
         }
     }
 
-    /// A copy of these bytes.
+    /// Copies the bytes.
     pub fn from_slice(alloc: Global, bytes: &[u8]) -> Result<Bytes, AllocError>
         ensures { IfOk result (λ copy. copy ≡ bytes.now) }
     {
@@ -101,7 +101,7 @@ impl Bytes {
         Ok(Bytes { kept })
     }
 
-    /// The bytes of a vector, which are taken over; up to 22 are copied, and the vector is let go.
+    /// Takes over the bytes of a vector. If there are at most 22, it copies them and frees the vector.
     pub fn from_vec(bytes: Vec<u8>) -> Result<Bytes, AllocError>
         ensures { IfOk result (λ taken. taken ≡ bytes.items) }
     {
@@ -112,7 +112,7 @@ impl Bytes {
         Ok(Bytes { kept })
     }
 
-    /// The bytes, in their order.
+    /// The bytes, in order.
     pub fn as_slice(&self) -> &[u8]
         ensures { result.now ≡ self.now }
     {
@@ -123,7 +123,7 @@ impl Bytes {
     }
 }
 
-// By hand, so that letting bytes go is one call in the code above, and no match on where they are kept.
+// Written by hand so that callers drop a value with one call, without a match on where its bytes are.
 impl Drop for Bytes {
     fn drop(self) {
         let Bytes { kept: _kept } = self;
@@ -156,7 +156,7 @@ impl Eq for Bytes {
     ghost laws = { nat_list_eq_equiv };
 }
 
-/// The numbers of the bytes, as a slice prints them.
+/// Prints the bytes as numbers, as a slice does.
 impl fmt::Debug for Bytes {
     fn fmt<W: fmt::Write>(&self, f: &mut fmt::Formatter<W>) -> fmt::Result {
         f.debug_list().entries(self.as_slice()).finish()

@@ -11,12 +11,12 @@ pub record IsDigest (digest : List ℕ) : Type 0 where
   pub size : length digest ≡ 32
   pub bytes : IsBytes digest
 
--- the word has the digits of a digest, the letters in lower case
+-- the word is the digits of a digest, with lower-case letters
 pub record Spells (word digest : List ℕ) : Type 0 where
   pub whole : word ≡ encode_lower digest
   pub is : IsDigest digest
 
--- the digest that is spelled so
+-- the digest that a word spells, if it spells one
 abbrev pub digest_of : List ℕ → Option (List ℕ)
 digest_of word =
     option_and_then (λ bytes. if bytes_eq (encode_lower bytes) word then Some bytes else None)
@@ -29,6 +29,6 @@ State = Option (List ℕ)
 abbrev pub IsState : State → Type 0
 IsState state = IfSome state IsDigest
 
--- the state of a path where this file stands, or none
+-- the state of a path with this file, or with none
 abbrev pub state_of : Option (List ℕ) → State
 state_of file = option_map sha256 file

@@ -10,7 +10,7 @@ ghost use Rattle.redo_digest.specs.Digest.{IsDigest, IsState, digest_of};
 use sha2::{Digest as _, Sha256};
 use std::marker::Model;
 
-/// How many digits spell a digest.
+/// The number of hexadecimal digits of a digest.
 pub const DIGITS: usize = 64;
 
 /// The SHA-256 digest of a file's bytes. In a contract it is its 32 bytes.
@@ -40,7 +40,7 @@ impl Digest {
         }
     }
 
-    /// The digest that 64 digits spell, the letters in lower case. No other word is one.
+    /// The digest spelled by 64 hexadecimal digits with lower-case letters; `None` for any other word.
     pub fn from_hex(word: &[u8]) -> Option<Digest>
         ensures value { result ≡ digest_of word.now }
         ensures digest { IsState result }
@@ -53,7 +53,7 @@ impl Digest {
         Some(Digest { bytes })
     }
 
-    /// Its 64 digits, the letters in lower case.
+    /// Its 64 hexadecimal digits, with lower-case letters.
     pub fn digits(&self) -> [u8; DIGITS]
         ensures { result ≡ encode_lower self.now }
     {
@@ -62,7 +62,7 @@ impl Digest {
         digits
     }
 
-    /// The bytes.
+    /// The 32 bytes.
     pub fn bytes(&self) -> &[u8]
         ensures bytes { result.now ≡ self.now }
         ensures digest { IsDigest self.now }
@@ -72,12 +72,12 @@ impl Digest {
     }
 }
 
-/// Whether a letter of the word is in upper case.
+/// Whether the word has an upper-case letter.
 fn has_capital(word: &[u8]) -> bool
     ensures { result ≡ list_any is_ascii_uppercase word.now }
 {
     let mut found = false;
-    // No way out before the end: so a processor looks at many bytes at once.
+    // No early exit, so that a processor can look at many bytes at once.
     for byte in word {
         found |= byte.is_ascii_uppercase();
     }

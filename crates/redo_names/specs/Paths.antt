@@ -1,25 +1,25 @@
--- Lists of paths, in the order of first sight. A path is its text.
+-- Lists of paths in the order in which they were first seen. A path is its text.
 use Rattle.std.specs.Prelude.{ℕ, List, [], ◌≡◌, Bool, false, ◌⊎◌, ◌∷◌, ◌||◌, ◌++◌, if◌then◌else◌, bytes_eq}
 
 -- a path's text
 abbrev pub Path : Type 0
 Path = List ℕ
 
--- the path is one of these
+-- the path is in the list
 abbrev pub IsAmong : List Path → Path → Type 0
 IsAmong [] p = ⊥
 IsAmong (q ∷ qs) p = (q ≡ p) ⊎ IsAmong qs p
 
--- no path stands twice
+-- no path is in the list twice
 abbrev pub AreDistinct : List Path → Type 0
 AreDistinct [] = Unit {0}
 AreDistinct (q ∷ qs) = (IsAmong qs q → ⊥) × AreDistinct qs
 
--- whether the path is one of these
+-- whether the path is in the list
 abbrev pub is_among : List (List ℕ) → List ℕ → Bool
 is_among [] p = false
 is_among (q ∷ qs) p = bytes_eq q p || is_among qs p
 
--- the paths, and the path behind them, unless it is one of them
+-- the paths, followed by this path unless it is one of them
 abbrev pub with_path : List (List ℕ) → List ℕ → List (List ℕ)
 with_path ps p = if is_among ps p then ps else ps ++ p ∷ []

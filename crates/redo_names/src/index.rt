@@ -1,6 +1,6 @@
-//! Where the numbers of paths are kept: in a row of places, by the hashes of the paths' texts. Beside a number stands a
-//! mark, a few bits of the hash, so that hardly a path is read but the one that is looked for. A few paths need no row:
-//! each is compared.
+//! The index from a path's text to its number. It is a hash table, here called a row of places. Next to a number a
+//! place holds a mark, a few bits of the hash, so that hardly any path is read but the one looked for. Up to eight
+//! paths need no row: each is compared.
 
 ghost use Rattle.std.specs.Prelude.{◌≡◌, ◌+◌, ◌-◌, ◌<◌, ◌≤◌, ◌^◌, ◌++◌, ◌∷◌, ◌↔◌, [], Some, None, IfOk, IfNone, IfSome};
 ghost use Rattle.std.specs.Prelude.{MatchOption, OnErr, OnOk, IsTrue, bit_and, length, slice_get, slice_index};
@@ -15,22 +15,22 @@ use std::alloc::{AllocError, Global};
 use std::collections::BTreeMap;
 use std::hash::{FoldHasher, Hasher};
 
-/// How many places of the row are tried for a path.
+/// The most places of the row that are tried for a path.
 const TRIES: usize = 8;
 
-/// Up to so many paths need no row: a look-up compares each, and so no more texts than it may in a row.
+/// Up to this many paths need no row: a look-up compares each of them, and so no more texts than it may in a row.
 const FEW: usize = 8;
 
-/// How many numbers a place can tell from one another beside each of the 32 marks.
+/// How many values a place has for the number, beside each of the 32 marks.
 const NUMBERS: u32 = 1 << 27;
 
-/// The numbers of some paths. The paths stand elsewhere, and are handed in at each call.
+/// The numbers of some paths. The paths are stored elsewhere and passed to each call.
 #[derive(Drop)]
 pub(crate) struct Index {
-    /// The row: one more than the number of a path that was put here and, above its bits, the path's mark; 0 in a free
-    /// place. A few paths have no row, and then there are no places.
+    /// The row. A free place is 0. Any other has the path's number plus one in its low 27 bits and the path's mark in
+    /// the top 5. Up to eight paths have no row, and then there are no places.
     pub(crate) places: Vec<u32>,
-    /// The numbers of the paths that found no free place, by their texts.
+    /// The numbers of the paths that found no free place, by the paths' texts.
     pub(crate) overflow: BTreeMap<Vec<u8>, u32>,
 }
 
@@ -39,11 +39,11 @@ pub(crate) struct Index {
 pub(crate) enum Spot {
     /// At the path's number.
     Found(usize),
-    /// Behind the last of a few paths, which is where the path belongs.
+    /// The path isn't one of the few that need no row. It belongs after the last of them.
     Few,
-    /// At a free place, which is where the path belongs, with the hash of its text.
+    /// The path isn't there. It belongs in the free place `at`, and `hash` is the hash of its text.
     Free { at: usize, hash: u64 },
-    /// In the ordered map, where the path belongs.
+    /// The path isn't there. It belongs in the ordered map.
     Over,
 }
 
@@ -56,15 +56,16 @@ fn hash_of(text: &[u8]) -> u64
     hasher.finish()
 }
 
-/// How many paths a row of so many places has room for, so that about half of it is free, and a few where it has none.
+/// How many paths a row of `places` places has room for: about half as many, so that the rest stays free, and at least
+/// the eight that need no row.
 fn room_of(places: usize) -> usize
     ensures { result ≡ room_of_row places }
 {
     (places / 2).saturating_sub(TRIES).max(FEW)
 }
 
-/// How many places a row has that has room for so many paths; none where no number says it. A hash is cut to the bits
-/// of one less than a power of two, and the last place that these can tell has places behind it, too.
+/// How many places a row needs for `paths` paths; `None` on overflow. It is a power of two and seven more: a hash is
+/// masked to the bits below that power, and seven places follow the last that it can give.
 fn row_for(paths: usize) -> Option<usize>
     ensures form { IfSome result (λ places. IsPowerOfTwo (places - 7)) }
     ensures row { IfSome result (λ places. 8 ≤ places) }
@@ -75,7 +76,7 @@ fn row_for(paths: usize) -> Option<usize>
     told.checked_add(TRIES - 1)
 }
 
-/// The first place that is tried for a text with this hash in a row of so many places.
+/// The first place to try for a text with this hash, in a row of `places` places.
 fn start_of(hash: u64, places: usize) -> usize
     ensures start { result ≡ bit_and hash (places - 8) }
     ensures within { result ≤ places - 8 }
@@ -83,7 +84,7 @@ fn start_of(hash: u64, places: usize) -> usize
     hash as usize & places.saturating_sub(TRIES)
 }
 
-/// The mark of a path with this hash. It is the top bits, since the first place comes from the low ones.
+/// The mark of a path with this hash: the top 5 bits, since the low ones choose the first place.
 fn mark_of(hash: u64) -> u32
     ensures mark { result ≡ mark_of_hash hash }
     ensures small { result < 2 ^ 5 }
@@ -91,7 +92,7 @@ fn mark_of(hash: u64) -> u32
     (hash >> 59) as u32
 }
 
-/// What stands in the place of a number whose path has this hash.
+/// The value of a place that holds this number, whose path has this hash.
 fn place_of(number: u32, hash: u64) -> u32
     requires { number + 1 < 2 ^ 27 }
     ensures used { 0 < result }
@@ -101,7 +102,7 @@ fn place_of(number: u32, hash: u64) -> u32
     mark_of(hash) * NUMBERS + number + 1
 }
 
-/// The number that stands in a place.
+/// The number in a place.
 fn number_in(place: u32) -> u32
     requires { 0 < place }
     ensures { result ≡ number_at place }
@@ -109,7 +110,7 @@ fn number_in(place: u32) -> u32
     (place - 1) % NUMBERS
 }
 
-/// The mark that stands in a place.
+/// The mark in a place.
 fn mark_in(place: u32) -> u32
     requires { 0 < place }
     ensures { result ≡ mark_at place }
@@ -117,7 +118,7 @@ fn mark_in(place: u32) -> u32
     (place - 1) / NUMBERS
 }
 
-/// Whether the path of a number has this text.
+/// Whether the path with this number has this text.
 fn is_at(paths: &[Path], number: usize, text: &[u8]) -> bool
     ensures { IsTrue result ↔ (slice_get paths.now number ≡ Some text.now) }
 {
@@ -127,7 +128,7 @@ fn is_at(paths: &[Path], number: usize, text: &[u8]) -> bool
     }
 }
 
-/// Whether a place holds the number of the path with this text. The path is read only where the mark is the text's.
+/// Whether a place holds the number of the path with this text. The path is read only if the marks agree.
 fn holds(place: u32, paths: &[Path], text: &[u8], hash: u64) -> bool
     requires used { 0 < place }
     requires hash { hash ≡ hash_of_text text.now }
@@ -136,7 +137,7 @@ fn holds(place: u32, paths: &[Path], text: &[u8], hash: u64) -> bool
     mark_in(place) == mark_of(hash) && is_at(paths, number_in(place) as usize, text)
 }
 
-/// The number of the path with this text among a few, each of which is compared; none where it isn't one of them.
+/// The number of the path with this text, found by comparing each path; `None` if there is none.
 fn number_among(paths: &[Path], text: &[u8]) -> Option<usize>
     ensures { MatchOption result (IsAbsent paths.now text.now) (λ n. slice_get paths.now n ≡ Some text.now) }
 {
@@ -148,8 +149,8 @@ fn number_among(paths: &[Path], text: &[u8]) -> Option<usize>
     None
 }
 
-/// The number of a path that comes behind these. It is refused where it doesn't fit into a place beside a mark, which
-/// is after more than a hundred million paths.
+/// The number of the path that comes after these. Fails once it doesn't fit into a place beside a mark, after more than
+/// a hundred million paths.
 fn next_number(paths: &[Path]) -> Result<u32, AllocError>
     ensures number { IfOk result (λ number. number ≡ length paths.now) }
     ensures fits { IfOk result (λ number. number + 1 < 2 ^ 27) }
@@ -161,7 +162,7 @@ fn next_number(paths: &[Path]) -> Result<u32, AllocError>
 }
 
 impl Index {
-    /// No numbers. It takes no memory.
+    /// No numbers. Needs no memory.
     pub(crate) fn new(alloc: Global) -> Index
         ensures { IsIndexOf result [] }
     {
@@ -171,7 +172,7 @@ impl Index {
         }
     }
 
-    /// No numbers, and room for those of so many paths. For a few it takes no memory.
+    /// No numbers, with room for those of `capacity` paths. Up to eight need no memory.
     pub(crate) fn with_capacity(alloc: Global, capacity: usize) -> Result<Index, AllocError>
         ensures index { IfOk result (λ index. IsIndexOf index []) }
         ensures room { IfOk result (λ index. capacity ≤ room_of_row (length index.places.items)) }
@@ -182,7 +183,7 @@ impl Index {
         Index::of(alloc, &[], row_for(capacity).ok_or(AllocError)?)
     }
 
-    /// The numbers of these paths, in a row of so many places.
+    /// The numbers of these paths, in a row of `places` places.
     fn of(alloc: Global, paths: &[Path], places: usize) -> Result<Index, AllocError>
         requires row { 8 ≤ places }
         requires room { length paths.now ≤ room_of_row places }
@@ -197,7 +198,7 @@ impl Index {
         Ok(index)
     }
 
-    /// What stands at a place of the row, and 0 behind its end.
+    /// The value of a place of the row; 0 past its end.
     fn place(&self, at: usize) -> u32
         ensures { result ≡ slice_index self.now.places.items at }
     {
@@ -221,7 +222,7 @@ impl Index {
         }
     }
 
-    /// Where the search for a text ends in an index that has a row.
+    /// Where the search for a text ends in an index with a row.
     fn look_in_row(&self, paths: &[Path], text: &[u8]) -> Spot
         requires { IsRowOf self.now paths.now }
         ensures { IsSpot self.now paths.now text.now result }
@@ -240,7 +241,7 @@ impl Index {
         self.look_over(paths, text)
     }
 
-    /// Where the search for a text ends that finds no free place and no such path in the row.
+    /// Where the search for a text ends if the row has neither its path nor a free place for it.
     fn look_over(&self, paths: &[Path], text: &[u8]) -> Spot
         requires index { IsRowOf self.now paths.now }
         requires taken { AllTaken self.now.places.items text.now }
@@ -255,7 +256,7 @@ impl Index {
         Spot::Over
     }
 
-    /// Makes room for a path behind these, in a larger row where these are more than a few and fill theirs.
+    /// Makes room for one path after these, in a larger row if they fill the old one.
     pub(crate) fn make_room(&mut self, paths: &[Path]) -> Result<(), AllocError>
         requires { IsIndexOf self.old paths.now }
         ensures index { IsIndexOf self.new paths.now }
@@ -268,8 +269,8 @@ impl Index {
         Ok(())
     }
 
-    /// Enters a text as that of a path behind these. Where it is the text of one of them, that one's number is
-    /// answered.
+    /// Enters a text as that of the next path after these. If one of these has the text, its number is returned and
+    /// nothing is entered.
     pub(crate) fn enter(&mut self, paths: &[Path], text: &[u8]) -> Result<Option<usize>, AllocError>
         requires index { IsIndexOf self.old paths.now }
         requires room { length paths.now < room_of_row (length self.old.places.items) }

@@ -1,13 +1,13 @@
-//! Sets and maps of paths, in which a path is found in few steps whatever the paths' names are.
+//! Sets and maps of paths. A look-up takes few steps, whatever names the paths have.
 //!
-//! A build looks paths up all the time, and who writes a tree picks its names. A hash with a fixed seed puts chosen
-//! names into one place, and one with a random seed would make the times of one input differ from run to run. So a path
-//! is looked for by its hash in eight places at most, and where these are taken by others, in an ordered map: a look-up
-//! compares at most eight texts and then goes down a tree. Up to eight paths have no places, and a look-up compares
-//! each, with no hash. It stands on `redo_path` alone.
+//! A build looks up paths all the time, and whoever writes a tree chooses its names. With a fixed seed, chosen names
+//! can all collide in a hash table; with a random seed, the time for one input would differ from run to run. So the
+//! hash of a path leads to at most eight places, and if others have taken all of these, to an ordered map: a look-up
+//! compares at most eight texts and then descends a tree. Up to eight paths have no places, and a look-up compares each
+//! without a hash. Depends on `redo_path` alone.
 //!
 //! - `set`: [`PathSet`], paths with their numbers; `map`: [`PathMap`], a value for each path;
-//! - `index`: where numbers are kept, and how they are found.
+//! - `index`: how numbers are stored and found.
 #![tactic(auto)]
 
 mod index;

@@ -12,8 +12,8 @@ use std::alloc::{AllocError, Global};
 use std::marker::Model;
 use std::mem;
 
-/// Paths in the order in which they were put in, each with a value. In a contract it is the list of both. A path is
-/// found in few steps, as in a [`PathSet`].
+/// Paths in the order of insertion, each with a value. In a contract it is the list of the pairs. A look-up takes few
+/// steps, as in a [`PathSet`].
 #[derive(Drop)]
 pub struct PathMap<T> {
     paths: PathSet,
@@ -33,7 +33,7 @@ impl<T> Model for PathMap<T> {
 }
 
 impl<T> PathMap<T> {
-    /// No paths. It takes no memory.
+    /// No paths. Needs no memory.
     pub fn new(alloc: Global) -> PathMap<T>
         ensures { result ≡ [] }
     {
@@ -43,7 +43,7 @@ impl<T> PathMap<T> {
         }
     }
 
-    /// No paths, and room for so many, which is made at once. A map that is filled beyond it grows as any other.
+    /// No paths, with room for `capacity` of them. The map grows when it gets more.
     pub fn with_capacity(alloc: Global, capacity: usize) -> Result<PathMap<T>, AllocError>
         ensures { IfOk result (λ map. map ≡ []) }
     {
@@ -67,7 +67,7 @@ impl<T> PathMap<T> {
         self.len() == 0
     }
 
-    /// The number of the path with this text, from 0 in the order in which paths were put in; none where there is none.
+    /// The number of the path with this text, from 0 in the order of insertion; `None` if it isn't in the map.
     pub fn number_by_text(&self, text: &[u8]) -> Option<usize>
         ensures found { is_some result ≡ is_some (lookup (bytes_eq text.now) self.now) }
         ensures within { IfSome result (λ n. n < length self.now) }
@@ -77,7 +77,7 @@ impl<T> PathMap<T> {
         self.paths.number_by_text(text)
     }
 
-    /// The path of a number, with its value.
+    /// The path with this number, and its value.
     pub fn at(&self, number: usize) -> (&Path, &T)
         requires { number < length self.now }
         ensures pair { slice_get self.now number ≡ Some (result.0.now, result.1.now) }
@@ -86,14 +86,14 @@ impl<T> PathMap<T> {
         (self.paths.at(number), &self.values[number])
     }
 
-    /// The value of a path; none where the path isn't there.
+    /// The value of a path; `None` if the path isn't in the map.
     pub fn get(&self, path: &Path) -> Option<&T>
         ensures { option_copied result ≡ lookup (bytes_eq path.now) self.now }
     {
         self.get_by_text(path.text())
     }
 
-    /// The value of the path with this text, for where no path is made of it.
+    /// The value of the path with this text. No [`Path`] has to be made of the text.
     pub fn get_by_text(&self, text: &[u8]) -> Option<&T>
         ensures { option_copied result ≡ lookup (bytes_eq text.now) self.now }
     {
@@ -103,15 +103,15 @@ impl<T> PathMap<T> {
         }
     }
 
-    /// No path stands twice.
+    /// No path is in the map twice.
     pub fn each_once(&self)
         ensures { AreDistinct (keys_of self.now) }
     {
-        // A field is read so that the invariant is at hand in the proof. Nothing runs.
+        // Reading a field brings the invariant into the proof. Nothing runs.
         let _ = &self.values;
     }
 
-    /// The paths, and the values, each at its path's number.
+    /// The paths, and the values, each at the number of its path.
     pub fn into_parts(self) -> (PathSet, Vec<T>)
         ensures whole { self ≡ zip result.0 result.1.items }
         ensures many { length result.0 ≡ length result.1.items }
@@ -119,7 +119,7 @@ impl<T> PathMap<T> {
         (self.paths, self.values)
     }
 
-    /// The map of these paths, with the value of each at its number.
+    /// The map of these paths, each with the value at its number.
     pub fn of_parts(paths: PathSet, values: Vec<T>) -> PathMap<T>
         requires { length paths ≡ length values.items }
         ensures { result ≡ zip paths values.items }
@@ -128,8 +128,8 @@ impl<T> PathMap<T> {
         PathMap { paths, values }
     }
 
-    /// Puts in a value for a path: behind the others where the path is new, else in the place of its old value, which
-    /// is answered. On want of memory the map is as it was.
+    /// Sets the value of a path. A new path goes after the others; for an old one the previous value is returned. If
+    /// memory runs out, the map is unchanged.
     pub fn insert(&mut self, path: Path, value: T) -> Result<Option<T>, AllocError>
     where
         T: Drop,

@@ -10,8 +10,8 @@ use redo_path::Path;
 use std::alloc::{AllocError, Global};
 use std::marker::Model;
 
-/// Paths in the order in which they were put in, each once, and each with its number, from 0. In a contract it is the
-/// list of them. A path is found in few steps, whatever the names are that stand in the paths.
+/// Distinct paths in the order of insertion, each with its number, from 0. In a contract it is the list of them. A
+/// look-up takes few steps, whatever names the paths have.
 #[derive(Drop)]
 pub struct PathSet {
     paths: Vec<Path>,
@@ -31,7 +31,7 @@ impl Model for PathSet {
 }
 
 impl PathSet {
-    /// No paths. It takes no memory.
+    /// No paths. Needs no memory.
     pub fn new(alloc: Global) -> PathSet
         ensures { result ≡ [] }
     {
@@ -41,7 +41,7 @@ impl PathSet {
         }
     }
 
-    /// No paths, and room for so many, which is made at once. A set that is filled beyond it grows as any other.
+    /// No paths, with room for `capacity` of them. The set grows when it gets more.
     pub fn with_capacity(alloc: Global, capacity: usize) -> Result<PathSet, AllocError>
         ensures { IfOk result (λ set. set ≡ []) }
     {
@@ -72,7 +72,7 @@ impl PathSet {
         self.paths.as_slice()
     }
 
-    /// The path of a number.
+    /// The path with this number.
     pub fn at(&self, number: usize) -> &Path
         requires { number < length self.now }
         ensures { slice_get self.now number ≡ Some result.now }
@@ -80,14 +80,14 @@ impl PathSet {
         &self.paths[number]
     }
 
-    /// The number of a path; none where it isn't one of these.
+    /// The number of a path; `None` if it isn't in the set.
     pub fn number_of(&self, path: &Path) -> Option<usize>
         ensures { MatchOption result (IsAmong self.now path.now → ⊥) (λ n. slice_get self.now n ≡ Some path.now) }
     {
         self.number_by_text(path.text())
     }
 
-    /// The number of the path with this text, for where no path is made of it.
+    /// The number of the path with this text; `None` if it isn't in the set. No [`Path`] has to be made of the text.
     pub fn number_by_text(&self, text: &[u8]) -> Option<usize>
         ensures { MatchOption result (IsAmong self.now text.now → ⊥) (λ n. slice_get self.now n ≡ Some text.now) }
     {
@@ -97,8 +97,8 @@ impl PathSet {
         }
     }
 
-    /// Puts a path last, unless it is there. It answers the path's number, and whether it is new. On want of memory the
-    /// set is as it was.
+    /// Adds a path after the others, unless it is in the set. Returns the path's number and whether it is new. If
+    /// memory runs out, the set is unchanged.
     pub fn insert(&mut self, path: Path) -> Result<(usize, bool), AllocError>
         ensures paths { OnOk result (self.new ≡ with_path self.old path) }
         ensures number { IfOk result (λ put. slice_get self.new put.0 ≡ Some path) }
@@ -125,11 +125,11 @@ impl PathSet {
         paths
     }
 
-    /// No path stands twice.
+    /// No path is in the set twice.
     pub fn each_once(&self)
         ensures { AreDistinct self.now }
     {
-        // A field is read so that the invariant is at hand in the proof. Nothing runs.
+        // Reading a field brings the invariant into the proof. Nothing runs.
         let _ = &self.paths;
     }
 }

@@ -1,4 +1,4 @@
-//! What the definitions of paths say together. The functions do nothing: each contract is a law.
+//! Theorems about the definitions of paths. The functions do nothing; each contract is a law.
 
 ghost use Rattle.std.specs.Prelude.{◌≡◌, ◌≢◌, ℕ, List, [], Ok, Some, false};
 ghost use Rattle.std.specs.Cmp.Lexicographic.{slice_cmp};
@@ -8,7 +8,7 @@ ghost use Rattle.std.specs.declared.cmp.Ordering.TheVariants.{Less};
 ghost use Rattle.redo_path.specs.Names.{IsPath, is_control, parent_of};
 ghost use Rattle.redo_path.specs.Resolve.{resolved};
 
-/// A path's text, read from the top, names the path itself. The root's text is empty, and no word.
+/// A path's text, resolved from the top directory, names that path. The root is left out: the empty text is no word.
 pub fn a_path_names_itself()
     ensures { (path : List ℕ) → path ≢ [] → IsPath path → resolved [] path ≡ Ok path }
 {}
@@ -18,12 +18,12 @@ pub fn a_word_names_a_path()
     ensures { (base word path : List ℕ) → IsPath base → resolved base word ≡ Ok path → IsPath path }
 {}
 
-/// No path has a control byte, so a path fits into one line of text.
+/// No path has a control byte, so a path fits on one line of text.
 pub fn a_path_is_printable()
     ensures { (path : List ℕ) → IsPath path → AllByRecursion (λ byte. is_control byte ≡ false) path }
 {}
 
-/// A directory stands before all that it holds.
+/// A directory sorts before each path directly in it.
 pub fn a_directory_stands_first()
     ensures { (path dir : List ℕ) → parent_of path ≡ Some dir → slice_cmp nat_cmp dir path ≡ Less }
 {}

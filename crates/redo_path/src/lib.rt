@@ -1,16 +1,15 @@
-//! Canonical paths below one top directory, in which redo names its targets and dependencies.
+//! Canonical paths below one top directory, by which redo names targets and dependencies.
 //!
-//! A path is names with slashes between them: no name is empty, `.` or `..`, and the top directory
-//! is the empty text. So each file has one path, and paths are compared, ordered and kept as bytes.
-//! [`resolve`] says what a word of a script or of the command line names, read from a directory, as
-//! the operands of redo-ifchange(1) are. It looks at no disk: `zz/../src` is `src` whatever `zz` is.
-//! Stands on `redo_bytes` for where a
-//! text is kept, on `bstr` for searches in bytes and on `thiserror`.
+//! A path is a list of names joined by slashes. No name is empty, `.` or `..`, and the text of the top directory is
+//! empty. So each file has exactly one path, and paths are compared, sorted and stored as bytes. [`resolve`] turns a
+//! word of a script or of the command line into a path, relative to a directory, as redo-ifchange(1) does with its
+//! operands. It reads no disk: `zz/../src` is `src` whatever `zz` is. Depends on `redo_bytes` for storing texts, on
+//! `bstr` for searching bytes and on `thiserror`.
 //!
 //! - here: [`Path`] and [`PathFault`];
-//! - `text`: where a path's text is cut, and how long it may be;
-//! - `words`: a word, part by part;
-//! - [`laws`]: what the definitions say together, for the crates above.
+//! - `text`: splitting a path's text, and limits on its length;
+//! - `words`: resolving a word, part by part;
+//! - [`laws`]: theorems about the definitions, for the crates above.
 #![tactic(auto)]
 
 ghost use Rattle.std.specs.Prelude.{◌≡◌, ◌++◌, ◌∷◌, [], IfOk, IfSome, Some, nat_eq, option_copied, refl};
@@ -34,10 +33,10 @@ pub use text::{LONGEST_NAME, LONGEST_PATH, parent_of_text};
 use thiserror::Error;
 pub use words::resolve;
 
-/// Why a word names no path. [`resolve`] says which one is answered where several hold.
+/// Why a word names no path. [`resolve`] says which fault it reports if there are several.
 #[derive(Clone, Copy, Debug, PartialEq, Eq, Error)]
 pub enum PathFault {
-    /// The word has no bytes.
+    /// The word is empty.
     #[error("the path is empty")]
     Empty,
     /// The word begins with a slash.
@@ -46,16 +45,16 @@ pub enum PathFault {
     /// A `..` leads above the top directory.
     #[error("the path leads above the top directory")]
     Above,
-    /// A byte below 32, or 127, at this place of the word, counted from 0.
+    /// The word has a control byte, one below 32 or 127, at this offset from 0.
     #[error("a control byte at place {0}")]
     BadByte(usize),
     /// A name has more than 255 bytes.
     #[error("a name has more than 255 bytes")]
     LongName,
-    /// What the word names has more than 1,024 bytes.
+    /// The path that the word names has more than 1,024 bytes.
     #[error("the path has more than 1024 bytes")]
     LongPath,
-    /// No memory was left.
+    /// Out of memory.
     #[error("out of memory")]
     Memory,
 }
@@ -76,9 +75,9 @@ impl<T: Drop> From<AllocFailed<T>> for PathFault {
     }
 }
 
-/// A canonical path. A clone copies a short text and shares a long one. In a contract a path is its
-/// text. A text of up to 22 bytes lies in the path itself, which has the size of three words, so
-/// reading most paths of a build takes no step into memory elsewhere; a longer one is kept once.
+/// A canonical path. In a contract it is its text. A text of up to 22 bytes is stored in the path itself, which is
+/// three words in size: most paths of a build are read without following a pointer. A longer text is stored once, and
+/// clones share it.
 #[derive(Debug)]
 pub struct Path {
     text: Bytes,
@@ -98,7 +97,7 @@ impl Model for Path {
 impl Path {
     ghost use Rattle.redo_path.specs.Names.{below_of};
 
-    /// The top directory, whose text is empty. It takes no memory.
+    /// The top directory, whose text is empty. Needs no memory.
     pub fn root() -> Path
         ensures { result ≡ [] }
     {
@@ -107,9 +106,8 @@ impl Path {
         }
     }
 
-    /// The path with a copy of this text, through which it doesn't look: for a text that is known to be
-    /// a path's, as one that was put together of names. What is read from outside is a word, and goes
-    /// to [`resolve`].
+    /// The path with a copy of this text, which isn't checked. Use it for a text that is known to be a path, such as
+    /// one joined from names. Input is a word: give it to [`resolve`].
     pub fn of_text(alloc: Global, text: &[u8]) -> Result<Path, AllocError>
         requires { IsPath text.now }
         ensures { IfOk result (λ path. path ≡ text.now) }
@@ -118,7 +116,7 @@ impl Path {
         Ok(Path { text })
     }
 
-    /// The names, with slashes between them; nothing at the root.
+    /// The names, joined by slashes; empty for the root.
     pub fn text(&self) -> &[u8]
         ensures text { result.now ≡ self.now }
         ensures path { IsPath self.now }
@@ -126,14 +124,14 @@ impl Path {
         self.text.as_slice()
     }
 
-    /// The last name, which is empty at the root.
+    /// The last name; empty for the root.
     pub fn name(&self) -> &[u8]
         ensures { result.now ≡ name_of self.now }
     {
         last_name(self.text())
     }
 
-    /// The directory that holds it; the root lies in none.
+    /// The directory that contains this path; `None` for the root.
     pub fn parent(&self, alloc: Global) -> Result<Option<Path>, AllocError>
         ensures path { IsPath self.now }
         ensures text { IfOk result (λ parent. parent ≡ parent_of self.now) }
@@ -146,7 +144,7 @@ impl Path {
         }
     }
 
-    /// The text of the directory that holds it, which takes no memory.
+    /// The text of the directory that contains this path; `None` for the root. Needs no memory.
     pub fn parent_text(&self) -> Option<&[u8]>
         ensures path { IsPath self.now }
         ensures text { option_copied result ≡ parent_of self.now }
@@ -154,8 +152,8 @@ impl Path {
         parent_of_text(self.text())
     }
 
-    /// What follows `dir` and its slash: the whole text for the root, nothing for the path
-    /// itself, and `None` where `dir` isn't above it.
+    /// What follows `dir` and its slash: the whole text if `dir` is the root, nothing if `dir` is this path, `None` if
+    /// `dir` isn't above it.
     pub fn below(&self, dir: &Path) -> Option<&[u8]>
         ensures { option_copied result ≡ below_of self.now dir.now }
     {
@@ -173,7 +171,7 @@ impl Path {
     }
 }
 
-// By hand, so that letting a path go is one call in the code above, and no match on its field.
+// Written by hand so that callers drop a path with one call, without a match on its field.
 impl Drop for Path {
     fn drop(self) {
         let Path { text: _text } = self;
@@ -213,7 +211,7 @@ impl PartialOrd for Path {
     }
 }
 
-/// Paths stand in the order of their texts.
+/// Paths are ordered by the bytes of their texts.
 impl Ord for Path {
     ghost cmp = { slice_cmp nat_cmp };
 
@@ -228,7 +226,7 @@ impl Ord for Path {
     }
 }
 
-/// The path with this text.
+/// The path with this text, which is taken over.
 pub(crate) fn share(text: Vec<u8>) -> Result<Path, AllocError>
     requires { IsPath text.items }
     ensures { IfOk result (λ path. path ≡ text.items) }

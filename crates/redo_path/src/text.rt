@@ -1,4 +1,4 @@
-//! Where a path's text is cut, and how long it may be.
+//! Splitting a path's text, and limits on its length.
 
 ghost use Rattle.std.specs.Prelude.{◌≡◌, ◌++◌, ◌∷◌, [], IfSome, option_copied};
 ghost use Rattle.redo_path.specs.Names.{IsPath, name_of, names, parent_of};
@@ -6,14 +6,14 @@ ghost use Rattle.redo_path.specs.inside.Walking.{IsNameStart};
 
 use bstr::ByteSlice;
 
-/// The most bytes that a name has.
+/// The most bytes in a name.
 pub const LONGEST_NAME: usize = 255;
 
-/// The most bytes that a path has.
+/// The most bytes in a path.
 pub const LONGEST_PATH: usize = 1024;
 
-/// The text of the directory that holds the path with this text; the root lies in none. For a [`Path`](crate::Path)
-/// it is [`parent_text`](crate::Path::parent_text).
+/// The text of the directory that contains the path with this text; `None` for the root. For a [`Path`](crate::Path)
+/// use [`parent_text`](crate::Path::parent_text).
 pub fn parent_of_text(text: &[u8]) -> Option<&[u8]>
     requires { IsPath text.now }
     ensures text { option_copied result ≡ parent_of text.now }
@@ -34,7 +34,7 @@ pub(crate) fn last_name(text: &[u8]) -> &[u8]
     &text[name_start(text)..]
 }
 
-/// Where the last name of a text begins.
+/// The offset at which the last name of a text begins.
 pub(crate) fn name_start(text: &[u8]) -> usize
     ensures { IsNameStart text.now result }
 {

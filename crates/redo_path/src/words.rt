@@ -1,8 +1,8 @@
-//! What a word names, read from a directory: part by part, as a shell reads it.
+//! Resolves a word relative to a directory, part by part, as a shell does.
 //!
-//! A word that is read from the top directory and whose parts are all names is a path's text already,
-//! and is kept as it stands. Any other is walked into a buffer that gets its room once, at most 1,024
-//! bytes; where the word has `.` or `..`, some of that room stays spare.
+//! If a word is relative to the top directory and all its parts are names, it is a path's text already and is copied as
+//! it is. Any other word is built up in a buffer that starts with room for the whole of it, but for at most 1,024 bytes;
+//! `.` and `..` in the word leave part of it unused.
 
 ghost use Rattle.std.specs.Prelude.{◌≡◌, ◌↔◌, Err, IfErr, IfOk, IsOk, IsTrue, MatchOption, None, position};
 ghost use Rattle.std.specs.List.{AllByRecursion};
@@ -15,7 +15,7 @@ use crate::text::name_start;
 use crate::{LONGEST_NAME, LONGEST_PATH, Path, PathFault, share};
 use std::alloc::{AllocError, Global};
 
-/// Goes up to the directory that holds the path.
+/// Goes up to the parent directory.
 fn leave(text: &mut Vec<u8>) -> Result<(), PathFault>
     requires { AllByRecursion IsName (names text.old.items) }
     ensures { Leads result (names text.new.items) (up_from (names text.old.items)) }
@@ -28,7 +28,7 @@ fn leave(text: &mut Vec<u8>) -> Result<(), PathFault>
     Ok(())
 }
 
-/// Goes down to a name in the directory.
+/// Goes down to a name in this directory.
 fn enter(text: &mut Vec<u8>, name: &[u8]) -> Result<(), PathFault>
     ensures entered { IfOk result (λ _. text.new.items ≡ child_of text.old.items name.now) }
     ensures memory { IfErr result (λ fault. fault ≡ Memory) }
@@ -59,7 +59,7 @@ fn follow(text: &mut Vec<u8>, part: &[u8]) -> Result<(), PathFault>
     enter(text, part)
 }
 
-/// Refuses what no path is, wherever it is read from.
+/// Refuses a word that names no path, whatever directory it is relative to.
 fn check_word(word: &[u8]) -> Result<(), PathFault>
     ensures { MatchOption (word_fault word.now) (IsOk result) (λ fault. result ≡ Err fault) }
 {
@@ -74,20 +74,19 @@ fn check_word(word: &[u8]) -> Result<(), PathFault>
     }
 }
 
-/// Where the first control byte stands.
+/// The offset of the first control byte.
 fn control_place(bytes: &[u8]) -> Option<usize>
     ensures { result ≡ position is_control bytes.now }
 {
     bytes.iter().position(|byte| *byte < 32 || *byte == 127)
 }
 
-/// The path that a word names, read from a directory. Empty names and `.` stay where they are,
-/// and `..` goes up, whatever stands on a disk.
+/// The path that a word names relative to `base`. An empty part or `.` changes nothing, and `..` goes up. No disk is
+/// read.
 ///
-/// A word without bytes, one that begins with a slash and one with a control byte are refused in
-/// this order, wherever the fault stands. Then the first name decides that leads above the top
-/// directory or has more than 255 bytes, and last the length of the whole path, which has at most
-/// 1,024 bytes. Bytes from 128 on are free.
+/// Faults are reported in this order: the word is empty; it begins with a slash; it has a control byte, wherever it is.
+/// Next comes the first part that leads above the top directory or has more than 255 bytes, and last a path of more
+/// than 1,024 bytes. Bytes from 128 on are allowed.
 pub fn resolve(alloc: Global, base: &Path, word: &[u8]) -> Result<Path, PathFault>
     ensures { Answers result (resolved base.now word.now) }
 {
@@ -98,7 +97,7 @@ pub fn resolve(alloc: Global, base: &Path, word: &[u8]) -> Result<Path, PathFaul
     follow_word(alloc, base, word)
 }
 
-/// Whether each part of a word is a name, as in nearly all words of a build.
+/// Whether each part of a word is a name, as it is for nearly all words of a build.
 fn are_names(word: &[u8]) -> bool
     requires { word_fault word.now ≡ None }
     ensures { IsTrue result ↔ AllByRecursion IsName (parts word.now) }
@@ -111,7 +110,7 @@ fn are_names(word: &[u8]) -> bool
     true
 }
 
-/// Whether a part of a word stands for a file or a directory in its directory.
+/// Whether a part of a word names an entry of a directory.
 fn is_name(part: &[u8]) -> bool
     requires { IsPart part.now }
     ensures { IsTrue result ↔ IsName part.now }
@@ -145,7 +144,7 @@ fn follow_word(alloc: Global, base: &Path, word: &[u8]) -> Result<Path, PathFaul
     finish(text)
 }
 
-/// A copy of a text with room for so many bytes more, up to the length of the longest path.
+/// A copy of a text with room for `more` bytes, but at most for the longest path.
 fn with_room(alloc: Global, text: &[u8], more: usize) -> Result<Vec<u8>, AllocError>
     ensures { IfOk result (λ copy. copy.items ≡ text.now) }
 {
@@ -155,7 +154,7 @@ fn with_room(alloc: Global, text: &[u8], more: usize) -> Result<Vec<u8>, AllocEr
     Ok(copy)
 }
 
-/// The path of a text of names, unless it is too long.
+/// The path with this text, unless it is too long.
 fn finish(text: Vec<u8>) -> Result<Path, PathFault>
     requires { AllByRecursion IsName (names text.items) }
     ensures { Answers result (within_limit text.items) }

@@ -1,4 +1,4 @@
--- What is known of paths while a build goes on.
+-- What is known of paths during a build.
 use Rattle.std.specs.Prelude.{ℕ, Bool, true, false, List, Option, Some, None}
 use Rattle.redo_record.specs.declared.outcome.Outcome.{Outcome}
 use Rattle.redo_record.specs.declared.outcome.Outcome.TheVariants as outcomes
@@ -8,14 +8,14 @@ use Rattle.redo_record.specs.Paths.{Path}
 abbrev pub Ask : Type 0
 Ask = Path → Option Outcome
 
--- the file of a path that isn't a source, once it has an answer
+-- the file that a path was built with, if any
 abbrev pub file_in : Outcome → Option (List ℕ)
 file_in outcomes.Source = None
 file_in (outcomes.Built file) = file
 file_in (outcomes.Failed w) = None
 file_in outcomes.Cyclic = None
 
--- whether an answer is that of a failed target
+-- whether an answer is that of a failed or cyclic target
 abbrev pub is_failure : Option Outcome → Bool
 is_failure None = false
 is_failure (Some outcomes.Source) = false

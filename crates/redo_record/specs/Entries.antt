@@ -1,4 +1,4 @@
--- The entries of a record: what a target is to be made again for.
+-- The entries of a record: when a target must be rebuilt.
 use Rattle.std.specs.Prelude.{Bool, true, false, ◌&&◌, ◌||◌, List, [], ◌∷◌, ◌++◌, Option, Some, None, if◌then◌else◌}
 use Rattle.std.specs.Prelude.{◌≡◌, map}
 use Rattle.redo_record.specs.declared.deps.Dep.{Dep}
@@ -8,7 +8,7 @@ use Rattle.std.specs.Str.{bytes_eq}
 use Rattle.redo_record.specs.Paths.{Path}
 use Rattle.redo_record.specs.declared.deps.DepKind.TheVariants.{Change, Create}
 
--- whether two kinds are one
+-- whether two kinds are the same
 abbrev pub same_kind : DepKind → DepKind → Bool
 same_kind kinds.Change kinds.Change = true
 same_kind kinds.Create kinds.Create = true
@@ -20,34 +20,34 @@ same_kind kinds.Create kinds.Always = false
 same_kind kinds.Always kinds.Change = false
 same_kind kinds.Always kinds.Create = false
 
--- whether a kind and a path are among the entries
+-- whether an entry with this kind and path is in the list
 abbrev pub is_entered : List Dep → DepKind → Path → Bool
 is_entered [] kind path = false
 is_entered (e ∷ es) kind path = (same_kind kind e.kind && bytes_eq path e.path) || is_entered es kind path
 
--- each kind and path once, at its first place
+-- the list with this entry added, unless it is there already
 abbrev pub with_entry : List Dep → DepKind → Path → List Dep
 with_entry es kind path = if is_entered es kind path then es else es ++ record { kind = kind; path = path } ∷ []
 
--- the paths entered in order
+-- the list with these paths added in order, each unless it is there already
 abbrev pub with_entries : List Dep → DepKind → List Path → List Dep
 with_entries es kind [] = es
 with_entries es kind (p ∷ ps) = with_entries (with_entry es kind p) kind ps
 
--- each pair of a kind and a path once, at its first place
+-- the list with these entries added in order, each unless it is there already
 abbrev pub with_all : List Dep → List Dep → List Dep
 with_all deps [] = deps
 with_all deps (d ∷ ds) = with_all (with_entry deps d.kind d.path) ds
 
--- the record of the search: the candidates that are missing, and the .do file
+-- the record of the search: the missing candidates, and the .do file
 abbrev pub search_deps : List Path → Path → List Dep
 search_deps missing do_file = with_entry (with_entries [] kinds.Create missing) kinds.Change do_file
 
--- an entry for each candidate that is missing
+-- an entry for each missing candidate
 abbrev pub creates : List Path → List Dep
 creates missing = map (λ path. record { kind = kinds.Create; path = path }) missing
 
--- the entry of the .do file, where there is one
+-- the entry of the .do file, if there is one
 abbrev pub change_of : Option Path → List Dep
 change_of None = []
 change_of (Some do_file) = record { kind = kinds.Change; path = do_file } ∷ []
@@ -56,11 +56,11 @@ change_of (Some do_file) = record { kind = kinds.Change; path = do_file } ∷ []
 abbrev pub search_entries : List Path → Option Path → List Dep
 search_entries missing do_file = creates missing ++ change_of do_file
 
--- and then what the script declared
+-- the same, then what the script declared
 abbrev pub entries_of : List Path → Option Path → List Dep → List Dep
 entries_of missing do_file own = search_entries missing do_file ++ own
 
--- no entry stands twice
+-- no entry occurs twice
 abbrev pub AreOnce : List Dep → Type 0
 AreOnce [] = Unit {0}
 AreOnce (d ∷ ds) = (is_entered ds d.kind d.path ≡ false) × AreOnce ds

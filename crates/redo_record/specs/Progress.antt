@@ -12,7 +12,7 @@ pub record Progress : Type 0 where
   pub outcome : Option Outcome
   pub deps : List Dep
 
--- it asks for nothing
+-- the progress of a target whose outcome is known at once
 abbrev pub at_once : Outcome → List Dep → Progress
 at_once outcome deps = record { outcome = Some outcome; deps = deps }
 
@@ -26,29 +26,29 @@ changed Always p = None
 abbrev pub changes : List Dep → List Path
 changes deps = filter_map (λ d. changed d.kind d.path) deps
 
--- those that are no sources: what the record waits for
+-- the paths among these that are no sources: what the record waits for
 abbrev pub operands : (source : Path → Bool) → List Dep → List Path
 operands source deps = filter (λ p. not (source p)) (changes deps)
 
--- every answer of the first ask to a path that is no source is one of the second
+-- every answer of the first ask to a path that is no source is also one of the second
 abbrev pub Gains : (Path → Bool) → Ask → Ask → Type 0
 Gains source a b = (q : Path) (o : Outcome) → source q ≡ false → a q ≡ Some o → b q ≡ Some o
 
 -- How a target's progress follows the answers.
 pub record IsLawful (source : Path → Bool) (progress : Ask → Progress) : Type 0 where
-  -- it looks at the answers to the paths that it asks for, and at no others
+  -- it depends on the answers to the paths that it asks for, and on no others
   pub local : (a b : Ask) → ((q : Path) → IsAmong (operands source (progress a).deps) q → a q ≡ b q) →
       progress a ≡ progress b
-  -- once it ended it has every answer that it asked for
+  -- once it has ended, it has every answer that it asked for
   pub answered : (q : Path) (a : Ask) (o : Outcome) → (progress a).outcome ≡ Some o →
       IsAmong (operands source (progress a).deps) q → a q ≡ None → ⊥
-  -- while it hasn't ended it lacks an answer
+  -- until it has ended, it lacks an answer
   pub lacking : (a : Ask) → (progress a).outcome ≡ None →
       (q : Path) × IsAmong (operands source (progress a).deps) q × (a q ≡ None)
   -- with more answers it asks for no fewer paths
   pub grows : (q : Path) (a b : Ask) → Gains source a b → IsAmong (operands source (progress a).deps) q →
       IsAmong (operands source (progress b).deps) q
-  -- it waits for all of its operands: while one lacks, more answers leave it where it is
+  -- it waits for all of its operands: while one lacks an answer, more answers don't change it
   pub waits : (q : Path) (a b : Ask) → Gains source a b → IsAmong (operands source (progress a).deps) q → b q ≡ None →
       progress b ≡ progress a
   -- it asks for each path once

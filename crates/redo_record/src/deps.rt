@@ -9,12 +9,12 @@ use redo_path::Path;
 use std::alloc::{AllocError, Global};
 use std::marker::Model;
 
-/// Whether a target is to be made again when a path changes, when it comes to exist, or in any case.
+/// Whether a target must be rebuilt when a path changes, when something comes to exist at a path, or always.
 #[derive(Clone, Copy, Debug, PartialEq, Eq)]
 pub enum DepKind {
     Change,
     Create,
-    /// Its entry has the root for its path, which stands for nothing there.
+    /// Its entry has the root as its path, which means nothing there.
     Always,
 }
 
@@ -25,17 +25,17 @@ pub struct Dep {
     pub path: Path,
 }
 
-/// Up to how many entries are compared with each other rather than looked up. Most records have fewer.
+/// Up to this many entries are compared with each other rather than looked up. Most records have fewer.
 const FEW: usize = 16;
 
-/// Where entries are kept. Many are boxed, since most records have a few entries and each target has one.
+/// How entries are stored. Many are boxed, since each target has a store and most records have few entries.
 #[derive(Drop)]
 enum Store {
     Few(Vec<Dep>),
     Many(Box<Many>),
 }
 
-/// Entries, with their paths by kind, in which they are looked up. In a contract it is the list of the entries.
+/// Entries, with their paths by kind for looking them up. In a contract it is the list of the entries.
 #[derive(Drop)]
 struct Many {
     entries: Vec<Dep>,
@@ -85,7 +85,7 @@ impl Many {
         self.of_kind(dep.kind).number_of(&dep.path).is_some()
     }
 
-    /// Puts an entry last, unless it is there.
+    /// Adds an entry after the others, unless it is there already.
     fn put(&mut self, dep: Dep) -> Result<(), AllocError>
         ensures ok { OnOk result (self.new ≡ with_entry self.old dep.kind dep.path) }
         ensures err { OnErr result (self.new ≡ self.old) }
@@ -110,7 +110,7 @@ impl Many {
     }
 }
 
-/// Entries in the order of their first mention, each once. In a contract it is the list of them.
+/// Distinct entries in the order of their first mention. In a contract it is the list of them.
 #[derive(Drop)]
 pub struct Deps {
     store: Store,
@@ -139,7 +139,7 @@ impl Deps {
         }
     }
 
-    /// Makes room for so many more entries, and for no others, as long as they are few.
+    /// Reserves exact room for `additional` more entries, but for at most 16 in all.
     pub fn reserve(&mut self, additional: usize) -> Result<(), AllocError>
         ensures { self.new ≡ self.old }
     {
@@ -150,7 +150,7 @@ impl Deps {
         Ok(())
     }
 
-    /// Puts an entry last, unless it is there.
+    /// Adds an entry after the others, unless it is there already.
     pub fn insert(&mut self, dep: Dep) -> Result<(), AllocError>
         ensures ok { OnOk result (self.new ≡ with_entry self.old dep.kind dep.path) }
         ensures err { OnErr result (self.new ≡ self.old) }
@@ -168,7 +168,7 @@ impl Deps {
         Ok(())
     }
 
-    /// Lets all entries go. Where they were few, their room is kept for others.
+    /// Removes all entries. If they were few, their room is kept.
     pub fn clear(&mut self)
         ensures { self.new ≡ [] }
     {
@@ -201,11 +201,11 @@ impl Deps {
         self.len() == 0
     }
 
-    /// No entry stands twice.
+    /// No entry occurs twice.
     pub fn each_once(&self)
         ensures { AreOnce self.now }
     {
-        // A field is read so that the invariant is at hand in the proof. Nothing runs.
+        // Reading a field brings the invariant into the proof. Nothing runs.
         let _ = &self.store;
     }
 
@@ -231,7 +231,7 @@ fn is_among(entries: &[Dep], dep: &Dep) -> bool
     false
 }
 
-/// Puts an entry last in a list, unless it is there.
+/// Appends an entry to a list, unless it is there already.
 fn add(entries: &mut Vec<Dep>, dep: Dep) -> Result<(), AllocError>
     requires { AreOnce entries.old.items }
     ensures ok { OnOk result (entries.new.items ≡ with_entry entries.old.items dep.kind dep.path) }
@@ -244,7 +244,7 @@ fn add(entries: &mut Vec<Dep>, dep: Dep) -> Result<(), AllocError>
     Ok(())
 }
 
-/// Copies of some entries, with one more put last unless it is there.
+/// Copies of the entries, with one more after them unless it is there already.
 fn copied_with(entries: &Vec<Dep>, dep: Dep) -> Result<Many, AllocError>
     requires { AreOnce entries.now.items }
     ensures { IfOk result (λ many. many ≡ with_entry entries.now.items dep.kind dep.path) }
@@ -254,7 +254,7 @@ fn copied_with(entries: &Vec<Dep>, dep: Dep) -> Result<Many, AllocError>
     Ok(many)
 }
 
-/// Copies of some entries.
+/// Copies of the entries.
 fn copied(alloc: Global, entries: &[Dep]) -> Result<Many, AllocError>
     requires { AreOnce entries.now }
     ensures { IfOk result (λ many. many ≡ entries.now) }

@@ -7,17 +7,17 @@ use redo_script::ScriptFault;
 use redo_tree::Content;
 use thiserror::Error;
 
-/// Why a target failed. It is printed in the words of a report: a fault while the script ran has its line, counted
+/// Why a target failed. It is printed in the words of a report. A fault that came up while the script ran has its line,
 /// from 1.
 #[derive(Clone, Copy, Debug, PartialEq, Eq, Error)]
 pub enum Why {
-    /// No candidate for its .do file is there.
+    /// None of its candidates is a file.
     #[error("norule")]
     NoRule,
     /// It is a directory.
     #[error("directory")]
     Directory,
-    /// It lies in a directory that the tree lacks.
+    /// It is in a directory that the tree doesn't have.
     #[error("nodirectory")]
     NoDirectory,
     /// The script can't be read.
@@ -29,34 +29,34 @@ pub enum Why {
     /// An operand of redo-ifchange failed.
     #[error("depends {0}")]
     Depends(u64),
-    /// A parameter outside quotes whose bytes are not those of one plain word.
+    /// A parameter outside quotes has a value that isn't one plain word.
     #[error("unquoted {0}")]
     Unquoted(u64),
-    /// A word that names no path.
+    /// A word names no path.
     #[error("outside {0}")]
     Outside(u64),
     /// The script read a path that it hadn't declared.
     #[error("undeclared {0}")]
     Undeclared(u64),
-    /// An operand of redo-ifcreate is there.
+    /// An operand of redo-ifcreate exists.
     #[error("exists {0}")]
     Exists(u64),
     /// An operand of redo-ifcreate has a rule.
     #[error("buildable {0}")]
     Buildable(u64),
-    /// A redirection into the target itself.
+    /// A redirection goes to the target itself.
     #[error("direct {0}")]
     Direct(u64),
-    /// A redirection into something else than `$3`.
+    /// A redirection goes to something other than `$3`.
     #[error("elsewhere {0}")]
     Elsewhere(u64),
     /// The script wrote to standard output and made `$3`.
     #[error("both")]
     BothOutputs,
-    /// Standard output or `$3` would be longer than a file may be.
+    /// Standard output or `$3` would be larger than a file may be.
     #[error("toolarge {0}")]
     TooLarge(u64),
-    /// A format of printf that isn't served.
+    /// A format of printf that isn't supported.
     #[error("format {0}")]
     Format(u64),
 }
@@ -66,7 +66,7 @@ pub enum Why {
 pub enum Outcome {
     /// It is a file of the tree.
     Source,
-    /// It was built, perhaps without a file.
+    /// It was built, possibly without a file.
     Built(Option<Content>),
     Failed(Why),
     /// It waits for itself, or for a path that does.
@@ -74,7 +74,7 @@ pub enum Outcome {
 }
 
 impl Outcome {
-    /// The bytes that it was built with, if it has a file of its own.
+    /// The bytes of the file that it was built with, if any.
     pub fn file(&self) -> Option<&[u8]>
         ensures { option_copied result ≡ file_in self.now }
     {
@@ -84,7 +84,7 @@ impl Outcome {
         }
     }
 
-    /// Keeps the digest of the bytes that it was built with, so that nobody makes it again.
+    /// Makes the digest of the file that it was built with and keeps it, so that nobody makes it again.
     pub fn keep_digest(&mut self)
         ensures { self.new ≡ self.old }
     {
@@ -93,7 +93,7 @@ impl Outcome {
         }
     }
 
-    /// Whether a script that declared it fails for it.
+    /// Whether a script that declared it fails because of it.
     pub fn has_failed(&self) -> bool
         ensures { result ≡ is_failure (Some self.now) }
     {

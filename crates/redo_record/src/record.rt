@@ -12,9 +12,9 @@ use redo_which::{Missing, Rule};
 use std::alloc::{AllocError, Global};
 use std::marker::Model;
 
-/// What a target is to be made again for: the candidates that the search for its rule missed, the
-/// .do file, and then what its script declared, each once. In a contract it is the list of these
-/// entries. The candidates are kept as their number, since they follow from the target.
+/// When a target must be rebuilt: the candidates that the search for its rule missed, the .do file, and then what its
+/// script declared, each once. In a contract it is the list of these entries. The candidates are stored as their
+/// number, since they follow from the target.
 #[derive(Drop)]
 pub struct Record {
     missing: Missing,
@@ -34,14 +34,14 @@ impl Model for Record {
     ghost invariant = { λ r. AreOnce (entries_of r.missing r.do_file r.own) };
 }
 
-/// What a record is made of, in the order of its entries.
+/// The parts of a record, in the order of its entries.
 #[derive(Drop)]
 pub struct Parts<'a> {
-    /// The candidates that are missing.
+    /// The missing candidates.
     pub missing: &'a Missing,
     /// The .do file, if there is a rule.
     pub do_file: Option<&'a Path>,
-    /// What the script declared and the search has not entered already.
+    /// What the script declared, without what the search had entered already.
     pub own: &'a [Dep],
 }
 
@@ -69,8 +69,8 @@ impl Record {
         }
     }
 
-    /// The record of a target whose script ended and declared this, which is taken over; it is copied only
-    /// where the search has entered some of it already.
+    /// The record of a target whose script has ended and declared this. The declared entries are taken over; they are
+    /// copied only if the search has entered some of them already.
     pub fn of_script(alloc: Global, rule: Rule, declared: Deps) -> Result<Record, AllocError>
         ensures { IfOk result (λ deps. deps ≡ with_all (search_deps rule.missing rule.do_file) declared) }
     {
@@ -98,7 +98,7 @@ impl Record {
         })
     }
 
-    /// The record with these entries, which are taken over. It keeps each of them, also those of a search.
+    /// The record with these entries, which are taken over. It stores each of them, even those of a search.
     pub fn of_entries(entries: Deps) -> Record
         ensures { result ≡ entries }
     {
@@ -110,7 +110,7 @@ impl Record {
         }
     }
 
-    /// What it is made of.
+    /// The parts of the record.
     pub fn parts(&self) -> Parts<'_>
         ensures { self.now ≡ entries_of result.missing.now (option_copied result.do_file) result.own.now }
     {
@@ -121,15 +121,15 @@ impl Record {
         }
     }
 
-    /// No entry stands twice.
+    /// No entry occurs twice.
     pub fn each_once(&self)
         ensures { AreOnce self.now }
     {
-        // A field is read so that the invariant is at hand in the proof. Nothing runs.
+        // Reading a field brings the invariant into the proof. Nothing runs.
         let _ = &self.own;
     }
 
-    /// Its entries, each spelled anew.
+    /// Its entries. Each call spells them again.
     pub fn entries(&self, alloc: Global) -> Result<Vec<Dep>, AllocError>
         ensures { IfOk result (λ list. list.items ≡ self.now) }
     {
@@ -140,7 +140,7 @@ impl Record {
     }
 }
 
-/// The entries of the candidates that are missing.
+/// The entries of the missing candidates.
 fn created(alloc: Global, missing: &Missing) -> Result<Vec<Dep>, AllocError>
     ensures { IfOk result (λ list. list.items ≡ creates missing.now) }
 {
@@ -154,7 +154,7 @@ fn created(alloc: Global, missing: &Missing) -> Result<Vec<Dep>, AllocError>
         .collect(alloc)
 }
 
-/// Adds the entry of the .do file, if there is one.
+/// Appends the entry of the .do file, if there is one.
 fn add_change(list: &mut Vec<Dep>, do_file: &Option<Path>) -> Result<(), AllocError>
     ensures { OnOk result (list.new.items ≡ list.old.items ++ change_of do_file.now) }
 {
@@ -168,7 +168,7 @@ fn add_change(list: &mut Vec<Dep>, do_file: &Option<Path>) -> Result<(), AllocEr
     Ok(())
 }
 
-/// Adds copies of entries to a list.
+/// Appends copies of entries to a list.
 fn add_all(list: &mut Vec<Dep>, own: &[Dep]) -> Result<(), AllocError>
     ensures { OnOk result (list.new.items ≡ list.old.items ++ own.now) }
 {
@@ -178,7 +178,7 @@ fn add_all(list: &mut Vec<Dep>, own: &[Dep]) -> Result<(), AllocError>
     Ok(())
 }
 
-/// Whether the search for a rule entered it already.
+/// Whether the search for a rule has entered this already.
 fn is_found(alloc: Global, rule: &Rule, dep: &Dep) -> Result<bool, AllocError>
     ensures { IfOk result (λ found. found ≡
         is_entered (search_entries rule.now.missing (Some rule.now.do_file)) dep.now.kind dep.now.path) }
@@ -190,7 +190,7 @@ fn is_found(alloc: Global, rule: &Rule, dep: &Dep) -> Result<bool, AllocError>
     }
 }
 
-/// The entries that the search for a rule has not entered already. Mostly these are all of them.
+/// The entries that the search for a rule has not entered already. Usually these are all of them.
 fn without_found(alloc: Global, rule: &Rule, declared: Deps) -> Result<Deps, AllocError>
     ensures { IfOk result (λ own. entries_of rule.now.missing (Some rule.now.do_file) own ≡
         with_all (search_entries rule.now.missing (Some rule.now.do_file)) declared) }

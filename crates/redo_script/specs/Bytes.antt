@@ -1,7 +1,7 @@
 -- The bytes of a script by name, and their classes.
 use Rattle.std.specs.Prelude.{ℕ, Bool, true, false, ◌&&◌, ◌||◌, ◌==◌, nat_le, List, [], ◌∷◌, codes}
 
--- the bytes that mean something, each by its name
+-- the bytes that have a meaning, by name
 abbrev pub tab : ℕ
 tab = 9
 
@@ -45,15 +45,15 @@ backquote = 96
 abbrev pub is_digit : ℕ → Bool
 is_digit b = nat_le 48 b && nat_le b 57
 
--- a letter of ASCII
+-- an ASCII letter
 abbrev pub is_letter : ℕ → Bool
 is_letter b = (nat_le 97 b && nat_le b 122) || (nat_le 65 b && nat_le b 90)
 
--- a byte that a name begins with
+-- a byte that a name may begin with
 abbrev pub begins_name : ℕ → Bool
 begins_name b = is_letter b || (b == underscore)
 
--- a byte that a name goes on with
+-- a byte that a name may continue with
 abbrev pub continues_name : ℕ → Bool
 continues_name b = begins_name b || is_digit b
 
@@ -62,7 +62,7 @@ abbrev pub is_among : List ℕ → ℕ → Bool
 is_among [] b = false
 is_among (c ∷ cs) b = (b == c) || is_among cs b
 
--- a byte that stands for itself outside quotes
+-- a byte that is literal outside quotes
 unfoldable pub is_plain : ℕ → Bool
 is_plain b = is_letter b || is_digit b || is_among (codes "_-./+,:=@%!") b
 
@@ -70,12 +70,12 @@ is_plain b = is_letter b || is_digit b || is_among (codes "_-./+,:=@%!") b
 abbrev pub is_blank : ℕ → Bool
 is_blank b = (b == space) || (b == tab)
 
--- every byte is one that a name goes on with
+-- a name may continue with every byte
 abbrev pub all_continue : List ℕ → Bool
 all_continue [] = true
 all_continue (b ∷ bs) = continues_name b && all_continue bs
 
--- a name: a letter or `_`, and then letters, digits and `_`
+-- a name: a letter or `_`, then letters, digits and `_`
 abbrev pub is_name : List ℕ → Bool
 is_name [] = false
 is_name (b ∷ bs) = begins_name b && all_continue bs

@@ -9,7 +9,7 @@ use Rattle.redo_script.specs.Syntax.{create, always, always_true, always_false, 
 use Rattle.redo_script.specs.Syntax.{Condition, if_test, if_true, if_false, Script, finish, simple, choice, loop}
 use Rattle.redo_script.specs.Tokens.{Token, word, semicolon, newline, redirect}
 
--- a word of a command, and whether it is written with plain bytes alone
+-- a word of a command, and whether it is written with plain bytes only
 pub record Item : Type 0 where
   pub is_plain : Bool
   pub word : Word
@@ -18,7 +18,7 @@ pub record Item : Type 0 where
 abbrev pub item_words : List Item → List Word
 item_words items = map (λ i. i.word) items
 
--- the word is these bytes, with no parameter among them
+-- the word is exactly these bytes, without a parameter
 abbrev pub spells : Word → List ℕ → Bool
 spells [] [] = true
 spells [] (b ∷ bs) = false
@@ -29,11 +29,11 @@ spells (bare p ∷ w) bs = false
 spells (named_quoted n ∷ w) bs = false
 spells (named_bare n ∷ w) bs = false
 
--- the word is this name, written with plain bytes alone
+-- the word is this name, written with plain bytes only
 abbrev pub is_named : List ℕ → Item → Bool
 is_named name item = item.is_plain && spells item.word name
 
--- these bytes and then those of a word, where it has no parameter
+-- these bytes, then those of a word, if it has no parameter
 abbrev pub literal_on : List ℕ → Word → Option (List ℕ)
 literal_on bs [] = Some bs
 literal_on bs (byte b ∷ w) = literal_on (bs ++ b ∷ []) w
@@ -42,16 +42,16 @@ literal_on bs (bare p ∷ w) = None
 literal_on bs (named_quoted n ∷ w) = None
 literal_on bs (named_bare n ∷ w) = None
 
--- these bytes, where they are a name
+-- these bytes, if they are a name
 abbrev pub as_name : Option (List ℕ) → Option (List ℕ)
 as_name None = None
 as_name (Some bs) = if is_name bs then Some bs else None
 
--- the name that a word is, where it is one, written with plain bytes alone
+-- the name that a word is, if it is one and is written with plain bytes only
 abbrev pub name_of : Item → Option (List ℕ)
 name_of item = if item.is_plain then as_name (literal_on [] item.word) else None
 
--- one of these names
+-- the name is one of these
 abbrev pub is_bound : List (List ℕ) → List ℕ → Bool
 is_bound [] name = false
 is_bound (n ∷ names) name = bytes_eq n name || is_bound names name
@@ -70,7 +70,7 @@ abbrev pub knows_items : List (List ℕ) → List Item → Bool
 knows_items names [] = true
 knows_items names (i ∷ items) = knows_word names i.word && knows_items names items
 
--- the same of a redirection's word
+-- each name in the redirection's word is one of these
 abbrev pub knows_redirection : List (List ℕ) → Option Redirection → Bool
 knows_redirection names None = true
 knows_redirection names (Some r) = knows_word names r.word
@@ -79,7 +79,7 @@ knows_redirection names (Some r) = knows_word names r.word
 abbrev pub knows : List (List ℕ) → List Item → Option Redirection → Bool
 knows names items r = knows_items names items && knows_redirection names r
 
--- the number that n and then these digits spell
+-- the number spelled by n followed by these digits
 abbrev pub digits_value : ℕ → Word → Option ℕ
 digits_value n [] = Some n
 digits_value n (byte b ∷ w) = if is_digit b then digits_value (10 * n + (b - 48)) w else None
@@ -88,12 +88,12 @@ digits_value n (bare p ∷ w) = None
 digits_value n (named_quoted name ∷ w) = None
 digits_value n (named_bare name ∷ w) = None
 
--- a number that isn't larger than this
+-- the number, if it is at most `limit`
 abbrev pub at_most : ℕ → Option ℕ → Option ℕ
 at_most limit None = None
 at_most limit (Some n) = if nat_le n limit then Some n else None
 
--- the status that exit is given: one to three plain digits, at most 255
+-- the status given to exit: one to three plain digits, at most 255
 abbrev pub status_of : Item → Option ℕ
 status_of item =
     if item.is_plain && nat_le 1 (length item.word) && nat_le (length item.word) 3
@@ -105,7 +105,7 @@ abbrev pub option_exit : Option ℕ → Option Command
 option_exit None = None
 option_exit (Some n) = Some (exit n)
 
--- what test looks at: -f W, W = W or W != W, where quotes may stand in the operator
+-- what test checks: -f W, W = W or W != W, where quotes are allowed in the operator
 abbrev pub test_form : List Item → Option (Test Word)
 test_form [] = None
 test_form (a ∷ []) = None
@@ -142,7 +142,7 @@ exit_form [] = None
 exit_form (i ∷ []) = option_exit (status_of i)
 exit_form (i ∷ j ∷ items) = None
 
--- a command of this name and operands that takes no redirection; none where they aren't of its form
+-- the command of this name and operands that takes no redirection; none if the operands don't fit its form
 abbrev pub bare_form : Item → List Item → Option Command
 bare_form name items =
     if is_named (codes "test") name then option_test (test_form items)
@@ -154,7 +154,7 @@ bare_form name items =
     else if is_named (codes "exit") name then exit_form items
     else None
 
--- a command of this name, operands and redirection; none where they aren't of its form
+-- the command of this name, operands and redirection; none if they don't fit its form
 abbrev pub command_form : Item → List Item → Option Redirection → Option Command
 command_form name items r =
     if is_named (codes "echo") name then Some (write (echo (item_words items)) r)
@@ -163,7 +163,7 @@ command_form name items r =
     else if is_none r then bare_form name items
     else None
 
--- the commands that may be a condition
+-- the command as a condition, if it may be one
 abbrev pub option_condition : Option Command → Option Condition
 option_condition None = None
 option_condition (Some c) = elim c [
@@ -177,7 +177,7 @@ option_condition (Some c) = elim c [
   | exit n ↦ None
 ]
 
--- the condition of this name and operands; none where they aren't of the form of one
+-- the condition of this name and operands; none if they don't fit its form
 abbrev pub condition_form : Item → List Item → Option Condition
 condition_form name items = option_condition (bare_form name items)
 
@@ -189,8 +189,8 @@ AtSeparator (newline l ∷ ts) = Unit {0}
 AtSeparator (word l p w ∷ ts) = ⊥
 AtSeparator (redirect l a ∷ ts) = ⊥
 
--- The tokens begin with words, and perhaps a redirection with its word, up to a separator or the end; then come the
--- last.
+-- The tokens are words, and perhaps a redirection with its word, up to a separator or the end, followed by the
+-- rest.
 pub data IsItems : List Token → List Item → Option Redirection → List Token → Type 0 where
   none_left : {ts : List Token} → AtSeparator ts → IsItems ts [] None ts
   one_item : {l : ℕ} {p : Bool} {w : Word} {ts rest : List Token} {items : List Item} {r : Option Redirection} →
@@ -198,27 +198,27 @@ pub data IsItems : List Token → List Item → Option Redirection → List Toke
   redirected : {l k : ℕ} {a p : Bool} {w : Word} {ts : List Token} →
       AtSeparator ts → IsItems (redirect l a ∷ word k p w ∷ ts) [] (Some (record { appends = a; word = w })) ts
 
--- The tokens begin with newlines, if any; then come the last.
+-- The tokens are newlines, if any, followed by the rest.
 pub data SkipsNewlines : List Token → List Token → Type 0 where
   here : {ts : List Token} → SkipsNewlines ts ts
   past : {l : ℕ} {ts rest : List Token} → SkipsNewlines ts rest → SkipsNewlines (newline l ∷ ts) rest
 
--- The tokens begin with `;` or a newline, and then newlines, if any; then come the last.
+-- The tokens are `;` or a newline, then newlines, if any, followed by the rest.
 pub data Separates : List Token → List Token → Type 0 where
   by_semicolon : {l : ℕ} {ts rest : List Token} → SkipsNewlines ts rest → Separates (semicolon l ∷ ts) rest
   by_newline : {l : ℕ} {ts rest : List Token} → SkipsNewlines ts rest → Separates (newline l ∷ ts) rest
 
--- The tokens begin with this word of the shell's own; then come the last.
+-- The tokens are this reserved word, followed by the rest.
 pub data IsKeyword : List ℕ → List Token → List Token → Type 0 where
   keyword : {name : List ℕ} {l : ℕ} {w : Word} {ts : List Token} →
       spells w name ≡ true → IsKeyword name (word l true w ∷ ts) ts
 
--- What is open: an if, with its line, and whether its else was read; or a loop, with its line and its name.
+-- What is open: an if with its line, and whether its else was read; or a loop with its line and its name.
 pub data Opening : Type 0 where
   an_if : (line : ℕ) → (has_else : Bool) → Opening
   a_loop : (line : ℕ) → (name : List ℕ) → Opening
 
--- how many ifs are open round a command, and the names that loops bind there, the innermost first
+-- how many ifs are open around a command, and the names that loops bind there, innermost first
 pub record Nest : Type 0 where
   pub ifs : ℕ
   pub names : List (List ℕ)
@@ -231,18 +231,18 @@ in_if n = record n { ifs = suc n.ifs }
 abbrev pub in_loop : List ℕ → Nest → Nest
 in_loop name n = record n { names = name ∷ n.names }
 
--- outside each if and loop
+-- outside all ifs and loops
 abbrev pub outermost : Nest
 outermost = record { ifs = 0; names = [] }
 
--- inside these, the innermost first
+-- inside these, innermost first
 abbrev pub nest_in : List Opening → Nest
 nest_in [] = outermost
 nest_in (an_if line has_else ∷ os) = in_if (nest_in os)
 nest_in (a_loop line name ∷ os) = in_loop name (nest_in os)
 
--- The tokens begin with `if` in this line, this condition, in which names are bound, a separator and `then`; then come
--- the last.
+-- The tokens are `if` on this line, this condition, whose names are bound, a separator and `then`, followed by the
+-- rest.
 pub data OpensIf : List (List ℕ) → ℕ → Condition → List Token → List Token → Type 0 where
   opens_if : {names : List (List ℕ)} {l k : ℕ} {p : Bool} {v w : Word} {t1 t2 t3 rest : List Token} {items : List Item}
       {c : Condition} →
@@ -250,13 +250,13 @@ pub data OpensIf : List (List ℕ) → ℕ → Condition → List Token → List
       condition_form (record { is_plain = p; word = w }) items ≡ Some c → knows names items None ≡ true →
       Separates t2 t3 → IsKeyword (codes "then") t3 rest → OpensIf names l c (word l true v ∷ word k p w ∷ t1) rest
 
--- The tokens begin with words, in which names are bound; then come the last.
+-- The tokens are words whose names are bound, followed by the rest.
 pub data TakesWords : List (List ℕ) → List Token → List Word → List Token → Type 0 where
   no_word : {names : List (List ℕ)} {ts : List Token} → TakesWords names ts [] ts
   one_word : {names : List (List ℕ)} {l : ℕ} {p : Bool} {w : Word} {ts rest : List Token} {ws : List Word} →
       knows_word names w ≡ true → TakesWords names ts ws rest → TakesWords names (word l p w ∷ ts) (w ∷ ws) rest
 
--- The tokens begin with `for` in this line, a name that isn't bound yet, `in` and these words; then come the last.
+-- The tokens are `for` on this line, a name that isn't bound yet, `in` and these words, followed by the rest.
 pub data ListsWords : List (List ℕ) → ℕ → List ℕ → List Word → List Token → List Token → Type 0 where
   lists_words : {names : List (List ℕ)} {l k : ℕ} {p : Bool} {v w : Word} {name : List ℕ} {t1 t2 rest : List Token}
       {ws : List Word} →
@@ -264,15 +264,15 @@ pub data ListsWords : List (List ℕ) → ℕ → List ℕ → List Word → Lis
       is_bound names name ≡ false → IsKeyword (codes "in") t1 t2 → TakesWords names t2 ws rest →
       ListsWords names l name ws (word l true v ∷ word k p w ∷ t1) rest
 
--- the same with a separator and `do` behind the words
+-- the same with a separator and `do` after the words
 pub data OpensLoop : List (List ℕ) → ℕ → List ℕ → List Word → List Token → List Token → Type 0 where
   opens_loop : {names : List (List ℕ)} {l : ℕ} {name : List ℕ} {ws : List Word} {ts t1 t2 rest : List Token} →
       ListsWords names l name ws ts t1 → Separates t1 t2 → IsKeyword (codes "do") t2 rest →
       OpensLoop names l name ws ts rest
 
 mutual
-  -- The tokens begin with a command, inside at most 16 ifs and 2 loops; then come the rest. Put before one script it
-  -- makes the other.
+  -- The tokens are a command, inside at most 16 ifs and 2 loops, followed by the rest. The second script is the
+  -- command followed by the first.
   pub data IsCommand : Nest → List Token → List Token → Script → Script → Type 0 where
     a_command : {n : Nest} {l : ℕ} {p : Bool} {w : Word} {ts rest : List Token} {items : List Item}
         {r : Option Redirection} {c : Command} {after : Script} →
@@ -289,25 +289,25 @@ mutual
         length n.names < 2 → OpensLoop n.names l name ws ts t1 → IsBlock (in_loop name n) t1 body t2 →
         IsKeyword (codes "done") t2 rest → IsCommand n ts rest after (loop l name ws body after)
 
-  -- The tokens begin with newlines, if any, and then commands, each with a separator behind it; then come the last.
+  -- The tokens are newlines, if any, then commands, each followed by a separator, then the rest.
   pub data IsBlock : Nest → List Token → Script → List Token → Type 0 where
     after_newlines : {n : Nest} {ts rest more : List Token} {script : Script} →
         SkipsNewlines ts rest → IsList n rest script more → IsBlock n ts script more
 
-  -- The tokens begin with one or more commands, each with a separator behind it; then come the last.
+  -- The tokens are one or more commands, each followed by a separator, then the rest.
   pub data IsList : Nest → List Token → Script → List Token → Type 0 where
     last : {n : Nest} {ts mid rest : List Token} {whole : Script} →
         IsCommand n ts mid finish whole → Separates mid rest → IsList n ts whole rest
     more : {n : Nest} {ts mid next rest : List Token} {whole script : Script} →
         IsCommand n ts mid script whole → Separates mid next → IsList n next script rest → IsList n ts whole rest
 
--- the tokens are commands, each with a separator behind it, which the last may lack
+-- the tokens are commands, each followed by a separator, which the last may lack
 pub data IsWhole : List Token → Script → Type 0 where
   empty : IsWhole [] finish
   unended : {ts : List Token} {whole : Script} → IsCommand outermost ts [] finish whole → IsWhole ts whole
   continues : {ts mid rest : List Token} {whole script : Script} →
       IsCommand outermost ts mid script whole → Separates mid rest → IsWhole rest script → IsWhole ts whole
 
--- the tokens are a whole script: newlines, if any, and then its commands
+-- the tokens are a whole script: newlines, if any, then its commands
 abbrev pub IsProgram : List Token → Script → Type 0
 IsProgram ts script = (rest : List Token) × SkipsNewlines ts rest × IsWhole rest script

@@ -1,5 +1,5 @@
--- The script of a list of tokens, token by token, or the first fault that is met: what may come next, and which fault
--- anything else is.
+-- The script of a list of tokens, token by token, or the first fault: what may come next, and which fault anything else
+-- is.
 use Rattle.std.specs.Prelude.{ℕ, Bool, true, false, ◌||◌, nat_lt, if◌then◌else◌, List, [], ◌∷◌, ◌++◌, length, Option}
 use Rattle.std.specs.Prelude.{Some, None, Result, Ok, codes}
 use Rattle.std.specs.Option.{is_some}
@@ -11,15 +11,15 @@ use Rattle.redo_script.specs.Tokens.{Token, word, semicolon, newline, redirect}
 use Rattle.redo_script.specs.Grammar.{Item, is_named, command_form, condition_form, name_of, is_bound, knows_word}
 use Rattle.redo_script.specs.Grammar.{knows, Opening, an_if, a_loop, nest_in}
 
--- what was read of a command: its line, its name, its operands, and its redirection
+-- what was read of a command: its line, name, operands and redirection
 pub record PartialCommand : Type 0 where
   pub line : ℕ
   pub name : Item
   pub items : List Item
   pub redirection : Option Redirection
-  -- something stands where no form has it
+  -- something is where no form has it
   pub is_ill : Bool
-  -- a redirection whose word is to come, and whether it appends
+  -- a redirection whose word comes next, and whether it appends
   pub awaits : Option Bool
 
 -- what is expected next
@@ -36,33 +36,33 @@ pub data Phase : Type 0 where
   before_do : (line : ℕ) → (name : List ℕ) → List Word → Phase
   behind_done : (line : ℕ) → Phase
 
--- What is open, with the statements before it: an if, with its line, its condition, and the first branch once else was
--- read; or a loop, with its line, its name and its words.
+-- What is open, with the statements before it: an if with its line, its condition and, once else was read, its first
+-- branch; or a loop with its line, its name and its words.
 pub data Open : Type 0 where
   open_if : (line : ℕ) → Condition → (first : Option Script) → (before : Script) → Open
   open_loop : (line : ℕ) → (name : List ℕ) → List Word → (before : Script) → Open
 
--- what is expected, what is open, the innermost first, and the statements so far of the innermost part
+-- what is expected, what is open, innermost first, and the statements so far of the innermost part
 pub record Parser : Type 0 where
   pub phase : Phase
   pub opens : List Open
   pub so_far : Script
 
--- no statement
+-- there is no statement
 abbrev pub is_empty : Script → Bool
 is_empty finish = true
 is_empty (simple l c rest) = false
 is_empty (choice l c a b rest) = false
 is_empty (loop l name ws body rest) = false
 
--- the second script behind the first
+-- the second script after the first
 abbrev pub with_last : Script → Script → Script
 with_last finish s = s
 with_last (simple l c rest) s = simple l c (with_last rest s)
 with_last (choice l c a b rest) s = choice l c a b (with_last rest s)
 with_last (loop l name ws body rest) s = loop l name ws body (with_last rest s)
 
--- the same without what was read of it
+-- an open if or loop without what was read of it
 abbrev pub opening_of : Open → Opening
 opening_of (open_if line c first before) = an_if line (is_some first)
 opening_of (open_loop line name ws before) = a_loop line name
@@ -84,39 +84,39 @@ abbrev pub is_one_of : List (List ℕ) → Item → Bool
 is_one_of [] item = false
 is_one_of (name ∷ names) item = is_named name item || is_one_of names item
 
--- the names of the subset
+-- the command names of the subset
 abbrev pub commands : List (List ℕ)
 commands =
     codes "echo" ∷ codes "printf" ∷ codes "cat" ∷ codes "test" ∷ codes "redo-ifchange" ∷ codes "redo-ifcreate"
     ∷ codes "redo-always" ∷ codes "true" ∷ codes "false" ∷ codes "exit" ∷ []
 
--- the words of the shell that the subset leaves out
+-- the reserved words that the subset leaves out
 abbrev pub words_outside : List (List ℕ)
 words_outside =
     codes "!" ∷ codes "elif" ∷ codes "while" ∷ codes "until" ∷ codes "case" ∷ codes "esac" ∷ []
 
--- the words of a loop
+-- the reserved words of a loop
 abbrev pub loop_words : List (List ℕ)
 loop_words = codes "for" ∷ codes "do" ∷ codes "done" ∷ []
 
--- the words of an if behind its condition
+-- the reserved words of an if after its condition
 abbrev pub if_words : List (List ℕ)
 if_words = codes "then" ∷ codes "else" ∷ codes "fi" ∷ []
 
--- which fault a name is that no command of the subset has
+-- the fault of a name that no command of the subset has
 abbrev pub name_fault : ℕ → Item → Result (List Item) ScriptFault
 name_fault line item =
     if is_one_of commands item then Ok []
     else if is_one_of words_outside item then fault_at line reasons.Unsupported
     else fault_at line reasons.UnknownCommand
 
--- what a form gives, where nothing is ill
+-- the result of a form, unless something is ill
 abbrev pub or_shape : {A : Type 0} → ℕ → Bool → Option A → Result A ScriptFault
 or_shape line true o = fault_at line reasons.Shape
 or_shape line false None = fault_at line reasons.Shape
 or_shape line false (Some x) = Ok x
 
--- a command of which the name was read
+-- a command whose name was read
 abbrev pub begin_command : ℕ → Item → PartialCommand
 begin_command line name =
     record { line = line; name = name; items = []; redirection = None; is_ill = false; awaits = None }
@@ -139,23 +139,23 @@ with_redirect b appends = elim b.awaits [
 abbrev pub is_unfinished : PartialCommand → Bool
 is_unfinished b = b.is_ill || elim b.awaits [ Some a ↦ true | None ↦ false ]
 
--- what a command is, where each name in it is bound
+-- what a command is, if each name in it is bound
 abbrev pub if_known : {A : Type 0} → ℕ → Bool → A → Result A ScriptFault
 if_known line true x = Ok x
 if_known line false x = fault_at line reasons.Unsupported
 
--- the command that ends here, where these names are bound
+-- the command that ends here, with these names bound
 abbrev pub ended_command : List (List ℕ) → PartialCommand → Result Command ScriptFault
 ended_command names b =
     or_shape b.line (is_unfinished b) (command_form b.name b.items b.redirection)
     >>= if_known b.line (knows names b.items b.redirection)
 
--- a condition has none
+-- a condition has no redirection
 abbrev pub no_redirection : Option Redirection → Option Condition → Option Condition
 no_redirection None c = c
 no_redirection (Some r) c = None
 
--- the condition that ends here, where these names are bound
+-- the condition that ends here, with these names bound
 abbrev pub ended_condition : List (List ℕ) → PartialCommand → Result Condition ScriptFault
 ended_condition names b =
     or_shape b.line (is_unfinished b) (no_redirection b.redirection (condition_form b.name b.items))
@@ -167,13 +167,13 @@ with_command p b = do
   c ← ended_command (names_in p.opens) b
   Ok (record p { phase = at_command; so_far = with_last p.so_far (simple b.line c finish) })
 
--- then must come
+-- then must come next
 abbrev pub with_condition : Parser → PartialCommand → Result Parser ScriptFault
 with_condition p b = do
   c ← ended_condition (names_in p.opens) b
   Ok (record p { phase = before_then b.line c })
 
--- else, with commands before it in a first branch
+-- else, after commands in a first branch
 abbrev pub at_else : Parser → ℕ → List Open → Result Parser ScriptFault
 at_else p line [] = fault_at line reasons.IfShape
 at_else p line (open_loop l name ws before ∷ os) = fault_at line reasons.IfShape
@@ -182,13 +182,13 @@ at_else p line (open_if l c None before ∷ os) =
     if is_empty p.so_far then fault_at line reasons.IfShape
     else Ok (record { phase = at_command; opens = open_if l c (Some p.so_far) before ∷ os; so_far = finish })
 
--- what stands before an if or a loop, and then the one or the other with this last part
+-- what comes before an if or a loop, followed by the if or loop with this last part
 abbrev pub closed : Open → Script → Script
 closed (open_if l c None before) branch = with_last before (choice l c branch finish finish)
 closed (open_if l c (Some first) before) branch = with_last before (choice l c first branch finish)
 closed (open_loop l name ws before) body = with_last before (loop l name ws body finish)
 
--- fi, with commands before it in its branch
+-- fi, after commands in its branch
 abbrev pub at_fi : Parser → ℕ → List Open → Result Parser ScriptFault
 at_fi p line [] = fault_at line reasons.IfShape
 at_fi p line (open_loop l name ws before ∷ os) = fault_at line reasons.IfShape
@@ -196,7 +196,7 @@ at_fi p line (open_if l c first before ∷ os) =
     if is_empty p.so_far then fault_at line reasons.IfShape
     else Ok (record { phase = behind_fi line; opens = os; so_far = closed (open_if l c first before) p.so_far })
 
--- done, with commands before it in its loop
+-- done, after commands in its loop
 abbrev pub at_done : Parser → ℕ → List Open → Result Parser ScriptFault
 at_done p line [] = fault_at line reasons.Shape
 at_done p line (open_if l c first before ∷ os) = fault_at line reasons.Shape
@@ -215,7 +215,7 @@ for_opened p line =
     if nat_lt (length (names_in p.opens)) 2 then Ok (record p { phase = behind_for line })
     else fault_at line reasons.TooDeep
 
--- a word in a command's place
+-- a word in the place of a command
 abbrev pub first_word : Parser → ℕ → Item → Result Parser ScriptFault
 first_word p line item =
     if is_named (codes "if") item then if_opened p line
@@ -227,19 +227,19 @@ first_word p line item =
     else if is_named (codes "done") item then at_done p line p.opens
     else (name_fault line item >>= λ none. Ok (record p { phase = in_command (begin_command line item) }))
 
--- a word where none may stand but those of a loop are told apart: these are Shape in their own line
+-- a word out of place; a reserved word of a loop is Shape on its own line
 abbrev pub misplaced : {A : Type 0} → (line at : ℕ) → Item → Result A ScriptFault
 misplaced line at item =
     if is_one_of loop_words item then fault_at at reasons.Shape else fault_at line reasons.IfShape
 
--- a word behind if
+-- a word after if
 abbrev pub condition_word : Parser → ℕ → ℕ → Item → Result Parser ScriptFault
 condition_word p line at item =
     if is_one_of (codes "test" ∷ codes "true" ∷ codes "false" ∷ []) item
     then Ok (record p { phase = in_condition (begin_command line item) })
     else misplaced line at item
 
--- a word where then must stand
+-- a word where then must be
 abbrev pub then_word : Parser → ℕ → Condition → ℕ → Item → Result Parser ScriptFault
 then_word p line c at item =
     if is_named (codes "then") item
@@ -257,7 +257,7 @@ loop_named p line at (Some name) =
     if is_bound (names_in p.opens) name then fault_at at reasons.Shape
     else Ok (record p { phase = behind_name line name })
 
--- a word where in must stand
+-- a word where in must be
 abbrev pub words_begun : Parser → ℕ → List ℕ → Item → Result Parser ScriptFault
 words_begun p line name item =
     if is_named (codes "in") item then Ok (record p { phase = in_words line name [] })
@@ -269,7 +269,7 @@ loop_word p line name ws item =
     if knows_word (names_in p.opens) item.word then Ok (record p { phase = in_words line name (ws ++ item.word ∷ []) })
     else fault_at line reasons.Unsupported
 
--- a word where do must stand
+-- a word where do must be
 abbrev pub do_word : Parser → ℕ → List ℕ → List Word → ℕ → Item → Result Parser ScriptFault
 do_word p line name ws at item =
     if is_named (codes "do") item
@@ -309,7 +309,7 @@ a_redirect (in_words line name ws) p l a = fault_at l reasons.Shape
 a_redirect (before_do line name ws) p l a = fault_at l reasons.Shape
 a_redirect (behind_done line) p l a = fault_at line reasons.Shape
 
--- a separator; a newline may also stand where no command is
+-- a separator; a newline may also come where no command is
 abbrev pub a_separator : Phase → Parser → ℕ → Bool → Result Parser ScriptFault
 a_separator at_command p l true = Ok p
 a_separator at_command p l false = fault_at l reasons.Shape
@@ -326,14 +326,14 @@ a_separator (before_do line name ws) p l true = Ok p
 a_separator (before_do line name ws) p l false = fault_at l reasons.Shape
 a_separator (behind_done line) p l is_newline = Ok (record p { phase = at_command })
 
--- one token more
+-- one more token
 abbrev pub next_token : Parser → Token → Result Parser ScriptFault
 next_token p (word l is_plain w) = a_word p.phase p l (record { is_plain = is_plain; word = w })
 next_token p (semicolon l) = a_separator p.phase p l false
 next_token p (newline l) = a_separator p.phase p l true
 next_token p (redirect l appends) = a_redirect p.phase p l appends
 
--- the script, where no if or loop is open
+-- the script, if no if or loop is open
 abbrev pub unless_open : List Open → Script → Result Script ScriptFault
 unless_open [] script = Ok script
 unless_open (open_if line c first before ∷ os) script = fault_at line reasons.IfShape

@@ -7,18 +7,18 @@ use Rattle.redo_script.specs.Bytes.{begins_name}
 use Rattle.redo_script.specs.declared.ast.Parameter.{Parameter}
 use Rattle.redo_script.specs.Tokens.{Token, Names, AreTokens, line_after}
 
--- the line behind these bytes, of which the first is in this line
+-- the line after these bytes, the first of which is on this line
 abbrev pub line_from : ℕ → List ℕ → ℕ
 line_from line [] = line
 line_from line (b ∷ bs) = line_from (line_after line b) bs
 
--- a text that begins with these bytes has tokens
+-- some text that begins with these bytes has tokens
 pub record CanGoOn (bs : List ℕ) : Type 0 where
   pub more : List ℕ
   pub tokens : List Token
   pub are_tokens : AreTokens (bs ++ more) tokens
 
--- the fault is Unsupported, at the first byte that can't stand where it stands: without it the text can still go on
+-- the fault is Unsupported, at the first byte that can't be where it is: the text before it can still continue
 pub record StopsAtByte (text : List ℕ) (fault : ScriptFault) : Type 0 where
   pub before : List ℕ
   pub byte : ℕ
@@ -28,7 +28,7 @@ pub record StopsAtByte (text : List ℕ) (fault : ScriptFault) : Type 0 where
   pub stops : CanGoOn (before ++ byte ∷ []) → ⊥
   pub fault_is : fault ≡ record { line = line_from 1 before; why = reasons.Unsupported }
 
--- The fault is OpenQuote, in the line of a quote: up to it the text has tokens, and no longer beginning of the text
+-- The fault is OpenQuote, on the line of a quote: the text before it has tokens, and no longer prefix of the text
 -- has.
 pub record QuoteIsOpen (text : List ℕ) (fault : ScriptFault) : Type 0 where
   pub before : List ℕ
@@ -41,11 +41,11 @@ pub record QuoteIsOpen (text : List ℕ) (fault : ScriptFault) : Type 0 where
   pub is_longest : (x y : List ℕ) (ts : List Token) → inside ≡ x ++ y → AreTokens (before ++ quote ∷ x) ts → ⊥
   pub fault_is : fault ≡ record { line = line_from 1 before; why = reasons.OpenQuote }
 
--- the bytes end behind a `$` that lacks its digit or name: only that digit or the first byte of a name can come next
+-- the bytes end after a `$` without its digit or name: only that digit or the first byte of a name can come next
 abbrev pub NeedsParameter : List ℕ → Type 0
 NeedsParameter bs = (b : ℕ) → CanGoOn (bs ++ b ∷ []) → ((p : Parameter) × Names b p) ⊎ (begins_name b ≡ true)
 
--- The text can still go on, but ends behind a `$` that lacks its digit or name, which is Unsupported in the line of the
+-- The text can still continue, but ends after a `$` without its digit or name, which is Unsupported on the line of the
 -- end, or else in a quote.
 pub record StopsAtEnd (text : List ℕ) (fault : ScriptFault) : Type 0 where
   pub can_go_on : CanGoOn text

@@ -1,4 +1,4 @@
--- The tokens of a text, byte by byte, or the first fault that is met: which byte may come next, and what it does.
+-- The tokens of a text, byte by byte, or the first fault: which byte may come next, and what it does.
 use Rattle.std.specs.Prelude.{ℕ, ◌+◌, Bool, true, false, ◌&&◌, ◌==◌, if◌then◌else◌, List, [], ◌∷◌, ◌++◌, Option, Some}
 use Rattle.std.specs.Prelude.{None, Result, Ok}
 use Rattle.redo_script.specs.declared.ast.Parameter.{Parameter}
@@ -13,8 +13,8 @@ use Rattle.redo_script.specs.Bytes as bytes
 use Rattle.redo_script.specs.Bytes.{is_digit, is_plain, is_blank, begins_name, continues_name}
 use Rattle.redo_script.specs.Tokens.{Token, word, semicolon, newline, redirect, ends_word, is_escaped, line_after}
 
--- Where reading stands: between which bytes, the line, the line of the quote that was opened last, the word
--- that was begun, the name that was begun last, and the tokens so far.
+-- Where reading is: between which bytes, the line, the line of the quote that was opened last, the word that was
+-- begun, the name that was begun last, and the tokens so far.
 pub record Reader : Type 0 where
   pub mode : Mode
   pub line : ℕ
@@ -40,7 +40,7 @@ at_start = record {
   tokens = [];
 }
 
--- the byte that comes next is the fault
+-- the next byte is a fault
 abbrev pub unsupported : Reader → Result Reader ScriptFault
 unsupported r = fault_at r.line reasons.Unsupported
 
@@ -48,7 +48,7 @@ unsupported r = fault_at r.line reasons.Unsupported
 abbrev pub with_mode : Reader → Mode → Reader
 with_mode r m = record r { mode = m }
 
--- one more token, and then a place between words
+-- one more token, then a place between words
 abbrev pub with_token : Reader → Token → Reader
 with_token r t = record r { mode = modes.Gap; tokens = r.tokens ++ t ∷ [] }
 
@@ -68,7 +68,7 @@ with_begun_word r = record r { word_line = r.line; is_plain = true; is_number = 
 abbrev pub with_quote : Reader → Mode → Reader
 with_quote r m = record r { mode = m; opened = r.line; is_plain = false; is_number = false }
 
--- a byte that a word begins or goes on with
+-- a byte that a word begins or continues with
 abbrev pub word_byte : Reader → ℕ → Result Reader ScriptFault
 word_byte r b =
     if is_plain b
@@ -88,22 +88,22 @@ gap_byte r b =
     else if b == bytes.hash then Ok (with_mode r modes.Comment)
     else word_byte (with_begun_word r) b
 
--- the word that was begun ends
+-- the current word ends
 abbrev pub with_word : Reader → Reader
 with_word r = with_no_word (with_token r (word r.word_line r.is_plain r.word))
 
--- a byte directly behind a piece of a word
+-- a byte directly after a piece of a word
 abbrev pub in_word : Reader → ℕ → Result Reader ScriptFault
 in_word r b =
     if (b == bytes.greater) && r.is_number then unsupported r
     else if ends_word b then gap_byte (with_word r) b
     else word_byte r b
 
--- a byte directly behind `;`
+-- a byte directly after `;`
 abbrev pub after_semicolon : Reader → ℕ → Result Reader ScriptFault
 after_semicolon r b = if b == bytes.semicolon then unsupported r else gap_byte r b
 
--- a byte directly behind `>`
+-- a byte directly after `>`
 abbrev pub after_redirect : Reader → ℕ → Result Reader ScriptFault
 after_redirect r b =
     if b == bytes.greater then Ok (with_token r (redirect r.line true))
@@ -128,7 +128,7 @@ in_double r b =
     else if b == bytes.backquote then unsupported r
     else Ok (record (with_symbol r modes.Double (byte b)) { line = line_after r.line b })
 
--- a byte behind a backslash in double quotes
+-- a byte after a backslash in double quotes
 abbrev pub after_backslash : Reader → ℕ → Result Reader ScriptFault
 after_backslash r b =
     if b == bytes.newline then unsupported r
@@ -139,7 +139,7 @@ after_backslash r b =
 abbrev pub parameter_named : ℕ → Option Parameter
 parameter_named b = if b == 49 then Some One else if b == 50 then Some Two else if b == 51 then Some Three else None
 
--- one more parameter of the word, where there is one
+-- one more parameter of the word, if there is one
 abbrev pub with_parameter : Reader → Mode → (Parameter → Symbol) → Option Parameter → Result Reader ScriptFault
 with_parameter r m symbol None = unsupported r
 with_parameter r m symbol (Some p) = Ok (with_symbol r m (symbol p))
@@ -148,12 +148,12 @@ with_parameter r m symbol (Some p) = Ok (with_symbol r m (symbol p))
 abbrev pub with_name : Reader → Mode → ℕ → Reader
 with_name r m b = record r { mode = m; name = b ∷ [] }
 
--- a byte behind `$`
+-- a byte after `$`
 abbrev pub after_dollar : Reader → ℕ → Result Reader ScriptFault
 after_dollar r b =
     if begins_name b then Ok (with_name r modes.Name b) else with_parameter r modes.Word bare (parameter_named b)
 
--- a byte behind `$` in double quotes
+-- a byte after `$` in double quotes
 abbrev pub after_quoted_dollar : Reader → ℕ → Result Reader ScriptFault
 after_quoted_dollar r b =
     if begins_name b then Ok (with_name r modes.QuotedName b)
@@ -163,18 +163,18 @@ after_quoted_dollar r b =
 abbrev pub with_name_byte : Reader → ℕ → Reader
 with_name_byte r b = record r { name = r.name ++ b ∷ [] }
 
--- a byte directly behind one of a name
+-- a byte directly after one of a name
 abbrev pub in_name : Reader → ℕ → Result Reader ScriptFault
 in_name r b =
     if continues_name b then Ok (with_name_byte r b) else in_word (with_symbol r modes.Word (named_bare r.name)) b
 
--- a byte directly behind one of a name in double quotes
+-- a byte directly after one of a name in double quotes
 abbrev pub in_quoted_name : Reader → ℕ → Result Reader ScriptFault
 in_quoted_name r b =
     if continues_name b then Ok (with_name_byte r b)
     else in_double (with_symbol r modes.Double (named_quoted r.name)) b
 
--- one byte more, by what it belongs to
+-- one more byte, by what it belongs to
 abbrev pub by_mode : Mode → Reader → ℕ → Result Reader ScriptFault
 by_mode modes.Gap r b = gap_byte r b
 by_mode modes.Semicolon r b = after_semicolon r b
@@ -189,7 +189,7 @@ by_mode modes.QuotedDollar r b = after_quoted_dollar r b
 by_mode modes.QuotedName r b = in_quoted_name r b
 by_mode modes.Escape r b = after_backslash r b
 
--- one byte more
+-- one more byte
 unfoldable pub next_byte : Reader → ℕ → Result Reader ScriptFault
 next_byte r b = by_mode r.mode r b
 

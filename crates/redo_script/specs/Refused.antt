@@ -1,4 +1,4 @@
--- Texts that are no script, and the fault of each: the first of the four passes that has one, and its first place.
+-- Texts that are no scripts, and the fault of each: the first one in the first of the four passes that has any.
 use Rattle.std.specs.Prelude.{◌≡◌, ◌⊎◌, ℕ, true, false, List, ◌∷◌, ◌++◌}
 use Rattle.redo_script.specs.declared.fault.ScriptFault.{ScriptFault}
 use Rattle.redo_script.specs.declared.fault.Reason.TheVariants as reasons
@@ -8,7 +8,7 @@ use Rattle.redo_script.specs.Texts.{IsScript, has_no_nul, interpreter_is_fit}
 use Rattle.redo_script.specs.Places.{line_from, StopsAtByte, StopsAtEnd}
 use Rattle.redo_script.specs.Refusals.{in_line, FaultStands}
 
--- the fault is Nul, in the line of the first byte 0
+-- the fault is Nul, on the line of the first NUL byte
 pub record NulStands (text : List ℕ) (fault : ScriptFault) : Type 0 where
   pub before : List ℕ
   pub after : List ℕ
@@ -16,7 +16,7 @@ pub record NulStands (text : List ℕ) (fault : ScriptFault) : Type 0 where
   pub is_first : has_no_nul before ≡ true
   pub fault_is : fault ≡ in_line (line_from 1 before) reasons.Nul
 
--- The text has this fault: of a byte 0; else of its interpreter line; else of its tokens; else of its commands.
+-- The text has this fault: of a NUL byte; else of its interpreter line; else of its tokens; else of its commands.
 pub data IsRefused : List ℕ → ScriptFault → Type 0 where
   by_nul : {text : List ℕ} {fault : ScriptFault} → NulStands text fault → IsRefused text fault
   by_interpreter : {text : List ℕ} →

@@ -1,9 +1,9 @@
--- Scripts as contracts see them, without where they lie in memory.
+-- Scripts as contracts see them, however they are stored.
 use Rattle.std.specs.Prelude.{ℕ, Bool, List, Option}
 use Rattle.redo_script.specs.declared.ast.Parameter.{Parameter}
 
--- One symbol of a word: a byte that stands for itself, or a parameter in double quotes or outside quotes, which is an
--- argument of the script or the value that a loop gives a name.
+-- One symbol of a word: a literal byte, or a parameter in double quotes or outside quotes. A parameter is an argument
+-- of the script or the value that a loop gives to a name.
 pub data Symbol : Type 0 where
   byte : ℕ → Symbol
   quoted : Parameter → Symbol
@@ -20,7 +20,7 @@ pub record Redirection : Type 0 where
   pub appends : Bool
   pub word : Word
 
--- What test looks at, by its words; a run has their values in place of the words.
+-- What test checks, over words; a run has their values instead.
 pub data Test (W : Type 0) : Type 0 where
   is_file : W → Test W
   equal : W → W → Test W
@@ -49,7 +49,7 @@ pub data Condition : Type 0 where
   if_true : Condition
   if_false : Condition
 
--- Statements, one after the other: each with its line, and what follows it.
+-- Statements in order: each with its line, and what follows it.
 pub data Script : Type 0 where
   finish : Script
   simple : (line : ℕ) → Command → (rest : Script) → Script

@@ -16,17 +16,17 @@ abbrev pub first_line : List ℕ → List ℕ
 first_line [] = []
 first_line (b ∷ bs) = if b == bytes.newline then [] else b ∷ first_line bs
 
--- the bytes begin with `#!`
+-- whether the bytes begin with `#!`
 abbrev pub begins_interpreter : List ℕ → Bool
 begins_interpreter [] = false
 begins_interpreter (a ∷ []) = false
 begins_interpreter (a ∷ b ∷ bs) = (a == bytes.hash) && (b == bytes.bang)
 
--- an interpreter line, where the text begins with one, is exactly this one
+-- an interpreter line, if the text begins with one, is exactly this one
 abbrev pub interpreter_is_fit : List ℕ → Bool
 interpreter_is_fit text = if begins_interpreter text then bytes_eq (first_line text) (codes "#!/bin/sh -e") else true
 
--- no byte is 0
+-- no byte is NUL
 abbrev pub has_no_nul : List ℕ → Bool
 has_no_nul [] = true
 has_no_nul (b ∷ bs) = if b == 0 then false else has_no_nul bs
@@ -39,12 +39,12 @@ pub record IsScript (text : List ℕ) (script : Script) : Type 0 where
   pub are_tokens : AreTokens text tokens
   pub statements : IsProgram tokens script
 
--- the first pass: a fault at the first byte 0, counting lines from this one on
+-- the first pass: a fault at the first NUL byte, counting lines from this one on
 abbrev pub nul_from : ℕ → List ℕ → Result (List ℕ) ScriptFault
 nul_from line [] = Ok []
 nul_from line (b ∷ bs) = if b == 0 then fault_at line reasons.Nul else nul_from (line_after line b) bs
 
--- the second pass: a fault of the first line
+-- the second pass: a fault on the first line
 abbrev pub interpreter_of : List ℕ → Result (List ℕ) ScriptFault
 interpreter_of text = if interpreter_is_fit text then Ok [] else fault_at 1 reasons.Interpreter
 

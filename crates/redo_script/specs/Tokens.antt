@@ -6,26 +6,26 @@ use Rattle.redo_script.specs.Bytes as bytes
 use Rattle.redo_script.specs.Bytes.{is_digit, is_plain, is_blank, begins_name, continues_name}
 use Rattle.redo_script.specs.Syntax.{byte, quoted, bare, named_quoted, named_bare, Word}
 
--- A token, with the line that it begins on: a word, and whether it is written with plain bytes alone; `;`; the end of a
--- line; and `>` or `>>`.
+-- A token, with the line on which it begins: a word, and whether it is written with plain bytes only; `;`; the end of
+-- a line; and `>` or `>>`.
 pub data Token : Type 0 where
   word : (line : ℕ) → (is_plain : Bool) → Word → Token
   semicolon : (line : ℕ) → Token
   newline : (line : ℕ) → Token
   redirect : (line : ℕ) → (appends : Bool) → Token
 
--- which parameter a digit names
+-- the parameter that a digit names
 pub data Names : ℕ → Parameter → Type 0 where
   one : Names 49 One
   two : Names 50 Two
   three : Names 51 Three
 
--- here a name ends: at a byte that no name goes on with, or at the end of the text
+-- a name ends here: at a byte that no name continues with, or at the end of the text
 abbrev pub AtNameEnd : List ℕ → Type 0
 AtNameEnd [] = Unit {0}
 AtNameEnd (b ∷ bs) = continues_name b ≡ false
 
--- The bytes begin with the rest of a name, to its last byte; then come the last.
+-- The bytes are the rest of a name, up to its end, followed by other bytes.
 pub data EndsName : List ℕ → List ℕ → List ℕ → Type 0 where
   ends_here : {bs : List ℕ} → AtNameEnd bs → EndsName bs [] bs
   one_more : {b : ℕ} {bs name rest : List ℕ} →
@@ -35,7 +35,7 @@ pub data EndsName : List ℕ → List ℕ → List ℕ → Type 0 where
 abbrev pub ends_word : ℕ → Bool
 ends_word b = is_blank b || (b == bytes.newline) || (b == bytes.semicolon) || (b == bytes.greater)
 
--- here a word ends: at such a byte, or at the end of the text
+-- a word ends here: at such a byte, or at the end of the text
 abbrev pub AtWordEnd : List ℕ → Type 0
 AtWordEnd [] = Unit {0}
 AtWordEnd (b ∷ bs) = ends_word b ≡ true
@@ -59,16 +59,16 @@ numbers_redirection (b ∷ bs) = if is_digit b then digits_then bs else false
 abbrev pub begins_word : ℕ → Bool
 begins_word b = is_plain b || (b == bytes.single_quote) || (b == bytes.double_quote) || (b == bytes.dollar)
 
--- a byte that stands for itself behind a backslash in double quotes, and never without one
+-- a byte that is literal after a backslash in double quotes, and never without one
 abbrev pub is_escaped : ℕ → Bool
 is_escaped b = (b == bytes.dollar) || (b == bytes.backquote) || (b == bytes.double_quote) || (b == bytes.backslash)
 
--- the line behind a byte
+-- the line after a byte
 abbrev pub line_after : ℕ → ℕ → ℕ
 line_after line b = if b == bytes.newline then suc line else line
 
 mutual
-  -- From a place between words on, on this line, the bytes read as these tokens.
+  -- From here on, between words on this line, the bytes read as these tokens.
   pub data IsGap : ℕ → List ℕ → List Token → Type 0 where
     nothing : {l : ℕ} → IsGap l [] []
     blank : {l b : ℕ} {bs : List ℕ} {ts : List Token} →
@@ -87,7 +87,7 @@ mutual
         begins_word b ≡ true → numbers_redirection (b ∷ bs) ≡ false → IsWord l (b ∷ bs) w p ts →
         IsGap l (b ∷ bs) (word l p w ∷ ts)
 
-  -- A comment runs to the end of its line, and the bytes then read as these tokens.
+  -- A comment extends to the end of its line, and the bytes then read as these tokens.
   pub data IsComment : ℕ → List ℕ → List Token → Type 0 where
     at_end : {l : ℕ} → IsComment l [] []
     goes_on : {l b : ℕ} {bs : List ℕ} {ts : List Token} →
@@ -95,7 +95,7 @@ mutual
     at_newline : {l b : ℕ} {bs : List ℕ} {ts : List Token} →
         b ≡ bytes.newline → IsGap l (b ∷ bs) ts → IsComment l (b ∷ bs) ts
 
-  -- The bytes go on with the rest of a word, in plain bytes alone or not, and then read as these tokens.
+  -- The bytes go on with the rest of a word, in plain bytes only or not, and then read as these tokens.
   pub data IsWord : ℕ → List ℕ → Word → Bool → List Token → Type 0 where
     ends : {l : ℕ} {bs : List ℕ} {ts : List Token} →
         AtWordEnd bs → IsGap l bs ts → IsWord l bs [] true ts
@@ -111,15 +111,15 @@ mutual
         b ≡ bytes.dollar → begins_name c ≡ true → EndsName bs name rest → IsWord l rest w p ts →
         IsWord l (b ∷ c ∷ bs) (named_bare (c ∷ name) ∷ w) false ts
 
-  -- The bytes go on inside single quotes, where every other byte stands for itself, and then with the rest of the word.
+  -- The bytes go on inside single quotes, where every other byte is literal, and then with the rest of the word.
   pub data IsSingle : ℕ → List ℕ → Word → List Token → Type 0 where
     closes : {l b : ℕ} {bs : List ℕ} {w : Word} {p : Bool} {ts : List Token} →
         b ≡ bytes.single_quote → IsWord l bs w p ts → IsSingle l (b ∷ bs) w ts
     stands : {l b : ℕ} {bs : List ℕ} {w : Word} {ts : List Token} →
         b ≢ bytes.single_quote → IsSingle (line_after l b) bs w ts → IsSingle l (b ∷ bs) (byte b ∷ w) ts
 
-  -- The bytes go on inside double quotes, and then with the rest of the word. A backslash before a byte that it gives
-  -- no meaning to stands for itself; before a newline it has no place.
+  -- The bytes go on inside double quotes, and then with the rest of the word. A backslash is literal before a byte
+  -- to which it gives no meaning; before a newline it isn't allowed.
   pub data IsDouble : ℕ → List ℕ → Word → List Token → Type 0 where
     closes_double : {l b : ℕ} {bs : List ℕ} {w : Word} {p : Bool} {ts : List Token} →
         b ≡ bytes.double_quote → IsWord l bs w p ts → IsDouble l (b ∷ bs) w ts

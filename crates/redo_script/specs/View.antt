@@ -1,4 +1,4 @@
--- What a contract sees of a syntax tree.
+-- A syntax tree as contracts see it.
 use Rattle.std.specs.Prelude.{List, [], ◌∷◌, map, option_map}
 use Rattle.std.specs.List.{flat_map}
 use Rattle.redo_script.specs.declared.ast.Part.{Part}
@@ -32,36 +32,36 @@ symbols_of_part (parts.Bare p) = bare p ∷ []
 symbols_of_part (parts.NamedQuoted name) = named_quoted name ∷ []
 symbols_of_part (parts.NamedBare name) = named_bare name ∷ []
 
--- the symbols of pieces, one after the other
+-- the symbols of pieces, in order
 abbrev pub symbols_of : List Part → Word
 symbols_of ps = flat_map symbols_of_part ps
 
--- the symbols of a word: how its bytes are cut into pieces isn't seen
+-- the symbols of a word; how its bytes are split into pieces isn't seen
 abbrev pub word_of : WordTree → Word
 word_of (words.Literal bytes) = map byte bytes
 word_of (words.Mixed pieces) = symbols_of pieces.items
 
--- words, each by its symbols
+-- words, each as symbols
 abbrev pub words_of : List WordTree → List Word
 words_of ws = map word_of ws
 
--- a redirection, with its word so
+-- a redirection, with its word as symbols
 abbrev pub redirection_of : RedirectionTree → Redirection
 redirection_of r = record { appends = r.appends; word = word_of r.word }
 
--- what test looks at, so
+-- what test checks, with words as symbols
 abbrev pub test_of : TestTree → Test Word
 test_of (tests.IsFile w) = is_file (word_of w)
 test_of (tests.Equal a b) = equal (word_of a) (word_of b)
 test_of (tests.Differ a b) = differ (word_of a) (word_of b)
 
--- a command that writes, so
+-- a command that writes, with words as symbols
 abbrev pub writer_of : WriterTree → Writer Word
 writer_of (writers.Echo ws) = echo (words_of ws.items)
 writer_of (writers.Printf f ws) = printf (word_of f) (words_of ws.items)
 writer_of (writers.Cat ws) = cat (words_of ws.items)
 
--- a simple command, so
+-- a simple command, with words as symbols
 abbrev pub command_of : CommandTree → Command
 command_of (commands.Write w r) = write (writer_of w) (option_map redirection_of r)
 command_of (commands.Test t) = test (test_of t)
@@ -72,27 +72,27 @@ command_of commands.True = always_true
 command_of commands.False = always_false
 command_of (commands.Exit n) = exit n
 
--- a condition, so
+-- a condition, with words as symbols
 abbrev pub condition_of : ConditionTree → Condition
 condition_of (conditions.Test t) = if_test (test_of t)
 condition_of conditions.True = if_true
 condition_of conditions.False = if_false
 
--- statements in a row, each given as what puts it before others
+-- statements in order, each given as what puts it before others
 abbrev pub in_a_row : List (Script → Script) → Script
 in_a_row [] = finish
 in_a_row (first ∷ others) = first (in_a_row others)
 
--- a statement whose parts are given as what puts them before others, before the rest
+-- a statement before the rest, with its parts given as what puts them before others
 abbrev pub stmt_step : Stmt-F (Script → Script) → Script → Script
 stmt_step (stmts.Simple line c) rest = simple line (command_of c) rest
 stmt_step (stmts.If line c a b) rest = choice line (condition_of c) (in_a_row a.items) (in_a_row b.items) rest
 stmt_step (stmts.Loop line name ws body) rest = loop line name (words_of ws.items) (in_a_row body.items) rest
 
--- the statement, and then the rest
+-- the statement, then the rest
 abbrev pub before : Stmt → Script → Script
 before = fold-Stmt (Script → Script) stmt_step
 
--- statements, one after the other
+-- statements in order
 abbrev pub script_of : List Stmt → Script
 script_of ss = in_a_row (map before ss)

@@ -14,36 +14,36 @@ pub enum Parameter {
 /// A piece of a word.
 #[derive(Debug, Drop)]
 pub enum Part {
-    /// Bytes that stand for themselves.
+    /// Literal bytes.
     Lit(Bytes),
     /// A parameter in double quotes.
     Quoted(Parameter),
-    /// A parameter outside quotes, whose value must be plain bytes and not empty
-    /// ([`is_plain_byte`](crate::is_plain_byte)).
+    /// A parameter outside quotes. Its value must be plain bytes ([`is_plain_byte`](crate::is_plain_byte)) and not
+    /// empty.
     Bare(Parameter),
-    /// The value that a loop gives this name, in double quotes.
+    /// The value that a loop gives to this name, in double quotes.
     NamedQuoted(Bytes),
-    /// The value that a loop gives this name, outside quotes: plain bytes and not empty.
+    /// The value that a loop gives to this name, outside quotes. It must be plain bytes and not empty.
     NamedBare(Bytes),
 }
 
 /// A word of a command, without its quotes.
 #[derive(Debug, Drop)]
 pub enum Word {
-    /// Bytes that stand in the text as they are; none, where the word is an empty pair of quotes.
+    /// Bytes that occur in the text as they are; none if the word is an empty pair of quotes.
     Literal(Bytes),
-    /// Pieces, one after the other; none, where the word is several empty pairs of quotes.
+    /// Pieces in order; none if the word is several empty pairs of quotes.
     Mixed(Vec<Part>),
 }
 
-/// Where a command's output goes: `> word`, or `>> word` where it is appended.
+/// Where a command's output goes: `> word`, or `>> word` to append it.
 #[derive(Debug, Drop)]
 pub struct Redirection {
     pub appends: bool,
     pub word: Word,
 }
 
-/// What test(1) looks at.
+/// What test(1) checks.
 #[derive(Debug, Drop)]
 pub enum Test {
     /// `test -f W`
@@ -82,7 +82,7 @@ pub enum Command {
     Exit(u8),
 }
 
-/// The command behind `if`.
+/// The command after `if`.
 #[derive(Debug, Drop)]
 pub enum Condition {
     Test(Test),
@@ -90,11 +90,11 @@ pub enum Condition {
     False,
 }
 
-/// A statement, with the line that its first word begins on, counted from 1.
+/// A statement, with the line on which its first word begins, from 1.
 #[derive(Debug, Drop)]
 pub enum Stmt {
     Simple(u64, Command),
-    /// The condition and the two branches. Without `else` the second is empty, and otherwise neither is.
+    /// The condition and the two branches. Without `else` the second is empty; with it neither is.
     If(u64, Condition, Vec<Stmt>, Vec<Stmt>),
     /// The line, the name, the words and the body of `for NAME in words; do body done`.
     Loop(u64, Bytes, Vec<Word>, Vec<Stmt>),

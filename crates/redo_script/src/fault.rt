@@ -7,40 +7,40 @@ ghost use Rattle.redo_script.specs.declared.fault.Reason.TheVariants as reasons;
 use std::alloc::{AllocError, AllocFailed};
 use thiserror::Error;
 
-/// What is wrong with a text. Each is printed as one word, as reports have it.
+/// What is wrong with a text. Each reason is printed as one word, the one that reports have.
 #[derive(Clone, Copy, Debug, PartialEq, Eq, Error)]
 pub enum Reason {
-    /// A byte 0.
+    /// A NUL byte.
     #[error("nul")]
     Nul,
     /// A first line that begins with `#!` and isn't `#!/bin/sh -e`.
     #[error("interpreter")]
     Interpreter,
-    /// A quote that isn't closed, at the line of the quote.
+    /// A quote that isn't closed. The line is that of the quote.
     #[error("openquote")]
     OpenQuote,
-    /// A byte or a word of the shell that the subset leaves out, or a name that no loop binds.
+    /// A byte or a reserved word of the shell that the subset leaves out, or a name that no loop binds.
     #[error("unsupported")]
     Unsupported,
-    /// A command's name that the subset doesn't know.
+    /// A command name that the subset doesn't have.
     #[error("unknowncommand")]
     UnknownCommand,
-    /// A command whose operands or redirection aren't of its form, a separator or redirection where
-    /// a command must stand, or a `for`, `do` or `done` out of place or a loop that isn't ended.
+    /// A command whose operands or redirection don't fit its form, a separator or redirection in the place of a
+    /// command, or a `for`, `do` or `done` out of place or a loop that isn't ended.
     #[error("shape")]
     Shape,
     /// An `if`, `then`, `else` or `fi` out of place, or an `if` that isn't ended.
     #[error("ifshape")]
     IfShape,
-    /// An `if` inside 16 others, or a loop inside 2.
+    /// An `if` inside 16 others, or a loop inside 2 others.
     #[error("toodeep")]
     TooDeep,
-    /// Want of memory, which says nothing of the text.
+    /// Out of memory, which says nothing about the text.
     #[error("memory")]
     Memory,
 }
 
-/// What is wrong, and in which line, counted from 1 by newline bytes. Want of memory has the line 0.
+/// What is wrong, and on which line, counted from 1 by newline bytes. Out of memory has line 0.
 #[derive(Clone, Copy, Debug, PartialEq, Eq, Error)]
 #[error("line {line}: {why}")]
 pub struct ScriptFault {
@@ -49,7 +49,7 @@ pub struct ScriptFault {
 }
 
 impl ScriptFault {
-    /// Whether this is want of memory, and so no fault of a text.
+    /// Whether memory ran out, which is no fault of the text.
     pub fn is_memory(&self) -> bool
         ensures memory { result ≡ true → self.now.why ≡ reasons.Memory }
         ensures fault { result ≡ false → self.now.why ≢ reasons.Memory }

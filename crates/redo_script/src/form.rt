@@ -1,4 +1,4 @@
-//! Commands by their forms.
+//! Commands from names and operands.
 
 ghost use Rattle.std.specs.Prelude.{◌≡◌, map, option_map, IfOk};
 ghost use Rattle.redo_script.specs.Grammar.{test_form, print_form, cat_form, exit_form};
@@ -13,8 +13,8 @@ use crate::number::status_of_word;
 use std::alloc::{AllocError, Global};
 use std::mem;
 
-/// What `test` looks at, where its operands are of a form. Those that are left lose their order, since none is looked
-/// at again.
+/// What `test` checks, if its operands fit one of its forms. The operands that remain lose their order, since none is
+/// looked at again.
 fn test_operands(alloc: Global, items: &mut Vec<Item>) -> Result<Option<Test>, AllocError>
     ensures { IfOk result (λ test. option_map test_of test ≡ test_form (map item_of items.old.items)) }
 {
@@ -37,13 +37,13 @@ fn test_operands(alloc: Global, items: &mut Vec<Item>) -> Result<Option<Test>, A
     }
 }
 
-/// The words of operands, which are taken from their places.
+/// The words of operands, moved out of their places.
 #[inline(always)]
 fn words_of_items(alloc: Global, items: &mut Vec<Item>) -> Result<Vec<Word>, AllocError>
     ensures { IfOk result (λ words. words_of words.items ≡ item_words (map item_of items.old.items)) }
 {
     let mut words = Vec::with_capacity(alloc, items.len())?;
-    // In their order, each word is moved once, which `drain` would do twice.
+    // In order, each word is moved once; `drain` would move it twice.
     for place in items.iter_mut() {
         let item = mem::replace(place, Item::Lent(false, b""));
         words.push(item.into_word(alloc)?)?;
@@ -51,7 +51,7 @@ fn words_of_items(alloc: Global, items: &mut Vec<Item>) -> Result<Vec<Word>, All
     Ok(words)
 }
 
-/// The condition of an `if`, where its operands are of its form.
+/// The condition with this name, if its operands fit its form.
 #[tactic(auto, using(crate::proofs::NameLemmas::no_exit))]
 pub fn condition_of_items(
     alloc: Global,
@@ -69,7 +69,7 @@ pub fn condition_of_items(
     }
 }
 
-/// `printf` with these operands, of which the first is the format.
+/// `printf` with these operands, the first of which is the format.
 fn printf_of_items(
     alloc: Global,
     items: &mut Vec<Item>,
@@ -117,7 +117,7 @@ fn exit_of_items(alloc: Global, items: &mut Vec<Item>) -> Result<Option<Command>
     Ok(status_of_word(is_plain, &word).map(Command::Exit))
 }
 
-/// A command that takes no redirection, where its operands are of its form.
+/// A command that takes no redirection, if its operands fit its form.
 fn bare_command(
     alloc: Global,
     name: CommandName,
@@ -138,7 +138,7 @@ fn bare_command(
     }
 }
 
-/// The command of this name, where its operands and redirection are of its form.
+/// The command with this name, if its operands and redirection fit its form.
 pub fn command_of_items(
     alloc: Global,
     name: CommandName,

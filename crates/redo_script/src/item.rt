@@ -15,16 +15,16 @@ use crate::open::{Open, binds};
 use redo_bytes::Bytes;
 use std::alloc::{AllocError, Global};
 
-/// A word of a command, and whether it is written with plain bytes alone.
+/// A word of a command, and whether it is written with plain bytes only.
 #[derive(Debug, Drop)]
 pub enum Item<'a> {
     /// These bytes of the text.
     Lent(bool, &'a [u8]),
-    /// Pieces, one after the other.
+    /// Pieces in order.
     Built(bool, Vec<Part>),
 }
 
-/// What is left of a name behind a part of a word.
+/// What is left of a name after a part of a word, if the name begins with that part.
 fn past_part<'a>(part: &Part, name: &'a [u8]) -> Option<&'a [u8]>
     ensures { MatchOption result
         ((w : Symbols) → spells (symbols_of_part part.now ++ w) name.now ≡ false)
@@ -36,7 +36,7 @@ fn past_part<'a>(part: &Part, name: &'a [u8]) -> Option<&'a [u8]>
     }
 }
 
-/// Whether the parts' bytes are this name, with no parameter among them.
+/// Whether the parts are exactly the bytes of this name, without a parameter.
 fn parts_spell(parts: &[Part], name: &[u8]) -> bool
     ensures { result ≡ spells (symbols_of parts.now) name.now }
 {
@@ -50,7 +50,7 @@ fn parts_spell(parts: &[Part], name: &[u8]) -> bool
     left.is_empty()
 }
 
-/// These bytes and those of a part, where it is no parameter.
+/// These bytes and those of a part, unless it is a parameter.
 #[tactic(auto, using(crate::proofs::WordLemmas::literal_past))]
 fn with_part(mut literal: Vec<u8>, part: &Part) -> Result<Option<Vec<u8>>, AllocError>
     ensures { IfOk result (λ longer. MatchOption longer
@@ -66,7 +66,7 @@ fn with_part(mut literal: Vec<u8>, part: &Part) -> Result<Option<Vec<u8>>, Alloc
     }
 }
 
-/// The bytes of parts, where no parameter is among them.
+/// The bytes of the parts, if none of them is a parameter.
 fn parts_literal(alloc: Global, parts: &[Part]) -> Result<Option<Vec<u8>>, AllocError>
     ensures { IfOk result (λ bytes. option_map (λ v. v.items) bytes ≡ literal_on [] (symbols_of parts.now)) }
 {
@@ -80,7 +80,7 @@ fn parts_literal(alloc: Global, parts: &[Part]) -> Result<Option<Vec<u8>>, Alloc
     Ok(Some(literal))
 }
 
-/// Whether a name may go on with these bytes.
+/// Whether a name may continue with these bytes.
 fn are_name_bytes(bytes: &[u8]) -> bool
     ensures { result ≡ all_continue bytes.now }
 {
@@ -102,7 +102,7 @@ fn is_name_text(bytes: &[u8]) -> bool
     }
 }
 
-/// These bytes, where they are a name.
+/// These bytes, if they are a name.
 fn name_from(alloc: Global, bytes: &[u8]) -> Result<Option<Bytes>, AllocError>
     ensures { IfOk result (λ name. name ≡ as_name (Some bytes.now)) }
 {
@@ -112,7 +112,7 @@ fn name_from(alloc: Global, bytes: &[u8]) -> Result<Option<Bytes>, AllocError>
     Ok(None)
 }
 
-/// Whether the part is no name, or one that one of these binds.
+/// Whether the part is no name, or a name that one of `opens` binds.
 #[tactic(auto, using(crate::proofs::WordLemmas::knows_past))]
 fn part_known(part: &Part, opens: &[Open]) -> bool
     ensures { (w : Symbols) → knows_word (names_in (stack_onto [] opens.now)) (symbols_of_part part.now ++ w) ≡
@@ -124,7 +124,7 @@ fn part_known(part: &Part, opens: &[Open]) -> bool
     }
 }
 
-/// Whether each name among the parts is bound by one of these.
+/// Whether each name in the parts is bound by one of `opens`.
 fn parts_known(parts: &[Part], opens: &[Open]) -> bool
     ensures { result ≡ knows_word (names_in (stack_onto [] opens.now)) (symbols_of parts.now) }
 {
@@ -136,7 +136,7 @@ fn parts_known(parts: &[Part], opens: &[Open]) -> bool
     true
 }
 
-/// Whether each name in the word is bound by one of these.
+/// Whether each name in the word is bound by one of `opens`.
 #[tactic(auto, using(crate::proofs::WordLemmas::knows_bytes))]
 pub fn is_known(word: &Word, opens: &[Open]) -> bool
     ensures { result ≡ knows_word (names_in (stack_onto [] opens.now)) (word_of word.now) }
@@ -148,7 +148,7 @@ pub fn is_known(word: &Word, opens: &[Open]) -> bool
 }
 
 impl Item<'_> {
-    /// Whether the word is written with plain bytes alone.
+    /// Whether the word is written with plain bytes only.
     pub fn is_plain(&self) -> bool
         ensures { result ≡ (item_of self.now).is_plain }
     {
@@ -157,7 +157,7 @@ impl Item<'_> {
         }
     }
 
-    /// Whether the word's bytes are this name, with no parameter among them.
+    /// Whether the word is exactly the bytes of this name, without a parameter.
     #[inline(always)]
     pub fn spells(&self, name: &[u8]) -> bool
         ensures { result ≡ spells (item_of self.now).word name.now }
@@ -175,7 +175,7 @@ impl Item<'_> {
         self.is_plain() && self.spells(name)
     }
 
-    /// The word, with bytes of its own.
+    /// The word, which owns its bytes.
     pub fn into_word(self, alloc: Global) -> Result<Word, AllocError>
         ensures { IfOk result (λ word. word_of word ≡ (item_of self.entry).word) }
     {
@@ -185,7 +185,7 @@ impl Item<'_> {
         }
     }
 
-    /// The name that the word is, where it is one.
+    /// The name that the word is, if it is one.
     #[tactic(auto, using(crate::proofs::WordLemmas::literal_bytes))]
     pub fn name(&self, alloc: Global) -> Result<Option<Bytes>, AllocError>
         ensures { IfOk result (λ name. name ≡ name_of (item_of self.now)) }
@@ -200,7 +200,7 @@ impl Item<'_> {
         }
     }
 
-    /// Whether each name in the word is bound by one of these.
+    /// Whether each name in the word is bound by one of `opens`.
     #[tactic(auto, using(crate::proofs::WordLemmas::knows_bytes))]
     pub fn is_known(&self, opens: &[Open]) -> bool
         ensures { result ≡ knows_word (names_in (stack_onto [] opens.now)) (item_of self.now).word }
@@ -211,21 +211,21 @@ impl Item<'_> {
         }
     }
 
-    /// Whether this is a word of an `if` behind its condition.
+    /// Whether this is a reserved word of an `if` after its condition.
     pub fn is_of_if(&self) -> bool
         ensures { result ≡ is_one_of if_words (item_of self.now) }
     {
         self.is_named(b"then") || self.is_named(b"else") || self.is_named(b"fi")
     }
 
-    /// Whether this is a word of a loop.
+    /// Whether this is a reserved word of a loop.
     pub fn is_of_loop(&self) -> bool
         ensures { result ≡ is_one_of loop_words (item_of self.now) }
     {
         self.is_named(b"for") || self.is_named(b"do") || self.is_named(b"done")
     }
 
-    /// Whether this is a word of the shell that the subset leaves out.
+    /// Whether this is a reserved word that the subset leaves out.
     pub fn is_outside(&self) -> bool
         ensures { result ≡ is_one_of words_outside (item_of self.now) }
     {

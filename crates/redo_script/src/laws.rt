@@ -1,4 +1,4 @@
-//! What ties the grammar to the functions that read.
+//! Theorems that relate the grammar to the functions that read.
 
 ghost use Rattle.std.specs.Prelude.{◌≡◌, ◌≢◌, ◌⊎◌, ℕ, List, Ok, Err};
 ghost use Rattle.redo_script.specs.declared.fault.ScriptFault.{ScriptFault};
@@ -13,12 +13,12 @@ ghost use Rattle.redo_script.specs.Refusals.{FaultStands};
 ghost use Rattle.redo_script.specs.Refused.{IsRefused, IsScriptOrRefused};
 ghost use Rattle.redo_script.specs.Texts.{IsScript, script_in};
 
-/// Bytes that have tokens by the grammar are read as these.
+/// Bytes with tokens by the grammar are read as these tokens.
 pub fn tokens_are_read()
     ensures { (text : List ℕ) (ts : List Token) → AreTokens text ts → tokens_of text ≡ Ok ts }
 {}
 
-/// Bytes that are read have these tokens by the grammar.
+/// Bytes that are read as tokens have these tokens by the grammar.
 pub fn read_tokens_are_right()
     ensures { (text : List ℕ) (ts : List Token) → tokens_of text ≡ Ok ts → AreTokens text ts }
 {}
@@ -28,17 +28,17 @@ pub fn programs_are_read()
     ensures { (ts : List Token) (script : Script) → IsProgram ts script → statements_of ts ≡ Ok script }
 {}
 
-/// Tokens that are read are a program by the grammar, with this tree.
+/// Tokens that are read as a tree are a program by the grammar, with this tree.
 pub fn read_programs_are_right()
     ensures { (ts : List Token) (script : Script) → statements_of ts ≡ Ok script → IsProgram ts script }
 {}
 
-/// A text that is a script by the grammar is read, with its tree.
+/// A text that is a script by the grammar is read as its tree.
 pub fn scripts_are_read()
     ensures { (text : List ℕ) (script : Script) → IsScript text script → script_in text ≡ Ok script }
 {}
 
-/// A text that is read is a script by the grammar, with this tree.
+/// A text that is read as a tree is a script by the grammar, with this tree.
 pub fn read_scripts_are_right()
     ensures { (text : List ℕ) (script : Script) → script_in text ≡ Ok script → IsScript text script }
 {}
@@ -48,23 +48,23 @@ pub fn one_tree()
     ensures { (text : List ℕ) (s t : Script) → IsScript text s → IsScript text t → s ≡ t }
 {}
 
-/// A fault of the tokens stands at the first byte past which the text can't go on, or at the end of the text.
+/// A fault of the tokens is at the first byte after which the text can't continue, or at the end of the text.
 pub fn tokens_stop_at_their_fault()
     ensures { (text : List ℕ) (fault : ScriptFault) →
         tokens_of text ≡ Err fault → StopsAtByte text fault ⊎ StopsAtEnd text fault }
 {}
 
-/// What is wrong with a text is never want of memory, which [`parse`](crate::parse) answers of itself.
+/// The fault of a text is never `Memory`, which [`parse`](crate::parse) alone reports.
 pub fn no_text_wants_memory()
     ensures { (text : List ℕ) (fault : ScriptFault) → script_in text ≡ Err fault → fault.why ≢ reasons.Memory }
 {}
 
-/// A fault of the commands stands at a place of the grammar, and is what the table has for it.
+/// A fault of the commands is at a place of the grammar, and is the one that the table has for it.
 pub fn commands_stop_at_their_fault()
     ensures { (ts : List Token) (fault : ScriptFault) → statements_of ts ≡ Err fault → FaultStands ts fault }
 {}
 
-/// Tokens that have a fault by the table are refused with it, and so they have at most one.
+/// Tokens with a fault by the table are refused with it. So they have at most one.
 pub fn faults_of_the_table_are_answered()
     ensures { (ts : List Token) (fault : ScriptFault) → FaultStands ts fault → statements_of ts ≡ Err fault }
 {}

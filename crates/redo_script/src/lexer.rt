@@ -31,32 +31,32 @@ use std::mem;
 pub enum Mode {
     /// Between words.
     Gap,
-    /// Directly behind `;`.
+    /// Directly after `;`.
     Semicolon,
-    /// Directly behind `>`.
+    /// Directly after `>`.
     Redirect,
     Comment,
     Word,
-    /// Behind `$`.
+    /// After `$`.
     Dollar,
-    /// In a name behind `$`.
+    /// In a name after `$`.
     Name,
     /// In single quotes.
     Single,
     /// In double quotes.
     Double,
-    /// Behind `$` in double quotes.
+    /// After `$` in double quotes.
     QuotedDollar,
-    /// In a name behind `$` in double quotes.
+    /// In a name after `$` in double quotes.
     QuotedName,
-    /// Behind a backslash in double quotes.
+    /// After a backslash in double quotes.
     Escape,
 }
 
 /// How many tokens are read before they are taken.
 const MANY: usize = 15;
 
-/// How many there is room for at first: those, and what most lines add to them before they are taken.
+/// How many tokens there is room for at first: those, and what most lines add before they are taken.
 const ROOM: usize = 21;
 
 /// Reads a text byte by byte. Its tokens are taken from time to time.
@@ -71,7 +71,7 @@ pub struct Lexer<'a> {
     is_plain: bool,
     is_number: bool,
     parts: Vec<Part>,
-    /// Bytes of the word behind its parts.
+    /// Bytes of the word after its parts.
     literal: Vec<u8>,
     /// The name that was begun last.
     name: Vec<u8>,
@@ -98,7 +98,7 @@ impl<'a> Lexer<'a> {
         Ok(())
     }
 
-    /// Makes a part of the bytes behind the parts.
+    /// Turns the bytes after the parts into a part.
     #[inline(always)]
     fn end_literal(&mut self) -> Result<(), ScriptFault>
         ensures same { Leaves reader_of self.new result (Ok (reader_of self.old)) }
@@ -136,7 +136,7 @@ impl<'a> Lexer<'a> {
         Ok(())
     }
 
-    /// Ends the word that was begun.
+    /// Ends the current word.
     #[inline(always)]
     fn push_word(&mut self) -> Result<(), ScriptFault>
         ensures reads { Leaves reader_of self.new result (Ok (with_word (reader_of self.old))) }
@@ -372,7 +372,7 @@ impl<'a> Lexer<'a> {
         self.gap_byte(byte)
     }
 
-    /// Reads one byte more.
+    /// Reads one more byte.
     #[tactic(auto, unfolding(crate::specs::Reading::next_byte))]
     fn byte(&mut self, byte: u8) -> Result<(), ScriptFault>
         requires { self.old.line + 1 < 2 ^ 64 }
@@ -424,12 +424,12 @@ impl<'a> Lexer<'a> {
         }
     }
 
-    /// Whether it is time for the tokens to be taken.
+    /// Whether the tokens should be taken now.
     pub fn has_many(&self) -> bool {
         self.tokens.len() >= MANY
     }
 
-    /// The tokens since the last call.
+    /// The tokens read since the last call.
     pub fn take_tokens(&mut self) -> Result<Vec<Token<'a>>, ScriptFault>
         ensures tokens { IfOk result (λ tokens. map token_of tokens.items ≡ (reader_of self.old).tokens) }
         ensures taken { OnOk result (reader_of self.new ≡ with_no_tokens (reader_of self.old)) }

@@ -1,17 +1,16 @@
-//! The reader of build scripts, the `.do` files of redo: from bytes to a syntax tree.
+//! The parser for build scripts, the `.do` files of redo: from bytes to a syntax tree.
 //!
-//! A script is written in a small subset of the POSIX shell command language. [`parse`] reads
-//! exactly the texts of its grammar, each with its one tree, and answers for any other text what is
-//! wrong first, and in which line. The crate stands on `redo_bytes`, in which literal words keep their
-//! bytes; running a script is the work of the crates above.
+//! A script is written in a small subset of the POSIX shell command language. [`parse`] reads exactly the texts of its
+//! grammar, each as its one tree. For any other text it reports the first fault and its line. Depends on `redo_bytes`,
+//! which stores the bytes of literal words. The crates above run scripts.
 //!
-//! - `ast`: the tree that is read.
-//! - `fault`: what can be wrong.
+//! - `ast`: the syntax tree.
+//! - `fault`: what can be wrong with a text.
 //! - `reader`: the passes over a text, and `parse`.
 //! - `bytes`, `spans`, `token`, `lexer`: from bytes to tokens; `lexer::runs`: many bytes at once.
 //! - `item`, `name`, `number`, `form`, `partial`, `open`, `parser`: from tokens to statements.
-//! - `laws`: what ties the grammar to the functions that say which fault a text has. Each is a
-//!   function with nothing to run, whose contract is the law.
+//! - `laws`: theorems that relate the grammar to the functions that find a text's fault. Each is a function that does
+//!   nothing and whose contract is the law.
 #![tactic(auto)]
 
 mod ast;

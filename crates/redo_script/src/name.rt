@@ -54,7 +54,7 @@ impl CommandName {
         }
     }
 
-    /// Whether the command may stand behind `if`.
+    /// Whether the command may come after `if`.
     pub fn is_condition(self) -> bool
         ensures { result ≡ is_one_of conditions (word_named self) }
     {

@@ -1,4 +1,4 @@
-//! The status that `exit` is given.
+//! The status given to `exit`.
 
 ghost use Rattle.std.specs.Prelude.{◌≡◌, ◌∷◌, ◌++◌, ◌≤◌, None, map, []};
 ghost use Rattle.std.specs.Option.{MatchOption};
@@ -9,7 +9,7 @@ ghost use Rattle.redo_script.specs.inside.Parser.{status_on};
 
 use crate::ast::{Part, Word};
 
-/// A number as far as it was read, and how many digits it has so far.
+/// A number as far as it was read, and how many digits it has.
 #[derive(Clone, Copy, Debug)]
 struct Number {
     digits: u8,
@@ -28,7 +28,8 @@ impl Number {
         }
     }
 
-    /// With one digit more, where the number then has at most three and is at most 255.
+    /// The number with this byte as its next digit. `None` if it isn't a digit, or if the number then has more than
+    /// three or is above 255.
     fn past_digit(self, byte: u8) -> Option<Number>
         ensures { MatchOption result
             ((w : Symbols) → status_on self.digits self.value (byte_symbol byte ∷ w) ≡ None)
@@ -45,7 +46,7 @@ impl Number {
         })
     }
 
-    /// With these digits, where the bytes are digits alone.
+    /// The number with these bytes as its next digits.
     fn past_bytes(self, bytes: &[u8]) -> Option<Number>
         ensures { MatchOption result
             ((w : Symbols) → status_on self.digits self.value (map byte_symbol bytes.now ++ w) ≡ None)
@@ -59,7 +60,7 @@ impl Number {
         Some(number)
     }
 
-    /// With the digits of this part, where it is digits alone.
+    /// The number with the bytes of this part as its next digits.
     fn past_part(self, part: &Part) -> Option<Number>
         ensures { MatchOption result
             ((w : Symbols) → status_on self.digits self.value (symbols_of_part part.now ++ w) ≡ None)
@@ -72,7 +73,7 @@ impl Number {
         }
     }
 
-    /// With the digits of these parts, where they are digits alone.
+    /// The number with the bytes of these parts as its next digits.
     fn past_parts(self, parts: &[Part]) -> Option<Number>
         ensures { MatchOption result
             (status_on self.digits self.value (symbols_of parts.now) ≡ None)
@@ -86,7 +87,7 @@ impl Number {
         Some(number)
     }
 
-    /// With the digits of this word, where it is digits alone.
+    /// The number with the bytes of this word as its next digits.
     fn past_word(self, word: &Word) -> Option<Number>
         ensures { MatchOption result
             (status_on self.digits self.value (word_of word.now) ≡ None)
@@ -99,7 +100,7 @@ impl Number {
     }
 }
 
-/// The status that a word of one to three digits stands for, where it is at most 255 and they are plain.
+/// The status that a word stands for: one to three plain digits, at most 255.
 pub fn status_of_word(is_plain: bool, word: &Word) -> Option<u8>
     ensures { result ≡ status_of (record { is_plain = is_plain; word = word_of word.now }) }
 {

@@ -1,4 +1,4 @@
-//! Ifs and loops that are open where reading stands.
+//! Ifs and loops that are open at the current token.
 
 ghost use Rattle.std.specs.Prelude.{◌≡◌, List, [], ◌∷◌, Err, length};
 ghost use Rattle.std.specs.Str.{bytes_eq};
@@ -16,7 +16,7 @@ use redo_bytes::Bytes;
 pub struct OpenIf {
     pub line: u64,
     pub condition: Condition,
-    /// The first branch, once `else` was read.
+    /// The first branch, once `else` has been read.
     pub first: Option<Vec<Stmt>>,
     /// The statements before the `if`.
     pub before: Vec<Stmt>,
@@ -39,7 +39,7 @@ pub enum Open {
 }
 
 impl Open {
-    /// What is wrong with a text that ends where this is the innermost that is open.
+    /// The fault of a text that ends while this is the innermost open one.
     pub fn fault_inside(&self) -> ScriptFault
         ensures { (os : List OpenTree) (script : ScriptTree) →
             unless_open (open_of self.now ∷ os) script ≡ Err result }
@@ -57,7 +57,7 @@ impl Open {
     }
 }
 
-/// How many ifs are among these.
+/// The number of ifs among these.
 #[tactic(auto, using(crate::proofs::OpenLemmas::ifs_are, crate::proofs::OpenLemmas::ifs_few))]
 pub fn count_ifs(opens: &[Open]) -> usize
     ensures { result ≡ ifs_in (stack_onto [] opens.now) }
@@ -71,7 +71,7 @@ pub fn count_ifs(opens: &[Open]) -> usize
     count
 }
 
-/// How many loops are among these.
+/// The number of loops among these.
 #[tactic(auto, using(crate::proofs::OpenLemmas::loops_are, crate::proofs::OpenLemmas::loops_few))]
 pub fn count_loops(opens: &[Open]) -> usize
     ensures { result ≡ length (names_in (stack_onto [] opens.now)) }

@@ -33,14 +33,14 @@ use std::mem;
 pub enum Phase {
     AtCommand,
     InCommand,
-    /// Behind `if`, which stands in this line.
+    /// After `if`, which is on this line.
     BehindIf(u64),
     InCondition,
     BeforeThen(u64),
     BehindFi(u64),
-    /// Behind `for`, which stands in this line.
+    /// After `for`, which is on this line.
     BehindFor(u64),
-    /// Behind the name of a loop.
+    /// After the name of a loop.
     BehindName(u64),
     /// Among the words of a loop.
     InWords(u64),
@@ -53,7 +53,7 @@ pub enum Phase {
 pub struct Parser<'a> {
     alloc: Global,
     phase: Phase,
-    /// The command or condition that is being read, where one is.
+    /// The command or condition that is being read, if any.
     partial: PartialCommand<'a>,
     /// The condition that was read last.
     condition: Condition,
@@ -71,7 +71,7 @@ impl<'a> Parser<'a> {
         Err(ScriptFault { line, why })
     }
 
-    /// `else`, where this is the innermost that is open.
+    /// `else`, with this as the innermost open one.
     #[tactic(auto, using(crate::proofs::StatementLemmas::stack_push, crate::proofs::StatementLemmas::script_empty))]
     fn begin_second(&mut self, line: u64, innermost: Open) -> Result<(), ScriptFault>
         ensures { Leaves parser_of self.new result
@@ -105,7 +105,7 @@ impl<'a> Parser<'a> {
         }
     }
 
-    /// `fi`, where this is the innermost that is open.
+    /// `fi`, with this as the innermost open one.
     #[tactic(auto, using(crate::proofs::StatementLemmas::script_empty, crate::proofs::StatementLemmas::if_push))]
     fn close_if(&mut self, line: u64, innermost: Open) -> Result<(), ScriptFault>
         ensures { Leaves parser_of self.new result
@@ -146,7 +146,7 @@ impl<'a> Parser<'a> {
         }
     }
 
-    /// `done`, where this is the innermost that is open.
+    /// `done`, with this as the innermost open one.
     #[tactic(auto, using(crate::proofs::StatementLemmas::script_empty, crate::proofs::StatementLemmas::loop_push))]
     fn close_loop(&mut self, line: u64, innermost: Open) -> Result<(), ScriptFault>
         ensures { Leaves parser_of self.new result
@@ -180,12 +180,12 @@ impl<'a> Parser<'a> {
         }
     }
 
-    /// `if` in a command's place.
+    /// `if` in the place of a command.
     #[tactic(auto, using(crate::proofs::OpenLemmas::ifs_are, crate::proofs::OpenLemmas::ifs_few))]
     fn if_word(&mut self, line: u64) -> Result<(), ScriptFault>
         ensures { Leaves parser_of self.new result (if_opened (parser_of self.old) line) }
     {
-        // Where fewer are open at all, none is counted.
+        // If fewer are open in all, no counting is needed.
         if self.opens.len() >= 16 && count_ifs(&self.opens) >= 16 {
             return Parser::fault(line, Reason::TooDeep);
         }
@@ -193,7 +193,7 @@ impl<'a> Parser<'a> {
         Ok(())
     }
 
-    /// `for` in a command's place.
+    /// `for` in the place of a command.
     fn for_word(&mut self, line: u64) -> Result<(), ScriptFault>
         ensures { Leaves parser_of self.new result (for_opened (parser_of self.old) line) }
     {
@@ -204,7 +204,7 @@ impl<'a> Parser<'a> {
         Ok(())
     }
 
-    /// A word that may not stand here. One of a loop is told in its own line.
+    /// A word that is out of place. A reserved word of a loop is reported on its own line.
     fn misplaced(line: u64, at: u64, item: &Item) -> Result<(), ScriptFault>
         ensures { result ≡ misplaced line at (item_of item.now) }
     {
@@ -214,7 +214,7 @@ impl<'a> Parser<'a> {
         Parser::fault(line, Reason::IfShape)
     }
 
-    /// A word where `then` must stand.
+    /// A word where `then` must be.
     #[tactic(auto, using(crate::proofs::StatementLemmas::stack_push))]
     fn then_word(&mut self, line: u64, at: u64, item: Item<'a>) -> Result<(), ScriptFault>
         ensures { Leaves parser_of self.new result
@@ -223,7 +223,7 @@ impl<'a> Parser<'a> {
         if !item.is_named(b"then") {
             return Parser::misplaced(at, at, &item);
         }
-        // Many a branch is one statement.
+        // Many branches have one statement.
         let branch = Vec::with_capacity(self.alloc, 1)?;
         let before = mem::replace(&mut self.so_far, branch);
         let condition = mem::replace(&mut self.condition, Condition::True);
@@ -237,7 +237,7 @@ impl<'a> Parser<'a> {
         Ok(())
     }
 
-    /// A word behind `if`.
+    /// A word after `if`.
     fn condition_word(&mut self, line: u64, at: u64, item: Item<'a>) -> Result<(), ScriptFault>
         ensures { Leaves parser_of self.new result
             (condition_word (parser_of self.old) line at (item_of item.entry)) }
@@ -252,7 +252,7 @@ impl<'a> Parser<'a> {
         }
     }
 
-    /// A word where a loop's name must stand.
+    /// A word where a loop's name must be.
     fn name_word(&mut self, line: u64, at: u64, item: Item<'a>) -> Result<(), ScriptFault>
         ensures { Leaves parser_of self.new result
             (loop_named (parser_of self.old) line at (name_of (item_of item.entry))) }
@@ -268,7 +268,7 @@ impl<'a> Parser<'a> {
         Ok(())
     }
 
-    /// A word where `in` must stand.
+    /// A word where `in` must be.
     fn in_word(&mut self, line: u64, item: Item<'a>) -> Result<(), ScriptFault>
         ensures { Leaves parser_of self.new result
             (words_begun (parser_of self.old) line self.old.name (item_of item.entry)) }
@@ -294,7 +294,7 @@ impl<'a> Parser<'a> {
         Ok(())
     }
 
-    /// A word where `do` must stand.
+    /// A word where `do` must be.
     #[tactic(auto, using(crate::proofs::StatementLemmas::stack_push))]
     fn do_word(&mut self, line: u64, at: u64, item: Item<'a>) -> Result<(), ScriptFault>
         ensures { Leaves parser_of self.new result
@@ -320,7 +320,7 @@ impl<'a> Parser<'a> {
         Ok(())
     }
 
-    /// A word in a command's place.
+    /// A word in the place of a command.
     #[inline(never)]
     fn first_word(&mut self, line: u64, item: Item<'a>) -> Result<(), ScriptFault>
         ensures { Leaves parser_of self.new result (first_word (parser_of self.old) line (item_of item.entry)) }
@@ -397,7 +397,7 @@ impl<'a> Parser<'a> {
         }
     }
 
-    /// Ends a command that stands by itself.
+    /// Ends a command that is a statement.
     #[tactic(auto, using(crate::proofs::StatementLemmas::simple_push))]
     fn end_command(&mut self) -> Result<(), ScriptFault>
         ensures { Leaves parser_of self.new result (with_command (parser_of self.old) (partial_of self.old.partial)) }
@@ -409,7 +409,7 @@ impl<'a> Parser<'a> {
         Ok(())
     }
 
-    /// Ends the command behind `if`.
+    /// Ends the command after `if`.
     fn end_condition(&mut self) -> Result<(), ScriptFault>
         ensures { Leaves parser_of self.new result (with_condition (parser_of self.old) (partial_of self.old.partial)) }
     {
@@ -445,7 +445,7 @@ impl<'a> Parser<'a> {
         }
     }
 
-    /// Reads one token more.
+    /// Reads one more token.
     fn token(&mut self, token: Token<'a>) -> Result<(), ScriptFault>
         ensures { Leaves parser_of self.new result (next_token (parser_of self.old) (token_of token.entry)) }
     {
@@ -457,7 +457,7 @@ impl<'a> Parser<'a> {
         }
     }
 
-    /// Reads these tokens, up to the first that has a fault.
+    /// Reads these tokens, up to the first with a fault.
     fn tokens(&mut self, tokens: Vec<Token<'a>>) -> Result<(), ScriptFault>
         ensures { (ts : List Symbol) (total : Result ScriptTree ScriptFault) →
             parse_on (parser_of self.old) (map token_of tokens.entry.items ++ ts) ≡ total →
@@ -484,7 +484,7 @@ impl<'a> Parser<'a> {
         }
     }
 
-    /// The statements, where no `if` or loop is open.
+    /// The statements, if no `if` or loop is open.
     fn script(mut self) -> Result<Script, ScriptFault>
         ensures { Gives (λ s. script_of s.stmts.items) result
             (unless_open (parser_of self.entry).opens (parser_of self.entry).so_far) }
@@ -492,7 +492,7 @@ impl<'a> Parser<'a> {
         match self.opens.pop() {
             Some(open) => Err(open.fault_inside()),
             None => {
-                // A script may wait for long, and many at a time.
+                // A script may be kept for long, and many at a time.
                 let mut stmts = self.so_far;
                 stmts.shrink_to_fit();
                 Ok(Script { stmts })
@@ -526,7 +526,7 @@ impl<'a> Parser<'a> {
     }
 }
 
-/// Statements as far as they were read, or the first fault among them.
+/// The statements read so far, or the first fault among them.
 #[derive(Drop)]
 pub struct Statements<'a> {
     parser: Parser<'a>,
@@ -544,8 +544,8 @@ impl<'a> Statements<'a> {
         }
     }
 
-    /// Reads these tokens. A fault among them is kept, and behind it there is nothing to read; want of memory is none,
-    /// and is answered at once.
+    /// Reads these tokens. A fault among them is kept, and nothing after it is read. Running out of memory is no such
+    /// fault; it is reported at once.
     pub fn tokens(&mut self, tokens: Vec<Token<'a>>) -> Result<(), ScriptFault>
         ensures reads { (ts : List Symbol) (total : Result ScriptTree ScriptFault) →
             IsOn self.old (map token_of tokens.entry.items ++ ts) total → OnOk result (IsOn self.new ts total) }

@@ -1,4 +1,4 @@
-//! A command as far as it was read.
+//! A command that has been read in part.
 
 ghost use Rattle.std.specs.Prelude.{◌≡◌, Ok, [], map, option_map};
 ghost use Rattle.redo_script.specs.Faults.{Gives};
@@ -18,7 +18,7 @@ use crate::open::Open;
 use std::alloc::Global;
 use std::mem;
 
-/// Whether each name in these words is bound by one of these.
+/// Whether each name in these words is bound by one of `opens`.
 fn all_known(items: &[Item], opens: &[Open]) -> bool
     ensures { result ≡ knows_items (names_in (stack_onto [] opens.now)) (map item_of items.now) }
 {
@@ -30,16 +30,16 @@ fn all_known(items: &[Item], opens: &[Open]) -> bool
     true
 }
 
-/// What was read of a command. One place serves all commands of a script, one after the other.
+/// What has been read of a command. One value serves all commands of a script, one after the other.
 #[derive(Debug, Drop)]
 pub struct PartialCommand<'a> {
     line: u64,
     name: CommandName,
     items: Vec<Item<'a>>,
     redirection: Option<Redirection>,
-    /// Something stands where no form has it.
+    /// Something is where no form has it.
     is_ill: bool,
-    /// A redirection whose word is to come, and whether it appends.
+    /// A redirection whose word comes next, and whether it appends.
     awaits: Option<bool>,
 }
 
@@ -100,7 +100,7 @@ impl<'a> PartialCommand<'a> {
         self.is_ill || self.awaits.is_some()
     }
 
-    /// Whether each name in the command is bound by one of these.
+    /// Whether each name in the command is bound by one of `opens`.
     fn is_known(&self, opens: &[Open]) -> bool
         ensures { result ≡ knows (names_in (stack_onto [] opens.now)) (partial_of self.now).items
             (partial_of self.now).redirection }
@@ -118,7 +118,7 @@ impl<'a> PartialCommand<'a> {
         self.line
     }
 
-    /// The command that ends here, inside these.
+    /// The command that ends here, inside `opens`.
     pub fn command(&mut self, alloc: Global, opens: &[Open]) -> Result<Command, ScriptFault>
         ensures { Gives command_of result
             (ended_command (names_in (stack_onto [] opens.now)) (partial_of self.old)) }
@@ -145,7 +145,7 @@ impl<'a> PartialCommand<'a> {
         Ok(command)
     }
 
-    /// The condition that ends here, inside these.
+    /// The condition that ends here, inside `opens`.
     pub fn condition(&mut self, alloc: Global, opens: &[Open]) -> Result<Condition, ScriptFault>
         ensures { Gives condition_of result
             (ended_condition (names_in (stack_onto [] opens.now)) (partial_of self.old)) }

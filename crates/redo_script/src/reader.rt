@@ -17,7 +17,7 @@ use crate::lexer::Lexer;
 use crate::parser::Statements;
 use std::alloc::Global;
 
-/// Whether a byte 0 is among these. It looks at every byte, which takes less time than to stop at the first 0 does.
+/// Whether the text has a NUL byte. It looks at every byte, which is faster than stopping at the first NUL.
 #[tactic(auto, using(crate::proofs::NulLemmas::nul_here))]
 fn has_nul(text: &[u8]) -> bool
     ensures { has_no_nul text.now ≡ not result }
@@ -29,7 +29,7 @@ fn has_nul(text: &[u8]) -> bool
     found
 }
 
-/// Looks for a byte 0.
+/// Refuses a text with a NUL byte.
 #[tactic(auto, using(crate::proofs::NulLemmas::no_nul))]
 fn refuse_nul(text: &[u8]) -> Result<(), ScriptFault>
     ensures { Gives (λ done. []) result (nul_from 1 text.now) }
@@ -53,14 +53,14 @@ fn refuse_nul(text: &[u8]) -> Result<(), ScriptFault>
     Ok(())
 }
 
-/// Whether a line ends before these bytes.
+/// Whether a line ends here.
 fn is_line_end(rest: &[u8]) -> bool
     ensures { result ≡ bytes_eq (first_line rest.now) [] }
 {
     matches!(rest, [] | [b'\n', ..])
 }
 
-/// Whether the text begins with no `#!`, or with the one line of that kind that a script may have.
+/// Whether the text doesn't begin with `#!`, or begins with the only such line that a script may have.
 fn has_fit_interpreter(text: &[u8]) -> bool
     ensures { result ≡ interpreter_is_fit text.now }
 {
@@ -73,8 +73,9 @@ fn has_fit_interpreter(text: &[u8]) -> bool
     }
 }
 
-/// The tree of a text by its tokens and its commands. The two passes go side by side: where the commands have a fault,
-/// the tokens are still read to the end, since theirs go first. Only want of memory ends both at once.
+/// The tree of a text, from its tokens and its commands. The two passes run side by side: if the commands have a fault,
+/// the tokens are still read to the end, since a fault of theirs goes first. Only running out of memory ends both at
+/// once.
 fn read_statements(alloc: Global, text: &[u8]) -> Result<Script, ScriptFault>
     ensures { Gives (λ t. script_of t.stmts.items) result (script_by_tokens text.now) }
 {
@@ -105,31 +106,29 @@ fn read(alloc: Global, text: &[u8]) -> Result<Script, ScriptFault>
     read_statements(alloc, text)
 }
 
-/// Reads a script, in time that grows with its length alone, from any bytes whatever.
+/// Reads a script from any bytes, in time that grows with their number alone.
 ///
-/// The grammar is a subset of the POSIX shell command language (its chapters on token recognition,
-/// quoting, simple commands, redirection and the `if` and `for` compound commands), with the commands
-/// echo, printf, cat, test, true, false and exit, and with redo-ifchange(1), redo-ifcreate(1) and
-/// redo-always(1). The only parameters are `$1`, `$2` and `$3`, and the names of the loops round a
-/// command; an `if` may stand in at most 15 others, a loop in one.
+/// The grammar is a subset of the POSIX shell command language (its sections on token recognition, quoting, simple
+/// commands, redirection and the compound commands `if` and `for`). Its commands are echo, printf, cat, test, true,
+/// false and exit, and redo-ifchange(1), redo-ifcreate(1) and redo-always(1). The only parameters are `$1`, `$2` and
+/// `$3`, and the names of the loops around a command. An `if` may be inside at most 15 others, a loop inside 1.
 ///
-/// A text is looked at in four passes: for a byte 0, for its interpreter line, for its tokens and
-/// for its commands. The first pass that finds a fault decides, and in a pass the fault that stands
-/// first.
+/// A text is checked in four passes: for a NUL byte, for its interpreter line, for its tokens and for its commands. The
+/// first pass that finds a fault decides, and within a pass the first fault.
 pub fn parse(alloc: Global, text: &[u8]) -> Result<Script, ScriptFault>
     // What is read is in the grammar, with this tree.
     ensures found { IfOk result (λ s. IsScript text.now (script_of s.stmts.items)) }
 
-    // What is in the grammar is read, with its tree, unless memory runs out.
+    // What is in the grammar is read as its tree, unless memory runs out.
     ensures only { (s : ScriptTree) → IsScript text.now s → Gives (λ t. script_of t.stmts.items) result (Ok s) }
 
-    // What is refused has this fault: it stands where the text leaves the grammar first.
+    // What is refused has this fault, at the place where the text first leaves the grammar.
     ensures refused { IfErr result (λ fault. fault.why ≢ reasons.Memory → IsRefused text.now fault) }
 
-    // Want of memory has no line.
+    // Out of memory has no line.
     ensures memory { IfErr result (λ fault. fault.why ≡ reasons.Memory → fault ≡ no_memory) }
 
-    // What isn't in the grammar has this one fault, unless memory runs out.
+    // What isn't in the grammar has exactly this fault, unless memory runs out.
     ensures exact { Gives (λ t. script_of t.stmts.items) result (script_in text.now) }
 {
     read(alloc, text)

@@ -1,4 +1,4 @@
-//! Spans of bytes that are alike: how far they go, and what stands behind them.
+//! Runs of bytes of one kind: how long they are, and what follows them.
 
 ghost use Rattle.std.specs.Prelude.{◌≡◌, ◌≤◌, IfSome, length, take, true};
 ghost use Rattle.redo_script.specs.Reading.{Reader, read_on};
@@ -10,7 +10,7 @@ ghost use Rattle.redo_script.specs.inside.Lexer.{with_quoted};
 
 use crate::bytes::is_plain_byte;
 
-/// How many plain bytes come first.
+/// How many plain bytes the text begins with.
 #[tactic(auto, using(crate::proofs::RunLemmas::plain_here))]
 pub fn plain_len(text: &[u8]) -> usize
     ensures within { result ≤ length text.now }
@@ -24,8 +24,8 @@ pub fn plain_len(text: &[u8]) -> usize
     text.len()
 }
 
-// Each byte that means something in quotes of one kind or the other, or ends a line, stands at its own place, and `.`,
-// which doesn't, at every other place.
+// Each byte that has a meaning in single or double quotes, or ends a line, is at its own index; at every other index is
+// `.`, which has none.
 static SPECIAL_BYTES: [u8; 256] = *b"\
     ..........\n.....................\
     ..\".$..'........................\
@@ -36,14 +36,14 @@ static SPECIAL_BYTES: [u8; 256] = *b"\
     ................................\
     ................................";
 
-/// Whether a byte means something in quotes of one kind or the other, or ends a line.
+/// Whether a byte has a meaning in single or double quotes, or ends a line.
 fn is_special_byte(byte: u8) -> bool
     ensures { result ≡ is_special byte }
 {
     SPECIAL_BYTES[byte as usize] != b'.'
 }
 
-/// How many bytes come first that stand for themselves in quotes, on one line.
+/// How many bytes the text begins with that are literal in quotes, on one line.
 #[tactic(auto, using(crate::proofs::QuotedRunLemmas::quotable_here))]
 pub fn quotable_len(text: &[u8]) -> usize
     ensures within { result ≤ length text.now }
@@ -63,8 +63,8 @@ fn is_quote_byte(byte: u8) -> bool
     matches!(byte, b'\'' | b'"')
 }
 
-/// The bytes in quotes, and those behind, where a word comes first that is one pair of quotes, with bytes in it that
-/// stand for themselves.
+/// If the text begins with a word that is one pair of quotes around literal bytes: those bytes, and the text after the
+/// word.
 pub fn quoted_alone(text: &[u8]) -> Option<(&[u8], &[u8])>
     ensures reads { IfSome result (λ split. (r : Reader) → r.mode ≡ modes.Gap →
         read_on (with_quoted r split.0.now) split.1.now ≡ read_on r text.now) }
@@ -86,7 +86,7 @@ pub fn quoted_alone(text: &[u8]) -> Option<(&[u8], &[u8])>
     Some((bytes, rest))
 }
 
-/// Whether the bytes are digits alone.
+/// Whether all bytes are digits.
 #[tactic(auto, using(crate::proofs::RunLemmas::digits_here))]
 pub fn is_number(bytes: &[u8]) -> bool
     ensures { result ≡ all_digits bytes.now }
@@ -112,7 +112,7 @@ fn is_blank_byte(byte: u8) -> bool
     matches!(byte, b' ' | b'\t')
 }
 
-/// The bytes behind blanks.
+/// The text after leading blanks.
 pub fn past_blanks(text: &[u8]) -> &[u8]
     ensures reads { (r : Reader) → r.mode ≡ modes.Gap → read_on r result.now ≡ read_on r text.now }
     ensures within { length result.now ≤ length text.now }
@@ -126,7 +126,7 @@ pub fn past_blanks(text: &[u8]) -> &[u8]
     left
 }
 
-/// The end of a comment's line.
+/// The text from the end of a comment's line on.
 pub fn past_comment(text: &[u8]) -> &[u8]
     ensures reads { (r : Reader) → r.mode ≡ modes.Comment → read_on r result.now ≡ read_on r text.now }
     ensures within { length result.now ≤ length text.now }

@@ -9,9 +9,9 @@ use std::alloc::{AllocError, Global};
 use std::marker::Model;
 use std::sync::Arc;
 
-/// A row of cells, each of which is written at most once. Where several threads have to agree on one value, each
-/// publishes its own, and the first one stays. In a contract a row is the names of its cells, by which two values are
-/// known to be of one cell.
+/// A row of cells, each of which is written at most once. If several threads must agree on a value, each publishes its
+/// own, and the first one stays. In a contract a row is the list of its cells' names, which tell whether two values are
+/// of one cell.
 #[derive(Drop)]
 pub struct Cells<T> {
     cells: Vec<OnceBox<T>>,
@@ -27,28 +27,28 @@ impl<T> Model for Cells<T> {
     ghost view = { λ c. map cell_name c.cells.items };
 }
 
-/// A value that was published, and never changes. Where a cell keeps it, it keeps all cells of that row in memory. It
-/// may be sent to another thread. In a contract it is the value, the name of the cell that keeps it, if one does, and
-/// the name of a cell that has been written: that cell, or the one that had another value already.
+/// A value that was published and never changes. If a cell has it, it keeps all cells of that row in memory. It may be
+/// sent to another thread. In a contract it is the value, the name of the cell that has it, if one does, and the name
+/// of a cell that has been written: that cell, or the one that already had another value.
 #[derive(Drop)]
 pub struct Known<T> {
     place: Place<T>,
 }
 
-/// Where a value is kept.
+/// Where a value is stored.
 #[derive(Drop)]
 enum Place<T> {
-    /// The cell of this index keeps it.
+    /// In the cell with this index.
     InCell {
         cells: Arc<Cells<T>>,
         index: usize,
         knows: Knows<T>,
     },
-    /// The cell that it was meant for keeps another.
+    /// Outside the cell it was meant for, which has another value.
     Beside(Arc<Beside<T>>),
 }
 
-/// A value, and what is known of the cell that was written before it came.
+/// A value that came too late, and what is known of the cell that was written before.
 #[derive(Drop)]
 struct Beside<T> {
     value: T,
@@ -67,7 +67,7 @@ impl<T> Model for Known<T> {
 }
 
 impl<T: Drop> Cells<T> {
-    /// A row of `count` cells that nobody has written.
+    /// A row of `count` cells, none of them written.
     pub fn new(alloc: Global, count: usize) -> Result<Arc<Cells<T>>, AllocError>
         ensures { IfOk result (λ c. length (arc_value c) ≡ count) }
     {
@@ -78,9 +78,9 @@ impl<T: Drop> Cells<T> {
         Ok(Arc::new(alloc, Cells { cells, alloc })?)
     }
 
-    /// Publishes a value in a cell, by its index, counted from 0. Whoever publishes first writes the cell. Where the
-    /// cell has a value already, that one stays, and the answer keeps this one beside it; [`Known::in_cell`] tells
-    /// which. On want of memory, and where a row has 2^63 owners, the value comes back.
+    /// Publishes a value in the cell at an index, from 0. Whoever publishes first writes the cell. If the cell already
+    /// has a value, that one stays, and the result stores this one outside the cell; [`Known::in_cell`] tells which. If
+    /// memory runs out, or a row has 2^63 owners, the value is returned.
     pub fn publish(
         cells: &Arc<Cells<T>>,
         index: usize,
@@ -108,9 +108,9 @@ impl<T: Drop> Cells<T> {
         }
     }
 
-    /// What a cell keeps, if it was written. It takes no memory; it is refused only where a row has 2^63 owners. No
-    /// contract says when `None` comes: nothing is known of a cell that another thread may write, and what a thread
-    /// knows to be written it holds as a [`Known`] already. That a value is found once it was published is tested.
+    /// The value of a cell, if it was written. Needs no memory; fails only if a row has 2^63 owners. No contract says
+    /// when the result is `None`: nothing is known of a cell that another thread may write, and what a thread knows to
+    /// be written it already has as a [`Known`]. A test shows that a published value is found.
     pub fn look(cells: &Arc<Cells<T>>, index: usize) -> Result<Option<Known<T>>, AllocError>
         requires { index < length (arc_value cells.now) }
         ensures { IfOk result (λ o. IfSome o (λ k. k.cell ≡ Some (slice_index (arc_value cells.now) index))) }
@@ -138,7 +138,7 @@ impl<T> Cells<T> {
 }
 
 impl<T: Drop> Known<T> {
-    /// What a note knows the cell at an index to keep.
+    /// The value that a note knows to be in the cell at an index.
     fn in_cell_of(cells: Arc<Cells<T>>, index: usize, note: Note<T>) -> Known<T>
         requires index { index < length (arc_value cells) }
         requires cell { note.cell ≡ slice_index (arc_value cells) index }
@@ -157,7 +157,7 @@ impl<T: Drop> Known<T> {
         }
     }
 
-    /// A value beside the cell that a note knows to have been written.
+    /// A value stored outside the cell, which a note knows to be written.
     fn beside(alloc: Global, value: T, note: Note<T>) -> Result<Known<T>, (T, AllocError)>
         requires known { (x : T) × (note.known ≡ Some x) }
         ensures cell { IfOk result (λ k. (k.cell ≡ None) × (k.written ≡ note.cell)) }
@@ -176,7 +176,7 @@ impl<T: Drop> Known<T> {
 }
 
 impl<T> Known<T> {
-    /// A note that knows the value, if a cell keeps it.
+    /// A note that knows the value, if a cell has it.
     fn note(&self) -> Option<Note<T>>
         ensures some { IsSome result ↔ IsSome self.now.cell }
         ensures known { IfSome result (λ n. (self.now.cell ≡ Some n.cell) × (n.known ≡ Some self.now.value)) }
@@ -217,7 +217,7 @@ impl<T> Known<T> {
         }
     }
 
-    /// Two values that one cell keeps are the same: a law for contracts, which does nothing when it runs.
+    /// Two values that are in one cell are the same. A law for contracts, which does nothing at run time.
     pub fn meet(&self, other: &Known<T>)
         requires { (c : ℕ) × (self.now.cell ≡ Some c) × (other.now.cell ≡ Some c) }
         ensures { self.now.value ≡ other.now.value }
@@ -227,8 +227,8 @@ impl<T> Known<T> {
         }
     }
 
-    /// Whether a cell keeps the value, so that all who look there find it. What was published where a cell had a value
-    /// already is in none.
+    /// Whether the value is in a cell, so that everyone who looks there finds it. A value that was published when the
+    /// cell already had one is in none.
     pub fn in_cell(&self) -> bool
         ensures cell { IsTrue result ↔ IsSome self.now.cell }
         ensures written { IfSome self.now.cell (λ c. c ≡ self.now.written) }
@@ -239,8 +239,7 @@ impl<T> Known<T> {
         }
     }
 
-    /// The same value once more, as for another thread. It takes no memory; it is refused only where a row or a value
-    /// has 2^63 owners.
+    /// The same value again, for another thread, say. Needs no memory; fails only if a row or a value has 2^63 owners.
     pub fn again(&self) -> Result<Known<T>, AllocError>
         ensures { IfOk result (λ k. k ≡ self.now) }
     {

@@ -1,4 +1,4 @@
-//! What is known of a cell, in a form that a `&` can use: a note of `once_cell` is reached by `&mut` alone.
+//! What is known of a cell, in a form that works through `&`: a note of `once_cell` needs `&mut`.
 ghost use Rattle.std.specs.Prelude.{◌≡◌, ℕ, Some};
 ghost use denote.Sharing.{said};
 ghost use Rattle.redo_sync.specs.inside.Knows.{known_of};
@@ -6,7 +6,7 @@ ghost use Rattle.redo_sync.specs.inside.Knows.{known_of};
 use once_cell::race::Note;
 use std::marker::{Model, PhantomData};
 
-/// What shows that the cell `cell` keeps `value`. It takes no bytes.
+/// Evidence that the cell `cell` has the value `value`. It takes no bytes.
 pub(crate) struct Knows<T> {
     marker: PhantomData<T>,
     pub ghost cell: { ℕ },
@@ -30,7 +30,7 @@ impl<T> Knows<T> {
         }
     }
 
-    /// Tells a note of the same cell.
+    /// Passes this on to a note of the same cell.
     pub fn tell(&self, note: &mut Note<T>)
         requires { note.old.cell ≡ self.now.cell }
         ensures { (note.new.cell ≡ note.old.cell) × (note.new.known ≡ Some self.now.value) }

@@ -11,8 +11,9 @@ use crossbeam_deque::Worker;
 use std::alloc::{AllocError, Global};
 use std::marker::{Brand, Model};
 
-/// What became of the jobs of a relay: each was taken once, or is left. Only [`gather`] makes one. In a contract it is
-/// the numbers of the jobs that were given, of those that were taken and of those that are left.
+/// What became of the jobs of a relay: each was taken once or is left. Only [`gather`] makes one; [`Ledger::of`]
+/// rewrites one for another type of job. In a contract it is the numbers of the jobs given, of those taken and of those
+/// left.
 #[derive(Drop)]
 pub struct Ledger<T: Numbered> {
     deque: Worker<T, Global, Hand, ShareOut>,
@@ -33,8 +34,8 @@ impl<T: Numbered> Model for Ledger<T> {
 }
 
 impl<T: Numbered> Ledger<T> {
-    /// The jobs that nobody took, in the order in which they were given. Where there is none, the takers had all jobs,
-    /// each one once.
+    /// The jobs that nobody took, in the order in which they were given. If there are none, the takers took all jobs,
+    /// each exactly once.
     pub fn left(&self) -> &[T]
         ensures left { map T.number result.now ≡ self.now.left }
         ensures shared_out { SharesOut self.now.given self.now.taken self.now.left }
@@ -44,8 +45,8 @@ impl<T: Numbered> Ledger<T> {
 }
 
 impl<T: Numbered + Drop> Ledger<T> {
-    /// The same ledger, as one of jobs of another type that go by the same numbers: as of jobs that were wrapped while
-    /// they were handed on. None may be left.
+    /// The same ledger for jobs of another type with the same numbers, such as jobs that were wrapped on their way
+    /// through the relay. No job may be left.
     pub fn of<U: Numbered>(alloc: Global, ledger: &Ledger<U>) -> Result<Ledger<T>, AllocError>
         requires { ledger.now.left ≡ [] }
         ensures { IfOk result (λ l. l ≡ ledger.now) }
@@ -59,7 +60,7 @@ impl<T: Numbered + Drop> Ledger<T> {
     }
 }
 
-/// Lets the user of an empty queue know what a ledger says.
+/// Tells the user of an empty queue what a ledger says.
 fn learn<T: Numbered + Drop, U: Numbered, K: Finished>(
     deque: &mut Worker<T, Global, Hand, ShareOut>,
     ledger: &Ledger<U>,
@@ -70,13 +71,13 @@ fn learn<T: Numbered + Drop, U: Numbered, K: Finished>(
     ensures view { worker_view deque.new ≡ hand 66 K.given K.taken [] }
     ensures shared_out { SharesOut K.given K.taken [] }
 {
-    // The ledger's own fact, that what was given was shared out.
+    // This brings the ledger's own fact into the proof: what was given was shared out.
     let _left = ledger.left();
     let _pass = deque.another::<Learn<K>>();
 }
 
-/// Ends a relay: takes in all takers of the source, and the jobs that they left. It is refused only where some job is
-/// left and there is no memory to keep it; then what is left is dropped.
+/// Ends a relay: takes back all takers of the source, and the jobs that they left. Fails only if a job is left and
+/// there is no memory to keep it; then the jobs left are dropped.
 pub fn gather<T: Numbered + Drop>(
     source: JobSource<T>,
     takers: Vec<JobTaker<T>>,
@@ -100,7 +101,7 @@ pub fn gather<T: Numbered + Drop>(
     Ok(Ledger { deque, left })
 }
 
-/// Takes in what one taker knows, with its part.
+/// Takes back one taker's part and what it knows.
 fn take_in<T: Numbered + Drop>(deque: &mut Worker<T, Global, Hand, ShareOut>, taker: JobTaker<T>)
     requires source { 0 < (worker_view deque.old).parts }
     requires own { taker.relay ≡ worker_deque deque.old }
@@ -113,7 +114,7 @@ fn take_in<T: Numbered + Drop>(deque: &mut Worker<T, Global, Hand, ShareOut>, ta
     deque.absorb::<Cut>(pass);
 }
 
-/// Takes what the queue holds. There is a job in it where memory is refused, so not all were taken.
+/// Takes all jobs out of the queue. If memory runs out, there was a job in it, so not all were taken.
 #[tactic(auto, using(crate::proofs::RelayLemmas::not_all_taken))]
 fn drain<T: Numbered + Drop>(
     alloc: Global,

@@ -1,17 +1,17 @@
-//! What the threads of a parallel build share without a lock: cells that are written once, and a relay that hands each
-//! job to one worker.
+//! What the threads of a parallel build share without a lock: write-once cells, and a relay that hands each job to one
+//! worker.
 //!
-//! [`Cells`] stand in a row. Each is written at most once, by whichever thread publishes first, and read by any; a
-//! [`Known`] is a value that was published. [`relay`] makes the ends of a relay: a [`JobSource`], which gives jobs, and
-//! a [`JobTaker`] for each worker, which takes them. Once the workers have ended, [`gather`] makes a [`Ledger`] of the
-//! ends: each job that was given was taken once, by one taker, or is left. No call waits or takes a lock, so none needs
-//! a handle, and the threads are the caller's own. Stands on `redo_path` for a job's target, on `once_cell` for the
+//! [`Cells`] are a row of cells. Each is written at most once, by whichever thread publishes first, and read by any; a
+//! [`Known`] is a published value. [`relay`] makes the ends of a relay: a [`JobSource`], which gives jobs, and a
+//! [`JobTaker`] for each worker, which takes them. Once the workers have ended, [`gather`] turns the ends into a
+//! [`Ledger`]: each job that was given was taken once, by one taker, or is left. No call waits or takes a lock, so none
+//! needs a handle; the caller brings the threads. Depends on `redo_path` for a job's target, on `once_cell` for the
 //! cells and on `crossbeam_deque` for the queue of jobs.
 //!
-//! - `cells`: a row of cells, and what was published; `knows`: what is known of a cell;
+//! - `cells`: a row of cells, and published values; `knows`: what is known of a cell;
 //! - `source`, `taker`: the ends of a relay; `open`: how they are made;
-//! - `ledger`: the ends taken back, and what is left;
-//! - `rule`: what a job is, and what its queue keeps.
+//! - `ledger`: taking back the ends, and what is left;
+//! - `rule`: what a job is, and the invariant of its queue.
 #![tactic(auto)]
 
 mod cells;

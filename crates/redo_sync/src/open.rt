@@ -1,4 +1,4 @@
-//! A relay begins.
+//! Making a relay.
 ghost use Rattle.std.specs.Prelude.{◌≡◌, ◌-◌, ◌<◌, ◌≤◌, [], length, All, IfOk};
 ghost use Rattle.crossbeam_deque.specs.Handles.{worker_deque, worker_flavor, worker_view};
 ghost use Rattle.crossbeam_deque.specs.Handles.{worker_capacity, worker_index};
@@ -13,8 +13,8 @@ use std::alloc::{AllocError, Global};
 /// How many jobs may be given before the queue grows.
 const FIRST_SLOTS: usize = 64;
 
-/// A source of jobs and its takers, 1 to 65 of them: one for each of 64 threads, and one for the thread that gives. The
-/// jobs wait in a queue that grows as needed, and are taken in the order in which they were given.
+/// A source of jobs and its takers, 1 to 65 of them: one for each of 64 threads, and one for the thread that gives.
+/// Jobs wait in a queue that grows as needed, and are taken in the order in which they were given.
 pub fn relay<T: Numbered + Drop>(
     alloc: Global,
     takers: usize,

@@ -1,4 +1,4 @@
-//! What the queue of a relay keeps, whatever its users do.
+//! The invariant of a relay's queue, whatever its users do.
 ghost use Rattle.std.specs.Prelude.{◌≡◌, ℕ};
 ghost use Rattle.redo_path.specs.declared.Path.{Path};
 
@@ -7,22 +7,22 @@ use redo_path::Path;
 use std::collections::LinkedList;
 use std::marker::{Brand, PhantomData};
 
-/// What a relay hands on: the job of a target at a turn, by which the ledger tells jobs apart.
+/// What a relay passes on: the job of a target at a turn. The ledger tells jobs apart by these two.
 pub trait Numbered {
     /// The target and the turn.
     ghost number: { Self → Path × ℕ };
 
-    /// The target whose job it is.
+    /// The target that the job belongs to.
     fn target(&self) -> &Path
         ensures { result.now ≡ (number self.now).0 };
 
-    /// How often the job has stopped before, counted from 0.
+    /// How often the job has stopped so far.
     fn turn(&self) -> u64
         ensures { result ≡ (number self.now).1 };
 }
 
-/// What a user of the queue knows: its parts of the right to know the whole, and the numbers of what it gave, took and
-/// found left. No value of it is made: it is what contracts see of a pass.
+/// What a user of the queue knows: its parts of the right to know the whole, and the numbers of the jobs that it gave,
+/// took and found left. No value of this type is made: it is how contracts see a pass.
 pub(crate) struct Hand {
     pub parts: u64,
     pub given: LinkedList<(Path, u64)>,
@@ -30,7 +30,7 @@ pub(crate) struct Hand {
     pub left: LinkedList<(Path, u64)>,
 }
 
-/// The rule: what was given is what was taken, what was found left and what the queue holds.
+/// The invariant: what was given is what was taken, what was found left and what the queue holds.
 pub(crate) struct ShareOut;
 
 impl<T: Numbered> Protocol<T, Hand> for ShareOut {
@@ -64,7 +64,7 @@ impl<T: Numbered> Outcome<T, Hand> for Take {
     ghost then = { λ v xs w. w ≡ hand v.parts v.given (v.taken ++ map T.number xs) v.left };
 }
 
-/// One part is cut off for a new user, or comes back with what its user knows.
+/// One part is split off for a new user, or comes back with what that user knows.
 pub(crate) struct Cut;
 
 impl Split<Hand> for Cut {
@@ -85,7 +85,7 @@ impl Join<Hand> for Cut {
     ghost spent = { hand 0 [] [] [] };
 }
 
-/// A job is found left. Who has every part learns that fewer are pending, and on finding none that all are accounted
+/// A job is found left. A user with all parts learns that fewer are pending or, on finding none, that all are accounted
 /// for.
 pub(crate) struct Drain;
 
@@ -101,8 +101,8 @@ impl<T: Numbered> Outcome<T, Hand> for Drain {
     ghost empty = { λ v. SharesOut v.given v.taken v.left };
 }
 
-/// The numbers of jobs that were all taken, by which a ledger of them is written again. A type stands for them, and no
-/// value of it is made.
+/// The numbers of jobs that were all taken, from which their ledger is written again. A type stands for them; no value
+/// of it is made.
 pub(crate) trait Finished {
     ghost use Rattle.std.specs.Prelude.{List};
     ghost use Rattle.redo_sync.specs.Relay.{Pair};

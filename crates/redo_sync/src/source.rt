@@ -6,8 +6,8 @@ use crossbeam_deque::Worker;
 use std::alloc::{AllocError, Global};
 use std::marker::Model;
 
-/// The end of a relay that gives jobs. One thread has it, for as long as others take. In a contract it is the name
-/// of its relay, how many takers that has, and the numbers of the jobs that it gave.
+/// The end of a relay that gives jobs. One thread has it while others take. In a contract it is the name of its relay,
+/// how many takers that has, and the numbers of the jobs it gave.
 #[derive(Drop)]
 pub struct JobSource<T: Numbered> {
     pub(crate) deque: Worker<T, Global, Hand, ShareOut>,
@@ -39,8 +39,8 @@ impl<T: Numbered> Model for JobSource<T> {
 }
 
 impl<T: Numbered> JobSource<T> {
-    /// Gives a job, which one taker may take. The first 64 jobs take no memory and are never refused. A later one comes
-    /// back where the queue can't grow: on want of memory, or past billions of jobs that wait.
+    /// Gives a job, which one taker may take. The first 64 jobs need no memory and are never refused. A later one is
+    /// returned if the queue can't grow: if memory runs out, or once billions of jobs wait.
     pub fn give(&mut self, job: T) -> Result<(), (T, AllocError)>
         ensures same { (self.new.relay ≡ self.old.relay) × (self.new.takers ≡ self.old.takers) }
         ensures given { MatchResult result

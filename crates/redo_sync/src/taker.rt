@@ -7,19 +7,19 @@ use crossbeam_deque::{Pass, Steal, Stealer};
 use std::alloc::{AllocError, Global};
 use std::marker::Model;
 
-/// What a try to take a job came to.
+/// The result of trying to take a job.
 #[derive(Drop)]
 pub enum Taken<T> {
     /// A job, which no other taker has.
     Job(T),
     /// At one moment of the call no job was waiting.
     Empty,
-    /// Another taker was faster: a new try may find a job at once.
+    /// Another taker was faster. A new try may find a job at once.
     Again,
 }
 
 /// One worker's end of a relay, which takes jobs. It may be sent to another thread. In a contract it is the name of its
-/// relay and the numbers of the jobs that it took.
+/// relay and the numbers of the jobs it took.
 #[derive(Drop)]
 pub struct JobTaker<T: Numbered> {
     pub(crate) stealer: Stealer<T, Global, Hand, ShareOut>,
@@ -42,9 +42,9 @@ impl<T: Numbered> Model for JobTaker<T> {
 }
 
 impl<T: Numbered> JobTaker<T> {
-    /// Tries once to take a job, and doesn't wait for one. It takes no memory and is never refused. No contract says
-    /// when `Empty` or `Again` comes: a taker knows only of its own jobs, and what the others do meanwhile can't be
-    /// named. That a job that was given is taken is tested.
+    /// Tries once to take a job, without waiting for one. Needs no memory and never fails. No contract says when the
+    /// result is `Empty` or `Again`: a taker knows only of its own jobs, and a contract can't name what the others do
+    /// meanwhile. A test shows that a job that was given is taken.
     pub fn try_take(&mut self) -> Result<Taken<T>, AllocError>
         ensures same { self.new.relay ≡ self.old.relay }
         ensures taken { IfOk result (λ r. MatchTaken r

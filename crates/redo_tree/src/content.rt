@@ -1,4 +1,4 @@
-//! The bytes of a file, held once by all that share them, and their digest.
+//! The bytes of a file, which clones share, and their digest.
 
 ghost use Rattle.std.specs.Prelude.{◌≡◌, IfOk, nat_eq};
 ghost use Rattle.std.specs.Cmp.{partial_equiv_from_equiv};
@@ -11,12 +11,12 @@ use redo_digest::Digest;
 use std::alloc::AllocError;
 use std::marker::Model;
 
-/// The bytes of a file. A clone shares them, but for a few that lie in place, and has their digest
-/// where that was kept. In a contract it is the list of bytes.
+/// The bytes of a file. A clone shares them, but copies up to 22 bytes, and has their digest if it was kept. In a
+/// contract it is the list of bytes.
 #[derive(Debug, Drop)]
 pub struct Content {
     bytes: Bytes,
-    /// The digest of the bytes, where it was made to be kept.
+    /// The digest of the bytes, if it was made to be kept.
     digest: Option<Digest>,
 }
 
@@ -32,7 +32,7 @@ impl Model for Content {
 }
 
 impl Content {
-    /// Takes the bytes over, without copying them where they are many.
+    /// Takes over the bytes, and copies them only if they are at most 22.
     pub fn new(bytes: Vec<u8>) -> Result<Content, AllocError>
         ensures { IfOk result (λ content. content ≡ bytes.items) }
     {
@@ -43,14 +43,14 @@ impl Content {
         })
     }
 
-    /// The bytes, in their order.
+    /// The bytes, in order.
     pub fn bytes(&self) -> &[u8]
         ensures { result.now ≡ self.now }
     {
         self.bytes.as_slice()
     }
 
-    /// The digest of the bytes. They are read unless it was kept.
+    /// The digest of the bytes, which are read unless it was kept.
     pub fn digest(&self) -> Digest
         ensures sha256 { result ≡ sha256 self.now }
         ensures digest { IsDigest result }
@@ -61,8 +61,8 @@ impl Content {
         }
     }
 
-    /// Makes the digest and keeps it, so that later calls of [`Content::digest`], also those on clones that are made
-    /// from then on, read no byte.
+    /// Makes the digest and keeps it, so that later calls of [`Content::digest`] read no byte. The same goes for clones
+    /// made from then on.
     pub fn keep_digest(&mut self)
         ensures { self.new ≡ self.old }
     {

@@ -1,4 +1,4 @@
-//! The digests of files, made where they are told for, and kept.
+//! Making the digests of named files and keeping them.
 
 ghost use Rattle.std.specs.Prelude.{◌≡◌, ◌<◌, ℕ, length, slice_index_or};
 
@@ -6,10 +6,10 @@ use crate::Entry;
 use std::thread;
 use std::thread::Threads;
 
-/// How many bytes are worth a thread of their own.
+/// How many bytes to digest are worth a thread.
 const BYTES_FOR_ONE: usize = 1 << 16;
 
-/// Whether the entry of a number is named. Those behind the end are not.
+/// Whether the entry with this number is named. Numbers past the end aren't.
 pub(crate) fn is_named(named: &[bool], number: usize) -> bool {
     match named.get(number) {
         Some(is) => *is,
@@ -38,7 +38,7 @@ pub(crate) fn keep_digests(entries: &mut [Entry], named: &[bool])
     }
 }
 
-/// About how many bytes are read for the digest of an entry: SHA-256 reads one block of 64 at least.
+/// About how many bytes SHA-256 processes for an entry: at least one block of 64 for a file.
 fn bytes_to_read(entry: &Entry) -> usize {
     match entry {
         Entry::Directory => 0,
@@ -46,7 +46,7 @@ fn bytes_to_read(entry: &Entry) -> usize {
     }
 }
 
-/// How many threads the digests of the named files are worth, of so many at most.
+/// How many threads the digests of the named files are worth: at most `most`, but at least 1.
 pub(crate) fn threads_for(entries: &[Entry], named: &[bool], most: usize) -> usize
     ensures { 0 < result }
 {
@@ -59,7 +59,7 @@ pub(crate) fn threads_for(entries: &[Entry], named: &[bool], most: usize) -> usi
     (bytes / BYTES_FOR_ONE).min(most).max(1)
 }
 
-/// The same by so many threads, each of which has entries in a row.
+/// Makes and keeps the digests of the named files on `threads` threads, each over consecutive entries.
 fn keep_digests_in<R: Threads + Sync>(rt: &R, threads: usize, entries: &mut [Entry], named: &[bool])
     requires { 0 < threads }
     ensures { (n : ℕ) (e : Entry) → n < length entries.old →
@@ -77,7 +77,7 @@ fn keep_digests_in<R: Threads + Sync>(rt: &R, threads: usize, entries: &mut [Ent
     );
 }
 
-/// The same by up to so many threads, as many as there is enough to read for.
+/// The same on at most `threads` threads, as many as the bytes to read are worth.
 pub(crate) fn keep_digests_by<R: Threads + Sync>(
     rt: &R,
     threads: usize,

@@ -1,4 +1,4 @@
-//! The tree: what stands at each path.
+//! The tree: what is at each path.
 //!
 //! Entries are kept in the order in which they were added. They are sorted for [`Tree::in_order`] alone, so memory may
 //! run out there and while a bundle is written.
@@ -22,30 +22,30 @@ use std::collections::BTreeMap;
 use std::marker::Model;
 use std::thread::Threads;
 
-/// What stands at a path.
+/// What is at a path.
 #[derive(Clone, Copy, Debug, PartialEq, Eq)]
 pub enum Kind {
     /// A file.
     File,
     /// A directory.
     Dir,
-    /// Neither.
+    /// Neither a file nor a directory.
     Nothing,
 }
 
-/// What stands at a path of the tree.
+/// What is at a path of the tree.
 #[derive(Debug, PartialEq, Eq, Drop)]
 pub enum Entry {
     Directory,
     File(Content),
 }
 
-/// The top directory, and the directories and files below it. The parent of each is a directory of
-/// the tree. In a contract it is the list of its entries, in path order, the top directory among
-/// them. A look-up takes about the same time in a tree of any size, whatever names stand in it.
+/// The top directory, and the directories and files below it. The parent of each is a directory of the tree. In a
+/// contract it is the list of its entries in path order, including the top directory. A look-up takes about the same
+/// time in a tree of any size, whatever names it has.
 pub struct Tree {
     entries: PathMap<Entry>,
-    /// The directories of the files whose names begin with `default` and end in `.do`.
+    /// The directories that have a file `default*.do`.
     defaults: PathSet,
     alloc: Global,
 }
@@ -77,7 +77,7 @@ impl Tree {
         })
     }
 
-    /// How many entries there are, the top directory among them.
+    /// The number of entries, including the top directory.
     pub fn len(&self) -> usize
         ensures count { result ≡ length self.now }
         ensures small { result < 2 ^ 63 }
@@ -85,9 +85,8 @@ impl Tree {
         self.entries.len()
     }
 
-    /// A number for the entry at a path, which no other entry has, for tables beside the tree; none where nothing
-    /// stands.
-    /// Entries are numbered from 0, in the order in which they were added.
+    /// The number of the entry at a path, which no other entry has; `None` if nothing is there. It is for tables kept
+    /// beside the tree. Entries are numbered from 0 in the order in which they were added.
     pub fn number_of(&self, path: &Path) -> Option<usize>
         ensures found { is_some result ≡ is_some (node_at self.now path.now) }
         ensures within { IfSome result (λ n. n < length self.now) }
@@ -95,29 +94,29 @@ impl Tree {
         self.entries.number_by_text(path.text())
     }
 
-    /// The paths rise, and the parent of each is a directory of the tree, as laws of trees ask.
+    /// The tree is one for which the laws hold: its paths are sorted, and the parent of each is a directory of it.
     pub fn is_tree(&self)
         ensures { IsTree self.now }
     {
-        // A field is read so that the invariant is at hand in the proof. Nothing runs.
+        // Reading a field brings the invariant into the proof. Nothing runs.
         let _ = &self.entries;
     }
 
-    /// What is kept at the path with this text.
+    /// The entry at the path with this text.
     fn entry(&self, text: &[u8]) -> Option<&Entry>
         ensures { option_map node_of (option_copied result) ≡ node_at self.now text.now }
     {
         self.entries.get_by_text(text)
     }
 
-    /// What stands at a path.
+    /// What is at a path.
     pub fn kind(&self, path: &Path) -> Kind
         ensures { result ≡ kind_of (node_at self.now path.now) }
     {
         self.kind_by_text(path.text())
     }
 
-    /// What stands at the path with this text. It serves where no path is made of the text.
+    /// What is at the path with this text. No [`Path`] has to be made of the text.
     pub fn kind_by_text(&self, text: &[u8]) -> Kind
         ensures { result ≡ kind_of (node_at self.now text.now) }
     {
@@ -128,15 +127,15 @@ impl Tree {
         }
     }
 
-    /// The bytes of a file; none where no file stands.
+    /// The bytes of the file at a path; `None` if there is no file.
     pub fn file(&self, path: &Path) -> Option<&[u8]>
         ensures { option_copied result ≡ file_at self.now path.now }
     {
         self.file_by_text(path.text())
     }
 
-    /// The bytes of the file at the path with this text; none where no file stands. It serves where a
-    /// text is looked up and no path is made of it.
+    /// The bytes of the file at the path with this text; `None` if there is no file. No [`Path`] has to be made of the
+    /// text.
     pub fn file_by_text(&self, text: &[u8]) -> Option<&[u8]>
         ensures { option_copied result ≡ file_at self.now text.now }
     {
@@ -146,7 +145,7 @@ impl Tree {
         }
     }
 
-    /// The content of a file; none where no file stands.
+    /// The content of the file at a path; `None` if there is no file.
     pub fn content(&self, path: &Path) -> Option<&Content>
         ensures { option_copied result ≡ file_at self.now path.now }
     {
@@ -156,23 +155,22 @@ impl Tree {
         }
     }
 
-    /// The digests of its files, for where many are asked for.
+    /// The digests of the tree's files, for a caller that asks for many.
     pub fn file_digests(&self, alloc: Global) -> Result<FileDigests<'_>, AllocError>
         ensures { IfOk result (λ digests. digests ≡ self.now) }
     {
         FileDigests::new(alloc, &self.entries)
     }
 
-    /// Whether a file whose name begins with `default` and ends in `.do` may stand in the directory
-    /// at the path with this text. Where the answer is `false` none does, so a search need not look
-    /// up such names there one by one.
+    /// Whether the directory at the path with this text may have a file `default*.do`. If the result is `false` it has
+    /// none, so a search need not look up such names there one by one.
     pub fn holds_defaults(&self, dir: &[u8]) -> bool
         ensures none { result ≡ false → HasNoDefaults self.now dir.now }
     {
         self.defaults.number_by_text(dir).is_some()
     }
 
-    /// The entries in path order, the top directory first. They are sorted at each call.
+    /// The entries in path order, the top directory first. Each call sorts them.
     pub fn in_order<'a>(
         &'a self,
         alloc: Global,
@@ -183,8 +181,8 @@ impl Tree {
         sorted(alloc, &self.entries)
     }
 
-    /// The tree without the files at these paths. Directories stay, and paths at which no file stands are passed over.
-    /// No content is copied: it is shared with this tree.
+    /// The tree without the files at these paths. Directories stay, and a path without a file is ignored. The contents
+    /// are clones of this tree's, and share its bytes unless they are short.
     pub fn without(&self, alloc: Global, out: &[Path]) -> Result<Tree, AllocError>
         ensures { IfOk result (λ tree. tree ≡ without self.now out.now) }
     {
@@ -192,7 +190,7 @@ impl Tree {
         self.without_named(alloc, &names)
     }
 
-    /// The same, of paths that are looked up.
+    /// The same, with the paths as a set.
     fn without_named(&self, alloc: Global, names: &PathSet) -> Result<Tree, AllocError>
         ensures { IfOk result (λ tree. tree ≡ without self.now names.now) }
     {
@@ -203,8 +201,8 @@ impl Tree {
         Ok(Tree::of_entries(alloc, entries, defaults))
     }
 
-    /// The tree, in which the named files keep their digests: `named` tells it of each number. They are read once for
-    /// that, and clones of their contents from then on know their digests.
+    /// Makes the digests of the named files, those of the numbers at which `named` is true, and keeps them in the tree.
+    /// Later clones of the contents have them, too.
     pub fn keep_digests(self, named: &[bool]) -> Tree
         ensures { result ≡ self }
     {
@@ -218,7 +216,7 @@ impl Tree {
         Tree::of_entries(alloc, PathMap::of_parts(paths, values), defaults)
     }
 
-    /// The same by up to so many threads, where there is enough to read for them.
+    /// The same on at most `threads` threads, as many as the bytes to read are worth.
     pub fn keep_digests_by<R: Threads + Sync>(self, rt: &R, threads: usize, named: &[bool]) -> Tree
         ensures { result ≡ self }
     {
@@ -232,7 +230,7 @@ impl Tree {
         Tree::of_entries(alloc, PathMap::of_parts(paths, values), defaults)
     }
 
-    /// The tree that is kept so.
+    /// The tree of these entries. `defaults` has the directories that have a file `default*.do`.
     pub(crate) fn of_entries(alloc: Global, entries: PathMap<Entry>, defaults: PathSet) -> Tree
         requires { IsKept entries defaults }
         ensures { result ≡ tree_of entries }
@@ -244,15 +242,15 @@ impl Tree {
         }
     }
 
-    /// Adds a directory, whose parent has to be one. After a refusal the tree is as it was.
+    /// Adds a directory, whose parent must be a directory. If it fails, the tree is unchanged.
     pub fn add_dir(&mut self, path: &Path) -> Result<(), TreeFault>
         ensures { Adds result self.old self.new (added self.old path.now Directory) }
     {
         self.add(path, Entry::Directory)
     }
 
-    /// Adds a file with its bytes, which are taken over and not copied; its parent has to be a
-    /// directory. After a refusal the tree is as it was.
+    /// Adds a file, whose parent must be a directory. It takes over the bytes and copies them only if they are short.
+    /// If it fails, the tree is unchanged.
     pub fn add_file(&mut self, path: &Path, bytes: Vec<u8>) -> Result<(), TreeFault>
         ensures { Adds result self.old self.new (added self.old path.now (File bytes.items)) }
     {
@@ -260,7 +258,7 @@ impl Tree {
         self.add(path, Entry::File(content))
     }
 
-    /// Whether an entry may stand at a path. The parent is looked at first.
+    /// Whether an entry may be added at a path. The parent is checked first.
     fn check_place(&self, path: &Path, entry: &Entry) -> Result<(), TreeFault>
         ensures path { IsPath path.now }
         ensures place { Allows result (refusal self.now path.now (node_of entry.now)) }
@@ -280,7 +278,7 @@ impl Tree {
         }
     }
 
-    /// Adds an entry, where it may stand.
+    /// Adds an entry, unless it is refused.
     fn add(&mut self, path: &Path, entry: Entry) -> Result<(), TreeFault>
         ensures { Adds result self.old self.new (added self.old path.now (node_of entry)) }
     {
@@ -295,14 +293,14 @@ impl Tree {
 impl Clone for Tree {
     ghost is_clone = { λ tree copy. copy ≡ tree };
 
-    /// A tree of the same entries. The contents are shared.
+    /// A tree with the same entries. Its contents are clones.
     fn clone(&self) -> Result<Tree, AllocError> {
         let copy = self.without(self.alloc, &[])?;
         Ok(copy)
     }
 }
 
-/// Entries in the order of their paths.
+/// The entries in path order.
 fn sorted(alloc: Global, entries: &PathMap<Entry>) -> Result<BTreeMap<&Path, &Entry>, AllocError>
     ensures { IfOk result (λ sorted. map (λ e. (e.0.now, node_of e.1.now)) sorted.entries ≡ tree_of entries.now) }
 {
@@ -321,7 +319,7 @@ fn are_same(entries: &PathMap<Entry>, others: &PathMap<Entry>) -> bool
     are_among(entries, others) && are_among(others, entries)
 }
 
-/// Whether each of some entries is one of others.
+/// Whether each of the entries is one of the others.
 fn are_among(entries: &PathMap<Entry>, others: &PathMap<Entry>) -> bool
     ensures { IsTrue result ↔ AreAmong entries.now others.now }
 {
@@ -334,7 +332,7 @@ fn are_among(entries: &PathMap<Entry>, others: &PathMap<Entry>) -> bool
     true
 }
 
-/// Whether an entry at a path is one of others.
+/// Whether the entry at a path is one of the others.
 fn is_among(path: &Path, entry: &Entry, others: &PathMap<Entry>) -> bool
     ensures { IsTrue result ↔ HasEntry others.now path.now entry.now }
 {
@@ -344,7 +342,7 @@ fn is_among(path: &Path, entry: &Entry, others: &PathMap<Entry>) -> bool
     }
 }
 
-/// Notes the directory of a file whose name begins with `default` and ends in `.do`.
+/// Notes the directory of an entry that is a file `default*.do`.
 pub(crate) fn note_default(
     alloc: Global,
     dirs: &mut PathSet,
@@ -360,7 +358,7 @@ pub(crate) fn note_default(
     Ok(())
 }
 
-/// The directory of a file whose name begins with `default` and ends in `.do`.
+/// The directory of an entry that is a file `default*.do`; `None` for any other entry.
 fn default_dir(alloc: Global, path: &Path, entry: &Entry) -> Result<Option<Path>, AllocError>
     ensures { IfOk result (λ dir. dir ≡ dir_of_default path.now (node_of entry.now)) }
 {
@@ -377,7 +375,7 @@ fn is_default(name: &[u8]) -> bool
     name.starts_with(b"default") && name.ends_with(b".do")
 }
 
-// By hand, so that letting a tree go is one call in the code above, and no walk over its fields.
+// Written by hand so that callers drop a tree with one call, without a walk over its fields.
 impl Drop for Tree {
     fn drop(self) {
         let Tree {
@@ -388,7 +386,7 @@ impl Drop for Tree {
     }
 }
 
-/// Two trees are equal that have the same entries. Trees of different sizes are told apart at once.
+/// Two trees are equal if they have the same entries. Their sizes are compared first.
 impl PartialEq for Tree {
     ghost eq = { tree_eq };
 

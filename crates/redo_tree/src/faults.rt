@@ -5,22 +5,22 @@ ghost use Rattle.std.specs.Prelude.{◌≡◌};
 use std::alloc::{AllocError, AllocFailed};
 use thiserror::Error;
 
-/// Why nothing was added to a tree. The parent is looked at first.
+/// Why nothing was added to a tree. The parent is checked first.
 #[derive(Clone, Copy, Debug, PartialEq, Eq, Error)]
 pub enum TreeFault {
-    /// Nothing stands at the parent's path.
+    /// Nothing is at the parent's path.
     #[error("no such directory")]
     NoDirectory,
-    /// A file was to be added where a directory stands.
+    /// A file was to be added where a directory is.
     #[error("a directory stands there")]
     IsDirectory,
-    /// The parent is a file, or a directory was to be added where a file stands.
+    /// The parent is a file, or a directory was to be added where a file is.
     #[error("a file stands there")]
     IsFile,
-    /// What was to be added stands there already.
+    /// What was to be added is there already.
     #[error("it is there already")]
     Twice,
-    /// No memory was left.
+    /// Out of memory.
     #[error("out of memory")]
     Memory,
 }

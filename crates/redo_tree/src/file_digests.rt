@@ -13,12 +13,12 @@ use redo_path::Path;
 use std::alloc::{AllocError, Global};
 use std::marker::Model;
 
-/// The digests of a tree's files. Each is made when it is first asked for, unless the content has kept it, and not
-/// again. In a contract it is the tree.
+/// The digests of a tree's files. Each is made once, when it is first asked for, unless the content has kept it. In a
+/// contract it is the tree.
 #[derive(Drop)]
 pub struct FileDigests<'a> {
     entries: &'a PathMap<Entry>,
-    /// That of the entry of each number, where it was made.
+    /// The digest of the entry with each number, once it is made.
     made: Vec<Option<Digest>>,
 }
 
@@ -34,7 +34,7 @@ impl<'a> Model for FileDigests<'a> {
 }
 
 impl<'a> FileDigests<'a> {
-    /// Those of the files among a tree's entries. None is made yet.
+    /// The digests of the files among a tree's entries. None is made yet.
     pub(crate) fn new(
         alloc: Global,
         entries: &'a PathMap<Entry>,
@@ -47,7 +47,7 @@ impl<'a> FileDigests<'a> {
         Ok(FileDigests { entries, made })
     }
 
-    /// The state of a path: the digest of the file that stands there, or none where no file does.
+    /// The state of a path: the digest of the file there, or `None` if there is no file.
     pub fn state_at(&mut self, path: &Path) -> Option<Digest>
         ensures value { result ≡ state_of (file_at self.old path.now) }
         ensures state { IsState result }

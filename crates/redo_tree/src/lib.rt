@@ -1,13 +1,13 @@
-//! A tree of directories and files below one top directory: what a build of redo reads.
+//! A tree of directories and files below one top directory, as a build reads it.
 //!
-//! A [`Tree`] tells what stands at each path, and the bytes of each file. It stands on `redo_path`, on `redo_bytes` for
-//! what files hold, on `redo_digest` for their digests, on `redo_names` for looking paths up and on `thiserror`.
+//! A [`Tree`] has the kind of entry at each path and the bytes of each file. Depends on `redo_path`, on `redo_bytes`
+//! for contents of files, on `redo_digest` for their digests, on `redo_names` for look-ups and on `thiserror`.
 //!
-//! - `entries`: the tree, and what is added to it; `content`: a file's bytes, which clones share, and their digest;
-//! - `parting`: files that are taken out of a tree; `digests`: digests that are made and kept; `file_digests`: digests
-//!   that are made when they are asked for;
+//! - `entries`: the tree, and adding to it; `content`: a file's bytes, which clones share, and their digest;
+//! - `parting`: taking files out of a tree; `digests`: making and keeping digests; `file_digests`: digests made on
+//!   demand;
 //! - `faults`: why nothing was added;
-//! - [`laws`]: trees that are compared as equal are one; what stands where in a tree without some files.
+//! - [`laws`]: equal trees are one; what is at each path after files are taken out.
 #![tactic(auto)]
 
 mod content;

@@ -1,4 +1,4 @@
-//! Files that are taken out of a tree, and the tree without them.
+//! Taking files out of a tree.
 
 ghost use Rattle.std.specs.Prelude.{◌≡◌, ◌++◌, ◌∷◌, [], ℕ, List, IfOk, None, OnOk, bytes_eq, false};
 ghost use Rattle.std.specs.Map.{lookup};
@@ -12,7 +12,7 @@ use redo_names::{PathMap, PathSet};
 use redo_path::Path;
 use std::alloc::{AllocError, Global};
 
-/// The paths, each once.
+/// The set of these paths.
 pub(crate) fn set_of(alloc: Global, paths: &[Path]) -> Result<PathSet, AllocError>
     ensures { IfOk result (λ set. (path : List ℕ) → is_among set path ≡ is_among paths.now path) }
 {
@@ -30,7 +30,7 @@ fn is_named(names: &PathSet, path: &Path) -> bool
     names.number_of(path).is_some()
 }
 
-/// An entry that shares its bytes.
+/// A clone of an entry.
 fn share(entry: &Entry) -> Result<Entry, AllocError>
     ensures { IfOk result (λ shared. shared ≡ entry.now) }
 {
@@ -40,16 +40,16 @@ fn share(entry: &Entry) -> Result<Entry, AllocError>
     }
 }
 
-/// The entries of a tree that stay in it.
+/// The entries that stay when files are taken out of a tree.
 #[derive(Drop)]
 pub(crate) struct Kept {
     pub entries: PathMap<Entry>,
-    /// The directories of the files among them whose names begin with `default` and end in `.do`.
+    /// The directories of those among them that are files `default*.do`.
     pub defaults: PathSet,
 }
 
 impl Kept {
-    /// No entry has come yet, and there is room for so many.
+    /// No entries, with room for `entries` of them.
     fn with_capacity(alloc: Global, entries: usize) -> Result<Kept, AllocError>
         ensures entries { IfOk result (λ kept. nodes_of kept.entries ≡ []) }
         ensures noted { IfOk result (λ kept. AreNoted kept.defaults []) }
@@ -60,7 +60,7 @@ impl Kept {
         })
     }
 
-    /// Keeps an entry that is a new one.
+    /// Keeps an entry whose path is new.
     fn keep(&mut self, alloc: Global, path: &Path, entry: &Entry) -> Result<(), AllocError>
         requires new { lookup (bytes_eq path.now) self.old.entries ≡ None }
         requires noted { AreNoted self.old.defaults (nodes_of self.old.entries) }
@@ -74,7 +74,7 @@ impl Kept {
         Ok(())
     }
 
-    /// Keeps the next entry, unless it is a file of one of these names.
+    /// Keeps the next entry, unless it is a file at one of these paths.
     pub(crate) fn pass(
         &mut self,
         alloc: Global,
@@ -96,7 +96,7 @@ impl Kept {
     }
 }
 
-/// The entries of a tree that stay in it where files are taken out, in the order in which they were kept.
+/// The entries of a tree that stay when the files at these paths are taken out, in their old order.
 pub(crate) fn kept_of(
     alloc: Global,
     entries: &PathMap<Entry>,

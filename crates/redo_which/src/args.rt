@@ -1,4 +1,4 @@
-//! What a script is called with.
+//! The arguments of a script.
 
 ghost use Rattle.std.specs.Prelude.{◌≡◌, IfOk};
 ghost use Rattle.redo_which.specs.Views.{arguments_view};
@@ -6,23 +6,23 @@ ghost use Rattle.redo_which.specs.Views.{arguments_view};
 use redo_path::Path;
 use std::alloc::{AllocError, Global};
 
-/// What follows `$1` in `$3`.
+/// What `$3` has after `$1`.
 const TEMPORARY: &[u8] = b".redo.tmp";
 
-/// What a script is called with, as redo(1) has it. The parameters follow from the target, so they take no
-/// memory of their own.
+/// The arguments of a script, as redo(1) defines them. The parameters are computed from the target and need no memory
+/// of their own.
 #[derive(Debug, Drop)]
 pub struct Args {
     /// The directory of the .do file, in which the script runs.
     pub dir: Path,
     /// The target.
     pub target: Path,
-    /// How many bytes at the target's end `default<suffix>.do` matched.
+    /// The number of bytes at the end of the target that `default<suffix>.do` matched.
     pub cut: usize,
 }
 
 impl Args {
-    /// `$1`: the target, relative to the directory.
+    /// `$1`: the target relative to the directory.
     pub fn one(&self) -> &[u8]
         ensures { result.now ≡ (arguments_view self.now).one }
     {
@@ -37,7 +37,7 @@ impl Args {
         &one[..one.len().saturating_sub(self.cut)]
     }
 
-    /// `$3`: the temporary file, relative to the directory; `$1` and then `.redo.tmp`.
+    /// `$3`: the temporary file relative to the directory, which is `$1` followed by `.redo.tmp`.
     pub fn three(&self, alloc: Global) -> Result<Vec<u8>, AllocError>
         ensures { IfOk result (λ three. three.items ≡ (arguments_view self.now).three) }
     {

@@ -1,4 +1,4 @@
-//! A candidate in pieces of its target's text, so that no path is made of one that is no file.
+//! A candidate as pieces of its target's text. No path is made of a candidate that is no file.
 
 ghost use Rattle.std.specs.Prelude.{◌≡◌, ◌++◌, ◌∷◌, [], IfOk, OnErr, OnOk, codes, false, is_err, length, nat_le, ◌&&◌};
 ghost use Rattle.std.specs.Prelude.{take};
@@ -14,14 +14,14 @@ use redo_path::{LONGEST_NAME, LONGEST_PATH, Path};
 use std::alloc::{AllocError, Global};
 use std::marker::Model;
 
-/// A candidate in pieces, with no path of its own. In a contract it is the place of the candidate.
+/// A candidate in pieces, without a path of its own. In a contract it is the place of the candidate.
 #[derive(Drop)]
 pub struct CandidateRef<'a> {
     dir: &'a [u8],
-    /// What stands between the directory and the suffix: a slash, unless the directory is the root, and then
-    /// `default`, unless it is the candidate by the whole name.
+    /// What is between the directory and the suffix: a slash, unless the directory is the root, and then `default`,
+    /// unless the candidate has the target's whole name.
     prefix: &'a [u8],
-    /// The whole name, or a suffix of it.
+    /// The target's whole name, or a suffix of it.
     suffix: &'a [u8],
     cut: usize,
 }
@@ -38,7 +38,7 @@ impl<'a> Model for CandidateRef<'a> {
 }
 
 impl<'a> CandidateRef<'a> {
-    /// The candidate by the whole name in a directory, unless its path is too long.
+    /// The candidate in a directory by the whole name, unless its path is too long.
     pub(crate) fn by_name(dir: &'a [u8], name: &'a [u8]) -> Option<CandidateRef<'a>>
         requires path { IsPath dir.now }
         requires part { IsPart name.now }
@@ -47,7 +47,7 @@ impl<'a> CandidateRef<'a> {
         CandidateRef::new(dir, b"", name_prefix(dir), name, 0)
     }
 
-    /// The candidate by a suffix in a directory, unless its path is too long.
+    /// The candidate in a directory by a suffix, unless its path is too long.
     pub(crate) fn by_suffix(dir: &'a [u8], suffix: &'a [u8]) -> Option<CandidateRef<'a>>
         requires path { IsPath dir.now }
         requires part { IsPart suffix.now }
@@ -57,7 +57,7 @@ impl<'a> CandidateRef<'a> {
         CandidateRef::new(dir, b"default", default_prefix(dir), suffix, suffix.len())
     }
 
-    /// The candidate whose name begins with a front, as the end of the prefix, and goes on with the suffix.
+    /// The candidate whose name is `front`, with which `prefix` ends, then the suffix, then `.do`.
     fn new(
         dir: &'a [u8],
         front: &[u8],
@@ -81,7 +81,7 @@ impl<'a> CandidateRef<'a> {
         })
     }
 
-    /// Adds the text of the .do file's path to a text. On want of memory a beginning of it may have been added.
+    /// Appends the text of the .do file's path. If memory runs out, a prefix of it may have been appended.
     pub fn spell(&self, text: &mut Vec<u8>) -> Result<(), AllocError>
         ensures path { IsPath self.now.do_file }
         ensures text { OnOk result (text.new.items ≡ text.old.items ++ self.now.do_file) }
@@ -93,14 +93,14 @@ impl<'a> CandidateRef<'a> {
         text.extend_from_slice(b".do")
     }
 
-    /// How many bytes the text of the .do file's path has.
+    /// The length of the .do file's path in bytes.
     pub fn size(&self) -> usize
         ensures { result ≡ length self.now.do_file }
     {
         self.dir.len() + self.prefix.len() + self.suffix.len() + 3
     }
 
-    /// The text of the .do file's path in three pieces, behind which stands `.do`.
+    /// The text of the .do file's path in three pieces, without the `.do` at its end.
     pub fn pieces(&self) -> (&'a [u8], &'a [u8], &'a [u8])
         ensures { result.0.now ++ result.1.now ++ result.2.now ++ codes ".do" ≡ self.now.do_file }
     {
@@ -116,7 +116,7 @@ impl<'a> CandidateRef<'a> {
         Path::of_text(alloc, &text)
     }
 
-    /// The candidate with this path, which is that of its .do file.
+    /// The candidate with its .do file's path, which the caller has made.
     pub(crate) fn with_path(&self, alloc: Global, do_file: Path) -> Result<Candidate, AllocError>
         requires { do_file ≡ self.now.do_file }
         ensures { IfOk result (λ candidate. place_of candidate ≡ self.now) }
@@ -127,7 +127,7 @@ impl<'a> CandidateRef<'a> {
     }
 }
 
-/// What stands between a directory and a name in it.
+/// What is between a directory and a name in it.
 fn name_prefix(dir: &[u8]) -> &[u8]
     ensures { result.now ≡ prefix_of dir.now [] }
 {
@@ -137,7 +137,7 @@ fn name_prefix(dir: &[u8]) -> &[u8]
     }
 }
 
-/// What stands between a directory and the suffix of a candidate in it.
+/// What is between a directory and the suffix of a candidate in it.
 fn default_prefix(dir: &[u8]) -> &[u8]
     ensures { result.now ≡ prefix_of dir.now (codes "default") }
 {
@@ -147,7 +147,7 @@ fn default_prefix(dir: &[u8]) -> &[u8]
     }
 }
 
-/// Whether the path of a .do file in a directory isn't too long.
+/// Whether the path of a .do file in a directory is short enough.
 pub(crate) fn fits(dir: &[u8], front: &[u8], suffix: &[u8]) -> bool
     requires { IsPath dir.now }
     ensures { result ≡ (nat_le (length (front.now ++ suffix.now ++ codes ".do")) 255

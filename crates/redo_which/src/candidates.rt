@@ -1,4 +1,4 @@
-//! The candidates of a target one after another, without a list of them.
+//! The candidates of a target as an iterator, without a list of them.
 
 ghost use Rattle.std.specs.Prelude.{◌≡◌, ◌<◌, ◌≤◌, ◌^◌, ◌∷◌, ◌++◌, [], IfSome, IsTrue, codes, filter, flat_map, length};
 ghost use Rattle.std.specs.Prelude.{◌||◌, nat_eq, if◌then◌else◌};
@@ -19,8 +19,7 @@ use redo_path::{Path, parent_of_text};
 use redo_tree::Tree;
 use std::marker::Model;
 
-/// The candidates of a target that are still to come, in the order of the search. In a contract it
-/// is the list of their places.
+/// The candidates of a target that are left, in the order of the search. In a contract it is the list of their places.
 #[derive(Drop)]
 pub struct Candidates<'a> {
     /// The target's name.
@@ -28,14 +27,14 @@ pub struct Candidates<'a> {
     next: Next<'a>,
 }
 
-/// What comes next in the search.
+/// Where the search continues.
 #[derive(Clone, Copy)]
 enum Next<'a> {
-    /// The candidate by the whole name, in a directory.
+    /// At the candidate by the whole name, in a directory.
     Whole(&'a [u8]),
-    /// The candidate by the first suffix of this end of the name, in a directory.
+    /// At the candidate by the longest suffix of this end of the name, in a directory.
     Suffix(&'a [u8], &'a [u8]),
-    /// No candidate.
+    /// Nowhere: no candidate is left.
     Nothing,
 }
 
@@ -73,7 +72,7 @@ impl<'a> Iterator for Candidates<'a> {
                 }
                 Next::Nothing => return None,
             };
-            // One whose path is too long is left out.
+            // A candidate whose path is too long is left out.
             if candidate.is_some() {
                 return candidate;
             }
@@ -106,7 +105,7 @@ impl<'a> Candidates<'a> {
         }
     }
 
-    /// The same candidates once more.
+    /// A copy of these candidates.
     pub(crate) fn again(&self) -> Candidates<'a>
         ensures { result ≡ self.now }
     {
@@ -116,8 +115,8 @@ impl<'a> Candidates<'a> {
         }
     }
 
-    /// Whether they are seen at once to be the same as others: by the same suffixes, from the same
-    /// directory upwards.
+    /// Whether a quick look shows that these candidates equal others: the next directory and the suffixes are the same.
+    /// If the result is `false`, they may still be equal.
     pub(crate) fn is_same(&self, other: &Candidates<'_>) -> bool
         ensures { IsTrue result → self.now ≡ other.now }
     {
@@ -130,8 +129,8 @@ impl<'a> Candidates<'a> {
             && first_suffix(self.name) == first_suffix(other.name)
     }
 
-    /// Skips the directories that come next, as long as the tree knows of each that it holds no
-    /// `default*.do`. Answers how many candidates lie in them. In the middle of a directory it skips nothing.
+    /// Skips the next directories as long as the tree knows that they hold no `default*.do`. Returns how many
+    /// candidates it skipped. In the middle of a directory it skips nothing.
     pub(crate) fn skip_directories(&mut self, tree: &Tree) -> usize
         requires { length self.old ≤ 2 ^ 20 }
         ensures { Passes tree.now result self.old self.new }
@@ -150,8 +149,8 @@ impl<'a> Candidates<'a> {
     }
 }
 
-/// How many candidates there are in a directory by the suffixes of this end of a name, which has so many dots. Where
-/// the end itself isn't too long, no suffix of it is.
+/// The number of candidates in a directory by the suffixes of this end of a name, which has `dots` dots. If the end
+/// itself is short enough, so are all its suffixes.
 fn count_by(dir: &[u8], end: &[u8], dots: usize) -> usize
     requires path { IsPath dir.now }
     requires part { IsPart end.now }
@@ -165,14 +164,14 @@ fn count_by(dir: &[u8], end: &[u8], dots: usize) -> usize
     }
 }
 
-/// How many dots a text has.
+/// The number of dots in a text.
 fn dots(text: &[u8]) -> usize
     ensures { result ≡ length (filter is_dot text.now) }
 {
     text.iter().filter(|byte| **byte == b'.').count()
 }
 
-/// How many these candidates are, by a look at each suffix.
+/// The number of these candidates, found by looking at each suffix.
 fn count_each(dir: &[u8], end: &[u8]) -> usize
     requires path { IsPath dir.now }
     requires part { IsPart end.now }
@@ -192,7 +191,7 @@ fn count_each(dir: &[u8], end: &[u8]) -> usize
     }
 }
 
-/// What comes first: the whole name in the target's directory, unless no rule makes the target.
+/// Where the search begins: at the whole name in the target's directory, unless no rule makes the target.
 fn first_next<'a>(target: &[u8], name: &'a [u8], dir: &'a [u8]) -> Next<'a>
     requires path { IsPath dir.now }
     requires part { IsPart name.now }
@@ -208,15 +207,14 @@ fn first_next<'a>(target: &[u8], name: &'a [u8], dir: &'a [u8]) -> Next<'a>
     }
 }
 
-/// Whether no rule makes the target with this text and name: a .do file, or the book of the last run.
+/// Whether the target with this text and name is one that no rule makes: a .do file, or the book of the last run.
 fn is_never_made(target: &[u8], name: &[u8]) -> bool
     ensures { result ≡ (ends_with nat_eq name.now (codes ".do") || bytes_eq target.now book_path) }
 {
     name.ends_with(b".do") || target == BOOK
 }
 
-/// What comes behind the whole name: the suffixes, but not the longest where the candidate by it is
-/// the one by the whole name.
+/// What comes after the whole name: the suffixes, without the longest if its candidate is the one by the whole name.
 fn after_name<'a>(name: &'a [u8], dir: &'a [u8]) -> Next<'a>
     requires path { IsPath dir.now }
     requires part { IsPart name.now }
@@ -232,7 +230,7 @@ fn after_name<'a>(name: &'a [u8], dir: &'a [u8]) -> Next<'a>
     }
 }
 
-/// What comes behind a suffix: the shorter ones, and then those in the directory above.
+/// What comes after a suffix: the shorter ones, then those in the directory above.
 fn after_suffix<'a>(name: &'a [u8], dir: &'a [u8], suffix: &'a [u8]) -> Next<'a>
     requires path { IsPath dir.now }
     requires name { IsPart name.now }
@@ -247,7 +245,7 @@ fn after_suffix<'a>(name: &'a [u8], dir: &'a [u8], suffix: &'a [u8]) -> Next<'a>
     }
 }
 
-/// What comes behind a directory: the suffixes in the one above.
+/// What comes after a directory: the suffixes in the one above.
 fn above<'a>(name: &'a [u8], dir: &'a [u8]) -> Next<'a>
     requires path { IsPath dir.now }
     requires name { IsPart name.now }
@@ -260,7 +258,7 @@ fn above<'a>(name: &'a [u8], dir: &'a [u8]) -> Next<'a>
     }
 }
 
-/// The longest suffix of a text.
+/// The longest suffix of a text: from its first dot on, or empty.
 fn first_suffix(text: &[u8]) -> &[u8]
     requires { IsPart text.now }
     ensures first { suffixes text.now ≡ result.now ∷ shorter result.now }
@@ -270,7 +268,7 @@ fn first_suffix(text: &[u8]) -> &[u8]
     &text[first_dot(text)..]
 }
 
-/// Where the first dot of a text is, or its end.
+/// The offset of the first dot of a text, or its length.
 fn first_dot(text: &[u8]) -> usize
     ensures { IsFirstDot text.now result }
 {
@@ -280,7 +278,7 @@ fn first_dot(text: &[u8]) -> usize
     }
 }
 
-/// Whether a name is `default` and this suffix.
+/// Whether a name is `default` followed by this suffix.
 fn is_default(name: &[u8], suffix: &[u8]) -> bool
     ensures { result ≡ bytes_eq name.now (codes "default" ++ suffix.now) }
 {

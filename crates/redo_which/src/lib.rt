@@ -1,17 +1,17 @@
-//! Which script makes a target, where it is looked for, and what it is called with.
+//! The search for the script that makes a target, and the arguments of that script.
 //!
-//! For a target `D/name` the search goes over candidates, as redo-whichdo(1) prints them: `D/name.do`,
-//! and then in `D` and each directory above it `default<suffix>.do` for each suffix of the name that
-//! begins at a dot, longest first, and `default.do`. The first that is a file of the tree is the rule.
-//! The search ends at the top directory. Names that end in `.do`, the top directory, and the book of
-//! the last run there ([`BOOK`]) have no candidates; one that is too long for a path is left out, and one
-//! that occurs twice stands at its first place. Stands on `redo_path` and `redo_tree`.
+//! The candidates for a target `D/name` are those that redo-whichdo(1) prints. First comes `D/name.do`. Then come, in
+//! `D` and each directory above it, `default<suffix>.do` for each suffix of the name that begins at a dot, longest
+//! first, and `default.do`. The first candidate that is a file of the tree is the rule. The search ends at the top
+//! directory. Names that end in `.do`, the top directory, and the book of the last run there ([`BOOK`]) have no
+//! candidates. A candidate too long for a path is left out, and one that occurs twice keeps its first place only.
+//! Depends on `redo_path` and `redo_tree`.
 //!
-//! - here: what the search finds, as plain data;
-//! - [`lookup`]: the search; `args`: what a script is called with;
-//! - `missing`: the candidates that it found no file for, kept as their number;
-//! - `lines`: the lines of such candidates, target after target;
-//! - `candidate_ref`: a candidate in pieces of its target's text; `candidates`: the candidates one after another.
+//! - here: the result of a search, as plain data;
+//! - [`lookup`]: the search; `args`: the arguments of a script;
+//! - `missing`: the candidates that are no files, stored as their number;
+//! - `lines`: their lines of text, target after target;
+//! - `candidate_ref`: a candidate as pieces of its target's text; `candidates`: an iterator over candidates.
 #![tactic(auto)]
 
 mod args;
@@ -28,25 +28,25 @@ pub use lines::{MissingLines, add_sizes};
 pub use missing::{Missing, Tail};
 use redo_path::Path;
 
-/// The path of the book of the last run. No rule makes it.
+/// The path of the last run's book. No rule makes it.
 pub const BOOK: &[u8] = b".redo-book";
 
-/// A .do file that may have a target's rule.
+/// A .do file that may be a target's rule.
 #[derive(Debug, Drop)]
 pub struct Candidate {
     /// The path of the .do file.
     pub do_file: Path,
     /// The directory of the .do file, in which the script runs.
     pub dir: Path,
-    /// How many bytes at the end of the target's name `default<suffix>.do` matches; 0 for `name.do`
-    /// and `default.do`.
+    /// The number of bytes at the end of the target's name that `default<suffix>.do` matches; 0 for `name.do` and
+    /// `default.do`.
     pub cut: usize,
 }
 
-/// What the search for a rule saw.
+/// The result of a search for a rule.
 #[derive(Debug, Drop)]
 pub struct Search {
-    /// The candidates before the chosen one, or all of them; each is no file of the tree.
+    /// The candidates before the chosen one, or all if none is chosen. None of them is a file of the tree.
     pub missing: Vec<Path>,
     /// The first candidate that is a file of the tree.
     pub chosen: Option<Candidate>,
@@ -57,20 +57,20 @@ pub struct Search {
 pub struct Rule {
     /// The path of the script.
     pub do_file: Path,
-    /// The candidates before it, none of which is a file.
+    /// The candidates before it. None of them is a file.
     pub missing: Missing,
-    /// What the script is called with.
+    /// The arguments of the script.
     pub args: Args,
 }
 
-/// What a target is: the first of these that holds.
+/// What a target is. The first case that holds counts.
 #[derive(Drop)]
 pub enum Found {
     /// A file of the tree, which is not built.
     Source,
     /// A directory of the tree.
     Directory,
-    /// Its parent is no directory of the tree.
+    /// Its parent isn't a directory of the tree.
     NoDirectory,
     /// No candidate is a file.
     NoRule { missing: Missing },

@@ -10,10 +10,9 @@ use std::alloc::{AllocError, Global};
 use std::marker::Model;
 use std::mem;
 
-/// The lines of a target's missing candidates, and of the next one's. Targets that follow one another are mostly
-/// neighbours with the same suffix, as `a.o` and `b.o` of one directory, whose candidates are the same but for the
-/// first: the lines of these are kept. In a contract it is the front of its lines, and the candidates whose lines are
-/// kept.
+/// The lines of the missing candidates of one target after another. Most targets that follow one another are neighbours
+/// with the same suffix, such as `a.o` and `b.o` in one directory. Then all candidates but the first are the same, and
+/// their lines are kept. In a contract it is the front of its lines, and the candidates whose lines are kept.
 #[derive(Drop)]
 pub struct MissingLines<'a> {
     front: &'a [u8],
@@ -34,7 +33,7 @@ impl<'a> Model for MissingLines<'a> {
 }
 
 impl<'a> MissingLines<'a> {
-    /// Lines with this front; none are kept yet.
+    /// Lines with this front. None are kept yet.
     pub fn new(alloc: Global, front: &'a [u8]) -> MissingLines<'a>
         ensures { result ≡ (front.now, []) }
     {
@@ -45,22 +44,22 @@ impl<'a> MissingLines<'a> {
         }
     }
 
-    /// What stands before the path in each line.
+    /// What comes before the path in each line.
     pub fn front(&self) -> &'a [u8]
         ensures { result.now ≡ self.now.0 }
     {
         self.front
     }
 
-    /// The lines that are kept, one behind the other.
+    /// The lines that are kept, in order.
     pub fn text(&self) -> &[u8]
         ensures { result.now ≡ lines_of self.now.0 self.now.1 }
     {
         &self.text
     }
 
-    /// Keeps the lines of these candidates in place of those before. Nothing is done where they are seen at once to be
-    /// the same, and on want of memory none are kept.
+    /// Keeps the lines of these candidates instead of the old ones. If a quick look shows that they are the same, it
+    /// does nothing. If memory runs out, none are kept.
     pub fn keep(&mut self, rest: &Tail<'a>) -> Result<(), AllocError>
         ensures front { self.new.0 ≡ self.old.0 }
         ensures kept { OnOk result (self.new.1 ≡ rest.now) }
@@ -95,7 +94,7 @@ impl<'a> MissingLines<'a> {
     }
 }
 
-/// So many bytes together. A sum that is too large for memory is refused as such.
+/// The sum of two sizes in bytes. A sum that overflows is reported as out of memory.
 pub fn add_sizes(first: usize, second: usize) -> Result<usize, AllocError>
     ensures sum { IfOk result (λ sum. sum ≡ first + second) }
     ensures refused { IsErr result ↔ (2 ^ 64 ≤ first + second) }
@@ -103,7 +102,7 @@ pub fn add_sizes(first: usize, second: usize) -> Result<usize, AllocError>
     first.checked_add(second).ok_or(AllocError)
 }
 
-/// The lines of candidates, in place of a text.
+/// The lines of these candidates, in a text that is reused.
 fn spelled(front: &[u8], rest: &Tail<'_>, mut text: Vec<u8>) -> Result<Vec<u8>, AllocError>
     ensures { IfOk result (λ lines. lines.items ≡ lines_of front.now rest.now) }
 {
@@ -114,7 +113,7 @@ fn spelled(front: &[u8], rest: &Tail<'_>, mut text: Vec<u8>) -> Result<Vec<u8>, 
     Ok(text)
 }
 
-/// Adds the line of a candidate to a text.
+/// Appends the line of a candidate.
 fn add_line(
     front: &[u8],
     candidate: &CandidateRef<'_>,

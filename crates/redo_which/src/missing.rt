@@ -1,4 +1,4 @@
-//! The candidates of a target that were looked for in vain.
+//! The candidates of a target that are no files.
 
 ghost use Rattle.std.specs.Prelude.{◌≡◌, ◌≤◌, ◌∷◌, List, ℕ, IfNone, IfOk, IfSome, IsTrue, [], bytes_eq, length, map};
 ghost use Rattle.std.specs.Prelude.{take};
@@ -15,9 +15,8 @@ use std::alloc::{AllocError, Global};
 use std::iter::Take;
 use std::marker::Model;
 
-/// The candidates of a target that stand before its rule, or all of them where it has none. In a
-/// contract it is the list of their .do files. They follow from the target and their number, so
-/// these alone are kept, and the paths are spelled where they are wanted.
+/// The candidates of a target before its rule, or all of them if it has none. In a contract it is the list of their .do
+/// files. Only the target and their number are stored; the paths follow from these and are spelled on demand.
 #[derive(Drop)]
 pub struct Missing {
     target: Path,
@@ -46,7 +45,7 @@ impl Missing {
         }
     }
 
-    /// The first so many candidates of a target.
+    /// The first `count` candidates of a target.
     pub(crate) fn first(target: &Path, count: usize) -> Result<Missing, AllocError>
         requires { AreFirst target.now count }
         ensures { IfOk result (λ missing. missing ≡ first_candidates target.now count) }
@@ -55,22 +54,22 @@ impl Missing {
         Ok(Missing { target, count })
     }
 
-    /// How many there are.
+    /// The number of candidates.
     pub fn len(&self) -> usize
         ensures { result ≡ length self.now }
     {
         self.count
     }
 
-    /// No candidate stands twice.
+    /// No candidate occurs twice.
     pub fn each_once(&self)
         ensures { AreDistinct self.now }
     {
-        // A field is read so that the invariant is at hand in the proof. Nothing runs.
+        // Reading a field brings the invariant into the proof. Nothing runs.
         let _ = &self.target;
     }
 
-    /// Each lies below the top directory.
+    /// Each is below the top directory.
     pub fn each_below(&self)
         ensures { AllByRecursion IsBelowRoot self.now }
     {
@@ -78,7 +77,7 @@ impl Missing {
         let _ = &self.target;
     }
 
-    /// The .do files, each spelled anew.
+    /// The paths of the .do files. Each call spells them again.
     pub fn paths(&self, alloc: Global) -> Result<Vec<Path>, AllocError>
         ensures { IfOk result (λ paths. paths.items ≡ self.now) }
     {
@@ -89,18 +88,18 @@ impl Missing {
         Ok(paths)
     }
 
-    /// Them, one after another.
+    /// An iterator over the candidates.
     fn candidates(&self) -> Take<Candidates<'_>>
         ensures { map (λ place. place.do_file) (take (take_count result) (take_source result)) ≡ self.now }
     {
         Candidates::of(&self.target).take(self.count)
     }
 
-    /// Whether a path is one of them. It is quick where the path doesn't end in `.do`.
+    /// Whether a path is one of them. It is quick if the path doesn't end in `.do`.
     pub fn contains(&self, alloc: Global, path: &Path) -> Result<bool, AllocError>
         ensures { IfOk result (λ answer. answer ≡ list_any (λ other. bytes_eq path.now other) self.now) }
     {
-        // A field is read so that the invariant is at hand in the proof.
+        // Reading a field brings the invariant into the proof.
         let _ = &self.target;
         if !path.text().ends_with(b".do") {
             return Ok(false);
@@ -116,7 +115,7 @@ impl Missing {
         Ok(false)
     }
 
-    /// The first of them, and the rest.
+    /// The first candidate, and the rest.
     pub fn split_first(&self) -> Option<(CandidateRef<'_>, Tail<'_>)>
         ensures some { IfSome result (λ split. self.now ≡ split.0.do_file ∷ map (λ place. place.do_file) split.1) }
         ensures none { IfNone result (self.now ≡ []) }
@@ -136,7 +135,7 @@ impl Clone for Missing {
     }
 }
 
-/// The candidates of a target behind its first, so many of them. In a contract it is the list of their places.
+/// The `len` candidates of a target after its first one. In a contract it is the list of their places.
 #[derive(Drop)]
 pub struct Tail<'a> {
     candidates: Candidates<'a>,
@@ -163,14 +162,14 @@ impl<'a> Tail<'a> {
         }
     }
 
-    /// Them, one after another.
+    /// An iterator over the candidates.
     pub fn candidates(&self) -> Take<Candidates<'a>>
         ensures { take (take_count result) (take_source result) ≡ self.now }
     {
         self.candidates.again().take(self.len)
     }
 
-    /// The same candidates once more.
+    /// A copy of these candidates.
     pub fn again(&self) -> Tail<'a>
         ensures { result ≡ self.now }
     {
@@ -180,7 +179,8 @@ impl<'a> Tail<'a> {
         }
     }
 
-    /// Whether they are seen at once to be the same as others.
+    /// Whether a quick look shows that these candidates equal others. If the result is `false`, they may still be
+    /// equal.
     pub fn is_same(&self, other: &Tail<'_>) -> bool
         ensures { IsTrue result → self.now ≡ other.now }
     {

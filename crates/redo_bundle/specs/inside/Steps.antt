@@ -1,4 +1,4 @@
--- What each step of reading a bundle finds.
+-- The result of each step of reading a bundle.
 use Rattle.std.specs.Prelude.{◌≡◌, ◌≤◌, ℕ, Bool, true, false, List, [], ◌∷◌, length, slice_index, nat_lt, nat_le, not}
 use Rattle.std.specs.Prelude.{◌++◌, option_map, Option, Some, None, Result, Ok, Err, codes, decimal, IfSome}
 use Rattle.std.specs.Prelude.{if◌then◌else◌}
@@ -13,7 +13,7 @@ use Rattle.redo_bundle.specs.declared.faults.BundleFault.{BundleFault}
 use Rattle.redo_bundle.specs.declared.faults.BundleFault.TheVariants.{Line, Tree as TreeAt, Truncated, Read, Memory}
 use Rattle.redo_bundle.specs.Bundle.{IsEntry, IsHeader, is_newline, is_space, size_of, spelling}
 
--- a step answered that the reader failed
+-- a step reported that the reader failed
 abbrev pub is_read : {A : Type 0} → Result A BundleFault → Bool
 is_read (Ok x) = false
 is_read (Err Read) = true
@@ -26,7 +26,7 @@ Finds (Err Read) found = Unit {0}
 Finds (Err Memory) found = Unit {0}
 Finds (Err fault) found = found ≡ Some fault
 
--- a fault that a step answered is what is wrong with what was left, where that is known
+-- a fault that a step reported is what is wrong with the bytes that were left, if they are known
 abbrev pub Refuses : {A : Type 0} → Result A BundleFault → Option (List ℕ) → (List ℕ → Option BundleFault) → Type 0
 Refuses (Ok x) left meant = Unit {0}
 Refuses (Err Read) left meant = Unit {0}
@@ -45,28 +45,28 @@ pub record IsLine (line : List ℕ) : Type 0 where
   pub one : list_any is_newline line ≡ false
   pub short : length line ≤ 1100
 
--- why no header line is read
+-- why a header line isn't read, if it isn't
 abbrev pub line_fault : ℕ → List ℕ → Option BundleFault
 line_fault n text =
     if nat_lt 1100 (length (before_first is_newline text)) then Some (Line n) else
     if not (list_any is_newline text) then Some Truncated else None
 
--- why so many bytes are not read
+-- why `size` bytes aren't read, if they aren't
 abbrev pub size_fault : ℕ → List ℕ → Option BundleFault
 size_fault size text = if nat_lt (length text) size then Some Truncated else None
 
--- why no newline is read
+-- why a newline isn't read, if it isn't
 abbrev pub newline_fault : ℕ → List ℕ → Option BundleFault
 newline_fault n [] = Some Truncated
 newline_fault n (byte ∷ bytes) = if is_newline byte then None else Some (Line n)
 
--- why a file's bytes and the newline behind them are not read
+-- why a file's bytes and the newline after them aren't read, if they aren't
 abbrev pub file_fault : ℕ → ℕ → List ℕ → Option BundleFault
 file_fault n size text =
     if nat_le (length text) size then Some Truncated else
     if is_newline (slice_index text size) then None else Some (Line n)
 
--- the size and the path behind the first word of a file's header
+-- the size and the path after the first word of a file's header
 abbrev pub words_of : List ℕ → Option (ℕ × List ℕ)
 words_of words =
     if list_any is_space words
@@ -90,13 +90,13 @@ abbrev pub AddsNext : Tree → Tree → Option (List ℕ) → Option (List ℕ) 
 AddsNext old new before after =
     (e : List ℕ × Node) × IsEntry e × (added old e.0 e.1 ≡ Ok new) × Consumes before after (spelling e)
 
--- what the tree answered, as an answer on an entry
+-- the tree's result as a result for entry n
 abbrev pub told : ℕ → Result (Unit {0}) TreeFault → Result (Unit {0}) BundleFault
 told n (Ok x) = Ok x
 told n (Err tree.Memory) = Err Memory
 told n (Err fault) = Err (TreeAt n fault)
 
--- a step answered that the writer failed
+-- a step reported that the writer failed
 abbrev pub is_device : {A : Type 0} → Result A WriteFault → Bool
 is_device (Ok x) = false
 is_device (Err write.Device) = true

@@ -1,4 +1,4 @@
--- Where the numbers of paths are kept.
+-- How the numbers of paths are stored.
 use Rattle.std.specs.Prelude.{◌≡◌, ◌+◌, ◌-◌, ◌/◌, ◌%◌, ◌^◌, ◌<◌, ◌≤◌, ◌⊎◌, ℕ, List, [], Option, Some, Vec}
 use Rattle.std.specs.Prelude.{bit_and, length, max, slice_get, slice_index}
 use Rattle.std.specs.declared.alloc.Global.{Global}
@@ -10,15 +10,15 @@ use Rattle.redo_names.specs.declared.index.Index.{Index}
 use Rattle.redo_names.specs.declared.index.Spot.{Spot}
 use Rattle.redo_names.specs.declared.index.Spot.TheVariants.{Found, Few, Free, Over}
 
--- the hash of a path's text, which decides where a path is looked for and by which mark, and nothing that is answered
+-- the hash of a path's text; it decides where a path is looked for and by which mark, and never the result
 unfoldable pub hash_of : List ℕ → ℕ
 hash_of text = folding.finish (folding.write folding.initial text)
 
--- the first place that is tried for a text in a row of so many places
+-- the first place to try for a text, in a row of `places` places
 abbrev pub start_of : List ℕ → ℕ → ℕ
 start_of text places = bit_and (hash_of text) (places - 8)
 
--- how many paths there is room for: without a row for a few, and else for about half as many as its places
+-- how many paths there is room for: about half as many as places, and at least the eight that need no row
 abbrev pub room_of : ℕ → ℕ
 room_of places = max (places / 2 - 8) 8
 
@@ -26,15 +26,15 @@ room_of places = max (places / 2 - 8) 8
 abbrev pub mark_of : ℕ → ℕ
 mark_of hash = hash / 2 ^ 59
 
--- the number that stands in a place that is taken
+-- the number in a place that is taken
 abbrev pub number_in : ℕ → ℕ
 number_in place = (place - 1) % 2 ^ 27
 
--- the mark that stands beside it
+-- the mark in it
 abbrev pub mark_in : ℕ → ℕ
 mark_in place = (place - 1) / 2 ^ 27
 
--- in a place stand the mark of the text and the number of a path with it
+-- a place holds the mark of the text and the number of a path with this text
 abbrev pub Holds : List (List ℕ) → List ℕ → ℕ → Type 0
 Holds paths text place = (mark_in place ≡ mark_of (hash_of text)) × (slice_get paths (number_in place) ≡ Some text)
 
@@ -42,28 +42,28 @@ Holds paths text place = (mark_in place ≡ mark_of (hash_of text)) × (slice_ge
 abbrev pub kept_over : BTreeMap (Vec ℕ Global) ℕ → List ℕ → Option ℕ
 kept_over over text = get_by (λ key. slice_cmp nat_cmp text key.items) over
 
--- the text is that of no path
+-- no path has this text
 abbrev pub IsAbsent : List (List ℕ) → List ℕ → Type 0
 IsAbsent paths text = (n : ℕ) → slice_get paths n ≡ Some text → ⊥
 
--- the places from the first that is tried for a text up to this one are taken
+-- all places from the first to try for a text up to `end`, which is not included, are taken
 abbrev pub AreTakenTo : List ℕ → List ℕ → ℕ → Type 0
 AreTakenTo places text end = (k : ℕ) → start_of text (length places) ≤ k → k < end → 0 < slice_index places k
 
--- so are all that are tried for it
+-- all places to try for it are taken
 abbrev pub AllTaken : List ℕ → List ℕ → Type 0
 AllTaken places text = AreTakenTo places text (start_of text (length places) + 8)
 
--- none of those places up to this one holds the text
+-- no place from the first to try for a text up to `end`, which is not included, holds the text
 abbrev pub AreOthersTo : List ℕ → List (List ℕ) → List ℕ → ℕ → Type 0
 AreOthersTo places paths text end =
     (k : ℕ) → start_of text (length places) ≤ k → k < end → Holds paths text (slice_index places k) → ⊥
 
--- nor is any that is tried for it
+-- no place to try for it holds the text
 abbrev pub IsNowhere : List ℕ → List (List ℕ) → List ℕ → Type 0
 IsNowhere places paths text = AreOthersTo places paths text (start_of text (length places) + 8)
 
--- the search for a text comes to this place of the row
+-- the search for a text reaches this place of the row
 pub record IsTried (places : List ℕ) (text : List ℕ) (at : ℕ) : Type 0 where
   pub from : start_of text (length places) ≤ at
   pub near : at < start_of text (length places) + 8
@@ -83,31 +83,31 @@ pub record IsOver (index : Index) (paths : List (List ℕ)) (text : List ℕ) : 
   pub kept : kept_over index.overflow text ≡ Some number
   pub here : slice_get paths number ≡ Some text
 
--- the search for the text of each of these paths finds a path with it
+-- the search for the text of each of these paths finds a path with this text
 abbrev pub FindsEach : Index → List (List ℕ) → Type 0
 FindsEach index paths =
     (n : ℕ) (text : List ℕ) → slice_get paths n ≡ Some text →
     IsInRow index.places.items paths text ⊎ IsOver index paths text
 
--- there is a row, which has at least as many places as are tried for a path
+-- there is a row, with at least as many places as are tried for a path
 abbrev pub HasRow : Index → Type 0
 HasRow index = 8 ≤ length index.places.items
 
--- there is a row, and each of these paths is found by it
+-- there is a row, and a search finds each of these paths
 pub record IsRowOf (index : Index) (paths : List (List ℕ)) : Type 0 where
   pub row : HasRow index
   pub finds : FindsEach index paths
 
--- there is no row, and the paths are so few that each is compared
+-- there is no row, and there are at most eight paths
 pub record AreFew (index : Index) (paths : List (List ℕ)) : Type 0 where
   pub no_row : index.places.items ≡ []
   pub few : length paths ≤ 8
 
--- these are the paths whose numbers the index tells
+-- the index has the numbers of these paths
 abbrev pub IsIndexOf : Index → List (List ℕ) → Type 0
 IsIndexOf index paths = AreFew index paths ⊎ IsRowOf index paths
 
--- where the search for a text ends: at its path's number, or, where there is no such path, where that belongs
+-- where the search for a text ends: at its path's number or, if no path has it, where such a path belongs
 abbrev pub IsSpot : Index → List (List ℕ) → List ℕ → Spot → Type 0
 IsSpot index paths text (Found n) = slice_get paths n ≡ Some text
 IsSpot index paths text Few = IsAbsent paths text × (index.places.items ≡ [])
@@ -116,7 +116,7 @@ IsSpot index paths text (Free at hash) =
     (slice_index index.places.items at ≡ 0) × (hash ≡ hash_of text)
 IsSpot index paths text Over = IsAbsent paths text × HasRow index × AllTaken index.places.items text
 
--- what the ordered map has for other texts it still has
+-- the ordered map still has what it had for other texts
 abbrev pub KeepsOthers : BTreeMap (Vec ℕ Global) ℕ → BTreeMap (Vec ℕ Global) ℕ → List ℕ → Type 0
 KeepsOthers old new text =
     (other : List ℕ) (n : ℕ) → kept_over old other ≡ Some n → (other ≡ text) ⊎ (kept_over new other ≡ Some n)

@@ -1,4 +1,4 @@
--- Entries by their kind.
+-- Entries by kind.
 use Rattle.std.specs.Prelude.{◌≡◌, List, [], ◌∷◌, if◌then◌else◌}
 use Rattle.redo_record.specs.declared.deps.Dep.{Dep}
 use Rattle.redo_record.specs.declared.deps.DepKind.{DepKind}
@@ -11,8 +11,8 @@ abbrev pub paths_with : DepKind → List Dep → List Path
 paths_with kind [] = []
 paths_with kind (e ∷ es) = if same_kind kind e.kind then e.path ∷ paths_with kind es else paths_with kind es
 
--- these are the paths of the entries that name a change, these of those that name a creation, and these of those that
--- stand for a target that is to be made in any case
+-- these are the paths of the entries about a change, of those about a creation, and of those that say that the target
+-- is always rebuilt
 pub record AreByKind (es : List Dep) (changed created always : List Path) : Type 0 where
   pub changes : changed ≡ paths_with Change es
   pub creates : created ≡ paths_with Create es

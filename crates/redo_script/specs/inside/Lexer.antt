@@ -1,4 +1,4 @@
--- What contracts see of the lexer.
+-- The lexer in contracts.
 use Rattle.std.specs.Prelude.{ℕ, false, List, [], ◌++◌, map}
 use Rattle.redo_script.specs.declared.token.Token.{Token as TokenTree}
 use Rattle.redo_script.specs.declared.token.Token.TheVariants as trees
@@ -10,14 +10,14 @@ use Rattle.redo_script.specs.Tokens.{Token, word, semicolon, newline, redirect}
 use Rattle.redo_script.specs.Reading.{Reader, with_token, with_quote, with_begun_word}
 use Rattle.redo_script.specs.declared.lexer.Mode.TheVariants as modes
 
--- a token, with its word by its symbols
+-- a token, with its word as symbols
 abbrev pub token_of : TokenTree → Token
 token_of (trees.Word line item) = word line (item_of item).is_plain (item_of item).word
 token_of (trees.Semicolon line) = semicolon line
 token_of (trees.Newline line) = newline line
 token_of (trees.Redirect line appends) = redirect line appends
 
--- where the lexer stands
+-- the state of the lexer
 abbrev pub reader_of : Lexer → Reader
 reader_of l = record {
   mode = l.mode;
@@ -35,6 +35,6 @@ reader_of l = record {
 abbrev pub with_no_tokens : Reader → Reader
 with_no_tokens r = record r { tokens = [] }
 
--- a word that is one pair of quotes with these bytes in it, and then a place between words
+-- a word that is one pair of quotes around these bytes, then a place between words
 abbrev pub with_quoted : Reader → List ℕ → Reader
 with_quoted r bytes = with_token (with_quote (with_begun_word r) modes.Single) (word r.line false (map byte bytes))

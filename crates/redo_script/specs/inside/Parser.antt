@@ -1,4 +1,4 @@
--- What contracts see of the reader of statements.
+-- The parser of statements in contracts.
 use Rattle.std.specs.Prelude.{◌+◌, ℕ, Bool, true, false, ◌&&◌, ◌||◌, nat_le, if◌then◌else◌, length, List, [], ◌∷◌, map}
 use Rattle.std.specs.Prelude.{Option, None, option_map, codes}
 use Rattle.std.specs.Str.{bytes_eq}
@@ -22,12 +22,12 @@ use Rattle.redo_script.specs.Parsing.{Phase, at_command, in_command, behind_if, 
 use Rattle.redo_script.specs.Parsing.{behind_for, behind_name, in_words, before_do, behind_done}
 use Rattle.redo_script.specs.View.{symbols_of, words_of, redirection_of, condition_of, script_of}
 
--- a word of a command, by its symbols
+-- a word of a command, as symbols
 abbrev pub item_of : ItemTree → Item
 item_of (items.Lent is_plain bytes) = record { is_plain = is_plain; word = map byte bytes.now }
 item_of (items.Built is_plain parts) = record { is_plain = is_plain; word = symbols_of parts.items }
 
--- how the name of a command is spelled
+-- the spelling of a command's name
 abbrev pub spelling_of : CommandName → List ℕ
 spelling_of names.Echo = codes "echo"
 spelling_of names.Printf = codes "printf"
@@ -40,7 +40,7 @@ spelling_of names.True = codes "true"
 spelling_of names.False = codes "false"
 spelling_of names.Exit = codes "exit"
 
--- the word that names a command, which is written with plain bytes alone
+-- the word that names a command, written with plain bytes only
 abbrev pub word_named : CommandName → Item
 word_named name = record { is_plain = true; word = map byte (spelling_of name) }
 
@@ -55,7 +55,7 @@ partial_of b = record {
   awaits = b.awaits;
 }
 
--- what is expected next, with the command that is being read, and the condition, the name and the words that were read
+-- what is expected next, given the command that is being read, and the condition, the name and the words that were read
 -- last
 abbrev pub phase_of : PhaseTree → PartialTree → ConditionTree → List ℕ → List Word → Phase
 phase_of phases.AtCommand b c name ws = at_command
@@ -84,12 +84,12 @@ abbrev pub open_of : OpenTree → Open
 open_of (trees.If o) = open_if_of o
 open_of (trees.Loop o) = open_loop_of o
 
--- what is open: the innermost, which the code has last, comes first
+-- what is open, innermost first; the code has the innermost last
 abbrev pub stack_onto : List Open → List OpenTree → List Open
 stack_onto os [] = os
 stack_onto os (x ∷ xs) = stack_onto (open_of x ∷ os) xs
 
--- where the parser stands
+-- the state of the parser
 abbrev pub parser_of : ParserTree → Parser
 parser_of p = record {
   phase = phase_of p.phase p.partial p.condition p.name (words_of p.words.items);
@@ -97,18 +97,18 @@ parser_of p = record {
   so_far = script_of p.so_far.items;
 }
 
--- the status of a number of this value, of which so many digits were read, that goes on with these symbols
+-- the status of a number with this value and this many digits so far, which these symbols continue
 abbrev pub status_on : ℕ → ℕ → Word → Option ℕ
 status_on digits value w =
     if nat_le 1 (digits + length w) && nat_le (digits + length w) 3 then at_most 255 (digits_value value w) else None
 
--- how many ifs are among these
+-- the number of ifs among these
 abbrev pub ifs_among : List OpenTree → ℕ
 ifs_among [] = 0
 ifs_among (trees.If o ∷ xs) = ifs_among xs + 1
 ifs_among (trees.Loop o ∷ xs) = ifs_among xs
 
--- how many loops
+-- the number of loops among these
 abbrev pub loops_among : List OpenTree → ℕ
 loops_among [] = 0
 loops_among (trees.If o ∷ xs) = loops_among xs

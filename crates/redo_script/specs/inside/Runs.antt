@@ -8,7 +8,7 @@ use Rattle.redo_script.specs.Bytes as bytes
 use Rattle.redo_script.specs.Bytes.{is_digit, is_plain, is_blank}
 use Rattle.redo_script.specs.Reading.{Reader, read_on}
 
--- After part of a text reading goes on with the rest, and gives what reading all of it gives, unless memory ran out or
+-- After part of a text, reading goes on with the rest and has the result of reading all of it, unless memory ran out or
 -- the part has the fault.
 abbrev pub ReadsOn : Reader → Result (Bor (List ℕ)) ScriptFault → Result (List Token) ScriptFault → Type 0
 ReadsOn r (Ok rest) total = read_on r rest.now ≡ total
@@ -29,7 +29,7 @@ abbrev pub ends_plainly : List ℕ → Bool
 ends_plainly [] = true
 ends_plainly (b ∷ bs) = is_blank b || (b == bytes.newline) || (b == bytes.semicolon)
 
--- a byte that doesn't stand for itself in quotes of one kind or the other, or ends a line
+-- a byte that isn't literal in quotes of one kind or the other, or ends a line
 abbrev pub is_special : ℕ → Bool
 is_special b = is_escaped b || (b == bytes.single_quote) || (b == bytes.newline)
 

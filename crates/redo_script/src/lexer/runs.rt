@@ -1,4 +1,4 @@
-//! From bytes to tokens, many bytes at once: words that stand in the text as they are, and bytes that are alike.
+//! From bytes to tokens, many bytes at once: words that occur in the text as they are, and runs of bytes of one kind.
 
 ghost use Rattle.std.specs.Prelude.{◌≡◌, ◌+◌, ◌<◌, ◌≤◌, ◌^◌, map, Ok, OnOk, IfOk, ◌∷◌, ◌⊎◌, length};
 ghost use Rattle.redo_script.specs.inside.Calls.{Leaves, with_symbols};
@@ -18,11 +18,11 @@ use crate::spans::{
 use crate::token::Token;
 use redo_bytes::Bytes;
 
-/// How many tokens end a run of words, so that they can be taken.
+/// A run of words ends at this many tokens, so that they can be taken.
 const MOST: usize = 60;
 
 impl<'a> Lexer<'a> {
-    /// Takes plain bytes of the word that was begun.
+    /// Takes plain bytes of the current word.
     fn plain_bytes(&mut self, text: &'a [u8]) -> Result<&'a [u8], ScriptFault>
         requires { self.old.mode ≡ modes.Word }
         ensures reads { ReadsOn (reader_of self.new) result (read_on (reader_of self.old) text.now) }
@@ -39,7 +39,7 @@ impl<'a> Lexer<'a> {
         Ok(rest)
     }
 
-    /// Takes bytes in quotes that stand for themselves.
+    /// Takes literal bytes in quotes.
     fn quoted_bytes(&mut self, text: &'a [u8]) -> Result<&'a [u8], ScriptFault>
         requires { (self.old.mode ≡ modes.Single) ⊎ (self.old.mode ≡ modes.Double) }
         ensures reads { ReadsOn (reader_of self.new) result (read_on (reader_of self.old) text.now) }
@@ -52,7 +52,7 @@ impl<'a> Lexer<'a> {
         Ok(rest)
     }
 
-    /// Takes a word, where one of plain bytes alone comes next.
+    /// Takes a word, if the next one has plain bytes only.
     fn plain_word(&mut self, text: &'a [u8]) -> Result<&'a [u8], ScriptFault>
         requires { self.old.mode ≡ modes.Gap }
         ensures reads { ReadsOn (reader_of self.new) result (read_on (reader_of self.old) text.now) }
@@ -70,7 +70,7 @@ impl<'a> Lexer<'a> {
         Ok(rest)
     }
 
-    /// Takes a word, where one of a single pair of quotes comes next with bytes in it that stand for themselves.
+    /// Takes a word, if the next one is a single pair of quotes around literal bytes.
     fn quoted_word(&mut self, text: &'a [u8]) -> Result<&'a [u8], ScriptFault>
         requires { self.old.mode ≡ modes.Gap }
         ensures reads { ReadsOn (reader_of self.new) result (read_on (reader_of self.old) text.now) }
@@ -87,7 +87,7 @@ impl<'a> Lexer<'a> {
         Ok(rest)
     }
 
-    /// Takes a word, where one that stands in the text as it is comes next.
+    /// Takes a word, if the next one occurs in the text as it is.
     fn lent_word(&mut self, text: &'a [u8]) -> Result<&'a [u8], ScriptFault>
         requires { self.old.mode ≡ modes.Gap }
         ensures reads { ReadsOn (reader_of self.new) result (read_on (reader_of self.old) text.now) }
@@ -101,8 +101,8 @@ impl<'a> Lexer<'a> {
         }
     }
 
-    /// Takes words that stand in the text as they are, and the blanks around them, as long as such come next and there
-    /// aren't many tokens.
+    /// Takes words that occur in the text as they are, and the blanks around them, until something else comes or there
+    /// are many tokens.
     fn lent_words(&mut self, text: &'a [u8]) -> Result<&'a [u8], ScriptFault>
         requires { self.old.mode ≡ modes.Gap }
         ensures reads { ReadsOn (reader_of self.new) result (read_on (reader_of self.old) text.now) }
@@ -119,7 +119,7 @@ impl<'a> Lexer<'a> {
         Ok(left)
     }
 
-    /// Takes a comment, where one comes next, up to the end of its line.
+    /// Takes a comment, if one comes next, up to the end of its line.
     fn comment(&mut self, text: &'a [u8]) -> &'a [u8]
         requires { self.old.mode ≡ modes.Gap }
         ensures reads { read_on (reader_of self.new) result.now ≡ read_on (reader_of self.old) text.now }
@@ -136,7 +136,7 @@ impl<'a> Lexer<'a> {
         past_comment(rest)
     }
 
-    /// Takes words that stand in the text as they are, and a comment behind them.
+    /// Takes words that occur in the text as they are, and a comment after them.
     pub fn between_words(&mut self, text: &'a [u8]) -> Result<&'a [u8], ScriptFault>
         requires { self.old.mode ≡ modes.Gap }
         ensures reads { ReadsOn (reader_of self.new) result (read_on (reader_of self.old) text.now) }
@@ -147,7 +147,7 @@ impl<'a> Lexer<'a> {
         Ok(self.comment(left))
     }
 
-    /// Takes plain bytes of the word that was begun, and where it ends there, what comes behind it.
+    /// Takes plain bytes of the current word and, if it ends there, what comes after it.
     fn word_bytes(&mut self, text: &'a [u8]) -> Result<&'a [u8], ScriptFault>
         requires { self.old.mode ≡ modes.Word }
         ensures reads { ReadsOn (reader_of self.new) result (read_on (reader_of self.old) text.now) }
@@ -162,7 +162,7 @@ impl<'a> Lexer<'a> {
         self.between_words(left)
     }
 
-    /// Takes a parameter in double quotes, where one comes next.
+    /// Takes a parameter in double quotes, if one comes next.
     fn quoted_parameter(&mut self, text: &'a [u8]) -> Result<&'a [u8], ScriptFault>
         requires { self.old.mode ≡ modes.Double }
         ensures reads { ReadsOn (reader_of self.new) result (read_on (reader_of self.old) text.now) }
@@ -182,7 +182,7 @@ impl<'a> Lexer<'a> {
         Ok(rest)
     }
 
-    /// Makes a part of these bytes.
+    /// Turns these bytes into a part.
     #[inline(always)]
     fn push_literal(&mut self, bytes: &[u8]) -> Result<(), ScriptFault>
         ensures reads { Leaves reader_of self.new result
@@ -198,7 +198,7 @@ impl<'a> Lexer<'a> {
         Ok(())
     }
 
-    /// Takes bytes in double quotes that stand for themselves. A parameter behind them ends their part of the word.
+    /// Takes literal bytes in double quotes. A parameter after them ends their part of the word.
     fn double_run(&mut self, text: &'a [u8]) -> Result<&'a [u8], ScriptFault>
         requires { self.old.mode ≡ modes.Double }
         ensures reads { ReadsOn (reader_of self.new) result (read_on (reader_of self.old) text.now) }
@@ -215,7 +215,7 @@ impl<'a> Lexer<'a> {
         Ok(rest)
     }
 
-    /// Takes bytes in double quotes that stand for themselves, and a parameter behind them.
+    /// Takes literal bytes in double quotes, and a parameter after them.
     fn double_bytes(&mut self, text: &'a [u8]) -> Result<&'a [u8], ScriptFault>
         requires { self.old.mode ≡ modes.Double }
         ensures reads { ReadsOn (reader_of self.new) result (read_on (reader_of self.old) text.now) }
@@ -226,7 +226,7 @@ impl<'a> Lexer<'a> {
         self.quoted_parameter(left)
     }
 
-    /// Takes bytes that are alike here.
+    /// Takes a run of bytes of one kind.
     fn run(&mut self, text: &'a [u8]) -> Result<&'a [u8], ScriptFault>
         ensures reads { ReadsOn (reader_of self.new) result (read_on (reader_of self.old) text.now) }
         ensures line { self.new.line ≡ self.old.line }
@@ -242,7 +242,7 @@ impl<'a> Lexer<'a> {
         }
     }
 
-    /// Reads one byte, and what is alike behind it.
+    /// Reads one byte, and the run of bytes of one kind after it.
     #[tactic(auto, unfolding(crate::specs::Reading::read_on))]
     pub fn step(&mut self, byte: u8, rest: &'a [u8]) -> Result<&'a [u8], ScriptFault>
         requires { self.old.line + 1 < 2 ^ 64 }

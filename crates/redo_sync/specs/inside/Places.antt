@@ -1,11 +1,11 @@
--- What a contract sees of where a published value is kept.
+-- Where a published value is stored, in contracts.
 use Rattle.std.specs.Prelude.{◌≡◌, ◌<◌, length, slice_index, Some, None}
 use Rattle.std.specs.Arc.{arc_value}
 use Rattle.redo_sync.specs.declared.cells.Place.{Place}
 use Rattle.redo_sync.specs.declared.cells.Place.TheVariants.{InCell, Beside}
 use Rattle.redo_sync.specs.Shown.{Shown}
 
--- the value of a place
+-- what is published at a place
 abbrev pub shown_at : {T : Type 0} → Place T → Shown T
 shown_at (InCell cells index knows) = record { cell = Some knows.cell; value = knows.value; written = knows.cell }
 shown_at (Beside beside) =

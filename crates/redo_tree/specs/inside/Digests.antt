@@ -1,4 +1,4 @@
--- The digests that were made of a tree's files.
+-- Digests that were made of a tree's files.
 use Rattle.std.specs.Prelude.{◌≡◌, ℕ, List, Some, length, option_map, slice_get}
 use Rattle.std.specs.Map.{lookup}
 use Rattle.std.specs.Str.{bytes_eq}
@@ -6,11 +6,11 @@ use Rattle.redo_digest.specs.Digest.{State, state_of}
 use Rattle.redo_tree.specs.declared.entries.Entry.{Entry}
 use Rattle.redo_tree.specs.Tree.{bytes_of, node_at, node_of, tree_of}
 
--- looking for a path among the entries that the code keeps finds what stands there
+-- a look-up among the code's entries finds what is at each path
 abbrev pub FindsNodes : List (List ℕ × Entry) → Type 0
 FindsNodes es = (path : List ℕ) → option_map node_of (lookup (bytes_eq path) es) ≡ node_at (tree_of es) path
 
--- there is room for each entry's digest, and each that was made is that of the entry with its number
+-- there is room for each entry's digest, and each digest made is that of the entry with its number
 pub record AreMade (es : List (List ℕ × Entry)) (made : List State) : Type 0 where
   pub finds : FindsNodes es
   pub room : length made ≡ length es

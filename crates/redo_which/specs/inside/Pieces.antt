@@ -1,9 +1,9 @@
--- A candidate in the pieces of its text.
+-- A candidate as pieces of its text.
 use Rattle.std.specs.Prelude.{ℕ, List, [], ◌∷◌, ◌++◌, codes}
 use Rattle.redo_path.specs.Names.{IsPath}
 use Rattle.redo_which.specs.Candidates.{Place}
 
--- what stands behind a directory, before the rest of the name of a file in it that begins so
+-- what follows a directory in the path of a file in it, up to the end of this front of the file's name
 abbrev pub prefix_of : List ℕ → List ℕ → List ℕ
 prefix_of [] front = front
 prefix_of (byte ∷ bytes) front = 47 ∷ front
@@ -15,7 +15,7 @@ spelled dir prefix suffix = dir ++ prefix ++ suffix ++ codes ".do"
 abbrev pub place_in_pieces : List ℕ → List ℕ → List ℕ → ℕ → Place
 place_in_pieces dir prefix suffix cut = record { do_file = spelled dir prefix suffix; dir = dir; cut = cut }
 
--- pieces that are put together to a path
+-- the pieces together are a path, and so is the directory
 pub record ArePieces (dir prefix suffix : List ℕ) : Type 0 where
   pub is_dir : IsPath dir
   pub is_path : IsPath (spelled dir prefix suffix)
