@@ -35,7 +35,8 @@ use Rattle.redo_build.specs.Schedule.{nothing_known}
 use Rattle.redo_build.proofs.PathLemmas.{is_among-from, is_among-true}
 use Rattle.redo_build.proofs.QueueLemmas.{slice_get-among}
 use Rattle.redo_digest.specs.Digest.{State}
-use Rattle.redo_past.specs.Past.{intact_record, is_intact}
+use Rattle.redo_book.specs.Intact.{is_intact}
+use Rattle.redo_past.specs.Past.{intact_record}
 use Rattle.redo_skip.specs.Checks.{asking, asks, falls, has_state, lacks, shown, standing, stands, stands_if, told}
 use Rattle.redo_skip.specs.NewBook.{check_by}
 use Rattle.redo_skip.specs.Sources.{Sources}
@@ -156,12 +157,12 @@ shown-more es ds i e within is same =
 
 -- by whether its record is intact
 by-record : (given : GivenView) (p : List ℕ) (o : Option Record) → is_among given.request p ≡ false → (rules_for given).has_rule p ≡ true → ((r : Record) → o ≡ Some r → r.target ≡ p) →
-    option_and_then (λ r. if not (is_among given.request p) && ((rules_for given).has_rule r.target && is_intact given.past r) then Some (check_by (last_run_of given.past) r) else None) o
-    ≡ option_map (check_by (last_run_of given.past)) (option_and_then (λ r. if is_intact given.past r then Some r else None) o)
+    option_and_then (λ r. if not (is_among given.request p) && ((rules_for given).has_rule r.target && is_intact (file_at given.past.tree) r) then Some (check_by (last_run_of given.past) r) else None) o
+    ≡ option_map (check_by (last_run_of given.past)) (option_and_then (λ r. if is_intact (file_at given.past.tree) r then Some r else None) o)
 by-record given p None free rule of = refl
 by-record given p (Some r) free rule of =
     let ruled : (rules_for given).has_rule r.target ≡ true = ap (rules_for given).has_rule (of r refl) ∙ rule in
-    rw (free, ruled) (elim (is_intact given.past r) as (λ b. (if b then Some (check_by (last_run_of given.past) r) else None) ≡ option_map (check_by (last_run_of given.past)) (if b then Some r else None)) [
+    rw (free, ruled) (elim (is_intact (file_at given.past.tree) r) as (λ b. (if b then Some (check_by (last_run_of given.past) r) else None) ≡ option_map (check_by (last_run_of given.past)) (if b then Some r else None)) [
       | true ↦ refl
       | false ↦ refl
     ])
