@@ -40,7 +40,8 @@ use Rattle.redo_past.specs.Past.{intact_record}
 use Rattle.redo_skip.specs.Checks.{asking, asks, falls, has_state, lacks, shown, standing, stands, stands_if, told}
 use Rattle.redo_skip.specs.NewBook.{check_by}
 use Rattle.redo_skip.specs.Sources.{Sources}
-use Rattle.redo_core.specs.Build.{GivenView, World, checks_for, last_run_of, progress_by, rules_for, sources_for, world_of}
+use Rattle.redo_core.specs.Build.{GivenView, checks_for, last_run_of, rules_for, sources_for}
+use Rattle.redo_core.specs.inside.Worlds.{World, progress_in, world_of}
 use Rattle.redo_core.specs.declared.check.Check.{Check}
 use Rattle.redo_core.specs.inside.Checking.{FallsBehind, HaveStood, IsBegunBehind, IsCheckedBy, IsDueCheck, IsInCheck}
 use Rattle.redo_core.specs.inside.Checking.{IsWaitingCheck, IsWalkedTo, StandAlone, asked_by, entries_in, entries_of_record}
@@ -231,7 +232,7 @@ script-again setting missing do_file (Err fault) ask = put-in (search_deps missi
 script-again setting missing do_file (Ok script) ask =
     put-in (by_script setting (search_deps missing do_file) (Ok script) ask).deps (script_once missing do_file (end_state (meaning setting ask script)).entries)
 
-own-again : (w : World) (p : List ℕ) (f : Found) (b : Ask) → is_rule f ≡ true → with_all [] (progress_by w p f b).deps ≡ (progress_by w p f b).deps
+own-again : (w : World) (p : List ℕ) (f : Found) (b : Ask) → is_rule f ≡ true → with_all [] (progress_in w p f b).deps ≡ (progress_in w p f b).deps
 own-again w p Source b h = absurd cc
 own-again w p Directory b h = absurd cc
 own-again w p NoDirectory b h = absurd cc
