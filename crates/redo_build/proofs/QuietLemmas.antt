@@ -7,7 +7,7 @@ use Rattle.redo_record.specs.Progress.{Progress}
 use Rattle.redo_record.specs.declared.deps.Dep.{Dep}
 use Rattle.redo_record.specs.declared.outcome.Outcome.{Outcome}
 use Rattle.redo_build.specs.Rules.{Ask, Rules, AreLawful, Extends, operands, asked_under}
-use Rattle.redo_build.specs.Outcomes.{outcome_at, asked_at, needed_at, declared_of, IsTooMany}
+use Rattle.redo_build.specs.Outcomes.{outcome_at, asked_at, needed_at, declared_of, record_of, IsTooMany}
 use Rattle.redo_build.specs.Schedule.{Entry, State, paths_of, entry_of, outcome_of, outcomes_of, only, IsQuiet}
 use Rattle.redo_build.specs.Schedule.{known_to, is_able_to_go_on, is_due, lacks_none}
 use Rattle.redo_build.specs.Looking.{NoneDue}
@@ -17,7 +17,7 @@ use Rattle.redo_build.specs.inside.Standing.{decided_count, rounds}
 use Rattle.redo_build.proofs.PathLemmas.{within-length, is_among-true}
 use Rattle.redo_build.proofs.DepthLemmas.{cases_Option, deeper, ended_stays, outcome_at-step, outcome_at-zero}
 use Rattle.redo_build.proofs.DepthLemmas.{asked_at-grows, reached-within, reached-more, reached-distinct, settled}
-use Rattle.redo_build.proofs.SeenLemmas.{entry_of-path, entry_of-among, among-entry_of, outcomes_of-at}
+use Rattle.redo_build.proofs.SeenLemmas.{entry_of-path, outcomes_of-entry, entry_of-among, among-entry_of, outcomes_of-at}
 use Rattle.redo_build.proofs.SeenLemmas.{decided_count-length}
 use Rattle.redo_build.proofs.TurnLemmas.{only-Extends, only-among}
 use Rattle.redo_build.proofs.DueLemmas.{none-due}
@@ -90,10 +90,30 @@ module _ (r : Rules) (lawful : AreLawful r) (request : List (List ℕ)) where
         let here = decided-at p e o at done limit (omega (arith, decided_count-length s.entries, paths-length s.entries)) in
         (here.0, sym (ap (λ (x : Progress). x.deps) here.1))
 
+    -- what a decided target asked for is decided
+    operands-decided : (p : List ℕ) (e : Entry) (o : Outcome) → entry_of s.entries p ≡ Some e → e.outcome ≡ Some o →
+        (q : List ℕ) → IsAmong (asked_under r p (outcomes_of s.entries)) q → (v : Outcome) × (outcomes_of s.entries q ≡ Some v)
+    operands-decided p e o at done q asks =
+        let how = sound.standing.decided p e o at done in
+        let P : List ℕ → Type 0 = λ x. r.progress x (outcomes_of s.entries) ≡ record { outcome = Some o; deps = e.deps } in
+        let here : P p = subst P (entry_of-path s.entries p e at) how.3 in
+        elim (cases_Option (outcomes_of s.entries q)) [
+          | inl none ↦ absurd ((lawful.each p).answered q (outcomes_of s.entries) o (ap (λ (x : Progress). x.outcome) here) asks none)
+          | inr some ↦ some
+        ]
+
+    decided-recorded : length s.entries ≤ limit → (p : List ℕ) (e : Entry) (o : Outcome) → entry_of s.entries p ≡ Some e → e.outcome ≡ Some o →
+        r.recorded p (outcomes_of s.entries) ≡ record_of r limit p
+    decided-recorded few p e o at done = lawful.recorded_local p (outcomes_of s.entries) (outcome_at r limit) (λ q asks.
+        let known = operands-decided p e o at done q asks in
+        let there = outcomes_of-entry s.entries q known.0 known.1 in
+        known.1 ∙ sym (decided-declared few q there.0 known.0 there.1 there.2).0)
+
     pub is_part : IsPartOfBuild r request limit s
     is_part = record {
       decided = decided-somewhere;
       declared = decided-declared;
+      recorded = decided-recorded;
       needed = sound.standing.needed;
       too_many = λ many. too_many (omega (arith, paths-length s.entries, many));
     }

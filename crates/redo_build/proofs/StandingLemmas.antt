@@ -7,7 +7,7 @@ use Rattle.redo_record.specs.Paths.{IsAmong, AreDistinct, with_new}
 use Rattle.redo_record.specs.Progress.{Progress}
 use Rattle.redo_record.specs.declared.deps.Dep.{Dep}
 use Rattle.redo_record.specs.declared.outcome.Outcome.{Outcome}
-use Rattle.redo_build.specs.Rules.{Rules, AreLawful, Extends, operands}
+use Rattle.redo_build.specs.Rules.{Ask, Rules, AreLawful, Extends, operands}
 use Rattle.redo_build.specs.Outcomes.{outcome_at, asked_at, reached_in}
 use Rattle.redo_build.specs.Schedule.{Entry, paths_of, entry_of, outcome_of, outcomes_of, only, nothing_known}
 use Rattle.redo_build.specs.Schedule.{new_entry, entered, put, sent_out, advanced, moved_on, known_to, Phase}
@@ -66,8 +66,14 @@ module _ (r : Rules) (lawful : AreLawful r) (request : List (List ℕ)) where
   }
 
   pub IsDecidedAs-more : (es fs : List Entry) (e : Entry) (o : Outcome) → decided_count es ≤ decided_count fs →
-      IsDecidedAs r es e o → IsDecidedAs r fs e o
-  IsDecidedAs-more es fs e o h how = (how.0, omega (arith, how.1), how.2)
+      Extends r (outcomes_of es) (outcomes_of fs) → IsDecidedAs r es e o → IsDecidedAs r fs e o
+  IsDecidedAs-more es fs e o h more how =
+      let ended : (r.progress e.path (outcomes_of es)).outcome ≡ Some o = ap (λ (x : Progress). x.outcome) how.3 in (
+        how.0,
+        omega (arith, how.1),
+        how.2,
+        sym (ended_stays r lawful e.path (outcomes_of es) (outcomes_of fs) o more ended) ∙ how.3,
+      )
 
   module _ (es : List Entry) (standing : AreStanding r request es) where
     -- what is decided is the build's at the depth that is the number of those decided
@@ -113,13 +119,18 @@ module _ (r : Rules) (lawful : AreLawful r) (request : List (List ℕ)) where
             let out : (r.progress p nothing_known).outcome ≡ Some o =
             sym (ap (λ (x : Entry). x.outcome) is ∙ rw unruled refl) ∙ done in
             let law = lawful.unruled p nothing_known unruled in
-            let same : r.progress p nothing_known ≡ r.progress p (outcome_at r 0) =
-            (lawful.each p).local nothing_known (outcome_at r 0) (λ q m. absurd (
+            let same : (a : Ask) → r.progress p nothing_known ≡ r.progress p a = λ a.
+            (lawful.each p).local nothing_known a (λ q m. absurd (
             let P : List (List ℕ) → Type 0 = λ xs. IsAmong xs q in subst P law.0 m)) in
             let parts : r.progress p nothing_known ≡ record { outcome = Some o; deps = e.deps } =
             rebuilt (r.progress p nothing_known) o e.deps out (sym deps) in
-            let P : List ℕ → Type 0 = λ x. r.progress x (outcome_at r 0) ≡ record { outcome = Some o; deps = e.deps } in
-            (0, decided_count-some (entered r es ps) p e o at done, subst P (sym path) (sym same ∙ parts))
+            let P : Ask → List ℕ → Type 0 = λ a x. r.progress x a ≡ record { outcome = Some o; deps = e.deps } in
+            let known : Ask = outcomes_of (entered r es ps) in (
+              0,
+              decided_count-some (entered r es ps) p e o at done,
+              subst (P (outcome_at r 0)) (sym path) (sym (same (outcome_at r 0)) ∙ parts),
+              subst (P known) (sym path) (sym (same known) ∙ parts),
+            )
       ]
         where
           rebuilt : (x : Progress) (o' : Outcome) (ds : List Dep) → x.outcome ≡ Some o' → x.deps ≡ ds →
@@ -172,7 +183,7 @@ module _ (r : Rules) (lawful : AreLawful r) (request : List (List ℕ)) where
           | inr new ↦ absurd (new-closed p q e new.1 m)
         ];
         decided = λ p e o at done. elim (entry_of-entered_cases r es ps p e at) [
-          | inl old ↦ IsDecidedAs-more es (entered r es ps) e o (decided_count-entered r es ps) (standing.decided p e o old done)
+          | inl old ↦ IsDecidedAs-more es (entered r es ps) e o (decided_count-entered r es ps) entered-outcomes (standing.decided p e o old done)
           | inr new ↦ new-decided p e o at new.1 done
         ];
         under_way = λ p e at open'. elim (entry_of-entered_cases r es ps p e at) [
@@ -221,6 +232,10 @@ module _ (r : Rules) (lawful : AreLawful r) (request : List (List ℕ)) where
           let stays : advanced r es e ≡ r.progress e.path (outcome_at r (decided_count es)) =
           ended_stays r lawful e.path (only (operands r e.deps) (outcomes_of es)) (outcome_at r (decided_count es)) o
           (only-Extends r (operands r e.deps) (outcomes_of es) (outcome_at r (decided_count es)) outcomes_of-deep) done in
+          let known : Ask = outcomes_of (put es (moved_on phase e (advanced r es e))) in
+          let later : advanced r es e ≡ r.progress e.path known =
+          ended_stays r lawful e.path (only (operands r e.deps) (outcomes_of es)) known o
+          (only-Extends r (operands r e.deps) (outcomes_of es) known put-outcomes) done in
           let P : Option Outcome → Type 0 = λ y. advanced r es e ≡ record { outcome = y; deps = (advanced r es e).deps } in
           let parts : advanced r es e ≡ record { outcome = Some o; deps = (advanced r es e).deps } = subst P done refl in (
             decided_count es,
@@ -229,6 +244,7 @@ module _ (r : Rules) (lawful : AreLawful r) (request : List (List ℕ)) where
                 rw done refl in
                 omega (arith, more, one)),
             sym stays ∙ parts,
+            sym later ∙ parts,
           )
 
       at-rounds : begins_at r e.path (outcomes_of es) (rounds e) ≡ is_script phase
@@ -361,7 +377,7 @@ module _ (r : Rules) (lawful : AreLawful r) (request : List (List ℕ)) where
                   let P : Entry → Type 0 = λ y. IsDecidedAs r (put es (moved_on phase e (advanced r es e))) y o in
                   subst P (sym new.1) (moved-decided o (sym (ap (λ (y : Entry). y.outcome) new.1) ∙ done))
               | inr old ↦
-                  IsDecidedAs-more es (put es (moved_on phase e (advanced r es e))) x o put-count
+                  IsDecidedAs-more es (put es (moved_on phase e (advanced r es e))) x o put-count put-outcomes
                   (standing.decided p x o old done)
             ];
             under_way = λ p x h still. elim (put-cases p x h) [
@@ -424,7 +440,7 @@ module _ (r : Rules) (lawful : AreLawful r) (request : List (List ℕ)) where
             ]);
             decided = λ p x o h done. elim (sent-cases p x h) [
               | inl new ↦ absurd (no_some o (sym open' ∙ sym (ap (λ (y : Entry). y.outcome) new.1) ∙ done))
-              | inr old ↦ IsDecidedAs-more es (put es (sent_out e)) x o sent-count (standing.decided p x o old done)
+              | inr old ↦ IsDecidedAs-more es (put es (sent_out e)) x o sent-count sent-Extends (standing.decided p x o old done)
             ];
             under_way = λ p x h still. elim (sent-cases p x h) [
               | inl new ↦

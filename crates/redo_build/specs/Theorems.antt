@@ -15,6 +15,9 @@ pub record IsPartOfBuild (r : Rules) (request : List (List ℕ)) (limit : ℕ) (
   pub declared : length s.entries ≤ limit → (p : List ℕ) (e : Entry) (o : Outcome) → entry_of s.entries p ≡ Some e →
       e.outcome ≡ Some o →
       (outcome_at r limit p ≡ Some o) × (e.deps ≡ declared_of r limit p)
+  -- and under what is decided so far it has its record
+  pub recorded : length s.entries ≤ limit → (p : List ℕ) (e : Entry) (o : Outcome) → entry_of s.entries p ≡ Some e →
+      e.outcome ≡ Some o → r.recorded p (outcomes_of s.entries) ≡ record_of r limit p
   -- nothing is entered that isn't needed
   pub needed : (p : List ℕ) → IsAmong (paths_of s.entries) p → (n : ℕ) × IsAmong (needed_at r request n) p
   -- the limit is passed only where the build needs too many

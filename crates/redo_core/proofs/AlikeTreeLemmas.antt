@@ -33,8 +33,8 @@ use Rattle.redo_step.proofs.Public.{settings_alike}
 use Rattle.redo_skip.specs.Checks.{built, is_asked, told}
 use Rattle.redo_skip.specs.Sources.{File, Sources, without_book}
 use Rattle.redo_skip.specs.Truth.{Agrees, AllAgree, IsAlike}
-use Rattle.redo_core.specs.Build.{IsFit, progress_by, world_of}
-use Rattle.redo_core.specs.Build.{is_free, sources_of}
+use Rattle.redo_core.specs.inside.Worlds.{IsFit, progress_in, world_of}
+use Rattle.redo_core.specs.Build.{is_free, sources_by, sources_of}
 use Rattle.redo_core.proofs.LawfulTreeLemmas.{fit_found}
 
 -- Entries
@@ -171,10 +171,6 @@ free_parts None false e = (refl, refl)
 free_parts None true e = absurd cc
 free_parts (Some node) ruled e = absurd cc
 
--- the sources of a tree with this limit of a file's bytes
-abbrev pub sources_by : Tree → ℕ → Sources
-sources_by tree bytes = sources_of tree (record { targets = 0; file_bytes = bytes })
-
 module _ (old new : Tree) (bytes : ℕ) (target : Path) (a b : Ask) where
   abbrev s : Sources
   s = sources_by old bytes
@@ -223,7 +219,7 @@ module _ (old new : Tree) (bytes : ℕ) (target : Path) (a b : Ask) where
     came_by : (x : Progress) → s.progress target a ≡ x → by_script one search (parsed_in old) a ≡ x
     came_by x came =
         let P : Found → Type 0 = λ f.
-        progress_by (world_of old (record { targets = 0; file_bytes = bytes })) target f a ≡ x in
+        progress_in (world_of old (record { targets = 0; file_bytes = bytes })) target f a ≡ x in
         subst P found came
 
     -- where all entries of the search are among entries that agree, the rule and its script are the same
@@ -252,7 +248,7 @@ module _ (old new : Tree) (bytes : ℕ) (target : Path) (a b : Ask) where
       again : is_rule (found_of new target) ≡ true → t.progress target b ≡ by_script two search (parsed_in old) b
       again ruled =
           let same = same_rule old new target do_file missing arguments found ruled gone there in
-          ap (λ (f : Found). progress_by (world_of new (record { targets = 0; file_bytes = bytes })) target f b) same
+          ap (λ (f : Found). progress_in (world_of new (record { targets = 0; file_bytes = bytes })) target f b) same
           ∙ ap (λ (o : Option (List ℕ)). by_script two search (script_in (unwrap_or o [])) b) same_text
 
     built_again : (file : File) (deps : List Dep) → is_rule (found_of new target) ≡ true →

@@ -35,11 +35,13 @@ use Rattle.redo_build.specs.Schedule.{nothing_known}
 use Rattle.redo_build.proofs.PathLemmas.{is_among-from, is_among-true}
 use Rattle.redo_build.proofs.QueueLemmas.{slice_get-among}
 use Rattle.redo_digest.specs.Digest.{State}
-use Rattle.redo_past.specs.Past.{intact_record, is_intact}
+use Rattle.redo_book.specs.Intact.{is_intact}
+use Rattle.redo_past.specs.Past.{intact_record}
 use Rattle.redo_skip.specs.Checks.{asking, asks, falls, has_state, lacks, shown, standing, stands, stands_if, told}
 use Rattle.redo_skip.specs.NewBook.{check_by}
 use Rattle.redo_skip.specs.Sources.{Sources}
-use Rattle.redo_core.specs.Build.{GivenView, World, checks_for, last_run_of, progress_by, rules_for, sources_for, world_of}
+use Rattle.redo_core.specs.Build.{GivenView, checks_for, last_run_of, rules_for, sources_for}
+use Rattle.redo_core.specs.inside.Worlds.{World, progress_in, world_of}
 use Rattle.redo_core.specs.declared.check.Check.{Check}
 use Rattle.redo_core.specs.inside.Checking.{FallsBehind, HaveStood, IsBegunBehind, IsCheckedBy, IsDueCheck, IsInCheck}
 use Rattle.redo_core.specs.inside.Checking.{IsWaitingCheck, IsWalkedTo, StandAlone, asked_by, entries_in, entries_of_record}
@@ -156,12 +158,12 @@ shown-more es ds i e within is same =
 
 -- by whether its record is intact
 by-record : (given : GivenView) (p : List ℕ) (o : Option Record) → is_among given.request p ≡ false → (rules_for given).has_rule p ≡ true → ((r : Record) → o ≡ Some r → r.target ≡ p) →
-    option_and_then (λ r. if not (is_among given.request p) && ((rules_for given).has_rule r.target && is_intact given.past r) then Some (check_by (last_run_of given.past) r) else None) o
-    ≡ option_map (check_by (last_run_of given.past)) (option_and_then (λ r. if is_intact given.past r then Some r else None) o)
+    option_and_then (λ r. if not (is_among given.request p) && ((rules_for given).has_rule r.target && is_intact (file_at given.past.tree) r) then Some (check_by (last_run_of given.past) r) else None) o
+    ≡ option_map (check_by (last_run_of given.past)) (option_and_then (λ r. if is_intact (file_at given.past.tree) r then Some r else None) o)
 by-record given p None free rule of = refl
 by-record given p (Some r) free rule of =
     let ruled : (rules_for given).has_rule r.target ≡ true = ap (rules_for given).has_rule (of r refl) ∙ rule in
-    rw (free, ruled) (elim (is_intact given.past r) as (λ b. (if b then Some (check_by (last_run_of given.past) r) else None) ≡ option_map (check_by (last_run_of given.past)) (if b then Some r else None)) [
+    rw (free, ruled) (elim (is_intact (file_at given.past.tree) r) as (λ b. (if b then Some (check_by (last_run_of given.past) r) else None) ≡ option_map (check_by (last_run_of given.past)) (if b then Some r else None)) [
       | true ↦ refl
       | false ↦ refl
     ])
@@ -230,7 +232,7 @@ script-again setting missing do_file (Err fault) ask = put-in (search_deps missi
 script-again setting missing do_file (Ok script) ask =
     put-in (by_script setting (search_deps missing do_file) (Ok script) ask).deps (script_once missing do_file (end_state (meaning setting ask script)).entries)
 
-own-again : (w : World) (p : List ℕ) (f : Found) (b : Ask) → is_rule f ≡ true → with_all [] (progress_by w p f b).deps ≡ (progress_by w p f b).deps
+own-again : (w : World) (p : List ℕ) (f : Found) (b : Ask) → is_rule f ≡ true → with_all [] (progress_in w p f b).deps ≡ (progress_in w p f b).deps
 own-again w p Source b h = absurd cc
 own-again w p Directory b h = absurd cc
 own-again w p NoDirectory b h = absurd cc

@@ -16,11 +16,11 @@ use Rattle.redo_build.specs.Rules.{Ask, operands}
 use Rattle.redo_build.specs.Schedule.{nothing_known, only}
 use Rattle.redo_build.proofs.PathLemmas.{IsAmong-left, IsAmong-right}
 use Rattle.redo_build.proofs.TurnLemmas.{only-among}
-use Rattle.redo_skip.specs.Checks.{Finding, asking, asks, begins_checked, built, falls, finding}
-use Rattle.redo_skip.specs.Checks.{is_asked, is_fallen, lacks, progress_checked, progress_found, record_by, record_checked}
+use Rattle.redo_skip.specs.Checks.{Finding, asking, asks, built, falls, finding}
+use Rattle.redo_skip.specs.Checks.{is_asked, lacks, progress_checked, progress_found, record_by, record_checked}
 use Rattle.redo_skip.specs.Checks.{shown, standing, stands}
 use Rattle.redo_skip.specs.NewBook.{check_by, is_valid}
-use Rattle.redo_skip.proofs.CheckLemmas.{not-or, standing-same}
+use Rattle.redo_skip.proofs.CheckLemmas.{begins_checked, is_fallen, not-or, standing-same}
 use Rattle.std.proofs.lemmas.Slice.Eq.{bytes_eq-Decides}
 use Rattle.std.specs.List.{IsDistinct}
 use Rattle.std.specs.Prelude.{MatchOption, if◌then◌else◌, option_and_then}

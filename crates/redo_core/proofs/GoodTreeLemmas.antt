@@ -36,7 +36,8 @@ use Rattle.redo_skip.specs.NewBook.{CanBeNoted, IsGood}
 use Rattle.redo_skip.specs.Sources.{File, Sources}
 use Rattle.redo_report.specs.declared.report.Row.{Row}
 use Rattle.redo_past.specs.NewBook.{entry_as, is_built}
-use Rattle.redo_core.specs.Build.{World, IsFit, progress_by, sources_of, world_of}
+use Rattle.redo_core.specs.Build.{sources_of}
+use Rattle.redo_core.specs.inside.Worlds.{IsFit, World, progress_in, world_of}
 use Rattle.redo_core.proofs.AlikeTreeLemmas.{entered-all}
 use Rattle.redo_core.proofs.LawfulTreeLemmas.{fit_found}
 
@@ -152,7 +153,7 @@ module _ (tree : Tree) (limits : LimitsView) (p : Path) (a : Ask) where
   -- what holds of a target that was built by a rule holds of each that was built
   built-ruled : (f : Found) (file : File) (P : Found → Type 0) →
       ((do_file : Path) (missing : List Path) (arguments : Arguments) → f ≡ Rule do_file missing arguments →
-      P (Rule do_file missing arguments)) → (progress_by w p f a).outcome ≡ Some (outcomes.Built file) → P f
+      P (Rule do_file missing arguments)) → (progress_in w p f a).outcome ≡ Some (outcomes.Built file) → P f
   built-ruled Source file P k e = absurd cc
   built-ruled Directory file P k e = absurd (let bad : outcomes.Failed why.Directory ≡ outcomes.Built file = cc in cc)
   built-ruled NoDirectory file P k e =
@@ -217,7 +218,7 @@ module _ (tree : Tree) (limits : LimitsView) (p : Path) (a : Ask) where
 
   ruled-by : (file : File) (f : Found) → (f ≡ Source → is_some (file_at tree p) ≡ true) →
       is_some (file_at tree p) ≡ false →
-      told (progress_by w p f a).outcome ≡ Some file → is_rule f ≡ true
+      told (progress_in w p f a).outcome ≡ Some file → is_rule f ≡ true
   ruled-by file Source is made e = absurd (both_ways _ made (is refl))
   ruled-by file Directory is made e = absurd cc
   ruled-by file NoDirectory is made e = absurd cc
@@ -234,12 +235,12 @@ trees-good tree limits = record {
   notable = λ p a file deps sane is.
       let w : World = world_of tree limits in
       let s : Sources = sources_of tree limits in
-      let P : Found → Type 0 = λ f. (k : DepKind) (q : Path) → is_entered (progress_by w p f a).deps k q ≡ true →
+      let P : Found → Type 0 = λ f. (k : DepKind) (q : Path) → is_entered (progress_in w p f a).deps k q ≡ true →
       CanBeNoted s a k q in
       let ended = built_outcome (s.progress p a) file deps is in
       let each : P (found_of tree p) = built-ruled tree limits p a (found_of tree p) file P
       (λ do_file missing arguments found k q h. can_be_noted tree limits p a do_file missing arguments found file k q
-      sane (subst (λ (f : Found). (progress_by w p f a).outcome ≡ Some (outcomes.Built file)) found ended) h) ended in
+      sane (subst (λ (f : Found). (progress_in w p f a).outcome ≡ Some (outcomes.Built file)) found ended) h) ended in
       entered-all (CanBeNoted s a) deps (λ k q h.
       each k q (subst (λ (x : Progress). is_entered x.deps k q ≡ true) (sym is) h));
   ruled = λ p a file made e. ruled-by tree limits p a file (found_of tree p) (found-source tree p) made e;
@@ -263,12 +264,12 @@ pub lines : (tree : Tree) (limits : LimitsView) → IsTree tree → (rows : List
     AllByRecursion (λ d. IsSome (entry_as tree rows d.kind d.path)) ((sources_of tree limits).progress p a).deps
 lines tree limits is_tree rows p a file nothing ended =
     let w : World = world_of tree limits in
-    let P : Found → Type 0 = λ f. (k : DepKind) (q : Path) → is_entered (progress_by w p f a).deps k q ≡ true →
+    let P : Found → Type 0 = λ f. (k : DepKind) (q : Path) → is_entered (progress_in w p f a).deps k q ≡ true →
     IsSome (entry_as tree rows k q) in
     let each : P (found_of tree p) = built-ruled tree limits p a (found_of tree p) file P
     (λ do_file missing arguments found k q h. has_line tree limits p a do_file missing arguments found rows is_tree
     (told-held (a []) ∙ nothing) file k q
-    (subst (λ (f : Found). (progress_by w p f a).outcome ≡ Some (outcomes.Built file)) found ended) h) ended in
+    (subst (λ (f : Found). (progress_in w p f a).outcome ≡ Some (outcomes.Built file)) found ended) h) ended in
     entered-all (λ k q. IsSome (entry_as tree rows k q)) ((sources_of tree limits).progress p a).deps each
 
 pub built-at : (o : Option Outcome) → is_built (unwrap_or o outcomes.Cyclic) ≡ true →

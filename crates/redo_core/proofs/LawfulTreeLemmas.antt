@@ -19,7 +19,8 @@ use Rattle.redo_which.specs.Rule.{Found, Source, Directory, NoDirectory, NoRule,
 use Rattle.redo_which.specs.Rule.{chosen_of, arguments_of, found_of}
 use Rattle.redo_build.specs.Rules.{Ask, AreLawful, operands}
 use Rattle.redo_build.specs.Looking.{KeepsNothing}
-use Rattle.redo_core.specs.Build.{World, IsFit, IsWorld, progress_by, rules_in, world_of, GivenView, checks_for}
+use Rattle.redo_core.specs.Build.{GivenView, checks_for}
+use Rattle.redo_core.specs.inside.Worlds.{IsFit, IsWorld, World, progress_in, rules_in, world_of}
 use Rattle.redo_core.specs.Build.{last_run_of, plain_rules_for, rules_for, rules_of, sources_for}
 use Rattle.redo_skip.proofs.LawfulLemmas.{with_book-lawful}
 use Rattle.redo_skip.proofs.NewBookLemmas.{are-checks}
@@ -30,7 +31,7 @@ use Rattle.redo_step.specs.Limits.{LimitsView}
 missing-asks : (w : World) (missing : List (List ℕ)) → operands (rules_in w) (with_entries [] Create missing) ≡ []
 missing-asks w missing = sources_alone (rules_in w).is_source (with_entries [] Create missing) (λ q h. absurd (missing_enters missing q h))
 
-found-lawful : (w : World) (target : List ℕ) (f : Found) → IsFit w.tree f → IsLawful (rules_in w).is_source (progress_by w target f)
+found-lawful : (w : World) (target : List ℕ) (f : Found) → IsFit w.tree f → IsLawful (rules_in w).is_source (progress_in w target f)
 unfolding setting_by
 found-lawful w target Source fit = ended_is_lawful (rules_in w).is_source Is_source [] refl
 found-lawful w target Directory fit = ended_is_lawful (rules_in w).is_source (Failed why.Directory) [] refl
@@ -39,7 +40,7 @@ found-lawful w target (NoRule missing) fit = ended_is_lawful (rules_in w).is_sou
 found-lawful w target (Rule do_file missing a) fit =
     progress_is_lawful (setting_by w.tree w.found w.limit target a) missing do_file (script_in (unwrap_or (file_at w.tree do_file) [])) fit
 
-found-unruled : (w : World) (target : List ℕ) (f : Found) (ask : Ask) → is_rule f ≡ false → (operands (rules_in w) (progress_by w target f ask).deps ≡ []) × ((progress_by w target f ask).outcome ≡ None → ⊥)
+found-unruled : (w : World) (target : List ℕ) (f : Found) (ask : Ask) → is_rule f ≡ false → (operands (rules_in w) (progress_in w target f ask).deps ≡ []) × ((progress_in w target f ask).outcome ≡ None → ⊥)
 found-unruled w target Source ask h = (refl, λ e. cc)
 found-unruled w target Directory ask h = (refl, λ e. cc)
 found-unruled w target NoDirectory ask h = (refl, λ e. cc)

@@ -374,8 +374,6 @@ book-true given report book is_tree is new old =
       | inl here ↦ elim (row-true given is_tree report is here.row here.listed here.built) [
         | inl witness ↦ record {
           tree = given.past.sources;
-          limits = given.limits;
-          same_limit = refl;
           ask = outcome_at (rules_for given) given.limits.targets;
           witness = subst (λ (x : Record). IsWitness x (sources_for given)
               (outcome_at (rules_for given) given.limits.targets)) (sym here.is) witness;

@@ -81,8 +81,6 @@ witness = record {
 true_of_the_tree : IsTrueOfTrees 1000 left
 true_of_the_tree = record {
   tree = tree;
-  limits = limits;
-  same_limit = refl;
   ask = nothing_known;
   witness = witness;
 }

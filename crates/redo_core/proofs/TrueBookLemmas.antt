@@ -13,9 +13,9 @@ use Rattle.redo_skip.proofs.LawfulLemmas.{with_book-lawful}
 use Rattle.redo_skip.proofs.NewBookLemmas.{all-here, are-checks, honest-checks}
 use Rattle.redo_skip.proofs.SkipLemmas.{skips}
 use Rattle.redo_core.specs.Build.{GivenView, checks_for, last_run_of, plain_rules_for, rules_for, rules_of}
-use Rattle.redo_core.specs.Build.{sources_for, sources_of}
+use Rattle.redo_core.specs.Build.{sources_by, sources_for, sources_of}
 use Rattle.redo_core.specs.TreeSources.{AreTrueOfTrees, HasHonestBook, IsTrueOfTrees, IsUnconfused}
-use Rattle.redo_core.proofs.AlikeTreeLemmas.{trees-alike-within}
+use Rattle.redo_core.proofs.AlikeTreeLemmas.{trees-alike}
 use Rattle.redo_core.proofs.GoodTreeLemmas.{trees-good}
 use Rattle.redo_core.proofs.LawfulTreeLemmas.{rules_lawful}
 
@@ -34,9 +34,9 @@ module _ (given : GivenView) where
   honest-record : (r : Record) (truth : IsTrueOfTrees given.limits.file_bytes r) → IsUnconfused given r truth →
       IsHonestRecord (sources_for given) (last_run_of given.past) (outcome_at (plain_rules_for given) given.limits.targets) r
   honest-record r truth apart = record {
-    truth = record { sources = sources_of truth.tree truth.limits; ask = truth.ask; witness = truth.witness };
+    truth = record { sources = sources_by truth.tree given.limits.file_bytes; ask = truth.ask; witness = truth.witness };
     alike =
-        trees-alike-within truth.tree given.past.sources truth.limits given.limits truth.same_limit truth.ask
+        trees-alike truth.tree given.past.sources given.limits.file_bytes truth.ask
         (outcome_at (plain_rules_for given) given.limits.targets) r.target;
     result = apart.made;
     apart = apart.met;
@@ -66,8 +66,6 @@ module _ (given : GivenView) where
       (trees-good given.past.sources given.limits) few p r e) [
         | inl here ↦ record {
           tree = given.past.sources;
-          limits = given.limits;
-          same_limit = refl;
           ask = outcome_at (rules_for given) given.limits.targets;
           witness = here;
         }

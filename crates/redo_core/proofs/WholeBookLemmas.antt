@@ -31,7 +31,8 @@ use Rattle.redo_report.specs.Reports.{IsReport, deps_of}
 use Rattle.redo_report.specs.declared.report.Report.{Report}
 use Rattle.redo_report.specs.declared.report.Row.{Row}
 use Rattle.redo_past.specs.NewBook.{entry_as, is_built}
-use Rattle.redo_core.specs.Build.{GivenView, checks_for, last_run_of, progress_by, rules_for, sources_for, world_of}
+use Rattle.redo_core.specs.Build.{GivenView, checks_for, last_run_of, rules_for, sources_for}
+use Rattle.redo_core.specs.inside.Worlds.{progress_in, world_of}
 use Rattle.redo_core.specs.TreeSources.{IsNotedWhole}
 use Rattle.redo_core.proofs.GoodTreeLemmas.{built-at, lines, top-found, top-source}
 use Rattle.redo_core.proofs.LawfulTreeLemmas.{lawful_for}
@@ -77,7 +78,7 @@ module _ (given : GivenView) (is_tree : IsTree given.past.sources) where
       let a : Ask = outcome_at r n in
       ap told (outcome_at-step r lawful n [] (top-source tree is_tree))
       ∙ ap (λ (o : Option Check). told (progress_checked s [] o a).outcome) top-unchecked
-      ∙ ap (λ (f : Found). told (progress_by (world_of tree given.limits) [] f a).outcome) (top-found tree is_tree)
+      ∙ ap (λ (f : Found). told (progress_in (world_of tree given.limits) [] f a).outcome) (top-found tree is_tree)
 
   -- a book has a line for each entry of a record all of whose entries stand
   lines-stood : (rows : List Row) (a : Ask) (es : List BookEntry) → told (a []) ≡ None →

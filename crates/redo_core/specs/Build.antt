@@ -1,6 +1,6 @@
 -- The rules of a build: what its sources, the search for rules, the grammar of scripts and their meaning say together
 -- of how far each target comes under an ask, and what the book of the last run lets it keep.
-use Rattle.std.specs.Prelude.{◌≡◌, ℕ, Bool, true, ◌&&◌, not, List, [], is_some, is_none, unwrap_or}
+use Rattle.std.specs.Prelude.{ℕ, Bool, true, ◌&&◌, not, List, [], is_some, is_none, unwrap_or}
 use Rattle.redo_script.specs.Texts.{script_in}
 use Rattle.redo_record.specs.declared.deps.DepKind.TheVariants.{Create}
 use Rattle.redo_record.specs.declared.outcome.Outcome.TheVariants.{Failed, Source as Is_source}
@@ -19,47 +19,17 @@ use Rattle.redo_skip.specs.Sources.{Sources}
 use Rattle.redo_past.specs.Past.{PastView}
 use Rattle.redo_step.specs.Limits.{LimitsView}
 
--- a tree, what the search finds in it for each path, and the limit of a file's bytes
-pub record World : Type 0 where
-  pub tree : Tree
-  pub found : List ℕ → Found
-  pub limit : ℕ
-
--- the .do file that was found is a source
-abbrev pub IsFit : Tree → Found → Type 0
-IsFit tree Source = Unit {0}
-IsFit tree Directory = Unit {0}
-IsFit tree NoDirectory = Unit {0}
-IsFit tree (NoRule missing) = Unit {0}
-IsFit tree (Rule do_file missing arguments) = is_some (file_at tree do_file) ≡ true
-
-pub record IsWorld (w : World) : Type 0 where
-  pub fit : (p : List ℕ) → IsFit w.tree (w.found p)
-
--- how far a target comes for which the search finds this
-abbrev pub progress_by : World → List ℕ → Found → Ask → Progress
-progress_by w target Source ask = at_once Is_source []
-progress_by w target Directory ask = at_once (Failed why.Directory) []
-progress_by w target NoDirectory ask = at_once (Failed why.NoDirectory) []
-progress_by w target (NoRule missing) ask = at_once (Failed why.NoRule) (with_entries [] Create missing)
-progress_by w target (Rule do_file missing a) ask =
-    by_script (setting_by w.tree w.found w.limit target a) (search_deps missing do_file)
-    (script_in (unwrap_or (file_at w.tree do_file) [])) ask
-
--- the rules of a tree where the search finds this
-abbrev pub rules_in : World → Rules
-rules_in w = record {
-  is_source = λ p. is_some (file_at w.tree p);
-  has_rule = λ p. is_rule (w.found p);
-  progress = λ target ask. progress_by w target (w.found target) ask;
-  -- each script is begun, and all that it asked for is its record
-  begins = λ target ask. true;
-  recorded = λ target ask. (progress_by w target (w.found target) ask).deps;
-}
-
--- the search in a tree, and the limit of a file's bytes, which is the second of the limits
-abbrev pub world_of : Tree → LimitsView → World
-world_of tree limits = record { tree = tree; found = found_of tree; limit = limits.file_bytes }
+-- how far a target comes for which the search finds this: in a tree, with what the search finds there for each path,
+-- and with a limit of a file's bytes
+abbrev pub progress_by : Tree → (List ℕ → Found) → ℕ → List ℕ → Found → Ask → Progress
+progress_by tree found file_bytes target Source ask = at_once Is_source []
+progress_by tree found file_bytes target Directory ask = at_once (Failed why.Directory) []
+progress_by tree found file_bytes target NoDirectory ask = at_once (Failed why.NoDirectory) []
+progress_by tree found file_bytes target (NoRule missing) ask =
+    at_once (Failed why.NoRule) (with_entries [] Create missing)
+progress_by tree found file_bytes target (Rule do_file missing a) ask =
+    by_script (setting_by tree found file_bytes target a) (search_deps missing do_file)
+    (script_in (unwrap_or (file_at tree do_file) [])) ask
 
 -- what a build is given: a tree as it was read, with the sources in it and the book of the last run, a request, and
 -- limits
@@ -68,18 +38,30 @@ pub record GivenView : Type 0 where
   pub request : List (List ℕ)
   pub limits : LimitsView
 
--- the rules of a source tree
-abbrev pub rules_of : Tree → LimitsView → Rules
-rules_of tree limits = rules_in (world_of tree limits)
+-- how far a target comes in a source tree, where a file may have so many bytes
+abbrev pub progress_of : Tree → ℕ → List ℕ → Ask → Progress
+progress_of tree file_bytes target ask =
+    progress_by tree (found_of tree) file_bytes target (found_of tree target) ask
+
+-- the rules of a source tree, where a file may have so many bytes
+abbrev pub rules_by : Tree → ℕ → Rules
+rules_by tree file_bytes = record {
+  is_source = λ p. is_some (file_at tree p);
+  has_rule = λ p. is_rule (found_of tree p);
+  progress = progress_of tree file_bytes;
+  -- each script is begun, and all that it asked for is its record
+  begins = λ target ask. true;
+  recorded = λ target ask. (progress_of tree file_bytes target ask).deps;
+}
 
 -- nothing stands at the path, and nothing has a rule to be made there
 abbrev pub is_free : Tree → List ℕ → Bool
 is_free tree p = is_none (node_at tree p) && not (is_rule (found_of tree p))
 
 -- a tree of sources, as a build with a book sees it
-abbrev pub sources_of : Tree → LimitsView → Sources
-sources_of tree limits =
-    let rules = rules_of tree limits in
+abbrev pub sources_by : Tree → ℕ → Sources
+sources_by tree file_bytes =
+    let rules = rules_by tree file_bytes in
     record {
       is_source = rules.is_source;
       has_rule = rules.has_rule;
@@ -88,6 +70,13 @@ sources_of tree limits =
       is_free = is_free tree;
       is_script = is_do_file;
     }
+
+-- the same under limits
+abbrev pub rules_of : Tree → LimitsView → Rules
+rules_of tree limits = rules_by tree limits.file_bytes
+
+abbrev pub sources_of : Tree → LimitsView → Sources
+sources_of tree limits = sources_by tree limits.file_bytes
 
 -- what the last run left in a tree: its book, and each file of the tree as it was read
 abbrev pub last_run_of : PastView → LastRun

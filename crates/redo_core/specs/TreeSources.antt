@@ -8,19 +8,16 @@ use Rattle.redo_book.specs.Book.{Record, record_at}
 use Rattle.redo_build.specs.Outcomes.{outcome_at}
 use Rattle.redo_build.specs.Rules.{Ask}
 use Rattle.redo_skip.specs.Truth.{AreApart, IsWitness}
-use Rattle.redo_step.specs.Limits.{LimitsView}
 use Rattle.redo_report.specs.declared.report.Row.{Row}
 use Rattle.redo_past.specs.NewBook.{entry_as, is_built}
-use Rattle.redo_core.specs.Build.{GivenView, plain_rules_for, sources_for, sources_of}
+use Rattle.redo_core.specs.Build.{GivenView, plain_rules_for, sources_by, sources_for}
 
 -- a record is true of trees: in some tree, under some answers and with this limit of a file's bytes, its target came to
 -- what it says
 pub record IsTrueOfTrees (file_bytes : ℕ) (r : Record) : Type 0 where
   pub tree : Tree
-  pub limits : LimitsView
-  pub same_limit : limits.file_bytes ≡ file_bytes
   pub ask : Ask
-  pub witness : IsWitness r (sources_of tree limits) ask
+  pub witness : IsWitness r (sources_by tree file_bytes) ask
 
 -- all records of a book are true of trees
 abbrev pub AreTrueOfTrees : ℕ → (List ℕ → Option Record) → Type 0
@@ -29,7 +26,7 @@ AreTrueOfTrees file_bytes book = (p : List ℕ) (r : Record) → book p ≡ Some
 -- no digest confuses files by a record: neither one that its target met with the one that this build has there, nor the
 -- one that it made with the one that stands in the tree now
 pub record IsUnconfused (given : GivenView) (r : Record) (is : IsTrueOfTrees given.limits.file_bytes r) : Type 0 where
-  pub met : AreApart (sources_of is.tree is.limits) is.ask (sources_for given)
+  pub met : AreApart (sources_by is.tree given.limits.file_bytes) is.ask (sources_for given)
       (outcome_at (plain_rules_for given) given.limits.targets)
   pub made : state_of is.witness.file ≡ state_of (file_at given.past.tree r.target) →
       is.witness.file ≡ file_at given.past.tree r.target

@@ -5,3 +5,4 @@ pub mod Reported
 pub mod Scripts
 pub mod Slots
 pub mod Works
+pub mod Worlds

@@ -3,7 +3,7 @@
 //! A caller opens a board, takes works and hands their pieces in, in whatever order, until the board is quiet or has
 //! stopped. Nothing here runs a script or waits: that is left to the caller, on one thread or on many.
 ghost use Rattle.std.specs.Prelude.{◌≡◌, ◌↔◌, ◌<◌, ◌≤◌, ◌+◌, ◌*◌, IsTrue, IsNone, IfOk, IfErr, OnOk, OnErr, length};
-ghost use Rattle.std.specs.Prelude.{slice_get, Err, Some, None, ℕ};
+ghost use Rattle.std.specs.Prelude.{Err, Some, None, ℕ};
 ghost use Rattle.std.specs.Arc.{arc_value};
 ghost use Rattle.redo_core.specs.Views.{ready_count, jobs_out, after, rules_on, request_on, limit_on, IsQuietBoard};
 ghost use Rattle.redo_core.specs.Views.{Belongs, IsHandedIn, IsWorkTaken};
@@ -180,15 +180,6 @@ impl Board {
             IsTooMany (rules_on self.now) (request_on self.now) (limit_on self.now) }
     {
         self.stopped
-    }
-
-    /// A target that may be taken, by its place in the queue, counted from 0.
-    pub fn ready_at(&self, which: usize) -> &Path
-        requires { which < ready_count self.now }
-        ensures { slice_get self.now.state.ready which ≡ Some result.now }
-    {
-        let at = self.table.ready[which];
-        self.table.targets.at(at as usize)
     }
 
     /// Takes a target that is ready. The others close up.

@@ -24,7 +24,8 @@ use Rattle.redo_book.specs.declared.book.BookRecord.{BookRecord}
 use Rattle.redo_book.specs.Book.{Record, record_at, record_of, targets_of}
 use Rattle.redo_report.specs.declared.report.Row.{Row}
 use Rattle.redo_past.specs.NewBook.{IsCarried, is_built, row_at}
-use Rattle.redo_past.specs.Past.{IsPast, PastView, has_digest, intact_record, is_generated, is_intact, set_aside}
+use Rattle.redo_past.specs.Past.{IsPast, PastView, has_digest, intact_record, is_generated, set_aside}
+use Rattle.redo_book.specs.Intact.{is_intact}
 use Rattle.redo_tree.specs.Tree.{without}
 use Rattle.redo_which.specs.Candidates.{book_path}
 use Rattle.redo_past.specs.inside.Books.{carries, has_built, same_answer}
@@ -198,7 +199,7 @@ module _ (past : PastView) (rows : List Row) (r : Record) where
       ]
 
   -- whether the target of a record stands as the last run left it
-  pub told-intact : IsPast past → IsStrictlySortedBy (slice_cmp nat_cmp) (targets_of past.book) → Without past → ((tree : Tree) → is_rule (found_of tree book_path) ≡ false) → IsItem past.book r → is_rule (found_of past.sources r.target) ≡ true → same_answer (is_some r.state) (is_some (file_at past.tree r.target)) ≡ is_intact past r
+  pub told-intact : IsPast past → IsStrictlySortedBy (slice_cmp nat_cmp) (targets_of past.book) → Without past → ((tree : Tree) → is_rule (found_of tree book_path) ≡ false) → IsItem past.book r → is_rule (found_of past.sources r.target) ≡ true → same_answer (is_some r.state) (is_some (file_at past.tree r.target)) ≡ is_intact (file_at past.tree) r
   told-intact is sorted law no-rule known rule = same-intact (file_at past.tree r.target) r.state (left-file is sorted law no-rule known rule)
 
   abbrev Sorted : Type 0
@@ -231,17 +232,17 @@ if-not f o r is h = rw (is, h) refl
 
 module _ (past : PastView) (t : List ℕ) (is : IsPast past) (sorted : IsStrictlySortedBy (slice_cmp nat_cmp) (targets_of past.book)) (law : Without past) (rule : is_rule (found_of past.sources t) ≡ true) where
   -- whether the record that was found is one
-  found-intact : (r : Record) → record_at past.book t ≡ Some r → same_answer (is_some r.state) (is_some (file_at past.tree t)) ≡ is_intact past r
+  found-intact : (r : Record) → record_at past.book t ≡ Some r → same_answer (is_some r.state) (is_some (file_at past.tree t)) ≡ is_intact (file_at past.tree) r
   found-intact r at =
       let found = found-item (λ (q : Record). q.target) past.book t r at in
-      subst (λ p. same_answer (is_some r.state) (is_some (file_at past.tree p)) ≡ is_intact past r) found.1
+      subst (λ p. same_answer (is_some r.state) (is_some (file_at past.tree p)) ≡ is_intact (file_at past.tree) r) found.1
       (told-intact past [] r is sorted law no-rule found.0 (subst (λ p. is_rule (found_of past.sources p) ≡ true) (sym found.1) rule))
 
   pub is-found : (r : Record) → record_at past.book t ≡ Some r → same_answer (is_some r.state) (is_some (file_at past.tree t)) ≡ true → intact_record past t ≡ Some r
-  is-found r at h = if-so (is_intact past) (record_at past.book t) r at (sym (found-intact r at) ∙ h)
+  is-found r at h = if-so (is_intact (file_at past.tree)) (record_at past.book t) r at (sym (found-intact r at) ∙ h)
 
   pub none-found : (r : Record) → record_at past.book t ≡ Some r → same_answer (is_some r.state) (is_some (file_at past.tree t)) ≡ false → intact_record past t ≡ None
-  none-found r at h = if-not (is_intact past) (record_at past.book t) r at (sym (found-intact r at) ∙ h)
+  none-found r at h = if-not (is_intact (file_at past.tree)) (record_at past.book t) r at (sym (found-intact r at) ∙ h)
 
 -- a record that was read at its number
 pub was-read : (rs : List BookRecord) (book : List Record) (n : ℕ) (x : BookRecord) → map record_of rs ≡ book → n < length book → x ≡ slice_index_or rs n x → slice_get book n ≡ Some (record_of x)

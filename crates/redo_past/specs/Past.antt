@@ -1,13 +1,13 @@
 -- What a run is given when there was one before it: a tree, the book in it, and the sources.
 use Rattle.std.specs.Prelude.{◌≡◌, Bool, false, ℕ, List, [], ◌∷◌, Option, Some, None, MatchOption, filter}
 use Rattle.std.specs.Prelude.{if◌then◌else◌, option_and_then}
-use Rattle.std.specs.Option.{option_eq}
 use Rattle.std.specs.Str.{bytes_eq}
 use Rattle.sha2.specs.Sha256.{sha256}
-use Rattle.redo_digest.specs.Digest.{State, state_of}
+use Rattle.redo_digest.specs.Digest.{State}
 use Rattle.redo_tree.specs.Tree.{Tree, file_at, without}
 use Rattle.redo_which.specs.Candidates.{book_path}
 use Rattle.redo_book.specs.Book.{IsRefused, IsText, Record, record_at, targets_of}
+use Rattle.redo_book.specs.Intact.{is_intact}
 use Rattle.redo_past.specs.declared.faults.PastFault.{PastFault}
 use Rattle.redo_past.specs.declared.faults.PastFault.TheVariants.{Book, Memory}
 
@@ -31,14 +31,10 @@ pub record PastView : Type 0 where
   pub sources : Tree
   pub book : List Record
 
--- the target of a record stands as the last run left it
-abbrev pub is_intact : PastView → Record → Bool
-is_intact past r = option_eq bytes_eq (state_of (file_at past.tree r.target)) r.state
-
 -- the record of a target that stands as the last run left it
 abbrev pub intact_record : PastView → List ℕ → Option Record
 intact_record past target =
-    option_and_then (λ r. if is_intact past r then Some r else None) (record_at past.book target)
+    option_and_then (λ r. if is_intact (file_at past.tree) r then Some r else None) (record_at past.book target)
 
 -- the book is the one that the tree has a text of, or empty, and the sources are the tree without what is set aside
 pub record IsPast (past : PastView) : Type 0 where

@@ -1,5 +1,5 @@
 -- A check under more answers.
-use Rattle.std.proofs.Common.{◌≡◌, ℕ, Bool, true, false, not, cond, ◌||◌, ◌⊎◌, inl, inr, List, [], ◌∷◌, Option, Some}
+use Rattle.std.proofs.Common.{◌≡◌, ℕ, Bool, true, false, not, cond, ◌||◌, ◌&&◌, ◌⊎◌, inl, inr, List, [], ◌∷◌, Option, Some}
 use Rattle.std.proofs.Common.{None}
 use Rattle.std.proofs.Common.{is_none, refl, sym, ap, subst, ◌∙◌}
 use Rattle.std.proofs.lemmas.Bool.{cases_Bool}
@@ -14,12 +14,21 @@ use Rattle.redo_build.proofs.PathLemmas.{IsAmong-left, IsAmong-right, IsAmong-ap
 use Rattle.redo_skip.specs.Sources.{Sources, without_book}
 use Rattle.redo_skip.specs.Checks.{is_asked, told, source_file, known_file, has_state, Standing, stands}
 use Rattle.redo_skip.specs.Checks.{lacks}
+use Rattle.redo_skip.specs.Checks.{Check, all_stand, is_kept, one_lacks, waits_in_check}
 use Rattle.redo_skip.specs.Checks.{falls, stands_if, standing, asks, Finding, found_by, finding}
 
 pub cases_Standing : (v : Standing) → (v ≡ stands) ⊎ ((v ≡ lacks) ⊎ (v ≡ falls))
 cases_Standing stands = inl refl
 cases_Standing lacks = inr (inl refl)
 cases_Standing falls = inr (inr refl)
+
+-- whether the script of a target is begun, in check or not
+abbrev pub begins_checked : Sources → Option Check → Ask → Bool
+begins_checked s o a = not (is_kept s o a) && not (waits_in_check s o a)
+
+-- and by how its entries stand: once one falls
+abbrev pub is_fallen : Standing → Bool
+is_fallen v = not (all_stand v) && not (one_lacks v)
 
 pub not-or : (x y : Bool) → not (x || y) ≡ true → (x ≡ false) × (y ≡ false)
 not-or true y e = absurd cc

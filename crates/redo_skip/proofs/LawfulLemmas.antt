@@ -11,8 +11,8 @@ use Rattle.redo_build.proofs.DepthLemmas.{cases_Option}
 use Rattle.redo_skip.specs.Sources.{Sources, without_book}
 use Rattle.redo_skip.specs.Checks.{Standing, stands, lacks, falls, Finding, finding, Check, Checks, progress_found}
 use Rattle.redo_skip.specs.Checks.{progress_checked}
-use Rattle.redo_skip.specs.Checks.{record_by, record_checked, is_fallen, begins_checked, with_book, AreChecks}
-use Rattle.redo_skip.proofs.CheckLemmas.{cases_Standing, finding-target, finding-same, finding-unanswered}
+use Rattle.redo_skip.specs.Checks.{record_by, record_checked, with_book, AreChecks}
+use Rattle.redo_skip.proofs.CheckLemmas.{begins_checked, is_fallen, cases_Standing, finding-target, finding-same, finding-unanswered}
 use Rattle.redo_skip.proofs.CheckLemmas.{finding-lacks}
 use Rattle.redo_skip.proofs.CheckLemmas.{finding-stays, finding-waits, finding-grows}
 use Rattle.redo_skip.proofs.AskedLemmas.{asked-cases, asked-check, asked-script, asked-distinct, progress-same}

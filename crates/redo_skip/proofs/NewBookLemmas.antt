@@ -27,7 +27,8 @@ use Rattle.redo_skip.specs.Checks.{told, stands, standing, shown, finding, Check
 use Rattle.redo_skip.specs.Checks.{Checks, built}
 use Rattle.redo_skip.specs.Checks.{progress_checked, record_checked, with_book, AreChecks, AreSame}
 use Rattle.redo_skip.specs.Truth.{shown_all, HasState, IsHonest, AreHonest}
-use Rattle.redo_skip.specs.NewBook.{LastRun, is_intact, is_valid, check_by, checks_of, state_at, entry_as, noted}
+use Rattle.redo_book.specs.Intact.{is_intact}
+use Rattle.redo_skip.specs.NewBook.{LastRun, is_valid, check_by, checks_of, state_at, entry_as, noted}
 use Rattle.redo_skip.specs.NewBook.{new_record, carried, built_with, record_with, new_book, AreTrue, CanBeNoted}
 use Rattle.redo_skip.specs.NewBook.{IsGood, IsOfRun, IsHonestRecord, AreHonestRecords}
 use Rattle.redo_skip.proofs.CheckLemmas.{cases_Standing, found-stands}
@@ -131,14 +132,14 @@ module _ (s : Sources) (last : LastRun) (request : List (List ℕ)) where
   -- its target has a rule
   check-ruled : (p : List ℕ) (c : Check) (r : Record) → IsCheckOf p c r → s.has_rule p ≡ true
   check-ruled p c r is =
-      let parts = and_parts (s.has_rule r.target) (is_intact last r) is.valid in
+      let parts = and_parts (s.has_rule r.target) (is_intact last.file r) is.valid in
       ap s.has_rule (sym (found-target last.book p r is.found)) ∙ parts.0
 
   -- its record is that of its target, with the state of the file that it keeps
   check-record : (p : List ℕ) (c : Check) (r : Record) → IsCheckOf p c r →
       r ≡ record { target = p; state = state_of c.file; entries = c.entries }
   check-record p c r is =
-      let parts = and_parts (s.has_rule r.target) (is_intact last r) is.valid in
+      let parts = and_parts (s.has_rule r.target) (is_intact last.file r) is.valid in
       let state : state_of (last.file r.target) ≡ r.state =
       same_state-true (state_of (last.file r.target)) r.state parts.1 in
       let P : Check → Type 0 = λ x. r ≡ record { target = p; state = state_of x.file; entries = x.entries } in

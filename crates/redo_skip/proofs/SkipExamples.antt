@@ -14,7 +14,7 @@ use Rattle.redo_book.specs.declared.book.BookEntry.TheVariants.{Change, Create, 
 use Rattle.redo_build.specs.Rules.{Ask, Rules}
 use Rattle.redo_build.specs.Outcomes.{outcome_at, needed_at, final_outcome, record_of}
 use Rattle.redo_skip.specs.Sources.{File, Sources}
-use Rattle.redo_skip.specs.Checks.{asking, with_book}
+use Rattle.redo_skip.specs.Checks.{asking, is_kept, waits_in_check, with_book}
 use Rattle.redo_skip.specs.NewBook.{LastRun, checks_of, new_book}
 
 top : List ℕ
@@ -83,6 +83,10 @@ kept : outcome_at (rules holds) 3 mid ≡ Some (Built None)
 unfolding rules holds last_with request sources scripts script is_src top mid low src other
 kept = refl
 
+kept-is : is_kept sources (checks_of sources (last_with holds) request mid) (outcome_at (rules holds) 3) ≡ true
+unfolding rules holds last_with request sources scripts script is_src top mid low src other
+kept-is = refl
+
 kept-begins : (rules holds).begins mid (outcome_at (rules holds) 3) ≡ false
 unfolding rules holds last_with request sources scripts script is_src top mid low src other
 kept-begins = refl
@@ -149,6 +153,10 @@ waits = Create other ∷ Change None mid ∷ Change None low ∷ []
 waits-outcome : final_outcome (rules waits) 4 mid ≡ Cyclic
 unfolding rules waits last_with request sources scripts script is_src top mid low src other
 waits-outcome = refl
+
+waits-is : waits_in_check sources (checks_of sources (last_with waits) request mid) (outcome_at (rules waits) 4) ≡ true
+unfolding rules waits last_with request sources scripts script is_src top mid low src other
+waits-is = refl
 
 waits-record : record_of (rules waits) 4 mid ≡
     record { kind = kinds.Create; path = other } ∷ record { kind = kinds.Change; path = mid } ∷ []

@@ -18,9 +18,9 @@ use Rattle.redo_build.proofs.DepthLemmas.{reached-within, reached-more, reached-
 use Rattle.redo_skip.specs.Sources.{Sources, without_book}
 use Rattle.redo_skip.specs.Checks.{Standing, stands, falls, finding, Check, Checks, built, record_by}
 use Rattle.redo_skip.specs.Checks.{progress_checked}
-use Rattle.redo_skip.specs.Checks.{record_checked, is_fallen, begins_checked, with_book, AreChecks}
+use Rattle.redo_skip.specs.Checks.{record_checked, with_book, AreChecks}
 use Rattle.redo_skip.specs.Truth.{shown_all, IsHonest, AreHonest, IsSkipping, NoneCyclic}
-use Rattle.redo_skip.proofs.CheckLemmas.{cases_Standing, finding-target, finding-lacks}
+use Rattle.redo_skip.proofs.CheckLemmas.{begins_checked, is_fallen, cases_Standing, finding-target, finding-lacks}
 use Rattle.redo_skip.proofs.AskedLemmas.{asked-cases, asked-check, asked-script, progress-lacks, progress-falls}
 use Rattle.redo_skip.proofs.AskedLemmas.{progress-stands}
 use Rattle.redo_skip.proofs.LawfulLemmas.{with_book-lawful}

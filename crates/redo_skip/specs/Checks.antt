@@ -142,24 +142,35 @@ record_checked s p None a = (s.progress p a).deps
 record_checked s p (Some c) a =
     let found = finding s a c.entries in record_by found.seen (s.progress p a).deps found.standing
 
--- a script is begun only once an entry falls
-abbrev pub is_fallen : Standing → Bool
-is_fallen stands = false
-is_fallen lacks = false
-is_fallen falls = true
+-- whether all entries stand
+abbrev pub all_stand : Standing → Bool
+all_stand stands = true
+all_stand lacks = false
+all_stand falls = false
 
--- whether the script of a target is begun, in check or not
-abbrev pub begins_checked : Sources → Option Check → Ask → Bool
-begins_checked s None a = true
-begins_checked s (Some c) a = is_fallen (finding s a c.entries).standing
+-- whether an answer lacks
+abbrev pub one_lacks : Standing → Bool
+one_lacks stands = false
+one_lacks lacks = true
+one_lacks falls = false
 
--- the rules of a build with a book
+-- a target is kept: it is in check, and all its entries stand
+abbrev pub is_kept : Sources → Option Check → Ask → Bool
+is_kept s None a = false
+is_kept s (Some c) a = all_stand (finding s a c.entries).standing
+
+-- a target waits in its check: the first of its entries that doesn't stand lacks an answer
+abbrev pub waits_in_check : Sources → Option Check → Ask → Bool
+waits_in_check s None a = false
+waits_in_check s (Some c) a = one_lacks (finding s a c.entries).standing
+
+-- the rules of a build with a book: the script of a target is begun if it is neither kept nor waits in its check
 abbrev pub with_book : Sources → Checks → Rules
 with_book s k = record {
   is_source = s.is_source;
   has_rule = s.has_rule;
   progress = λ p a. progress_checked s p (k p) a;
-  begins = λ p a. begins_checked s (k p) a;
+  begins = λ p a. not (is_kept s (k p) a) && not (waits_in_check s (k p) a);
   recorded = λ p a. record_checked s p (k p) a;
 }
 

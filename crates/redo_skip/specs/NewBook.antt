@@ -12,9 +12,10 @@ use Rattle.redo_record.specs.Paths.{is_among}
 use Rattle.redo_book.specs.declared.book.BookEntry.{BookEntry}
 use Rattle.redo_book.specs.declared.book.BookEntry.TheVariants.{Change, Create, Always}
 use Rattle.redo_book.specs.Book.{Record, record_at}
+use Rattle.redo_book.specs.Intact.{is_intact}
 use Rattle.redo_build.specs.Rules.{Ask}
 use Rattle.redo_build.specs.Outcomes.{outcome_at, needed_at, record_of}
-use Rattle.redo_skip.specs.Checks.{Check, Checks, built, known_file, same_state, told, with_book}
+use Rattle.redo_skip.specs.Checks.{Check, Checks, built, known_file, told, with_book}
 use Rattle.redo_skip.specs.Sources.{File, Sources}
 use Rattle.redo_skip.specs.Truth.{AreApart, IsAlike, IsTrue, IsWitness}
 
@@ -23,13 +24,9 @@ pub record LastRun : Type 0 where
   pub book : List Record
   pub file : List ℕ → File
 
--- the target of a record stands as the last run left it
-abbrev pub is_intact : LastRun → Record → Bool
-is_intact last r = same_state (state_of (last.file r.target)) r.state
-
--- the record is valid: its target has a rule and is intact
+-- the record is valid: its target has a rule, and stands as the last run left it
 abbrev pub is_valid : Sources → LastRun → Record → Bool
-is_valid s last r = s.has_rule r.target && is_intact last r
+is_valid s last r = s.has_rule r.target && is_intact last.file r
 
 -- the check by a record
 abbrev pub check_by : LastRun → Record → Check

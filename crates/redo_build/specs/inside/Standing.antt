@@ -18,10 +18,12 @@ abbrev pub IsNeeded : Rules → List (List ℕ) → List ℕ → Type 0
 IsNeeded r request p = (n : ℕ) × IsAmong (needed_at r request n) p
 
 -- how a decided entry stands: a depth below the number of those decided gives its outcome and all that it
--- asked for
+-- asked for, and so does what is decided
 abbrev pub IsDecidedAs : Rules → List Entry → Entry → Outcome → Type 0
 IsDecidedAs r es e o =
-    (n : ℕ) × (n < decided_count es) × (r.progress e.path (outcome_at r n) ≡ record { outcome = Some o; deps = e.deps })
+    (n : ℕ) × (n < decided_count es) ×
+    (r.progress e.path (outcome_at r n) ≡ record { outcome = Some o; deps = e.deps }) ×
+    (r.progress e.path (outcomes_of es) ≡ record { outcome = Some o; deps = e.deps })
 
 -- whether it is the script that goes on
 abbrev pub is_script : Phase → Bool
