@@ -1,5 +1,5 @@
 -- The first files of a list, that were drafted or stored, and the one behind them that wasn't.
-use Rattle.std.proofs.Common.{◌≡◌, ◌<◌, ◌≤◌, ◌+◌, ℕ, List, [], ◌∷◌, ◌++◌, get_or, length, take, drop, refl, sym, ap, subst}
+use Rattle.std.proofs.Common.{◌≡◌, ◌<◌, ◌≤◌, ◌+◌, ◌-◌, ℕ, List, [], ◌∷◌, ◌++◌, get_or, length, take, drop, refl, sym, ap, subst}
 use Rattle.std.proofs.Common.{◌∙◌, zero, suc, arith, Some, Result, Ok, Err, append_assoc, append-nil, length-append, true, false}
 use Rattle.std.proofs.lemmas.List.{length-take-le, take-append-le}
 use Rattle.std.proofs.Math.Seq.{take-append_seam}
@@ -9,10 +9,12 @@ use Rattle.redo_path.proofs.ApartLemmas.{apart}
 use Rattle.redo_dir.specs.declared.unwritten.Unwritten.{Unwritten}
 use Rattle.redo_dir.specs.declared.unwritten.Unwritten.TheVariants.{Device, Name, Memory}
 use Rattle.redo_dir.specs.declared.faults.StoreFault.{StoreFault}
+use Rattle.std.specs.declared.io.ErrorKind.{ErrorKind}
+use Rattle.std.specs.declared.io.ErrorKind.TheVariants.{OutOfMemory}
 use Rattle.redo_tree.specs.Tree.{Tree}
 use Rattle.redo_dir.specs.Stored.{HasTexts, IsUnstored, Put, place_of, put_in, puts_in, stored_count}
 use Rattle.redo_dir.specs.inside.Batches.{Advances, Blames, Files, IsFront, IsHalted, MeansText, Names, Refusals, Stops}
-use Rattle.redo_dir.specs.inside.Batches.{fault_at, paths_of}
+use Rattle.redo_dir.specs.inside.Batches.{fault_at, paths_of, unwritten_by}
 use Rattle.redo_dir.proofs.TextLemmas.{refused_at}
 
 get_within : {A : Type 0} (xs : List A) (k : ℕ) (x : A) → slice_get xs k ≡ Some x → k < length xs
@@ -110,6 +112,16 @@ drafted_stops told tree (f ∷ fs) (x ∷ xs) (suc k) draft fault h e b m =
     let s = drafted_stops told tree fs xs k draft fault h.2 e b m in
     record { path = s.path; there = s.there; text = s.text; blames = s.blames }
 
+-- no draft of the first file could be made
+pub first_stops : (files : Files) (file : List ℕ × List ℕ) (fault : Unwritten) → 0 < length files → file ≡ get_or files 0 file → MeansText {A = Unit {0}} (Err fault) file.0 → Blames (λ path kind. ⊥) file.0 fault → Stops (λ path kind. ⊥) files 0 fault
+first_stops [] file fault l e m b = absurd (omega (arith, l))
+first_stops (f ∷ fs) file fault l e m b = record { path = file.0; there = ap (λ x. Some x.0) (sym e); text = m; blames = b }
+
+-- an error of the system is told as that of a call
+pub blames_by : (told : Refusals) (path : List ℕ) (kind : ErrorKind) → told path kind → Blames told path (unwritten_by kind)
+blames_by told path OutOfMemory h = tt
+blames_by told path kind h = h
+
 -- none of some files was stored
 pub none_stored : (told : Refusals) (tree : Tree) (files : Files) (old new : List Put) (fault : Unwritten) → new ≡ old → Stops told files 0 fault → Advances told tree files old new (Err fault)
 none_stored told tree files old new fault e s = ([], e ∙ sym (append-nil old), (tt, s))
@@ -165,7 +177,7 @@ names_left told old drafts new draft (Err fault) n o =
     }
 
 -- the first of some of the files behind those that were stored
-front_more : (tree : Tree) (files some : Files) (old front : List Put) (k m n : ℕ) → IsFront tree files old → k ≡ length old → some ≡ take n (take m (drop k files)) → IsFront tree some front → IsFront tree files (old ++ front)
+pub front_more : (tree : Tree) (files some : Files) (old front : List Put) (k m n : ℕ) → IsFront tree files old → k ≡ length old → some ≡ take n (take m (drop k files)) → IsFront tree some front → IsFront tree files (old ++ front)
 front_more tree files some old front k m n h at r is =
     let behind = drop k files in
     let inside = front_within tree behind front m (front_within tree (take m behind) front n (subst (λ fs. IsFront tree fs front) r is)) in
@@ -177,28 +189,30 @@ pub record IsUnderWay (tree : Tree) (files : Files) (before now : List Put) : Ty
   pub more : now ≡ before ++ front
   pub first : IsFront tree files front
 
-pub nothing_yet : (tree : Tree) (files : Files) (before : List Put) → IsUnderWay tree files before before
+abbrev pub nothing_yet : (tree : Tree) (files : Files) (before : List Put) → IsUnderWay tree files before before
 nothing_yet tree files before = record { front = []; more = sym (append-nil before); first = tt }
 
 -- how many of the list that are
-pub under_way : (tree : Tree) (files : Files) (before now : List Put) (h : IsUnderWay tree files before now) → length now ≡ length before + length h.front
-under_way tree files before now h = ap length h.more ∙ length-append before h.front
+pub front_length : (before now : List Put) (m n : ℕ) (front : List Put) → m ≡ length now → n ≡ length before → now ≡ before ++ front → m - n ≡ length front
+front_length before now m n front e f more =
+    let all = ap length more ∙ length-append before front in
+    omega (arith, e, f, all)
+
+-- the part of a batch that was stored
+pub part_of : (told : Refusals) (tree : Tree) (some : Files) (old new : List Put) (result : Result (Unit {0}) Unwritten) (a : Advances told tree some old new result) → IsFront tree some a.0
+part_of told tree some old new (Ok x) a = a.2.1
+part_of told tree some old new (Err fault) a = a.2.0
 
 -- a batch more was stored, or a part of it
-pub more_stored : (told : Refusals) (tree : Tree) (files some : Files) (before old new : List Put) (k m n : ℕ) (result : Result (Unit {0}) Unwritten) (h : IsUnderWay tree files before old) → k ≡ length h.front → some ≡ take n (take m (drop k files)) → Advances told tree some old new result → IsUnderWay tree files before new
-more_stored told tree files some before old new k m n (Ok x) h at r a = record {
+abbrev pub more_stored : (told : Refusals) (tree : Tree) (files some : Files) (before old new : List Put) (k m n : ℕ) (result : Result (Unit {0}) Unwritten) (h : IsUnderWay tree files before old) → k ≡ length h.front → some ≡ take n (take m (drop k files)) → Advances told tree some old new result → IsUnderWay tree files before new
+more_stored told tree files some before old new k m n result h at r a = record {
   front = h.front ++ a.0;
   more = a.1 ∙ ap (λ fs. fs ++ a.0) h.more ∙ append_assoc before h.front a.0;
-  first = front_more tree files some h.front a.0 k m n h.first at r a.2.1;
-}
-more_stored told tree files some before old new k m n (Err fault) h at r a = record {
-  front = h.front ++ a.0;
-  more = a.1 ∙ ap (λ fs. fs ++ a.0) h.more ∙ append_assoc before h.front a.0;
-  first = front_more tree files some h.front a.0 k m n h.first at r a.2.0;
+  first = front_more tree files some h.front a.0 k m n h.first at r (part_of told tree some old new result a);
 }
 
 -- why the file behind them wasn't
-pub some_stops : (told : Refusals) (tree : Tree) (files some : Files) (before old new : List Put) (k m n : ℕ) (fault : Unwritten) (h : IsUnderWay tree files before old) (at : k ≡ length h.front) (r : some ≡ take n (take m (drop k files))) (a : Advances told tree some old new (Err fault)) → Stops told files (length (more_stored told tree files some before old new k m n (Err fault) h at r a).front) fault
+pub some_stops : (told : Refusals) (tree : Tree) (files some : Files) (before old new : List Put) (k m n : ℕ) (fault : Unwritten) (h : IsUnderWay tree files before old) (at : k ≡ length h.front) (r : some ≡ take n (take m (drop k files))) (a : Advances told tree some old new (Err fault)) → Stops told files (length (h.front ++ a.0)) fault
 some_stops told tree files some before old new k m n fault h at r a =
     let count = length a.0 in
     let behind = drop k files in

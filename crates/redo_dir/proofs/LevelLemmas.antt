@@ -1,7 +1,7 @@
 -- A directory that is read level by level: what was listed comes to what the tree has.
-use Rattle.std.proofs.Common.{◌≡◌, ◌^◌, ◌-◌, ◌+◌, ℕ, List, [], ◌∷◌, ◌++◌, refl, sym, ap, subst, ◌∙◌, inl, inr, arith, map}
+use Rattle.std.proofs.Common.{◌≡◌, ◌^◌, ◌-◌, ◌+◌, ℕ, List, [], ◌∷◌, ◌++◌, refl, sym, ap, subst, ◌∙◌, inl, inr, arith, length, map}
 use Rattle.std.proofs.Common.{Option, Some, None, append_assoc, append-nil}
-use Rattle.std.proofs.lemmas.List.{map-append}
+use Rattle.std.proofs.lemmas.List.{length-map, map-append}
 use Rattle.std.specs.List.{AllByRecursion, AllZip, FoldsTo}
 use Rattle.std.specs.Prelude.{IsUtf8, Result, Ok, Err, count_by, is_none, min}
 use Rattle.std.specs.declared.io.ErrorKind.{ErrorKind}
@@ -11,15 +11,12 @@ use Rattle.redo_path.proofs.PartLemmas.{AllByRecursion-append}
 use Rattle.redo_tree.specs.Tree.{Node, Directory, File, added, grown, top}
 use Rattle.redo_dir.specs.declared.looking.Name.{Name}
 use Rattle.redo_dir.specs.Loaded.{ComesTo, IsLoaded, Listing, MayStand, asked, directories, entries_of, names_of, node_seen}
-use Rattle.redo_dir.specs.inside.Levels.{Enters, EntersNoted, IsBetween, IsLooked, IsMark, ListsDir, ListsLevel, Notes}
-use Rattle.redo_dir.specs.inside.Levels.{Progress, Receives, ReceivesName, paths_of, with_none_noted, with_none_waiting}
+use Rattle.redo_dir.specs.inside.Levels.{Enters, EntersNoted, IsAnswered, IsBetween, IsLooked, IsMark, KeepsPaths, ListsDir}
+use Rattle.redo_dir.specs.inside.Levels.{ListsLevel, Notes, Progress, Receives, ReceivesName, paths_of, with_none_noted, with_none_waiting}
 use Rattle.redo_dir.specs.inside.Levels.{with_noted, with_passed, with_waiting}
 use Rattle.redo_dir.proofs.ListingLemmas.{AllZip-append, directories-append, entries-append, grown-on, grown-one, names-append}
 use Rattle.redo_dir.proofs.ListingLemmas.{nones-append}
 use Rattle.redo_dir.proofs.TextLemmas.{texts_entered, texts_marked}
-
-
-
 
 min-more : (n m : ℕ) → min (min n m + 1) m ≡ min (n + 1) m
 min-more n m = omega arith
@@ -182,7 +179,7 @@ received-seen leads p q dir name path (Some node) mark l r = record {
 
 -- the answer of a name that was seen
 pub seen_leads : (leads : List ℕ → Option Node → Type 0) (refuses : List ℕ → ErrorKind → Type 0) (name : Name) (seen : _) → name.seen ≡ Ok seen → IsLooked leads refuses name → leads name.path (node_seen seen)
-seen_leads leads refuses name seen e h = subst (λ s. elim s [ Ok seen ↦ leads name.path (node_seen seen) | Err kind ↦ refuses name.path kind ]) e h
+seen_leads leads refuses name seen e h = subst (IsAnswered leads refuses name.path) e h
 
 pub received : (leads : List ℕ → Option Node → Type 0) (refuses : List ℕ → ErrorKind → Type 0) (ns : List (List ℕ × Option (List ℕ))) (marks : List (Option (List ℕ))) (names : List Name) (p q : Progress) → AllZip IsMark ns marks → paths_of names ≡ entries_of marks → AllByRecursion (IsLooked leads refuses) names → FoldsTo ReceivesName p names q → Received leads marks p q ns
 received leads refuses [] [] [] p q z e l f = received-nothing leads p q f
@@ -252,3 +249,7 @@ between_next lists leads refuses p q r h l e =
       texts = texts.0;
       ahead = texts.1;
     }
+
+-- names that were looked at are as many as before
+pub kept_length : (old new : List Name) → KeepsPaths old new → length new ≡ length old
+kept_length old new h = sym (length-map new (λ name. name.path)) ∙ ap length h ∙ length-map old (λ name. name.path)

@@ -13,6 +13,10 @@ pub FoldsTo-last : {P A : Type 0} (R : P → A → P → Type 0) (p q r : P) (xs
 FoldsTo-last R p q r [] x h k = (r, subst (λ s. R s x r) (sym h) k, refl)
 FoldsTo-last R p q r (y ∷ ys) x h k = (h.0, h.1, FoldsTo-last R h.0 q r ys x h.2 k)
 
+pub none_of : {A : Type 0} (xs : List A) → length xs ≡ 0 → xs ≡ []
+none_of [] e = refl
+none_of (x ∷ xs) e = absurd (omega (arith, e))
+
 -- what holds at each place holds of all
 pub all_each : {A : Type 0} (P : A → Type 0) (xs : List A) → ((k : ℕ) (d : A) → k < length xs → P (get_or xs k d)) → AllByRecursion P xs
 all_each P [] h = tt

@@ -3,7 +3,7 @@
 ghost use Rattle.std.specs.Prelude.{◌≡◌, ◌++◌, ◌∷◌, ◌<◌, [], IfErr, IfOk, IsUtf8, List, OnErr, OnOk, ℕ};
 ghost use Rattle.std.specs.IoError.{error_kind};
 ghost use Rattle.std.specs.List.{AllByRecursion};
-ghost use Rattle.redo_dir.specs.inside.Batches.{Blames, HasText, IsWritten, MeansText, Names, asked, asked_of};
+ghost use Rattle.redo_dir.specs.inside.Batches.{Blames, IsWritten, MeansText, Names, asked, asked_of};
 
 use crate::unwritten::Unwritten;
 use crate::work_dir::{Drafted, WorkDir};
@@ -53,7 +53,6 @@ fn write_new<D: WorkDir>(
     content: &Content,
     first: u64,
 ) -> io::Result<D::Draft>
-    requires { IsUtf8 path.now }
     ensures draft { IfOk result (λ draft. D.Draft.drafted draft ≡ (path.now, content.now)) }
     ensures refused { IfErr result (λ error. D.refuses dir.now path.now (error_kind error)) }
 {
@@ -69,9 +68,10 @@ fn write_new<D: WorkDir>(
 
 /// Writes one draft.
 fn write<D: WorkDir>(draft: &mut Draft<D::Draft>, dir: &D, alloc: Global, first: u64)
-    requires { HasText draft.old }
-    ensures asked { asked_of draft.new ≡ asked_of draft.old }
-    ensures written { IsWritten (D.refuses dir.now) D.Draft.drafted draft.new }
+    ensures path { draft.new.path ≡ draft.old.path }
+    ensures content { draft.new.content ≡ draft.old.content }
+    ensures over { draft.new.over ≡ draft.old.over }
+    ensures written { IsWritten (λ path kind. (d : D) × D.refuses d path kind) D.Draft.drafted draft.new }
 {
     draft.written = match write_new(dir, alloc, &draft.path, &draft.content, first) {
         Ok(file) => Ok(file),
@@ -91,16 +91,16 @@ pub(crate) fn write_by<T: Threads + Sync, D: WorkDir + Sync>(
 where
     D::Draft: Send,
     requires threads { 0 < threads }
-    requires text { AllByRecursion HasText drafts.old }
     ensures asked { asked drafts.new ≡ asked drafts.old }
-    ensures written { AllByRecursion (IsWritten (D.refuses dir.now) D.Draft.drafted) drafts.new }
+    ensures written { AllByRecursion (IsWritten (λ path kind. (d : D) × D.refuses d path kind) D.Draft.drafted) drafts.new }
 {
-    thread::for_each_mut(
-        rt,
-        drafts,
-        threads,
-        &|number, draft| write(draft, dir, alloc, number as u64),
-    );
+    let write_one = |number: usize, draft: &mut Draft<D::Draft>|
+        ensures path { draft.new.path ≡ draft.old.path }
+        ensures content { draft.new.content ≡ draft.old.content }
+        ensures over { draft.new.over ≡ draft.old.over }
+        ensures written { IsWritten (λ path kind. (d : D) × D.refuses d path kind) D.Draft.drafted draft.new }
+    { write(draft, dir, alloc, number as u64) };
+    thread::for_each_mut(rt, drafts, threads, &write_one);
 }
 
 /// Gives one draft its name.

@@ -117,12 +117,7 @@ impl Loading {
     }
 
     /// Lists a directory, and keeps its names.
-    fn list_dir<D: WorkDir>(
-        &mut self,
-        work: &D,
-        alloc: Global,
-        dir: Path,
-    ) -> Result<(), LoadFault>
+    fn list_dir<D: WorkDir>(&mut self, work: &D, alloc: Global, dir: Path) -> Result<(), LoadFault>
         ensures listed { OnOk result (ListsDir (D.lists work.now) (progress self.old) dir (progress self.new)) }
         ensures refused { IfErr result (IsUnloaded (D.lists work.now) (D.leads work.now) (D.refuses work.now)) }
     {

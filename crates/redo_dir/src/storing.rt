@@ -2,7 +2,7 @@
 
 ghost use Rattle.std.specs.Prelude.{◌≡◌, ◌++◌, ◌∷◌, [], ◌<◌, IfErr, IfOk, OnErr, OnOk, length, map, take};
 ghost use Rattle.redo_dir.specs.Stored.{HasTexts, IsUnstored, put_in, puts_in, stored_count};
-ghost use Rattle.redo_dir.specs.inside.Batches.{Advances, HasText, IsFront, MeansText, Stops, asked, asked_of};
+ghost use Rattle.redo_dir.specs.inside.Batches.{Advances, Blames, IsFront, MeansText, Stops, asked, asked_of};
 
 use crate::StoreFault;
 use crate::batches::{FILES_OF_A_BATCH, front_of, threads_for};
@@ -17,6 +17,7 @@ use std::thread::Threads;
 /// The draft of one file.
 fn draft_of<F: Drop>(tree: &Tree, path: &Path, content: &Content) -> Result<Draft<F>, Unwritten>
     ensures text { MeansText result path.now }
+    ensures plain { IfErr result (Blames (λ path kind. ⊥) path.now) }
     ensures draft { IfOk result (λ draft. asked_of draft ≡ put_in tree.now (path.now, content.now)) }
 {
     if str::from_utf8(path.text()).is_err() {
@@ -34,6 +35,7 @@ fn add_draft<F: Drop>(
     content: &Content,
 ) -> Result<(), Unwritten>
     ensures text { MeansText result path.now }
+    ensures plain { IfErr result (Blames (λ path kind. ⊥) path.now) }
     ensures draft { OnOk result (asked drafts.new.items ≡
         asked drafts.old.items ++ put_in tree.now (path.now, content.now) ∷ []) }
     ensures kept { OnErr result (drafts.new.items ≡ drafts.old.items) }

@@ -58,12 +58,7 @@ fn read_file<R: Files>(rt: &R, alloc: Global, place: &PathBuf, size: u64) -> io:
 }
 
 /// What a place leads to, of which the system says this.
-fn read_seen<R: Files>(
-    rt: &R,
-    alloc: Global,
-    place: &PathBuf,
-    about: &Metadata,
-) -> io::Result<Seen>
+fn read_seen<R: Files>(rt: &R, alloc: Global, place: &PathBuf, about: &Metadata) -> io::Result<Seen>
     ensures { IfOk result (Shows about.now) }
 {
     if about.is_dir() {
@@ -114,6 +109,18 @@ fn write_new<R: Files>(rt: &R, place: &PathBuf, bytes: &[u8]) -> io::Result<()> 
     outcome
 }
 
+/// Refuses a place where a file or a directory stands.
+fn check_free<R: Files>(rt: &R, place: &PathBuf) -> io::Result<()> {
+    match fs::symlink_metadata(rt, place.as_path()) {
+        Ok(about) if about.is_file() || about.is_dir() => {
+            Err(io::Error::from(ErrorKind::AlreadyExists))
+        }
+        Ok(_) => Ok(()),
+        Err(error) if error.kind() == ErrorKind::NotFound => Ok(()),
+        Err(error) => Err(error),
+    }
+}
+
 impl<'a, R: Files> SystemDir<'a, R> {
     /// The directory at this path of the system.
     pub fn new(rt: &'a R, alloc: Global, top: &'a str) -> SystemDir<'a, R> {
@@ -145,8 +152,8 @@ impl<'a, R: Files> SystemDir<'a, R> {
         };
         // So that no file gets a name that can't be noted.
         self.stored.reserve(1)?;
-        if !over && fs::symlink_metadata(self.rt, draft.place.as_path()).is_ok() {
-            return Err(io::Error::from(ErrorKind::AlreadyExists));
+        if !over {
+            check_free(self.rt, &draft.place)?;
         }
         fs::rename(self.rt, draft.beside.as_path(), draft.place.as_path())?;
         self.stored.push(named)?;

@@ -1,6 +1,6 @@
 //! The directory that a run works in: what a run asks of the file system.
 
-ghost use Rattle.std.specs.Prelude.{◌≡◌, ◌++◌, ◌∷◌, [], IfErr, IfOk, IsUtf8, OnErr, OnOk, length};
+ghost use Rattle.std.specs.Prelude.{◌≡◌, ◌++◌, ◌∷◌, [], IfErr, IfOk, OnErr, OnOk, length};
 ghost use Rattle.std.specs.IoError.{error_kind};
 ghost use Rattle.redo_dir.specs.Loaded.{names_in, node_seen};
 ghost use Rattle.redo_dir.specs.Stored.{put_of};
@@ -68,12 +68,11 @@ pub trait WorkDir {
         content: &Content,
         number: u64,
     ) -> io::Result<Self::Draft>
-        requires { IsUtf8 path.now }
         ensures draft { IfOk result (λ draft. Self.Draft.drafted draft ≡ (path.now, content.now)) }
         ensures refused { IfErr result (λ error. refuses self.now path.now (error_kind error)) };
 
-    /// Gives a draft its name, or removes it. Where it doesn't take the place of a file that was listed (`over`) and
-    /// something stands there, as on a system that takes `A` for `a`, the error is `AlreadyExists`.
+    /// Gives a draft its name, or removes it. Where no file was listed at its path (`over`) and a file or a directory
+    /// stands there, as on a system that takes `A` for `a`, the error is `AlreadyExists`. A link there is replaced.
     fn put(&mut self, draft: Self::Draft, over: bool) -> io::Result<()>
         ensures stored { OnOk result (stored self.new ≡ stored self.old ++ put_of (Self.Draft.drafted draft) over ∷ []) }
         ensures kept { OnErr result (stored self.new ≡ stored self.old) }

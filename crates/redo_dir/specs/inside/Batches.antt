@@ -52,14 +52,14 @@ asked_of draft = put_of (draft.path, draft.content) draft.over
 abbrev pub asked : {F : Type 0} → List (Draft F) → List Put
 asked drafts = map asked_of drafts
 
--- the path of a draft is text
-abbrev pub HasText : {F : Type 0} → Draft F → Type 0
-HasText draft = IsUtf8 draft.path
+-- a file was written, or the system's error is that of a call at its path
+abbrev pub HasWritten : {F : Type 0} → Refusals → (F → List ℕ × List ℕ) → List ℕ × List ℕ → Result F ErrorKind → Type 0
+HasWritten told drafted file (Ok written) = drafted written ≡ file
+HasWritten told drafted file (Err kind) = told file.0 kind
 
--- a draft was written, or the system's error is that of a call at its path
+-- so it was of a draft
 abbrev pub IsWritten : {F : Type 0} → Refusals → (F → List ℕ × List ℕ) → Draft F → Type 0
-IsWritten told drafted draft =
-    elim draft.written [ Ok file ↦ drafted file ≡ (draft.path, draft.content) | Err kind ↦ told draft.path kind ]
+IsWritten told drafted draft = HasWritten told drafted (draft.path, draft.content) draft.written
 
 -- the first files of a list, as they take their places in a directory that was read as this tree; their paths are text
 abbrev pub IsFront : Tree → Files → List Put → Type 0

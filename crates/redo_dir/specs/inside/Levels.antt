@@ -34,10 +34,14 @@ progress l = record { tree = l.tree; waiting = l.waiting.items; noted = paths_of
 abbrev pub KeepsPaths : List Name → List Name → Type 0
 KeepsPaths old new = paths_of new ≡ paths_of old
 
+-- what a path leads to, or an error, was answered
+abbrev pub IsAnswered : (List ℕ → Option Node → Type 0) → (List ℕ → ErrorKind → Type 0) → List ℕ → Result Seen ErrorKind → Type 0
+IsAnswered leads refuses path (Ok seen) = leads path (node_seen seen)
+IsAnswered leads refuses path (Err kind) = refuses path kind
+
 -- a name was looked at, and answered
 abbrev pub IsLooked : (List ℕ → Option Node → Type 0) → (List ℕ → ErrorKind → Type 0) → Name → Type 0
-IsLooked leads refuses name =
-    elim name.seen [ Ok seen ↦ leads name.path (node_seen seen) | Err kind ↦ refuses name.path kind ]
+IsLooked leads refuses name = IsAnswered leads refuses name.path name.seen
 
 -- one name more was passed over, or as many as can be counted
 abbrev pub with_passed : Progress → Progress
