@@ -1,8 +1,12 @@
 //! Runs over a directory.
 
-ghost use Rattle.std.specs.Prelude.{◌≡◌, ◌↔◌, false, IfOk, IsErrOf, true, ℕ, bytes_eq};
-ghost use Rattle.redo_run.specs.Directories.{FallsInList, IsUnwritten, ListsTree, NeedsTooMany, RefusesBook};
-ghost use Rattle.redo_run.specs.Directories.{ReportsTree, changed_from, stands_in};
+ghost use Rattle.std.specs.Prelude.{◌≡◌, ◌↔◌, ◌++◌, false, IfErr, IfOk, IsErrOf, OnOk, true, bytes_eq};
+ghost use Rattle.std.specs.Arc.{arc_value};
+ghost use Rattle.redo_dir.specs.Loaded.{IsLoaded};
+ghost use Rattle.redo_dir.specs.Stored.{puts_in};
+ghost use Rattle.redo_run.specs.DirFaults.{of_load};
+ghost use Rattle.redo_run.specs.Directories.{FallsInList, IsBuilt, IsFaultOf, IsNoBook, IsUnbuilt, IsUnread, IsUnwritten};
+ghost use Rattle.redo_run.specs.Directories.{ListsTree, ReportsTree, StoresPart, changed_from, stands_in};
 ghost use Rattle.redo_run.specs.Directories.{with_book_last as in_order_of_storing};
 ghost use Rattle.redo_which.specs.Candidates.{book_path};
 
@@ -245,12 +249,10 @@ pub fn run_dir<H: Threads + Wait + Sync, D: WorkDir + Sync, W: ByteOut, O: Obser
 where
     D::Draft: Send,
     requires writer { W.has_failed writer.old ≡ false }
-    ensures report { IfOk result (λ run. ReportsTree (D.lists dir.old) (D.leads dir.old)
-        options.now (W.held writer.old) (W.held writer.new) run) }
-    ensures stored { IfOk result (λ run. StoresAll (D.lists dir.old) (D.leads dir.old) options.now
-        (D.stored dir.old) (D.stored dir.new) run.passed) }
-    ensures fault { IfErr result (IsFaultOf (λ path kind. (d : D) × D.refuses d path kind)
-        (D.lists dir.old) (D.leads dir.old) (D.refuses dir.old) options.now (D.stored dir.old) (D.stored dir.new)) }
+    ensures report { IfOk result (ReportsTree (D.lists dir.old) (D.leads dir.old) options.now
+        (D.stored dir.old) (D.stored dir.new) (W.held writer.old) (W.held writer.new)) }
+    ensures fault { IfErr result (IsFaultOf (D.lists dir.old) (D.leads dir.old) (D.refuses dir.old)
+        (λ path kind. (d : D) × D.refuses d path kind) options.now (D.stored dir.old) (D.stored dir.new)) }
     ensures untouched { IsUnwritten result writer.old writer.new }
     ensures device { IsErrOf result RunDirFault.Device ↔ (W.has_failed writer.new ≡ true) }
 {
