@@ -1,6 +1,6 @@
 //! The cause behind a message, which `-v` adds where it is known.
 
-use crate::options::TARGETS;
+use crate::options::{Action, TARGETS};
 use crate::status::Fault;
 use bstr::BStr;
 use redo_bundle::BundleFault;
@@ -21,10 +21,11 @@ pub(crate) fn of_target(alloc: Global, bad: Option<(&str, PathFault)>) -> Words 
 }
 
 /// The cause of a run's fault: the entry of the bundle, the directory or file, the book, or the limit.
-pub(crate) fn of_fault(alloc: Global, fault: Fault, cause: &Cause) -> Words {
+pub(crate) fn of_fault(alloc: Global, fault: Fault, cause: &Cause, action: &Action) -> Words {
     match fault {
         Fault::Bundle(fault) => of_bundle(alloc, fault, &cause.header),
-        Fault::Directory | Fault::Output => of_place(alloc, cause),
+        Fault::Directory => of_unread(alloc, cause, action.directory()),
+        Fault::Output => of_place(alloc, cause),
         Fault::Book(_) => Ok(Some(format!(in alloc;
             "the file .redo-book is not as a run leaves it; without it each file is a source"
         )?)),
@@ -46,7 +47,22 @@ fn of_bundle(alloc: Global, fault: BundleFault, header: &[u8]) -> Words {
     }
 }
 
-/// The directory or file, and what the system said of it.
+/// What can't be read of a directory, as the system names it, and what the system said of it.
+fn of_unread(alloc: Global, cause: &Cause, dir: &str) -> Words {
+    let Some(said) = cause.said else {
+        return Ok(None);
+    };
+    let mut place = Vec::new(alloc);
+    place.extend_from_slice(dir.as_bytes())?;
+    if !cause.place.is_empty() {
+        place.extend_from_slice(b"/")?;
+        place.extend_from_slice(&cause.place)?;
+    }
+    let place = BStr::new(&place);
+    Ok(Some(format!(in alloc; "{place:?}: {said}")?))
+}
+
+/// The file that can't be stored, and what the system said of it.
 fn of_place(alloc: Global, cause: &Cause) -> Words {
     match cause.said {
         Some(said) => {

@@ -14,6 +14,7 @@ use clap::error::ErrorKind;
 use clap::{ArgMatches, Error};
 use options::{Action, Call, Input, Refusal};
 use redo_bundle::Plain;
+use redo_dir::SystemDir;
 use redo_path::Path;
 use redo_run::{
     Cause, Exit, NoObserver, Options, run_bundle, run_dir, whichdo_bundle, whichdo_dir,
@@ -43,7 +44,7 @@ fn main(rt: HostRuntime) -> ExitCode {
         Err(fault) => {
             let _shown = eprintln!(rt; "redo: {fault}");
             if call.verbose {
-                show_cause(&rt, causes::of_fault(alloc, fault, &cause));
+                show_cause(&rt, causes::of_fault(alloc, fault, &cause, &call.action));
             }
             ExitCode::from(status::of_fault(fault))
         }
@@ -177,7 +178,8 @@ where
             (exit, 0)
         }
         Input::Directory(dir) => {
-            let run = run_dir(rt, alloc, dir, writer, options, &NoObserver, cause)?;
+            let mut dir = SystemDir::new(rt, alloc, dir);
+            let run = run_dir(rt, alloc, &mut dir, writer, options, &NoObserver, cause)?;
             (run.exit, run.passed)
         }
     };
@@ -196,13 +198,17 @@ fn flush<S: Write + Drop>(writer: &mut BufWriter<S>) -> Result<(), Fault> {
 }
 
 /// Lists a target's candidates, and answers whether one of them is a file.
-fn list<H: Runtime>(
+fn list<H: Runtime + Threads + Sync>(
     rt: &H,
     alloc: Global,
     target: &Path,
     input: &Input,
     cause: &mut Cause,
-) -> Result<bool, Fault> {
+) -> Result<bool, Fault>
+where
+    H::File: Send,
+    H::Dir: Send,
+{
     let mut writer = Plain::new(io::writer(rt));
     match input {
         Input::Bundle => {
@@ -210,7 +216,8 @@ fn list<H: Runtime>(
             Ok(whichdo_bundle(alloc, &mut reader, &mut writer, target, cause)?)
         }
         Input::Directory(dir) => {
-            let (found, passed) = whichdo_dir(rt, alloc, dir, &mut writer, target, cause)?;
+            let dir = SystemDir::new(rt, alloc, dir);
+            let (found, passed) = whichdo_dir(rt, alloc, &dir, &mut writer, target, cause)?;
             note_passed(rt, passed);
             Ok(found)
         }

@@ -43,6 +43,16 @@ pub(crate) enum Action {
     Whichdo(Path, Input),
 }
 
+impl Action {
+    /// The directory that is read, if one is.
+    pub(crate) fn directory(&self) -> &str {
+        match self {
+            Action::Build(_, Input::Directory(dir)) | Action::Whichdo(_, Input::Directory(dir)) => dir,
+            _ => "",
+        }
+    }
+}
+
 /// Why the words of the command line, each good by itself, can't be served together.
 #[derive(Clone, Copy, Debug, PartialEq, Eq, Error)]
 pub(crate) enum Refusal {

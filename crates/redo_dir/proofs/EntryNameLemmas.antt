@@ -15,7 +15,7 @@ use Rattle.redo_path.proofs.CanonicalLemmas.{resolved-path}
 use Rattle.redo_path.proofs.CutLemmas.{printable-word, resolved-walk, within_limit-long, within_limit-short}
 use Rattle.redo_path.proofs.PartLemmas.{names-child, names_from_parts, parts-name, text_of-names}
 use Rattle.redo_path.proofs.StepLemmas.{IsPlain, IsName-plain, step-plain}
-use Rattle.redo_dir.specs.Directory.{MayStand, is_one_name}
+use Rattle.redo_dir.specs.Loaded.{MayStand, is_one_name}
 use borrow.Author.Tests.{ltb-false, ltb-true}
 
 all_false : (a b c : Bool) → (not a && not b && not c) ≡ true → (a ≡ false) × (b ≡ false) × (c ≡ false)

@@ -1,6 +1,6 @@
 pub mod EntryNameLemmas
+pub mod FailLemmas
 pub mod FrontLemmas
 pub mod LevelLemmas
-pub mod LoadedLemmas
-pub mod LookedLemmas
+pub mod ListingLemmas
 pub mod TextLemmas

@@ -2,11 +2,10 @@
 use Rattle.std.proofs.Common.{◌≡◌, ℕ, List, [], ◌∷◌, map, take, refl, sym, ap, subst}
 use Rattle.std.proofs.Common.{Option, Some, None, ◌++◌, ◌∙◌}
 use Rattle.std.specs.Prelude.{Err, IsUtf8, slice_get, Ok}
-use Rattle.std.specs.List.{AllByRecursion}
-use Rattle.redo_dir.specs.declared.storing.Unwritten.{Unwritten}
-use Rattle.redo_dir.specs.declared.storing.Unwritten.TheVariants.{Device, Name, Memory}
+use Rattle.std.specs.List.{AllByRecursion, AllZip, FoldsTo}
+use Rattle.redo_dir.specs.declared.unwritten.Unwritten.{Unwritten}
+use Rattle.redo_dir.specs.declared.unwritten.Unwritten.TheVariants.{Device, Name, Memory}
 use Rattle.redo_dir.specs.declared.faults.StoreFault.{StoreFault}
-use Rattle.std.proofs.lemmas.List.{map-append}
 use Rattle.std.proofs.lemmas.Str.{IsUtf8-append}
 use Rattle.std.specs.BTreeMap.{insert_entry}
 use Rattle.std.specs.Cmp.Lexicographic.{slice_cmp}
@@ -14,11 +13,14 @@ use Rattle.std.specs.Option.{option_map_or}
 use Rattle.std.specs.Ordering.{nat_cmp, match_ordering}
 use Rattle.std.specs.declared.cmp.Ordering.TheVariants.{Less, Equal, Greater}
 use Rattle.redo_path.specs.Names.{child_of}
-use Rattle.redo_path.proofs.PartLemmas.{AllByRecursion-append, AllByRecursion-front}
+use Rattle.redo_path.proofs.PartLemmas.{AllByRecursion-append}
 use Rattle.redo_tree.specs.declared.faults.TreeFault.{TreeFault}
 use Rattle.redo_tree.specs.Tree.{Node, Directory, File, Tree, added, refusal, with_node}
-use Rattle.redo_dir.specs.Directory.{HasTextPaths, HasTexts, MeansText, fault_at}
-use Rattle.redo_dir.specs.inside.Levels.{with_waiting}
+use Rattle.redo_dir.specs.declared.looking.Name.{Name as Looked}
+use Rattle.redo_dir.specs.Loaded.{HasTextPaths, Listing, asked, entries_of, names_of, node_seen}
+use Rattle.redo_dir.specs.Stored.{HasTexts}
+use Rattle.redo_dir.specs.inside.Batches.{MeansText, fault_at}
+use Rattle.redo_dir.specs.inside.Levels.{IsMark, Progress, Receives, ReceivesName, paths_of, with_waiting}
 
 refused_so : (paths : List (List ℕ)) (k : ℕ) (path : List ℕ) (fault : Unwritten) → slice_get paths k ≡ Some path → MeansText {A = Unit {0}} (Err fault) path → AllByRecursion IsUtf8 (take k paths) → HasTexts {A = Unit {0}} (Err (fault_at fault k)) paths
 refused_so paths k path (Device kind) e w h = (path, e, w, h)
@@ -59,16 +61,29 @@ pub text-waiting : (waiting : List (List ℕ)) (path : List ℕ) (node : Node) �
 text-waiting waiting path Directory h k = AllByRecursion-append IsUtf8 waiting (path ∷ []) h (k, tt)
 text-waiting waiting path (File bytes) h k = h
 
-last_text : (paths : List (List ℕ)) (path : List ℕ) → AllByRecursion IsUtf8 (paths ++ path ∷ []) → IsUtf8 path
-last_text [] path h = h.0
-last_text (x ∷ xs) path h = last_text xs path h.1
+-- the names of one directory are noted at paths that are text
+dir_marked : (dir : List ℕ) (names : List (Option (List ℕ))) (rest : List (List ℕ × Option (List ℕ))) (marks : List (Option (List ℕ))) → IsUtf8 dir → AllZip IsMark (asked dir names ++ rest) marks → ((ms : List (Option (List ℕ))) → AllZip IsMark rest ms → AllByRecursion IsUtf8 (entries_of ms)) → AllByRecursion IsUtf8 (entries_of marks)
+dir_marked dir [] rest marks d z h = h marks z
+dir_marked dir (name ∷ names) rest [] d z h = tt
+dir_marked dir (name ∷ names) rest (None ∷ marks) d z h = dir_marked dir names rest marks d z.1 h
+dir_marked dir (None ∷ names) rest (Some path ∷ marks) d z h = absurd z.0
+dir_marked dir (Some name ∷ names) rest (Some path ∷ marks) d z h =
+    (subst IsUtf8 (sym z.0.2) (child_text dir name d z.0.1), dir_marked dir names rest marks d z.1 h)
 
-split_texts : {A : Type 0} (f : A → List ℕ) (old new : List A) (next : A) → old ≡ new ++ next ∷ [] → AllByRecursion IsUtf8 (map f old) → AllByRecursion IsUtf8 (map f new ++ f next ∷ [])
-split_texts f old new next e h = subst (AllByRecursion IsUtf8) (ap (map f) e ∙ map-append f new (next ∷ [])) h
+-- so are those of all that were listed
+pub texts_marked : (read : List Listing) (marks : List (Option (List ℕ))) → AllByRecursion IsUtf8 (map (λ l. l.0) read) → AllZip IsMark (names_of read) marks → AllByRecursion IsUtf8 (entries_of marks)
+texts_marked [] [] d z = tt
+texts_marked [] (mark ∷ marks) d z = absurd z
+texts_marked (l ∷ ls) marks d z = dir_marked l.0 l.1 (names_of ls) marks d.0 z (λ ms h. texts_marked ls ms d.1 h)
 
--- the paths of a list without its last are text, and so is the last
-pub front_texts : {A : Type 0} (f : A → List ℕ) (old new : List A) (next : A) → old ≡ new ++ next ∷ [] → AllByRecursion IsUtf8 (map f old) → AllByRecursion IsUtf8 (map f new)
-front_texts f old new next e h = AllByRecursion-front IsUtf8 (map f new) (f next ∷ []) (split_texts f old new next e h)
+-- what was received at a path that is text
+text_received : (p q : Progress) (path : List ℕ) (node : Option Node) → HasTextPaths p.tree → AllByRecursion IsUtf8 p.waiting → IsUtf8 path → Receives p q path node → HasTextPaths q.tree × AllByRecursion IsUtf8 q.waiting
+text_received p q path None t w u r = (subst (λ s. HasTextPaths s.tree) (sym r) t, subst (λ s. AllByRecursion IsUtf8 s.waiting) (sym r) w)
+text_received p q path (Some node) t w u r =
+    (text-added p.tree q.tree path node t u r.adds, subst (AllByRecursion IsUtf8) (sym r.waits) (text-waiting p.waiting path node w u))
 
-pub end_text : {A : Type 0} (f : A → List ℕ) (old new : List A) (next : A) → old ≡ new ++ next ∷ [] → AllByRecursion IsUtf8 (map f old) → IsUtf8 (f next)
-end_text f old new next e h = last_text (map f new) (f next) (split_texts f old new next e h)
+pub texts_entered : (names : List Looked) (p q : Progress) → HasTextPaths p.tree → AllByRecursion IsUtf8 p.waiting → AllByRecursion IsUtf8 (paths_of names) → FoldsTo ReceivesName p names q → HasTextPaths q.tree × AllByRecursion IsUtf8 q.waiting
+texts_entered [] p q t w u f = (subst (λ s. HasTextPaths s.tree) f t, subst (λ s. AllByRecursion IsUtf8 s.waiting) f w)
+texts_entered (name ∷ names) p q t w u f =
+    let one = text_received p f.0 name.path (node_seen f.1.0) t w u.0 f.1.2 in
+    texts_entered names f.0 q one.0 one.1 u.1 f.2

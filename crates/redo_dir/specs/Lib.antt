@@ -1,2 +1,3 @@
-pub mod Directory
+pub mod Loaded
+pub mod Stored
 pub mod inside

@@ -2,16 +2,11 @@
 
 ghost use Rattle.std.specs.Prelude.{◌≡◌, ◌<◌, length, take};
 
-use crate::whole::Draft;
 use redo_path::Path;
 use redo_tree::Content;
-use std::alloc::Global;
-use std::rt::Files;
-use std::thread;
-use std::thread::Threads;
 
-/// How many files are written at most before the first of them gets its name. A run that is killed leaves at most so
-/// many temporary files.
+/// How many files are written at most before the first of them gets its name. A run that is killed leaves at most
+/// this many temporary files.
 pub(crate) const FILES_OF_A_BATCH: usize = 256;
 
 /// How many files there have to be for each thread, so that few files start no thread.
@@ -26,7 +21,7 @@ fn looks_temporary(path: &Path) -> bool {
         .is_some_and(|name| name.eq_ignore_ascii_case(front))
 }
 
-/// The first files of a list, which are stored together: so many at most. One that could have the name of another's
+/// The first files of a list, which are stored together: at most N. One that could have the name of another's
 /// temporary file is stored by itself, so that it takes no such file's place.
 pub(crate) fn front_of(files: &[(Path, Content)], most: usize) -> &[(Path, Content)]
     requires { 0 < length files.now }
@@ -41,7 +36,7 @@ pub(crate) fn front_of(files: &[(Path, Content)], most: usize) -> &[(Path, Conte
     &files[..others.max(1)]
 }
 
-/// By how many threads files are written: by so many workers at most, and by no more than have enough to do. Files of
+/// By how many threads files are written: by at most N workers, and by no more than have enough to do. Files of
 /// one directory that are made at the same time wait for one another in the system, so there are no more threads than
 /// directories that follow one another.
 pub(crate) fn threads_for(workers: usize, files: &[(Path, Content)]) -> usize
@@ -55,35 +50,4 @@ pub(crate) fn threads_for(workers: usize, files: &[(Path, Content)]) -> usize
         .min(workers)
         .min(turns.saturating_add(1))
         .max(1)
-}
-
-/// Writes drafts one after another.
-pub(crate) fn write_in_turn<R: Files>(rt: &R, alloc: Global, drafts: &mut [Draft])
-    ensures { drafts.new ≡ drafts.old }
-{
-    for draft in drafts {
-        draft.write(rt, alloc, 0);
-    }
-}
-
-/// Writes drafts by so many threads. Each draft tries names from that of its own place on, so that those of one
-/// directory seldom try the same.
-pub(crate) fn write_by<R: Files + Threads + Sync>(
-    rt: &R,
-    alloc: Global,
-    threads: usize,
-    drafts: &mut [Draft],
-)
-where
-    R::File: Send,
-    R::Dir: Send,
-    requires { 0 < threads }
-    ensures { drafts.new ≡ drafts.old }
-{
-    thread::for_each_mut(
-        rt,
-        drafts,
-        threads,
-        &|number, draft| draft.write(rt, alloc, number as u64),
-    );
 }

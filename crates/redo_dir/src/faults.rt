@@ -2,18 +2,18 @@
 
 ghost use Rattle.std.specs.Prelude.{◌≡◌};
 
+use redo_path::Path;
 use std::alloc::{AllocError, AllocFailed};
-use std::io;
 use std::io::ErrorKind;
 use thiserror::Error;
 
 /// Why a directory was not read.
-#[derive(Clone, Copy, Debug, PartialEq, Eq, Error)]
+#[derive(Drop, Debug, Error)]
 pub enum LoadFault {
-    /// The directory, or something in it, can't be read, and what the system says of it: it isn't
-    /// there, its rights forbid it, or (`InvalidData`) it changed meanwhile.
-    #[error("the directory can't be read: {0}")]
-    Device(ErrorKind),
+    /// What stands at this path of the tree can't be read (the root is the directory itself), and what the system says of
+    /// it: it isn't there, its rights forbid it, or (`InvalidData`) it changed meanwhile.
+    #[error("the directory can't be read: {1}")]
+    Device(Path, ErrorKind),
     /// No memory was left.
     #[error("out of memory")]
     Memory,
@@ -39,21 +39,7 @@ impl<T: Drop> From<AllocFailed<T>> for LoadFault {
     }
 }
 
-impl From<io::Error> for LoadFault {
-    ghost use Rattle.std.specs.IoError.{error_kind};
-    ghost use Rattle.redo_dir.specs.Directory.{load_fault};
-
-    ghost from_gives = { λ error fault. fault ≡ load_fault (error_kind error) };
-
-    fn from(error: io::Error) -> LoadFault {
-        match error.kind() {
-            ErrorKind::OutOfMemory => LoadFault::Memory,
-            kind => LoadFault::Device(kind),
-        }
-    }
-}
-
-/// Why a file was not written: its place in the list, counted from 0. The files before it were.
+/// Why a file was not stored: its place in the list, counted from 0. The files before it were.
 #[derive(Clone, Copy, Debug, PartialEq, Eq, Error)]
 pub enum StoreFault {
     /// The file can't be written, and what the system says of it.

@@ -1,23 +1,29 @@
-//! Directories of the system: read as trees, and given the files that a build made.
+//! Directories: read as trees, and given the files that a build made.
 //!
-//! [`load_dir`] makes a tree of a directory, and [`store_files`] writes files into one, each whole before it gets its
-//! name; [`load_dir_by`] and [`store_files_by`] do so by several threads. The crate stands on `redo_tree` and
-//! `redo_path`, and on `thiserror`.
+//! [`load_dir`] makes a tree of a directory, and [`store_files`] puts files into one, each whole before it gets its name.
+//! Both reach the file system through [`WorkDir`] alone, of which [`SystemDir`] is the system's; a test has one of its
+//! own. The crate stands on `redo_tree` and `redo_path`, and on `thiserror`.
 //!
+//! - `work_dir`: what a run asks of the file system; `system`: a directory of the system;
 //! - `loading`: a directory as a tree; `places`: which of its names a tree takes in; `looking`: what they lead to;
-//! - `storing`: files that are written; `batches`: which of them together, and by how many threads; `whole`: a draft of
-//!   one, and one that was written whole;
-//! - `faults`: why a directory was not read, or a file not written.
+//! - `storing`: files that are stored; `batches`: which of them together, and by how many threads; `drafts`: how they are
+//!   written and named;
+//! - `faults`: why a directory was not read, or a file not stored; `unwritten`: why one file was not.
 #![tactic(auto)]
 
 mod batches;
+mod drafts;
 mod faults;
 mod loading;
 mod looking;
 mod places;
 mod storing;
-mod whole;
+mod system;
+mod unwritten;
+mod work_dir;
 
 pub use faults::{LoadFault, StoreFault};
-pub use loading::{load_dir, load_dir_by};
-pub use storing::{Stored, store_files, store_files_by};
+pub use loading::load_dir;
+pub use storing::store_files;
+pub use system::{SystemDir, SystemDraft};
+pub use work_dir::{Drafted, Seen, WorkDir};

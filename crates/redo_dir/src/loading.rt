@@ -1,68 +1,66 @@
-//! Reading a directory of the system into a tree, level by level. First the names of all directories of a level are
-//! listed, then all of them are looked at, in turn or by several threads, and then they are entered into the tree in
-//! the order in which they were listed. The directories among them are the next level, and wait in a list, so that no
-//! depth costs stack.
+//! Reading a directory into a tree, level by level. First the directories of a level are listed, then their names are
+//! looked at, by several threads, and then they are entered into the tree in the order in which they were listed. The
+//! directories among them are the next level, so that no depth costs stack.
 
-ghost use Rattle.std.specs.Prelude.{◌≡◌, [], ◌∷◌, IfOk, IsUtf8, OnOk, string_bytes};
+ghost use Rattle.std.specs.Prelude.{◌≡◌, [], ◌∷◌, IfErr, IfOk, OnOk, Some, option_map, string_bytes};
 ghost use Rattle.std.specs.List.{FoldsTo};
 ghost use Rattle.redo_tree.specs.Tree.{Directory, File, top};
-ghost use Rattle.redo_dir.specs.Directory.{HasTextPaths, IsLoaded, node_found, told_load};
-ghost use Rattle.redo_dir.specs.inside.Levels.{Enters, EntersNoted, IsSound, Keeps, Notes, NotesListed, Receives};
-ghost use Rattle.redo_dir.specs.inside.Levels.{ReceivesName, progress, with_passed};
+ghost use Rattle.redo_dir.specs.Loaded.{HasTextPaths, IsLoaded, IsUnloaded, load_fault, names_in, node_seen};
+ghost use Rattle.redo_dir.specs.inside.Levels.{Breaks, EntersNoted, IsStopped, ListsDir, ListsLevel, Notes, Receives};
+ghost use Rattle.redo_dir.specs.inside.Levels.{ReceivesName, Refuses, StopsAt, clash_of, progress, with_passed};
 
 use crate::LoadFault;
-use crate::looking::{Found, Name, look_by, look_in_turn};
+use crate::looking::{Name, look_by};
 use crate::places::place_of;
+use crate::work_dir::{Seen, WorkDir};
 use redo_path::Path;
 use redo_tree::{Tree, TreeFault};
 use std::alloc::{AllocError, Global};
-use std::fs::DirEntry;
 use std::io::ErrorKind;
-use std::rt::Files;
+use std::mem;
 use std::thread::Threads;
-use std::{fs, io, mem};
-
-/// A directory whose names were not listed yet: its path in the tree, and its path in the system.
-#[derive(Drop)]
-struct Waiting {
-    path: Path,
-    text: String,
-}
 
 /// What was read so far.
 #[derive(Drop)]
 struct Loading {
     tree: Tree,
-    waiting: Vec<Waiting>,
+    /// The directories whose names were not listed yet.
+    waiting: Vec<Path>,
     /// The names that may stand in the tree and are not entered yet.
     noted: Vec<Name>,
     passed: u64,
 }
 
-/// What the tree answered of a name. It refuses only what a directory that changes meanwhile shows,
-/// as a name that is listed twice.
-fn tell(outcome: Result<(), TreeFault>) -> Result<(), LoadFault>
-    ensures { result ≡ told_load outcome }
+/// The fault of a call at a path that the system refused.
+fn refused(path: Path, kind: ErrorKind) -> LoadFault
+    ensures { result ≡ load_fault path kind }
 {
-    match outcome {
-        Ok(()) => Ok(()),
-        Err(TreeFault::Memory) => Err(LoadFault::Memory),
-        Err(_) => Err(LoadFault::Device(ErrorKind::InvalidData)),
+    match kind {
+        ErrorKind::OutOfMemory => LoadFault::Memory,
+        kind => LoadFault::Device(path, kind),
+    }
+}
+
+/// The fault of a path that the tree refused. Only a directory that changes meanwhile comes to one, as where a name is
+/// listed twice.
+fn clash(path: Path, fault: TreeFault) -> LoadFault
+    ensures { result ≡ clash_of path fault }
+{
+    match fault {
+        TreeFault::Memory => LoadFault::Memory,
+        _ => LoadFault::Device(path, ErrorKind::InvalidData),
     }
 }
 
 impl Loading {
     /// Nothing but the top directory.
-    fn new(alloc: Global, dir: &str) -> Result<Loading, AllocError>
+    fn new(alloc: Global) -> Result<Loading, AllocError>
         ensures { IfOk result (λ loading. progress loading ≡
             record { tree = top; waiting = [] ∷ []; noted = []; passed = 0 }) }
     {
         let tree = Tree::new(alloc)?;
         let mut waiting = Vec::new(alloc);
-        waiting.push(Waiting {
-            path: Path::root(),
-            text: String::from_str(alloc, dir)?,
-        })?;
+        waiting.push(Path::root())?;
         Ok(Loading {
             tree,
             waiting,
@@ -78,226 +76,180 @@ impl Loading {
         self.passed = self.passed.saturating_add(1);
     }
 
-    /// Adds a directory, whose names are then to be read.
-    fn add_dir(&mut self, alloc: Global, path: Path, text: &str) -> Result<(), LoadFault>
-        ensures { OnOk result (Enters (progress self.old) (progress self.new) path Directory) }
+    /// Keeps a name for later, where it may stand in the tree, or passes over it.
+    fn note_text(&mut self, alloc: Global, dir: &Path, name: &str) -> Result<(), AllocError>
+        ensures { OnOk result (Notes dir.now (progress self.old) (Some name.now) (progress self.new)) }
     {
-        let outcome = self.tree.add_dir(&path);
-        tell(outcome)?;
-        let text = String::from_str(alloc, text)?;
-        self.waiting.push(Waiting { path, text })?;
+        match place_of(alloc, dir, name.as_bytes())? {
+            Some(path) => self.noted.push(Name::new(path))?,
+            None => self.pass_over(),
+        }
+        Ok(())
+    }
+
+    /// Keeps a name, or passes over it where it isn't text.
+    fn note(&mut self, alloc: Global, dir: &Path, name: Option<String>) -> Result<(), AllocError>
+        ensures { OnOk result (Notes dir.now (progress self.old) (option_map string_bytes name) (progress self.new)) }
+    {
+        match name {
+            Some(name) => self.note_text(alloc, dir, &name),
+            None => {
+                self.pass_over();
+                Ok(())
+            }
+        }
+    }
+
+    /// Keeps the names of a directory.
+    fn note_names(
+        &mut self,
+        alloc: Global,
+        dir: &Path,
+        names: Vec<Option<String>>,
+    ) -> Result<(), AllocError>
+        ensures { OnOk result
+            (FoldsTo (Notes dir.now) (progress self.old) (names_in names.items) (progress self.new)) }
+    {
+        'names: for name in names {
+            self.note(alloc, dir, name)?;
+        }
+        Ok(())
+    }
+
+    /// Lists a directory, and keeps its names.
+    fn list_dir<D: WorkDir>(&mut self, work: &D, alloc: Global, dir: Path) -> Result<(), LoadFault>
+        ensures listed { OnOk result (ListsDir (D.lists work.now) (progress self.old) dir (progress self.new)) }
+        ensures refused { IfErr result (IsUnloaded (D.lists work.now) (D.leads work.now) (D.refuses work.now)) }
+    {
+        match work.list(alloc, &dir) {
+            Ok(names) => {
+                self.note_names(alloc, &dir, names)?;
+                Ok(())
+            }
+            Err(error) => Err(refused(dir, error.kind())),
+        }
+    }
+
+    /// Lists the directories of a level.
+    fn list_level<D: WorkDir>(&mut self, work: &D, alloc: Global) -> Result<(), LoadFault>
+        ensures listed { OnOk result (ListsLevel (D.lists work.now) (progress self.old) (progress self.new)) }
+        ensures refused { IfErr result (IsUnloaded (D.lists work.now) (D.leads work.now) (D.refuses work.now)) }
+    {
+        let dirs = mem::replace(&mut self.waiting, Vec::new(alloc));
+        'dirs: for dir in dirs {
+            self.list_dir(work, alloc, dir)?;
+        }
+        Ok(())
+    }
+
+    /// Adds a directory, whose names are then to be listed.
+    fn add_dir(&mut self, path: Path) -> Result<(), LoadFault>
+        ensures some { OnOk result (Receives (progress self.old) (progress self.new) path (Some Directory)) }
+        ensures refused { IfErr result (Refuses (progress self.old).tree path (Some Directory)) }
+    {
+        if let Err(fault) = self.tree.add_dir(&path) {
+            return Err(clash(path, fault));
+        }
+        self.waiting.push(path)?;
         Ok(())
     }
 
     /// Adds a file.
-    fn add_file(&mut self, path: &Path, bytes: Vec<u8>) -> Result<(), LoadFault>
-        ensures { OnOk result (Enters (progress self.old) (progress self.new) path.now (File bytes.items)) }
+    fn add_file(&mut self, path: Path, bytes: Vec<u8>) -> Result<(), LoadFault>
+        ensures some { OnOk result (Receives (progress self.old) (progress self.new) path (Some (File bytes.items))) }
+        ensures refused { IfErr result (Refuses (progress self.old).tree path (Some (File bytes.items))) }
     {
-        let outcome = self.tree.add_file(path, bytes);
-        tell(outcome)
+        match self.tree.add_file(&path, bytes) {
+            Ok(()) => Ok(()),
+            Err(fault) => Err(clash(path, fault)),
+        }
     }
 
-    /// The tree, and how many names were passed over.
-    fn end(self) -> (Tree, u64)
-        ensures { result ≡ ((progress self).tree, (progress self).passed) }
+    /// Enters what was seen at a path, or counts it.
+    fn receive(&mut self, path: Path, seen: Seen) -> Result<(), LoadFault>
+        ensures some { OnOk result (Receives (progress self.old) (progress self.new) path (node_seen seen)) }
+        ensures refused { IfErr result (Refuses (progress self.old).tree path (node_seen seen)) }
     {
-        (self.tree, self.passed)
-    }
-
-    /// Enters what was found at a path, or counts it.
-    fn receive(
-        &mut self,
-        alloc: Global,
-        path: Path,
-        text: &str,
-        found: Found,
-    ) -> Result<(), LoadFault>
-        ensures { OnOk result (Receives (progress self.old) (progress self.new) path (node_found found)) }
-    {
-        match found {
-            Found::Directory => self.add_dir(alloc, path, text),
-            Found::File(bytes) => self.add_file(&path, bytes),
-            Found::Other => {
+        match seen {
+            Seen::Directory => self.add_dir(path),
+            Seen::File(bytes) => self.add_file(path, bytes),
+            Seen::Other => {
                 self.pass_over();
                 Ok(())
             }
         }
     }
 
-    /// Enters what was found at each name, in their order. `place` is left at the last one, or at the first that
-    /// can't be read. Its text is moved there, so that telling a fault needs no memory.
-    fn receive_names(
-        &mut self,
-        alloc: Global,
-        place: &mut String,
-        names: Vec<Name>,
-    ) -> Result<(), LoadFault>
-        ensures { OnOk result (FoldsTo ReceivesName (progress self.old) names.items (progress self.new)) }
+    /// Enters a name that was looked at.
+    fn receive_name(&mut self, name: Name) -> Result<(), LoadFault>
+        ensures some { OnOk result (ReceivesName (progress self.old) name (progress self.new)) }
+        ensures broken { IfErr result (Breaks (progress self.old) name) }
+    {
+        let Name { path, seen } = name;
+        match seen {
+            Ok(seen) => self.receive(path, seen),
+            Err(kind) => Err(refused(path, kind)),
+        }
+    }
+
+    /// Enters names that were looked at, in their order.
+    fn receive_names(&mut self, names: Vec<Name>) -> Result<(), LoadFault>
+        ensures all { OnOk result (FoldsTo ReceivesName (progress self.old) names.items (progress self.new)) }
+        ensures stops { IfErr result (StopsAt (progress self.old) names.items) }
     {
         'names: for name in names {
-            *place = name.text;
-            self.receive(alloc, name.path, place, name.found?)?;
+            self.receive_name(name)?;
         }
         Ok(())
     }
 
-    /// Keeps a name for later, where it may stand in the tree, or passes over it.
-    fn note(&mut self, alloc: Global, dir: &Path, name: &str, text: &str) -> Result<(), AllocError>
-        ensures { OnOk result (Notes (progress self.old) (progress self.new) dir.now name.now) }
-    {
-        let Some(path) = place_of(alloc, dir, name.as_bytes())? else {
-            self.pass_over();
-            return Ok(());
-        };
-        let text = String::from_str(alloc, text)?;
-        self.noted.push(Name {
-            path,
-            text,
-            found: Err(LoadFault::Device(ErrorKind::Other)),
-        })?;
-        Ok(())
-    }
-
-    /// Keeps what was listed of a directory, or counts it.
-    fn note_listed<F: Files + Drop>(
+    /// Has the names that were kept looked at by at most N threads, and enters them.
+    fn enter_level<T: Threads + Sync, D: WorkDir + Sync>(
         &mut self,
+        rt: &T,
+        work: &D,
         alloc: Global,
-        dir: &Path,
-        listed: io::Result<DirEntry<F, Global>>,
+        workers: usize,
     ) -> Result<(), LoadFault>
-        ensures { OnOk result (NotesListed (progress self.old) (progress self.new) dir.now listed) }
-    {
-        match listed {
-            Ok(entry) => {
-                let text = entry.path().to_string_lossy();
-                self.note(alloc, dir, entry.file_name(), text)?;
-                Ok(())
-            }
-            // A name that is no text.
-            Err(error) if error.kind() == ErrorKind::InvalidFilename => {
-                self.pass_over();
-                Ok(())
-            }
-            Err(error) => Err(LoadFault::from(error)),
-        }
-    }
-
-    /// Keeps the names of a directory, which the system has at `text`.
-    fn note_names<R: Files>(
-        &mut self,
-        rt: &R,
-        alloc: Global,
-        dir: &Path,
-        text: &str,
-    ) -> Result<(), LoadFault>
-        requires place { IsUtf8 dir.now }
-        requires sound { IsSound (progress self.old) }
-        ensures { OnOk result (IsSound (progress self.new)) }
-    {
-        let reader = (rt, alloc);
-        for listed in fs::read_dir(&reader, text)? {
-            self.note_listed(alloc, dir, listed)?;
-        }
-        Ok(())
-    }
-
-    /// Has the names that were kept looked at, and enters them.
-    fn enter_noted<L: Fn(&mut [Name])>(
-        &mut self,
-        alloc: Global,
-        look: &L,
-        place: &mut String,
-    ) -> Result<(), LoadFault>
-        requires look { L.IsAlwaysCallable look.now }
-        requires keeps { Keeps L.Fn look.now }
-        ensures { OnOk result (EntersNoted (progress self.old) (progress self.new)) }
+    where
+        D::Draft: Send,
+        ensures all { OnOk result (EntersNoted (D.leads work.now) (D.refuses work.now) (progress self.old) (progress self.new)) }
+        ensures stops { IfErr result (IsStopped (D.leads work.now) (D.refuses work.now) (progress self.old)) }
     {
         let mut names = mem::replace(&mut self.noted, Vec::new(alloc));
-        look(&mut names);
-        self.receive_names(alloc, place, names)
+        look_by(rt, work, alloc, workers, &mut names);
+        self.receive_names(names)
     }
 }
 
-/// As [`load_dir`], where the names of a level are looked at by `look`.
-fn load<R: Files, L: Fn(&mut [Name])>(
-    rt: &R,
-    alloc: Global,
-    look: &L,
-    dir: &str,
-    place: &mut String,
-) -> Result<(Tree, u64), LoadFault>
-    requires look { L.IsAlwaysCallable look.now }
-    requires keeps { Keeps L.Fn look.now }
-    ensures loaded { IfOk result (λ loaded. IsLoaded loaded.0 loaded.1) }
-    ensures text { IfOk result (λ loaded. HasTextPaths loaded.0) }
-{
-    let mut loading = Loading::new(alloc, dir)?;
-    for _ in 0..u64::MAX {
-        // A level is complete once none of its directories waits.
-        if let Some(next) = loading.waiting.pop() {
-            *place = next.text;
-            loading.note_names(rt, alloc, &next.path, place)?;
-        } else if loading.noted.is_empty() {
-            return Ok(loading.end());
-        } else {
-            loading.enter_noted(alloc, look, place)?;
-        }
-    }
-    Err(LoadFault::Device(ErrorKind::Other))
-}
-
-/// Reads a directory of the system with all that is below it, and counts the names that were passed
-/// over: links, which are never followed, and what is neither a file nor a directory; names that
-/// are no text (UTF-8), that have a control byte or that are longer than 255 bytes; and what has a
-/// path of more than 1,024 bytes. What is below a directory that was passed over isn't looked at,
-/// and doesn't count. `dir` itself may be a link.
+/// Reads a directory with all that is below it, by at most N threads, of which the caller's is one; a level with few
+/// names is read by fewer, and zero workers count as one. Answers the tree and how many names were passed over: links,
+/// which are never followed, and what is neither a file nor a directory; names that aren't text (UTF-8), that have a
+/// control byte or more than 255 bytes; and what has a path of more than 1,024 bytes. What is below a directory that was
+/// passed over isn't looked at, and doesn't count.
 ///
-/// What a directory holds is known to no contract. What was listed makes the tree and the count, as the
-/// contract says; that the list is whole, and that a file's bytes are its own, is only tested. A file of
-/// any length is read, and its bytes are not copied. A directory that others change meanwhile may be
-/// read as it never was.
-///
-/// After a fault `place` is left at the directory or the file, as the system names it, that can't be read. Where
-/// several can't, one of them is told, and it is the same one by however many threads the directory is read.
-pub fn load_dir<R: Files>(
-    rt: &R,
-    alloc: Global,
-    dir: &str,
-    place: &mut String,
-) -> Result<(Tree, u64), LoadFault>
-    ensures loaded { IfOk result (λ loaded. IsLoaded loaded.0 loaded.1) }
-    ensures text { IfOk result (λ loaded. HasTextPaths loaded.0) }
-{
-    load(
-        rt,
-        alloc,
-        &|names| look_in_turn(rt, alloc, names),
-        dir,
-        place,
-    )
-}
-
-/// Reads a directory as [`load_dir`] does, by so many threads at most, of which the caller's is one. A level with few
-/// names is read by fewer of them, and zero workers are taken as one. The threads open files, so what `R` opens is to
-/// be `Send`.
-pub fn load_dir_by<R: Files + Threads + Sync>(
-    rt: &R,
+/// A file of any length is read, and its bytes are not copied. A directory that others change meanwhile may be read as it
+/// never was. Where several places can't be read, the one that was listed first is told, however many threads read.
+pub fn load_dir<T: Threads + Sync, D: WorkDir + Sync>(
+    rt: &T,
+    dir: &D,
     alloc: Global,
     workers: usize,
-    dir: &str,
-    place: &mut String,
 ) -> Result<(Tree, u64), LoadFault>
 where
-    R::File: Send,
-    R::Dir: Send,
-    ensures loaded { IfOk result (λ loaded. IsLoaded loaded.0 loaded.1) }
+    D::Draft: Send,
+    ensures loaded { IfOk result (λ loaded. IsLoaded (D.lists dir.now) (D.leads dir.now) loaded.0 loaded.1) }
     ensures text { IfOk result (λ loaded. HasTextPaths loaded.0) }
+    ensures fault { IfErr result (IsUnloaded (D.lists dir.now) (D.leads dir.now) (D.refuses dir.now)) }
 {
-    load(
-        rt,
-        alloc,
-        &|names| look_by(rt, alloc, workers, names),
-        dir,
-        place,
-    )
+    let mut loading = Loading::new(alloc)?;
+    for _ in 0..u64::MAX {
+        if loading.waiting.is_empty() {
+            return Ok((loading.tree, loading.passed));
+        }
+        loading.list_level(dir, alloc)?;
+        loading.enter_level(rt, dir, alloc, workers)?;
+    }
+    // No tree of so many levels fits into memory.
+    Err(LoadFault::Memory)
 }

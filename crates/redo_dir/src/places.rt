@@ -3,7 +3,7 @@
 ghost use Rattle.std.specs.Prelude.{◌≡◌, IfOk};
 ghost use Rattle.std.specs.Option.{SomeIff};
 ghost use Rattle.redo_path.specs.Names.{child_of};
-ghost use Rattle.redo_dir.specs.Directory as names;
+ghost use Rattle.redo_dir.specs.Loaded as names;
 
 use redo_path::{Path, PathFault, resolve};
 use std::alloc::{AllocError, Global};

@@ -10,9 +10,7 @@ use Rattle.redo_bundle.specs.Bundle.{IsBundle, Writes}
 use Rattle.redo_bundle.specs.declared.faults.WriteFault.{WriteFault}
 use Rattle.redo_bundle.specs.declared.faults.WriteFault.TheVariants as write
 use Rattle.redo_bundle.specs.declared.faults.BundleFault.TheVariants as bundle
-use Rattle.redo_dir.specs.Directory.{IsLoaded, places_in}
 use Rattle.redo_tree.specs.Tree.{Tree}
-use Rattle.redo_run.specs.declared.directory.DirRun.{DirRun}
 use Rattle.redo_run.specs.declared.options.Options.{Options}
 use Rattle.redo_run.specs.declared.fault.RunIoFault.{RunIoFault}
 use Rattle.redo_run.specs.declared.fault.RunIoFault.TheVariants as run
@@ -22,8 +20,7 @@ use Rattle.redo_run.specs.declared.run_fault.RunFault.TheVariants as build
 use Rattle.redo_run.specs.Exits.{IsExitOf}
 use Rattle.redo_run.specs.declared.dir_fault.RunDirFault.TheVariants as dir
 use Rattle.redo_run.specs.DirFaults.{of_run}
-use Rattle.redo_run.specs.Directories.{NeedsTooMany as DirNeedsTooMany}
-use Rattle.redo_run.specs.Directories.{ReportsTree, changed_from, with_book_last}
+use Rattle.redo_run.specs.Directories.{IsBuilt, IsUnbuilt}
 use Rattle.redo_run.specs.Faults.{of_build, of_write}
 use Rattle.redo_run.specs.Skipping.{IsSoundOn, IsUnsafeOn}
 use Rattle.redo_run.specs.Runs.{Explains, ExplainsList, IsUntouched, Lists, Reports, request_in, request_of}
@@ -103,31 +100,18 @@ module _ (options : Options) (tree : Tree) (request : List (List ℕ)) (named : 
     good = good;
   }
 
-  pub too_many_in : NeedsTooMany tree request options.limits → IsUnsafeOn tree request options.limits → DirNeedsTooMany options
-  too_many_in many never = (
-    tree,
-    moved (λ ps. NeedsTooMany tree ps options.limits) many,
-    moved (λ ps. IsUnsafeOn tree ps options.limits) never,
-  )
+  -- a tree needs too many targets
+  pub too_many_in : NeedsTooMany tree request options.limits → IsUnsafeOn tree request options.limits → IsUnbuilt tree options dir.TooMany
+  too_many_in many never = (moved (λ ps. NeedsTooMany tree ps options.limits) many, moved (λ ps. IsUnsafeOn tree ps options.limits) never)
 
-  -- the whole report of a directory was written
-  pub reports_tree : (dir : List ℕ) (old new : Option (List ℕ)) (report : Report) (written : List ℕ) (run : DirRun) →
-      IsLoaded tree run.passed → (is : IsResultOn tree request options.limits report) →
-      IsSoundOn tree request options.limits report →
-      run.stored ≡ places_in dir (with_book_last (changed_from tree report.files.items)) →
-      written ≡ report_text report false → Appends old new written →
-      IsExitOf is.0 run.exit →
-      ReportsTree options dir old new run
-  reports_tree dir old new report written run loaded is sound stored made h good = record {
-    tree = tree;
-    loaded = loaded;
+  -- a tree was built
+  pub built : (report : Report) (exit : Exit) → (is : IsResultOn tree request options.limits report) →
+      IsSoundOn tree request options.limits report → IsExitOf is.0 exit → IsBuilt tree options report exit
+  built report exit is sound good = record {
     given = is.0;
     is_given = moved (λ ps. IsGiven tree ps options.limits is.0) is.1;
-    report = report;
     is = is.2;
     sound = sound is.0 is.1;
-    stored = stored;
-    written = subst (Appends old new) made h;
     good = good;
   }
 

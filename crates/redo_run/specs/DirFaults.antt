@@ -9,7 +9,7 @@ use Rattle.redo_run.specs.declared.dir_fault.RunDirFault.{RunDirFault}
 use Rattle.redo_run.specs.declared.dir_fault.RunDirFault.TheVariants as run
 
 abbrev pub of_load : LoadFault → RunDirFault
-of_load (load.Device kind) = run.Load
+of_load (load.Device path kind) = run.Load
 of_load load.Memory = run.Memory
 
 abbrev pub of_run : RunFault → RunDirFault

@@ -11,7 +11,7 @@ use std::io::ErrorKind;
 pub struct Cause {
     /// The header line of the bundle that was read last, without its newline.
     pub header: Vec<u8>,
-    /// The directory or file of the system that could not be read, or the path of the file that could not be stored.
+    /// The path of what could not be read or stored: in a directory the path below it, which is empty for itself.
     pub place: Vec<u8>,
     /// What the system said of it.
     pub said: Option<ErrorKind>,
@@ -27,6 +27,14 @@ impl Cause {
         }
     }
 
+    /// Notes a path, and what the system said of it.
+    pub(crate) fn note(&mut self, path: &Path, said: ErrorKind) {
+        self.place.clear();
+        if self.place.extend_from_slice(path.text()).is_ok() {
+            self.said = Some(said);
+        }
+    }
+
     /// Notes a file of the list that could not be stored. A path that isn't UTF-8 is a name that the system would
     /// refuse.
     pub(crate) fn note_unstored(&mut self, files: &[(Path, Content)], fault: StoreFault) {
@@ -36,10 +44,7 @@ impl Cause {
             StoreFault::Memory(_) => return,
         };
         if let Some((path, _)) = files.get(place) {
-            self.place.clear();
-            if self.place.extend_from_slice(path.text()).is_ok() {
-                self.said = Some(said);
-            }
+            self.note(path, said);
         }
     }
 }

@@ -65,7 +65,7 @@ impl From<LoadFault> for RunDirFault {
 
     fn from(error: LoadFault) -> RunDirFault {
         match error {
-            LoadFault::Device(_) => RunDirFault::Load,
+            LoadFault::Device(_, _) => RunDirFault::Load,
             LoadFault::Memory => RunDirFault::Memory,
         }
     }

@@ -1,10 +1,13 @@
-//! Runs over a directory of the system.
+//! Runs over a directory.
 
-ghost use Rattle.std.specs.Prelude.{◌≡◌, ◌↔◌, false, IfOk, IsErrOf, true, ℕ, bytes_eq};
-ghost use Rattle.redo_run.specs.Directories.{FallsInList, IsUnwritten, ListsTree, NeedsTooMany, RefusesBook};
-ghost use Rattle.redo_run.specs.Directories.{ReportsTree, changed_from, stands_in};
+ghost use Rattle.std.specs.Prelude.{◌≡◌, ◌↔◌, ◌++◌, false, IfErr, IfOk, IsErrOf, OnOk, true, bytes_eq};
+ghost use Rattle.std.specs.Arc.{arc_value};
+ghost use Rattle.redo_dir.specs.Loaded.{IsLoaded};
+ghost use Rattle.redo_dir.specs.Stored.{puts_in};
+ghost use Rattle.redo_run.specs.DirFaults.{of_load};
+ghost use Rattle.redo_run.specs.Directories.{FallsInList, IsBuilt, IsFaultOf, IsNoBook, IsUnbuilt, IsUnread, IsUnwritten};
+ghost use Rattle.redo_run.specs.Directories.{ListsTree, ReportsTree, StoresPart, changed_from, stands_in};
 ghost use Rattle.redo_run.specs.Directories.{with_book_last as in_order_of_storing};
-ghost use Rattle.redo_dir.specs.Directory.{IsLoaded, places_in};
 ghost use Rattle.redo_which.specs.Candidates.{book_path};
 
 use crate::candidates::text_of_search;
@@ -13,14 +16,14 @@ use crate::request::requested;
 use crate::workers::{build_over, past_of};
 use crate::{Cause, Exit, Observer, Options, RunDirFault};
 use redo_bundle::{ByteOut, write_all};
-use redo_dir::{LoadFault, StoreFault, Stored, load_dir, load_dir_by, store_files_by};
+use redo_dir::{LoadFault, Seen, StoreFault, WorkDir, load_dir, store_files};
 use redo_path::Path;
 use redo_report::{Report, write_report};
 use redo_tree::{Content, Tree};
 use redo_which::BOOK;
 use redo_which::lookup::search;
 use std::alloc::{AllocError, Global};
-use std::rt::Files;
+use std::io::ErrorKind;
 use std::sync::{Arc, Wait};
 use std::thread::Threads;
 
@@ -31,74 +34,6 @@ pub struct DirRun {
     pub exit: Exit,
     /// How many names were passed over, as `load_dir` says.
     pub passed: u64,
-    /// The files that were stored.
-    pub stored: Stored,
-}
-
-/// Notes what can't be read, where a directory can't.
-fn note_unread(cause: &mut Cause, place: String, loaded: &Result<(Tree, u64), LoadFault>) {
-    if let Err(LoadFault::Device(kind)) = loaded {
-        cause.place = place.into_bytes();
-        cause.said = Some(*kind);
-    }
-}
-
-/// Reads a directory. Where it can't be read, the cause names what can't.
-fn load<H: Files>(
-    rt: &H,
-    alloc: Global,
-    dir: &str,
-    cause: &mut Cause,
-) -> Result<(Tree, u64), LoadFault>
-    ensures { IfOk result (λ loaded. IsLoaded loaded.0 loaded.1) }
-{
-    let mut place = String::new(alloc);
-    let loaded = load_dir(rt, alloc, dir, &mut place);
-    note_unread(cause, place, &loaded);
-    loaded
-}
-
-/// The same by up to so many threads.
-fn load_by<H: Files + Threads + Sync>(
-    rt: &H,
-    alloc: Global,
-    threads: usize,
-    dir: &str,
-    cause: &mut Cause,
-) -> Result<(Tree, u64), LoadFault>
-where
-    H::File: Send,
-    H::Dir: Send,
-    ensures { IfOk result (λ loaded. IsLoaded loaded.0 loaded.1) }
-{
-    let mut place = String::new(alloc);
-    let loaded = load_dir_by(rt, alloc, threads, dir, &mut place);
-    note_unread(cause, place, &loaded);
-    loaded
-}
-
-/// Stores files by up to so many threads. Where one can't be stored, the cause names it.
-fn store<H: Files + Threads + Sync>(
-    rt: &H,
-    alloc: Global,
-    threads: usize,
-    dir: &str,
-    files: &[(Path, Content)],
-    cause: &mut Cause,
-) -> Result<Stored, StoreFault>
-where
-    H::File: Send,
-    H::Dir: Send,
-    ensures { IfOk result (λ stored. stored ≡ places_in dir.now files.now) }
-{
-    let (stored, outcome) = store_files_by(rt, alloc, threads, dir, files);
-    match outcome {
-        Ok(()) => Ok(stored),
-        Err(fault) => {
-            cause.note_unstored(files, fault);
-            Err(fault)
-        }
-    }
 }
 
 /// Whether it is the path of the book.
@@ -156,35 +91,101 @@ fn with_book_last(
     Ok(others)
 }
 
-/// Reads a directory with all that is below it, builds the targets of its sources, writes the files that were built and
-/// the new book into the directory, and then writes the report, without the files. A file that already stood there as
-/// it came out is not written again. The workers read the directory, make the digests that the book is compared with,
-/// and write the files, too; what they open is to be `Send`.
-///
-/// Nothing is written before the build has answered. The book is stored behind all other files. Where a file can't be
-/// stored, those before it were, and no report is written; where the report can't be written, all files were stored.
-///
-/// The report goes out in many small pieces: hand in a writer with a buffer, and flush it afterwards.
-pub fn run_dir<H: Threads + Wait + Sync + Files, W: ByteOut, O: Observer>(
+/// The fault of a directory that can't be read. The cause names what can't.
+fn unread(cause: &mut Cause, fault: LoadFault) -> RunDirFault
+    ensures { result ≡ of_load fault }
+{
+    if let LoadFault::Device(path, kind) = &fault {
+        cause.note(path, *kind);
+    }
+    RunDirFault::from(fault)
+}
+
+/// The path of the book.
+fn book_path_of(alloc: Global) -> Result<Path, AllocError>
+    ensures { IfOk result (λ path. path ≡ book_path) }
+{
+    Path::of_text(alloc, BOOK)
+}
+
+/// Refuses what stands in the place of the book and is no file of the tree: a link, say. A run without its book would take
+/// each file for a source.
+fn check_book<D: WorkDir>(dir: &D, alloc: Global, tree: &Tree) -> Result<(), LoadFault>
+    ensures { IfErr result (IsNoBook (D.leads dir.now) (D.refuses dir.now) tree.now) }
+{
+    let book = book_path_of(alloc)?;
+    if tree.content(&book).is_some() {
+        return Ok(());
+    }
+    match dir.look(alloc, &book) {
+        Ok(_) => Err(LoadFault::Device(book, ErrorKind::InvalidData)),
+        Err(error) => match error.kind() {
+            ErrorKind::NotFound => Ok(()),
+            ErrorKind::OutOfMemory => Err(LoadFault::Memory),
+            kind => Err(LoadFault::Device(book, kind)),
+        },
+    }
+}
+
+/// Reads a directory by at most N threads. Where it can't be read, the cause names what can't.
+fn load<T: Threads + Sync, D: WorkDir + Sync>(
+    rt: &T,
+    alloc: Global,
+    dir: &D,
+    workers: usize,
+    cause: &mut Cause,
+) -> Result<(Tree, u64), RunDirFault>
+where
+    D::Draft: Send,
+    ensures loaded { IfOk result (λ loaded. IsLoaded (D.lists dir.now) (D.leads dir.now) loaded.0 loaded.1) }
+    ensures unread { IfErr result (IsUnread (D.lists dir.now) (D.leads dir.now) (D.refuses dir.now)) }
+{
+    match load_dir(rt, dir, alloc, workers) {
+        Ok(loaded) => Ok(loaded),
+        Err(fault) => Err(unread(cause, fault)),
+    }
+}
+
+/// The same for a build, which reads the book.
+fn load_with_book<T: Threads + Sync, D: WorkDir + Sync>(
+    rt: &T,
+    alloc: Global,
+    dir: &D,
+    workers: usize,
+    cause: &mut Cause,
+) -> Result<(Tree, u64), RunDirFault>
+where
+    D::Draft: Send,
+    ensures loaded { IfOk result (λ loaded. IsLoaded (D.lists dir.now) (D.leads dir.now) loaded.0 loaded.1) }
+    ensures unread { IfErr result (IsUnread (D.lists dir.now) (D.leads dir.now) (D.refuses dir.now)) }
+{
+    let (tree, passed) = load(rt, alloc, dir, workers, cause)?;
+    match check_book(dir, alloc, &tree) {
+        Ok(()) => Ok((tree, passed)),
+        Err(fault) => Err(unread(cause, fault)),
+    }
+}
+
+/// What a build of a tree came to.
+#[derive(Drop)]
+struct Built {
+    tree: Arc<Tree>,
+    report: Report,
+    exit: Exit,
+}
+
+/// Builds the targets of a tree.
+fn build<H: Threads + Wait + Sync, O: Observer>(
     rt: &H,
     alloc: Global,
-    dir: &str,
-    writer: &mut W,
+    tree: Tree,
     options: &Options,
     observer: &O,
-    cause: &mut Cause,
-) -> Result<DirRun, RunDirFault>
-where
-    H::File: Send,
-    H::Dir: Send,
-    requires writer { W.has_failed writer.old ≡ false }
-    ensures report { IfOk result (λ run. ReportsTree options.now dir.now (W.held writer.old) (W.held writer.new) run) }
-    ensures book { (n : ℕ) → IsErrOf result (RunDirFault.Book n) → RefusesBook n }
-    ensures too_many { IsErrOf result RunDirFault.TooMany → NeedsTooMany options.now }
-    ensures untouched { IsUnwritten result writer.old writer.new }
-    ensures device { IsErrOf result RunDirFault.Device ↔ (W.has_failed writer.new ≡ true) }
+) -> Result<Built, RunDirFault>
+    ensures built { IfOk result (λ built. IsBuilt tree options.now built.report built.exit) }
+    ensures tree { IfOk result (λ built. arc_value built.tree ≡ tree) }
+    ensures refused { IfErr result (IsUnbuilt tree options.now) }
 {
-    let (tree, passed) = load_by(rt, alloc, options.workers, dir, cause)?;
     let request = requested(alloc, &options.targets)?;
     let past = past_of(rt, alloc, tree, options.workers)?;
     let tree = Arc::try_clone(past.tree())?;
@@ -198,35 +199,93 @@ where
         observer,
     )?;
     let exit = exit_after(alloc, &report, &request)?;
-    let Report { rows, files, begun } = report.into_report(alloc)?;
+    let report = report.into_report(alloc)?;
+    Ok(Built { tree, report, exit })
+}
+
+/// Stores files by at most N threads. Where one can't be stored, the cause names it.
+fn store<T: Threads + Sync, D: WorkDir + Sync>(
+    rt: &T,
+    alloc: Global,
+    dir: &mut D,
+    workers: usize,
+    tree: &Tree,
+    files: &[(Path, Content)],
+    cause: &mut Cause,
+) -> Result<(), RunDirFault>
+where
+    D::Draft: Send,
+    ensures all { OnOk result (D.stored dir.new ≡ D.stored dir.old ++ puts_in tree.now files.now) }
+    ensures part { IfErr result (StoresPart (λ path kind. (d : D) × D.refuses d path kind)
+        (D.stored dir.old) (D.stored dir.new) tree.now files.now) }
+{
+    match store_files(rt, dir, alloc, workers, tree, files) {
+        Ok(()) => Ok(()),
+        Err(fault) => {
+            cause.note_unstored(files, fault);
+            Err(RunDirFault::from(fault))
+        }
+    }
+}
+
+/// Reads a directory with all that is below it, builds the targets of its sources, stores the files that were built and
+/// the new book in the directory, and then writes the report, without the files. A file that already stood there as it
+/// came out is not written again. The workers also read the directory, make the digests that the book is compared with,
+/// and write the files.
+///
+/// Nothing is written before the build has answered. The book is stored behind all other files. Where a file can't be
+/// stored, those before it were, and no report is written; where the report can't be written, all files were stored.
+///
+/// The report goes out in many small pieces: hand in a writer with a buffer, and flush it afterwards.
+pub fn run_dir<H: Threads + Wait + Sync, D: WorkDir + Sync, W: ByteOut, O: Observer>(
+    rt: &H,
+    alloc: Global,
+    dir: &mut D,
+    writer: &mut W,
+    options: &Options,
+    observer: &O,
+    cause: &mut Cause,
+) -> Result<DirRun, RunDirFault>
+where
+    D::Draft: Send,
+    requires writer { W.has_failed writer.old ≡ false }
+    ensures report { IfOk result (ReportsTree (D.lists dir.old) (D.leads dir.old) options.now
+        (D.stored dir.old) (D.stored dir.new) (W.held writer.old) (W.held writer.new)) }
+    ensures fault { IfErr result (IsFaultOf (D.lists dir.old) (D.leads dir.old) (D.refuses dir.old)
+        (λ path kind. (d : D) × D.refuses d path kind) options.now (D.stored dir.old) (D.stored dir.new)) }
+    ensures untouched { IsUnwritten result writer.old writer.new }
+    ensures device { IsErrOf result RunDirFault.Device ↔ (W.has_failed writer.new ≡ true) }
+{
+    let (tree, passed) = load_with_book(rt, alloc, dir, options.workers, cause)?;
+    let Built { tree, report, exit } = build(rt, alloc, tree, options, observer)?;
+    let Report { rows, files, begun } = report;
     let files = with_book_last(alloc, changed(alloc, &tree, files)?)?;
-    let stored = store(rt, alloc, options.workers, dir, &files, cause)?;
+    store(rt, alloc, dir, options.workers, &tree, &files, cause)?;
     let report = Report { rows, files, begun };
     write_report(writer, &report, false)?;
-    Ok(DirRun {
-        exit,
-        passed,
-        stored,
-    })
+    Ok(DirRun { exit, passed })
 }
 
 /// Reads a directory with all that is below it, and writes the candidates for a target's rule, as `whichdo_bundle`
 /// does. Answers whether one of them is a file, and how many names were passed over.
-pub fn whichdo_dir<H: Files, W: ByteOut>(
-    rt: &H,
+pub fn whichdo_dir<T: Threads + Sync, D: WorkDir + Sync, W: ByteOut>(
+    rt: &T,
     alloc: Global,
-    dir: &str,
+    dir: &D,
     writer: &mut W,
     target: &Path,
     cause: &mut Cause,
 ) -> Result<(bool, u64), RunDirFault>
+where
+    D::Draft: Send,
     requires writer { W.has_failed writer.old ≡ false }
-    ensures list { IfOk result (λ run. ListsTree target.now (W.held writer.old) (W.held writer.new) run.0 run.1) }
-    ensures no_build { FallsInList result }
+    ensures list { IfOk result (λ run. ListsTree (D.lists dir.now) (D.leads dir.now)
+        target.now (W.held writer.old) (W.held writer.new) run.0 run.1) }
+    ensures fault { IfErr result (FallsInList (D.lists dir.now) (D.leads dir.now) (D.refuses dir.now)) }
     ensures untouched { IsUnwritten result writer.old writer.new }
     ensures device { IsErrOf result RunDirFault.Device ↔ (W.has_failed writer.new ≡ true) }
 {
-    let (tree, passed) = load(rt, alloc, dir, cause)?;
+    let (tree, passed) = load(rt, alloc, dir, 1, cause)?;
     let found = search(alloc, &tree, target)?;
     let text = text_of_search(alloc, &found)?;
     write_all(writer, &text)?;

@@ -1,5 +1,5 @@
 use Rattle.std.proofs.Common.{rules, ◌≡◌, true}
-use Rattle.redo_dir.specs.Directory.{is_one_name}
+use Rattle.redo_dir.specs.Loaded.{is_one_name}
 use Rattle.redo_dir.proofs.EntryNameLemmas.{named_at, named_stands}
 use Rattle.redo_dir.proofs.places.place_of.Goals as goal
 

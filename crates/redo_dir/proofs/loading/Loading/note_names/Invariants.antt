@@ -1,6 +1,8 @@
-use Rattle.redo_dir.specs.inside.Levels.{IsSound, progress}
+use Rattle.std.specs.List.{FoldsTo}
+use Rattle.redo_dir.specs.Loaded.{names_in}
+use Rattle.redo_dir.specs.inside.Levels.{Notes, progress}
 use Rattle.redo_dir.proofs.loading.Loading.note_names.Given as goal
 
--- what was read so far is sound
-abbrev pub invariant-loop-listed : goal.invariant-loop-listed
-invariant-loop-listed g l = IsSound (progress l.self)
+-- the names so far were noted
+abbrev pub invariant-names : goal.invariant-names
+invariant-names l = FoldsTo (Notes l.dir) (progress l.fn.self) (names_in l.yielded) (progress l.self)

@@ -1,0 +1,10 @@
+use Rattle.std.proofs.Common.{◌≡◌, ◌++◌}
+use Rattle.redo_dir.specs.inside.Batches.{Names, asked}
+use Rattle.redo_dir.proofs.drafts.name_each.Given as goal
+
+-- the drafts so far got their names, or those before one that didn't
+abbrev pub invariant-drafts : goal.invariant-drafts
+invariant-drafts g l = record {
+  names : Names (λ path kind. (d : g.row.D.Denot) × g.D.WorkDir.refuses d path kind) (g.D.WorkDir.stored l.fn.dir) (asked l.yielded) (g.D.WorkDir.stored l.dir) l.outcome;
+  left : l.fn.drafts.items ≡ l.yielded ++ l.draft-iterator.rest.items;
+}

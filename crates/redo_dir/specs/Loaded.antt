@@ -1,0 +1,111 @@
+-- What a directory answered, and the tree that was made of it.
+use Rattle.std.specs.Prelude.{◌≡◌, ◌≤◌, ◌-◌, ◌^◌, ◌&&◌, ◌⊎◌, not, Bool, ℕ, List, [], ◌∷◌, ◌++◌, IsUtf8, codes, count_by}
+use Rattle.std.specs.Prelude.{filter_map, is_none, length, map, min, option_map, string_bytes, Option, Some, None, Ok, Err}
+use Rattle.std.specs.Fs.{IsDir, IsFile, file_type}
+use Rattle.std.specs.List.{AllByRecursion, AllZip, list_any}
+use Rattle.std.specs.Str.{bytes_eq}
+use Rattle.std.specs.declared.fs.attrs.Metadata.{Metadata}
+use Rattle.std.specs.declared.io.ErrorKind.{ErrorKind}
+use Rattle.std.specs.declared.io.ErrorKind.TheVariants.{InvalidData, OutOfMemory}
+use Rattle.std.specs.declared.alloc.Global.{Global}
+use Rattle.std.specs.declared.string.String.{String}
+use Rattle.redo_path.specs.Names.{IsName, child_of, is_slash}
+use Rattle.redo_dir.specs.declared.faults.LoadFault.{LoadFault}
+use Rattle.redo_dir.specs.declared.faults.LoadFault.TheVariants.{Device, Memory}
+use Rattle.redo_dir.specs.declared.work_dir.Seen.{Seen}
+use Rattle.redo_dir.specs.declared.work_dir.Seen.TheVariants as seen
+use Rattle.redo_tree.specs.declared.faults.TreeFault.{TreeFault}
+use Rattle.redo_tree.specs.Tree.{Node, Directory, File, Tree, grown, top}
+
+-- the names of a listing; none stands for a name that isn't text
+abbrev pub names_in : List (Option (String Global)) → List (Option (List ℕ))
+names_in names = map (option_map string_bytes) names
+
+-- what a path leads to, so far as a tree takes it in: a directory, a file with its bytes, or neither
+abbrev pub node_seen : Seen → Option Node
+node_seen seen.Directory = Some Directory
+node_seen (seen.File bytes) = Some (File bytes.items)
+node_seen seen.Other = None
+
+-- what is seen at a place is what the system calls it: a directory, a file, or neither
+abbrev pub Shows : Metadata → Seen → Type 0
+Shows about seen.Directory = IsDir (file_type about)
+Shows about (seen.File bytes) = IsFile (file_type about)
+Shows about seen.Other = (IsDir (file_type about) → ⊥) × (IsFile (file_type about) → ⊥)
+
+-- a word that names something in a directory: it leads nowhere else
+abbrev pub is_one_name : List ℕ → Bool
+is_one_name word = not (bytes_eq word (codes ".")) && not (bytes_eq word (codes "..")) && not (list_any is_slash word)
+
+-- a name that may stand in this directory of a tree
+pub record MayStand (dir name : List ℕ) : Type 0 where
+  pub named : IsName name
+  pub short : length (child_of dir name) ≤ 1024
+
+-- a directory that was listed, with its names
+abbrev pub Listing : Type 0
+Listing = List ℕ × List (Option (List ℕ))
+
+-- names with the directory in which they stand
+abbrev pub asked : List ℕ → List (Option (List ℕ)) → List (List ℕ × Option (List ℕ))
+asked dir names = map (λ name. (dir, name)) names
+
+-- the names of all listings, in order
+abbrev pub names_of : List Listing → List (List ℕ × Option (List ℕ))
+names_of [] = []
+names_of (l ∷ ls) = asked l.0 l.1 ++ names_of ls
+
+-- What a name comes to, as it was answered what its path leads to: where it may stand and leads to a directory or a
+-- file, that entry; otherwise it is passed over.
+abbrev pub ComesTo : (List ℕ → Option Node → Type 0) → List ℕ × Option (List ℕ) → Option (List ℕ × Node) → Type 0
+ComesTo leads (dir, Some name) (Some e) = MayStand dir name × (e.0 ≡ child_of dir name) × leads e.0 (Some e.1)
+ComesTo leads (dir, Some name) None = (MayStand dir name → ⊥) ⊎ leads (child_of dir name) None
+ComesTo leads (dir, None) (Some e) = ⊥
+ComesTo leads (dir, None) None = Unit {0}
+
+-- the entries that names came to
+abbrev pub entries_of : {A : Type 0} → List (Option A) → List A
+entries_of became = filter_map (λ e. e) became
+
+-- the directories among entries
+abbrev pub directories : List (List ℕ × Node) → List (List ℕ)
+directories [] = []
+directories ((path, Directory) ∷ es) = path ∷ directories es
+directories ((path, File bytes) ∷ es) = directories es
+
+-- By these answers the directory holds this tree: the top was listed, and each directory that was found, in this order;
+-- each name came to an entry or was passed over; the entries make the tree; and the others were counted, up to 2^64 - 1.
+pub record IsLoaded (lists : List ℕ → List (Option (List ℕ)) → Type 0) (leads : List ℕ → Option Node → Type 0) (tree : Tree) (passed : ℕ) : Type 0 where
+  pub read : List Listing
+  pub answered : AllByRecursion (λ l. lists l.0 l.1) read
+  pub became : List (Option (List ℕ × Node))
+  pub each : AllZip (ComesTo leads) (names_of read) became
+  pub below : map (λ l. l.0) read ≡ [] ∷ directories (entries_of became)
+  pub grows : grown top (entries_of became) ≡ Ok tree
+  pub counts : passed ≡ min (count_by is_none became) (2 ^ 64 - 1)
+
+-- names that were listed make no tree: a directory that changes meanwhile may list one twice
+pub record Clash (lists : List ℕ → List (Option (List ℕ)) → Type 0) (leads : List ℕ → Option Node → Type 0) : Type 0 where
+  pub read : List Listing
+  pub answered : AllByRecursion (λ l. lists l.0 l.1) read
+  pub before : List (List ℕ × Option (List ℕ))
+  pub after : List (List ℕ × Option (List ℕ))
+  pub listed : names_of read ≡ before ++ after
+  pub became : List (Option (List ℕ × Node))
+  pub each : AllZip (ComesTo leads) before became
+  pub fault : TreeFault
+  pub fails : grown top (entries_of became) ≡ Err fault
+
+-- why a directory wasn't read: a call at that path was refused, or the names that were listed make no tree
+abbrev pub IsUnloaded : (List ℕ → List (Option (List ℕ)) → Type 0) → (List ℕ → Option Node → Type 0) → (List ℕ → ErrorKind → Type 0) → LoadFault → Type 0
+IsUnloaded lists leads refuses (Device path kind) = refuses path kind ⊎ ((kind ≡ InvalidData) × Clash lists leads)
+IsUnloaded lists leads refuses Memory = Unit {0}
+
+-- the fault of a call at a path that the system refused
+abbrev pub load_fault : List ℕ → ErrorKind → LoadFault
+load_fault path OutOfMemory = Memory
+load_fault path kind = Device path kind
+
+-- each path of a tree is text
+abbrev pub HasTextPaths : Tree → Type 0
+HasTextPaths tree = AllByRecursion (λ e. IsUtf8 e.0) tree

@@ -1,0 +1,87 @@
+//! The directory that a run works in: what a run asks of the file system.
+
+ghost use Rattle.std.specs.Prelude.{◌≡◌, ◌++◌, ◌∷◌, [], IfErr, IfOk, OnErr, OnOk, length};
+ghost use Rattle.std.specs.IoError.{error_kind};
+ghost use Rattle.redo_dir.specs.Loaded.{names_in, node_seen};
+ghost use Rattle.redo_dir.specs.Stored.{put_of};
+
+use redo_path::Path;
+use redo_tree::Content;
+use std::alloc::Global;
+use std::io;
+
+/// What a path leads to. A link is neither a directory nor a file.
+#[derive(Drop)]
+pub enum Seen {
+    Directory,
+    File(Vec<u8>),
+    Other,
+}
+
+/// A new file that was written whole and waits for its name.
+pub trait Drafted {
+    ghost use Rattle.std.specs.Prelude.{List, ℕ};
+
+    // The path that it is to have, and its bytes.
+    ghost drafted: { Self → List ℕ × List ℕ };
+}
+
+/// The directory that a run works in. A run reaches the file system by these calls alone: nothing else is listed, read,
+/// made, renamed or removed. Paths are those of the tree; the directory itself is the root.
+///
+/// The ghost names keep what was asked and answered, so that contracts can speak of it. What the system does with a call
+/// that it answers well is known to no contract. [`SystemDir`](crate::SystemDir) asks the system.
+pub trait WorkDir {
+    ghost use Rattle.std.specs.Prelude.{List, Option, ℕ};
+    ghost use Rattle.std.specs.declared.io.ErrorKind.{ErrorKind};
+    ghost use Rattle.redo_tree.specs.Tree.{Node};
+    ghost use Rattle.redo_dir.specs.Stored.{Put};
+
+    /// A file under a temporary name of the run's own, which was written whole and closed.
+    type Draft: Drafted + Drop;
+
+    // A directory was listed, and these are its names; none stands for a name that isn't text.
+    ghost lists: { Self → List ℕ → List (Option (List ℕ)) → Type 0 };
+    // A path was looked at: a directory, a file with its bytes, or neither.
+    ghost leads: { Self → List ℕ → Option Node → Type 0 };
+    // A call at a path was answered by this error.
+    ghost refuses: { Self → List ℕ → ErrorKind → Type 0 };
+    // The files that got their names, in this order.
+    ghost stored: { Self → List Put };
+
+    /// Lists a directory. The order is the system's.
+    fn list(&self, alloc: Global, dir: &Path) -> io::Result<Vec<Option<String>>>
+        ensures answer { IfOk result (λ names. lists self.now dir.now (names_in names.items)) }
+        ensures refused { IfErr result (λ error. refuses self.now dir.now (error_kind error)) };
+
+    /// Looks at a path, follows no link, and reads what is a file.
+    fn look(&self, alloc: Global, path: &Path) -> io::Result<Seen>
+        ensures answer { IfOk result (λ seen. leads self.now path.now (node_seen seen)) }
+        ensures refused { IfErr result (λ error. refuses self.now path.now (error_kind error)) };
+
+    /// Writes a new file into the directory of `path`, under the temporary name of this number, and closes it. At an
+    /// error no file is left. It is `AlreadyExists` where something has that name; that is left as it is.
+    fn draft(
+        &self,
+        alloc: Global,
+        path: &Path,
+        content: &Content,
+        number: u64,
+    ) -> io::Result<Self::Draft>
+        ensures draft { IfOk result (λ draft. Self.Draft.drafted draft ≡ (path.now, content.now)) }
+        ensures refused { IfErr result (λ error. refuses self.now path.now (error_kind error)) };
+
+    /// Gives a draft its name, or removes it. Where no file was listed at its path (`over`) and a file or a directory
+    /// stands there, as on a system that takes `A` for `a`, the error is `AlreadyExists`. A link there is replaced.
+    fn put(&mut self, draft: Self::Draft, over: bool) -> io::Result<()>
+        ensures stored { OnOk result (stored self.new ≡ stored self.old ++ put_of (Self.Draft.drafted draft) over ∷ []) }
+        ensures kept { OnErr result (stored self.new ≡ stored self.old) }
+        ensures refused { IfErr result (λ error. refuses self.old (Self.Draft.drafted draft).0 (error_kind error)) };
+
+    /// How many files got their names.
+    fn count(&self) -> usize
+        ensures { result ≡ length (stored self.now) };
+
+    /// Removes a draft.
+    fn discard(&self, draft: Self::Draft);
+}
