@@ -1,4 +1,4 @@
-//! The cause behind a message, which `-v` adds where it is known.
+//! The cause behind a message, which `-v` adds if it is known.
 
 use crate::options::{Action, TARGETS};
 use crate::status::Fault;
@@ -9,10 +9,10 @@ use redo_run::Cause;
 use std::alloc::{AllocError, Global};
 use std::fmt::Display;
 
-/// A cause in words, or none where no more is known than the message says.
+/// A cause in words, or `None` if no more is known than the message says.
 pub(crate) type Words = Result<Option<String>, AllocError>;
 
-/// The target word that is refused, and why. Where memory runs out while it is looked for, nothing is known of it.
+/// The target word that is refused, and why. If memory ran out in the search for it, nothing is known.
 pub(crate) fn of_target(alloc: Global, bad: Option<(&str, PathFault)>) -> Words {
     match bad {
         Some((_, PathFault::Memory)) | None => Ok(None),
@@ -79,7 +79,7 @@ fn of_path<E: Display + Drop>(alloc: Global, path: &[u8], why: E) -> Words {
     Ok(Some(format!(in alloc; "{path:?}: {why}")?))
 }
 
-/// The path of an entry's header line: what stands behind `dir`, or behind `file` and the length.
+/// The path in an entry's header line: what follows `dir`, or `file` and the length.
 fn path_in(header: &[u8]) -> &[u8] {
     if let Some(path) = header.strip_prefix(b"dir ") {
         return path;

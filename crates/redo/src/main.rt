@@ -1,6 +1,6 @@
 //! `redo`: builds the targets of a tree of files by their `.do` scripts, and reports what became of each.
 //!
-//! This crate holds the command line, the words on standard error and the exit statuses; all else is `redo_run`'s.
+//! This crate has the command line, the words on standard error and the exit statuses; all else is in `redo_run`.
 #![tactic(auto)]
 
 ghost use Rattle.std.specs.Prelude.{◌≡◌, false};
@@ -28,7 +28,7 @@ use std::sync::Wait;
 use std::thread::Threads;
 use std::{env, io, mem};
 
-/// The size of the buffer before standard output.
+/// The size of the buffer of standard output, in bytes.
 const BUFFER_BYTES: usize = 65_536;
 
 fn main(rt: HostRuntime) -> ExitCode {
@@ -51,8 +51,8 @@ fn main(rt: HostRuntime) -> ExitCode {
     }
 }
 
-/// What the command line asks for, or the exit status where there is nothing to do: after help, or a refusal, each of
-/// which is shown.
+/// What the command line asks for. `Err` is the exit status if there is nothing to do: help, the version or a refusal
+/// was shown.
 fn read_call(rt: &HostRuntime, alloc: Global) -> Result<Call, u8> {
     let words = words(rt, alloc).map_err(|refusal| refuse(rt, refusal))?;
     let command = options::command(alloc).map_err(|_| refuse(rt, Refusal::Memory))?;
@@ -63,7 +63,7 @@ fn read_call(rt: &HostRuntime, alloc: Global) -> Result<Call, u8> {
     options::call_of(alloc, &matches).map_err(|refusal| refuse_call(rt, alloc, refusal, &matches))
 }
 
-/// Shows what the parse ended in: help or the version on standard output, a refusal on standard error. Answers the exit
+/// Shows what the parse ended in: help or the version on standard output, a refusal on standard error. Returns the exit
 /// status.
 fn show_parse(rt: &HostRuntime, error: &Error) -> u8 {
     if error.kind() == ErrorKind::OutOfMemory {
@@ -77,18 +77,18 @@ fn show_parse(rt: &HostRuntime, error: &Error) -> u8 {
     status::of_parse(error)
 }
 
-/// The words of the command line, the program's name before them.
+/// The words of the command line, after the program's name.
 fn words(rt: &HostRuntime, alloc: Global) -> Result<Vec<String>, Refusal> {
     Ok(env::args(rt)?.collect(alloc)?)
 }
 
-/// Shows why the command line is refused. Answers the exit status.
+/// Shows why the command line is refused. Returns the exit status.
 fn refuse(rt: &HostRuntime, refusal: Refusal) -> u8 {
     let _shown = eprintln!(rt; "redo: {refusal}");
     status::of_refusal(refusal)
 }
 
-/// Shows why words that were read are refused, and with `-v` the word. Answers the exit status.
+/// Shows why words that were read are refused, and with `-v` the word. Returns the exit status.
 fn refuse_call(rt: &HostRuntime, alloc: Global, refusal: Refusal, matches: &ArgMatches<'_>) -> u8 {
     let status = refuse(rt, refusal);
     if refusal == Refusal::BadTarget && matches.get_flag("verbose") {
@@ -107,7 +107,7 @@ fn show_cause<E: Drop>(rt: &HostRuntime, cause: Result<Option<String>, E>) {
     }
 }
 
-/// Does what was asked for, and answers whether all went well.
+/// Does what was asked for, and returns whether all went well.
 fn run<H: Runtime + Threads + Wait + Sync>(
     rt: &H,
     alloc: Global,
@@ -124,7 +124,7 @@ where
     }
 }
 
-/// Builds targets, and answers whether all that was requested is a source or built.
+/// Builds targets, and returns whether all that was requested is a source or built.
 fn build<H: Runtime + Threads + Wait + Sync>(
     rt: &H,
     alloc: Global,
@@ -138,14 +138,14 @@ where
 {
     let mut writer = Plain::new(buffered(alloc, io::writer(rt))?);
     let outcome = build_to(rt, alloc, options, input, &mut writer, cause);
-    // What is left after a failed write isn't tried again, as it would be where the buffer is let go with it.
+    // After a failed write the rest isn't tried again, as it would be if the buffer were dropped.
     let (_out, _unwritten) = writer.stream.into_parts();
     let (exit, passed) = outcome?;
     note_passed(rt, passed);
     Ok(exit == Exit::Good)
 }
 
-/// Builds targets, and writes the report to its end. Answers how they ended, and how many names were passed over.
+/// Builds targets, and writes the whole report. Returns how they ended, and how many names were passed over.
 fn build_to<H: Runtime + Threads + Wait + Sync, W: Write + Drop>(
     rt: &H,
     alloc: Global,
@@ -187,7 +187,7 @@ where
     Ok(ended)
 }
 
-/// A writer with a buffer, since a report comes in many small pieces.
+/// A writer with a buffer, as a report comes in many small pieces.
 fn buffered<S: Write + Drop>(alloc: Global, stream: S) -> Result<BufWriter<S>, Fault> {
     BufWriter::with_capacity(alloc, BUFFER_BYTES, stream).map_err(|_| Fault::Memory)
 }
@@ -197,7 +197,7 @@ fn flush<S: Write + Drop>(writer: &mut BufWriter<S>) -> Result<(), Fault> {
     writer.flush().map_err(|_| Fault::Output)
 }
 
-/// Lists a target's candidates, and answers whether one of them is a file.
+/// Lists a target's candidates, and returns whether one of them is a file.
 fn list<H: Runtime + Threads + Sync>(
     rt: &H,
     alloc: Global,

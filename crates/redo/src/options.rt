@@ -32,7 +32,7 @@ pub(crate) enum Input {
 #[derive(Drop)]
 pub(crate) struct Call {
     pub(crate) action: Action,
-    /// Whether a message is to be followed by its cause.
+    /// Whether a message is followed by its cause.
     pub(crate) verbose: bool,
 }
 
@@ -47,13 +47,14 @@ impl Action {
     /// The directory that is read, if one is.
     pub(crate) fn directory(&self) -> &str {
         match self {
-            Action::Build(_, Input::Directory(dir)) | Action::Whichdo(_, Input::Directory(dir)) => dir,
+            Action::Build(_, Input::Directory(dir)) | Action::Whichdo(_, Input::Directory(dir)) =>
+                dir,
             _ => "",
         }
     }
 }
 
-/// Why the words of the command line, each good by itself, can't be served together.
+/// Why the command line is refused, apart from what its parser refuses.
 #[derive(Clone, Copy, Debug, PartialEq, Eq, Error)]
 pub(crate) enum Refusal {
     #[error("-k is required")]
@@ -80,7 +81,7 @@ impl<T: Drop> From<AllocFailed<T>> for Refusal {
     }
 }
 
-/// Why the words of the command line can't be read: a word that isn't UTF-8 names no target.
+/// The words of the command line can't be read: one that isn't UTF-8 names no target.
 impl From<io::Error> for Refusal {
     fn from(error: io::Error) -> Refusal {
         match error.kind() {
@@ -152,7 +153,7 @@ fn targets<'a>(alloc: Global) -> Arg<'a> {
         .help("What to build [default: all]")
 }
 
-/// The command line's forms.
+/// The forms of the command line.
 pub(crate) fn command<'a>(alloc: Global) -> Result<Command<'a>, AllocError> {
     Command::new(alloc, "redo")
         .version(VERSION)
@@ -166,7 +167,7 @@ pub(crate) fn command<'a>(alloc: Global) -> Result<Command<'a>, AllocError> {
         .arg(targets(alloc))
 }
 
-/// What the words ask for together. Of several refusals it is the first in the order of the enum.
+/// What the words ask for. Of several refusals it returns the first in the order of the enum.
 pub(crate) fn call_of(alloc: Global, matches: &ArgMatches<'_>) -> Result<Call, Refusal> {
     let whichdo = matches.get_str("whichdo");
     let bundle = matches.get_flag("bundle");

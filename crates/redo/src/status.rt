@@ -6,7 +6,7 @@ use redo_bundle::BundleFault;
 use redo_run::{RunDirFault, RunIoFault};
 use std::fmt;
 
-/// All requested targets are built or sources; a rule was found; help was shown.
+/// All requested targets are built or sources; a rule was found; help or the version was shown.
 pub(crate) const GOOD: u8 = 0;
 /// A requested target failed or is cyclic; no rule was found.
 pub(crate) const FAILED: u8 = 1;
@@ -21,7 +21,7 @@ pub(crate) const OUTPUT: u8 = 5;
 /// Memory ran out.
 pub(crate) const MEMORY: u8 = 6;
 
-/// The status after a parse that ended in help or a refusal of the words.
+/// The status after a parse that ended in help, the version or a refusal.
 pub(crate) fn of_parse(error: &Error) -> u8 {
     if error.use_stderr() { USAGE } else { GOOD }
 }
@@ -38,7 +38,7 @@ pub(crate) fn of_refusal(refusal: Refusal) -> u8 {
 pub(crate) enum Fault {
     Bundle(BundleFault),
     Directory,
-    /// The book of the last run is refused, for its line of this number.
+    /// The book of the last run has a fault, first in this line, counted from 1.
     Book(u64),
     TooMany,
     Output,

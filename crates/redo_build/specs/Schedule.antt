@@ -1,4 +1,4 @@
--- The states of a build and what may happen next, over every order in which scripts are taken and handed in.
+-- The states of a build and what can happen next, for every order in which scripts are taken and handed in.
 use Rattle.std.specs.Prelude.{◌≡◌, ℕ, ◌+◌, ◌<◌, Bool, true, false, not, ◌&&◌, List, [], ◌∷◌, ◌++◌, Option, Some, None}
 use Rattle.std.specs.Prelude.{is_some, is_none, if◌then◌else◌, length, filter, remove, slice_get, option_and_then}
 use Rattle.std.specs.Prelude.{bytes_eq}
@@ -10,7 +10,7 @@ use Rattle.redo_build.specs.Outcomes.{requested_targets}
 use Rattle.redo_record.specs.declared.deps.Dep.{Dep}
 use Rattle.redo_record.specs.declared.outcome.Outcome.{Outcome}
 
--- a target that was seen: how often its check stopped and how often its script, all that it asked for so far, its
+-- a target that has been seen: how often its check and its script have stopped, what it has asked for so far, its
 -- outcome once it is decided, and whether its job is out
 pub record Entry : Type 0 where
   pub path : List ℕ
@@ -20,8 +20,8 @@ pub record Entry : Type 0 where
   pub outcome : Option Outcome
   pub is_out : Bool
 
--- the entries in order of first sight, and those of them that may be taken. An entry that isn't decided, ready or out
--- is waiting
+-- the entries in order of first sight, and the paths that may be taken. An entry waits if it isn't decided, ready or
+-- out
 pub record State : Type 0 where
   pub entries : List Entry
   pub ready : List (List ℕ)
@@ -38,7 +38,7 @@ abbrev pub outcome_of : Option Entry → Option Outcome
 outcome_of None = None
 outcome_of (Some e) = e.outcome
 
--- the outcomes that are decided
+-- the outcomes decided so far
 abbrev pub outcomes_of : List Entry → Ask
 outcomes_of es p = outcome_of (entry_of es p)
 
@@ -49,7 +49,7 @@ only ps a q = if is_among ps q then a q else None
 abbrev pub nothing_known : Ask
 nothing_known q = None
 
--- a path that is seen for the first time: without a rule it is decided at once
+-- the entry of a path at first sight: without a rule it is decided at once
 abbrev pub new_entry : Rules → List ℕ → Entry
 new_entry r p =
     if r.has_rule p
@@ -63,12 +63,12 @@ new_entry r p =
       is_out = false;
     }
 
--- the entries, and behind them those of the paths that are new
+-- the entries, followed by new ones for the paths that had none
 abbrev pub entered : Rules → List Entry → List (List ℕ) → List Entry
 entered r es [] = es
 entered r es (p ∷ ps) = entered r (if is_among (paths_of es) p then es else es ++ new_entry r p ∷ []) ps
 
--- the entries with that of a path replaced
+-- the entries, with the one of the same path replaced
 abbrev pub put : List Entry → Entry → List Entry
 put [] e = []
 put (x ∷ xs) e = if bytes_eq x.path e.path then e ∷ xs else x ∷ put xs e
@@ -77,11 +77,11 @@ put (x ∷ xs) e = if bytes_eq x.path e.path then e ∷ xs else x ∷ put xs e
 abbrev pub lacks_none : Rules → List Entry → Entry → Bool
 lacks_none r es e = not (list_any (λ q. is_none (outcomes_of es q)) (operands r e.deps))
 
--- the answers to all that the entry asked for. At turn 0 they are what its check came to know
+-- the answers to what the entry asked for. At turn 0 they are those of its check
 abbrev pub known_to : Rules → List Entry → Entry → Ask
 known_to r es e = only (operands r e.deps) (outcomes_of es)
 
--- the entry can go on, and isn't noted as ready or out
+-- the entry is undecided, lacks no answer, and is neither ready nor out
 abbrev pub is_able_to_go_on : Rules → State → Entry → Bool
 is_able_to_go_on r s e = is_none e.outcome && lacks_none r s.entries e && not e.is_out && not (is_among s.ready e.path)
 
@@ -89,25 +89,25 @@ is_able_to_go_on r s e = is_none e.outcome && lacks_none r s.entries e && not e.
 abbrev pub may_run : Rules → State → Entry → Bool
 may_run r s e = is_able_to_go_on r s e && r.begins e.path (known_to r s.entries e)
 
--- its script isn't begun yet, and the check of its recorded entries can begin or go on
+-- its script isn't begun, and its check can begin or go on
 abbrev pub is_due : Rules → State → Entry → Bool
 is_due r s e = is_able_to_go_on r s e && not (r.begins e.path (known_to r s.entries e))
 
--- what may run now is ready behind the others, in order of first sight
+-- what may run now becomes ready behind the others, in order of first sight
 abbrev pub enqueued : Rules → State → State
 enqueued r s = record s { ready = s.ready ++ paths_of (filter (may_run r s) s.entries) }
 
--- the opening
+-- the first state: the requested targets are entered, and those that may run are ready
 abbrev pub opening : Rules → List (List ℕ) → State
 opening r request = enqueued r (record { entries = entered r [] (requested_targets r request); ready = [] })
 
 pub data Event : Type 0 where
   Take : (which : ℕ) → Event
   Hand_in : (target : List ℕ) (turn : ℕ) → Event
-  -- the board's own: the check of a target goes on until it lacks an answer
+  -- made by the board itself: the check of a target goes on
   Look : (target : List ℕ) → Event
 
--- what of a target goes on: the check of its recorded entries, or its script
+-- the part of a target that goes on: its check or its script
 pub data Phase : Type 0 where
   Check : Phase
   Script : Phase
@@ -120,21 +120,21 @@ abbrev pub taken : State → Option Entry → ℕ → State
 taken s None which = s
 taken s (Some e) which = record { entries = put s.entries (sent_out e); ready = remove s.ready which }
 
--- how far an entry comes with the answers that it asked for
+-- how far an entry comes with the answers to what it asked for
 abbrev pub advanced : Rules → List Entry → Entry → Progress
 advanced r es e = r.progress e.path (known_to r es e)
 
--- how often its check stopped, once this phase of the target came so far
+-- how often its check has stopped, after this phase came as far as `now`
 abbrev pub looks_after : Phase → Entry → Progress → ℕ
 looks_after Check e now = if is_some now.outcome then e.looks else e.looks + 1
 looks_after Script e now = e.looks
 
--- how often its script stopped
+-- how often its script has stopped, after this phase came as far as `now`
 abbrev pub turn_after : Phase → Entry → Progress → ℕ
 turn_after Check e now = e.turn
 turn_after Script e now = if is_some now.outcome then e.turn else e.turn + 1
 
--- the entry after its check or its script came so far
+-- the entry after this phase came as far as `now`
 abbrev pub moved_on : Phase → Entry → Progress → Entry
 moved_on phase e now =
     record {
@@ -146,7 +146,7 @@ moved_on phase e now =
       is_out = false;
     }
 
--- the state after that, with what the entry asks for now
+-- the state after that: what the entry now asks for is entered, and what may run becomes ready
 abbrev pub handed_in : Rules → Phase → State → Option Entry → State
 handed_in r phase s None = s
 handed_in r phase s (Some e) =

@@ -1,4 +1,4 @@
--- What is taken in a run.
+-- Which targets a run takes.
 use Rattle.std.specs.Prelude.{◌≡◌, ℕ, ◌≤◌, ◌⊎◌, ◌↔◌, Bool, ◌&&◌, List, [], ◌∷◌, ◌++◌, Option, Some, None, slice_get}
 use Rattle.std.specs.Prelude.{option_and_then, bytes_eq, nat_eq}
 use Rattle.std.specs.List.{count_by}
@@ -12,7 +12,7 @@ abbrev pub place_of : Option Entry → List ((List ℕ) × ℕ)
 place_of None = []
 place_of (Some e) = (e.path, e.turn) ∷ []
 
--- each target that these events take, with the turn that it had
+-- the targets that these events take, each with its turn
 abbrev pub takes : Rules → List Event → State → List ((List ℕ) × ℕ)
 takes r [] s = []
 takes r (Take which ∷ events) s =
@@ -25,7 +25,7 @@ abbrev pub IsTaken : List ((List ℕ) × ℕ) → List ℕ → ℕ → Type 0
 IsTaken [] p turn = ⊥
 IsTaken (x ∷ xs) p turn = ((x.0 ≡ p) × (x.1 ≡ turn)) ⊎ IsTaken xs p turn
 
--- no pair stands twice
+-- no pair occurs twice
 abbrev pub AreOnce : List ((List ℕ) × ℕ) → Type 0
 AreOnce [] = Unit {0}
 AreOnce (x ∷ xs) = (IsTaken xs x.0 x.1 → ⊥) × AreOnce xs
@@ -42,6 +42,6 @@ times_taken taken p turn = count_by (is_at p turn) taken
 abbrev pub AreCountedOnce : List ((List ℕ) × ℕ) → Type 0
 AreCountedOnce taken = (p : List ℕ) (turn : ℕ) → times_taken taken p turn ≤ 1
 
--- the targets that are taken at turn 0 are these
+-- the targets taken at turn 0 are exactly these
 abbrev pub AreBegun : List ((List ℕ) × ℕ) → List (List ℕ) → Type 0
 AreBegun taken begun = (p : List ℕ) → IsTaken taken p 0 ↔ IsAmong begun p

@@ -13,14 +13,14 @@ ghost use Rattle.redo_build.specs.Takes.{takes, times_taken, AreCountedOnce, Are
 ghost use Rattle.redo_build.specs.TakesLeft.{takes_left};
 ghost use Rattle.redo_build.specs.Theorems.{IsPartOfBuild, ShowsBuild};
 
-/// No depth beyond the limit makes a difference, where no more targets than the limit are needed.
+/// If at most `limit` targets are needed, a depth beyond `limit` adds no target and changes no outcome.
 pub fn depth_is_enough()
     ensures { (r : Rules) → AreLawful r → (request : List (List ℕ)) (limit : ℕ) →
         length (needed_at r request limit) ≤ limit → IsSettled r request limit }
 {}
 
-/// Every order of taking, handing in and looking shows a part of the one build, and all of it once nothing more can
-/// happen and no check can go on.
+/// Whatever the order of takes, hand-ins and looks, the state shows a part of the one build. Once it is quiet, within
+/// the limit, and no check can go on, it shows all of the build.
 pub fn every_schedule()
     ensures part { (r : Rules) → AreLawful r → (request : List (List ℕ)) (limit : ℕ) (events : List Event) →
         AllOpen r (opening r request) events →
@@ -32,7 +32,7 @@ pub fn every_schedule()
         ShowsBuild r request limit (run r events (opening r request)) }
 {}
 
-/// No target is taken twice at one turn, and so none is counted twice.
+/// No target is taken twice at the same turn, so none is counted twice.
 pub fn takes_once()
     ensures once { (r : Rules) → AreLawful r → (request : List (List ℕ)) (events : List Event) →
         AllOpen r (opening r request) events → AreOnce (takes r events (opening r request)) }
@@ -40,8 +40,8 @@ pub fn takes_once()
         AllOpen r (opening r request) events → AreCountedOnce (takes r events (opening r request)) }
 {}
 
-/// Once nothing more can happen, the targets that were taken at turn 0 are the needed ones that have a rule and that
-/// the rules begin in the end.
+/// Once the state is quiet and no check can go on, the targets taken at turn 0 are exactly the needed ones that have a
+/// rule and whose script the build begins.
 pub fn begins_each()
     ensures { (r : Rules) → AreLawful r → (request : List (List ℕ)) (limit : ℕ) (events : List Event) →
         AllOpen r (opening r request) events → IsQuiet (run r events (opening r request)) →
@@ -52,7 +52,7 @@ pub fn begins_each()
         (r.begins p (outcome_at r limit) ≡ true)) }
 {}
 
-/// The board's own looks come to an end: within the limit each leaves less that may be taken or looked at.
+/// The board's looks end: within the limit, each of them makes `takes_left` smaller.
 pub fn looks_end()
     ensures { (r : Rules) → AreLawful r → (request : List (List ℕ)) (limit : ℕ) (events : List Event)
         (target : List ℕ) → AllOpen r (opening r request) events →
@@ -62,14 +62,14 @@ pub fn looks_end()
         takes_left limit (run r events (opening r request)) }
 {}
 
-/// From each state within the limit the board's own looks lead to one in which no check can go on, or past the limit.
+/// From every state within the limit, looks lead to one in which no check can go on, or past the limit.
 pub fn looks_settle()
     ensures { (r : Rules) → AreLawful r → (request : List (List ℕ)) (limit : ℕ) (events : List Event) →
         AllOpen r (opening r request) events → length (run r events (opening r request)).entries ≤ limit →
         Settles r limit (run r events (opening r request)) }
 {}
 
-/// The board's own looks are open events, and where they end there is one state that they lead to.
+/// Every look is an open event, and looks end in at most one state.
 pub fn looks_lead_on()
     ensures led { (r : Rules) → AreLawful r → (request : List (List ℕ)) (events : List Event) (looks : ℕ) →
         AllOpen r (opening r request) events →
@@ -78,8 +78,7 @@ pub fn looks_lead_on()
         first ≡ second }
 {}
 
-/// Looks leave the jobs as they are: what is out stays out at its turn, and nothing else is; as many are out; and looks
-/// take nothing.
+/// Looks leave jobs alone: the same targets are out at the same turns, as many jobs are out, and nothing is taken.
 pub fn looks_leave_jobs()
     ensures out { (r : Rules) → AreLawful r → (request : List (List ℕ)) (events : List Event) (looks : ℕ)
         (target : List ℕ) (turn : ℕ) → AllOpen r (opening r request) events →
@@ -93,7 +92,7 @@ pub fn looks_leave_jobs()
         takes r (events ++ looks) s ≡ takes r events s }
 {}
 
-/// Where no check can go on, none can after a take: so a board looks at the opening and after a piece alone.
+/// If no check can go on, none can after a take either. So a board looks only at the opening and after each hand-in.
 pub fn takes_make_none_due()
     ensures { (r : Rules) → AreLawful r → (request : List (List ℕ)) (events : List Event) (which : ℕ) →
         AllOpen r (opening r request) events → NoneDue r (run r events (opening r request)) →
@@ -101,14 +100,14 @@ pub fn takes_make_none_due()
         NoneDue r (happens r (run r events (opening r request)) (Take which)) }
 {}
 
-/// Where each script is begun, no check ever goes on, and looking changes nothing.
+/// If every script is begun, no check ever goes on, and looking changes nothing.
 pub fn nothing_is_due()
     ensures none { (r : Rules) → KeepsNothing r → (s : State) → NoneDue r s }
     ensures same { (r : Rules) → KeepsNothing r → (s t : State) → IsLookedOut r s t ↔ (t ≡ s) }
 {}
 
-/// A piece of a target that is out at its turn comes as far as the schedule says, whatever board its work is from; and
-/// so the scripts of two boards do, whatever their requests and their orders.
+/// The piece of a target that is out comes exactly as far as the schedule says, even if its work is from another board.
+/// Two boards agree on how far a target comes at a turn, whatever they were asked for and in whatever order they work.
 pub fn pieces_are_alike()
     ensures piece { (r : Rules) → AreLawful r → (request : List (List ℕ)) (events : List Event) (target : List ℕ)
         (turn : ℕ) (now : Progress) → AllOpen r (opening r request) events →
@@ -122,7 +121,7 @@ pub fn pieces_are_alike()
         advanced r (run r events (opening r request)).entries out.entry }
 {}
 
-/// How often each pair is counted in a list tells what was taken, and whether a pair stands twice.
+/// Counts tell what was taken: a pair was taken if its count is at least 1, and none twice if no count is above 1.
 pub fn counts_tell()
     ensures taken { (taken : List (List ℕ × ℕ)) (p : List ℕ) (turn : ℕ) →
         IsTaken taken p turn ↔ (1 ≤ times_taken taken p turn) }

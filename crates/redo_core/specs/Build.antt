@@ -1,5 +1,5 @@
--- The rules of a build: what its sources, the search for rules, the grammar of scripts and their meaning say together
--- of how far each target comes under an ask, and what the book of the last run lets it keep.
+-- The rules of a build: how far each target comes with given answers, by its sources, the search for rules, and the
+-- grammar and meaning of scripts; and what the book of the last run lets it keep.
 use Rattle.std.specs.Prelude.{ℕ, Bool, true, ◌&&◌, not, List, [], is_some, is_none, unwrap_or}
 use Rattle.redo_script.specs.Texts.{script_in}
 use Rattle.redo_record.specs.declared.deps.DepKind.TheVariants.{Create}
@@ -49,12 +49,12 @@ rules_by tree file_bytes = record {
   is_source = λ p. is_some (file_at tree p);
   has_rule = λ p. is_rule (found_of tree p);
   progress = progress_of tree file_bytes;
-  -- each script is begun, and all that it asked for is its record
+  -- every script is begun, and its record is all that it asked for
   begins = λ target ask. true;
   recorded = λ target ask. (progress_of tree file_bytes target ask).deps;
 }
 
--- nothing stands at the path, and nothing has a rule to be made there
+-- nothing is at the path, and no rule makes anything there
 abbrev pub is_free : Tree → List ℕ → Bool
 is_free tree p = is_none (node_at tree p) && not (is_rule (found_of tree p))
 
@@ -90,7 +90,7 @@ sources_for given = sources_of given.past.sources given.limits
 abbrev pub checks_for : GivenView → Checks
 checks_for given = checks_of (sources_for given) (last_run_of given.past) given.request
 
--- the rules of a build that is given this, had it no book
+-- the rules of a build that is given this, without its book
 abbrev pub plain_rules_for : GivenView → Rules
 plain_rules_for given = rules_of given.past.sources given.limits
 

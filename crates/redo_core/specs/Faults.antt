@@ -14,7 +14,7 @@ use Rattle.redo_past.specs.declared.faults.PastFault.TheVariants as pasts
 use Rattle.redo_core.specs.declared.board.HandFault.{HandFault}
 use Rattle.redo_core.specs.declared.board.HandFault.TheVariants.{Stranger, TooMany, Memory}
 
--- what a board that has stopped answers
+-- the fault of a hand-in to a board that has stopped
 abbrev pub fault_of : Stop → HandFault
 fault_of Stopped_at_limit = TooMany
 fault_of Stopped_for_memory = Memory
@@ -24,7 +24,7 @@ abbrev pub opening_fault_of : Stop → OpenFault
 opening_fault_of Stopped_at_limit = Opened_too_many
 opening_fault_of Stopped_for_memory = Opened_without_memory
 
--- why no build was opened whose tree could not be taken apart
+-- why no build was opened, if the tree has no past
 abbrev pub past_fault_of : PastFault → OpenFault
 past_fault_of (pasts.Book line) = Opened_without_book line
 past_fault_of pasts.Memory = Opened_without_memory
@@ -33,8 +33,8 @@ past_fault_of pasts.Memory = Opened_without_memory
 abbrev pub IsSameBuild : BoardView → BoardView → Type 0
 IsSameBuild old new = new.given ≡ old.given
 
--- a board that ran: exactly a piece whose target isn't out at its turn is a stranger, comes back and changes nothing;
--- after any other fault the board has stopped
+-- a board that ran: a piece is a stranger exactly if its target isn't out at its turn; it comes back and changes
+-- nothing. After any other fault the board has stopped
 abbrev pub RefusedRunning : BoardView → BoardView → PieceView → HandFault → Type 0
 RefusedRunning old new piece (Stranger back) =
     (back ≡ piece) × (new ≡ old) × (IsOutAt old.state piece.target piece.turn → ⊥)
@@ -44,7 +44,7 @@ RefusedRunning old new piece TooMany =
 RefusedRunning old new piece Memory =
     IsSameBuild old new × (new.stopped ≡ Some Stopped_for_memory) × IsOutAt old.state piece.target piece.turn
 
--- a board that had stopped answers why, for good
+-- a board that had stopped says why, and stays as it was
 abbrev pub Refused : BoardView → BoardView → PieceView → HandFault → Type 0
 Refused old new piece fault =
     MatchOption old.stopped (RefusedRunning old new piece fault) (λ stop. (fault ≡ fault_of stop) × (new ≡ old))

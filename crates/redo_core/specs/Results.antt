@@ -11,7 +11,7 @@ use Rattle.redo_report.specs.declared.report.Report.{Report}
 use Rattle.redo_step.specs.Limits.{LimitsView}
 use Rattle.redo_tree.specs.Tree.{Tree}
 
--- the tree, taken apart: no tree has two, and one has none only where its book is refused
+-- the past of the tree: no tree has two, and one has none only if its book is refused
 pub record IsOfTree (tree : Tree) (past : PastView) : Type 0 where
   pub is_past : IsPast past
   pub of_tree : past.tree ≡ tree
@@ -37,7 +37,7 @@ pub record IsResult (given : GivenView) (result : Report) : Type 0 where
   pub built : IsReport (rules_for given) given.request given.limits.targets report
   pub with_book : IsResultOf given.past report result
 
--- the same of the tree
+-- the same for the build of a tree
 abbrev pub IsResultOn : Tree → List (List ℕ) → LimitsView → Report → Type 0
 IsResultOn tree request limits result = (given : GivenView) × IsGiven tree request limits given × IsResult given result
 

@@ -12,7 +12,7 @@ use Rattle.redo_report.specs.declared.report.Row.{Row}
 use Rattle.redo_past.specs.NewBook.{entry_as, is_built}
 use Rattle.redo_core.specs.Build.{GivenView, plain_rules_for, sources_by, sources_for}
 
--- a record is true of trees: in some tree, under some answers and with this limit of a file's bytes, its target came to
+-- a record is true of trees: in some tree, with some answers and with this limit of a file's bytes, its target came to
 -- what it says
 pub record IsTrueOfTrees (file_bytes : ℕ) (r : Record) : Type 0 where
   pub tree : Tree
@@ -23,8 +23,8 @@ pub record IsTrueOfTrees (file_bytes : ℕ) (r : Record) : Type 0 where
 abbrev pub AreTrueOfTrees : ℕ → (List ℕ → Option Record) → Type 0
 AreTrueOfTrees file_bytes book = (p : List ℕ) (r : Record) → book p ≡ Some r → IsTrueOfTrees file_bytes r
 
--- no digest confuses files by a record: neither one that its target met with the one that this build has there, nor the
--- one that it made with the one that stands in the tree now
+-- no digest confuses files by a record: neither a file that its target met with the one that this build has there, nor
+-- the file that it made with the one that is in the tree now
 pub record IsUnconfused (given : GivenView) (r : Record) (is : IsTrueOfTrees given.limits.file_bytes r) : Type 0 where
   pub met : AreApart (sources_by is.tree given.limits.file_bytes) is.ask (sources_for given)
       (outcome_at (plain_rules_for given) given.limits.targets)
@@ -36,7 +36,7 @@ abbrev pub HasHonestBook : GivenView → Type 0
 HasHonestBook given = (p : List ℕ) (r : Record) → record_at given.past.book p ≡ Some r →
     (is : IsTrueOfTrees given.limits.file_bytes r) × IsUnconfused given r is
 
--- where the row's target was built, a book has an entry for each of its record
+-- if the row's target was built, a book has each entry of its record
 abbrev pub IsNotedWhole : Tree → List Row → Row → Type 0
 IsNotedWhole sources rows row =
     is_built row.outcome ≡ true →

@@ -30,7 +30,7 @@ pub record WorkView : Type 0 where
   -- the outcomes that it holds
   pub known : List (List ℕ × Outcome)
 
--- what a list of paths with their outcomes tells
+-- the answers that a list of paths with their outcomes gives
 abbrev pub told_by : List (List ℕ × Outcome) → Ask
 told_by known p = lookup (bytes_eq p) known
 
@@ -57,15 +57,15 @@ request_on b = b.given.request
 abbrev pub limit_on : BoardView → ℕ
 limit_on b = b.given.limits.targets
 
--- how many may be taken
+-- how many targets may be taken
 abbrev pub ready_count : BoardView → ℕ
 ready_count b = if is_some b.stopped then 0 else length b.state.ready
 
--- how many are out
+-- how many jobs are out
 abbrev pub jobs_out : BoardView → ℕ
 jobs_out b = if is_some b.stopped then 0 else out_count b.state
 
--- a run of open events leads from the opening to the state
+-- a run of open events leads from the opening to this state
 pub record IsReached (r : Rules) (request : List (List ℕ)) (s : State) : Type 0 where
   pub events : List Event
   pub all_open : AllOpen r (opening r request) events
@@ -75,7 +75,7 @@ pub record IsReached (r : Rules) (request : List (List ℕ)) (s : State) : Type 
 abbrev pub opened : GivenView → BoardView
 opened given = record { given = given; state = opening (rules_for given) given.request; stopped = None }
 
--- the first board with its checks looked at until none can go on
+-- the first board, after looks until no check can go on
 pub record IsLookedAhead (first board : BoardView) : Type 0 where
   pub given : board.given ≡ first.given
   pub stopped : board.stopped ≡ first.stopped
@@ -89,19 +89,19 @@ IsFirstBoard given board = IsLookedAhead (opened given) board
 abbrev pub after : BoardView → Event → BoardView
 after b event = record b { state = happens (rules_on b) b.state event }
 
--- the board once what a target that was out came to is taken in
+-- the board after a hand-in, and after looks until no check can go on
 abbrev pub IsHandedIn : BoardView → List ℕ → ℕ → BoardView → Type 0
 IsHandedIn old target turn new = IsLookedAhead (after old (Hand_in target turn)) new
 
 abbrev pub IsQuietBoard : BoardView → Type 0
 IsQuietBoard b = IsNone b.stopped × (ready_count b ≡ 0) × (jobs_out b ≡ 0)
 
--- the piece is of the build that the board is of
+-- the piece and the board are of the same build
 abbrev pub Belongs : BoardView → PieceView → Type 0
 Belongs b piece = piece.given ≡ b.given
 
--- the work is of the target at that place, at its turn, and holds the decided outcomes of all that it asked for, and no
--- others
+-- the work is that of the ready target at this index, at its turn, and holds exactly the decided outcomes of what it
+-- asked for
 pub record IsWorkTaken (b : BoardView) (which : ℕ) (w : WorkView) : Type 0 where
   pub given : w.given ≡ b.given
   pub target : slice_get b.state.ready which ≡ Some w.target

@@ -1,4 +1,4 @@
-//! What a path is once it is seen for the first time.
+//! What a path is at first sight.
 ghost use Rattle.std.specs.Prelude.{◌≡◌, ◌<◌, IfOk};
 ghost use Rattle.redo_which.specs.Rule.{found_of};
 ghost use Rattle.redo_core.specs.inside.Slots.{IsBegun};
@@ -16,8 +16,7 @@ use redo_which::{Found, Rule, lookup};
 use std::alloc::{AllocError, Global};
 use std::sync::Arc;
 
-/// What a path that is seen for the first time, as the target of a number, is at once: decided where it has no rule,
-/// else in check or ready.
+/// The first stage of a path, which is the target of this number: decided if it has no rule, else in check or ready.
 pub(crate) fn begin(
     alloc: Global,
     path: &Path,
@@ -44,8 +43,8 @@ pub(crate) fn begin(
     Ok(Stage::Decided(build.publish(number, fact)?))
 }
 
-/// A target with a rule. Its check can go on, if it is in check and no entry falls before one asks for a path; else its
-/// script is read when it is advanced.
+/// The first stage of a target with a rule: due if it is in check and no entry falls before one asks for a path, else
+/// ready. Its script is read when it is advanced.
 fn ruled(alloc: Global, path: &Path, build: &Build, rule: Rule) -> Result<Stage, AllocError>
     requires { found_of build.now.past.sources path.now ≡ found_as rule }
     ensures { IfOk result (IsBegun build.now path.now) }

@@ -35,7 +35,7 @@ use std::sync::Arc;
 pub enum Stop {
     /// More targets are needed than the limit allows.
     TooMany,
-    /// A growth was refused.
+    /// Memory ran out.
     Memory,
 }
 
@@ -59,10 +59,10 @@ impl<T: Drop> From<AllocFailed<T>> for Stop {
     }
 }
 
-/// The entries of a build, and what may happen to them next. In a contract it is what it was given, the state of its
-/// entries, and why it has stopped. Of whatever value of this type that hasn't stopped, the state is one that some run
-/// of takes, hand-ins and looks led to, so what is proved of runs holds for it wherever it comes from. Of one that has
-/// stopped only this is known: where it has stopped at the limit, the build needs too many targets.
+/// The entries of a build, and what may happen to them next. In a contract it is what the build is given, the state of
+/// the entries, and why the board has stopped. The state of a board that hasn't stopped is one that some run of takes,
+/// hand-ins and looks led to. So what is proved of runs holds for every such value, wherever it comes from. Of a board
+/// that has stopped at the limit, it is known that the build needs too many targets.
 #[derive(Drop)]
 pub struct Board {
     alloc: Global,
@@ -94,7 +94,7 @@ pub enum HandFault {
     Stranger(Piece),
     /// More targets are needed than the limit allows. The board has stopped.
     TooMany,
-    /// A growth was refused. The board has stopped.
+    /// Memory ran out. The board has stopped.
     Memory,
 }
 
@@ -112,9 +112,9 @@ impl From<Stop> for HandFault {
 }
 
 impl Board {
-    /// A board with the requested targets entered, over a tree as it was read, whose contents it shares. The tree may
-    /// hold what a run before has left, its book and the files that it generated: they are set aside, and the build is
-    /// that of the sources. A book that is refused is told before targets that are too many.
+    /// Opens a board over a tree as it was read, whose contents it shares, and enters the requested targets. If the
+    /// tree has a book of the last run, the book and the generated files are set aside: the build is that of the
+    /// sources. A book with a fault is reported before too many targets.
     pub fn open(
         alloc: Global,
         tree: Arc<Tree>,
@@ -133,7 +133,7 @@ impl Board {
         Board::over(alloc, past, request, limits)
     }
 
-    /// The same over what a run before has left, whose book was read.
+    /// The same as [`Board::open`], over a past, whose book has been read.
     pub fn over(
         alloc: Global,
         past: Past,
@@ -161,8 +161,7 @@ impl Board {
         })
     }
 
-    /// How many targets may be taken; 0 once the board has stopped. With redo -j, as many as there are free workers are
-    /// taken.
+    /// How many targets may be taken; 0 once the board has stopped.
     pub fn ready(&self) -> usize
         ensures { result ≡ ready_count self.now }
     {
@@ -182,7 +181,7 @@ impl Board {
         self.stopped
     }
 
-    /// Takes a target that is ready. The others close up.
+    /// Takes the ready target at this index of the queue. The others close up.
     pub fn take(&mut self, which: usize) -> Result<Work, AllocError>
         requires { which < ready_count self.old }
         ensures ok { OnOk result (self.new ≡ after self.old (Take which)) }
@@ -208,7 +207,7 @@ impl Board {
         }
     }
 
-    /// Takes back what a job came to. A piece whose target isn't out at its turn comes back, and nothing has changed.
+    /// Hands in what a job came to. A piece whose target isn't out at its turn comes back, and nothing changes.
     pub fn hand_in(&mut self, piece: Piece) -> Result<(), HandFault>
         requires { Belongs self.old piece }
         ensures open { OnOk result (IsOpen (rules_on self.old) self.old.state (Hand_in piece.target piece.turn)) }
@@ -248,8 +247,8 @@ impl Board {
         }
     }
 
-    /// Whether nothing more can happen: nothing is ready, nothing is out, and the board hasn't stopped. It is the test
-    /// for `finish`.
+    /// Whether nothing more can happen: nothing is ready, nothing is out, and the board hasn't stopped.
+    /// [`Board::finish`] requires it.
     pub fn quiet(&self) -> bool
         ensures quiet { IsTrue result ↔ IsQuietBoard self.now }
         ensures shows { IsTrue result →
@@ -258,10 +257,9 @@ impl Board {
         self.stopped.is_none() && self.ready() == 0 && self.out() == 0
     }
 
-    /// What the build came to, of a quiet board alone: only then it is sure that a target that still waits never ends,
-    /// and so is cyclic. As with redo -k, a target that failed doesn't keep the others from being built. On want of
-    /// memory the board is lost. Among the files of the report is the book that the run leaves to the next; its text
-    /// isn't made yet.
+    /// What the build came to. Only once the board is quiet is it certain that a target that still waits never ends,
+    /// and so is cyclic. As with redo -k, a target that failed doesn't keep others from being built. The new book is
+    /// among the files of the report; its text isn't made yet. Without memory the board is lost.
     pub fn finish(self) -> Result<RunReport, AllocError>
         requires { IsQuietBoard self }
         ensures { IfOk result (IsResult self.given) }
@@ -269,23 +267,23 @@ impl Board {
         let alloc = self.alloc;
         let given = self.build.share()?;
         let report = report_of(alloc, &given, &self.table)?;
-        // The table is let go before more is made.
+        // Frees the table before more is made.
         drop(self);
         given.past().with_book(alloc, report)
     }
 
-    /// Whether a piece is of the board's tree, request and limits, as `hand_in` asks. It compares by value, in the time
-    /// of the tree's bytes. It is for a piece of which nothing but its type is known. A runner that knows which work
-    /// its piece came from needs no test, nor does a parallel one whose messages say so by their own type.
+    /// Whether a piece is of this board's tree, request and limits, as [`Board::hand_in`] requires. It compares by
+    /// value, in time linear in the tree's bytes. It is for a piece of which only the type is known: a runner that
+    /// knows which work its piece came from needs no test, nor does one whose messages say so by their type.
     pub fn belongs(&self, piece: &Piece) -> bool
         ensures { IsTrue result ↔ Belongs self.now piece.now }
     {
         piece.is_of(self.build.given())
     }
 
-    /// Whether the board is that of this tree as it was read, this request and these limits, and so its report is
-    /// theirs. It compares by value, in the time of the tree's bytes. It is for a board that is known by its type
-    /// alone, as one that a lock gave; who opened the board, or keeps it under an invariant that says so, needs no
+    /// Whether the board is that of this tree as it was read, this request and these limits, so that its report is
+    /// theirs. It compares by value, in time linear in the tree's bytes. It is for a board of which only the type is
+    /// known, such as one from a lock: whoever opened the board, or keeps it under an invariant that says so, needs no
     /// test.
     pub fn is_for(&self, tree: &Tree, request: &[Path], limits: Limits) -> bool
         ensures { IsTrue result ↔ IsGiven tree.now request.now limits self.now.given }

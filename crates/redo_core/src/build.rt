@@ -11,10 +11,10 @@ use std::sync::Arc;
 
 /// How many cells are made at a time: few enough that a build of three targets doesn't pay for 65,536.
 const BLOCK: usize = 1_024;
-/// How many blocks the most targets that a limit allows need.
+/// Enough blocks for 65,536 targets, the most that a limit allows.
 const BLOCKS: usize = 64;
 
-/// The cells of some targets, side by side by their numbers.
+/// The cells of targets whose numbers follow each other.
 #[derive(Drop)]
 struct Block {
     cells: Arc<Cells<Fact>>,
@@ -31,8 +31,8 @@ impl Model for Block {
     ghost invariant = { λ b. length (arc_value b.cells) ≡ 1024 };
 }
 
-/// What a build is given, and a cell for each target, by its number in the order of first sight. Works, pieces and
-/// facts share what is given; the cells stand beside it, since the facts in them hold it too.
+/// What a build is given, and a cell for each target, by its number in order of first sight. Works, pieces and facts
+/// share what is given; the cells are apart from it, as the facts in them hold it too.
 #[derive(Drop)]
 pub(crate) struct Build {
     given: Arc<Given>,
@@ -53,7 +53,7 @@ impl Model for Build {
 }
 
 impl Build {
-    /// A build that is given this, of which nothing is decided.
+    /// A build that is given this, in which nothing is decided.
     pub(crate) fn new(alloc: Global, given: Arc<Given>) -> Result<Build, AllocError>
         ensures { IfOk result (λ b. b ≡ arc_value given) }
     {
@@ -93,7 +93,7 @@ impl Build {
         }
     }
 
-    /// A block of cells, which is made when it is first needed.
+    /// A block of cells, made when it is first needed.
     fn block(&self, index: usize) -> Result<Known<Block>, AllocError>
         requires { index < 64 }
     {

@@ -1,4 +1,4 @@
-//! The check of a target: its recorded entries are looked at in their order, each once, before its script is begun.
+//! The check of a target: its recorded entries are looked at in order, each once, before its script is begun.
 ghost use Rattle.std.specs.Prelude.{◌≡◌, ◌+◌, ◌<◌, ◌≤◌, ℕ, List, [], true, false, map, IfNone, IfOk, IfSome};
 ghost use Rattle.std.specs.Prelude.{MatchOption, None, OnOk, Some, length, option_and_then, option_copied, slice_get};
 ghost use Rattle.std.specs.Prelude.{take};
@@ -27,18 +27,19 @@ use redo_tree::{Content, Tree};
 use redo_which::{Found, lookup};
 use std::alloc::{AllocError, Global};
 
-/// The check of a target, as far as it has come: the next entry of its record asks for a path, or waits for the answer.
+/// The check of a target, as far as it has come. The next entry asks for a path or waits for its answer, or there is
+/// none: then the target is kept.
 #[derive(Drop)]
 pub struct Check {
     /// The number of the target's record in the book.
     pub number: usize,
-    /// So many of its entries stand.
+    /// How many of its entries stand, from the first on.
     pub stood: usize,
-    /// What it asked for, each path once.
+    /// The paths that it has asked for, each once.
     pub asked: Deps,
 }
 
-/// How an entry stands that no answer is given to.
+/// Whether an entry stands, judged without any answer.
 #[derive(Clone, Copy)]
 pub enum Alone {
     Stands,
@@ -47,14 +48,14 @@ pub enum Alone {
     Falls,
 }
 
-/// How an entry stands for which this decides.
+/// Stands if this holds, else falls.
 fn stands_if(holds: bool) -> Alone
     ensures { standing_of result ≡ stood_if holds }
 {
     if holds { Alone::Stands } else { Alone::Falls }
 }
 
-/// Whether nothing stands at a path, and nothing has a rule to be made there.
+/// Whether nothing is at a path, and no rule makes anything there.
 fn is_free(alloc: Global, sources: &Tree, path: &Path) -> Result<bool, AllocError>
     ensures { IfOk result (λ free. free ≡ is_free_in sources.now path.now) }
 {
@@ -64,8 +65,8 @@ fn is_free(alloc: Global, sources: &Tree, path: &Path) -> Result<bool, AllocErro
     }
 }
 
-/// How a change entry stands whose path has no answer. No answer is given to a source or a .do file. The digest of a
-/// source was made when the book was read.
+/// Whether a `change` stands, judged without any answer. A source or a .do file never has one. The digest of a source
+/// was made when the book was read.
 fn change_alone(given: &Given, state: &Option<Digest>, path: &Path) -> Alone
     ensures { standing_of result ≡ standing (sources_for given.now) nothing_known (Change state.now path.now) }
 {
@@ -78,7 +79,7 @@ fn change_alone(given: &Given, state: &Option<Digest>, path: &Path) -> Alone
     Alone::Asks
 }
 
-/// How an entry stands that no answer is given to.
+/// Whether an entry stands, judged without any answer.
 fn standing_alone(alloc: Global, given: &Given, entry: &BookEntry) -> Result<Alone, AllocError>
     ensures { IfOk result (λ v. standing_of v ≡ standing (sources_for given.now) nothing_known entry.now) }
 {
@@ -89,8 +90,8 @@ fn standing_alone(alloc: Global, given: &Given, entry: &BookEntry) -> Result<Alo
     }
 }
 
-/// Goes on over entries that stand, whatever is known, to the first that asks for a path, or to the end: the number of
-/// entries before it. None where an entry falls.
+/// Passes over the entries that stand without any answer, from this index on. Returns the index of the first that asks
+/// for a path, or the number of entries if none does; `None` if an entry falls before.
 fn walk(
     alloc: Global,
     given: &Given,
@@ -111,7 +112,7 @@ fn walk(
     Ok(Some(entries.len()))
 }
 
-/// Whether an answer tells of a file, or of none, with this state.
+/// Whether an answer tells of a file, or of no file, with this state.
 fn is_as_recorded(outcome: &Outcome, state: &Option<Digest>) -> bool
     ensures { result ≡ is_of_state state.now (told (Some outcome.now)) }
 {
@@ -122,8 +123,8 @@ fn is_as_recorded(outcome: &Outcome, state: &Option<Digest>) -> bool
     }
 }
 
-/// The number of the record of a target with a rule, if it is in check: it isn't requested, and stands as the last run
-/// left it.
+/// The number of the record of a target with a rule, if it is in check: it isn't requested, and is as the last run left
+/// it.
 fn record_in_check(given: &Given, target: &Path) -> Option<usize>
     requires { (rules_for given.now).has_rule target.now ≡ true }
     ensures { MatchOption result (checks_for given.now target.now ≡ None) (IsCheckedBy given.now target.now) }
@@ -143,7 +144,7 @@ fn record_of<'a>(given: &'a Given, number: usize) -> &'a BookRecord
     &given.past().book().records()[number]
 }
 
-/// The state on record of the change entry at a place, if one is there.
+/// The recorded state of the entry at an index, if that is a `change`.
 fn state_at<'a>(entries: &'a [BookEntry], at: usize) -> Option<&'a Option<Digest>>
     ensures { option_copied result ≡ option_and_then state_of_entry (slice_get entries.now at) }
 {
@@ -153,7 +154,7 @@ fn state_at<'a>(entries: &'a [BookEntry], at: usize) -> Option<&'a Option<Digest
     }
 }
 
-/// The entries up to and with the one at a place.
+/// The entries up to and including the one at an index.
 fn up_to<'a>(entries: &'a [BookEntry], at: usize) -> &'a [BookEntry]
     ensures { result.now ≡ take (at + 1) entries.now }
 {
@@ -199,8 +200,8 @@ fn all_shown(alloc: Global, entries: &[BookEntry]) -> Result<Deps, AllocError>
 }
 
 impl Check {
-    /// The check of a target with a rule, which is due: none where the target is in no check, or where an entry falls
-    /// before one asks for a path. The script is begun at once then.
+    /// The check of a target with a rule, which is due. `None` if the target isn't in check, or if an entry falls
+    /// before one asks for a path: its script is begun at once.
     pub(crate) fn begin(
         alloc: Global,
         given: &Given,
@@ -225,7 +226,7 @@ impl Check {
         }))
     }
 
-    /// The path that it asks for next, when it is due; none where the target is kept.
+    /// The path that a due check asks for next; `None` if its target is kept.
     pub(crate) fn next<'a>(&self, given: &'a Given) -> Option<&'a Path>
         requires { self.now.number < length given.now.past.book }
         ensures { option_copied result ≡ asks_next given.now self.now }
@@ -236,7 +237,7 @@ impl Check {
         }
     }
 
-    /// Asks for that path: it waits from now on.
+    /// Asks for that path, and waits from now on.
     pub(crate) fn ask(&mut self, path: &Path) -> Result<(), AllocError>
         ensures { OnOk result (self.new ≡ record self.old { asked = with_entry self.old.asked kinds.Change path.now }) }
     {
@@ -247,7 +248,7 @@ impl Check {
         })
     }
 
-    /// Goes on with the answer that it waited for: it is due again, unless an entry falls.
+    /// Goes on with the answer that it waited for. Returns whether it is due again; if not, an entry falls.
     pub(crate) fn go_on(
         &mut self,
         alloc: Global,
@@ -276,8 +277,8 @@ impl Check {
         Ok(true)
     }
 
-    /// What a target is kept with, whose check is due and asks for nothing: its file, which isn't copied, and its
-    /// record as a report shows it.
+    /// What a target is kept with, if its due check asks for nothing more: its file, which isn't copied, and its record
+    /// as a report shows it.
     pub(crate) fn kept(&self, alloc: Global, given: &Given) -> Result<(Outcome, Record), AllocError>
         requires { self.now.number < length given.now.past.book }
         ensures outcome { IfOk result (λ kept. (p : List ℕ) → IsInCheck given.now p self.now.number →
@@ -290,7 +291,7 @@ impl Check {
         Ok((outcome, Record::of_entries(deps)))
     }
 
-    /// What a target shows that waits in its check at the end: the entries up to and with the one that it waits for.
+    /// The record of a target that waits in its check at the end: the entries up to and including the one that waits.
     pub(crate) fn seen(&self, alloc: Global, given: &Given) -> Result<Record, AllocError>
         requires { self.now.number < length given.now.past.book }
         ensures { IfOk result (λ r. r ≡ seen_entries given.now self.now) }

@@ -10,8 +10,8 @@ use redo_record::{Outcome, Record};
 use std::marker::Model;
 use std::sync::Arc;
 
-/// A decided target with its outcome, its record and whether its script was begun. It is always the truth for what its
-/// build is given.
+/// A decided target with its outcome, its record and whether its script was begun. Every value of this type is true of
+/// its build.
 #[derive(Drop)]
 pub struct Fact {
     given: Arc<Given>,
@@ -74,22 +74,21 @@ impl Fact {
         &self.target
     }
 
-    /// What became of it, as its askers are told by redo-ifchange(1).
+    /// Its outcome, which is the answer of redo-ifchange(1) to those that asked for it.
     pub fn outcome(&self) -> &Outcome
         ensures { result.now ≡ self.now.outcome }
     {
         &self.outcome
     }
 
-    /// Its record: what it is to be made again for, in the order of its declarations, after the search for its rule.
+    /// Its record: the entries of the search for its rule, then those that it declared, in order.
     pub fn deps(&self) -> &Arc<Record>
         ensures { arc_value result.now ≡ self.now.deps }
     {
         &self.deps
     }
 
-    /// Whether its script was begun. It wasn't where the target has no rule, and where it is kept as the last run left
-    /// it.
+    /// Whether its script was begun. It wasn't if the target has no rule or is kept.
     pub fn was_begun(&self) -> bool
         ensures begun { result ≡ self.now.begun }
         ensures ruled { IsTrue result → (rules_for self.now.given).has_rule self.now.target ≡ true }
@@ -97,7 +96,7 @@ impl Fact {
         self.begun
     }
 
-    /// That it was decided so. It does nothing.
+    /// Shows that it was decided so. It does nothing.
     pub(crate) fn is_decided(&self)
         ensures { IsDecided self.now.given self.now.target self.now.outcome self.now.deps self.now.begun }
     {

@@ -11,15 +11,15 @@ use redo_step::Answers;
 use redo_sync::Known;
 use std::alloc::{AllocError, Global};
 
-/// Up to how many facts are compared with a path rather than looked up.
+/// At most this many facts are compared with a path; further ones are looked up.
 const FEW: usize = 8;
 
-/// Facts: the first few, and the others by their targets.
+/// Facts: the first few in a list, the others by their targets.
 #[derive(Drop)]
 pub(crate) struct Facts {
     few: Vec<Known<Fact>>,
     more: Option<Box<PathMap<Known<Fact>>>>,
-    /// What the target's check asked for, before its script was begun. Of each there is a fact.
+    /// What the target's check asked for before its script was begun. There is a fact for each.
     pub(crate) asked: Deps,
 }
 
@@ -48,7 +48,7 @@ impl Facts {
         self.asked
     }
 
-    /// Makes room for so many more facts, as far as they are among the first few.
+    /// Makes room for `additional` more facts, as far as they are among the first few.
     pub(crate) fn reserve(&mut self, additional: usize) -> Result<(), AllocError>
         ensures known { known_in self.new ≡ known_in self.old }
         ensures asked { self.new.asked ≡ self.old.asked }

@@ -1,4 +1,4 @@
-//! What a table comes to where nothing more can happen.
+//! The report of a table in which nothing more can happen.
 ghost use Rattle.std.specs.Prelude.{◌≡◌, ◌++◌, [], true, All, IfOk, OnOk, length};
 ghost use Rattle.std.specs.Arc.{arc_value};
 ghost use Rattle.redo_record.specs.declared.outcome.Outcome.TheVariants.{Source};
@@ -66,7 +66,7 @@ fn numbered(alloc: Global, targets: &[Path]) -> Result<Vec<(&Path, Option<usize>
     Ok(listed)
 }
 
-/// Adds those of the paths that are sources.
+/// Adds the paths that are sources.
 // Nothing here rules out that a source is a target too, so each is looked up.
 fn add_sources<'a>(
     tree: &Tree,
@@ -87,7 +87,7 @@ fn add_sources<'a>(
     Ok(())
 }
 
-/// The row of a path, which is the target of a number or else a source, and whether its script was begun.
+/// The row of a path, and whether its script was begun. The path is the target of this number, or else a source.
 fn row_of(
     alloc: Global,
     given: &Given,
@@ -132,7 +132,7 @@ fn source_row(alloc: Global, path: &Path) -> Result<Row, AllocError>
     })
 }
 
-/// Whether the script of a target was begun, where it waits or is decided.
+/// Whether the script of a target that waits or is decided was begun.
 fn was_begun(stage: &Stage) -> bool
     requires { is_settled stage.now ≡ true }
     ensures { IsBegunAs stage.now result }
@@ -149,7 +149,7 @@ fn was_begun(stage: &Stage) -> bool
     }
 }
 
-/// What a target came to, and its record.
+/// The outcome of a target, and its record.
 fn came_to(
     alloc: Global,
     given: &Given,

@@ -1,4 +1,4 @@
-//! What a build is given, once for all that takes part in it, and the scripts that were read.
+//! What a build is given, shared by all that takes part in it, and the scripts that were read.
 ghost use Rattle.std.specs.Prelude.{◌≡◌, ◌↔◌, List, ℕ, IfOk, IsTrue, not};
 ghost use Rattle.redo_names.specs.Paths.{is_among};
 ghost use Rattle.std.specs.Arc.{arc_value};
@@ -18,17 +18,16 @@ use std::alloc::{AllocError, Global};
 use std::marker::Model;
 use std::sync::Arc;
 
-/// What a run before has left, with the sources of a build, its request and its limits. Its board shares them with all
-/// works, pieces and facts.
+/// What a build is given: what it takes over from the last run, its request and its limits. Its board shares them with
+/// all works, pieces and facts.
 #[derive(Drop)]
 pub(crate) struct Given {
     past: Past,
     request: Vec<Path>,
-    /// What is requested, to be looked up.
+    /// The requested paths, to be looked up.
     requested: PathSet,
     limits: Limits,
-    /// A cell for each entry of the sources, by its number: what reading a script came to that may make several
-    /// targets.
+    /// A cell for each number of the sources' tree: what reading a script came to, if it may make several targets.
     readings: Arc<Cells<Reading>>,
 }
 
@@ -72,7 +71,7 @@ impl Given {
         Ok(Arc::new(alloc, given)?)
     }
 
-    /// What reading a script came to, if that is kept. It takes no memory.
+    /// What reading a script came to, if it is kept. It takes no memory.
     pub(crate) fn reading(&self, do_file: &Path) -> Result<Option<Known<Reading>>, AllocError> {
         match self.sources().number_of(do_file) {
             Some(number) => Cells::look(&self.readings, number),
@@ -91,7 +90,7 @@ impl Given {
         }
     }
 
-    /// What a run before has left.
+    /// What the build takes over from the last run.
     pub(crate) fn past(&self) -> &Past
         ensures { result.now ≡ self.now.past }
     {
@@ -133,15 +132,15 @@ impl Given {
         self.sources().file(path).is_some()
     }
 
-    /// Whether a path is a target, that is no source.
+    /// Whether a path isn't a source.
     pub(crate) fn is_target(&self, path: &Path) -> bool
         ensures { result ≡ not ((rules_for self.now).is_source path.now) }
     {
         !self.is_source(path)
     }
 
-    /// Whether it is this tree as it was read, this request and these limits. It compares by value, in the time of the
-    /// tree's bytes.
+    /// Whether this tree as it was read, this request and these limits are what is given. It compares by value, in time
+    /// linear in the tree's bytes.
     pub(crate) fn is(&self, tree: &Tree, request: &[Path], limits: Limits) -> bool
         ensures { IsTrue result ↔ IsGiven tree.now request.now limits self.now }
     {
@@ -150,7 +149,7 @@ impl Given {
             && is_same_tree(self.past.tree(), tree)
     }
 
-    /// Whether it is the same. A tree has one book, and so the sources needn't be compared.
+    /// Whether two builds are given the same. A tree has one past, so the sources needn't be compared.
     pub(crate) fn is_same(&self, other: &Given) -> bool
         ensures { IsTrue result ↔ (self.now ≡ other.now) }
     {

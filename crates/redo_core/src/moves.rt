@@ -1,4 +1,4 @@
-//! What the opening and a handed in piece do to the table.
+//! What the opening and a hand-in do to the table.
 ghost use Rattle.std.specs.Prelude.{◌≡◌, ◌<◌, ℕ, [], length, IfOk, OnOk, Err};
 ghost use Rattle.redo_core.specs.Build.{rules_for};
 ghost use Rattle.redo_core.specs.inside.Slots.{IsPlace, AreNumbers, IsTableOf, IsStandingTable, AreEnteredInto};
@@ -45,7 +45,7 @@ impl Table {
         Ok(table)
     }
 
-    /// Enters some paths, as far as they are new, and gives their numbers.
+    /// Enters the paths that are new, and returns the numbers of all.
     fn enter_all(
         &mut self,
         paths: &[Path],
@@ -86,7 +86,7 @@ impl Table {
         Ok(())
     }
 
-    /// Puts the numbers that are newly ready into the queue, in order of first sight.
+    /// Puts the newly ready numbers into the queue, in order of first sight.
     fn enqueue(&mut self, mut newly_ready: Vec<u32>) -> Result<(), AllocError>
         ensures { OnOk result (AreEnqueued self.old self.new newly_ready.items) }
     {
@@ -98,7 +98,7 @@ impl Table {
         Ok(())
     }
 
-    /// Notes the fact that a target which was out comes to, and looks again at what watches it.
+    /// Decides a target that was out by its fact, and looks again at what watches it.
     fn conclude(
         &mut self,
         at: usize,
@@ -115,7 +115,7 @@ impl Table {
         self.settle_all(&watchers, build, newly_ready)
     }
 
-    /// Parks a job that was out and stopped, with the paths that it waits for entered, and looks at it.
+    /// Enters the paths that a stopped job waits for, parks the job, and looks at it.
     fn suspend(
         &mut self,
         at: usize,
@@ -159,7 +159,7 @@ impl Table {
         Ok(())
     }
 
-    /// Enters the requested paths that are no sources.
+    /// Enters the requested paths that aren't sources.
     fn enter_requested(
         &mut self,
         request: &[Path],
@@ -182,7 +182,7 @@ impl Table {
         Ok(())
     }
 
-    /// Keeps a target all of whose recorded entries stand, as the last run left it.
+    /// Keeps a target whose recorded entries all stand.
     fn keep(
         &mut self,
         at: usize,
@@ -204,7 +204,7 @@ impl Table {
         self.conclude(at, fact, build, newly_ready)
     }
 
-    /// Lets a check ask for the next path, which is entered, and looks at it.
+    /// Enters the next path that a check asks for, lets the check wait for it, and looks at the target.
     fn ask(
         &mut self,
         at: usize,
@@ -235,8 +235,8 @@ impl Table {
         Ok(())
     }
 
-    /// Looks at the check of a target, the first by first sight that can go on: the target is kept, or its check asks
-    /// for the next path.
+    /// Looks at the check of a target, which is the first by first sight that can go on: the target is kept, or its
+    /// check asks for the next path.
     fn look(&mut self, at: usize, build: &Build) -> Result<(), Stop>
         requires { IsDrawn build.now self.old at }
         ensures ok { OnOk result (IsLookedOnce build.now self.old self.new) }

@@ -9,13 +9,13 @@ use thiserror::Error;
 /// Why no build was opened. The book is looked at first.
 #[derive(Clone, Copy, Debug, PartialEq, Eq, Error)]
 pub enum OpenFault {
-    /// The book of the last run is refused, for its line of this number, counted from 1.
+    /// The book of the last run has a fault, first in this line, counted from 1.
     #[error("line {0} of the book of the last run is at fault")]
     Book(u64),
     /// More targets are needed than the limit allows: those requested, and those that the board's first looks ask for.
     #[error("more targets are needed than the limit allows")]
     TooMany,
-    /// A growth was refused.
+    /// Memory ran out.
     #[error("out of memory")]
     Memory,
 }

@@ -1,4 +1,4 @@
-//! A script before its first statement.
+//! The reading of a target's script.
 ghost use Rattle.std.specs.Prelude.{◌≡◌, [], IfOk, unwrap_or};
 ghost use Rattle.std.specs.Arc.{arc_value};
 ghost use Rattle.redo_script.specs.Texts.{script_in};
@@ -62,8 +62,8 @@ fn parsed(alloc: Global, text: &[u8]) -> Result<Arc<Parsed>, AllocError>
     Ok(Arc::new(alloc, Parsed::of(alloc, text)?)?)
 }
 
-/// Reads a script. One that may make several targets, whose name begins with `default`, is kept, and is not read
-/// again for the same text.
+/// Reads a script. If its name begins with `default` it may make several targets, so what it came to is kept, and the
+/// same text isn't read again.
 pub(crate) fn script(
     alloc: Global,
     given: &Given,
@@ -87,7 +87,7 @@ pub(crate) fn script(
     }
 }
 
-/// Reads the script of a target. The .do file that was found is a file of the tree.
+/// Reads the script of a target and makes its job. The .do file that the search found is a file of the tree.
 pub(crate) fn begun(
     alloc: Global,
     given: &Arc<Given>,

@@ -1,4 +1,4 @@
-//! The numbered table of the targets that were seen.
+//! The table of the targets that have been seen, by their numbers.
 ghost use Rattle.std.specs.Prelude.{◌≡◌, ℕ, List, ◌↔◌, ◌<◌, ◌≤◌, ◌+◌, ◌++◌, ◌∷◌, [], OnOk, IfOk, IfSome};
 ghost use Rattle.std.specs.Prelude.{IfNone, MatchOption, length, slice_get, Some, None};
 ghost use Rattle.redo_record.specs.Paths.{IsAmong, AreDistinct};
@@ -40,8 +40,8 @@ pub enum Stage {
     Decided(Known<Fact>),
 }
 
-/// A target in check, with the rule of its script, which is begun if an entry falls, and the facts of what it asked
-/// for.
+/// A target in check, with the rule of its script, which is begun if an entry falls, and the facts of what its check
+/// asked for.
 #[derive(Drop)]
 pub struct InCheck {
     pub rule: Rule,
@@ -63,12 +63,12 @@ pub struct Parked {
     pub begun: Box<Begun>,
     /// The numbers of the targets that it asked for and has no facts of yet, in the order of their entries.
     pub operands: Vec<u32>,
-    /// So many of them, from the first on, are decided.
+    /// How many of them are decided, from the first on.
     pub held: usize,
 }
 
-/// A target that was seen, with how often its check and its script stopped. Its watchers are to be looked at again once
-/// it is decided.
+/// A target that has been seen, with how often its check and its script have stopped. Its watchers are looked at again
+/// once it is decided.
 #[derive(Drop)]
 pub struct Slot {
     pub looks: u64,
@@ -77,8 +77,8 @@ pub struct Slot {
     pub stage: Stage,
 }
 
-/// The targets that were seen, in order of first sight, with the numbers of those ready, and of those whose checks can
-/// go on.
+/// The targets that have been seen, in order of first sight, with the numbers of those ready, and of those whose checks
+/// can go on.
 #[derive(Drop)]
 pub struct Table {
     pub targets: PathSet,
@@ -128,7 +128,7 @@ pub(crate) fn find(targets: &PathSet, path: &Path) -> Option<usize>
     targets.number_of(path)
 }
 
-/// The number of a path, which may be the one that is guessed.
+/// The number of a path. A right guess spares the search.
 fn find_near(targets: &PathSet, guess: usize, path: &Path) -> Option<usize>
     ensures { MatchOption result (IsAmong targets.now path.now →
         ⊥) (λ at. slice_get targets.now at ≡ Some path.now) }
@@ -145,8 +145,7 @@ impl Table {
         *self.slots.allocator()
     }
 
-    /// The number of a target, if its job is out at this turn. It may be the one that is guessed, which spares a
-    /// search.
+    /// The number of a target, if its job is out at this turn. A right guess spares the search.
     pub(crate) fn out_at(&self, guess: usize, target: &Path, turn: u64) -> Option<usize>
         requires one_each { length self.now.slots.items ≡ length self.now.targets }
         requires distinct { AreDistinct self.now.targets }
@@ -163,7 +162,7 @@ impl Table {
         None
     }
 
-    /// The first undecided target of some numbers, from a place on: the place and the number.
+    /// The first undecided target among these numbers, from index `from` on: its index and its number.
     fn next_lacking(&self, operands: &[u32], from: usize) -> Option<(usize, usize)>
         requires seen { (k : ℕ) → IsPlace operands.now k → k < length self.now.slots.items }
         ensures found { IfSome result (λ f. IsLackingAt self.now operands.now from f.0 f.1) }
@@ -223,7 +222,7 @@ impl Table {
         Ok(())
     }
 
-    /// Makes a parked job with all its answers a work.
+    /// Turns a parked job that has all its answers into a work.
     fn make_ready(&mut self, at: usize, build: &Build) -> Result<(), AllocError>
         requires one_each { length self.old.slots.items ≡ length self.old.targets }
         requires fed { IsFed build.now self.old at }
@@ -246,8 +245,7 @@ impl Table {
         Ok(())
     }
 
-    /// Gives a check the answer that it waited for: it can go on, or an entry falls and the script of its target is
-    /// begun.
+    /// Gives a check the answer that it waited for: it can go on, or an entry falls and its target is ready.
     fn resume(
         &mut self,
         at: u32,
@@ -286,7 +284,7 @@ impl Table {
         Ok(())
     }
 
-    /// Whether a check stands with the answer of a decided target, and so can go on.
+    /// Whether a check can go on with the answer of a decided target.
     fn goes_on(&self, place: u32, check: &mut Check, build: &Build) -> Result<bool, AllocError>
         requires decided { IsDecidedNumber self.now place }
         requires within { check.old.number < length build.now.past.book }
@@ -299,8 +297,8 @@ impl Table {
         check.go_on(self.allocator(), build.given(), fact.read().outcome())
     }
 
-    /// Looks again at a target: if its script waits, it becomes ready or is watched at the next path that it lacks; if
-    /// its check waits, it goes on or falls once it has its answer.
+    /// Looks again at a target. If its script waits, it becomes ready, or watches the next path that it lacks. If its
+    /// check waits, the check goes on or falls if it has its answer, or watches the path.
     pub(crate) fn settle(
         &mut self,
         at: u32,
@@ -335,7 +333,7 @@ impl Table {
         }
     }
 
-    /// Enters a path if it is new; it becomes ready if it has a rule. It gives the path's number.
+    /// Enters a path if it is new, and returns its number.
     pub(crate) fn enter(
         &mut self,
         path: &Path,
@@ -394,7 +392,7 @@ impl Table {
         Ok(())
     }
 
-    /// Notes what a target that was out came to, and gives the numbers to look at again.
+    /// Decides a target that was out, and returns the numbers to look at again.
     pub(crate) fn decide(&mut self, at: usize, fact: Known<Fact>) -> Vec<u32>
         requires { IsOutThere self.old at }
         ensures { IsDecidedAt self.old self.new at fact.value result.items }
@@ -407,8 +405,7 @@ impl Table {
         pending
     }
 
-    /// Parks a job that was out at its next turn, with the numbers of what it waits for. Its own number is to be looked
-    /// at.
+    /// Parks a job that was out, at its next turn, with the numbers of what it waits for. It is to be looked at then.
     pub(crate) fn park(&mut self, at: usize, begun: Box<Begun>, operands: Vec<u32>)
         requires { IsOutThere self.old at }
         ensures { IsParkedAt self.old self.new at begun operands }
@@ -437,7 +434,7 @@ impl Table {
         }
     }
 
-    /// Notes what a check that was taken out waits for. Its own number is to be looked at.
+    /// Notes what a check that was taken out waits for. Its target is to be looked at then.
     pub(crate) fn await_answer(&mut self, at: usize, awaiting: Awaiting)
         requires { IsOutThere self.old at }
         ensures { IsAskedAt self.old self.new at awaiting }

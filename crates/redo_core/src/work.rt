@@ -21,8 +21,8 @@ use std::alloc::{AllocError, Global};
 use std::marker::Model;
 use std::sync::Arc;
 
-/// A job with the outcomes of all that it asked for. It is moved and never cloned, so each stretch of a script runs
-/// once, and it needs no board to be advanced: another thread may do so. The script is read when it is first advanced.
+/// A job with the outcomes of all that it asked for. It is moved and never cloned, so each part of a script runs once.
+/// It is advanced without a board, so another thread can do it. The script is read when it is first advanced.
 #[derive(Drop)]
 pub struct Work {
     given: Arc<Given>,
@@ -31,15 +31,15 @@ pub struct Work {
     script: Script,
 }
 
-/// A target's script: not read yet, or begun. Each is boxed, so that a board's many targets take little room each, and
-/// what is begun is handed on without being moved.
+/// A target's script: not read yet, or begun. Both are boxed, so that a target takes little room on the board, and a
+/// job is handed on without being moved.
 #[derive(Drop)]
 pub(crate) enum Script {
     Unread(Box<Unread>),
     Begun(Box<Begun>),
 }
 
-/// A target whose script wasn't read yet, with the rule that names it and the facts of what its check asked for.
+/// A target whose script hasn't been read yet, with its rule and the facts of what its check asked for.
 #[derive(Drop)]
 pub(crate) struct Unread {
     target: Path,
@@ -83,8 +83,8 @@ pub struct Piece {
     pub(crate) end: End,
 }
 
-/// How a script came to stand: it ended, and its target's check had asked for something before it was begun, or it
-/// stopped with what is left of it, for want of the answers to some paths.
+/// How far a script came. It ended, and its target's check had asked for these entries before; or it stopped, as these
+/// paths lack answers.
 #[derive(Drop)]
 pub(crate) enum End {
     Ended(Fact, Deps),
@@ -110,7 +110,7 @@ impl Model for Piece {
 }
 
 impl Work {
-    /// A target whose script wasn't read yet, with the rule that the search finds for it and the facts of what its
+    /// A target whose script hasn't been read yet, with the rule that the search finds for it and the facts of what its
     /// check asked for.
     pub(crate) fn unread(
         alloc: Global,
@@ -163,7 +163,7 @@ impl Work {
         }
     }
 
-    /// The same work, of the target of this number.
+    /// The same work, with the number of its target.
     pub(crate) fn numbered(self, number: u32) -> Work
         ensures same { result ≡ self }
         ensures holds { HoldsOutcomes self }
@@ -200,8 +200,8 @@ impl Work {
         }
     }
 
-    /// Advances the script as far as the outcomes that the work holds allow: to its end, or to the first statement that
-    /// asks for more, as redo-ifchange(1) waits for all of its operands. On want of memory the work is lost.
+    /// Advances the script as far as the outcomes of the work allow: to its end, or to the first redo-ifchange(1) that
+    /// lacks an answer. Without memory the work is lost.
     pub fn advance(self) -> Result<Piece, AllocError>
         ensures place { IfOk result (λ p. (p.given ≡ self.given) × (p.target ≡ self.target) ×
             (p.turn ≡ self.turn)) }
@@ -234,7 +234,7 @@ impl Work {
     }
 }
 
-/// The job of a target at a turn, as a relay tells jobs apart.
+/// A relay tells jobs apart by their target and turn.
 impl Numbered for Work {
     ghost number = { λ w. (w.target, w.turn) };
 
@@ -266,7 +266,7 @@ fn advance_job(given: Arc<Given>, number: u32, job: Job, facts: Facts) -> Result
             let path = target.clone()?;
             let deps = Arc::new(alloc, done.deps)?;
             let mut outcome = done.outcome;
-            // Here it is done side by side with other scripts.
+            // Made here, the digest is made beside other scripts.
             outcome.keep_digest();
             let fact = Fact::of(own, path, outcome, deps, true);
             End::Ended(fact, facts.into_asked())
@@ -314,14 +314,14 @@ impl Piece {
         self.given.is_same(given)
     }
 
-    /// How the script came to stand.
+    /// How far the script came.
     pub(crate) fn into_end(self) -> End
         ensures { IsEndAt self.given self.target self.turn result }
     {
         self.end
     }
 
-    /// Whether the script ended, whatever with; else its target waits.
+    /// Whether the script ended, in whatever way. If not, its target waits.
     pub fn ended(&self) -> bool
         ensures { result ≡ is_some self.now.progress.outcome }
     {

@@ -41,13 +41,13 @@ abbrev pub unless_top : List ℕ → BookEntry → Option BookEntry
 unless_top [] entry = None
 unless_top (byte ∷ bytes) entry = Some entry
 
--- the entry that is kept with the path of the top directory
+-- an entry that has the top directory as its path
 abbrev pub if_top : List ℕ → BookEntry → Option BookEntry
 if_top [] entry = Some entry
 if_top (byte ∷ bytes) entry = None
 
--- an entry of a kind and a path as a book has it; it has none for a change of the top directory or that this came to
--- exist, as no built target depends on that
+-- the entry of this kind and path, as a book has it; it has no `change` or `create` of the top directory, as no built
+-- target depends on that
 abbrev pub entry_as : Tree → List Row → DepKind → List ℕ → Option BookEntry
 entry_as sources rows kinds.Change path = unless_top path (Change (state_at sources rows path) path)
 entry_as sources rows kinds.Create path = unless_top path (Create path)
@@ -57,7 +57,7 @@ entry_as sources rows kinds.Always path = if_top path Always
 abbrev pub noted : Tree → List Row → List Dep → List BookEntry
 noted sources rows deps = filter_map (λ d. entry_as sources rows d.kind d.path) deps
 
--- what a row's target came to and depended on
+-- the record of a row: what its target came to and depended on
 abbrev pub new_record : Tree → List Row → Row → Record
 new_record sources rows row = record {
   target = row.path;
@@ -72,7 +72,7 @@ is_built (Built file) = true
 is_built (Failed why) = false
 is_built Cyclic = false
 
--- it is the record of a target that was built, which the top directory never is
+-- the record of a target that was built, other than the top directory
 pub record IsOfRow (sources : Tree) (rows : List Row) (r : Record) : Type 0 where
   pub row : Row
   pub listed : Contains rows row
@@ -80,20 +80,20 @@ pub record IsOfRow (sources : Tree) (rows : List Row) (r : Record) : Type 0 wher
   pub below : row.path ≢ []
   pub is : r ≡ new_record sources rows row
 
--- a record of the last run that goes over into the new book: its target has a rule, stands as the last run left it, and
--- wasn't built by this run
+-- a record of the last run is carried into the new book: its target has a rule, is as the last run left it, and wasn't
+-- built by this run
 pub record IsCarried (past : PastView) (rows : List Row) (r : Record) : Type 0 where
   pub known : Contains past.book r
   pub rule : is_rule (found_of past.sources r.target) ≡ true
   pub intact : state_of (file_at past.tree r.target) ≡ r.state
   pub unbuilt : (row : Row) → Contains rows row → row.path ≡ r.target → is_built row.outcome ≡ false
 
--- the book has a record for each target that was built, and those that are carried, and no others
+-- the book has exactly the records of the targets that were built and those that are carried
 pub record IsNewBook (past : PastView) (rows : List Row) (book : List Record) : Type 0 where
   pub ordered : IsBook book
   pub records : (r : Record) → Contains book r ↔ (IsOfRow past.sources rows r ⊎ IsCarried past rows r)
 
--- the files with one more at its place in path order
+-- the files with this one at its place in path order
 abbrev pub with_file : List (List ℕ × List ℕ) → List ℕ → List ℕ → List (List ℕ × List ℕ)
 with_file files path bytes = insert_entry (slice_cmp nat_cmp) files path bytes
 

@@ -1,4 +1,4 @@
--- What a run is given when there was one before it: a tree, the book in it, and the sources.
+-- What a run takes over from the last one: a tree, the book in it, and the sources.
 use Rattle.std.specs.Prelude.{◌≡◌, Bool, false, ℕ, List, [], ◌∷◌, Option, Some, None, MatchOption, filter}
 use Rattle.std.specs.Prelude.{if◌then◌else◌, option_and_then}
 use Rattle.std.specs.Str.{bytes_eq}
@@ -17,11 +17,11 @@ has_digest None state = false
 has_digest (Some bytes) None = false
 has_digest (Some bytes) (Some digest) = bytes_eq (sha256 bytes) digest
 
--- the file at the target of a record has the digest that it had in the last run
+-- the file at a record's target has the digest that the record has
 abbrev pub is_generated : Tree → Record → Bool
 is_generated tree r = has_digest (file_at tree r.target) r.state
 
--- the paths of the files that are no sources: the book's, and those of generated files
+-- the paths of the files that aren't sources: the book's, and those of generated files
 abbrev pub set_aside : Tree → List Record → List (List ℕ)
 set_aside tree book = book_path ∷ targets_of (filter (is_generated tree) book)
 
@@ -31,22 +31,22 @@ pub record PastView : Type 0 where
   pub sources : Tree
   pub book : List Record
 
--- the record of a target that stands as the last run left it
+-- the record of a target that is as the last run left it
 abbrev pub intact_record : PastView → List ℕ → Option Record
 intact_record past target =
     option_and_then (λ r. if is_intact (file_at past.tree) r then Some r else None) (record_at past.book target)
 
--- the book is the one that the tree has a text of, or empty, and the sources are the tree without what is set aside
+-- the book is the one that the tree's text spells, or empty; the sources are the tree without what is set aside
 pub record IsPast (past : PastView) : Type 0 where
   pub book : MatchOption (file_at past.tree book_path) (past.book ≡ []) (λ text. IsText text past.book)
   pub sources : past.sources ≡ without past.tree (set_aside past.tree past.book)
 
--- the tree has a text of a book, whose first line at fault this is, unless memory ran out
+-- the tree has a text of a book in which this is the first line at fault, unless memory ran out
 abbrev pub RefusesBook : PastFault → Tree → Type 0
 RefusesBook (Book n) tree = (text : List ℕ) × (file_at tree book_path ≡ Some text) × IsRefused text n
 RefusesBook Memory tree = Unit {0}
 
--- no book is the tree's, unless memory ran out
+-- the tree has no past, unless memory ran out
 abbrev pub HasNoPast : PastFault → Tree → Type 0
 HasNoPast (Book n) tree = (past : PastView) → IsPast past → past.tree ≡ tree → ⊥
 HasNoPast Memory tree = Unit {0}

@@ -12,7 +12,7 @@ use redo_tree::Content;
 use std::alloc::AllocError;
 use std::cmp::Ordering;
 
-/// The place of a path among files, or where it would stand.
+/// The index of a path among files, or the one that it would have.
 fn search(files: &[(Path, Content)], path: &Path) -> Result<usize, usize>
     ensures within { IsSearchInRange result (length files.now) }
     ensures place { IsBinarySearchResult (λ file. slice_cmp nat_cmp file.0 path.now) files.now result }
@@ -24,7 +24,7 @@ fn search(files: &[(Path, Content)], path: &Path) -> Result<usize, usize>
     )
 }
 
-/// Puts a file at its place in path order, in the stead of one at its path, and answers the number that it has there.
+/// Puts a file at its place in path order, replacing any at its path, and returns its index.
 pub(crate) fn put_file(
     files: &mut Vec<(Path, Content)>,
     path: Path,

@@ -1,4 +1,4 @@
-//! The records of the last run that go over into the new book.
+//! The records of the last run that are carried into the new book.
 
 ghost use Rattle.std.specs.Prelude.{◌≡◌, ◌++◌, IfOk, List, OnOk, filter, map};
 ghost use Rattle.std.specs.List.{AllByRecursion};
@@ -42,8 +42,8 @@ fn has_rule(alloc: Global, sources: &Tree, path: &Path) -> Result<bool, AllocErr
     }
 }
 
-/// Whether a record goes over into the new book. A target with a rule is no source, so its file, where there is one, is
-/// the one that the record speaks of; it isn't digested again.
+/// Whether a record is carried into the new book. A target with a rule isn't a source, so a file at its path is the
+/// generated one that the record tells of; it isn't digested again.
 fn is_carried(
     alloc: Global,
     past: &Past,
@@ -62,7 +62,7 @@ fn is_carried(
     has_rule(alloc, past.sources(), target)
 }
 
-/// Adds those of some old records that go over into the new book.
+/// Adds those of these old records that are carried.
 pub(crate) fn carry<'a>(
     alloc: Global,
     past: &Past,
@@ -83,14 +83,14 @@ pub(crate) fn carry<'a>(
     Ok(())
 }
 
-/// Whether a record's target stands before a path.
+/// Whether a record's target comes before a path.
 fn stands_before(record: &BookRecord, path: &Path) -> bool
     ensures { result ≡ is_before path.now (record_of «record».now) }
 {
     record.target < *path
 }
 
-/// How many records at the front stand before a path.
+/// How many records at the front come before a path.
 fn count_before(records: &[BookRecord], path: &Path) -> usize
     ensures { result ≡ prefix_len (λ r. is_before path.now (record_of r)) records.now }
 {
@@ -102,8 +102,8 @@ fn count_before(records: &[BookRecord], path: &Path) -> usize
     records.len()
 }
 
-/// Adds those of some old records that go over into the new book and stand before a path. The records that don't
-/// stand before it are answered.
+/// Adds those of these old records that are carried and come before a path. Returns the records that don't come before
+/// it.
 pub(crate) fn carry_before<'a>(
     alloc: Global,
     past: &Past,

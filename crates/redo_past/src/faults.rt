@@ -10,11 +10,11 @@ use thiserror::Error;
 /// Why a tree is refused.
 #[derive(Clone, Copy, Debug, PartialEq, Eq, Error)]
 pub enum PastFault {
-    /// Its book has a fault, in this line first, counted from 1. Where the book ends too early, behind a newline or
-    /// without any line, it is the line that is missing.
+    /// The book has a fault, first in this line, counted from 1. If the book ends too early, after a newline or without
+    /// any line, this is the line that is missing.
     #[error("line {0} of the book is at fault")]
     Book(u64),
-    /// No memory was left.
+    /// Memory ran out.
     #[error("out of memory")]
     Memory,
 }

@@ -1,4 +1,4 @@
-//! The records of the new book in its order, of which none is made.
+//! What the records of the new book are made of, in its order. No record is made.
 
 ghost use Rattle.std.specs.Prelude.{◌≡◌, Bool, IfOk, List, false, map};
 ghost use Rattle.redo_book.specs.Book.{IsBook, Record, record_of};
@@ -21,7 +21,7 @@ pub(crate) enum Item<'a> {
     Carried(&'a BookRecord),
 }
 
-/// Old records but the first, if it is that of this target. It needn't be looked at where the target was built.
+/// These old records without the first, if that is this target's. A target that was built has a new record.
 fn but_of<'a>(records: &'a [BookRecord], target: &Path) -> &'a [BookRecord]
     ensures joined { (keeps : Record → Bool) → ((r : Record) → r.target ≡ target.now → keeps r ≡ false) →
         (built : List Record) →

@@ -1,17 +1,17 @@
 //! What a run takes over from the one before it, and what it leaves to the next.
 //!
-//! A tree may hold a book of the last run, the file `.redo-book` at its top, and files that the last run made. Neither
-//! are sources: [`Past`] tells the tree as it was read, the sources in it, and the book. After the run it makes the new
-//! book, which has a record for each target that was built, and those records of the old one that still hold. The crate
+//! A tree may have a book of the last run, the file `.redo-book` at its top, and generated files. None of these are
+//! sources: [`Past`] has the tree as it was read, the sources in it, and the book. After the run it makes the new book,
+//! which has a record for each target that was built, and the records that are carried from the old book. The crate
 //! stands on redo_tree and redo_which for trees and rules, on redo_digest and redo_book for books and the digests in
 //! them, on redo_record and redo_report for what a run came to, and on redo_bundle for the writers.
 //!
-//! - `past`: the tree, the sources and the book, and what a run leaves; `named`: which files its book tells digests of,
-//!   and which the new one will; `faults`: why a tree is refused;
-//! - `standing`: whether a path stands as a book tells; `rows`: the rows of a report, found by their paths; `states`:
-//!   what stands at each path when a run ends;
+//! - `past`: the tree, the sources and the book, and what a run leaves; `named`: the files that the book has digests
+//!   of, and those that the new one will have; `faults`: why a tree is refused;
+//! - `standing`: whether a path has the state that a book says; `rows`: the rows of a report, found by their paths;
+//!   `states`: the state of each path when a run ends;
 //! - `items`: what the records of the new book are made of, in order; `carrying`: those that are carried; `records`:
-//!   the lines of each; `sizes`: how many bytes they have; `new_book`: the text of all;
+//!   the lines of each; `sizes`: how many bytes they have; `new_book`: the whole text;
 //! - `run_report`: a run's report with the new book, which is written piece by piece; `books`: the place of the book
 //!   among the files;
 //! - [`laws`]: a tree has one past, and a run leaves one book.

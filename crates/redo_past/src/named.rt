@@ -1,4 +1,4 @@
-//! The files that a book tells digests of.
+//! The files that a book has digests of.
 
 use crate::records::has_record;
 use redo_book::{Book, BookEntry};
@@ -9,7 +9,7 @@ use redo_report::Row;
 use redo_tree::Tree;
 use std::alloc::{AllocError, Global};
 
-/// Names the entry at a path, if there is one.
+/// Marks what the tree has at a path, if anything.
 fn name(named: &mut [bool], tree: &Tree, path: &Path) {
     if let Some(number) = tree.number_of(path) {
         if let Some(is_named) = named.get_mut(number) {
@@ -18,15 +18,15 @@ fn name(named: &mut [bool], tree: &Tree, path: &Path) {
     }
 }
 
-/// Names the entry at a path, where the book tells the digest of a file there.
+/// The same, if the book has a digest for the path.
 fn name_told(named: &mut [bool], tree: &Tree, path: &Path, state: &Option<Digest>) {
     if state.is_some() {
         name(named, tree, path);
     }
 }
 
-/// Which entries of a tree the book tells digests of, by their numbers. Each of these files is compared with what the
-/// book tells, some of them many times, and so digested once before.
+/// Which files of a tree the book has digests of, by their numbers in the tree. Each of them is compared with its
+/// digest in the book, some of them many times, so they are digested once before.
 pub(crate) fn named_by(alloc: Global, tree: &Tree, book: &Book) -> Result<Vec<bool>, AllocError> {
     let mut named = Vec::new(alloc);
     named.resize(tree.len(), false)?;
@@ -41,7 +41,7 @@ pub(crate) fn named_by(alloc: Global, tree: &Tree, book: &Book) -> Result<Vec<bo
     Ok(named)
 }
 
-/// Names the entries of a tree that a row depends on, if the new book has a record of it.
+/// Marks what a row's target depends on, if the new book has a record of it.
 fn name_needs(named: &mut [bool], tree: &Tree, row: &Row) {
     if !has_record(row) {
         return;
@@ -57,7 +57,7 @@ fn name_needs(named: &mut [bool], tree: &Tree, row: &Row) {
     }
 }
 
-/// Which entries of a tree the new book will tell digests of, by their numbers.
+/// Which files of a tree the new book will have digests of, by their numbers in the tree.
 pub(crate) fn named_after(
     alloc: Global,
     tree: &Tree,

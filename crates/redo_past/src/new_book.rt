@@ -1,4 +1,4 @@
-//! The text of the new book, whose records don't stand in memory together.
+//! The text of the new book. Its records are never in memory together.
 
 ghost use Rattle.std.specs.Prelude.{◌≡◌, IfOk, false, is_err, length, map};
 ghost use Rattle.std.specs.List.{AllByRecursion};
@@ -18,7 +18,7 @@ use redo_bundle::{Broken, ByteOut, Plain};
 use redo_which::{MissingLines, add_sizes};
 use std::alloc::{AllocError, Global};
 
-/// How many bytes the text of the new book has. Each record of it may stand in a book.
+/// How many bytes the text of the new book has. A book can have each of its records.
 pub(crate) fn text_size<'a>(
     alloc: Global,
     past: &'a Past,
@@ -34,7 +34,7 @@ pub(crate) fn text_size<'a>(
     add_sizes(size, b"end\n".len())
 }
 
-/// What the text of the new book is written of: what stands at each path, and what the records are made of.
+/// What the text of the new book is written from: the state of each path, and what the records are made of.
 pub(crate) fn parts_of<'a>(
     alloc: Global,
     past: &'a Past,
@@ -50,7 +50,7 @@ pub(crate) fn parts_of<'a>(
     Ok((states, items))
 }
 
-/// Writes the text of the new book. It needs no memory but to write faster.
+/// Writes the text of the new book. Memory only makes it faster.
 pub(crate) fn write_text<W: ByteOut>(
     out: &mut W,
     alloc: Global,
@@ -66,7 +66,7 @@ pub(crate) fn write_text<W: ByteOut>(
     write_end(out)
 }
 
-/// The text of the new book, which has so many bytes.
+/// The text of the new book. Room for `size` bytes is reserved for it.
 pub(crate) fn new_text(
     alloc: Global,
     past: &Past,

@@ -31,9 +31,9 @@ use std::marker::Model;
 use std::sync::Arc;
 use std::thread::Threads;
 
-/// What a run is given when there may have been one before it: the tree as it was read, the book of the last run in it,
-/// and the sources, which are the tree without the book and without generated files. A file is generated that has the
-/// digest which the book has for it; one that differs was changed by hand and is a source.
+/// What a run takes over from the last one: the tree as it was read, the book in it, and the sources, which are the
+/// tree without the book and without generated files. A file is generated if it has the digest that the book has for
+/// its path; one that differs was changed by hand, and is a source.
 #[derive(Drop)]
 pub struct Past {
     tree: Arc<Tree>,
@@ -61,7 +61,7 @@ pub(crate) fn book_path(alloc: Global) -> Result<Path, AllocError>
     Path::of_text(alloc, BOOK)
 }
 
-/// The book of a tree, where it has one.
+/// The book of a tree, if it has one.
 fn book_in(alloc: Global, tree: &Tree) -> Result<Option<Book>, PastFault>
     ensures book { IfOk result (λ book. MatchOption (file_at tree.now path_of_book) (book ≡ None) (λ text.
         MatchOption book ⊥ (IsText text))) }
@@ -74,7 +74,7 @@ fn book_in(alloc: Global, tree: &Tree) -> Result<Option<Book>, PastFault>
     }
 }
 
-/// Whether the file at the target of a record has the digest that it had in the last run.
+/// Whether the file at a record's target has the digest that the record has.
 fn is_generated(tree: &Tree, made: &BookRecord) -> bool
     ensures { result ≡ was_generated tree.now (record_of made.now) }
 {
@@ -84,7 +84,7 @@ fn is_generated(tree: &Tree, made: &BookRecord) -> bool
     }
 }
 
-/// The paths of the files that are no sources: the book's, and those of generated files.
+/// The paths of the files that aren't sources: the book's, and those of generated files.
 fn set_aside(alloc: Global, tree: &Tree, book: &Book) -> Result<Vec<Path>, AllocError>
     ensures { IfOk result (λ paths. paths.items ≡ aside_of tree.now book.now) }
 {
@@ -108,9 +108,9 @@ fn sources_of(alloc: Global, tree: &Tree, book: &Book) -> Result<Arc<Tree>, Allo
 }
 
 impl Past {
-    /// What a run over this tree is given. Contents are shared with it, and where it has no book all of it is. The
-    /// files that the book tells digests of are digested once, and keep their digests. Where memory runs out the tree's
-    /// book may have a fault or none.
+    /// Reads the book of a tree and sets aside the files that aren't sources. Contents are shared with the tree;
+    /// without a book, so is all the rest. The files that the book has digests of are digested once, and keep their
+    /// digests. If memory runs out, nothing is said of the book.
     pub fn open(alloc: Global, tree: Tree) -> Result<Past, PastFault>
         ensures tree { IfOk result (λ past. past.tree ≡ tree) }
         ensures past { IfOk result IsPast }
@@ -127,7 +127,7 @@ impl Past {
         }
     }
 
-    /// The same, and the digests are made by up to so many threads.
+    /// The same as [`Past::open`], with at most `threads` threads that make the digests.
     pub fn open_by<R: Threads + Sync>(
         rt: &R,
         alloc: Global,
@@ -149,7 +149,7 @@ impl Past {
         }
     }
 
-    /// The past of a tree without a book: all of it are sources.
+    /// The past of a tree without a book: every file is a source.
     fn without_book(alloc: Global, tree: Tree) -> Result<Past, PastFault>
         requires none { file_at tree path_of_book ≡ None }
         ensures tree { IfOk result (λ past. past.tree ≡ tree) }
@@ -185,7 +185,7 @@ impl Past {
         })
     }
 
-    /// The same, shared.
+    /// The same past, shared.
     fn share(&self) -> Result<Past, AllocError>
         ensures { IfOk result (λ past. past ≡ self.now) }
     {
@@ -199,8 +199,8 @@ impl Past {
         })
     }
 
-    /// The same, in which the named files of the sources keep their digests: `named` tells it of each number. They are
-    /// made by up to so many threads.
+    /// The same past, in which the named files of the sources keep their digests. `named` has an answer for each number
+    /// of the tree. At most `threads` threads make the digests.
     pub(crate) fn with_digests_by<R: Threads + Sync>(
         self,
         rt: &R,
@@ -224,7 +224,7 @@ impl Past {
         })
     }
 
-    /// The book and the sources are those of the tree, as laws of pasts ask.
+    /// Shows that the book and the sources are those of the tree, as laws of pasts ask.
     pub fn is_past(&self)
         ensures { IsPast self.now }
     {
@@ -248,7 +248,7 @@ impl Past {
         &self.sources
     }
 
-    /// The book of the last run; empty where the tree has none.
+    /// The book of the last run, empty if the tree has none.
     pub fn book(&self) -> &Book
         ensures book { result.now ≡ self.now.book }
         ensures past { IsPast self.now }
@@ -256,8 +256,8 @@ impl Past {
         &self.book
     }
 
-    /// The number of the record of a target that stands as the last run left it, if there is one. A target with a rule
-    /// is no source, so its file, where there is one, is the one that the record speaks of; it isn't digested again.
+    /// The index of a target's record, if it has one and is as the last run left it. A target with a rule isn't a
+    /// source, so a file at its path is the generated one that the record tells of; it isn't digested again.
     pub fn intact(&self, target: &Path) -> Option<usize>
         requires rule { is_rule (found_of self.now.sources target.now) ≡ true }
         ensures found { option_and_then (λ n. slice_get self.now.book n) result ≡ intact_record self.now target.now }

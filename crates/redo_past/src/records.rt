@@ -1,4 +1,4 @@
-//! The records of targets that were built, line by line.
+//! The records of the new book, line by line.
 
 ghost use Rattle.std.specs.Prelude.{◌≡◌, ◌∷◌, [], codes, false, flat_map, is_err, option_copied};
 ghost use Rattle.redo_path.specs.Names.{IsPath};
@@ -27,7 +27,7 @@ pub(crate) fn is_built(outcome: &Outcome) -> bool
     matches!(outcome, Outcome::Built(_))
 }
 
-/// Whether a path is that of the top directory.
+/// Whether a path is the top directory.
 pub(crate) fn is_top(path: &Path) -> bool
     ensures top { result ≡ is_root path.now }
     ensures path { IsPath path.now }
@@ -35,15 +35,14 @@ pub(crate) fn is_top(path: &Path) -> bool
     path.text().is_empty()
 }
 
-/// Whether a row's target has a record in the new book: it was built, which the top directory never is.
+/// Whether the new book has a record of a row's target: it was built, and isn't the top directory.
 pub(crate) fn has_record(row: &Row) -> bool
     ensures { result ≡ leaves_record row.now }
 {
     is_built(&row.outcome) && !is_top(&row.path)
 }
 
-/// Writes the entry of a path that was depended on, with the state that it has now. A book has none about the top
-/// directory.
+/// Writes a `change` of a path, with the state that it has now. A book has none of the top directory.
 fn write_changed<W: ByteOut>(
     out: &mut W,
     states: &mut States<'_>,
@@ -62,7 +61,7 @@ fn write_changed<W: ByteOut>(
     write_change(out, &state, path)
 }
 
-/// Writes the entry of a path that isn't to come to exist. A book has none about the top directory.
+/// Writes a `create` of a path. A book has none of the top directory.
 fn write_created<W: ByteOut>(out: &mut W, path: &Path) -> Result<(), Broken>
     requires { W.has_failed out.old ≡ false }
     ensures writes { (states : StatesView) → Writes (W.held out.old) (W.held out.new) result
@@ -75,7 +74,7 @@ fn write_created<W: ByteOut>(out: &mut W, path: &Path) -> Result<(), Broken>
     write_create(out, path)
 }
 
-/// Writes that a target is to be made again in any case, where that is kept with the path of the top directory.
+/// Writes an `always`, which has the top directory as its path. With any other path there is no such entry.
 fn write_made_again<W: ByteOut>(out: &mut W, path: &Path) -> Result<(), Broken>
     requires { W.has_failed out.old ≡ false }
     ensures writes { (states : StatesView) → Writes (W.held out.old) (W.held out.new) result
@@ -133,7 +132,7 @@ fn write_do_file<W: ByteOut>(
     }
 }
 
-/// Writes the candidates that are missing.
+/// Writes the entries of the missing candidates.
 fn write_candidates<'a, W: ByteOut>(
     out: &mut W,
     lines: &mut MissingLines<'a>,
@@ -150,7 +149,7 @@ fn write_candidates<'a, W: ByteOut>(
     write_missing(out, lines, missing)
 }
 
-/// Writes the entries of a record as a book has them. None of them is made for it.
+/// Writes the entries of a record as a book has them, without making them.
 fn write_entries<'a, W: ByteOut>(
     out: &mut W,
     states: &mut States<'_>,

@@ -10,7 +10,7 @@ use redo_report::Row;
 use std::alloc::{AllocError, Global};
 use std::marker::Model;
 
-/// The number of each of these rows, which stand in path order, by its path.
+/// The index of each of these rows, by its path. The rows are in path order.
 pub(crate) fn numbers_of(alloc: Global, rows: &[Row]) -> Result<PathMap<usize>, AllocError>
     requires { AreRows rows.now }
     ensures { IfOk result (λ numbers. FindsRows numbers rows.now) }
@@ -22,7 +22,7 @@ pub(crate) fn numbers_of(alloc: Global, rows: &[Row]) -> Result<PathMap<usize>, 
     Ok(numbers)
 }
 
-/// The rows of a report, each found by its path in few steps. In a contract it is the list of them.
+/// The rows of a report, with a map that finds each by its path. In a contract it is the list of them.
 #[derive(Drop)]
 pub(crate) struct Rows<'a> {
     in_order: &'a [Row],
@@ -42,7 +42,7 @@ impl<'a> Model for Rows<'a> {
 }
 
 impl<'a> Rows<'a> {
-    /// These rows, which stand in path order, with their numbers.
+    /// These rows, which are in path order, with their indices.
     pub(crate) fn new(in_order: &'a [Row], numbers: &'a PathMap<usize>) -> Rows<'a>
         requires order { AreRows in_order.now }
         requires numbers { FindsRows numbers.now in_order.now }

@@ -23,18 +23,18 @@ use std::alloc::{AllocError, Global};
 use std::marker::Model;
 use std::thread::Threads;
 
-/// The report of a run with the new book among its files. The text of the book, which may be long, isn't made before it
-/// is written. In a contract it is the report with that text.
+/// The report of a run with the new book among its files. The book may be long, so its text is made only as it is
+/// written. In a contract it is the report with that text.
 #[derive(Drop)]
 pub struct RunReport {
     past: Past,
-    /// The report with a file for the book, which has no bytes.
+    /// The report, with an empty file in place of the book.
     report: Report,
-    /// The numbers of its rows, by their paths.
+    /// The indices of its rows, by their paths.
     numbers: PathMap<usize>,
-    /// The number of the book among the files.
+    /// The index of the book among the files.
     at: usize,
-    /// How many bytes its text has.
+    /// How many bytes the text of the book has.
     size: usize,
 }
 
@@ -50,8 +50,8 @@ impl Model for RunReport {
 }
 
 impl RunReport {
-    /// The report of a run over a past, whose rows have these numbers by their paths, and whose new book is the file of
-    /// this number and has a text of this size.
+    /// The report of a run over a past. `numbers` has the indices of the rows by their paths; `at` is the index of the
+    /// new book among the files, and `size` is how many bytes its text has.
     pub(crate) fn new(
         past: Past,
         report: Report,
@@ -78,9 +78,9 @@ impl RunReport {
         &self.report.rows
     }
 
-    /// The same report, for which up to so many threads have made the digests of the sources that the new book tells.
-    /// Without it they are made one after another as the book is written. After an earlier run most of them were made
-    /// before, and so none is made here.
+    /// The same report, after at most `threads` threads have made the digests of the sources that the new book tells
+    /// of. Without this call they are made one by one as the book is written. If the old book has records, most of them
+    /// were made when it was read, so none is made here.
     pub fn with_digests_by<R: Threads + Sync>(
         self,
         rt: &R,
@@ -127,9 +127,9 @@ impl RunReport {
         Ok(report)
     }
 
-    /// Writes the report with its files. The text of the new book goes out line by line, and never stands in memory.
-    /// Hand in a writer with a buffer, since the report comes in many small pieces. On want of memory nothing is
-    /// written; after a failure of the writer a beginning was.
+    /// Writes the report with its files. The text of the new book is written line by line, and is never in memory. Hand
+    /// in a buffered writer, as the report comes in many small pieces. Without memory nothing is written; a failure of
+    /// the writer leaves a prefix written.
     pub fn write<W: ByteOut>(&self, alloc: Global, out: &mut W) -> Result<(), WriteFault>
         requires works { W.has_failed out.old ≡ false }
         ensures writes { Writes (W.held out.old) (W.held out.new) result (report_text self.now true) }
@@ -143,7 +143,7 @@ impl RunReport {
     }
 }
 
-/// Writes a report with its files, of which that of a number is the new book of these items.
+/// Writes a report with its files. The file at index `at` is the new book, made of these items.
 fn write_with_book<W: ByteOut>(
     out: &mut W,
     report: &Report,
@@ -168,7 +168,7 @@ fn write_with_book<W: ByteOut>(
     write_end(out)
 }
 
-/// Writes the file of the new book, which has so many bytes, in a bundle's form.
+/// Writes the file of the new book, whose text has exactly `size` bytes, in a bundle's form.
 fn write_book<W: ByteOut>(
     out: &mut W,
     alloc: Global,

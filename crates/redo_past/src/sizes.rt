@@ -1,4 +1,4 @@
-//! How many bytes the records of the new book have, which is known before they are written.
+//! How many bytes the records of the new book have, counted before they are written.
 
 ghost use Rattle.std.specs.Prelude.{◌≡◌, ◌≢◌, ◌∷◌, [], IfOk, codes, flat_map, length, map, option_copied};
 ghost use Rattle.std.specs.List.{AllByRecursion};
@@ -18,7 +18,7 @@ use redo_report::Row;
 use redo_which::{Missing, MissingLines, add_sizes};
 use std::alloc::{AllocError, Global};
 
-/// The size of the entry of a path that was depended on.
+/// The size of a `change` of a path.
 fn changed_size(files: &Files<'_>, path: &Path) -> usize
     ensures { AreSized files.now (record { kind = kinds.Change; path = path.now } ∷ []) result }
 {
@@ -28,7 +28,7 @@ fn changed_size(files: &Files<'_>, path: &Path) -> usize
     change_size(files.has_file(path), path)
 }
 
-/// The size of the entry of a path that isn't to come to exist.
+/// The size of a `create` of a path.
 fn created_size(path: &Path) -> usize
     ensures { (states : StatesView) → AreSized states (record { kind = kinds.Create; path = path.now } ∷ []) result }
 {
@@ -38,7 +38,7 @@ fn created_size(path: &Path) -> usize
     create_size(path)
 }
 
-/// The size of the entry that says that a target is to be made again in any case.
+/// The size of an `always`, which has the top directory as its path.
 fn made_again_size(path: &Path) -> usize
     ensures { (states : StatesView) → AreSized states (record { kind = kinds.Always; path = path.now } ∷ []) result }
 {
@@ -80,7 +80,7 @@ fn do_file_size(files: &Files<'_>, do_file: Option<&Path>) -> usize
     }
 }
 
-/// The size of the candidates that are missing.
+/// The size of the entries of the missing candidates.
 fn candidates_size<'a>(
     lines: &mut MissingLines<'a>,
     missing: &'a Missing,
@@ -124,7 +124,7 @@ fn built_size<'a>(
         ≡ length (text_of (record_lines (record_for files.now.sources files.now.rows row.now)))) }
     ensures record { IfOk result (λ _. IsRecord (record_for files.now.sources files.now.rows row.now)) }
 {
-    // The target is a path, and the record's entries stand once each.
+    // Both calls show the proof something: the target is a path, and the record has each entry once.
     let _path = row.path.text();
     row.deps.each_once();
     let entries = entries_size(files, lines, &row.deps)?;
@@ -149,7 +149,7 @@ fn item_size<'a>(
     }
 }
 
-/// The size of the records of the new book. Each of them may stand in one.
+/// The size of the records of the new book. A book can have each of them.
 pub(crate) fn items_size<'a>(
     alloc: Global,
     files: &Files<'_>,

@@ -1,4 +1,4 @@
-//! What stands at a path when a run ends.
+//! The state of each path when a run ends.
 
 ghost use Rattle.std.specs.Prelude.{◌≡◌, IfOk, is_some};
 ghost use Rattle.redo_digest.specs.Digest.{IsState, state_of as state_in};
@@ -13,7 +13,7 @@ use redo_tree::{FileDigests, Tree};
 use std::alloc::{AllocError, Global};
 use std::marker::Model;
 
-/// The state of what a target was built with.
+/// The state of a target: that of the file that it was built with, or none.
 pub(crate) fn built_state(outcome: &Outcome) -> Option<Digest>
     ensures value { result ≡ state_in (file_in outcome.now) }
     ensures state { IsState result }
@@ -31,8 +31,8 @@ pub(crate) fn has_made(outcome: &Outcome) -> bool
     matches!(outcome, Outcome::Built(Some(_)))
 }
 
-/// The paths at which a file stands when a run ends: those of the sources, and of what was built with one by the rows.
-/// In a contract it is the sources and the rows.
+/// The paths that have a file when a run ends: the sources, and the targets that were built with one by the rows. In a
+/// contract it is the sources and the rows.
 #[derive(Drop)]
 pub(crate) struct Files<'a> {
     sources: &'a Tree,
@@ -48,14 +48,14 @@ impl<'a> Model for Files<'a> {
 }
 
 impl<'a> Files<'a> {
-    /// Those of these sources and rows.
+    /// With these sources and rows.
     pub(crate) fn new(sources: &'a Tree, rows: Rows<'a>) -> Files<'a>
         ensures { result ≡ record { sources = sources.now; rows = rows.entry } }
     {
         Files { sources, rows }
     }
 
-    /// Whether a file stands at a path. No digest is made to tell it.
+    /// Whether there is a file at a path. No digest is made for it.
     pub(crate) fn has_file(&self, path: &Path) -> bool
         ensures { result ≡ is_some (state_after self.now.sources self.now.rows path.now) }
     {
@@ -69,8 +69,8 @@ impl<'a> Files<'a> {
     }
 }
 
-/// What stands at each path when a run ends: the sources, and what was built by the rows. No source is digested twice.
-/// In a contract it is the sources and the rows.
+/// The state of each path when a run ends, from the sources and from what was built by the rows. No source is digested
+/// twice. In a contract it is the sources and the rows.
 #[derive(Drop)]
 pub(crate) struct States<'a> {
     sources: FileDigests<'a>,
@@ -86,7 +86,7 @@ impl<'a> Model for States<'a> {
 }
 
 impl<'a> States<'a> {
-    /// Those of these sources and rows.
+    /// With these sources and rows.
     pub(crate) fn new(
         alloc: Global,
         sources: &'a Tree,

@@ -28,7 +28,7 @@ reason_word reasons.IfShape = codes "ifshape"
 reason_word reasons.TooDeep = codes "toodeep"
 reason_word reasons.Memory = codes "memory"
 
--- a word and the line of the script that it speaks of
+-- a word and a number, such as a line of the script
 abbrev pub word_at : List ℕ → ℕ → List ℕ
 word_at word line = word ++ 32 ∷ decimal line
 
@@ -62,7 +62,7 @@ outcome_words outcomes.Cyclic = codes "cyclic"
 abbrev pub path_line : List ℕ → List ℕ
 path_line path = path ++ 10 ∷ []
 
--- an entry of a record, of which `always` has no path
+-- an entry of a record; `always` has no path
 abbrev pub dep_words : DepKind → List ℕ → List ℕ
 dep_words kinds.Change path = codes "change " ++ path
 dep_words kinds.Create path = codes "create " ++ path
@@ -78,7 +78,7 @@ row_text row = outcome_words row.outcome ++ 32 ∷ path_line row.path ++ flat_ma
 abbrev pub begun_line : List ℕ → List ℕ
 begun_line path = codes "begun " ++ path_line path
 
--- a file that was built, in a bundle's form
+-- a built file, in a bundle's form
 abbrev pub file_text : List ℕ × List ℕ → List ℕ
 file_text file = spelling (file.0, File file.1)
 
@@ -86,11 +86,11 @@ file_text file = spelling (file.0, File file.1)
 abbrev pub file_head : ℕ → List ℕ → List ℕ
 file_head size path = codes "file " ++ decimal size ++ 32 ∷ path_line path
 
--- the rows with their records, and the scripts that were begun
+-- the rows with their records, and the begun scripts
 abbrev pub head_text : Report → List ℕ
 head_text report = flat_map row_text report.rows.items ++ flat_map begun_line report.begun.items
 
--- the rows with their records, the scripts that were begun, the files that were built if they are wanted, and the end
+-- the rows with their records, the begun scripts, the built files if they are wanted, and the end
 abbrev pub report_text : Report → Bool → List ℕ
 report_text report with_files =
     head_text report ++ (if with_files then flat_map file_text report.files.items else []) ++ codes "end\n"

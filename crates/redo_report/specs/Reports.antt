@@ -12,7 +12,7 @@ use Rattle.redo_report.specs.declared.report.Report.{Report}
 use Rattle.redo_record.specs.declared.deps.Dep.{Dep}
 use Rattle.redo_record.specs.declared.outcome.Outcome.TheVariants.{Built}
 
--- the paths stand in order, none twice
+-- the paths ascend by their bytes, and none occurs twice
 abbrev pub AreAscending : List (List ℕ) → Type 0
 AreAscending [] = Unit {0}
 AreAscending (p ∷ []) = Unit {0}
@@ -24,8 +24,8 @@ row_paths report = map (λ row. row.path) report.rows.items
 abbrev pub deps_of : Rules → ℕ → List ℕ → List Dep
 deps_of r limit p = if r.is_source p then [] else record_of r limit p
 
--- the needed targets and the requested sources with their outcomes and records, the files that were built, and the
--- targets whose script began
+-- a report has the needed targets and the requested sources with their outcomes and records, the built files, and the
+-- targets whose script was begun
 pub record IsReport (r : Rules) (request : List (List ℕ)) (limit : ℕ) (report : Report) : Type 0 where
   pub within : length (needed_at r request limit) ≤ limit
   pub rows : (p : List ℕ) → IsAmong (row_paths report) p ↔

@@ -1,4 +1,4 @@
-//! The lines of missing candidates, as they are written.
+//! The lines of missing candidates.
 
 ghost use Rattle.std.specs.Prelude.{◌≡◌, ◌++◌, ◌∷◌, [], false, flat_map, is_err};
 ghost use Rattle.redo_bundle.specs.Bundle.{Writes};
@@ -7,8 +7,8 @@ ghost use Rattle.redo_which.specs.Lines.{lines_of};
 use redo_bundle::{Broken, ByteOut, write_all, write_parts};
 use redo_which::{CandidateRef, Missing, MissingLines, Tail};
 
-/// Writes a line for each candidate that is missing, in their order, and keeps those behind the first for the next
-/// target. Where there is no memory to keep them, they are written all the same.
+/// Writes a line for each missing candidate, in order. All lines but the first are kept in `lines` for the next target;
+/// without memory for them they are written one by one.
 pub fn write_missing<'a, W: ByteOut>(
     out: &mut W,
     lines: &mut MissingLines<'a>,
@@ -31,7 +31,7 @@ pub fn write_missing<'a, W: ByteOut>(
     write_all(out, lines.text())
 }
 
-/// Writes the lines of candidates, one by one.
+/// Writes the line of each candidate.
 fn write_each<W: ByteOut>(out: &mut W, front: &[u8], rest: &Tail<'_>) -> Result<(), Broken>
     requires { W.has_failed out.old ≡ false }
     ensures writes { Writes (W.held out.old) (W.held out.new) result (lines_of front.now rest.now) }
@@ -43,7 +43,7 @@ fn write_each<W: ByteOut>(out: &mut W, front: &[u8], rest: &Tail<'_>) -> Result<
     Ok(())
 }
 
-/// Writes the line of a candidate: the text of its .do file's path between a front and a newline.
+/// Writes the line of a candidate: `front`, the path of its .do file, and a newline.
 fn write_line<W: ByteOut>(
     out: &mut W,
     front: &[u8],

@@ -1,5 +1,4 @@
-//! What a build came to, as data: rows, files and begun scripts. Records and contents are shared with those who decided
-//! the targets, not copied.
+//! What a build came to, as data: rows, files and begun scripts. Records and contents are shared, not copied.
 use redo_path::Path;
 use redo_record::{Outcome, Record};
 use redo_tree::Content;
@@ -10,17 +9,17 @@ use std::sync::Arc;
 pub struct Row {
     pub path: Path,
     pub outcome: Outcome,
-    /// The record, also of a target that failed or is cyclic; a source has none.
+    /// The record, also of a target that failed or is cyclic; empty for a source.
     pub deps: Arc<Record>,
 }
 
-/// What a build came to, each list in path order.
+/// What a build came to, each list in ascending order of paths.
 #[derive(Drop)]
 pub struct Report {
-    /// The needed targets, which are all that was asked for and is no source, and the requested sources.
+    /// The needed targets and the requested sources.
     pub rows: Vec<Row>,
-    /// The targets that were built with a file, and its bytes.
+    /// The targets that were built with a file, with its bytes.
     pub files: Vec<(Path, Content)>,
-    /// The targets that have a rule, and so a script that was begun.
+    /// The targets whose script was begun.
     pub begun: Vec<Path>,
 }

@@ -1,5 +1,5 @@
-//! The report of a build as text, written piece by piece. Nothing here allocates but [`report_text`], and what keeps
-//! the lines of candidates for the next row.
+//! The report of a build as text, written piece by piece. Only [`report_text`] allocates, apart from the lines of
+//! candidates that are kept for the next row.
 ghost use Rattle.std.specs.Prelude.{◌≡◌, ◌++◌, ◌∷◌, [], IfOk, codes, false, flat_map, is_err, option_copied};
 ghost use Rattle.redo_record.specs.Entries.{change_of};
 ghost use Rattle.redo_bundle.specs.Bundle.{Writes};
@@ -17,8 +17,8 @@ use redo_tree::Content;
 use redo_which::MissingLines;
 use std::alloc::{AllocError, Global};
 
-/// The report's text: the rows with their records, the scripts that were begun, the files that were built, each as it
-/// stands in a bundle, and the end. Without the files it is the same but for these.
+/// The report's text: the rows with their records, the begun scripts, the built files in a bundle's form, and the end
+/// line. `with_files` decides whether the files are in it.
 pub fn report_text(alloc: Global, report: &Report, with_files: bool) -> Result<Vec<u8>, AllocError>
     ensures { IfOk result (λ text. text.items ≡ report_text report.now with_files) }
 {
@@ -32,9 +32,9 @@ pub fn report_text(alloc: Global, report: &Report, with_files: bool) -> Result<V
     }
 }
 
-/// Writes the text that [`report_text`] makes. It goes out in many small pieces, so hand in a writer with a buffer.
-/// After a failure a beginning of the text was written. It needs no memory but to write faster: neighbours' candidates
-/// are spelled once.
+/// Writes the text that [`report_text`] makes, in many small pieces: hand in a buffered writer. A failure leaves a
+/// prefix of the text written. Memory only makes it faster, as candidates that neighbouring rows share are spelled
+/// once.
 pub fn write_report<W: ByteOut>(
     out: &mut W,
     report: &Report,
@@ -51,7 +51,7 @@ pub fn write_report<W: ByteOut>(
     write_end(out)
 }
 
-/// Writes what stands before the files in a report: the rows with their records, and the scripts that were begun.
+/// Writes what comes before the files in a report: the rows with their records, and the begun scripts.
 pub fn write_head<W: ByteOut>(out: &mut W, report: &Report) -> Result<(), Broken>
     requires { W.has_failed out.old ≡ false }
     ensures writes { Writes (W.held out.old) (W.held out.new) result (head_text report.now) }
@@ -88,7 +88,7 @@ fn write_rows<'a, W: ByteOut>(
     Ok(())
 }
 
-/// Writes a line for each script that was begun.
+/// Writes a line for each begun script.
 fn write_begun<W: ByteOut>(out: &mut W, begun: &[Path]) -> Result<(), Broken>
     requires { W.has_failed out.old ≡ false }
     ensures writes { Writes (W.held out.old) (W.held out.new) result (flat_map begun_line begun.now) }
@@ -100,7 +100,7 @@ fn write_begun<W: ByteOut>(out: &mut W, begun: &[Path]) -> Result<(), Broken>
     Ok(())
 }
 
-/// Writes files, each as it stands in a bundle.
+/// Writes files in a bundle's form.
 pub fn write_files<W: ByteOut>(out: &mut W, files: &[(Path, Content)]) -> Result<(), Broken>
     requires { W.has_failed out.old ≡ false }
     ensures writes { Writes (W.held out.old) (W.held out.new) result (flat_map file_text files.now) }
@@ -129,7 +129,7 @@ fn write_row<'a, W: ByteOut>(
     write_record(out, &row.deps, lines)
 }
 
-/// Writes the lines of a record. Of its entries none is made.
+/// Writes the lines of a record from its parts, without making its entries.
 fn write_record<'a, W: ByteOut>(
     out: &mut W,
     deps: &'a Record,
@@ -185,7 +185,7 @@ fn write_dep<W: ByteOut>(out: &mut W, dep: &Dep) -> Result<(), Broken>
     }
 }
 
-/// Writes the words for what became of a path.
+/// Writes the words of an outcome.
 fn write_outcome<W: ByteOut>(out: &mut W, outcome: &Outcome) -> Result<(), Broken>
     requires { W.has_failed out.old ≡ false }
     ensures writes { Writes (W.held out.old) (W.held out.new) result (outcome_words outcome.now) }
@@ -259,7 +259,7 @@ fn word_of_reason(reason: Reason) -> &'static [u8]
     }
 }
 
-/// Writes a word and a number, as the line of a script that it speaks of.
+/// Writes a word and a number, such as a line of the script.
 fn write_word_at<W: ByteOut>(out: &mut W, word: &[u8], number: u64) -> Result<(), Broken>
     requires { W.has_failed out.old ≡ false }
     ensures writes { Writes (W.held out.old) (W.held out.new) result (word_at word.now number) }
@@ -269,7 +269,7 @@ fn write_word_at<W: ByteOut>(out: &mut W, word: &[u8], number: u64) -> Result<()
     write_parts(out, &[word, b" ", digits.format(number).as_bytes()])
 }
 
-/// Writes a path behind some words, and a newline.
+/// Writes `front`, a path and a newline.
 fn write_path_line<W: ByteOut>(out: &mut W, front: &[u8], path: &Path) -> Result<(), Broken>
     requires { W.has_failed out.old ≡ false }
     ensures writes { Writes (W.held out.old) (W.held out.new) result (front.now ++ path_line path.now) }
@@ -278,7 +278,7 @@ fn write_path_line<W: ByteOut>(out: &mut W, front: &[u8], path: &Path) -> Result
     write_parts(out, &[front, path.text(), b"\n"])
 }
 
-/// Writes a file, in a bundle's form.
+/// Writes a file in a bundle's form.
 fn write_file<W: ByteOut>(out: &mut W, file: &(Path, Content)) -> Result<(), Broken>
     requires { W.has_failed out.old ≡ false }
     ensures writes { Writes (W.held out.old) (W.held out.new) result (file_text file.now) }
@@ -289,8 +289,7 @@ fn write_file<W: ByteOut>(out: &mut W, file: &(Path, Content)) -> Result<(), Bro
     write_parts(out, &[bytes, b"\n"])
 }
 
-/// Writes the line that stands before the bytes of a file, by the text of its path: how many they are, and the path. A
-/// newline is to follow the bytes.
+/// Writes the line before a file's bytes: how many they are, and the path. The caller writes the bytes and a newline.
 pub fn write_file_head<W: ByteOut>(out: &mut W, size: usize, path: &[u8]) -> Result<(), Broken>
     requires { W.has_failed out.old ≡ false }
     ensures writes { Writes (W.held out.old) (W.held out.new) result (file_head size path.now) }

@@ -7,12 +7,12 @@ use Rattle.redo_which.specs.Rule.{chosen_of, missing_of}
 use Rattle.redo_which.specs.Views.{place_of}
 use Rattle.redo_which.specs.declared.Search.{Search}
 
--- .do files that are missing, and the one that was chosen
+-- the .do files that are missing, and the one that was chosen
 abbrev pub list_text : List (List ℕ) → Option Place → List ℕ
 list_text missing None = flat_map path_line missing
 list_text missing (Some place) = flat_map path_line missing ++ path_line place.do_file
 
--- the list of a target's candidates, to the first that is a file
+-- the list of a target's candidates, up to the first that is a file
 abbrev pub candidate_text : Tree → List ℕ → List ℕ
 candidate_text tree target = list_text (missing_of tree target) (chosen_of tree target)
 

@@ -13,7 +13,7 @@ use Rattle.redo_run.specs.declared.exit.Exit.TheVariants.{Good}
 use Rattle.redo_record.specs.declared.outcome.Outcome.{Outcome}
 use Rattle.redo_record.specs.declared.outcome.Outcome.TheVariants.{Source, Built, Failed, Cyclic}
 
--- a source, or built
+-- the outcome is source or built
 abbrev pub is_made : Outcome → Bool
 is_made Source = true
 is_made (Built bytes) = true
@@ -24,11 +24,11 @@ is_made Cyclic = false
 abbrev pub AllAreMade : Rules → ℕ → List (List ℕ) → Type 0
 AllAreMade r limit request = (p : List ℕ) → IsAmong request p → is_made (final_outcome r limit p) ≡ true
 
--- a run is good exactly where every requested path is
+-- a run is good exactly if every requested path is a source or built
 abbrev pub IsExit : Rules → ℕ → List (List ℕ) → Exit → Type 0
 IsExit r limit request exit = (exit ≡ Good) ↔ AllAreMade r limit request
 
--- the same of a build that is given this
+-- the same for a build that is given this
 abbrev pub IsExitOf : GivenView → Exit → Type 0
 IsExitOf given exit = IsExit (rules_for given) given.limits.targets given.request exit
 
@@ -36,6 +36,6 @@ IsExitOf given exit = IsExit (rules_for given) given.limits.targets given.reques
 abbrev pub is_listed : List (List ℕ) → List ℕ → Bool
 is_listed keys p = list_any (λ q. is_eq (slice_cmp nat_cmp p q)) keys
 
--- the row is of a listed path and tells of no success
+-- the row is of a listed path, and is neither source nor built
 abbrev pub fails : List (List ℕ) → Row → Bool
 fails keys row = not (is_made row.outcome) && is_listed keys row.path

@@ -8,7 +8,7 @@ use Rattle.redo_run.specs.declared.run_fault.RunFault.TheVariants as build
 use Rattle.redo_run.specs.declared.fault.RunIoFault.{RunIoFault}
 use Rattle.redo_run.specs.declared.fault.RunIoFault.TheVariants as run
 
--- want of memory is that of the run; any other fault is the bundle's
+-- lack of memory is that of the run; any other fault is the bundle's
 abbrev pub of_bundle : BundleFault → RunIoFault
 of_bundle bundle.Memory = run.Memory
 of_bundle fault = run.Bundle fault

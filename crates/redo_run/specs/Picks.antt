@@ -1,5 +1,5 @@
--- An order of a build, said by places: which ready target is taken next, and which of the jobs that are out is handed
--- in. What the board looks at by itself, at the opening and behind each piece, is no part of it.
+-- An order of a build, by indices: which ready target is taken next, and which of the jobs that are out is handed in.
+-- The board's own looks, at the opening and after each piece, are no part of it.
 use Rattle.std.specs.Prelude.{◌≡◌, ℕ, ◌+◌, List, [], ◌∷◌, ◌++◌, Option, None, MatchOption, slice_get, remove, map}
 use Rattle.std.specs.Prelude.{option_map}
 use Rattle.redo_core.specs.Build.{GivenView, rules_for}
@@ -20,42 +20,42 @@ pub record Driven : Type 0 where
   pub state : State
   pub out : List (List ℕ)
 
--- the target at a place is taken, and is out behind the others
+-- the target at an index is taken, and is out behind the others
 abbrev pub with_taken : Rules → Driven → ℕ → List ℕ → Driven
 with_taken r d which target = record { state = happens r d.state (Take which); out = d.out ++ target ∷ [] }
 
--- the job of the target at a place is handed in
+-- the job of the target at an index is handed in
 abbrev pub with_handed_in : Rules → Driven → ℕ → List ℕ → Driven
 with_handed_in r d which target =
     record { state = handed_in r Script d.state (entry_of d.state.entries target); out = remove d.out which }
 
--- what a pick leads to, before the board looks; nothing where it isn't open
+-- what a pick leads to, before the board looks; none if it isn't open
 abbrev pub picked : Rules → Driven → Pick → Option Driven
 picked r d (TakeAt which) = option_map (with_taken r d which) (slice_get d.state.ready which)
 picked r d (HandInAt which) = option_map (with_handed_in r d which) (slice_get d.out which)
 
--- the second is the first once the board has looked: the checks that can go on do so, until none can
+-- the second is the first after looks until no check can go on
 pub record IsLookedAt (r : Rules) (d next : Driven) : Type 0 where
   pub looked : IsLookedOut r d.state next.state
   pub out : next.out ≡ d.out
 
--- behind a take the board looks at nothing, behind a piece at what can go on
+-- after a take the board doesn't look; after a piece it looks until no check can go on
 abbrev pub IsBehind : Rules → Pick → Driven → Driven → Type 0
 IsBehind r (TakeAt which) d next = next ≡ d
 IsBehind r (HandInAt which) d next = IsLookedAt r d next
 
--- the picks lead there, up to the first that isn't open, and so many are done
+-- the picks lead to this end, up to the first that isn't open, and exactly `done` of them are done
 abbrev pub IsDrivenTo : Rules → List Pick → Driven → Driven → ℕ → Type 0
 IsDrivenTo r [] d end done = (end ≡ d) × (done ≡ 0)
 IsDrivenTo r (pick ∷ picks) d end done =
     MatchOption (picked r d pick) ((end ≡ d) × (done ≡ 0)) (λ at.
     (next : Driven) × IsBehind r pick at next × ((left : ℕ) × IsDrivenTo r picks next end left × (done ≡ left + 1)))
 
--- the opening, before the board looks, where nothing is out
+-- the opening, before the board looks; nothing is out
 abbrev pub at_opening : GivenView → Driven
 at_opening given = record { state = opening (rules_for given) given.request; out = [] }
 
--- the board is that of the picks in a build that is given this, which were done up to the first that isn't open
+-- the board is the one that the picks lead to, up to the first that isn't open, in a build that is given this
 pub record IsDrivenOver (given : GivenView) (picks : List Pick) (board : BoardView) (done : ℕ) : Type 0 where
   pub first : Driven
   pub opened : IsLookedAt (rules_for given) (at_opening given) first
@@ -63,7 +63,7 @@ pub record IsDrivenOver (given : GivenView) (picks : List Pick) (board : BoardVi
   pub led : IsDrivenTo (rules_for given) picks first end done
   pub is : board ≡ record { given = given; state = end.state; stopped = None }
 
--- the same of a tree, a request and limits
+-- the same for a tree, a request and limits
 abbrev pub IsDriven : Tree → List (List ℕ) → LimitsView → List Pick → BoardView → ℕ → Type 0
 IsDriven tree request limits picks board done =
     (given : GivenView) × IsGiven tree request limits given × IsDrivenOver given picks board done

@@ -13,7 +13,7 @@ abbrev pub of_past : PastFault → RunFault
 of_past (past.Book line) = Book line
 of_past past.Memory = Memory
 
--- the fault of a build whose board was not opened
+-- the fault of a build whose board wasn't opened
 abbrev pub of_opening : OpenFault → RunFault
 of_opening (openings.Book line) = Book line
 of_opening openings.TooMany = TooMany

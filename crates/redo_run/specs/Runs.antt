@@ -17,7 +17,7 @@ use Rattle.redo_run.specs.Candidates.{candidate_text}
 use Rattle.redo_run.specs.Exits.{IsExitOf}
 use Rattle.redo_run.specs.Skipping.{IsSoundFor, IsUnsafeOn}
 
--- `all`, where no target is given
+-- `all` if no target is given
 abbrev pub request_of : List (List ℕ) → List (List ℕ)
 request_of [] = codes "all" ∷ []
 request_of (target ∷ targets) = target ∷ targets
@@ -41,17 +41,17 @@ pub record Reports (options : Options) (text : List ℕ) (old new : Option (List
   pub written : Appends old new (report_text report true)
   pub good : IsExitOf given exit
 
--- the text is a bundle of a tree that needs too many targets; where keeping is safe, none does
+-- the text is a bundle of a tree that needs too many targets, and keeping isn't safe over it
 abbrev pub NeedsTooMany : Options → List ℕ → Type 0
 NeedsTooMany options text =
     (tree : Tree) × IsBundle text tree × TreeNeedsTooMany tree (request_in options) options.limits ×
     IsUnsafeOn tree (request_in options) options.limits
 
--- the text is a bundle of a tree whose book is refused for this line
+-- the text is a bundle of a tree whose book has this line as its first at fault
 abbrev pub RefusesBook : List ℕ → ℕ → Type 0
 RefusesBook text n = (tree : Tree) × IsBundle text tree × IsRefused tree n
 
--- the text is a bundle of a tree, and the writer took a beginning of the report of its build
+-- the text is a bundle of a tree, and the writer took a prefix of the report of its build
 pub record BreaksOff (options : Options) (text : List ℕ) (old new : Option (List ℕ)) : Type 0 where
   pub tree : Tree
   pub bundle : IsBundle text tree
@@ -62,7 +62,7 @@ pub record BreaksOff (options : Options) (text : List ℕ) (old new : Option (Li
   pub begins : report_text report true ≡ out ++ more
   pub written : Appends old new out
 
--- whether a call fell to a fault of the text, of the book, of the targets or of the writer
+-- what each fault says of the text, the book, the targets or the writer; lack of memory says nothing
 abbrev pub Explains : {A : Type 0} → Options → List ℕ → Option (List ℕ) → Option (List ℕ) → Result A RunIoFault → Type 0
 Explains options text old new (Ok x) = Unit {0}
 Explains options text old new (Err (Bundle fault)) = Reads (Err fault) text
@@ -87,7 +87,7 @@ pub record Lists (target text : List ℕ) (old new : Option (List ℕ)) (found :
   pub written : Appends old new (candidate_text tree target)
   pub chosen : IsTrue found ↔ IsSome (chosen_of tree target)
 
--- the same for a list of candidates, where no book is read and no targets are built
+-- the same for a list of candidates; no book is read and no target is built
 abbrev pub ExplainsList : {A : Type 0} → List ℕ → List ℕ → Option (List ℕ) → Option (List ℕ) → Result A RunIoFault →
     Type 0
 ExplainsList target text old new (Ok x) = Unit {0}

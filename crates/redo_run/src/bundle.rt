@@ -1,4 +1,4 @@
-//! Runs over a bundle: the report of its build, and where the rule of a target is looked for.
+//! Runs over a bundle: builds with their reports, and searches for the rule of a target.
 
 ghost use Rattle.std.specs.Prelude.{◌≡◌, ◌↔◌, false, IfOk, IfSome, IsErrOf, true};
 ghost use Rattle.redo_bundle.specs.declared.faults.BundleFault.TheVariants as bundle_faults;
@@ -17,13 +17,13 @@ use std::alloc::Global;
 use std::sync::Wait;
 use std::thread::Threads;
 
-/// Reads a bundle to its end, builds the targets of its tree, and writes the report, with the files of all targets that
+/// Reads a bundle to its end, builds the requested targets, and writes the report, with the files of all targets that
 /// are built or kept, and the new book. The report is the same for every number of workers. Nothing is written before
-/// the build has answered. The text of the new book goes out piece by piece, and never stands in memory.
+/// the build is done. The text of the new book is written piece by piece, and is never in memory.
 ///
-/// The report goes out in many small pieces: hand in a writer with a buffer, as `Plain::new` over std's `BufWriter`,
-/// and flush it afterwards. Once it is out it stands in `kept`, with all that the run still has in memory: a program
-/// that ends with the run may forget that, rather than hand it back piece by piece.
+/// The report is written in many small pieces: hand in a buffered writer, such as `Plain::new` over std's `BufWriter`,
+/// and flush it afterwards. Then `kept` has the report, and with it all memory that the run still holds. A program that
+/// ends with the run may forget it, rather than free it piece by piece.
 pub fn run_bundle<H: Threads + Wait + Sync, R: ByteIn, W: ByteOut, O: Observer>(
     rt: &H,
     alloc: Global,
@@ -63,9 +63,8 @@ pub fn run_bundle<H: Threads + Wait + Sync, R: ByteIn, W: ByteOut, O: Observer>(
     Ok(exit)
 }
 
-/// Reads a bundle to its end, and writes the candidates for a target's rule, one a line: those that are no files of
-/// the tree, and the first that is. Answers whether there is one. It doesn't look at what the target itself is
-/// (redo-whichdo(1)).
+/// Reads a bundle to its end, and writes the candidates for a target's rule, one a line: those that are missing, and
+/// the first that is a file. Returns whether there is one. What the target itself is doesn't matter (redo-whichdo(1)).
 pub fn whichdo_bundle<R: ByteIn, W: ByteOut>(
     alloc: Global,
     reader: &mut R,

@@ -1,4 +1,4 @@
-//! What a run was at when it failed, for messages.
+//! Where a run failed, for messages.
 
 use redo_dir::StoreFault;
 use redo_path::Path;
@@ -6,10 +6,10 @@ use redo_tree::Content;
 use std::alloc::Global;
 use std::io::ErrorKind;
 
-/// What a run was at when it failed, for messages: no contract speaks of it. Hand in a new one with each run.
+/// Where a run failed, for messages: no contract speaks of it. Hand in a new one for each run.
 #[derive(Drop)]
 pub struct Cause {
-    /// The header line of the bundle that was read last, without its newline.
+    /// The last header line that was read of the bundle, without its newline.
     pub header: Vec<u8>,
     /// The path of what could not be read or stored: in a directory the path below it, which is empty for itself.
     pub place: Vec<u8>,
@@ -35,8 +35,7 @@ impl Cause {
         }
     }
 
-    /// Notes a file of the list that could not be stored. A path that isn't UTF-8 is a name that the system would
-    /// refuse.
+    /// Notes which of these files couldn't be stored. A path that isn't UTF-8 counts as a name that the system refuses.
     pub(crate) fn note_unstored(&mut self, files: &[(Path, Content)], fault: StoreFault) {
         let (place, said) = match fault {
             StoreFault::Device(place, kind) => (place, kind),

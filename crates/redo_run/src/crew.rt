@@ -1,4 +1,4 @@
-//! The workers of a run: how they are started, what they do, and how they are taken in.
+//! The workers of a run: how they start, what they do, and how they end.
 
 ghost use Rattle.std.specs.Prelude.{◌≡◌, ◌≤◌, [], length, map, vec_capacity, OnOk};
 
@@ -12,16 +12,16 @@ use std::sync::Wait;
 use std::thread;
 use std::thread::{Promise, PromisedHandle, Scope, Threads};
 
-/// How many jobs may be out for each worker: one that it is at, and one that waits for it.
+/// How many jobs may be out for each worker: one that it advances, and one that waits for it.
 const OUT_FOR_EACH: usize = 2;
 
-/// How many calls and messages a channel holds: one for each job that may be out, with 64 workers. So no sender waits.
+/// How many calls or messages a channel holds: one for each job that may be out with 64 workers. So no sender waits.
 const MOST_OUT: usize = 128;
 
-/// How often a worker looks for a job before it sleeps. It leaves its processor to others after each look.
+/// How often a worker looks for a job before it sleeps. After each look it yields its processor.
 const LOOKS: u32 = 64;
 
-/// A job that a worker advances, to send what it comes to. Of what the job is made the crew knows nothing.
+/// A job that a worker advances; it sends what the job comes to. The crew doesn't know what a job is made of.
 pub(crate) trait Advance<M, O: Observer>: Numbered + Drop {
     /// What this job may come to.
     ghost comes_to: { Self → M → Type 0 };
@@ -31,18 +31,18 @@ pub(crate) trait Advance<M, O: Observer>: Numbered + Drop {
         ensures { comes_to self result };
 }
 
-/// Tells one worker that a job waits for it. Until it is called it sleeps.
+/// Tells one worker that a job waits. A worker sleeps until it is called.
 #[derive(Drop)]
 pub(crate) struct Call;
 
-/// The owner's ends of the channels to its workers and back.
+/// The owner's ends of the channels to its workers and from them.
 #[derive(Drop)]
 pub(crate) struct Lines<'s, M: Drop> {
     pub calls: Sender<Call>,
     pub messages: Receiver<M>,
     pub lookers: &'s Lookers,
-    /// How many jobs may be out at a time: none where there is no worker. The others wait on the board, where the
-    /// newest goes first.
+    /// How many jobs may be out at a time: 0 without workers. The others wait on the board, where the newest goes
+    /// first.
     pub most_out: usize,
 }
 
@@ -54,7 +54,7 @@ pub(crate) struct Extension<'s, M: Drop> {
     lookers: &'s Lookers,
 }
 
-/// Channels for so many workers.
+/// Channels for this many workers.
 pub(crate) fn lines_for<'s, M: Drop>(
     alloc: Global,
     workers: usize,
@@ -87,7 +87,7 @@ impl<J: Numbered + Drop> Promise<JobTaker<J>> for OwnTaker<J> {
 /// A worker that was started.
 pub(crate) type Hand<J> = PromisedHandle<JobTaker<J>, OwnTaker<J>>;
 
-/// Looks for a job so often as a worker does before it sleeps.
+/// Looks for a job, as often as a worker does before it sleeps.
 fn look<J: Numbered + Drop>(taker: &mut JobTaker<J>) -> Option<J>
     ensures { taker.new.relay ≡ taker.old.relay }
 {
@@ -100,7 +100,7 @@ fn look<J: Numbered + Drop>(taker: &mut JobTaker<J>) -> Option<J>
     None
 }
 
-/// The next job of a worker that has added its token. It is none once the owner has ended.
+/// The next job of a worker that has added its token; `None` once the owner has ended.
 fn next_job<J: Numbered + Drop, R: Wait>(
     rt: &R,
     lookers: &Lookers,
@@ -162,7 +162,7 @@ fn work<J: Advance<M, O>, M: Drop, R: Wait, O: Observer>(
     taker
 }
 
-/// Starts a worker for each taker. Those that were started are in `hands`, also where one can't be.
+/// Starts a worker for each taker. Those that were started are in `hands`, even if another couldn't be.
 pub(crate) fn start_all<
     's,
     E,
@@ -201,7 +201,7 @@ pub(crate) fn start_all<
     Ok(())
 }
 
-/// Waits for all workers, and has their takers back, in a `Vec` that has room for them.
+/// Waits for all workers to end, and returns their takers in `takers`, which has room for them.
 pub(crate) fn join_all<J: Numbered + Drop, R: Threads>(
     rt: &R,
     hands: Vec<Hand<J>>,

@@ -1,4 +1,4 @@
-//! The board of a build with both ends of its relay, as a run begins and once it has ended.
+//! The board of a build with both ends of its relay, before a run and after it.
 
 use crate::of_build::{Build, JobOf};
 use crate::owner::never;
@@ -16,7 +16,7 @@ pub(crate) struct Desk<B: Build> {
     pub takers: Vec<JobTaker<JobOf<B>>>,
 }
 
-/// What a run has left once all workers are in.
+/// What is left of a run once all workers have ended.
 #[derive(Drop)]
 pub(crate) struct EndedDesk<B: Build> {
     pub board: Board,
@@ -38,7 +38,7 @@ impl<B: Build> Model for EndedDesk<B> {
     ghost invariant = { λ d. IsEnded B.given d.board d.source d.takers.items };
 }
 
-/// Hands what a run has left out of the scope of its threads. The channel has room for it, and its receiver waits
+/// Sends what is left of a run out of the scope of its threads. The channel has room for it, and its receiver waits
 /// outside.
 pub(crate) fn hand_out<B: Build, R: Wait>(rt: &R, out: &Sender<EndedDesk<B>>, desk: EndedDesk<B>) {
     if out.send(rt, desk).is_err() {

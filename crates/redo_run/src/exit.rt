@@ -21,14 +21,14 @@ pub enum Exit {
     SomeFailed,
 }
 
-/// Whether there is something at the path: a source, or what a target was built to.
+/// Whether an outcome is source or built.
 fn is_made_by(outcome: &Outcome) -> bool
     ensures { result ≡ is_made outcome.now }
 {
     matches!(outcome, Outcome::Source | Outcome::Built(_))
 }
 
-/// The paths, to look up.
+/// The set of some paths.
 fn set_of(alloc: Global, paths: &[Path]) -> Result<BTreeSet<Path>, AllocError>
     ensures { IfOk result (λ set. set.keys ≡ placed [] paths.now) }
 {
@@ -39,7 +39,7 @@ fn set_of(alloc: Global, paths: &[Path]) -> Result<BTreeSet<Path>, AllocError>
     Ok(set)
 }
 
-/// Whether one of these paths has a row that tells of no success.
+/// Whether one of these paths has a row that is neither source nor built.
 fn has_failed(wanted: &BTreeSet<Path>, rows: &[Row]) -> bool
     ensures { result ≡ list_any (fails wanted.now.keys) rows.now }
 {

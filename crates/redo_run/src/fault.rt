@@ -12,7 +12,7 @@ use thiserror::Error;
 pub enum RunIoFault {
     #[error("the bundle is refused: {0}")]
     Bundle(BundleFault),
-    /// The book of the last run is refused, for its line of this number, counted from 1.
+    /// The book of the last run has a fault, first in this line, counted from 1.
     #[error("the book of the last run is refused for its line {0}")]
     Book(u64),
     #[error("more targets are needed than the limit allows")]
@@ -53,7 +53,7 @@ impl From<Broken> for RunIoFault {
     }
 }
 
-/// A bundle's want of memory is that of the run.
+/// A bundle that lacked memory is a run that lacked memory.
 impl From<BundleFault> for RunIoFault {
     ghost use Rattle.redo_run.specs.Faults.{of_bundle};
 

@@ -1,4 +1,4 @@
-//! What the definitions of runs say. The functions do nothing: each contract is a law.
+//! Laws of runs. The functions do nothing: each contract is a law.
 
 ghost use Rattle.std.specs.Prelude.{ℕ, List};
 ghost use Rattle.redo_core.specs.Results.{IsResultOn, NeedsTooMany};
@@ -11,8 +11,8 @@ use redo_core::laws::{books_are_true, true_books_skip_soundly};
 use redo_past::laws::a_tree_has_one_past;
 use redo_tree::laws::{a_tree_without_files_is_a_tree, no_other_file_is_taken_out};
 
-/// Where keeping what stands is safe, the result of a build agrees with that of the sources alone, and no such build
-/// needs too many targets. Where all records of the last book are true, so are those of the new one.
+/// If keeping is safe, the result of a build agrees with that of the sources alone, and the build doesn't need too many
+/// targets. If all records of the last book are true, so are those of the new one.
 pub fn keeping_is_sound()
     ensures sound { (tree : Tree) (request : List (List ℕ)) (limits : LimitsView) (result : Report) → IsTree tree →
         IsResultOn tree request limits result → IsSoundOn tree request limits result }

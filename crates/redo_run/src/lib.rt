@@ -1,20 +1,20 @@
-//! Builds from the bytes of a bundle, or a directory, to the bytes of the report, by one thread or by many.
+//! Whole runs, from the bytes of a bundle, or a directory, to the bytes of the report, by one thread or by many.
 //!
-//! [`run_bundle`] reads a bundle to its end, builds the requested targets by as many workers as the options say, and
+//! [`run_bundle`] reads a bundle to its end, builds the requested targets with as many workers as the options say, and
 //! writes the report; [`whichdo_bundle`] writes where the rule of a target is looked for. [`run_dir`] and
-//! [`whichdo_dir`] do the same over a directory, into which those files are stored that don't stand there yet as they
+//! [`whichdo_dir`] do the same for a directory; `run_dir` stores into it the files that it doesn't have yet as they
 //! came out. [`build_many`] is the build alone, with the ledger of its jobs, and [`build_one`] the same in one thread,
 //! without a relay. The crate stands on `redo_build` for what a build is, on `redo_skip` for when it is safe to keep
-//! what stands, on `redo_core` for the board that holds it, on `redo_sync` for the relay through which jobs go to
-//! workers, on `crossbeam_channel` for their way back, on `redo_report` for the report and its text, on `redo_tree`,
-//! `redo_bundle` and `redo_dir` for trees and where they come from, and on `redo_which` for the search.
+//! targets, on `redo_core` for the board, on `redo_sync` for the relay through which jobs go to workers, on
+//! `crossbeam_channel` for their way back, on `redo_report` for the report and its text, on `redo_tree`, `redo_bundle`
+//! and `redo_dir` for trees and where they come from, and on `redo_which` for the search.
 //!
-//! - `one`: a build by one thread; `workers`: by many, or by one through a relay; `owner`: what the one does that has
-//!   the board; `crew`: what the workers do; `desk`: what the owner has before a run and after it; `lookers`: how many
+//! - `one`: a build by one thread; `workers`: by many, or by one through a relay; `owner`: what the thread with the
+//!   board does; `crew`: what the workers do; `desk`: what the owner has before a run and after it; `lookers`: how many
 //!   workers look for a job; `of_build`: what they send each other; `observer`: who is told of each job; `picks`: a
-//!   build in an order that is given beforehand;
-//! - `run_fault`: why a build has no report; `exit`: whether all that was requested is there;
-//! - `laws`: what the definitions say, as contracts of functions that do nothing;
+//!   build in a given order;
+//! - `run_fault`: why a build has no report; `exit`: whether every requested path is a source or built;
+//! - `laws`: laws of runs, as contracts of functions that do nothing;
 //! - `bundle`: the two calls over bundles; `options` and `fault`: what they take and refuse; `directory` and
 //!   `dir_fault`: the same over a directory; `request` and `candidates`: what both share.
 #![tactic(auto)]

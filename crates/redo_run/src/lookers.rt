@@ -1,15 +1,16 @@
 //! How many workers look for a job without having been called.
 //!
 //! A call wakes a thread, which costs more than a short script. So a worker that has done its job looks into the relay
-//! for a while before it sleeps, and the owner doesn't call where a worker looks. Each that looks leaves a token, and
-//! the owner takes one away for each job that it gives; where there is none, it calls. One that gives up looking takes
-//! a token back; where there is none, a job was given for it. So those that look and the calls that nobody heard yet
-//! are as many as the tokens and the jobs that wait: no job waits for ever, and nobody looks for ever.
+//! for a while before it sleeps, and the owner calls nobody while a worker looks. A worker that looks adds a token. For
+//! each job that it gives, the owner takes a token away; if there is none, it calls. A worker that gives up looking
+//! takes a token back; if there is none, a job was given for it, and it looks again. So the workers that look and the
+//! calls that nobody has heard are together as many as the tokens and the jobs that wait: no job waits for ever, and
+//! nobody looks for ever.
 
 use std::sync::atomic::AtomicU64;
 use std::sync::atomic::Ordering::SeqCst;
 
-/// The tokens of those that look.
+/// The tokens of the workers that look.
 #[derive(Drop)]
 pub(crate) struct Lookers {
     tokens: AtomicU64,
@@ -23,12 +24,12 @@ impl Lookers {
         }
     }
 
-    /// One more looks.
+    /// One more looks, and adds a token.
     pub fn add(&self) {
         self.tokens.fetch_add(1, SeqCst);
     }
 
-    /// Takes a token away. Answers whether there was one.
+    /// Takes a token away, if there is one. Returns whether there was.
     pub fn take(&self) -> bool {
         self.tokens
             .fetch_update(SeqCst, SeqCst, |tokens| tokens.checked_sub(1))

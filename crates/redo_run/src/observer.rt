@@ -1,12 +1,12 @@
-//! Who is told of each script that a worker takes up.
+//! Who is told of each script that is taken up.
 
 use redo_path::Path;
 
-/// Is told of each job that a worker took, before the script is advanced. It serves tests, and whoever shows how far a
-/// build has come. Workers call it side by side, and have nothing of the board: a call that takes long keeps its own
-/// worker alone.
+/// Is told of each job that was taken, before its script is advanced. It serves tests, and whoever shows the progress
+/// of a build. Threads call it side by side, and it has nothing of the board: a call that takes long holds up only the
+/// thread that makes it.
 pub trait Observer: Sync {
-    /// The script of this target is taken up, after it stopped so many times.
+    /// The script of this target is taken up, after it has stopped `turn` times.
     fn taken_up(&self, target: &Path, turn: u64);
 }
 

@@ -1,6 +1,6 @@
 //! What the owner of a board and its workers send each other.
 //!
-//! What comes out of a queue is known by its type alone, so its type names the build, which contracts alone see: no
+//! Only the type of what comes out of a queue is known. So the type names the build, which contracts alone see: no
 //! piece is compared with the board when the program runs.
 
 ghost use Rattle.std.specs.Prelude.{◌≡◌};
@@ -13,7 +13,7 @@ use redo_sync::Numbered;
 use std::alloc::AllocError;
 use std::marker::{Brand, PhantomData};
 
-/// The build that workers are at, by what it is given. It has no value when the program runs.
+/// A build, named by what it is given. It has no value when the program runs.
 pub trait Build {
     ghost use Rattle.redo_core.specs.Build.{GivenView};
 
@@ -47,7 +47,7 @@ pub(crate) struct PieceOf<B: Build> {
     ghost given: { piece.given ≡ B.given },
 }
 
-/// What a worker sends: a piece, or that its call met want of memory.
+/// What a worker sends: a piece, or that it ran out of memory.
 pub(crate) type Message<B> = Result<PieceOf<B>, AllocError>;
 
 impl<B: Build> JobOf<B> {
@@ -92,7 +92,7 @@ impl<B: Build> PieceOf<B> {
     }
 }
 
-/// A job goes by the number of its work.
+/// A relay tells jobs apart by the target and turn of their works.
 impl<B: Build> Numbered for JobOf<B> {
     ghost number = { λ j. (j.work.target, j.work.turn) };
 

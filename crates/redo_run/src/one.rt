@@ -19,7 +19,7 @@ use redo_tree::Tree;
 use std::alloc::Global;
 
 /// Takes the target that became ready last, advances its script, and hands it in. So what was just asked for is built
-/// before more is asked for, and few scripts stand begun at a time.
+/// before more is asked for, and few scripts are under way at a time.
 fn advance_newest(board: &mut Board) -> Result<(), Stop>
     requires ready { 0 < ready_count board.old }
     requires none_out { jobs_out board.old ≡ 0 }
@@ -42,9 +42,9 @@ fn advance_newest(board: &mut Board) -> Result<(), Stop>
     }
 }
 
-/// Builds the requested targets and all that they need, one script after another, and keeps going where one fails. What
-/// stands as the last run left it is kept, and its script isn't begun. Among the files of the report is the new book.
-/// Where keeping is safe, the report agrees with that of the sources alone.
+/// Builds the requested targets and all that they need, one script after another, and goes on if one fails. A target
+/// whose recorded entries all stand is kept, and its script isn't begun. The new book is among the files of the report.
+/// If keeping is safe, the report agrees with that of the sources alone.
 pub fn build_one(
     alloc: Global,
     tree: Tree,

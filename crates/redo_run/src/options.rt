@@ -8,9 +8,9 @@ use redo_step::Limits;
 /// What to build, with how many workers, and how large it may grow.
 #[derive(Debug, Drop)]
 pub struct Options {
-    /// The requested paths; `all` where there are none.
+    /// The requested paths; `all` if there are none.
     pub targets: Vec<Path>,
-    /// How many scripts may run side by side, from 1 to 64.
+    /// At most this many scripts run side by side, 1 to 64.
     pub workers: usize,
     pub limits: Limits,
     ghost some_workers: { 1 ≤ workers },

@@ -1,4 +1,4 @@
-//! The one that has the board: what is ready goes into the relay, and what comes back is handed in.
+//! The owner of the board: it gives what is ready to the relay, and hands in what comes back.
 
 ghost use Rattle.std.specs.Prelude.{◌≡◌, ◌<◌, Err, IsNone, OnOk};
 ghost use Rattle.redo_build.specs.Outcomes.{IsTooMany};
@@ -17,14 +17,14 @@ use redo_sync::{JobSource, JobTaker};
 use std::alloc::AllocError;
 use std::sync::Wait;
 
-/// Doesn't return. No run comes here, but no type of what comes out of a queue says so.
+/// Doesn't return. No run comes here, though the types of what comes out of a queue don't say so.
 pub(crate) fn never<R: Wait>(rt: &R) -> ! {
     for _ in rt.forever() {}
     unreachable!()
 }
 
 /// Takes the target that became ready last, and gives its job. So what was just asked for is built before more is asked
-/// for, and few scripts stand begun at a time.
+/// for, and few scripts are under way at a time.
 fn give_newest<B: Build>(
     board: &mut Board,
     source: &mut JobSource<JobOf<B>>,
@@ -63,8 +63,8 @@ fn hand_in<B: Build, R: Wait>(rt: &R, board: &mut Board, piece: PieceOf<B>) -> R
     }
 }
 
-/// Gives the newest job, and calls a worker for it if none looks for one. Nobody hears the call only where every worker
-/// has ended, which none does before the end of the run.
+/// Gives the newest job, and calls a worker for it if none looks for one. Nobody hears the call only if every worker
+/// has ended, and none ends before the run does.
 fn call_for_newest<B: Build, R: Wait>(
     rt: &R,
     board: &mut Board,
@@ -85,8 +85,8 @@ fn call_for_newest<B: Build, R: Wait>(
     Ok(())
 }
 
-/// Gives the newest job, takes it, and hands its piece in. Where a worker that looked has taken it first, its piece
-/// comes as any other's.
+/// Gives the newest job, takes it, and hands its piece in. If a worker that looks takes it first, its piece comes as
+/// any other.
 fn advance_newest<B: Build, R: Wait, O: Observer>(
     rt: &R,
     board: &mut Board,
@@ -113,8 +113,8 @@ fn advance_newest<B: Build, R: Wait, O: Observer>(
     hand_in(rt, board, job.advance(observer)?)
 }
 
-/// Receives one message, and hands its piece in. All senders are gone only where every worker has ended, which none
-/// does before the end of the run.
+/// Receives one message, and hands its piece in. All senders are gone only if every worker has ended, and none ends
+/// before the run does.
 fn receive<B: Build, R: Wait>(
     rt: &R,
     board: &mut Board,
@@ -137,8 +137,8 @@ fn receive<B: Build, R: Wait>(
     }
 }
 
-/// Whether the owner advances the newest job itself: there is no worker, or this is the only script that can go on, so
-/// that nothing waits for the owner meanwhile. So a chain of targets needs no hand-over.
+/// Whether the owner advances the newest job itself: nothing is out, and there is no worker or nothing else is ready.
+/// So nothing waits for the owner meanwhile, and a chain of targets needs no hand-over.
 fn is_for_owner<B: Build>(board: &Board, lines: &Lines<'_, Message<B>>) -> bool {
     board.out() == 0 && (board.ready() == 1 || lines.most_out == 0)
 }

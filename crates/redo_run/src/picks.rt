@@ -1,7 +1,7 @@
-//! A build in an order that is given beforehand, event by event.
+//! A build in a given order, event by event.
 //!
-//! Workers come to a board in an order that nobody can foresee. [`drive`] makes one order to be looked at: each
-//! [`Pick`] says what happens next, by places alone.
+//! Nobody can foresee the order in which workers come to a board. [`drive`] makes one order: each [`Pick`] says what
+//! happens next, by an index.
 
 ghost use Rattle.std.specs.Prelude.{◌≡◌, Err, IfOk, IsNone, MatchBool, None, OnOk, Some, length, ℕ};
 ghost use Rattle.redo_core.specs.Results.{IsRefused, NeedsTooMany};
@@ -22,16 +22,16 @@ use redo_step::Limits;
 use redo_tree::Tree;
 use std::alloc::Global;
 
-/// What happens next on a board, by a place that is counted from 0.
+/// What happens next on a board, by an index that is counted from 0.
 #[derive(Clone, Copy, Debug, PartialEq, Eq)]
 pub enum Pick {
-    /// The ready target at this place is taken.
+    /// The ready target at this index is taken.
     Take(usize),
-    /// The job at this place among those that are out, in the order of taking, is advanced and handed in.
+    /// The job at this index among those that are out, in the order of taking, is advanced and handed in.
     HandIn(usize),
 }
 
-/// Takes the ready target at a place. False where there is none.
+/// Takes the ready target at an index. Returns false if there is none.
 fn take_at(board: &mut Board, out: &mut Vec<Work>, which: usize) -> Result<bool, Stop>
     requires running { IsNone board.old.stopped }
     requires out { AreOut board.old out.old.items }
@@ -51,7 +51,7 @@ fn take_at(board: &mut Board, out: &mut Vec<Work>, which: usize) -> Result<bool,
     Ok(true)
 }
 
-/// Advances the job at a place among those that are out, and hands it in. False where there is none.
+/// Advances the job at an index among those that are out, and hands it in. Returns false if there is none.
 fn hand_in_at(board: &mut Board, out: &mut Vec<Work>, which: usize) -> Result<bool, Stop>
     requires running { IsNone board.old.stopped }
     requires out { AreOut board.old out.old.items }
@@ -79,7 +79,7 @@ fn hand_in_at(board: &mut Board, out: &mut Vec<Work>, which: usize) -> Result<bo
     }
 }
 
-/// Performs a pick. False where it isn't open, and then nothing has changed.
+/// Performs a pick. Returns false if it isn't open, and then nothing has changed.
 fn perform(board: &mut Board, out: &mut Vec<Work>, pick: Pick) -> Result<bool, Stop>
     requires running { IsNone board.old.stopped }
     requires out { AreOut board.old out.old.items }
@@ -98,10 +98,9 @@ fn perform(board: &mut Board, out: &mut Vec<Work>, pick: Pick) -> Result<bool, S
     }
 }
 
-/// Opens a board over a tree and performs the picks one after another, up to the first that isn't open: a place where
-/// nothing is ready, or nothing is out. What stands as the last run left it the board keeps by itself, without a pick.
-/// Answers the board, whatever is left to do on it, and how many picks were done. With the works that are still out the
-/// board is left as it is; they are lost.
+/// Opens a board over a tree and performs the picks in order, up to the first that isn't open: nothing is ready, or
+/// nothing is out, at its index. The board keeps targets by itself, without picks. Returns the board, whatever is left
+/// to do on it, and how many picks were done. The works of targets that are still out are lost.
 pub fn drive(
     alloc: Global,
     tree: Tree,

@@ -6,7 +6,7 @@ ghost use Rattle.redo_run.specs.Runs.{request_of};
 use redo_path::{Path, resolve};
 use std::alloc::{AllocError, Global};
 
-/// The target that is built where none is named.
+/// The target that is built if none is named.
 fn default_target(alloc: Global) -> Result<Path, AllocError>
     ensures { IfOk result (λ path. path ≡ codes "all") }
 {
@@ -27,7 +27,7 @@ fn copied(alloc: Global, paths: &[Path]) -> Result<Vec<Path>, AllocError>
     Ok(copies)
 }
 
-/// The targets that are named, or `all` where there are none.
+/// The targets that are named, or `all` if there are none.
 #[tactic(auto, using(crate::proofs::ToldLemmas::named_targets))]
 pub(crate) fn requested(alloc: Global, targets: &[Path]) -> Result<Vec<Path>, AllocError>
     ensures { IfOk result (λ request. request.items ≡ request_of targets.now) }

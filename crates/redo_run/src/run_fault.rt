@@ -11,12 +11,12 @@ use thiserror::Error;
 /// Why a build has no report.
 #[derive(Clone, Copy, Debug, PartialEq, Eq, Error)]
 pub enum RunFault {
-    /// The book of the last run is refused, for its line of this number, counted from 1.
+    /// The book of the last run has a fault, first in this line, counted from 1.
     #[error("the book of the last run is refused for its line {0}")]
     Book(u64),
     #[error("more targets are needed than the limit allows")]
     TooMany,
-    /// A growth was refused, or a thread could not be started.
+    /// Memory ran out, or a thread couldn't be started.
     #[error("out of memory")]
     Memory,
 }

@@ -1,9 +1,9 @@
 //! A build by many workers, and by one.
 //!
-//! The thread that asked for the build owns the board, and no lock stands round it. It gives each job that is ready to
-//! a relay, calls the workers, which take the jobs out of it, and hands in the pieces that they send back through a
-//! channel. Where a single script can go on, and with one worker always, it takes the job itself. Once all workers are
-//! in, the ledger of the relay shows that each job was taken once.
+//! The thread that asked for the build owns the board, without a lock. It gives each job that is ready to a relay, from
+//! which the workers take it, calls a worker if none looks for a job, and hands in the pieces that come back through a
+//! channel. If only one script can go on, and always with one worker, it takes the job itself. Once all workers have
+//! ended, the ledger of the relay shows that each job was taken once.
 
 ghost use Rattle.std.specs.Prelude.{◌≡◌, ◌≤◌, Err, [], IfOk, IsNone, IsTrue, ℕ};
 ghost use Rattle.redo_build.specs.Outcomes.{IsTooMany};
@@ -46,8 +46,8 @@ fn is_all_taken<B: Build>(ledger: &Ledger<JobOf<B>>) -> bool
     ledger.left().is_empty()
 }
 
-/// What a run came to once all workers are in. No run comes here while jobs are ready, out or left. The digests that
-/// the new book tells are made by up to so many threads.
+/// What a run came to, once all workers have ended. No run comes here while jobs are ready, out or left. At most
+/// `threads` threads make the digests that the new book tells of.
 fn answer_of<B: Build, R: Threads + Wait + Sync>(
     rt: &R,
     alloc: Global,
@@ -75,7 +75,7 @@ fn answer_of<B: Build, R: Threads + Wait + Sync>(
     Ok((report, ledger))
 }
 
-/// Runs a build to its end by the owner, and a worker in a thread of its own for each taker but the owner's.
+/// Runs a build to its end: by the owner, and by a worker with a thread of its own for each other taker.
 fn run_crew<'s, E, B: Build + Send + Sync + 's, R: Threads + Wait + Sync, O: Observer>(
     scope: &Scope<'s, E>,
     rt: &'s R,
@@ -107,7 +107,7 @@ fn run_crew<'s, E, B: Build + Send + Sync + 's, R: Threads + Wait + Sync, O: Obs
         Ok(()) => own(rt, &mut board, &mut source, &mut taker, &lines, observer),
         Err(_) => Err(Stop::Memory),
     };
-    // Nobody calls any more, and nobody reads messages: so the workers end.
+    // Nobody calls any more and nobody reads messages, so the workers end.
     drop(lines);
     let mut takers = join_all(rt, hands, back);
     ended?;
@@ -119,8 +119,8 @@ fn run_crew<'s, E, B: Build + Send + Sync + 's, R: Threads + Wait + Sync, O: Obs
     })
 }
 
-/// The same in a scope of threads: all have ended when it returns. What the run has left comes out of the scope through
-/// a channel.
+/// The same in a scope of threads: all have ended when it returns. What is left of the run comes out of the scope
+/// through a channel.
 fn run_in_scope<B: Build + Send + Sync, R: Threads + Wait + Sync, O: Observer>(
     rt: &R,
     observer: &O,
@@ -157,7 +157,7 @@ fn run_in_scope<B: Build + Send + Sync, R: Threads + Wait + Sync, O: Observer>(
     }
 }
 
-/// How many threads are started: with one worker the owner does it all.
+/// How many threads are started: none with one worker, as the owner does it all.
 fn threads_for(workers: usize) -> usize
     ensures { result ≤ workers }
 {
@@ -189,8 +189,7 @@ fn run_build<B: Build + Send + Sync, R: Threads + Wait + Sync, O: Observer>(
     answer_of(rt, alloc, ended, workers)
 }
 
-/// What a run before has left in a tree. The files that its book tells digests of are digested by up to so many
-/// threads.
+/// What a run takes over from the last one. At most `threads` threads digest the files that the book has digests of.
 pub(crate) fn past_of<R: Threads + Sync>(
     rt: &R,
     alloc: Global,
@@ -204,12 +203,12 @@ pub(crate) fn past_of<R: Threads + Sync>(
     Ok(Past::open_by(rt, alloc, threads, tree)?)
 }
 
-/// Builds the requested targets by so many workers side by side, each in a thread of its own; the caller's thread has
-/// the board meanwhile, and hands out the jobs. It advances a script itself where no other can go on. With one worker
-/// no thread is started: the caller does it all. The report is that of the recursive build in one thread, whatever the
-/// workers do when, with the new book among its files, and the ledger shows that each job was taken once. What stands
-/// as the last run left it is kept; where that is safe, the report agrees with that of the sources alone. All threads
-/// have ended when it answers. It answers `Memory` too where a thread could not be started.
+/// Builds the requested targets with this many workers, each in a thread of its own. Meanwhile the caller's thread has
+/// the board and hands out the jobs; it advances a script itself if no other can go on. With one worker no thread is
+/// started: the caller does it all. The report is that of the recursive build, in whatever order the workers take jobs,
+/// with the new book among its files. The ledger shows that each job was taken once. A target whose recorded entries
+/// all stand is kept; if keeping is safe, the report agrees with that of the sources alone. All threads have ended when
+/// it returns. `Memory` also means that a thread couldn't be started.
 pub fn build_many<R: Threads + Wait + Sync, O: Observer>(
     rt: &R,
     alloc: Global,
@@ -235,7 +234,7 @@ pub fn build_many<R: Threads + Wait + Sync, O: Observer>(
     Ok((report.into_report(alloc)?, ledger))
 }
 
-/// The same over what a run before has left. The new book has no text yet.
+/// The same as [`build_many`], over a past. The new book has no text yet.
 pub(crate) fn build_over<R: Threads + Wait + Sync, O: Observer>(
     rt: &R,
     alloc: Global,

@@ -1,4 +1,4 @@
--- The check of a target: its recorded entries are looked at, before its script is begun.
+-- The check of a target: its recorded entries are looked at before its script is begun.
 use Rattle.std.specs.Prelude.{◌≡◌, ℕ, Bool, true, false, not, ◌&&◌, ◌||◌, List, [], ◌∷◌, ◌++◌, Option, Some, None}
 use Rattle.std.specs.Prelude.{if◌then◌else◌, is_none, option_and_then}
 use Rattle.std.specs.Option.{option_eq}
@@ -15,26 +15,26 @@ use Rattle.redo_book.specs.declared.book.BookEntry.TheVariants.{Change, Create, 
 use Rattle.redo_build.specs.Rules.{Ask, Rules}
 use Rattle.redo_skip.specs.Sources.{File, Sources}
 
--- a path that a change entry asks for: what is no source, and no .do file
+-- a `change` asks for its path if that is neither a source nor named as a .do file
 abbrev pub is_asked : Sources → List ℕ → Bool
 is_asked s q = not (s.is_source q || s.is_script q)
 
--- the file that an outcome tells of, unless the target failed
+-- the file that an outcome tells of; unknown if the target failed or is cyclic
 abbrev pub file_told : Outcome → Option File
 file_told outcomes.Source = Some None
 file_told (outcomes.Built file) = Some file
 file_told (outcomes.Failed why) = None
 file_told outcomes.Cyclic = None
 
--- the file that an answer tells of, where there is an answer
+-- the file that an answer tells of, if there is an answer
 abbrev pub told : Option Outcome → Option File
 told answer = option_and_then file_told answer
 
--- the file of a source, and of nothing else
+-- the file of a source; of any other path it is unknown
 abbrev pub source_file : Sources → List ℕ → Option File
 source_file s q = if s.is_source q then Some (s.file q) else None
 
--- the file at a path under an ask, where it is known
+-- the file at a path, where it is known: from the answer if the path is asked for, else from the sources
 abbrev pub known_file : Sources → Ask → List ℕ → Option File
 known_file s a q = if is_asked s q then told (a q) else source_file s q
 
@@ -42,7 +42,7 @@ known_file s a q = if is_asked s q then told (a q) else source_file s q
 abbrev pub is_awaited : Sources → Ask → List ℕ → Bool
 is_awaited s a q = is_asked s q && is_none (a q)
 
--- whether two states are one
+-- whether two states are equal
 abbrev pub same_state : State → State → Bool
 same_state s t = option_eq bytes_eq s t
 
@@ -51,7 +51,7 @@ abbrev pub has_state : State → Option File → Bool
 has_state state None = false
 has_state state (Some file) = same_state (state_of file) state
 
--- how a recorded entry stands: it is still so, or an answer lacks, or it is so no more
+-- a recorded entry stands (is still so), lacks an answer, or falls (is no longer so)
 pub data Standing : Type 0 where
   stands : Standing
   lacks : Standing
@@ -61,14 +61,14 @@ abbrev pub stands_if : Bool → Standing
 stands_if true = stands
 stands_if false = falls
 
--- how an entry stands under an ask
+-- whether an entry stands, lacks or falls, given these answers
 abbrev pub standing : Sources → Ask → BookEntry → Standing
 standing s a (Change state q) =
     if is_awaited s a q then lacks else stands_if (has_state state (known_file s a q))
 standing s a (Create q) = stands_if (s.is_free q)
 standing s a Always = falls
 
--- the path that an entry asks for, if it asks for one
+-- the path that an entry asks for, if any
 abbrev pub asks : Sources → BookEntry → List (List ℕ)
 asks s (Change state q) = if is_asked s q then q ∷ [] else []
 asks s (Create q) = []
@@ -86,19 +86,19 @@ pub record Finding : Type 0 where
   pub asked : List (List ℕ)
   pub seen : List Dep
 
--- what is found by an entry, by how it stands, and by the further ones where it is still so
+-- what a check finds at an entry; it goes on to the rest only if the entry stands
 abbrev pub found_by : Sources → BookEntry → Standing → Finding → Finding
 found_by s e stands rest =
     record { standing = rest.standing; asked = asks s e ++ rest.asked; seen = shown e ∷ rest.seen }
 found_by s e lacks rest = record { standing = lacks; asked = asks s e; seen = shown e ∷ [] }
 found_by s e falls rest = record { standing = falls; asked = asks s e; seen = shown e ∷ [] }
 
--- what a check finds in entries, in order up to the first that doesn't stand
+-- what a check finds in these entries, in order up to the first that doesn't stand
 abbrev pub finding : Sources → Ask → List BookEntry → Finding
 finding s a [] = record { standing = stands; asked = []; seen = [] }
 finding s a (e ∷ es) = found_by s e (standing s a e) (finding s a es)
 
--- what a target is in check with: the file that it keeps while all entries stand
+-- the check of a target: the file that it keeps if all of these entries stand
 pub record Check : Type 0 where
   pub file : File
   pub entries : List BookEntry
@@ -107,30 +107,30 @@ pub record Check : Type 0 where
 abbrev pub Checks : Type 0
 Checks = List ℕ → Option Check
 
--- it was built with this file, and these are its entries
+-- built with this file and these entries
 abbrev pub built : File → List Dep → Progress
 built file deps = record { outcome = Some (outcomes.Built file); deps = deps }
 
--- entries that ask for these paths, each once
+-- a `change` for each of these paths, once
 abbrev pub asking : List (List ℕ) → List Dep
 asking ps = with_entries [] kinds.Change ps
 
--- how far a target in check comes, by how its entries stand: once one falls, as far as its script does
+-- how far a target in check comes, by how its entries stand; if one falls, as far as its script does
 abbrev pub progress_by : File → List (List ℕ) → Progress → Standing → Progress
 progress_by file asked own stands = built file (asking asked)
 progress_by file asked own lacks = record { outcome = None; deps = asking asked }
 progress_by file asked own falls = record { outcome = own.outcome; deps = with_all (asking asked) own.deps }
 
--- how far it comes by what its check found
+-- the same, by what its check found
 abbrev pub progress_found : File → Finding → Progress → Progress
 progress_found file found own = progress_by file found.asked own found.standing
 
--- how far a target comes, in check or not: its entries are all that it asked for, in its check too
+-- how far a target comes, in check or not; what its check asked for counts as asked for, too
 abbrev pub progress_checked : Sources → List ℕ → Option Check → Ask → Progress
 progress_checked s p None a = s.progress p a
 progress_checked s p (Some c) a = progress_found c.file (finding s a c.entries) (s.progress p a)
 
--- the record by how entries stand: those that were looked at, or those of the script alone once it is begun
+-- the record, by how the entries stand: those that were looked at, or the script's own if one falls
 abbrev pub record_by : List Dep → List Dep → Standing → List Dep
 record_by seen own stands = seen
 record_by seen own lacks = seen
@@ -178,7 +178,7 @@ with_book s k = record {
 pub record AreChecks (s : Sources) (k : Checks) : Type 0 where
   pub ruled : (p : List ℕ) (c : Check) → k p ≡ Some c → s.has_rule p ≡ true
 
--- two builds are one: they have the same rules
+-- two builds have the same rules
 pub record AreSame (r t : Rules) : Type 0 where
   pub is_source : (p : List ℕ) → r.is_source p ≡ t.is_source p
   pub has_rule : (p : List ℕ) → r.has_rule p ≡ t.has_rule p

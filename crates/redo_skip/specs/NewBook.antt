@@ -19,7 +19,7 @@ use Rattle.redo_skip.specs.Checks.{Check, Checks, built, known_file, told, with_
 use Rattle.redo_skip.specs.Sources.{File, Sources}
 use Rattle.redo_skip.specs.Truth.{AreApart, IsAlike, IsTrue, IsWitness}
 
--- what the last run left: its book, and the files in the tree as it was read, generated ones too
+-- what the last run left: its book, and the files of the tree as it was read, generated ones included
 pub record LastRun : Type 0 where
   pub book : List Record
   pub file : List ℕ → File
@@ -28,21 +28,21 @@ pub record LastRun : Type 0 where
 abbrev pub is_valid : Sources → LastRun → Record → Bool
 is_valid s last r = s.has_rule r.target && is_intact last.file r
 
--- the check by a record
+-- the check that a record gives
 abbrev pub check_by : LastRun → Record → Check
 check_by last r = record { file = last.file r.target; entries = r.entries }
 
--- in check are the targets with a valid record, but those that are requested
+-- the targets in check: those that have a valid record and aren't requested
 abbrev pub checks_of : Sources → LastRun → List (List ℕ) → Checks
 checks_of s last request p =
     option_and_then (λ r. if not (is_among request p) && is_valid s last r then Some (check_by last r) else None)
     (record_at last.book p)
 
--- the state of a path when a run ends: that of the file that is known there, or none
+-- the state of a path when a run ends: that of the file known there, or none
 abbrev pub state_at : Sources → Ask → List ℕ → State
 state_at s a q = option_and_then state_of (known_file s a q)
 
--- an entry of a kind and a path as a book has it
+-- the entry of this kind and path, as a book has it
 abbrev pub entry_as : Sources → Ask → DepKind → List ℕ → BookEntry
 entry_as s a kinds.Change q = Change (state_at s a q) q
 entry_as s a kinds.Create q = Create q
@@ -52,11 +52,11 @@ entry_as s a kinds.Always q = Always
 abbrev pub noted : Sources → Ask → List Dep → List BookEntry
 noted s a deps = map (λ d. entry_as s a d.kind d.path) deps
 
--- the record of a target that was built with this file, of these entries
+-- the record of a target that was built with this file and these entries
 abbrev pub new_record : Sources → Ask → List ℕ → File → List Dep → Record
 new_record s a p file deps = record { target = p; state = state_of file; entries = noted s a deps }
 
--- the old record of a path, where it is carried, as it is valid
+-- the old record of a path, if it is valid and so carried
 abbrev pub carried : Sources → LastRun → List ℕ → Option Record
 carried s last p = option_and_then (λ r. if is_valid s last r then Some r else None) (record_at last.book p)
 
@@ -67,13 +67,13 @@ built_with (Built file) = Some file
 built_with (Failed why) = None
 built_with Cyclic = None
 
--- the new record of a target that was built with a file; else what is carried
+-- the new record of a target that was built with a file, else the carried one
 abbrev pub record_with : Sources → LastRun → Checks → ℕ → List ℕ → Option File → Option Record
 record_with s last k limit p None = carried s last p
 record_with s last k limit p (Some file) =
     Some (new_record s (outcome_at (with_book s k) limit) p file (record_of (with_book s k) limit p))
 
--- the record that the new book has of a path: that of a needed target that was built, or one that is carried
+-- the new book's record of a path: that of a needed target that was built, else the carried one
 abbrev pub new_book : Sources → LastRun → List (List ℕ) → ℕ → List ℕ → Option Record
 new_book s last request limit p =
     let k = checks_of s last request in
@@ -81,8 +81,8 @@ new_book s last request limit p =
     record_with s last k limit p
     (if is_among needed p then option_and_then built_with (outcome_at (with_book s k) limit p) else None)
 
--- a record of a path is of this run, of which the end of the build with the book is the witness; or it is that of the
--- last book
+-- the record of a path comes from this run, as the outcomes of the build with the book witness, or is that of the last
+-- book
 abbrev pub IsOfRun : Sources → LastRun → List (List ℕ) → ℕ → List ℕ → Record → Type 0
 IsOfRun s last request limit p r =
     IsWitness r s (outcome_at (with_book s (checks_of s last request)) limit) ⊎ (record_at last.book p ≡ Some r)
@@ -91,33 +91,32 @@ IsOfRun s last request limit p r =
 abbrev pub AreTrue : (List ℕ → Option Record) → Type 0
 AreTrue book = (p : List ℕ) (r : Record) → book p ≡ Some r → IsTrue r
 
--- a book can have the entry: a change names a path whose file is known, and what is made in any case names none
+-- a book can have the entry: for a `change` the file at its path is known, and an `always` has no path
 abbrev pub CanBeNoted : Sources → Ask → DepKind → List ℕ → Type 0
 CanBeNoted s a kinds.Change q = (file : File) × (known_file s a q ≡ Some file)
 CanBeNoted s a kinds.Create q = Unit {0}
 CanBeNoted s a kinds.Always q = q ≡ []
 
--- what the layers below tell of sources
+-- what the layers below say of sources
 pub record IsGood (s : Sources) : Type 0 where
-  -- a target is built only where a book can have its entries. No answer of a build says that a .do file that isn't
-  -- there was built
+  -- if no answer tells of a file at a missing .do file, a target is built only with entries that a book can have
   pub notable : (p : List ℕ) (a : Ask) (file : File) (deps : List Dep) →
       ((q : List ℕ) → s.is_script q ≡ true → s.is_source q ≡ false → told (a q) ≡ None) →
       s.progress p a ≡ built file deps → AllByRecursion (λ d. CanBeNoted s a d.kind d.path) deps
-  -- what isn't a source is built only by a rule
+  -- a path that is no source is built only by a rule
   pub ruled : (p : List ℕ) (a : Ask) (file : File) → s.is_source p ≡ false →
       told (s.progress p a).outcome ≡ Some file → s.has_rule p ≡ true
   -- no .do file has a rule
   pub scripts : (p : List ℕ) → s.is_script p ≡ true → s.has_rule p ≡ false
 
--- what is known of a record of the last run: it is true, of a build in which its target does as in this one; and no
--- digest confuses a file of that build with one of this, nor the file that it made with the one that is there
+-- a record of the last run is honest: it is true of a build in which its target behaves as in this one, and no digest
+-- confuses a file of that build with one of this, nor the file that it made with the one that is there
 pub record IsHonestRecord (s : Sources) (last : LastRun) (a : Ask) (r : Record) : Type 0 where
   pub truth : IsTrue r
   pub alike : IsAlike truth.sources truth.ask s a r.target
   pub result : state_of truth.witness.file ≡ state_of (last.file r.target) → truth.witness.file ≡ last.file r.target
   pub apart : AreApart truth.sources truth.ask s a
 
--- each record of the last run is honest
+-- every record of the last run is honest
 abbrev pub AreHonestRecords : Sources → LastRun → Ask → Type 0
 AreHonestRecords s last a = (p : List ℕ) (r : Record) → record_at last.book p ≡ Some r → IsHonestRecord s last a r

@@ -1,9 +1,9 @@
--- What a build is given: the rules of its targets, and what stands at paths.
+-- What a build is given: the rules of its targets, and what is at each path.
 use Rattle.std.specs.Prelude.{ℕ, Bool, true, List, Option}
 use Rattle.redo_record.specs.Progress.{Progress}
 use Rattle.redo_build.specs.Rules.{Ask, Rules}
 
--- the bytes of a file, or none where there is no file
+-- the bytes of a file, or none if there is no file
 abbrev pub File : Type 0
 File = Option (List ℕ)
 
@@ -11,16 +11,16 @@ File = Option (List ℕ)
 pub record Sources : Type 0 where
   pub is_source : List ℕ → Bool
   pub has_rule : List ℕ → Bool
-  -- how far a target comes by its script, under an ask
+  -- how far the script of a target comes, given these answers
   pub progress : List ℕ → Ask → Progress
   -- the file of a source
   pub file : List ℕ → File
-  -- nothing stands there, and nothing has a rule to be made there
+  -- nothing is there, and no rule makes anything there
   pub is_free : List ℕ → Bool
   -- its name is that of a .do file
   pub is_script : List ℕ → Bool
 
--- the rules of a build without a book: each script is begun, and all that it asked for is its record
+-- the rules of a build without a book: every script is begun, and its record is all that it asked for
 abbrev pub without_book : Sources → Rules
 without_book s = record {
   is_source = s.is_source;

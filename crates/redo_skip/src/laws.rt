@@ -9,21 +9,21 @@ ghost use Rattle.redo_skip.specs.Checks.{Checks, AreChecks, AreSame, with_book};
 ghost use Rattle.redo_skip.specs.Truth.{AreHonest, IsSkipping, NoneCyclic};
 ghost use Rattle.redo_skip.specs.NewBook.{LastRun, checks_of, AreTrue, IsGood, IsOfRun, AreHonestRecords, new_book};
 
-/// A build with a book keeps the laws of builds, whatever the book says; only targets with a rule are in check by it.
+/// A build with a book keeps the laws of builds, whatever the book says. Only targets with a rule are in check.
 pub fn books_are_lawful()
     ensures law { (s : Sources) (k : Checks) → AreLawful (without_book s) → AreChecks s k → AreLawful (with_book s k) }
     ensures checks { (s : Sources) (last : LastRun) (request : List (List ℕ)) → AreChecks s (checks_of s last request) }
 {}
 
-/// Without records a build with a book is the build without one.
+/// Without records, a build with a book is the build without one.
 pub fn no_records_change_nothing()
     ensures none { (s : Sources) (k : Checks) → ((p : List ℕ) → k p ≡ None) → AreSame (with_book s k) (without_book s) }
     ensures empty { (s : Sources) (last : LastRun) (request : List (List ℕ)) → last.book ≡ [] →
         AreSame (with_book s (checks_of s last request)) (without_book s) }
 {}
 
-/// A build whose checks are honest comes to what the build without a book comes to, where that needs no more targets
-/// than the limit allows and none of them is cyclic.
+/// If all checks are honest, a build with a book comes to what the build without one comes to, as long as the latter
+/// needs at most `limit` targets and none of them is cyclic.
 pub fn skipping_is_sound()
     ensures { (s : Sources) (k : Checks) → AreLawful (without_book s) → AreChecks s k →
         (request : List (List ℕ)) (limit : ℕ) → length (needed_at (without_book s) request limit) ≤ limit →
@@ -31,7 +31,7 @@ pub fn skipping_is_sound()
         IsSkipping s k request limit }
 {}
 
-/// Cyclic targets or not: each target that the build without a book needs comes to the same with one.
+/// Even with cyclic targets, each target that the build without a book needs has the same outcome with one.
 pub fn outcomes_agree()
     ensures { (s : Sources) (k : Checks) → AreLawful (without_book s) → AreChecks s k →
         (request : List (List ℕ)) (limit : ℕ) → length (needed_at (without_book s) request limit) ≤ limit →
@@ -40,8 +40,8 @@ pub fn outcomes_agree()
         outcome_at (with_book s k) limit p ≡ outcome_at (without_book s) limit p }
 {}
 
-/// The same of the book of the last run, where its records are honest: whatever is requested, and whatever files are
-/// there.
+/// `skipping_is_sound` for the book of the last run, if its records are honest: whatever is requested, and whatever
+/// files are there.
 pub fn true_books_skip_soundly()
     ensures { (s : Sources) (last : LastRun) (request : List (List ℕ)) (limit : ℕ) → AreLawful (without_book s) →
         length (needed_at (without_book s) request limit) ≤ limit → NoneCyclic (without_book s) request limit →
@@ -49,8 +49,8 @@ pub fn true_books_skip_soundly()
         IsSkipping s (checks_of s last request) request limit }
 {}
 
-/// Each record of the new book is of this run or of the last book, whatever became of the build; so they are true where
-/// those of the last book were.
+/// Each record of the new book comes from this run or from the last book, whatever became of the build. So all records
+/// are true if those of the last book were.
 pub fn new_book_is_true()
     ensures records { (s : Sources) (last : LastRun) (request : List (List ℕ)) (limit : ℕ) →
         AreLawful (without_book s) → IsGood s →

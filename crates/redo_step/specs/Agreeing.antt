@@ -1,4 +1,4 @@
--- When the entries of a run agree with another tree and another ask, in which the same script is run.
+-- When the entries of a run agree with another tree and other answers, for the same script.
 use Rattle.std.specs.Prelude.{◌≡◌, ℕ, zero, true, false, List, [], ◌∷◌, Option, Some, None}
 use Rattle.redo_record.specs.Answers.{Ask}
 use Rattle.redo_record.specs.Entries.{is_entered}
@@ -11,7 +11,7 @@ use Rattle.redo_record.specs.declared.outcome.Outcome.TheVariants as outcomes
 use Rattle.redo_step.specs.Runs.{Run, exited, faulted, stopped, goes, ends}
 use Rattle.redo_step.specs.Setting.{Setting}
 
--- one target by one rule, under one limit, in the same turns of loops: only the trees may differ
+-- the same target, rule, limit and turns of loops: only the trees may differ
 pub record AreAlike (one two : Setting) : Type 0 where
   pub target : one.target ≡ two.target
   pub directory : one.directory ≡ two.directory
@@ -20,7 +20,7 @@ pub record AreAlike (one two : Setting) : Type 0 where
   pub limit : one.limit ≡ two.limit
   pub bound : one.bound ≡ two.bound
 
--- what a path holds, by its source and its answer: a file, or no file; nothing where it failed or has no answer
+-- what a path holds, by its source and its answer: a file or no file; unknown if it failed or has no answer
 abbrev pub held_in : Option (List ℕ) → Option Outcome → Option (Option (List ℕ))
 held_in (Some bytes) answer = Some (Some bytes)
 held_in None None = None
@@ -29,17 +29,17 @@ held_in None (Some (outcomes.Built file)) = Some file
 held_in None (Some (outcomes.Failed w)) = None
 held_in None (Some outcomes.Cyclic) = None
 
--- what a path holds in a tree under an ask
+-- what a path holds in a tree, given these answers
 abbrev pub held : Setting → Ask → Path → Option (Option (List ℕ))
 held setting ask p = held_in (setting.source p) (ask p)
 
--- nothing is there, and nothing can be made there
+-- nothing is there, and no rule makes anything there
 pub record IsFree (setting : Setting) (p : Path) : Type 0 where
   pub no_source : setting.source p ≡ None
   pub no_directory : setting.is_directory p ≡ false
   pub no_rule : setting.has_rule p ≡ false
 
--- an entry is met where its path is as the command that declared it wants it: it holds something, or it is free
+-- an entry is met if its path is as declared: it is known what a `change` holds, and a `create` is free
 abbrev pub IsMet : Setting → Ask → DepKind → Path → Type 0
 IsMet setting ask kinds.Change p = (content : Option (List ℕ)) × (held setting ask p ≡ Some content)
 IsMet setting ask kinds.Create p = IsFree setting p
@@ -49,8 +49,8 @@ IsMet setting ask kinds.Always p = Unit {0}
 pub record AllMet (setting : Setting) (ask : Ask) (entries : List Dep) : Type 0 where
   pub met : (kind : DepKind) (p : Path) → is_entered entries kind p ≡ true → IsMet setting ask kind p
 
--- an entry of a run in the first tree agrees with the second where its path holds the same in both, or is free in the
--- second, as it is to be
+-- an entry of a run in the first tree agrees with the second: a `change` holds the same in both, and a `create` is free
+-- in the second
 abbrev pub Agrees : Setting → Ask → Setting → Ask → DepKind → Path → Type 0
 Agrees one a two b kinds.Change p =
     (content : Option (List ℕ)) × (held one a p ≡ Some content) × (held two b p ≡ Some content)
@@ -61,14 +61,13 @@ Agrees one a two b kinds.Always p = Unit {0}
 pub record AllAgree (one : Setting) (a : Ask) (two : Setting) (b : Ask) (entries : List Dep) : Type 0 where
   pub agree : (kind : DepKind) (p : Path) → is_entered entries kind p ≡ true → Agrees one a two b kind p
 
--- where it is an operand of redo-ifchange, it is one among these entries too
+-- a `change` is among these entries too
 abbrev pub IsDeclared : List Dep → DepKind → Path → Type 0
 IsDeclared others kinds.Change p = is_entered others kinds.Change p ≡ true
 IsDeclared others kinds.Create p = Unit {0}
 IsDeclared others kinds.Always p = Unit {0}
 
--- These entries are followed by others: entry by entry, up to the first that doesn't agree, an operand of redo-ifchange
--- is one among the others too.
+-- Up to the first of these entries that doesn't agree, each operand of redo-ifchange is one among the others too.
 abbrev pub IsFollowed : Setting → Ask → Setting → Ask → (others entries : List Dep) → Type 0
 IsFollowed one a two b others [] = Unit {0}
 IsFollowed one a two b others (e ∷ es) =

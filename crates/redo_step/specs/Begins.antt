@@ -1,4 +1,4 @@
--- What a run under one ask tells of the runs under others.
+-- What a run with some answers says of runs with others.
 use Rattle.std.specs.Prelude.{◌≡◌, true, false, List}
 use Rattle.redo_record.specs.declared.deps.DepKind.TheVariants as kinds
 use Rattle.redo_record.specs.Paths.{Path}
@@ -13,21 +13,21 @@ use Rattle.redo_record.specs.declared.deps.Dep.{Dep}
 pub record AreKnown (setting : Setting) (ask : Ask) (entries : List Dep) : Type 0 where
   pub known : (p : Path) → is_entered entries kinds.Change p ≡ true → lacks setting ask p ≡ false
 
--- A script stopped in this state under the first ask. Under another one it comes at least as far, and no further while
--- an operand lacks its answer.
+-- A script stopped in this state with the answers `ask`. With `later` it comes at least as far, and no further while an
+-- operand lacks its answer.
 pub record Awaits (setting : Setting) (ask later : Ask) (s : State) (run : Run) : Type 0 where
   pub lacking : (p : Path) × (is_entered s.entries kinds.Change p ≡ true) × (lacks setting ask p ≡ true)
   pub extends : Extends s.entries (end_state run).entries
   pub stays : (p : Path) → is_entered s.entries kinds.Change p ≡ true → lacks setting later p ≡ true →
       (ps : List Path) × (run ≡ ends (stopped ps) s)
 
--- a run that ended is the same run under the other ask; of one that stopped see above
+-- a run that ended is the same with the other answers; for one that stopped see above
 abbrev pub Ends : Setting → Ask → Ask → End → State → Run → Type 0
 Ends setting ask later (exited n) s run = (run ≡ ends (exited n) s) × AreKnown setting ask s.entries
 Ends setting ask later (faulted w) s run = (run ≡ ends (faulted w) s) × AreKnown setting ask s.entries
 Ends setting ask later (stopped ps) s run = Awaits setting ask later s run
 
--- The first run, under the first ask, is a beginning of the second, under the other: they are one unless it stopped.
+-- The first run, with `ask`, is a beginning of the second, with `later`: they are the same unless the first stopped.
 abbrev pub Begins : Setting → Ask → Ask → Run → Run → Type 0
 Begins setting ask later (goes s) run = (run ≡ goes s) × AreKnown setting ask s.entries
 Begins setting ask later (ends e s) run = Ends setting ask later e s run

@@ -18,35 +18,35 @@ use Rattle.redo_step.specs.Words.{paths_of, texts_of}
 abbrev pub declaring : State → DepKind → List Path → State
 declaring s kind ps = record s { entries = with_entries s.entries kind ps }
 
--- no source, and no answer
+-- the path is no source and has no answer
 abbrev pub lacks : Setting → Ask → Path → Bool
 lacks setting ask p = is_none (setting.source p) && is_none (ask p)
 
--- those that lack an answer, each once, behind those found before
+-- the paths that lack an answer, each once, behind those found before
 abbrev pub lacking : Setting → Ask → List Path → List Path → List Path
 lacking setting ask found ps = with_new found (filter (lacks setting ask) ps)
 
--- no source, and answered as failed
+-- the path is no source, and its answer is a failure
 abbrev pub has_failed : Setting → Ask → Path → Bool
 has_failed setting ask p = is_none (setting.source p) && is_failure (ask p)
 
--- whether one of these failed
+-- whether one of these paths failed
 abbrev pub any_failed : Setting → Ask → List Path → Bool
 any_failed setting ask [] = false
 any_failed setting ask (p ∷ ps) = has_failed setting ask p || any_failed setting ask ps
 
--- a redo-ifchange of paths of which these lack answers: it stops, fails by Depends, or goes on
+-- a redo-ifchange of paths, given those that lack answers: it stops, fails with Depends, or goes on
 abbrev pub waited : Setting → Ask → ℕ → List Path → List Path → State → Run
 waited setting ask line ps [] s = if any_failed setting ask ps then ends (faulted (why.Depends line)) s else goes s
 waited setting ask line ps (q ∷ qs) s = ends (stopped (q ∷ qs)) s
 
--- redo-ifchange: all its paths are declared, and then waited for
+-- redo-ifchange: its paths are declared, and then waited for
 abbrev pub changed : Setting → Ask → ℕ → Result (List Path) End → State → Run
 changed setting ask line (Err e) s = ends e s
 changed setting ask line (Ok ps) s =
     waited setting ask line ps (lacking setting ask [] ps) (declaring s kinds.Change ps)
 
--- why redo-ifcreate refuses these paths: the first that is there or has a rule
+-- why redo-ifcreate refuses these paths: the first that exists or has a rule
 abbrev pub obstacle : Setting → ℕ → List Path → Option Why
 obstacle setting line [] = None
 obstacle setting line (p ∷ ps) =
@@ -54,18 +54,18 @@ obstacle setting line (p ∷ ps) =
     else if setting.has_rule p then Some (why.Buildable line)
     else obstacle setting line ps
 
--- these paths, unless one is there or has a rule
+-- these paths, unless one exists or has a rule
 abbrev pub free_of : List Path → Option Why → Result (List Path) End
 free_of paths None = Ok paths
 free_of paths (Some w) = Err (faulted w)
 
--- the paths that these texts name, where redo-ifcreate takes them
+-- the paths that these texts name, if redo-ifcreate takes them
 abbrev pub free_paths : Setting → ℕ → List (List ℕ) → Result (List Path) End
 free_paths setting line texts = do
   paths ← paths_of setting line texts
   free_of paths (obstacle setting line paths)
 
--- the paths that these words name, where redo-ifcreate takes them
+-- the paths that these words name, if redo-ifcreate takes them
 abbrev pub free_operands : Setting → ℕ → List Word → Result (List Path) End
 free_operands setting line ws = texts_of setting line ws >>= free_paths setting line
 
@@ -74,6 +74,6 @@ abbrev pub created : Result (List Path) End → State → Run
 created (Err e) s = ends e s
 created (Ok ps) s = goes (declaring s kinds.Create ps)
 
--- redo-always: its entry is declared, which has the root for its path
+-- redo-always: an entry with the root as its path is declared
 abbrev pub in_any_case : State → Run
 in_any_case s = goes (declaring s kinds.Always ([] ∷ []))

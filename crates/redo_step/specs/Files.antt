@@ -14,13 +14,12 @@ use Rattle.redo_step.specs.Runs.{End, State, exited, faulted, or_else, stopped, 
 use Rattle.redo_step.specs.Setting.{Setting}
 use Rattle.redo_step.specs.Words.{path_of, text_of}
 
--- The file of a path that was declared by redo-ifchange. No run from the first statement on reads one
--- before it is answered.
+-- The file of a path that redo-ifchange declared. A run from the first statement on never reads one that has no answer.
 abbrev pub answered_file : Path → Option Outcome → Result (Option (List ℕ)) End
 answered_file p (Some outcome) = Ok (file_in outcome)
 answered_file p None = Err (stopped (p ∷ []))
 
--- a source's bytes, or those of a path declared by redo-ifchange that was built with a file
+-- the bytes of a source, or of a path that redo-ifchange declared and that was built with a file
 abbrev pub file_at : Ask → List Dep → Path → Option (List ℕ) → Result (Option (List ℕ)) End
 file_at ask es p (Some bytes) = Ok (Some bytes)
 file_at ask es p None = if is_entered es kinds.Change p then answered_file p (ask p) else Ok None
@@ -29,7 +28,7 @@ file_at ask es p None = if is_entered es kinds.Change p then answered_file p (as
 abbrev pub is_declared : List Dep → Path → Bool
 is_declared es p = is_entered es kinds.Change p || is_entered es kinds.Create p
 
--- the file that a text names, if there is one: Outside, and then Undeclared
+-- the file that a text names, if there is one; the faults are Outside, and then Undeclared
 abbrev pub file_of : Setting → Ask → List Dep → ℕ → List ℕ → Result (Option (List ℕ)) End
 file_of setting ask es line text = do
   path ← path_of setting line text
@@ -66,7 +65,7 @@ holds setting ask es line (is_file text) = do
 holds setting ask es line (equal a b) = Ok (bytes_eq a b)
 holds setting ask es line (differ a b) = Ok (not (bytes_eq a b))
 
--- whether a test holds, where these are the entries
+-- whether a test holds, with these entries
 abbrev pub tested_in : Setting → Ask → List Dep → ℕ → Test Word → Result Bool End
 tested_in setting ask es line t = do
   texts ← test_texts setting line t

@@ -17,7 +17,7 @@ use Rattle.redo_step.specs.Reach.{Keeps}
 use Rattle.redo_step.specs.JobView.{JobView, job_setting, whole_of, progress_of, IsFit, record_so_far}
 use Rattle.redo_step.specs.Limits.{LimitsView}
 
--- a job that was just begun
+-- a job that has just begun
 abbrev pub begun : Tree → Path → Rule → Parsed → LimitsView → JobView
 begun tree target rule parsed limits = record {
   tree = tree;
@@ -40,8 +40,8 @@ with_rest job place state turn = record job { place = place; state = state; turn
 abbrev pub EndsAs : Ask → JobView → Done → Type 0
 EndsAs ask job done = progress_of job ask ≡ record { outcome = Some done.outcome; deps = done.deps }
 
--- The script lacks answers: the meaning of the whole is stopped for want of these, with what the job now holds. The
--- job is the same one, one turn later, and fits each ask that keeps the answers.
+-- The script lacks answers: the run of the whole script stops for want of exactly these, in the state that the job now
+-- has. The job is the same, one turn later, and fits any answers that keep the known ones.
 pub record AsksFor (ask : Ask) (job later : JobView) (paths : List Path) : Type 0 where
   pub script : Script
   pub whole : whole_of job ≡ Ok script

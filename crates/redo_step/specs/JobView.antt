@@ -32,7 +32,7 @@ pub record JobView : Type 0 where
   pub state : State
   pub turn : ℕ
 
--- what its script is run in
+-- the setting of its script
 abbrev pub job_setting : JobView → Setting
 job_setting job = setting_of job.tree job.limits.file_bytes job.target job.arguments
 
@@ -44,19 +44,19 @@ whole_of job = parsed_of job.parsed
 abbrev pub found_deps : JobView → List Dep
 found_deps job = search_deps job.missing job.do_file
 
--- how far the target comes by the whole script under an ask
+-- how far the target comes by the whole script, given these answers
 abbrev pub progress_of : JobView → Ask → Progress
 progress_of job ask = by_script (job_setting job) (found_deps job) (whole_of job) ask
 
--- A script fits where the run of the whole comes to what is left.
+-- What is left of a script fits if the run of the whole script comes to it.
 abbrev pub FitsWhole : Setting → Ask → Result Script ScriptFault → Place → State → Type 0
 FitsWhole setting ask (Err fault) place state = Unit {0}
 FitsWhole setting ask (Ok script) place state = Fits setting ask script (left_at place setting script) state
 
--- a job that fits an ask
+-- a job fits these answers
 abbrev pub IsFit : JobView → Ask → Type 0
 IsFit job ask = FitsWhole (job_setting job) ask (whole_of job) job.place job.state
 
--- the record as far as the script has come
+-- the record so far
 abbrev pub record_so_far : JobView → List Dep
 record_so_far job = with_all (found_deps job) job.state.entries

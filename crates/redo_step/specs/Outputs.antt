@@ -43,7 +43,7 @@ abbrev pub is_third : Option Path → Path → Bool
 is_third None p = false
 is_third (Some third) p = bytes_eq third p
 
--- a redirection goes to $3: Direct at the target itself, and Elsewhere at another path
+-- a redirection goes to $3; to the target itself is the fault Direct, to any other path Elsewhere
 abbrev pub goal_at : Setting → ℕ → Bool → Path → Result (Option Bool) End
 goal_at setting line appends path =
     if bytes_eq path setting.target then Err (faulted (why.Direct line))
@@ -58,16 +58,16 @@ goal_of setting line (Some r) = do
   path ← path_of setting line text
   goal_at setting line r.appends path
 
--- the bytes of $3, which are none before it is created
+-- the bytes of $3, none before it is created
 abbrev pub bytes_or_none : Option (List ℕ) → List ℕ
 bytes_or_none None = []
 bytes_or_none (Some bytes) = bytes
 
--- bytes that aren't longer than a file may be, or the fault TooLarge
+-- these bytes if a file may have as many, else the fault TooLarge
 abbrev pub limited : Setting → ℕ → List ℕ → Result (List ℕ) End
 limited setting line bytes = if nat_le (length bytes) setting.limit then Ok bytes else Err (faulted (why.TooLarge line))
 
--- the bytes behind standard output, behind those of $3, or in their place
+-- the bytes put behind standard output, behind those of $3, or in place of those of $3
 abbrev pub put : Setting → ℕ → State → Option Bool → List ℕ → Result State End
 put setting line s None bytes = do
   output ← limited setting line (s.output ++ bytes)
@@ -79,7 +79,7 @@ put setting line s (Some false) bytes = do
   third ← limited setting line bytes
   Ok (record s { third = Some third })
 
--- a command that writes: its words, its redirection, its own work, the limit
+-- a command that writes; its faults are looked for in its words, its redirection, its own work, the limit
 abbrev pub written : Setting → Ask → ℕ → Writer Word → Option Redirection → State → Result State End
 written setting ask line w r s = do
   texts ← writer_texts setting line w

@@ -11,18 +11,18 @@ use Rattle.redo_record.specs.Answers.{Ask}
 use Rattle.redo_record.specs.Entries.{is_entered, Extends}
 use Rattle.redo_record.specs.declared.deps.Dep.{Dep}
 
--- Every answer stays that was given to an operand of redo-ifchange among the entries. A source has its bytes, whatever
--- an ask says of it.
+-- `later` keeps each answer of `ask` to an operand of redo-ifchange among the entries. A source has its bytes, whatever
+-- the answers say.
 pub record Keeps (setting : Setting) (entries : List Dep) (ask later : Ask) : Type 0 where
   pub same : (p : Path) (a : Outcome) → setting.source p ≡ None → is_entered entries kinds.Change p ≡ true →
       ask p ≡ Some a → later p ≡ Some a
 
--- What is to be done from this state comes to that rest and that state: under this ask, and under each that keeps its
--- answers to what is then declared.
+-- What is to be done from the old state comes to the rest and the new state: with these answers, and with any that keep
+-- them for what is then declared.
 pub record Reaches (setting : Setting) (ask : Ask) (all : Rest) (old : State) (rest : Rest) (new : State) : Type 0 where
   pub extends : Extends old.entries new.entries
   pub same : (later : Ask) → Keeps setting new.entries ask later → all later old ≡ rest later new
 
--- A job fits an ask where the run of the whole script comes to what the job has left.
+-- A job fits these answers if the run of the whole script comes to what the job has left.
 abbrev pub Fits : Setting → Ask → Script → Rest → State → Type 0
 Fits setting ask whole rest state = Reaches setting ask (all_of setting whole) start rest state

@@ -1,4 +1,4 @@
--- What becomes of a target by its script, and the record that is kept of it.
+-- What becomes of a target by its script, and its record.
 use Rattle.std.specs.Prelude.{List, Result, Ok, Err, option_map}
 use Rattle.redo_script.specs.declared.fault.ScriptFault.{ScriptFault}
 use Rattle.redo_script.specs.Syntax.{Script}
@@ -13,17 +13,17 @@ use Rattle.redo_record.specs.Answers.{Ask}
 use Rattle.redo_record.specs.Progress.{Progress, at_once}
 use Rattle.redo_record.specs.Entries.{with_all}
 
--- what becomes of the target
+-- the outcome of the target
 abbrev pub outcome_of : Made → Outcome
 outcome_of (made bytes) = Built bytes
 outcome_of (not_made w) = Failed w
 
--- how far a run came, with the record of the search before its own
+-- how far a run came; its record has the entries of the search, then its own
 abbrev pub after_run : List Dep → Run → Progress
 after_run deps run =
     record { outcome = option_map outcome_of (result_of run); deps = with_all deps (end_state run).entries }
 
--- how far a target comes by the script that was read, or by the fault of its text
+-- how far a target comes by its script, or by the fault of its text
 abbrev pub by_script : Setting → List Dep → Result Script ScriptFault → Ask → Progress
 by_script setting deps (Err fault) ask = at_once (Failed (why.Script fault)) deps
 by_script setting deps (Ok script) ask = after_run deps (meaning setting ask script)

@@ -4,7 +4,7 @@ use Rattle.redo_record.specs.declared.outcome.Why.{Why}
 use Rattle.redo_record.specs.Paths.{Path}
 use Rattle.redo_record.specs.declared.deps.Dep.{Dep}
 
--- standard output, the bytes of $3 where it was created, and the declared entries
+-- standard output, the bytes of $3 once it is created, and the declared entries
 pub record State : Type 0 where
   pub output : List ℕ
   pub third : Option (List ℕ)
@@ -35,7 +35,7 @@ abbrev pub ◌>>=◌ : {A B : Type 0} → Result A End → (A → Result B End) 
 (Ok x) >>= f = f x
 (Err e) >>= f = Err e
 
--- the value, or this end where there is none
+-- the value, or this end if there is none
 abbrev pub or_else : {A : Type 0} → End → Option A → Result A End
 or_else e None = Err e
 or_else e (Some x) = Ok x

@@ -1,4 +1,4 @@
--- What a target's script is run in.
+-- The setting of a target's script.
 use Rattle.std.specs.Prelude.{ℕ, Bool, true, false, List, [], ◌∷◌, Option, None, Some, is_some}
 use Rattle.redo_script.specs.declared.ast.Parameter.{Parameter}
 use Rattle.redo_script.specs.declared.ast.Parameter.TheVariants.{One, Two, Three}
@@ -10,8 +10,8 @@ use Rattle.redo_record.specs.Paths.{Path}
 use Rattle.redo_step.specs.Path.{resolved}
 use Rattle.redo_step.specs.declared.scope.Binding.{Binding}
 
--- What a script is run in: the tree, the rule's arguments, the limit of bytes, and the names that the loops round a
--- statement bind, those of the innermost first.
+-- What a script runs in: the tree, the rule's arguments, the limit of bytes, and the names that the loops around a
+-- statement bind, innermost first.
 pub record Setting : Type 0 where
   pub source : Path → Option (List ℕ)
   pub is_directory : Path → Bool
@@ -23,7 +23,7 @@ pub record Setting : Type 0 where
   pub limit : ℕ
   pub bound : List Binding
 
--- whether a directory stands there
+-- whether a directory is there
 abbrev pub has_directory : Option Node → Bool
 has_directory None = false
 has_directory (Some tree_words.Directory) = true
@@ -35,8 +35,8 @@ value_in a One = a.one
 value_in a Two = a.two
 value_in a Three = a.three
 
--- The setting of a target's script in a tree where the search finds this for each path, with the limit of a
--- file's bytes. No loop is begun.
+-- The setting of a target's script in a tree, given what the search finds for each path and the most bytes of a file.
+-- No loop has begun.
 unfoldable pub setting_by : Tree → (Path → Found) → ℕ → Path → Arguments → Setting
 setting_by tree found limit target a = record {
   source = file_at tree;
@@ -58,6 +58,6 @@ setting_of tree limit target a = setting_by tree (found_of tree) limit target a
 abbrev pub with_value : Setting → List ℕ → List ℕ → Setting
 with_value setting name value = record setting { bound = record { name = name; value = value } ∷ setting.bound }
 
--- whether it is a file of the tree
+-- whether the path is a file of the tree
 abbrev pub is_source : Setting → Path → Bool
 is_source setting p = is_some (setting.source p)

@@ -12,7 +12,7 @@ use Rattle.redo_step.specs.Words.{operands_of, texts_of}
 use Rattle.redo_step.specs.Files.{tested}
 use Rattle.redo_step.specs.Outputs.{written}
 
--- a test as a command: where it doesn't hold it ends the script with status 1
+-- a test as a command: it ends the script with status 1 if it doesn't hold
 abbrev pub with_status : Result Bool End → State → Run
 with_status (Err e) s = ends e s
 with_status (Ok true) s = goes s
@@ -34,13 +34,13 @@ command_run setting ask line always_true s = goes s
 command_run setting ask line always_false s = ends (exited 1) s
 command_run setting ask line (exit n) s = ends (exited n) s
 
--- what the command after if says
+-- whether the condition of an if holds
 abbrev pub condition_result : Setting → Ask → ℕ → Condition → State → Result Bool End
 condition_result setting ask line (if_test t) s = tested setting ask line t s
 condition_result setting ask line if_true s = Ok true
 condition_result setting ask line if_false s = Ok false
 
--- a run, and what comes behind it where it goes on
+-- a run, and what follows it if it goes on
 abbrev pub then_run : Run → (State → Run) → Run
 then_run (goes s) next = next s
 then_run (ends e s) next = ends e s
@@ -51,7 +51,7 @@ chosen (Err e) first second s = ends e s
 chosen (Ok true) first second s = first s
 chosen (Ok false) first second s = second s
 
--- the turns of a loop, one for each of these values, one after the other
+-- the turns of a loop, one for each of these values, in order
 abbrev pub turns : (List ℕ → State → Run) → List (List ℕ) → State → Run
 turns turn [] s = goes s
 turns turn (value ∷ values) s = then_run (turn value s) (turns turn values)
@@ -61,7 +61,7 @@ abbrev pub looped : Result (List (List ℕ)) End → (List ℕ → State → Run
 looped (Err e) turn s = ends e s
 looped (Ok values) turn s = turns turn values s
 
--- what the statements do, one after the other, from this state
+-- what the statements do in order, from this state
 unfoldable pub run : Setting → Ask → Script → State → Run
 run setting ask finish s = goes s
 run setting ask (simple line c rest) s = then_run (command_run setting ask line c s) (run setting ask rest)
@@ -76,18 +76,18 @@ run setting ask (loop line name ws body rest) s =
 unfoldable pub meaning : Setting → Ask → Script → Run
 meaning setting ask script = run setting ask script start
 
--- what a target became
+-- what a script made of its target
 pub data Made : Type 0 where
   made : Option (List ℕ) → Made
   not_made : Why → Made
 
--- what a script with status 0 made: standard output counts once it has a byte, $3 once it is created
+-- what a script with status 0 made: standard output counts if it has a byte, $3 if it was created
 abbrev pub by_outputs : List ℕ → Option (List ℕ) → Made
 by_outputs [] third = made third
 by_outputs (b ∷ bs) None = made (Some (b ∷ bs))
 by_outputs (b ∷ bs) (Some third) = not_made why.BothOutputs
 
--- none where the run lacks answers
+-- what a run made of its target; none if the run lacks answers
 abbrev pub result_of : Run → Option Made
 result_of (goes s) = Some (by_outputs s.output s.third)
 result_of (ends (exited zero) s) = Some (by_outputs s.output s.third)

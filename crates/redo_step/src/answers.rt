@@ -1,4 +1,4 @@
-//! What is known of the targets that a script asks for.
+//! The answers that a script gets.
 
 ghost use Rattle.std.specs.Prelude.{◌≡◌, List, ℕ, Option, option_copied};
 ghost use Rattle.redo_record.specs.declared.outcome.Outcome.{Outcome as OutcomeTree};
@@ -6,9 +6,9 @@ ghost use Rattle.redo_record.specs.declared.outcome.Outcome.{Outcome as OutcomeT
 use redo_path::Path;
 use redo_record::Outcome;
 
-/// Knows what became of some paths. Of a source it is never asked.
+/// Knows the outcomes of some paths. It is never asked about a source.
 pub trait Answers {
-    // What became of each path, where that is known.
+    // The outcome of each path, where it is known.
     ghost ask: { Self → List ℕ → Option OutcomeTree };
 
     fn answer(&self, path: &Path) -> Option<&Outcome>

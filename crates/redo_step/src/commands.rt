@@ -56,7 +56,7 @@ impl Scene<'_> {
         }
     }
 
-    /// redo-ifchange(1): declares these words' paths, and waits until they are made.
+    /// redo-ifchange(1): declares the paths that these words name, and waits for their answers.
     fn change<A: Answers>(
         &self,
         answers: &A,
@@ -76,7 +76,7 @@ impl Scene<'_> {
         Waiting { line, targets }.go_on(self.alloc, answers)
     }
 
-    /// redo-ifcreate(1): declares these words' paths, none of which may be there.
+    /// redo-ifcreate(1): declares the paths that these words name. None may exist or have a rule.
     fn create(&self, line: u64, words: &[Word], effects: &mut Effects) -> Result<(), Halt>
         ensures run { IsMeant (run_by result (state_of effects.new))
             (created (free_operands (scene_setting self.now) line (words_of words.now)) (state_of effects.old)) }
@@ -88,7 +88,7 @@ impl Scene<'_> {
         Ok(())
     }
 
-    /// What test(1) answers.
+    /// Whether the condition of test(1) holds.
     fn tested<A: Answers>(
         &self,
         answers: &A,
@@ -118,7 +118,7 @@ impl Scene<'_> {
         }
     }
 
-    /// What the command after `if` says.
+    /// Whether the condition of an `if` holds.
     pub(crate) fn condition<A: Answers>(
         &self,
         answers: &A,
@@ -139,7 +139,7 @@ impl Scene<'_> {
     }
 }
 
-/// redo-always(1): declares that the target is to be made in any case.
+/// redo-always(1): declares that the target is never to be kept.
 fn always(effects: &mut Effects) -> Result<(), Halt>
     ensures run { IsMeant (run_by result (state_of effects.new)) (in_any_case (state_of effects.old)) }
     ensures keeps { kept_by result ≡ None }

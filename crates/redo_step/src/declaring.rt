@@ -13,7 +13,7 @@ use redo_path::Path;
 use redo_record::{Dep, DepKind, Deps, Why};
 use std::alloc::AllocError;
 
-/// Enters these paths in order.
+/// Declares these paths, in order.
 pub(crate) fn declare(deps: &mut Deps, kind: DepKind, paths: &[Path]) -> Result<(), AllocError>
     ensures { OnOk result (deps.new ≡ with_entries deps.old kind paths.now) }
 {
@@ -28,7 +28,7 @@ pub(crate) fn declare(deps: &mut Deps, kind: DepKind, paths: &[Path]) -> Result<
 }
 
 impl Scene<'_> {
-    /// Those of these paths that are no sources.
+    /// The paths among these that aren't sources.
     pub(crate) fn targets(&self, mut paths: Vec<Path>) -> Vec<Path>
         ensures { result.items ≡ targets_in (scene_setting self.now) paths.items }
     {
@@ -36,7 +36,7 @@ impl Scene<'_> {
         paths
     }
 
-    /// Refuses a path that is there, or that a rule makes.
+    /// Refuses the first of these paths that exists (`Exists`) or has a rule (`Buildable`).
     pub(crate) fn check_free(&self, line: u64, paths: &[Path]) -> Result<(), Halt>
         ensures free { IsMeant (given_by (λ _. paths.now) result)
             (free_of paths.now (obstacle (scene_setting self.now) line paths.now)) }

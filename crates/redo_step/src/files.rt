@@ -12,7 +12,7 @@ use redo_path::Path;
 use redo_record::{Dep, DepKind, Deps, Why};
 
 impl Scene<'_> {
-    /// The file of a path that the script has declared.
+    /// The file at a path that the script has declared. Any other path is the fault `Undeclared`.
     pub(crate) fn file<'s, A: Answers>(
         &'s self,
         answers: &'s A,
@@ -43,7 +43,7 @@ impl Scene<'_> {
         }
     }
 
-    /// The file of a path that redo-ifchange declared, and that is no source.
+    /// The file at a path that redo-ifchange declared and that isn't a source.
     fn answered<'s, A: Answers>(
         &self,
         answers: &'s A,

@@ -21,7 +21,7 @@ pub(crate) enum Halt {
     Ended(Ending),
     /// These paths have no answer yet.
     Lacks(Vec<Path>),
-    /// Nor have these, and a redo-ifchange waits for them.
+    /// These have none either, and a redo-ifchange waits for them.
     Waits(Vec<Path>, Waiting),
     Memory,
 }

@@ -1,4 +1,4 @@
-//! A target's script that can stop and go on.
+//! A target's script as a job that stops and goes on.
 
 ghost use Rattle.std.specs.Prelude.{◌≡◌, ◌+◌, ◌<◌, ◌^◌, IfOk, option_map, Some};
 ghost use Rattle.std.specs.Arc.{arc_value};
@@ -62,7 +62,7 @@ impl Task {
         }
     }
 
-    /// Runs what is left of the script's statements from a place on, with the redo-ifchange that waited there.
+    /// Runs the rest of the script from a place on. `kept` is the redo-ifchange that waited there.
     fn resume<A: Answers>(
         &self,
         answers: &A,
@@ -93,8 +93,8 @@ struct Course {
     kept: Option<Waiting>,
 }
 
-/// A target's script, the place that it stopped at, and what it has done. These are boxed, since a job is handed on
-/// from one stop to the next and is large.
+/// A target's script, the place where it stopped, and what it has done. Boxed, as a job is large and is moved at each
+/// stop.
 #[derive(Drop)]
 pub struct Job {
     course: Box<Course>,
@@ -134,7 +134,7 @@ impl Model for Job {
         IsKeptIn (task_setting c.task) (parsed_of (arc_value c.task.parsed)) c.place (state_of c.effects) c.kept };
 }
 
-/// What became of a target whose script ended, with its record.
+/// The outcome of a target whose script has ended, and its record.
 #[derive(Drop)]
 pub struct Done {
     pub outcome: Outcome,
@@ -146,12 +146,12 @@ pub struct Done {
 pub enum Step {
     /// The script ended.
     Ended(Done),
-    /// The script goes on once these paths have answers, each named once.
+    /// The script lacks the answers for these paths, each named once.
     Asks { job: Job, paths: Vec<Path> },
 }
 
 impl Job {
-    /// A script before its first statement.
+    /// A job before the first statement of its script.
     pub fn begin(
         alloc: Global,
         tree: Arc<Tree>,
@@ -208,7 +208,7 @@ impl Job {
         &self.course.effects.deps
     }
 
-    /// The target's record as far as the script has come: that of the search, and then what it declared.
+    /// The target's record so far: the entries of the search, then those that the script declared.
     pub fn record(&self) -> Result<Record, AllocError>
         ensures { IfOk result (λ deps. deps ≡ record_so_far self.now) }
     {
@@ -216,9 +216,9 @@ impl Job {
         Record::so_far(task.alloc, &task.rule, &effects.deps)
     }
 
-    /// Runs on until the script ends, or until redo-ifchange(1) lacks an answer. It asks that the job fits the answers:
-    /// a job just begun fits any, and one that stopped fits all that keep what it was told of its operands. Of sources
-    /// the tree alone is asked. On want of memory the job is lost.
+    /// Runs until the script ends, or until redo-ifchange(1) lacks an answer. The answers have to fit the job: any fit
+    /// one that was just begun, and those that keep the earlier answers to its operands fit one that stopped. Sources
+    /// are looked up in the tree alone. Without memory the job is lost.
     pub fn advance<A: Answers>(self, answers: &A) -> Result<Step, AllocError>
         requires fits { IsFit self (A.ask answers.now) }
         requires turn { self.turn + 1 < 2 ^ 64 }
@@ -254,7 +254,7 @@ impl Job {
     }
 }
 
-/// A target whose script can't be read.
+/// The step of a job whose script can't be read.
 fn refused(course: Box<Course>, fault: ScriptFault) -> Result<Step, AllocError>
     ensures { IfOk result (λ step.
         IsRefused (search_deps course.value.task.rule.missing course.value.task.rule.do_file) fault step) }
@@ -266,7 +266,7 @@ fn refused(course: Box<Course>, fault: ScriptFault) -> Result<Step, AllocError>
     }))
 }
 
-/// What an ended script made of its target.
+/// The step of a job whose script has ended.
 fn ended(course: Box<Course>, ending: Ending) -> Result<Step, AllocError>
     ensures { IfOk result (λ step.
         IsEnded (search_deps course.value.task.rule.missing course.value.task.rule.do_file)
@@ -284,7 +284,7 @@ fn ended(course: Box<Course>, ending: Ending) -> Result<Step, AllocError>
     Ok(Step::Ended(Done { outcome, deps }))
 }
 
-/// What a target becomes by how its script ended and what it wrote.
+/// The outcome of a target, from how its script ended and what it wrote.
 fn outcome_after(
     ending: Ending,
     output: Vec<u8>,
@@ -300,7 +300,7 @@ fn outcome_after(
     }
 }
 
-/// What a script with status 0 made of its target.
+/// The outcome of a target whose script ended with status 0.
 fn made(output: Vec<u8>, third: Option<Vec<u8>>) -> Result<Outcome, AllocError>
     ensures { IfOk result (λ outcome. outcome ≡ outcome_of (by_both output third)) }
 {

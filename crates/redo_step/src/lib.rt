@@ -1,6 +1,6 @@
-//! A target's script as a job: it runs until it ends, or until it lacks an answer that redo-ifchange(1) asked for,
-//! and goes on from there once the answers are there. However often it stops, it comes to what its whole text means
-//! under the answers that it got, with the same record.
+//! A target's script as a job. It runs until it ends, or until it lacks an answer that redo-ifchange(1) asked for, and
+//! goes on from there once the answers are known. However often it stops, it comes to what the whole script means with
+//! these answers, and to the same record.
 //!
 //! It stands on redo_path for the paths that words name, on redo_tree for sources, on redo_which for a target's rule
 //! and arguments, on redo_script for the reader, and on redo_record for what a script declares and how it ends.

@@ -8,7 +8,7 @@ const MOST_TARGETS: u32 = 65_536;
 
 const MOST_BYTES: u32 = 1_073_741_824;
 
-/// How many targets a build may need, and how many bytes a file may have. In a contract it is a record of the two.
+/// The most targets that a build may need, and the most bytes of a file. In a contract it is a record of the two.
 #[derive(Clone, Copy, Debug, PartialEq, Eq)]
 pub struct Limits {
     targets: u32,
@@ -30,7 +30,7 @@ impl Model for Limits {
 impl Limits {
     ghost use Rattle.redo_step.specs.Limits.{AreLimits};
 
-    /// Limits from 1 up to 65,536 targets and a gibibyte; none for other numbers.
+    /// Limits of 1 to 65,536 targets, and of 1 byte to a gibibyte; `None` for other numbers.
     pub fn new(targets: u32, file_bytes: u32) -> Option<Limits>
         ensures { SomeIff result (AreLimits targets file_bytes)
             (record { targets = targets; file_bytes = file_bytes }) }
@@ -44,7 +44,7 @@ impl Limits {
         })
     }
 
-    /// How many targets a build may need.
+    /// The most targets that a build may need.
     pub fn targets(&self) -> u32
         ensures value { result ≡ self.now.targets }
         ensures least { 1 ≤ result }
@@ -53,7 +53,7 @@ impl Limits {
         self.targets
     }
 
-    /// How many bytes standard output or `$3` of a script may have.
+    /// The most bytes that standard output or `$3` of a script may have.
     pub fn file_bytes(&self) -> u32
         ensures value { result ≡ self.now.file_bytes }
         ensures least { 1 ≤ result }

@@ -1,4 +1,4 @@
-//! Runs a script until it ends, or until an answer is missing.
+//! Runs a script until it ends or lacks an answer.
 
 ghost use Rattle.std.specs.Prelude.{◌≡◌, ◌+◌, ◌<◌, ◌^◌, IfOk, IfSome, IfNone, length};
 ghost use Rattle.redo_script.specs.View.{script_of};
@@ -27,33 +27,33 @@ use std::alloc::{AllocError, Global};
 #[derive(Drop)]
 pub(crate) struct Effects {
     pub(crate) output: Vec<u8>,
-    /// The bytes of `$3`, once a redirection made it.
+    /// The bytes of `$3`, once a redirection has created it.
     pub(crate) third: Option<Vec<u8>>,
     pub(crate) deps: Deps,
 }
 
-/// How far a list of statements was run.
+/// How far a list of statements has run.
 #[derive(Debug, Drop)]
 pub(crate) enum RunEnd {
     Finished,
     Ended(Ending),
-    /// Stopped at a place of the list, for want of the answers for these paths, with the redo-ifchange that waits
-    /// there.
+    /// Stopped at a place of the list, as these paths lack answers; with the redo-ifchange that waits there, if one
+    /// does.
     Stopped(Vec<Path>, Place, Option<Waiting>),
 }
 
-/// A loop whose words have these values.
+/// A loop, with the values of its words.
 #[derive(Drop)]
 struct Turns<'a> {
     name: &'a Bytes,
     values: &'a Values,
     body: &'a [Stmt],
-    /// The loop's number among the statements round it.
+    /// The loop's index among the statements around it.
     index: usize,
 }
 
 impl Turns<'_> {
-    /// What commands see in the turn with this number.
+    /// What commands see in this turn.
     fn scene<'a>(&self, scene: &Scene<'a>, turn: usize) -> Result<Scene<'a>, AllocError>
         requires { turn < length self.now.values.now }
         ensures { IfOk result (λ inner. IsTurn (scene_setting scene.now) self.now turn (scene_setting inner)) }
@@ -62,7 +62,7 @@ impl Turns<'_> {
     }
 }
 
-/// Runs these statements from the one with this number on.
+/// Runs these statements from index `first` on.
 #[cycle(running)]
 fn run_from<A: Answers>(
     scene: &Scene,
@@ -84,7 +84,7 @@ fn run_from<A: Answers>(
     Ok(RunEnd::Finished)
 }
 
-/// Runs one statement, which has this number among those round it.
+/// Runs one statement, which has this index among those around it.
 #[cycle(running)]
 fn run_stmt<A: Answers>(
     scene: &Scene,
@@ -129,7 +129,7 @@ fn run_stmt<A: Answers>(
     }
 }
 
-/// Runs the turns of a loop from the one with this number on.
+/// Runs the turns of a loop from `first` on.
 #[cycle(running)]
 fn run_turns<A: Answers>(
     scene: &Scene,
@@ -151,7 +151,7 @@ fn run_turns<A: Answers>(
     Ok(RunEnd::Finished)
 }
 
-/// Runs the turns of a loop from the one with this number on, and then the statements behind the loop.
+/// Runs the turns of a loop from `first` on, and then the statements behind the loop.
 fn run_behind<A: Answers>(
     scene: &Scene,
     answers: &A,
@@ -172,7 +172,7 @@ fn run_behind<A: Answers>(
     }
 }
 
-/// Runs these statements from the one with this number on. A redo-ifchange that waited there isn't begun again.
+/// Runs these statements from index `first` on. A redo-ifchange that waited there isn't begun again.
 fn resume_before<A: Answers>(
     scene: &Scene,
     answers: &A,
@@ -196,7 +196,7 @@ fn resume_before<A: Answers>(
     }
 }
 
-/// Runs what is left of these statements from a place on. A redo-ifchange that waited there isn't begun again.
+/// Runs the rest of these statements from a place on. A redo-ifchange that waited there isn't begun again.
 pub(crate) fn resume<A: Answers>(
     scene: &Scene,
     answers: &A,
@@ -214,7 +214,7 @@ pub(crate) fn resume<A: Answers>(
     match place {
         Place::Before(first) => resume_before(scene, answers, effects, stmts, *first, kept),
         Place::Within(index, branch, inner) => {
-            // A place inside what is no `if` has nothing left.
+            // Nothing is left at a place inside a statement that isn't an `if`.
             let Some(part) = branch_at(stmts, *index, *branch) else {
                 return Ok(RunEnd::Finished);
             };
@@ -225,7 +225,7 @@ pub(crate) fn resume<A: Answers>(
             }
         }
         Place::InTurn(index, values, turn, inner) => {
-            // So has one in a turn of what is no loop, and in one for which there is no value.
+            // Nor is anything in a turn of a statement that isn't a loop, or in a turn without a value.
             let Some(turns) = turns_at(stmts, *index, values, *turn) else {
                 return Ok(RunEnd::Finished);
             };
@@ -239,7 +239,7 @@ pub(crate) fn resume<A: Answers>(
     }
 }
 
-/// The statements of a branch, where the statement with this number has branches.
+/// The statements of a branch, if the statement at this index has branches.
 fn branch_at(stmts: &[Stmt], index: usize, branch: Branch) -> Option<&[Stmt]>
     ensures found { IfSome result (λ part. HasBranch stmts.now index branch part.now) }
     ensures none { IfNone result (HasNoBranch stmts.now index) }
@@ -256,7 +256,7 @@ fn branch_at(stmts: &[Stmt], index: usize, branch: Branch) -> Option<&[Stmt]>
     }
 }
 
-/// The turns of the statement with this number for these values, where it is a loop and has a turn with that number.
+/// The turns of the statement at this index for these values, if it is a loop and has this turn.
 fn turns_at<'a>(
     stmts: &'a [Stmt],
     index: usize,
@@ -283,7 +283,7 @@ fn turns_at<'a>(
     }
 }
 
-/// Why a statement stopped, as the progress of the statements round it.
+/// How the statements around one that halted have run.
 fn stop_before(stop: Halt, index: usize) -> Result<RunEnd, AllocError>
     ensures { IfOk result (IsStopBefore stop index) }
 {
@@ -296,7 +296,7 @@ fn stop_before(stop: Halt, index: usize) -> Result<RunEnd, AllocError>
     }
 }
 
-/// The progress of a branch, as that of the statements round it.
+/// How the statements around an `if` have run, from how its branch has.
 fn within(
     alloc: Global,
     progress: RunEnd,
@@ -314,7 +314,7 @@ fn within(
     }
 }
 
-/// The progress of a turn, as that of the statements round its loop.
+/// How the statements around a loop have run, from how this turn of it has.
 fn in_turn(
     alloc: Global,
     progress: RunEnd,

@@ -1,4 +1,4 @@
-//! A script that was read.
+//! What reading a script came to.
 
 ghost use Rattle.std.specs.Prelude.{◌≡◌, IfOk};
 ghost use Rattle.redo_script.specs.Texts.{script_in};
@@ -8,7 +8,7 @@ use crate::refusal::Refusal;
 use redo_script::{Reason, Script, ScriptFault, parse};
 use std::alloc::{AllocError, Global};
 
-/// What reading a text came to: its script, or the fault that it has. Want of memory is none of these.
+/// What reading a text came to: its script, or its fault. Lack of memory is neither.
 #[derive(Debug, Drop)]
 pub enum Parsed {
     Read(Script),
@@ -16,7 +16,7 @@ pub enum Parsed {
 }
 
 impl Parsed {
-    /// Reads a text.
+    /// Reads the text of a script.
     pub fn of(alloc: Global, text: &[u8]) -> Result<Parsed, AllocError>
         ensures { IfOk result (λ parsed. parsed_of parsed ≡ script_in text.now) }
     {

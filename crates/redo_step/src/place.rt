@@ -9,8 +9,8 @@ pub(crate) enum Branch {
     Second,
 }
 
-/// A place among statements: before the one with this number, at a place in a branch of it, or at a place in this turn
-/// of it, where it is a loop whose words have these values.
+/// A place among statements: before the statement at this index, at a place within a branch of it, or at a place within
+/// this turn of it if it is a loop, whose words have these values.
 #[derive(Debug, Drop)]
 pub(crate) enum Place {
     Before(usize),

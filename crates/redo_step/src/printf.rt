@@ -1,4 +1,4 @@
-//! What `printf` prints, by printf(1) of POSIX: `%s`, `%%`, and three escapes.
+//! What `printf` prints, by printf(1) of POSIX: `%s`, `%%` and the escapes `\n`, `\t`, `\\`.
 
 ghost use Rattle.std.specs.Prelude.{◌≡◌, ◌≤◌, ◌∷◌, IfOk, OnOk, IfSome, IfNone, None, Some, option_map, length};
 ghost use Rattle.redo_step.specs.Runs.{or_else, faulted};
@@ -18,13 +18,13 @@ use std::alloc::{AllocError, Global};
 /// A piece of a format.
 #[derive(Clone, Copy, Debug, PartialEq, Eq)]
 pub(crate) enum FormatPart {
-    /// A byte that stands for itself, or for which an escape stands.
+    /// A byte that stands for itself, or that a sequence stands for.
     Literal(u8),
-    /// The place of an operand.
+    /// The place of an operand, `%s`.
     Operand,
 }
 
-/// Prints operands by a format, as often as there are operands left.
+/// Prints operands by a format, which is used again while operands are left.
 pub(crate) fn printf(
     alloc: Global,
     line: u64,
@@ -45,7 +45,7 @@ pub(crate) fn printf(
     Ok(())
 }
 
-/// The pieces of a format, unless another sequence stands in it.
+/// The pieces of a format; `None` if it has any other sequence.
 fn pieces(alloc: Global, format: &[u8]) -> Result<Option<Vec<FormatPart>>, AllocError>
     ensures { IfOk result (λ pieces. option_map (λ v. v.items) pieces ≡ pieces_of format.now) }
 {
@@ -61,7 +61,7 @@ fn pieces(alloc: Global, format: &[u8]) -> Result<Option<Vec<FormatPart>>, Alloc
     Ok(Some(pieces))
 }
 
-/// The first piece of a format, and what is behind it.
+/// The first piece of a format, and what follows it.
 fn piece_at(first: u8, others: &[u8]) -> Option<(FormatPart, &[u8])>
     ensures none { IfNone result (pieces_of (first ∷ others.now) ≡ None) }
     ensures some { IfSome result (λ r. pieces_of (first ∷ others.now) ≡ with_piece (Some r.0) (pieces_of r.1.now)) }
@@ -77,7 +77,7 @@ fn piece_at(first: u8, others: &[u8]) -> Option<(FormatPart, &[u8])>
     }
 }
 
-/// What two bytes stand for, of which the first is a percent sign or a backslash.
+/// What a sequence of two bytes stands for. The first is a percent sign or a backslash.
 fn sequence(first: u8, second: u8) -> Option<FormatPart>
     ensures { result ≡ sequence_of first second }
 {
@@ -109,14 +109,14 @@ fn print(pieces: &[FormatPart], texts: &[Text], sink: &mut Sink) -> Result<(), A
     ensures { OnOk result (Prints (formatted pieces.now texts.now) sink.old sink.new) }
 {
     let mut left = print_once(pieces, texts, sink)?;
-    // What is too long already gets no longer by more rounds.
+    // Once the output is too long, more rounds change nothing.
     while !left.is_empty() && !sink.is_over {
         left = print_once(pieces, left, sink)?;
     }
     Ok(())
 }
 
-/// Prints the format once, and answers the operands that are left.
+/// Prints the format once, and returns the operands that are left.
 fn print_once<'t, 'a>(
     pieces: &[FormatPart],
     texts: &'t [Text<'a>],

@@ -1,11 +1,11 @@
-//! Why a text is no script.
+//! Why a text isn't a script.
 
 ghost use Rattle.std.specs.Prelude.{◌≡◌};
 ghost use Rattle.redo_script.specs.declared.fault.Reason.TheVariants.{Memory};
 
 use redo_script::ScriptFault;
 
-/// The fault that a text has. Want of memory says nothing of a text, and so it is none.
+/// The fault of a text. Lack of memory says nothing about a text, so it isn't one.
 #[derive(Debug, Drop)]
 pub struct Refusal {
     pub fault: ScriptFault,

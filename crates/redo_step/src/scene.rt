@@ -1,4 +1,4 @@
-//! What commands see: the tree, the rule's arguments, the limit of bytes, the names that loops bind.
+//! What commands see: the tree, the rule's arguments, the limit of bytes, and the names that loops bind.
 
 ghost use Rattle.std.specs.Prelude.{◌≡◌, IfOk, None, option_copied};
 ghost use Rattle.std.specs.Str.{bytes_eq};
@@ -22,7 +22,7 @@ use redo_which::lookup::find;
 use redo_which::{Args, Found};
 use std::alloc::{AllocError, Global};
 
-/// What a script's commands see, beside the answers.
+/// What a script's commands see besides the answers.
 #[derive(Drop)]
 pub(crate) struct Scene<'a> {
     pub(crate) alloc: Global,
@@ -30,12 +30,12 @@ pub(crate) struct Scene<'a> {
     pub(crate) target: &'a Path,
     pub(crate) args: &'a Args,
     pub(crate) limit: usize,
-    /// The names that the loops round a statement bind, those of the innermost first.
+    /// The names that the loops around a statement bind, innermost first.
     pub(crate) bound: Vec<Binding>,
 }
 
 impl<'a> Scene<'a> {
-    /// What commands see in a turn of a loop, in which this name has this value.
+    /// What commands see in a turn of a loop, which gives this name this value.
     pub(crate) fn with_value(&self, name: &Bytes, value: &Bytes) -> Result<Scene<'a>, AllocError>
         ensures { IfOk result (λ inner. scene_setting inner ≡ with_value (scene_setting self.now) name.now value.now) }
     {
@@ -52,7 +52,7 @@ impl<'a> Scene<'a> {
 }
 
 impl Scene<'_> {
-    /// How many bytes standard output or `$3` may have.
+    /// The most bytes that standard output or `$3` may have.
     #[tactic(auto, unfolding(crate::specs::Setting::setting_by))]
     pub(crate) fn limit(&self) -> usize
         ensures { result ≡ (scene_setting self.now).limit }
@@ -60,7 +60,7 @@ impl Scene<'_> {
         self.limit
     }
 
-    /// The value of a word.
+    /// The value of a word, or the fault `Unquoted`.
     #[tactic(auto, unfolding(crate::specs::Setting::setting_by))]
     pub(crate) fn text<'s>(&'s self, line: u64, word: &'s Word) -> Result<Text<'s>, Halt>
         ensures text { IsMeant (given_by (λ t. t) result) (text_of (scene_setting self.now) line (word_of word.now)) }
@@ -72,7 +72,7 @@ impl Scene<'_> {
         }
     }
 
-    /// The path that a text names from the script's directory.
+    /// The path that a text names from the script's directory, or the fault `Outside`.
     #[tactic(auto, unfolding(crate::specs::Setting::setting_by, crate::specs::Path::resolved))]
     pub(crate) fn path(&self, line: u64, text: &[u8]) -> Result<Path, Halt>
         ensures path { IsMeant (given_by (λ p. p) result) (path_of (scene_setting self.now) line text.now) }
@@ -85,7 +85,7 @@ impl Scene<'_> {
         }
     }
 
-    /// The bytes of a source.
+    /// The bytes of a source, or `None` for any other path.
     #[tactic(auto, unfolding(crate::specs::Setting::setting_by))]
     pub(crate) fn source(&self, path: &Path) -> Option<&[u8]>
         ensures { option_copied result ≡ (scene_setting self.now).source path.now }
@@ -103,7 +103,7 @@ impl Scene<'_> {
         }
     }
 
-    /// Whether a path is made by a rule.
+    /// Whether a rule makes this path.
     #[tactic(auto, unfolding(crate::specs::Setting::setting_by))]
     pub(crate) fn has_rule(&self, path: &Path) -> Result<bool, AllocError>
         ensures { IfOk result (λ found. found ≡ (scene_setting self.now).has_rule path.now) }
@@ -114,7 +114,7 @@ impl Scene<'_> {
         }
     }
 
-    /// Whether a path is the target's own.
+    /// Whether a path is the target.
     #[tactic(auto, unfolding(crate::specs::Setting::setting_by))]
     pub(crate) fn is_target(&self, path: &Path) -> bool
         ensures { result ≡ bytes_eq path.now (scene_setting self.now).target }

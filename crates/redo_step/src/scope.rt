@@ -26,7 +26,7 @@ impl Clone for Binding {
     }
 }
 
-/// These bindings, and before them that of a name to a value.
+/// These bindings, with that of a name to a value in front.
 pub(crate) fn with_binding(
     alloc: Global,
     bound: &[Binding],
@@ -42,7 +42,7 @@ pub(crate) fn with_binding(
     Ok(more)
 }
 
-/// What a name stands for: the value that the innermost loop gives it. A name that no loop binds has no bytes.
+/// What a name stands for: the value that the innermost loop gives it; no bytes if no loop binds it.
 pub(crate) fn bound_value<'a>(bound: &'a [Binding], name: &[u8]) -> &'a [u8]
     ensures { result.now ≡ value_bound bound.now name.now }
 {
@@ -54,8 +54,8 @@ pub(crate) fn bound_value<'a>(bound: &'a [Binding], name: &[u8]) -> &'a [u8]
     &[]
 }
 
-/// The values of a loop's words. Clones share them, so that a stop in a turn copies none. In a contract it is the list
-/// of the values.
+/// The values of a loop's words. Clones share them, so a stop in a turn copies none. In a contract it is the list of
+/// the values.
 #[derive(Debug, Drop)]
 pub(crate) struct Values {
     shared: Arc<Vec<Bytes>>,
@@ -71,7 +71,7 @@ impl Model for Values {
 }
 
 impl Values {
-    /// The values that these texts are.
+    /// Makes values of these texts.
     pub(crate) fn of(alloc: Global, texts: &[Text]) -> Result<Values, AllocError>
         ensures { IfOk result (λ values. values ≡ texts.now) }
     {

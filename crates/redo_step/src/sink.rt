@@ -5,7 +5,7 @@ ghost use Rattle.redo_step.specs.inside.Sink.{Holds, Adds};
 
 use std::alloc::AllocError;
 
-/// Bytes that grow up to a limit. What would go past it is dropped, and only that is known then.
+/// Bytes that grow up to a limit. What would go past it is dropped, and `is_over` says so.
 #[derive(Drop)]
 pub(crate) struct Sink {
     pub(crate) bytes: Vec<u8>,
@@ -27,7 +27,7 @@ impl Sink {
         }
     }
 
-    /// Puts bytes last.
+    /// Appends bytes.
     pub(crate) fn add(&mut self, more: &[u8]) -> Result<(), AllocError>
         ensures { OnOk result (Adds more.now self.old self.new) }
     {

@@ -4,15 +4,15 @@ ghost use Rattle.std.specs.Prelude.{◌≡◌};
 
 use std::marker::Model;
 
-/// Bytes that are lent, or held.
+/// Bytes that are borrowed or owned.
 #[derive(Drop)]
 enum Bytes<'a> {
     Lent(&'a [u8]),
     Held(Vec<u8>),
 }
 
-/// The value of a word. Where a single part gives it, its bytes are lent by the script or by an argument, and not
-/// copied. In a contract it is its bytes.
+/// The value of a word. If the word is a single part other than `$3`, its bytes are borrowed from the script or from an
+/// argument, not copied. In a contract it is its bytes.
 #[derive(Drop)]
 pub(crate) struct Text<'a> {
     bytes: Bytes<'a>,
@@ -28,7 +28,7 @@ impl<'a> Model for Text<'a> {
 }
 
 impl<'a> Text<'a> {
-    /// A text that stands elsewhere.
+    /// A text that borrows its bytes.
     pub(crate) fn lent(bytes: &'a [u8]) -> Text<'a>
         ensures { result ≡ bytes.now }
     {
@@ -37,7 +37,7 @@ impl<'a> Text<'a> {
         }
     }
 
-    /// A text that was put together.
+    /// A text that owns its bytes.
     pub(crate) fn held(bytes: Vec<u8>) -> Text<'a>
         ensures { result ≡ bytes.items }
     {

@@ -43,7 +43,7 @@ fn are_plain_bytes(bytes: &[u8]) -> bool
     true
 }
 
-/// A text that stands outside quotes, or none where it isn't fit.
+/// This text, or `None` if it may not stand outside quotes.
 fn fit_text(text: Text<'_>) -> Option<Text<'_>>
     ensures { result ≡ fit text.entry }
 {
@@ -54,7 +54,7 @@ fn fit_text(text: Text<'_>) -> Option<Text<'_>>
     }
 }
 
-/// What a part stands for, or none where its bytes aren't fit.
+/// What a part stands for, or `None` if it is outside quotes and its value isn't fit.
 fn part_value<'a>(
     alloc: Global,
     args: &'a Args,
@@ -73,7 +73,7 @@ fn part_value<'a>(
     }
 }
 
-/// What parts stand for, one after the other.
+/// What parts stand for, joined.
 fn joined_value(
     alloc: Global,
     args: &Args,
@@ -93,7 +93,7 @@ fn joined_value(
     Ok(Some(value))
 }
 
-/// The value of a word in parts, or none where the bytes of one outside quotes aren't fit.
+/// The value of a word in parts, or `None` if that of a part outside quotes isn't fit.
 fn parts_value<'a>(
     alloc: Global,
     args: &'a Args,
@@ -112,7 +112,7 @@ fn parts_value<'a>(
     }
 }
 
-/// The value of a word, where loops bind these names, or none where the bytes of a part outside quotes aren't fit.
+/// The value of a word with these bindings, or `None` if that of a part outside quotes isn't fit.
 #[tactic(auto, using(crate::proofs::ValueLemmas::value_of_literal))]
 pub(crate) fn word_value<'a>(
     alloc: Global,

@@ -1,8 +1,8 @@
 //! What a redo-ifchange waits for.
 //!
-//! A script that goes on does so with the operands that are no sources: its words are not evaluated again, nothing is
-//! entered again, and the tree isn't asked again. Each operand is looked up once, to see whether all are built; only
-//! where they aren't it is looked for which.
+//! A script goes on with the operands that aren't sources: its words aren't evaluated again, nothing is declared again,
+//! and the tree isn't asked again. Each operand is looked up once, to see whether all are made; only if they aren't
+//! does a second pass find out which.
 
 ghost use Rattle.std.specs.Prelude.{◌≡◌, List, IfOk, IsTrue, false, Some, is_none, []};
 ghost use Rattle.redo_record.specs.Paths.{Path};
@@ -17,7 +17,7 @@ use redo_path::Path;
 use redo_record::Why;
 use std::alloc::{AllocError, Global};
 
-/// A redo-ifchange: its line, and those of its operands that are no sources.
+/// A redo-ifchange: its line, and its operands that aren't sources.
 #[derive(Debug, Drop)]
 pub(crate) struct Waiting {
     pub(crate) line: u64,
@@ -25,7 +25,7 @@ pub(crate) struct Waiting {
 }
 
 impl Waiting {
-    /// Goes on once all the targets have answers, and none of them failed.
+    /// Goes on if all the targets have answers and none has failed. Else it waits, or fails with `Depends`.
     pub(crate) fn go_on<A: Answers>(self, alloc: Global, answers: &A) -> Result<(), Halt>
         ensures run { (s : State) →
             IsMeant (run_by result s)
@@ -48,7 +48,7 @@ impl Waiting {
     }
 }
 
-/// Whether all of these targets have answers, and none of them failed. Mostly it is so once a script goes on.
+/// Whether all of these targets have answers and none has failed, as is usual when a script goes on.
 fn are_made<A: Answers>(answers: &A, targets: &[Path]) -> bool
     ensures answered { IsTrue result → unanswered (A.ask answers.now) [] targets.now ≡ [] }
     ensures good { IsTrue result → any_failure (A.ask answers.now) targets.now ≡ false }
@@ -77,7 +77,7 @@ fn is_any_failed<A: Answers>(answers: &A, targets: &[Path]) -> bool
     false
 }
 
-/// Those of these targets that have no answer, each once.
+/// The targets among these that have no answer, each once.
 fn without_answer<A: Answers>(
     alloc: Global,
     answers: &A,

@@ -1,4 +1,4 @@
-//! What `echo`, `printf` and `cat` write, and where to.
+//! What `echo`, `printf` and `cat` write, and where.
 
 ghost use Rattle.std.specs.Prelude.{◌≡◌, ◌++◌, ◌∷◌, [], OnOk, IfErr, OnSome, None, Some, option_map};
 ghost use Rattle.redo_script.specs.View.{writer_of, redirection_of};
@@ -71,7 +71,7 @@ impl Scene<'_> {
         }
     }
 
-    /// Whether a redirection, if there is one, appends to `$3`.
+    /// Where a command writes: to standard output, or to `$3` and whether it appends there.
     fn goal(&self, line: u64, redirection: &Option<Redirection>) -> Result<Option<bool>, Halt>
         ensures goal { IsMeant (given_by (λ goal. goal) result)
             (goal_of (scene_setting self.now) line (option_map redirection_of redirection.now)) }
@@ -158,7 +158,7 @@ impl Scene<'_> {
         }
     }
 
-    /// Appends what a command writes. Where it stops, the bytes are those that were there.
+    /// Appends what a command writes. If the command stops, the bytes are as before.
     fn append<A: Answers>(
         &self,
         answers: &A,

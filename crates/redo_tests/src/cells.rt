@@ -10,7 +10,7 @@ use std::sync::{Arc, Wait};
 use std::test::Fail;
 use std::thread;
 
-/// How often the threads of a test may look in vain, all together.
+/// How often the threads of a test together may look in vain.
 const MOST_TRIES: u64 = 1_000_000;
 
 /// The value that is found in a cell.
@@ -23,7 +23,7 @@ fn found(cells: &Arc<Cells<u64>>, index: usize) -> Result<Option<u64>, AllocErro
     }
 }
 
-/// Publishes a value, and answers whether it is the one in the cell.
+/// Publishes a value, and returns whether it is the one in the cell.
 fn is_first(cells: &Arc<Cells<u64>>, index: usize, value: u64) -> Result<bool, Fail>
     requires { index < length (arc_value cells.now) }
 {
@@ -59,8 +59,8 @@ fn two_that_look_find_one_value_which_outlives_its_row(rt: HostRuntime) -> Resul
     Ok(())
 }
 
-/// Looks into each of 1,000 cells, until it is written. Answers how many hold the double of their index, up to the
-/// first that doesn't.
+/// Looks into each of 1,000 cells until it is written. Returns how many hold the double of their index, up to the first
+/// that doesn't.
 fn doubles_found<R: Wait>(
     rt: &R,
     cells: &Arc<Cells<u64>>,

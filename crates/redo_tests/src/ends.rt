@@ -1,5 +1,5 @@
-//! A writer that fails at any of its calls. In the program a buffer of 64 KiB stands before it, so it fails only once
-//! the run has written, in `tests/failing-calls` too.
+//! A writer that fails at any of its calls. The program has a buffer of 64 KiB before its writer, so there a short
+//! report meets a failure only once all of it is in the buffer, in `tests/failing-calls` too.
 
 ghost use Rattle.std.specs.Prelude.{◌≡◌, None, false};
 
@@ -13,7 +13,7 @@ use std::thread::Threads;
 
 const HELLO: &str = "file 8 hello.do\necho hi\n\nend\n";
 
-/// Takes one byte a call, and fails at a call, counted from 0: by an error, or by taking nothing.
+/// Takes one byte per call, and fails at one call, counted from 0: with an error, or by taking nothing.
 #[derive(Drop)]
 struct Sink {
     text: Vec<u8>,
@@ -58,7 +58,7 @@ fn make_sink(alloc: Global, fails_at: usize, takes_nothing: bool) -> Sink
     }
 }
 
-/// Builds `hello`, and answers how the run ends.
+/// Builds `hello`, and returns how the run ends.
 fn run_to<R: Threads + Wait + Sync, W: ByteOut>(
     rt: &R,
     alloc: Global,

@@ -1,17 +1,17 @@
-//! Tests of what can't be seen of the program from outside.
+//! Tests of what can't be seen from outside the program.
 //!
 //! Whole runs are tested by the scripts in `tests/`, which need no proof. Here is what they can't reach: calls that the
-//! program makes in one way alone, or not at all, and what a call leaves behind a refusal. The crate has no code of its
-//! own, and calls what the others offer to everyone.
+//! program makes in only one way, or not at all, and what a refused call leaves behind. The crate has no code of its
+//! own, and calls only what the others make public.
 //!
 //! - `cells`, `relay`: what threads share without a lock;
 //! - `trees`: trees, as bundles, and what else the tests share;
 //! - `pieces`: pieces that don't belong to a board, and a board at its limit;
-//! - `picks`: builds in an order that is given beforehand;
+//! - `picks`: builds in a given order;
 //! - `observers`: which jobs workers take up, and how many at a time;
 //! - `ends`: a writer that fails at any of its calls;
 //! - `answers`: calls that no run makes;
-//! - `memory`: what a call leaves that is refused memory; `tests/refused-memory` refuses it.
+//! - `memory`: what a call that is refused memory leaves; `tests/refused-memory` refuses it.
 #![tactic(auto)]
 
 #[cfg(test)]

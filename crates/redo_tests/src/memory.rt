@@ -1,4 +1,4 @@
-//! What a call leaves that was refused memory: `tests/refused-memory` refuses each allocation of these tests in turn,
+//! What a call leaves if it is refused memory: `tests/refused-memory` refuses each allocation of these tests in turn,
 //! one in each run.
 
 use crate::pieces::{answer, counts, first_piece};
@@ -35,7 +35,7 @@ const BUILDS: [(&str, &str, &str, &str); 5] = [
     ("a refused book", REFUSED_BOOK, "a", "Book(2)"),
 ];
 
-/// Whether a build came to what is expected, or was out of memory and is the first that was.
+/// Whether a build came to what is expected, or is the first that ran out of memory.
 fn is_answer(
     alloc: Global,
     found: Result<Report, RunFault>,
@@ -88,7 +88,7 @@ fn four_workers_answer_as_ever_or_are_out_of_memory(rt: HostRuntime) -> Result<(
 /// How often a target of the diamond is taken: `top`, `left` and `right` twice, and `base` once.
 const TAKES: usize = 7;
 
-/// Opens a board of the diamond over a tree, or none where memory runs out.
+/// Opens a board of the diamond over a tree; `None` if memory runs out.
 fn opened(alloc: Global, tree: &Arc<Tree>) -> Result<Option<Board>, Fail> {
     let request = paths_of(alloc, "top")?;
     match Board::open(alloc, Arc::try_clone(tree)?, &request, limits_of(100)?) {
@@ -99,7 +99,7 @@ fn opened(alloc: Global, tree: &Arc<Tree>) -> Result<Option<Board>, Fail> {
     }
 }
 
-/// Takes the first target that is ready. A take that was refused has changed nothing, so it is made again.
+/// Takes the first ready target. A take that was refused has changed nothing, so it is made again.
 fn taken(board: &mut Board) -> Result<Work, Fail> {
     if board.ready() == 0 {
         Err("nothing is ready")?;
@@ -114,7 +114,7 @@ fn taken(board: &mut Board) -> Result<Work, Fail> {
     Ok(board.take(0)?)
 }
 
-/// Whether a board is out of memory for a piece. It takes in any other.
+/// Whether a board runs out of memory for a piece. It takes in any other.
 fn is_refused(board: &mut Board, piece: Piece) -> Result<bool, Fail> {
     match answer(board, piece)? {
         None => Ok(false),
@@ -123,7 +123,7 @@ fn is_refused(board: &mut Board, piece: Piece) -> Result<bool, Fail> {
     }
 }
 
-/// A board that was refused memory has stopped, and answers so for good.
+/// A board that was refused memory has stopped, and says so for good.
 fn stays_stopped(alloc: Global, board: &mut Board) -> Result<(), Fail> {
     if board.stopped() != Some(Stop::Memory) || counts(board) != (0, 0, false) {
         Err("a board goes on without memory")?;
@@ -135,7 +135,7 @@ fn stays_stopped(alloc: Global, board: &mut Board) -> Result<(), Fail> {
     Ok(())
 }
 
-/// Takes a target and hands it in. Answers whether there was memory for it.
+/// Takes a target and hands it in. Returns whether there was memory for it.
 fn go_on(alloc: Global, board: &mut Board) -> Result<bool, Fail> {
     let Ok(piece) = taken(board)?.advance() else {
         return Ok(false);
@@ -147,7 +147,7 @@ fn go_on(alloc: Global, board: &mut Board) -> Result<bool, Fail> {
     Ok(true)
 }
 
-/// The text of a quiet board's report, or none where memory runs out.
+/// The text of a quiet board's report, or `None` if memory runs out.
 fn text_of(alloc: Global, board: Board) -> Result<Option<Vec<u8>>, Fail> {
     if !board.quiet() {
         Err("not quiet")?;
@@ -158,7 +158,7 @@ fn text_of(alloc: Global, board: Board) -> Result<Option<Vec<u8>>, Fail> {
     }
 }
 
-/// Builds the diamond over a tree. Answers the report's text, or none where memory ran out on the way.
+/// Builds the diamond over a tree. Returns the report's text, or `None` if memory ran out on the way.
 fn built(alloc: Global, tree: &Arc<Tree>) -> Result<Option<Vec<u8>>, Fail> {
     let Some(mut board) = opened(alloc, tree)? else {
         return Ok(None);
@@ -171,7 +171,7 @@ fn built(alloc: Global, tree: &Arc<Tree>) -> Result<Option<Vec<u8>>, Fail> {
     text_of(alloc, board)
 }
 
-/// Whether a text, where there is one, is the diamond's report.
+/// Whether a text, if there is one, is the diamond's report.
 fn is_report(text: &Option<Vec<u8>>) -> bool {
     match text {
         Some(text) => text.as_slice() == DIAMOND_REPORT.as_bytes(),
@@ -179,7 +179,7 @@ fn is_report(text: &Option<Vec<u8>>) -> bool {
     }
 }
 
-/// A job that a refused call lost leaves the tree whole that it shared.
+/// A job that is lost to a refused call leaves the tree that it shared whole.
 #[test]
 fn a_refusal_ends_one_build_alone(rt: HostRuntime) -> Result<(), Fail> {
     let alloc = rt.alloc();
@@ -191,7 +191,7 @@ fn a_refusal_ends_one_build_alone(rt: HostRuntime) -> Result<(), Fail> {
     Ok(())
 }
 
-/// A job that is nothing but its turn.
+/// A job that is nothing but its target and turn.
 #[derive(Drop)]
 struct Ticket {
     target: Path,

@@ -15,8 +15,8 @@ use std::thread::yield_now;
 const TWO: &str =
     "file 7 a.do\necho a\n\nfile 7 b.do\necho b\n\nfile 18 top.do\nredo-ifchange a b\n\nend\n";
 
-/// Holds who enters until two have entered, for so many yields at most, and notes who waited in vain. The target `top`
-/// isn't held.
+/// Holds whoever enters until two have entered, for at most 1,000,000 yields, and counts who waited in vain. The target
+/// `top` isn't held.
 #[derive(Drop)]
 struct Pair {
     entered: AtomicU64,
@@ -39,7 +39,7 @@ impl Observer for Pair {
     }
 }
 
-/// Two that are requested, and two that become ready later.
+/// Two targets that are requested, and two that become ready later.
 #[test]
 fn both_must_be_inside_a_run(rt: HostRuntime) -> Result<(), Fail> {
     let alloc = rt.alloc();
@@ -70,7 +70,7 @@ fn both_must_be_inside_a_run(rt: HostRuntime) -> Result<(), Fail> {
     Ok(())
 }
 
-/// The jobs of a diamond: each script from its first statement on, and once more three that stopped.
+/// The jobs of a diamond: each script from its first statement on, and three that stopped once more.
 const JOBS: [(&[u8], u64); 7] = [
     (b"base", 0),
     (b"left", 0),
@@ -81,8 +81,8 @@ const JOBS: [(&[u8], u64); 7] = [
     (b"top", 1),
 ];
 
-/// Counts how often each job entered, and how often another one did. It holds who enters until more are inside than
-/// there are workers, for so many yields at most, and counts how often that was so.
+/// Counts how often each job entered, and how often anything else did. It holds whoever enters until more are inside
+/// than there are workers, for at most 10,000 yields, and counts how often that was so.
 #[derive(Drop)]
 struct Crowd {
     workers: u64,

@@ -1,4 +1,4 @@
-//! Builds in an order that is given beforehand.
+//! Builds in a given order.
 
 use crate::trees::{
     DIAMOND, DIAMOND_REPORT, REFUSED_BOOK, RING, RING_REPORT, limits_of, paths_of, tree_of,
@@ -9,7 +9,7 @@ use redo_run::{Pick, drive};
 use std::alloc::Global;
 use std::test::Fail;
 
-/// A pick: `t1` takes the ready target at place 1, and `h1` hands in the job at place 1.
+/// A pick: `t1` takes the ready target at index 1, and `h1` hands in the job at index 1.
 fn pick_of(word: &str) -> Result<Pick, Fail> {
     if let Some(place) = word.strip_prefix('t') {
         return Ok(Pick::Take(place.parse()?));
@@ -18,7 +18,7 @@ fn pick_of(word: &str) -> Result<Pick, Fail> {
     Ok(Pick::HandIn(place.parse()?))
 }
 
-/// Picks, which stand between blanks.
+/// Picks, separated by blanks.
 fn picks_of(alloc: Global, order: &str) -> Result<Vec<Pick>, Fail> {
     let mut picks = Vec::new(alloc);
     for word in order.split(' ') {
@@ -74,14 +74,14 @@ fn every_order_comes_to_the_report(rt: HostRuntime) -> Result<(), Fail> {
     Ok(())
 }
 
-/// A tree with a record of `mid`, by which it stands.
+/// A tree with a record of `mid`, by which it is kept.
 const RECORDED: &str = "file 5 mid.do\ntrue\n\nfile 18 top.do\nredo-ifchange mid\n\n\
     file 20 .redo-book\ntarget none mid\nend\n\nend\n";
 
 const KEPT_REPORT: &str =
     "built none mid\nbuilt none top\ndep change top.do\ndep change mid\nbegun top\nend\n";
 
-/// A rule, an order of the diamond, and how it stands at the first pick that isn't open, or at the end.
+/// A rule, an order of the diamond, and the state at the first pick that isn't open, or at the end.
 const CUT_SHORT: [(&str, &str, &str); 4] = [
     ("what is requested is ready", "", "0 done, 1 ready, 0 out"),
     (

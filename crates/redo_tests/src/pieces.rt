@@ -14,7 +14,7 @@ fn board_of(alloc: Global, bundle: &str, words: &str, targets: u32) -> Result<Bo
     Ok(Board::open(alloc, tree, &request, limits_of(targets)?)?)
 }
 
-/// Takes the first target that is ready.
+/// Takes the first ready target.
 fn take(board: &mut Board) -> Result<Work, Fail> {
     if board.ready() == 0 {
         Err("nothing is ready")?;
@@ -46,7 +46,7 @@ pub(crate) fn counts(board: &Board) -> (usize, usize, bool) {
     (board.ready(), board.out(), board.quiet())
 }
 
-/// Takes the first target that is ready and hands it in, so many times.
+/// Takes the first ready target and hands it in, `steps` times.
 fn go(board: &mut Board, steps: usize) -> Result<(), Fail> {
     for _ in 0..steps {
         let piece = take(board)?.advance()?;
@@ -57,7 +57,7 @@ fn go(board: &mut Board, steps: usize) -> Result<(), Fail> {
     Ok(())
 }
 
-/// Whether a board gives back the first piece of another as a stranger, and stands then as it is said.
+/// Whether a board gives back the first piece of another one as a stranger, and then has these counts.
 fn gives_back(
     alloc: Global,
     board: &mut Board,
@@ -143,7 +143,7 @@ fn a_build_is_known_by_its_tree_request_and_limits(rt: HostRuntime) -> Result<()
     Ok(())
 }
 
-/// Whether a board answers to a piece that too many targets are needed, and has stopped.
+/// Whether a board stops at a piece because too many targets are needed.
 fn is_stopped_by(board: &mut Board, piece: Piece) -> Result<bool, Fail> {
     let is_told = matches!(answer(board, piece)?, Some(HandFault::TooMany));
     Ok(is_told && board.stopped() == Some(Stop::TooMany) && counts(board) == (0, 0, false))

@@ -15,10 +15,10 @@ use std::thread::{Promise, PromisedHandle, Scope, Threads};
 /// How many jobs each of four takers takes, of the 10,000 that are given.
 const SHARE: usize = 2000;
 
-/// How often a taker may find no job once all were given.
+/// How often a taker may find no job once all have been given.
 const MOST_TRIES: u64 = 1_000_000;
 
-/// A job that is nothing but its number.
+/// A job that is nothing but its target and turn.
 #[derive(Drop)]
 struct Ticket {
     target: Path,
@@ -99,7 +99,7 @@ fn what_nobody_took_is_left(rt: HostRuntime) -> Result<(), Fail> {
     Ok(())
 }
 
-/// How often each job was seen: that of the target `a` at a turn, and that of `b`.
+/// How often the job of each turn was seen: those of the target `a`, and those of `b`.
 #[derive(Drop)]
 struct Marks {
     a: Vec<AtomicU64>,
@@ -107,7 +107,7 @@ struct Marks {
     all_given: AtomicBool,
 }
 
-/// 5,000 counts of nothing.
+/// 5,000 counts, each 0.
 fn counts(alloc: Global) -> Result<Vec<AtomicU64>, AllocError> {
     let mut counts = Vec::new(alloc);
     for _ in 0..5000 {
@@ -126,7 +126,7 @@ impl Marks {
         })
     }
 
-    /// A job was seen.
+    /// Counts a job.
     fn mark(&self, job: &Ticket) {
         let row = if job.target().text() == b"a".as_slice() {
             &self.a
@@ -138,7 +138,7 @@ impl Marks {
         }
     }
 
-    /// How many jobs were seen once, and no more.
+    /// How many jobs were seen exactly once.
     fn seen_once(&self) -> usize {
         let mut once = 0usize;
         for count in self.a.iter().chain(self.b.iter()) {

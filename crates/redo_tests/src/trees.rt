@@ -43,7 +43,7 @@ pub(crate) fn tree_of(alloc: Global, bundle: &str) -> Result<Tree, Fail>
     Ok(read_bundle(alloc, &mut reader)?)
 }
 
-/// The paths that words name, which stand between blanks.
+/// The paths that words name, separated by blanks.
 pub(crate) fn paths_of(alloc: Global, words: &str) -> Result<Vec<Path>, Fail> {
     let root = Path::root();
     let mut paths = Vec::new(alloc);
@@ -55,7 +55,7 @@ pub(crate) fn paths_of(alloc: Global, words: &str) -> Result<Vec<Path>, Fail> {
     Ok(paths)
 }
 
-/// Limits of so many targets, and of 100 bytes a file.
+/// Limits of this many targets, and of 100 bytes per file.
 pub(crate) fn limits_of(targets: u32) -> Result<Limits, Fail> {
     Ok(Limits::new(targets, 100).ok_or("limits")?)
 }

@@ -1,4 +1,4 @@
--- What holds of the entries of every state of the schedule.
+-- The invariant of the schedule: what holds of the entries in every state.
 use Rattle.std.specs.Prelude.{◌≡◌, ℕ, ◌+◌, ◌<◌, Bool, true, false, List, [], ◌∷◌, Some, None, is_some, if◌then◌else◌}
 use Rattle.redo_record.specs.Paths.{IsAmong, AreDistinct}
 use Rattle.redo_build.specs.Rules.{Rules, operands}
@@ -30,15 +30,15 @@ abbrev pub is_script : Phase → Bool
 is_script Check = false
 is_script Script = true
 
--- how often the entry stopped, in its check and in its script
+-- how often the entry has stopped, in its check and its script together
 abbrev pub rounds : Entry → ℕ
 rounds e = e.looks + e.turn
 
--- how an entry stands that isn't decided: its check or its script came to its turn with what is decided
+-- an undecided entry: its check or its script came to its turn with the outcomes decided so far
 pub record IsUnderWay (r : Rules) (es : List Entry) (e : Entry) : Type 0 where
   pub came : CameTo r e.path (outcomes_of es) (rounds e)
   pub is : e.deps ≡ deps_at_turn r e.path (outcomes_of es) (rounds e)
-  -- while its check stopped it wasn't begun, and it was where its script stopped
+  -- its script isn't begun after fewer than `looks` stops, and is begun after `looks` if it has stopped itself
   pub in_check : (k : ℕ) → k < e.looks → begins_at r e.path (outcomes_of es) k ≡ false
   pub begun : 0 < e.turn → begins_at r e.path (outcomes_of es) e.looks ≡ true
 

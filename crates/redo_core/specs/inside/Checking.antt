@@ -19,7 +19,7 @@ use Rattle.redo_core.specs.declared.check.Check.{Check}
 use Rattle.redo_core.specs.declared.check.Alone.{Alone}
 use Rattle.redo_core.specs.declared.check.Alone.TheVariants.{Stands, Asks, Falls}
 
--- how an entry stands that no answer is given to
+-- whether an entry stands, judged without any answer
 abbrev pub standing_of : Alone → Standing
 standing_of Stands = stands
 standing_of Asks = lacks
@@ -29,19 +29,19 @@ standing_of Falls = falls
 abbrev pub asked_by : Sources → List BookEntry → List (List ℕ)
 asked_by s es = flat_map (asks s) es
 
--- the entries at these places stand, whatever is known
+-- the entries from one index up to another stand without any answer
 abbrev pub StandAlone : Sources → List BookEntry → ℕ → ℕ → Type 0
 StandAlone s es from to =
     (k : ℕ) (e : BookEntry) → from ≤ k → k < to → slice_get es k ≡ Some e → standing s nothing_known e ≡ stands
 
--- from one place to another entries stand, whatever is known; at the latter one asks for a path, or it is the end
+-- the entries from one index up to another stand without any answer; the next one asks for a path, or there is none
 pub record IsWalkedTo (s : Sources) (es : List BookEntry) (from to : ℕ) : Type 0 where
   pub on : from ≤ to
   pub within : to ≤ length es
   pub alone : StandAlone s es from to
   pub next : MatchOption (slice_get es to) (Unit {0}) (λ e. standing s nothing_known e ≡ lacks)
 
--- from a place on entries stand, whatever is known, up to one that falls
+-- from an index on, entries stand without any answer, up to one that falls
 pub record FallsBehind (s : Sources) (es : List BookEntry) (from : ℕ) : Type 0 where
   pub at : ℕ
   pub on : from ≤ at
@@ -50,7 +50,7 @@ pub record FallsBehind (s : Sources) (es : List BookEntry) (from : ℕ) : Type 0
   pub alone : StandAlone s es from at
   pub fallen : standing s nothing_known entry ≡ falls
 
--- so many entries, from the first on, stand under an ask
+-- the first n entries stand, given these answers
 pub record HaveStood (s : Sources) (a : Ask) (es : List BookEntry) (n : ℕ) : Type 0 where
   pub within : n ≤ length es
   pub each : (k : ℕ) (e : BookEntry) → k < n → slice_get es k ≡ Some e → standing s a e ≡ stands
@@ -61,12 +61,12 @@ pub record IsCheckedBy (given : GivenView) (p : List ℕ) (number : ℕ) : Type 
   pub there : slice_get given.past.book number ≡ Some made
   pub check : checks_for given p ≡ Some (check_by (last_run_of given.past) made)
 
--- the same of a book's record
+-- the same, for a record that a book can have
 pub record IsInCheck (given : GivenView) (p : List ℕ) (number : ℕ) : Type 0 where
   pub made : Record
   pub there : slice_get given.past.book number ≡ Some made
   pub check : checks_for given p ≡ Some (check_by (last_run_of given.past) made)
-  -- no kind and path stands twice
+  -- no kind and path occurs twice
   pub once : IsDistinct same_entry made.entries
 
 abbrev pub entries_of_record : Option Record → List BookEntry
@@ -77,27 +77,27 @@ entries_of_record (Some made) = made.entries
 abbrev pub entries_in : GivenView → Check → List BookEntry
 entries_in given c = entries_of_record (slice_get given.past.book c.number)
 
--- the path of a change entry
+-- the path of a `change`
 abbrev pub path_of_entry : BookEntry → Option (List ℕ)
 path_of_entry (Change state q) = Some q
 path_of_entry (Create q) = None
 path_of_entry Always = None
 
--- the state that a change entry has on record
+-- the recorded state of a `change`
 abbrev pub state_of_entry : BookEntry → Option State
 state_of_entry (Change state q) = Some state
 state_of_entry (Create q) = None
 state_of_entry Always = None
 
--- the path that a check asks for next when it is due; none where all its entries stand
+-- the path that a check asks for next when it is due; none if all its entries stand
 abbrev pub asks_next : GivenView → Check → Option (List ℕ)
 asks_next given c = option_and_then path_of_entry (slice_get (entries_in given c) c.stood)
 
--- the entries that a check has looked at that waits
+-- the entries that a waiting check has looked at
 abbrev pub seen_entries : GivenView → Check → List Dep
 seen_entries given c = map shown (take (c.stood + 1) (entries_in given c))
 
--- a check is due: so many entries stand, and the next one asks for a path that wasn't asked for yet, or there is none
+-- a check is due: its first entries stand, and the next one asks for a path, or there is none
 pub record IsDueCheck (given : GivenView) (p : List ℕ) (a : Ask) (c : Check) : Type 0 where
   pub in_check : IsInCheck given p c.number
   pub stood : HaveStood (sources_for given) a (entries_in given c) c.stood
@@ -105,7 +105,7 @@ pub record IsDueCheck (given : GivenView) (p : List ℕ) (a : Ask) (c : Check) :
   pub next : MatchOption (slice_get (entries_in given c) c.stood) (Unit {0})
       (λ e. standing (sources_for given) nothing_known e ≡ lacks)
 
--- a check waits for a path: that of the entry behind those that stand
+-- a check waits for a path: that of the entry after those that stand
 pub record IsWaitingCheck (given : GivenView) (p : List ℕ) (a : Ask) (q : List ℕ) (c : Check) : Type 0 where
   pub in_check : IsInCheck given p c.number
   pub stood : HaveStood (sources_for given) a (entries_in given c) c.stood
@@ -114,12 +114,12 @@ pub record IsWaitingCheck (given : GivenView) (p : List ℕ) (a : Ask) (q : List
   pub asks : is_asked (sources_for given) q ≡ true
   pub asked : c.asked ≡ asking (asked_by (sources_for given) (take c.stood (entries_in given c)) ++ q ∷ [])
 
--- the second ask has the answers of the first to what these entries wait for
+-- a and b give the same answers to what these entries wait for
 abbrev pub TellsAlike : Rules → List Dep → Ask → Ask → Type 0
 TellsAlike r asked a b = (q : List ℕ) → IsAmong (operands r asked) q → a q ≡ b q
 
--- a script is begun behind a check that asked for these paths: whatever else becomes known. A target that is in no
--- check asked for none
+-- a script is begun after a check that asked for these paths, whatever else becomes known. A target that isn't in check
+-- asked for none
 pub record IsBegunBehind (given : GivenView) (p : List ℕ) (asked : List Dep) (a : Ask) : Type 0 where
   pub begins : (b : Ask) → TellsAlike (rules_for given) asked a b → (rules_for given).begins p b ≡ true
   pub progress : (b : Ask) → TellsAlike (rules_for given) asked a b → (rules_for given).progress p b ≡

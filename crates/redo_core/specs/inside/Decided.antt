@@ -5,7 +5,7 @@ use Rattle.redo_record.specs.declared.outcome.Outcome.{Outcome}
 use Rattle.redo_build.specs.inside.Turns.{IsFact}
 use Rattle.redo_core.specs.Build.{GivenView, rules_for}
 
--- it came to this outcome and this record, whatever it asked for, and its script was begun or not, as the build says
+-- by the build, the target comes to this outcome and this record, and its script is begun or not
 abbrev pub IsDecided : GivenView → List ℕ → Outcome → List Dep → Bool → Type 0
 IsDecided given target outcome deps begun =
     (asked : List Dep) × IsFact (rules_for given) target outcome asked deps begun

@@ -1,4 +1,4 @@
--- How a table whose targets wait or are decided makes a report.
+-- How a report is made of a table whose targets wait or are decided.
 use Rattle.std.specs.Prelude.{◌≡◌, ◌⊎◌, Bool, true, false, ℕ, List, [], ◌∷◌, ◌++◌, ◌<◌, length, Option, Some, None}
 use Rattle.std.specs.Prelude.{MatchOption, filter, flat_map, fold, is_some, map, slice_get, if◌then◌else◌}
 use Rattle.std.specs.Arc.{arc_value}
@@ -22,7 +22,7 @@ use Rattle.redo_core.specs.declared.table.Stage.{Stage}
 use Rattle.redo_core.specs.declared.table.Stage.TheVariants.{Due, Checking, Waiting, Ready, Out, Decided}
 use Rattle.redo_core.specs.declared.table.Table.{Table}
 
--- more paths at their places in path order, each once
+-- these paths with more of them at their places in path order, each once
 abbrev pub placed : List (List ℕ) → List (List ℕ) → List (List ℕ)
 placed ps qs = fold (insert_key (slice_cmp nat_cmp)) ps qs
 
@@ -33,16 +33,16 @@ sources_among tree ps = filter (λ p. is_some (file_at tree p)) ps
 abbrev pub reported_paths : Tree → List (List ℕ) → Table → List (List ℕ)
 reported_paths tree request t = placed (placed [] t.targets) (sources_among tree request)
 
--- paths that are lent, each with its number if it is a target, as they are made into rows
+-- the paths of what is made into rows; each comes with its number if it is a target
 abbrev pub listed_paths : List (Bor (List ℕ) × Option ℕ) → List (List ℕ)
 listed_paths es = map (λ e. e.0.now) es
 
--- the number of a path among the targets, or none where it is no target
+-- the number of a path among the targets, or none if it isn't a target
 abbrev pub IsNumberOf : List (List ℕ) → List ℕ → Option ℕ → Type 0
 IsNumberOf targets p at = MatchOption at (IsAmong targets p → ⊥) (λ k. slice_get targets k ≡ Some p)
 
--- what a target comes to where nothing more can happen: what waits is cyclic, and one that waits in its check shows the
--- entries that it has seen
+-- what a target comes to if nothing more can happen: one that waits is cyclic, and one that waits in its check shows
+-- the entries that it has looked at
 abbrev pub IsShown : GivenView → Stage → Outcome → List Dep → Type 0
 IsShown given (Due held) outcome deps = ⊥
 IsShown given (Checking awaiting) outcome deps =
@@ -76,8 +76,8 @@ IsTold given (Decided fact) = Unit {0}
 abbrev pub AllTold : GivenView → Table → Type 0
 AllTold given t = (k : ℕ) (slot : Slot) → slice_get t.slots.items k ≡ Some slot → IsTold given slot.stage
 
--- whether the script of a target was begun: it was, where the target waits for what its script asked for, and wasn't,
--- where its check waits; and a fact tells
+-- whether the script of a target was begun: it was if the script waits, and wasn't if the check waits; else the fact
+-- says it
 abbrev pub IsBegunAs : Stage → Bool → Type 0
 IsBegunAs (Due held) begun = ⊥
 IsBegunAs (Checking awaiting) begun = begun ≡ false

@@ -18,7 +18,7 @@ abbrev pub script_turn : Script → ℕ
 script_turn (Unread unread) = 0
 script_turn (Begun begun) = begun.value.job.turn
 
--- what was asked for: before the script first stopped, by the check alone
+-- what was asked for: until the script first stops, by the check alone
 abbrev pub script_deps : Script → List Dep
 script_deps (Unread unread) = unread.value.facts.asked
 script_deps (Begun begun) = all_asked begun.value.job begun.value.facts
@@ -27,13 +27,13 @@ abbrev pub script_known : Script → List (List ℕ × Outcome)
 script_known (Unread unread) = known_in unread.value.facts
 script_known (Begun begun) = known_in begun.value.facts
 
--- an unread script has the rule that the search finds; it and a job have the outcomes of all that was asked for
+-- an unread script has the rule that the search finds; either has the outcomes of all that was asked for
 abbrev pub IsScriptOf : GivenView → Script → Type 0
 IsScriptOf given (Unread unread) =
     IsUnreadWork given unread.value.target (found_as unread.value.rule) unread.value.facts
 IsScriptOf given (Begun begun) = IsWorkWith given begun.value.job begun.value.facts
 
--- the job of a target before its first statement: it is a work with what its check came to know
+-- the job of a target before its first statement; with what its check has learned it is a work
 pub record IsBegunJob (given : GivenView) (target : List ℕ) (job : JobView) : Type 0 where
   pub of_target : job.target ≡ target
   pub at_first : job.turn ≡ 0

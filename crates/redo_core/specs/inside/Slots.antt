@@ -61,8 +61,7 @@ is_stage_out (Decided fact) = false
 abbrev pub rounds_of : Slot → ℕ
 rounds_of slot = slot.looks + slot.turn
 
--- what a target that stopped so many times asked for so far: of a job that is out, and of what is decided, the rules
--- tell
+-- what a target that has stopped `rounds` times has asked for so far; of one that is out or decided, the rules say it
 abbrev pub stage_deps : Rules → Ask → List ℕ → ℕ → Stage → List Dep
 stage_deps r a p rounds (Due held) = held.value.check.asked
 stage_deps r a p rounds (Checking awaiting) = awaiting.held.value.check.asked
@@ -71,7 +70,7 @@ stage_deps r a p rounds (Ready work) = work.deps
 stage_deps r a p rounds Out = deps_at_turn r p a rounds
 stage_deps r a p rounds (Decided fact) = (r.progress p a).deps
 
--- the entry that the slot of a path stands for, under the outcomes known
+-- the entry that the slot of a path stands for, given the known outcomes
 abbrev pub slot_entry : Rules → Ask → List ℕ → Slot → Entry
 slot_entry r a p slot = record {
   path = p;
@@ -115,11 +114,11 @@ abbrev pub state_of : Inside → State
 state_of b = state_from (rules_inside b) b.build.limits.targets b.table.targets b.table.slots.items
     b.table.ready.items
 
--- a slot whose job is parked has that job at its place
+-- the work is of this build, this path and this turn
 abbrev pub IsParked : GivenView → List ℕ → ℕ → WorkView → Type 0
 IsParked given p turn work = (work.given ≡ given) × (work.target ≡ p) × (work.turn ≡ turn)
 
--- the first so many paths have answers
+-- the first i paths have answers
 abbrev pub AnsweredBelow : Ask → List (List ℕ) → ℕ → Type 0
 AnsweredBelow a qs i = (k : ℕ) (q : List ℕ) → k < i → slice_get qs k ≡ Some q → a q ≡ None → ⊥
 
@@ -130,7 +129,7 @@ AreNumbers ps [] (q ∷ qs) = ⊥
 AreNumbers ps (n ∷ ns) [] = ⊥
 AreNumbers ps (n ∷ ns) (q ∷ qs) = (slice_get ps n ≡ Some q) × AreNumbers ps ns qs
 
--- all that these entries wait for has answers
+-- everything that these entries wait for has an answer
 abbrev pub AllAnswered : Rules → Ask → List Dep → Type 0
 AllAnswered r a deps = (q : List ℕ) → IsAmong (operands r deps) q → a q ≡ None → ⊥
 
@@ -156,14 +155,14 @@ pub record IsHeldWith (given : GivenView) (p : List ℕ) (turn : ℕ) (held : In
   pub at_first : turn ≡ 0
   pub none_behind : held.facts.asked ≡ []
 
--- a target whose check can go on, with the outcomes of all that it asked for, and no others
+-- a target whose check can go on, with the outcomes of exactly what it asked for
 pub record IsDueWith (r : Rules) (a : Ask) (given : GivenView) (p : List ℕ) (turn : ℕ) (held : InCheck) : Type 0 where
   pub is_held : IsHeldWith given p turn held
   pub is_due : IsDueCheck given p a held.check
   pub answered : AllAnswered r a held.check.asked
   pub exact : (q : List ℕ) → told_in held.facts q ≡ only (operands r held.check.asked) a q
 
--- a target whose check waits for a path, with the outcomes of all that it had asked for before, and no others
+-- a target whose check waits for a path, with the outcomes of exactly what it had asked for before
 pub record IsCheckingWith (r : Rules) (a : Ask) (given : GivenView) (p : List ℕ) (turn : ℕ) (awaiting : Awaiting)
     : Type 0 where
   pub is_held : IsHeldWith given p turn awaiting.held.value
@@ -230,7 +229,7 @@ abbrev pub ArePlacesOnce : List ℕ → Type 0
 ArePlacesOnce [] = Unit {0}
 ArePlacesOnce (i ∷ is) = (IsPlace is i → ⊥) × ArePlacesOnce is
 
--- the number stands in the list of an undecided path that these entries wait for
+-- the number is among the watchers of an undecided path that these entries wait for
 pub record IsWatched (r : Rules) (ps : List (List ℕ)) (slots : List Slot) (k : ℕ) (deps : List Dep) : Type 0 where
   pub at : ℕ
   pub other : Slot
@@ -256,7 +255,7 @@ pub record AreDue (slots : List Slot) (due : List ℕ) : Type 0 where
   pub due_is : (k : ℕ) (slot : Slot) → IsPlace due k → slice_get slots k ≡ Some slot → is_stage_due slot.stage ≡ true
   pub due_in : (k : ℕ) (slot : Slot) → slice_get slots k ≡ Some slot → is_stage_due slot.stage ≡ true → IsPlace due k
 
--- what waits is watched, but for those numbers that are still to be looked at
+-- everything that waits is watched, except the numbers still to be looked at
 abbrev pub AllWatched : Rules → ℕ → List (List ℕ) → List Slot → List ℕ → Type 0
 AllWatched r depth ps slots pending =
     (k : ℕ) (slot : Slot) → slice_get slots k ≡ Some slot → is_stage_waiting slot.stage ≡ true →
@@ -271,7 +270,7 @@ abbrev pub AllWatchersBelow : List Slot → Type 0
 AllWatchersBelow slots =
     (i k : ℕ) (slot : Slot) → slice_get slots i ≡ Some slot → IsPlace slot.watchers.items k → k < length slots
 
--- how a table stands, with the newly ready numbers
+-- the invariant of a table, with the newly ready numbers
 pub record IsTable (r : Rules) (given : GivenView) (ps : List (List ℕ)) (slots : List Slot) (ready due : List ℕ)
     (out : ℕ) (newly_ready : List ℕ) : Type 0 where
   pub one_each : length slots ≡ length ps
@@ -301,7 +300,7 @@ pub record IsKept (b : Inside) : Type 0 where
   pub watched : AllWatched (rules_inside b) b.build.limits.targets b.table.targets b.table.slots.items []
   pub none_due : b.table.due.keys ≡ []
 
--- a board keeps what it shows while it runs, and has stopped at the limit only where the build needs too many
+-- a running board keeps what it shows; one that has stopped at the limit is of a build that needs too many targets
 pub record IsBoard (b : Inside) : Type 0 where
   pub kept : IsNone b.stopped → IsKept b
   pub too_many : b.stopped ≡ Some TooMany → IsTooMany (rules_inside b) b.build.request b.build.limits.targets
@@ -326,11 +325,11 @@ pub record IsDecidedSlot (t : Table) (q : List ℕ) : Type 0 where
 abbrev pub IsDecidedNumber : Table → ℕ → Type 0
 IsDecidedNumber t n = (slot : Slot) × (slice_get t.slots.items n ≡ Some slot) × (is_stage_decided slot.stage ≡ true)
 
--- from one place to another all targets are decided
+-- the targets from one index up to another are decided
 abbrev pub AreDecidedFrom : Table → List ℕ → ℕ → ℕ → Type 0
 AreDecidedFrom t ns from to = (k n : ℕ) → from ≤ k → k < to → slice_get ns k ≡ Some n → IsDecidedNumber t n
 
--- the first place from one on whose target is undecided, and the target's number
+-- the first index from `from` on whose target is undecided, and that target's number
 pub record IsLackingAt (t : Table) (ns : List ℕ) (from i at : ℕ) : Type 0 where
   pub slot : Slot
   pub after : from ≤ i
@@ -339,7 +338,7 @@ pub record IsLackingAt (t : Table) (ns : List ℕ) (from i at : ℕ) : Type 0 wh
   pub there : slice_get t.slots.items at ≡ Some slot
   pub is_open : is_stage_decided slot.stage ≡ false
 
--- the entries of the table stand as those of a build
+-- the invariant of the schedule holds of the entries of the table
 abbrev pub IsStandingTable : GivenView → Table → Type 0
 IsStandingTable given t =
     (request : List (List ℕ)) ×
@@ -349,7 +348,7 @@ IsStandingTable given t =
 abbrev pub IsFactAt : Table → ℕ → Shown FactView → Type 0
 IsFactAt t n fact = (slot : Slot) × (slice_get t.slots.items n ≡ Some slot) × (slot.stage ≡ Decided fact)
 
--- one of these numbers is that of a target with a fact that tells this
+-- one of these numbers has a fact that gives this outcome of the path
 pub record IsToldBy (t : Table) (ns : List ℕ) (q : List ℕ) (o : Outcome) : Type 0 where
   pub k : ℕ
   pub n : ℕ
@@ -359,11 +358,11 @@ pub record IsToldBy (t : Table) (ns : List ℕ) (q : List ℕ) (o : Outcome) : T
   pub target : fact.value.target ≡ q
   pub outcome : fact.value.outcome ≡ o
 
--- the facts hold that of one number too
+-- the new facts have that of one number too
 abbrev pub GainsOne : Table → ℕ → Facts → Facts → Type 0
 GainsOne t n old new = (fact : Shown FactView) × IsFactAt t n fact × AddsFact fact.value old new
 
--- the facts hold those of the numbers before a place, and hold nothing else that is new
+-- the new facts have those of the numbers before an index, and nothing else that is new
 pub record GainsBelow (t : Table) (ns : List ℕ) (old new : Facts) (i : ℕ) : Type 0 where
   pub asked : new.asked ≡ old.asked
   pub kept : (q : List ℕ) → told_in new q ≡ None → told_in old q ≡ None
@@ -371,7 +370,7 @@ pub record GainsBelow (t : Table) (ns : List ℕ) (old new : Facts) (i : ℕ) : 
   pub known : (k n : ℕ) (fact : Shown FactView) → k < i → slice_get ns k ≡ Some n → IsFactAt t n fact →
       told_in new fact.value.target ≡ None → ⊥
 
--- the facts hold those of all the numbers, and hold nothing else that is new
+-- the new facts have those of all the numbers, and nothing else that is new
 abbrev pub Gains : Table → List ℕ → Facts → Facts → Type 0
 Gains t ns old new = GainsBelow t ns old new (length ns)
 
@@ -380,7 +379,7 @@ abbrev pub IsWaitingThere : Table → ℕ → Type 0
 IsWaitingThere t at =
     (slot : Slot) × (parked : Parked) × (slice_get t.slots.items at ≡ Some slot) × (slot.stage ≡ Waiting parked)
 
--- the operands of one parked job were looked at so far
+-- the operands of one parked job have been looked at up to `held`
 pub record IsHeldAt (t u : Table) (at held : ℕ) : Type 0 where
   pub old : Slot
   pub new : Slot
@@ -394,7 +393,7 @@ pub record IsHeldAt (t u : Table) (at held : ℕ) : Type 0 where
   pub slots : u.slots.items ≡ slice_set t.slots.items at new
   pub rest : (u.targets ≡ t.targets) × (u.ready ≡ t.ready) × (u.out ≡ t.out) × (u.due ≡ t.due)
 
--- one slot has another watcher
+-- one slot has one more watcher
 pub record IsWatchAdded (t u : Table) (at place : ℕ) : Type 0 where
   pub other : Slot
   pub new : Slot
@@ -406,7 +405,7 @@ pub record IsWatchAdded (t u : Table) (at place : ℕ) : Type 0 where
   pub slots : u.slots.items ≡ slice_set t.slots.items place new
   pub rest : (u.targets ≡ t.targets) × (u.ready ≡ t.ready) × (u.out ≡ t.out) × (u.due ≡ t.due)
 
--- one job is no longer parked, and ready
+-- one parked job is ready now
 pub record IsMadeReadyAt (given : GivenView) (t u : Table) (at : ℕ) : Type 0 where
   pub old : Slot
   pub new : Slot
@@ -424,7 +423,7 @@ pub record IsMadeReadyAt (given : GivenView) (t u : Table) (at : ℕ) : Type 0 w
   pub slots : u.slots.items ≡ slice_set t.slots.items at new
   pub rest : (u.targets ≡ t.targets) × (u.ready ≡ t.ready) × (u.out ≡ t.out) × (u.due ≡ t.due)
 
--- the check of a slot has the answer that it waited for: it can go on, or its script is begun
+-- the check of a slot has the answer that it waited for: it can go on, or its target is ready
 pub record IsResumedAt (given : GivenView) (t u : Table) (at : ℕ) (newly_ready newly_ready' : List ℕ) : Type 0 where
   pub old : Slot
   pub new : Slot
@@ -444,7 +443,7 @@ pub record IsResumedAt (given : GivenView) (t u : Table) (at : ℕ) (newly_ready
   pub due_is : u.due.keys ≡ (if is_stage_due new.stage then insert_key nat_cmp t.due.keys at else t.due.keys)
   pub newly_ready_is : newly_ready' ≡ newly_ready ++ (if is_stage_ready new.stage then at ∷ [] else [])
 
--- a check stands or falls with the answer of a decided target
+-- a check goes on or falls with the answer of a decided target
 pub record GoesOnWith (given : GivenView) (t : Table) (place : ℕ) (old new : Check) (stands : Bool) : Type 0 where
   pub fact : Shown FactView
   pub there : IsFactAt t place fact
@@ -473,7 +472,7 @@ pub record IsAnsweredAs (given : GivenView) (t : Table) (at : ℕ) (slot : Slot)
 abbrev pub IsAnswered : GivenView → Table → ℕ → Type 0
 IsAnswered given t at = (slot : Slot) × (awaiting : Awaiting) × IsAnsweredAs given t at slot awaiting
 
--- the job parked in this slot has all that a work has, but for the outcomes that are known and that it doesn't hold yet
+-- the job parked in this slot is a work once it holds the outcomes that are known
 pub record IsFedAs (given : GivenView) (t : Table) (at : ℕ) (slot : Slot) (parked : Parked) : Type 0 where
   pub there : slice_get t.slots.items at ≡ Some slot
   pub was : slot.stage ≡ Waiting parked
@@ -502,7 +501,7 @@ pub record IsLookedAt (given : GivenView) (t u : Table) (at : ℕ) : Type 0 wher
       AllWatched (rules_for given) given.limits.targets t.targets t.slots.items (at ∷ pending) →
       AllWatched (rules_for given) given.limits.targets u.targets u.slots.items pending
 
--- what a path that is seen for the first time is at once
+-- the first stage of a path
 abbrev pub IsBegun : GivenView → List ℕ → Stage → Type 0
 IsBegun given p (Due held) =
     ((a : Ask) → IsDueWith (rules_for given) a given p 0 held.value) × (held.value.check.asked ≡ []) ×
@@ -548,14 +547,14 @@ pub record AreEnteredInto (given : GivenView) (t u : Table) (newly_ready : List 
 abbrev pub IsEnteredInto : GivenView → Table → Table → List ℕ → List ℕ → Type 0
 IsEnteredInto given t u newly_ready p = AreEnteredInto given t u newly_ready (p ∷ [])
 
--- entering the paths passes the limit
+-- entering the paths exceeds the limit
 abbrev pub AreTooMany : Rules → ℕ → List Entry → List (List ℕ) → Type 0
 AreTooMany r limit es ps = limit < length (entered r es ps)
 
 abbrev pub IsFull : Rules → ℕ → List Entry → List ℕ → Type 0
 IsFull r limit es p = AreTooMany r limit es (p ∷ [])
 
--- of these numbers all but those left were looked at: the table shows the same entries
+-- all of these numbers but those left were looked at: the table shows the same entries
 pub record AreLookedAtBelow (given : GivenView) (t u : Table) (pending left : List ℕ) : Type 0 where
   pub entries : table_entries (rules_for given) given.limits.targets u ≡
       table_entries (rules_for given) given.limits.targets t
@@ -576,7 +575,7 @@ pub record AreEnqueued (t u : Table) (newly_ready : List ℕ) : Type 0 where
   pub queue : u.ready.items ≡ t.ready.items ++ sorted
   pub rest : (u.targets ≡ t.targets) × (u.slots ≡ t.slots) × (u.out ≡ t.out) × (u.due ≡ t.due)
 
--- the stage holds this fact, or this job with these operands and none of them looked at
+-- the stage holds this fact
 abbrev pub IsDecidedStage : FactView → Stage → Type 0
 IsDecidedStage fact (Due held) = ⊥
 IsDecidedStage fact (Checking awaiting) = ⊥
@@ -585,6 +584,7 @@ IsDecidedStage fact (Ready work) = ⊥
 IsDecidedStage fact Out = ⊥
 IsDecidedStage fact (Decided held) = held.value ≡ fact
 
+-- the stage holds this job, with these operands and none of them looked at
 abbrev pub IsParkedStage : Box Begun Global → Vec ℕ Global → Stage → Type 0
 IsParkedStage begun operands (Due held) = ⊥
 IsParkedStage begun operands (Checking awaiting) = ⊥
@@ -622,7 +622,7 @@ pub record IsParkedAt (t u : Table) (at : ℕ) (begun : Box Begun Global) (opera
   pub turn : new.turn ≡ old.turn + 1
   pub watchers : new.watchers ≡ old.watchers
 
--- a check waits for a path, of a target that was taken out for a look: it is to be looked at
+-- the check of a target that was taken out for a look waits for a path: it is to be looked at
 pub record IsAskedAt (t u : Table) (at : ℕ) (awaiting : Awaiting) : Type 0 where
   pub old : Slot
   pub new : Slot
@@ -638,14 +638,14 @@ IsOutThere t at =
     (0 < t.out) × ((slot : Slot) × (slice_get t.slots.items at ≡ Some slot) × (slot.stage ≡ Out) ×
     (rounds_of slot < 65536))
 
--- the state after what is out at a number is handed in, or is looked at
+-- the state after the target of a number is handed in, or is looked at
 abbrev pub state_after : GivenView → Phase → Table → ℕ → State
 state_after given phase t at =
     handed_in (rules_for given) phase (table_state (rules_for given) given.limits.targets t)
     (entry_of (table_entries (rules_for given) given.limits.targets t) (path_at t.targets at))
 
--- the table is that of a state that is reached, with nothing left to do, and the end is that of the job that is out at
--- the number
+-- the table is that of a reached state, with nothing left to do, and the end is that of the job that is out at the
+-- number
 pub record MayTakeIn (given : GivenView) (t : Table) (at : ℕ) (end : End) : Type 0 where
   pub reached : IsReached (rules_for given) given.request (table_state (rules_for given) given.limits.targets t)
   pub table : IsTableOf given t []
@@ -655,7 +655,7 @@ pub record MayTakeIn (given : GivenView) (t : Table) (at : ℕ) (end : End) : Ty
   pub is_out : slot.stage ≡ Out
   pub is_end : IsEndAt given (path_at t.targets at) slot.turn end
 
--- the entry of a target that is out, once a fact tells what it came to
+-- the entry of a target that was out, once this fact decides it
 abbrev pub concluded_entry : GivenView → List ℕ → Slot → FactView → Entry
 concluded_entry given p slot fact = record {
   path = p;
@@ -666,7 +666,7 @@ concluded_entry given p slot fact = record {
   is_out = false;
 }
 
--- the target at the number is out, and the entries stand as those of a build with this fact of it
+-- the target at the number is out; with this fact of it, the invariant of the schedule holds of the entries
 pub record MayConclude (given : GivenView) (t : Table) (at : ℕ) (fact : FactView) : Type 0 where
   pub table : IsTableOf given t []
   pub watched : AllWatched (rules_for given) given.limits.targets t.targets t.slots.items []
@@ -679,7 +679,7 @@ pub record MayConclude (given : GivenView) (t : Table) (at : ℕ) (fact : FactVi
       (put (table_entries (rules_for given) given.limits.targets t)
       (concluded_entry given (path_at t.targets at) slot fact))
 
--- the target is decided by the fact, and what watched it is looked at
+-- the target is decided by the fact, and what watched it was looked at
 pub record IsConcludedAt (given : GivenView) (t u : Table) (at : ℕ) (fact : FactView) (newly_ready : List ℕ)
     : Type 0 where
   pub table : IsTableOf given u newly_ready
@@ -750,12 +750,12 @@ pub record MayLook (given : GivenView) (t : Table) (at : ℕ) (held : Box InChec
   pub is_drawn : IsDrawnFrom given whole drawn at
   pub taken : IsTakenOut drawn t at held
 
--- a look came to this state
+-- the table is at rest after one look
 pub record IsLookedOnce (given : GivenView) (t u : Table) : Type 0 where
   pub at_rest : IsAtRest given u
   pub state : table_state (rules_for given) given.limits.targets u ≡ state_looked given t
 
--- the table is at rest, and shows this state after so many looks, with nothing more to look at
+-- the table is at rest, shows this state after some looks, and has nothing more to look at
 pub record IsMovedOn (given : GivenView) (after : State) (u : Table) : Type 0 where
   pub at_rest : IsAtRest given u
   pub looks : ℕ
@@ -777,7 +777,7 @@ pub record IsOutSlotAt (t : Table) (target : List ℕ) (turn at : ℕ) : Type 0 
   pub is_out : slot.stage ≡ Out
   pub at_turn : slot.turn ≡ turn
 
--- the paths that are no sources
+-- the paths that aren't sources
 abbrev pub targets_in : Rules → List (List ℕ) → List (List ℕ)
 targets_in r paths = filter (λ p. not (r.is_source p)) paths
 

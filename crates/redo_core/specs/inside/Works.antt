@@ -42,15 +42,15 @@ known_in facts = more_known facts.more ++ few_known facts.few.items
 abbrev pub told_in : Facts → Ask
 told_in facts = told_by (known_in facts)
 
--- what a job's target asked for so far: nothing, before the script first stopped
+-- what a job's script has asked for so far: nothing until it first stops
 abbrev pub job_deps : JobView → List Dep
 job_deps job = elim (job.turn) [ zero ↦ [] | suc n ↦ record_so_far job ]
 
--- all that a job's target asked for so far: in its check, and then in its script
+-- all that a job's target has asked for so far, in its check and then in its script
 abbrev pub all_asked : JobView → Facts → List Dep
 all_asked job facts = with_all facts.asked (job_deps job)
 
--- a fact is known now too, and nothing else is new: what was known keeps its answer
+-- one more fact is known, and nothing else is new
 pub record AddsFact (fact : FactView) (old new : Facts) : Type 0 where
   pub asked : new.asked ≡ old.asked
   pub kept : (q : List ℕ) → told_in new q ≡ None → told_in old q ≡ None
@@ -69,15 +69,15 @@ pub record IsJobOf (given : GivenView) (job : JobView) : Type 0 where
   pub found : found_of given.past.sources job.target ≡ Rule job.do_file job.missing job.arguments
   pub script : whole_of job ≡ script_in (unwrap_or (file_at given.past.sources job.do_file) [])
 
--- the job can go on under each ask that keeps these answers to what it declared
+-- the job can go on with any answers that keep these, to what it declared
 abbrev pub GoesOn : JobView → Ask → Type 0
 GoesOn job known = (later : Ask) → Keeps (job_setting job) job.state.entries known later → IsFit job later
 
--- what the search finds where there is this rule
+-- what the search finds if it finds this rule
 abbrev pub found_as : FoundRule → Found
 found_as rule = Rule rule.do_file rule.missing (arguments_view rule.args)
 
--- a work: a job at its turn, with the build's outcomes for all that it asked for, and for nothing else
+-- a work: a job at its turn, with the build's outcomes for exactly what it asked for
 pub record IsWorkWith (given : GivenView) (job : JobView) (facts : Facts) : Type 0 where
   pub is_job : IsJobOf given job
   pub is_work : IsWork (rules_for given) job.target job.turn (all_asked job facts)
@@ -90,8 +90,8 @@ pub record IsWorkWith (given : GivenView) (job : JobView) (facts : Facts) : Type
   pub goes_on : GoesOn job (told_in facts)
   pub few : job.turn < 65536
 
--- a work before its script is read: it has the rule that the search finds, and the build's outcomes for all that its
--- check asked for, and for nothing else
+-- a work before its script is read: it has the rule that the search finds, and the build's outcomes for exactly what
+-- its check asked for
 pub record IsUnreadWork (given : GivenView) (target : List ℕ) (found : Found) (facts : Facts) : Type 0 where
   pub is_found : found_of given.past.sources target ≡ found
   pub is_work : IsWork (rules_for given) target 0 facts.asked
@@ -99,8 +99,8 @@ pub record IsUnreadWork (given : GivenView) (target : List ℕ) (found : Found) 
       told_in facts q ≡ only (operands (rules_for given) facts.asked) (outcome_at (rules_for given) is_work.depth) q
   pub behind : IsBegunBehind given target facts.asked (told_in facts)
 
--- a job that stopped at a turn, behind so many looks: it is at the next, with the outcomes of the build at this depth
--- for all that it had asked for before
+-- a job that stopped at a turn, after `looks` stops of its check: it is at the next turn, with the outcomes of the
+-- build at this depth for what it had asked for before
 pub record IsStopped (given : GivenView) (depth looks : ℕ) (target : List ℕ) (turn : ℕ) (job : JobView) (facts : Facts)
     : Type 0 where
   pub is_job : IsJobOf given job
@@ -114,7 +114,7 @@ pub record IsStopped (given : GivenView) (depth looks : ℕ) (target : List ℕ)
   pub goes_on : GoesOn job (told_in facts)
   pub own : (sources_for given).progress target (told_in facts) ≡ record { outcome = None; deps = record_so_far job }
 
--- a work holds the outcomes of the build at some depth for all that it asked for, and no others
+-- a work holds the outcomes of the build at some depth, for exactly what it asked for
 pub record HoldsOutcomes (w : WorkView) : Type 0 where
   pub depth : ℕ
   pub fed : (q : List ℕ) → IsAmong (operands (rules_for w.given) w.deps) q →

@@ -24,7 +24,7 @@ use Rattle.redo_past.specs.declared.items.Item.TheVariants as items
 abbrev pub AreRows : List Row → Type 0
 AreRows rows = AreAscending (map (λ row. row.path) rows)
 
--- the map has the number of the row of each path that has one
+-- the map has the index of the row of each path that has one
 abbrev pub FindsRows : List (List ℕ × ℕ) → List Row → Type 0
 FindsRows numbers rows =
     (path : List ℕ) → option_and_then (slice_get rows) (lookup (bytes_eq path) numbers) ≡ row_at rows path
@@ -34,7 +34,7 @@ pub record StatesView : Type 0 where
   pub sources : Tree
   pub rows : List Row
 
--- what stands when a run ends that came to these rows
+-- what is at each path when a run ends with these rows
 abbrev pub states_after : PastView → List Row → StatesView
 states_after past rows = record { sources = past.sources; rows = rows }
 
@@ -42,7 +42,7 @@ states_after past rows = record { sources = past.sources; rows = rows }
 abbrev pub noted_text : StatesView → List Dep → List ℕ
 noted_text states deps = text_of (map entry_line (noted states.sources states.rows deps))
 
--- these lines have so many bytes, and each entry may stand in a book
+-- these lines have exactly n bytes, and a book can have each entry
 pub record AreSized (states : StatesView) (deps : List Dep) (n : ℕ) : Type 0 where
   pub size : n ≡ length (noted_text states deps)
   pub each : AllByRecursion IsEntry (noted states.sources states.rows deps)
@@ -51,7 +51,7 @@ abbrev pub is_top : List ℕ → Bool
 is_top [] = true
 is_top (byte ∷ bytes) = false
 
--- whether a row's target was built, which the top directory never is
+-- whether a row's target was built and isn't the top directory
 abbrev pub leaves_record : Row → Bool
 leaves_record row = is_built row.outcome && not (is_top row.path)
 
@@ -64,31 +64,31 @@ record_if_built sources rows row =
 abbrev pub built_records : Tree → List Row → List Record
 built_records sources rows = filter_map (record_if_built sources rows) rows
 
--- whether a row is one of a target that was built
+-- whether there is a row of a target that was built
 abbrev pub has_built : Option Row → Bool
 has_built None = false
 has_built (Some row) = is_built row.outcome
 
--- whether two answers are one
+-- whether two truth values are the same
 abbrev pub same_answer : Bool → Bool → Bool
 same_answer true b = b
 same_answer false b = not b
 
--- whether a record goes over into the new book, where its target's file is no source
+-- whether a record is carried into the new book, given that its target's file is no source
 abbrev pub carries : PastView → List Row → Record → Bool
 carries past rows r =
     same_answer (is_some r.state) (is_some (file_at past.tree r.target)) && (not (has_built (row_at rows r.target)) &&
     is_rule (found_of past.sources r.target))
 
--- whether a record's target stands before a path
+-- whether a record's target comes before a path
 abbrev pub is_before : List ℕ → Record → Bool
 is_before path r = is_lt (slice_cmp nat_cmp r.target path)
 
--- and whether it doesn't
+-- whether it doesn't
 abbrev pub is_behind : List ℕ → Record → Bool
 is_behind path r = not (is_before path r)
 
--- records that were built, and those of old ones that are kept, in one order
+-- new records, and the old ones that `keeps` picks, in one order
 abbrev pub joined : (Record → Bool) → List Record → List Record → List Record
 joined keeps [] old = filter keeps old
 joined keeps (r ∷ built) old =
@@ -107,11 +107,11 @@ abbrev pub record_in : StatesView → Item → Record
 record_in states (items.Built row) = new_record states.sources states.rows row.now
 record_in states (items.Carried r) = record_of r.now
 
--- its lines
+-- the lines of that record
 abbrev pub item_text : StatesView → Item → List ℕ
 item_text states item = text_of (record_lines (record_in states item))
 
--- a book may have a record of the item
+-- a book can have a record of the item
 abbrev pub IsSound : Item → Type 0
 IsSound (items.Built row) = row.now.path ≢ []
 IsSound (items.Carried r) = IsRecord (record_of r.now)
@@ -121,16 +121,16 @@ pub record AreItems (states : StatesView) (list : List Item) (records : List Rec
   pub are : map (record_in states) list ≡ records
   pub sound : AllByRecursion IsSound list
 
--- the report with this text as that of the book, which is the file of this number
+-- the report with this text as that of the book, which is the file at this index
 abbrev pub with_book_text : Report → ℕ → List ℕ → Report
 with_book_text report at text =
     record { rows = report.rows; files = with_item report.files at (book_path, text); begun = report.begun }
 
--- and so with the text of the new book
+-- the report with the text of the new book
 abbrev pub with_new_book : PastView → Report → ℕ → Report
 with_new_book past report at = with_book_text report at (new_text past report.rows.items)
 
--- the rows are in order and have these numbers, the book is one of the files, and its text has so many bytes
+-- the rows are in order and have these indices, the book is one of the files, and its text has exactly n bytes
 pub record IsRunReport (past : PastView) (report : Report) (numbers : List (List ℕ × ℕ)) (at n : ℕ) : Type 0 where
   pub rows : AreRows report.rows.items
   pub numbered : FindsRows numbers report.rows.items

@@ -12,16 +12,16 @@ pub record IsOutOn (board : BoardView) (work : WorkView) : Type 0 where
   pub given : work.given ≡ board.given
   pub is_out : IsOutAt board.state work.target work.turn
 
--- the board came to where it is by takes, pieces and looks
+-- takes, hand-ins and looks led to the state of the board
 abbrev pub HasCome : BoardView → Type 0
 HasCome board = (taken : List (List ℕ × ℕ)) × HasTaken board taken
 
--- all of them are, each of a target of its own
+-- all of these works are out, each of a different target
 abbrev pub AreOut : BoardView → List WorkView → Type 0
 AreOut board [] = Unit {0}
 AreOut board (work ∷ works) = IsOutOn board work × (IsAmong (targets_of works) work.target → ⊥) × AreOut board works
 
--- the pick was done, and the board has looked, or the pick isn't open and changed nothing
+-- the pick was done and the board has looked, or the pick isn't open and changed nothing
 abbrev pub IsPicked : Pick → BoardView → List WorkView → BoardView → List WorkView → Bool → Type 0
 IsPicked pick old works new after true =
     MatchOption (picked (rules_on old) (driven_on old works) pick) ⊥ (λ at.

@@ -11,7 +11,7 @@ use Rattle.redo_core.specs.declared.board.Stop.TheVariants.{TooMany}
 use Rattle.redo_report.specs.declared.report.Report.{Report}
 use Rattle.redo_sync.specs.Relay.{Pair, Shares, Source, Taker}
 
--- the source is of the same relay
+-- the source is of the same relay, with as many takers
 abbrev pub IsSameSource : Source → Source → Type 0
 IsSameSource old new = (new.relay ≡ old.relay) × (new.takers ≡ old.takers)
 
@@ -23,15 +23,15 @@ IsStaffed source takers = (length takers ≡ source.takers) × All (λ t. t.rela
 abbrev pub HasTakenOn : BoardView → BoardView → Type 0
 HasTakenOn old new = (taken : List Pair) → HasTaken old taken → HasTaken new taken
 
--- what a run has left once all workers are in: the board is of the build, all takers are back, and what the board has
--- taken is what was given
+-- what is left of a run once all workers have ended: the board is of the build, all takers are back, and what the board
+-- has taken is what was given
 pub record IsEnded (given : GivenView) (board : BoardView) (source : Source) (takers : List Taker) : Type 0 where
   pub of_build : board.given ≡ given
   pub staffed : IsStaffed source takers
   pub taken : HasTaken board source.given
 
--- a report is that of the build with the new book, its ledger shows each job taken once and those of its begun scripts,
--- and too many targets are answered where the build needs too many
+-- a report is that of the build with the new book; its ledger shows each job taken once, and at turn 0 exactly those of
+-- the begun scripts; too many targets come only from a build that needs too many
 pub record IsAnswerTo (given : GivenView) (answer : Result (Report × Shares) Stop) : Type 0 where
   pub report : IfOk answer (λ r. IsResult given r.0)
   pub none_left : IfOk answer (λ r. r.1.left ≡ [])

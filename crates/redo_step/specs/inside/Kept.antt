@@ -1,4 +1,4 @@
--- The redo-ifchange that a script waits at, of which the operands are known.
+-- The redo-ifchange that a script waits at, with its operands.
 use Rattle.std.specs.Prelude.{◌≡◌, ℕ, List, Option, None, Some, Result, Ok}
 use Rattle.redo_script.specs.Syntax.{Word, Command, change, Script, simple}
 use Rattle.redo_script.specs.declared.fault.ScriptFault.{ScriptFault}
@@ -13,7 +13,7 @@ use Rattle.redo_step.specs.Declaring.{declaring}
 use Rattle.redo_step.specs.inside.Stands.{Standing, stands_at}
 use Rattle.redo_step.specs.inside.Waiting.{targets_in}
 
--- It waits for the operands that this command's words name, and they are declared.
+-- This waits for the operands that the command's words name, and they are declared.
 pub record HasOperands (setting : Setting) (line : ℕ) (command : Command) (state : State) (waiting : Waiting) :
     Type 0 where
   pub words : List Word
@@ -24,7 +24,7 @@ pub record HasOperands (setting : Setting) (line : ℕ) (command : Command) (sta
   pub waits_for : waiting.targets.items ≡ targets_in setting operands
   pub declared : declaring state kinds.Change operands ≡ state
 
--- it is the first of these statements
+-- the redo-ifchange is the first of these statements
 pub record IsFirst (setting : Setting) (script : Script) (state : State) (waiting : Waiting) : Type 0 where
   pub line : ℕ
   pub command : Command
@@ -32,12 +32,12 @@ pub record IsFirst (setting : Setting) (script : Script) (state : State) (waitin
   pub here : script ≡ simple line command rest
   pub has : HasOperands setting line command state waiting
 
--- what is kept, if anything, is the first of these statements
+-- the redo-ifchange that is kept, if any, is the first of these statements
 abbrev pub IsKept : Standing → State → Option Waiting → Type 0
 IsKept here state None = Unit {0}
 IsKept here state (Some waiting) = IsFirst here.setting here.script state waiting
 
--- what is kept, if anything, is the statement at this place of the script
+-- the redo-ifchange that is kept, if any, is the statement at this place of the script
 abbrev pub IsKeptIn : Setting → Result Script ScriptFault → Place → State → Option Waiting → Type 0
 IsKeptIn setting whole place state kept =
     (script : Script) → whole ≡ Ok script → IsKept (stands_at place setting script) state kept

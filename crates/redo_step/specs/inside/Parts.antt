@@ -5,11 +5,11 @@ use Rattle.redo_script.specs.declared.ast.Part.{Part}
 use Rattle.redo_script.specs.declared.ast.Part.TheVariants as parts
 use Rattle.redo_step.specs.Value.{is_fit}
 
--- bytes that stand outside quotes, or none where they aren't fit
+-- these bytes, if they may stand outside quotes
 abbrev pub fit : List ℕ → Option (List ℕ)
 fit bytes = if is_fit bytes then Some bytes else None
 
--- what a part adds to a value, or none
+-- what a part adds to a value; none if it isn't fit
 abbrev pub added : (Parameter → List ℕ) → (List ℕ → List ℕ) → Part → Option (List ℕ)
 added parameters names (parts.Lit bytes) = Some bytes
 added parameters names (parts.Quoted p) = Some (parameters p)

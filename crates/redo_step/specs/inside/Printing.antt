@@ -5,7 +5,7 @@ use Rattle.redo_step.specs.declared.sink.Sink.{Sink}
 use Rattle.redo_step.specs.Formats.{takes_operands}
 use Rattle.redo_step.specs.inside.Sink.{Adds}
 
--- where operands are given, the format has a place for one
+-- if there are operands, the format has a place for one
 abbrev pub HasPlaces : List FormatPart → List (List ℕ) → Type 0
 HasPlaces pieces [] = Unit {0}
 HasPlaces pieces (text ∷ texts) = takes_operands pieces ≡ true

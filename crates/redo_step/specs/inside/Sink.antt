@@ -5,22 +5,22 @@ use Rattle.redo_step.specs.declared.halt.Halt.{Halt}
 use Rattle.redo_step.specs.Runs.{End}
 use Rattle.redo_step.specs.inside.Machine.{end_by, IsMeant}
 
--- a sink that began with a base was given more: it holds both, unless they are too long
+-- a sink that began with `base` and was given `more` holds both, unless they are too long
 pub record Holds (base more : List ℕ) (sink : Sink) : Type 0 where
   pub over : sink.is_over ≡ not (nat_le (length (base ++ more)) sink.limit)
   pub all : sink.is_over ≡ false → sink.bytes.items ≡ base ++ more
 
--- what it held stands first still
+-- the old bytes are still in front
 abbrev pub Grows : Sink → Sink → Type 0
 Grows old new = (rest : List ℕ) × (new.bytes.items ≡ old.bytes.items ++ rest)
 
--- it was given more
+-- the sink was given these bytes
 pub record Adds (more : List ℕ) (old new : Sink) : Type 0 where
   pub limit : new.limit ≡ old.limit
   pub grows : Grows old new
   pub holds : (base before : List ℕ) → Holds base before old → Holds base (before ++ more) new
 
--- A command gave the sink the bytes that are meant, or stopped as is meant. What was held stands first still, unless
+-- A command gave the sink the bytes that are meant, or stopped as is meant. The old bytes are still in front, unless
 -- memory ran out.
 abbrev pub Fills : {X : Type 0} → Result X Halt → Result (List ℕ) End → Sink → Sink → Type 0
 Fills (Ok x) meant old new = (bytes : List ℕ) × (meant ≡ Ok bytes) × Adds bytes old new

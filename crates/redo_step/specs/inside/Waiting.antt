@@ -7,11 +7,11 @@ use Rattle.redo_step.specs.Setting.{Setting}
 use Rattle.redo_step.specs.Runs.{State, faulted, stopped, Run, goes, ends}
 use Rattle.redo_record.specs.Answers.{Ask, is_failure}
 
--- those of these paths that are no sources
+-- the paths among these that aren't sources
 abbrev pub targets_in : Setting → List Path → List Path
 targets_in setting ps = filter (λ p. is_none (setting.source p)) ps
 
--- those of these targets that have no answer, each once, behind those found before
+-- the targets that have no answer, each once, behind those found before
 abbrev pub unanswered : Ask → List Path → List Path → List Path
 unanswered ask found ps = with_new found (filter (λ p. is_none (ask p)) ps)
 
@@ -20,7 +20,7 @@ abbrev pub any_failure : Ask → List Path → Bool
 any_failure ask [] = false
 any_failure ask (p ∷ ps) = is_failure (ask p) || any_failure ask ps
 
--- a wait for these targets, of which those have no answer: it stops, fails by Depends, or goes on
+-- a wait for targets, given those that have no answer: it stops, fails with Depends, or goes on
 abbrev pub waited_on : Ask → ℕ → List Path → List Path → State → Run
 waited_on ask line ps [] s = if any_failure ask ps then ends (faulted (why.Depends line)) s else goes s
 waited_on ask line ps (q ∷ qs) s = ends (stopped (q ∷ qs)) s

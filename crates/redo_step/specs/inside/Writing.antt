@@ -21,7 +21,7 @@ writing_of (writings.Cat texts) = cat texts.items
 abbrev pub content_of : Setting → Ask → List Dep → ℕ → List ℕ → Result (List ℕ) End
 content_of setting ask es line text = file_of setting ask es line text >>= or_else (exited 1)
 
--- these bytes, and behind them what the command writes
+-- these bytes, followed by what the command writes
 abbrev pub appended : Setting → Ask → List Dep → ℕ → Writer (List ℕ) → List ℕ → Result (List ℕ) End
 appended setting ask es line w before =
     bytes_of setting ask es line w >>= λ bytes. limited setting line (before ++ bytes)
