@@ -48,12 +48,6 @@ class Refusing:
     def close(self):
         self.room.cleanup()
 
-    def __enter__(self):
-        return self
-
-    def __exit__(self, *_):
-        self.close()
-
     def run(self, words, text, kind, first, last=None, error=None, most=WITHOUT_END, **more):
         """Runs the program, with the calls of a kind refused from the first to the last, or the first alone, and with
         reads and writes of so many bytes at most. Answers what it came to, and the counts."""
