@@ -271,7 +271,6 @@ def mutated(chance, text):
     for _ in range(chance.randint(1, 4)):
         at = chance.randint(0, len(text))
         to = min(len(text), at + chance.randint(1, 12))
-        numbers = list(re.finditer(rb"[0-9]+", text))
         kind = chance.randrange(8)
         if kind == 0:
             text = text[:at] + text[to:]
@@ -279,8 +278,8 @@ def mutated(chance, text):
             text = text[:to] + text[at:]
         elif kind == 2:
             text = text[:at] + text[at:to][::-1] + text[to:]
-        elif kind == 3 and numbers:
-            number = chance.choice(numbers)
+        elif kind == 3 and (found := list(re.finditer(rb"[0-9]+", text))):
+            number = chance.choice(found)
             text = text[: number.start()] + chance.choice(NUMBERS) + text[number.end() :]
         elif kind == 4:
             text = text[:at] + b" " + chance.choice(WORDS) + chance.choice([b" ", b"\n"]) + text[at:]
