@@ -1,10 +1,13 @@
-"""What the scripts beside this file share: the program under test, bundles, and what a run came to."""
+"""What the scripts beside this file share: the program under test, bundles, what a run came to, and the class of all
+tests. A script runs by itself, too: `tests/builds -k ring -v` runs what has `ring` in its name, and tells of each."""
 
 import os
+import re
 import signal
 import subprocess
 import sys
 import tempfile
+import unittest
 from collections import namedtuple
 from threading import Timer
 
@@ -23,15 +26,19 @@ Took = namedtuple("Took", "seconds mib")
 SPINNING = 5
 
 
+TOP = os.path.dirname(os.path.dirname(os.path.abspath(__file__)))
+# Whether a script is to say more than what failed.
+IS_TOLD = bool({"-v", "--verbose"} & {*sys.argv[1:]})
+
+
 def find():
     """The program's path: what REDO names, or the one that bin/redo runs, which is built first where there is none."""
     named = os.environ.get("REDO")
     if named:
         return os.path.abspath(named)
-    top = os.path.dirname(os.path.dirname(os.path.abspath(__file__)))
-    subprocess.run([top + "/bin/redo", "--version"], stdout=subprocess.DEVNULL, check=True)
-    which = subprocess.run([top + "/bin/redo", "--built"], stdout=subprocess.PIPE, text=True, check=True).stdout
-    return f"{top}/{which.partition(':')[0]}"
+    subprocess.run([TOP + "/bin/redo", "--version"], stdout=subprocess.DEVNULL, check=True)
+    which = subprocess.run([TOP + "/bin/redo", "--built"], stdout=subprocess.PIPE, text=True, check=True).stdout
+    return f"{TOP}/{which.partition(':')[0]}"
 
 
 REDO = find()
@@ -119,6 +126,11 @@ def room():
     return tempfile.TemporaryDirectory()
 
 
+def redo(words):
+    """A line of the program's on standard error."""
+    return f"redo: {words}\n".encode()
+
+
 def made(built):
     """The files that a run built."""
     return {path: text for path, text in built.files.items() if path != BOOK}
@@ -130,22 +142,56 @@ def shown(value):
     return text if len(text) <= 3000 else text[:3000] + ".."
 
 
-class Tests:
-    """Says what isn't as expected, and remembers that something wasn't."""
+def each(table):
+    """Of a method that takes the items of a row: makes a test of each row of a table, named by the method and by the
+    row's first item."""
 
-    def __init__(self):
-        self.good = True
+    def mark(method):
+        method.rows = [*table]
+        return method
 
-    def fail(self, name, message):
-        self.good = False
-        print(f"{name}: {message}")
+    return mark
+
+
+class Case(unittest.TestCase):
+    """Tests that compare what runs come to with what is expected. Each check has a name, and one that fails doesn't
+    keep those behind it from being made."""
+
+    def __init_subclass__(cls):
+        super().__init_subclass__()
+        for name, method in list(vars(cls).items()):
+            if hasattr(method, "rows"):
+                delattr(cls, name)
+                for row in method.rows:
+                    cls.add(name, method, row)
+
+    @classmethod
+    def add(cls, name, method, row):
+        """Adds the test of one row. Of rows whose names are alike the later ones are numbered."""
+        word = re.sub(r"\W+", "_", str(row[0]))[:60].strip("_")
+        first = full = f"{name}_{word}"
+        number = 1
+        while full in vars(cls):
+            number += 1
+            full = f"{first}_{number}"
+
+        def test(self):
+            method(self, *row)
+
+        test.__doc__ = method.__doc__
+        setattr(cls, full, test)
+
+    def wrong(self, name, message):
+        """Says what is wrong with the case of a name, and goes on."""
+        with self.subTest(name):
+            self.fail(message)
 
     def equal(self, name, what, found, expected):
         """Says so where something that a run came to isn't what was expected."""
         if found != expected:
-            self.fail(name, f"{what} is\n  {shown(found)}\nexpected\n  {shown(expected)}")
+            self.wrong(name, f"{what} is\n  {shown(found)}\nexpected\n  {shown(expected)}")
 
-    def run(self, name, words, text, status, out, said=b"", **more):
+    def answers(self, name, words, text, status, out, said=b"", **more):
         """Runs the program, and compares all that it answered, where something is expected of it."""
         found = run(words, text, **more)
         self.equal(name, "the exit status", found.status, status)
@@ -153,19 +199,22 @@ class Tests:
         self.equal(name, "standard error", found.said, said)
 
     def build(self, name, tree, targets, status, report):
-        """Builds targets over a tree with 1 and with 8 workers, which is to come to the same. The report is given without
-        the new book."""
+        """Builds targets over a tree with 1 and with 8 workers, which is to come to the same. The report is given
+        without the new book."""
         report = with_book(tree, report)
         for jobs in "1", "8":
-            self.run(f"{name}, -j {jobs}", ["-j", jobs, "-k", "--bundle", *targets], bundle(tree), status, report)
+            self.answers(f"{name}, -j {jobs}", ["-j", jobs, "-k", "--bundle", *targets], bundle(tree), status, report)
 
     def came_to(self, name, jobs, tree, requested):
         """Makes a run over a tree, which is to come to a report and to say nothing else."""
-        found = run(["-j", jobs, "-k", "--bundle", "--", *requested], bundle(tree))
+        return self.built(name, run(["-j", jobs, "-k", "--bundle", "--", *requested], bundle(tree)))
+
+    def built(self, name, found):
+        """What a run over a bundle has built, which is to come to a report and to say nothing else."""
         self.equal(name, "standard error", found.said, b"")
         split = parts(found.out)
         if split is None:
-            self.fail(name, "standard output isn't a report")
+            self.wrong(name, "standard output isn't a report")
         return Built(found.status, *(split or (found.out, {})))
 
     def book(self, name, tree, built):
@@ -174,9 +223,9 @@ class Tests:
         self.equal(name, "the book", built.files.get(BOOK), expected)
 
     def skips(self, name, tree, requested, found, plain):
-        """Compares a run over a tree, whose book is true, with one over its sources alone: they come to the same, but that
-        the former begins no script of a target that it keeps. Where one is cyclic, the same becomes of what both need.
-        Answers which targets are kept."""
+        """Compares a run over a tree, whose book is true, with one over its sources alone: they come to the same, but
+        that the former begins no script of a target that it keeps. Where one is cyclic, the same becomes of what both
+        need. Answers which targets are kept."""
         self.equal(name, "the status", found.status, plain.status)
         if b"\ncyclic " not in b"\n" + plain.head:
             stays = kept(states(tree), book_of(tree), requested or ["all"], plain.head, made(plain))
@@ -189,8 +238,8 @@ class Tests:
         return set()
 
     def history(self, name, tree, runs):
-        """Makes runs one after another, over bundles, and over directories with 1 and with 8 workers. Each run has what is
-        changed before it, the targets, the exit status and the report without the new book."""
+        """Makes runs one after another, over bundles, and over directories with 1 and with 8 workers. Each run has what
+        is changed before it, the targets, the exit status and the report without the new book."""
         self.over_bundles(name, tree, runs)
         for jobs in "1", "8":
             self.over_a_directory(name, tree, runs, jobs)
@@ -211,10 +260,6 @@ class Tests:
                 tree = changed(tree, changes)
                 head, files = parts(with_book(tree, report))
                 row = ["-j", jobs, "-k", "-C", place, *targets.split()]
-                self.run(title, row, None, status, head, stdin=subprocess.DEVNULL)
+                self.answers(title, row, None, status, head, stdin=subprocess.DEVNULL)
                 tree = {**tree, **files}
                 self.equal(title, "what stands there", standing(place), all_bytes(tree))
-
-    def finish(self):
-        """Ends the script, with status 0 where all was as expected."""
-        sys.exit(0 if self.good else 1)

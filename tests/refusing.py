@@ -11,7 +11,7 @@ from collections import namedtuple
 from errno import EAGAIN, EIO, ENOMEM, ENOSPC
 
 sys.dont_write_bytecode = True
-from program import run
+from program import Case, run
 
 # The kinds of calls, as `refuse.c` numbers them, each with the error that a refused one answers.
 KINDS = {
@@ -35,23 +35,22 @@ Counts = namedtuple("Counts", [*KINDS, "refused"])
 
 
 class Refusing:
-    """A library that refuses calls, for `with`."""
+    """A library that refuses calls."""
 
-    def __enter__(self):
+    def __init__(self):
         self.room = tempfile.TemporaryDirectory()
         self.library = self.room.name + "/refuse.so"
         kit = os.path.dirname(subprocess.run(["rt", "doc"], stdout=subprocess.PIPE, check=True).stdout.decode())
         source = os.path.join(os.path.dirname(os.path.abspath(__file__)), "refuse.c")
         how = "-shared -fPIC -O2 -nostdlib -fuse-ld=lld".split()
         subprocess.run([kit + "/toolchain/bin/clang", *how, "-o", self.library, source], check=True)
-        return self
 
-    def __exit__(self, *_):
+    def close(self):
         self.room.cleanup()
 
     def run(self, words, text, kind, first, last=None, error=None, most=WITHOUT_END, **more):
-        """Runs the program, with the calls of a kind refused from the first to the last, or the first alone, and with reads
-        and writes of so many bytes at most. Answers what it came to, and the counts."""
+        """Runs the program, with the calls of a kind refused from the first to the last, or the first alone, and with
+        reads and writes of so many bytes at most. Answers what it came to, and the counts."""
         counts = f"{self.room.name}/{threading.get_ident()}"
         with open(counts, "wb") as file:
             file.write(bytes(8 * len(Counts._fields)))
@@ -61,3 +60,12 @@ class Refusing:
         found = run(words, text, env={**os.environ, **refuse}, **more)
         with open(counts, "rb") as file:
             return found, Counts._make(struct.unpack(f"={len(Counts._fields)}Q", file.read()))
+
+
+class RefusingCase(Case):
+    """Tests in which calls are refused."""
+
+    @classmethod
+    def setUpClass(cls):
+        cls.refusing = Refusing()
+        cls.addClassCleanup(cls.refusing.close)
