@@ -1,6 +1,6 @@
 -- What a run over a directory comes to. What the directory holds is known to no contract: it has the tree by what it
 -- answered when it was listed and looked at.
-use Rattle.std.specs.Prelude.{◌≡◌, ◌↔◌, ◌++◌, ◌⊎◌, Bool, false, not, IsTrue, IsSome, IsUtf8, ℕ, List, Option, Result}
+use Rattle.std.specs.Prelude.{◌≡◌, ◌↔◌, ◌++◌, ◌⊎◌, Bool, true, false, not, IsTrue, IsSome, IsUtf8, ℕ, List, Option, Result}
 use Rattle.std.specs.Prelude.{Ok, Err, Some, None, bytes_eq, filter, nat_eq, slice_get, map, take}
 use Rattle.std.specs.Cmp.Lexicographic.{pointwise}
 use Rattle.std.specs.Option.{option_eq}
@@ -63,12 +63,15 @@ IsUnbuilt tree options (Store place) = ⊥
 IsUnbuilt tree options Device = ⊥
 IsUnbuilt tree options Memory = Unit {0}
 
--- where no file of the tree is the book: something stands in its place all the same, or the system doesn't tell
-abbrev pub IsNoBook : (List ℕ → Option Node → Type 0) → (List ℕ → ErrorKind → Type 0) → Tree → LoadFault → Type 0
-IsNoBook leads refuses tree (load.Device path kind) =
-    (path ≡ book_path) × (file_at tree book_path ≡ None) ×
-    (((node : Option Node) × leads book_path node) ⊎ refuses book_path kind)
-IsNoBook leads refuses tree load.Memory = Unit {0}
+-- what was told to stand in the place of the book is no file of the tree
+abbrev pub IsBlocked : (List ℕ → Option Node → Type 0) → Tree → Bool → Type 0
+IsBlocked leads tree false = Unit {0}
+IsBlocked leads tree true = (file_at tree book_path ≡ None) × (node : Option Node) × leads book_path node
+
+-- a call at the path was refused by this error
+abbrev pub IsRefusedBy : (List ℕ → ErrorKind → Type 0) → LoadFault → Type 0
+IsRefusedBy refuses (load.Device path kind) = refuses path kind
+IsRefusedBy refuses load.Memory = Unit {0}
 
 -- what stands in the place of the book is no file of the tree that was loaded
 pub record HasNoBook (lists : List ℕ → List (Option (List ℕ)) → Type 0) (leads : List ℕ → Option Node → Type 0) : Type 0 where

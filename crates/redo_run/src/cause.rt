@@ -5,6 +5,7 @@ use redo_path::Path;
 use redo_tree::Content;
 use std::alloc::Global;
 use std::io::ErrorKind;
+use thiserror::Error;
 
 /// Where a run failed, for messages: no contract speaks of it. Hand in a new one for each run.
 #[derive(Drop)]
@@ -13,8 +14,19 @@ pub struct Cause {
     pub header: Vec<u8>,
     /// The path of what could not be read or stored: in a directory the path below it, which is empty for itself.
     pub place: Vec<u8>,
-    /// What the system said of it.
-    pub said: Option<ErrorKind>,
+    /// What is wrong with it.
+    pub said: Option<Said>,
+}
+
+/// What is wrong with a place of a directory.
+#[derive(Clone, Copy, Debug, Error)]
+pub enum Said {
+    /// The system refused a call, and said this.
+    #[error("{0}")]
+    System(ErrorKind),
+    /// Something stands in the place of the book that is no file.
+    #[error("the book has to be a plain file")]
+    NoFile,
 }
 
 impl Cause {
@@ -27,8 +39,8 @@ impl Cause {
         }
     }
 
-    /// Notes a path, and what the system said of it.
-    pub(crate) fn note(&mut self, path: &Path, said: ErrorKind) {
+    /// Notes a path, and what is wrong with it.
+    pub(crate) fn note(&mut self, path: &Path, said: Said) {
         self.place.clear();
         if self.place.extend_from_slice(path.text()).is_ok() {
             self.said = Some(said);
@@ -43,7 +55,7 @@ impl Cause {
             StoreFault::Memory(_) => return,
         };
         if let Some((path, _)) = files.get(place) {
-            self.note(path, said);
+            self.note(path, Said::System(said));
         }
     }
 }

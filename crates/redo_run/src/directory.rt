@@ -5,7 +5,7 @@ ghost use Rattle.std.specs.Arc.{arc_value};
 ghost use Rattle.redo_dir.specs.Loaded.{IsLoaded};
 ghost use Rattle.redo_dir.specs.Stored.{puts_in};
 ghost use Rattle.redo_run.specs.DirFaults.{of_load};
-ghost use Rattle.redo_run.specs.Directories.{FallsInList, IsBuilt, IsFaultOf, IsNoBook, IsUnbuilt, IsUnread, IsUnwritten};
+ghost use Rattle.redo_run.specs.Directories.{FallsInList, IsBuilt, IsBlocked, IsFaultOf, IsRefusedBy, IsUnbuilt, IsUnread, IsUnwritten};
 ghost use Rattle.redo_run.specs.Directories.{ListsTree, ReportsTree, StoresPart, changed_from, stands_in};
 ghost use Rattle.redo_run.specs.Directories.{with_book_last as in_order_of_storing};
 ghost use Rattle.redo_which.specs.Candidates.{book_path};
@@ -14,7 +14,7 @@ use crate::candidates::text_of_search;
 use crate::exit::exit_after;
 use crate::request::requested;
 use crate::workers::{build_over, past_of};
-use crate::{Cause, Exit, Observer, Options, RunDirFault};
+use crate::{Cause, Exit, Observer, Options, RunDirFault, Said};
 use redo_bundle::{ByteOut, write_all};
 use redo_dir::{LoadFault, Seen, StoreFault, WorkDir, load_dir, store_files};
 use redo_path::Path;
@@ -96,7 +96,7 @@ fn unread(cause: &mut Cause, fault: LoadFault) -> RunDirFault
     ensures { result ≡ of_load fault }
 {
     if let LoadFault::Device(path, kind) = &fault {
-        cause.note(path, *kind);
+        cause.note(path, Said::System(*kind));
     }
     RunDirFault::from(fault)
 }
@@ -108,21 +108,27 @@ fn book_path_of(alloc: Global) -> Result<Path, AllocError>
     Path::of_text(alloc, BOOK)
 }
 
-/// Refuses what stands in the place of the book and is no file of the tree: a link, say. A run without its book would take
-/// each file for a source.
-fn check_book<D: WorkDir>(dir: &D, alloc: Global, tree: &Tree) -> Result<(), LoadFault>
-    ensures { IfErr result (IsNoBook (D.leads dir.now) (D.refuses dir.now) tree.now) }
+/// Whether something stands in the place of the book that is no file of the tree: a link, say. A run without its book
+/// would take each file for a source.
+fn is_blocked<D: WorkDir>(
+    dir: &D,
+    alloc: Global,
+    tree: &Tree,
+    book: &Path,
+) -> Result<bool, LoadFault>
+    requires { book.now ≡ book_path }
+    ensures blocked { IfOk result (IsBlocked (D.leads dir.now) tree.now) }
+    ensures refused { IfErr result (IsRefusedBy (D.refuses dir.now)) }
 {
-    let book = book_path_of(alloc)?;
-    if tree.content(&book).is_some() {
-        return Ok(());
+    if tree.content(book).is_some() {
+        return Ok(false);
     }
-    match dir.look(alloc, &book) {
-        Ok(_) => Err(LoadFault::Device(book, ErrorKind::InvalidData)),
+    match dir.look(alloc, book) {
+        Ok(_) => Ok(true),
         Err(error) => match error.kind() {
-            ErrorKind::NotFound => Ok(()),
+            ErrorKind::NotFound => Ok(false),
             ErrorKind::OutOfMemory => Err(LoadFault::Memory),
-            kind => Err(LoadFault::Device(book, kind)),
+            kind => Err(LoadFault::Device(book.clone()?, kind)),
         },
     }
 }
@@ -146,7 +152,7 @@ where
     }
 }
 
-/// The same for a build, which reads the book.
+/// The same for a build, which needs a book that is a file.
 fn load_with_book<T: Threads + Sync, D: WorkDir + Sync>(
     rt: &T,
     alloc: Global,
@@ -160,8 +166,13 @@ where
     ensures unread { IfErr result (IsUnread (D.lists dir.now) (D.leads dir.now) (D.refuses dir.now)) }
 {
     let (tree, passed) = load(rt, alloc, dir, workers, cause)?;
-    match check_book(dir, alloc, &tree) {
-        Ok(()) => Ok((tree, passed)),
+    let book = book_path_of(alloc)?;
+    match is_blocked(dir, alloc, &tree, &book) {
+        Ok(false) => Ok((tree, passed)),
+        Ok(true) => {
+            cause.note(&book, Said::NoFile);
+            Err(RunDirFault::Load)
+        }
         Err(fault) => Err(unread(cause, fault)),
     }
 }

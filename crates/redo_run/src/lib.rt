@@ -41,7 +41,7 @@ mod run_fault;
 mod workers;
 
 pub use bundle::{run_bundle, whichdo_bundle};
-pub use cause::Cause;
+pub use cause::{Cause, Said};
 pub use dir_fault::RunDirFault;
 pub use directory::{DirRun, run_dir, whichdo_dir};
 pub use exit::Exit;

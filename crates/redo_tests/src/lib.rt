@@ -11,6 +11,7 @@
 //! - `observers`: which jobs workers take up, and how many at a time;
 //! - `ends`: a writer that fails at any of its calls;
 //! - `answers`: calls that no run makes;
+//! - `memory_dir`: a directory in memory; `work_dirs`: runs over one;
 //! - `memory`: what a call that is refused memory leaves; `tests/refused-memory` refuses it.
 #![tactic(auto)]
 
@@ -23,6 +24,8 @@ mod ends;
 #[cfg(test)]
 mod memory;
 #[cfg(test)]
+mod memory_dir;
+#[cfg(test)]
 mod observers;
 #[cfg(test)]
 mod picks;
@@ -32,3 +35,5 @@ mod pieces;
 mod relay;
 #[cfg(test)]
 mod trees;
+#[cfg(test)]
+mod work_dirs;

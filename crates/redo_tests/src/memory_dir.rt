@@ -1,0 +1,180 @@
+//! A directory in memory, which a run works in as in one of the system: its calls can be made to fail, and its names can
+//! be those of a system that takes capital letters for small ones.
+
+ghost use Rattle.std.specs.Prelude.{map};
+ghost use Rattle.redo_dir.specs.Stored.{put_of};
+
+use redo_dir::{Drafted, Seen, WorkDir};
+use redo_path::Path;
+use redo_tree::Content;
+use std::alloc::{AllocError, Global};
+use std::io;
+use std::io::ErrorKind;
+use std::sync::atomic::AtomicU64;
+use std::sync::atomic::Ordering::SeqCst;
+
+/// What stands at a path: a directory, a file, or a link.
+#[derive(Drop)]
+pub(crate) enum Node {
+    Directory,
+    File(Content),
+    Link,
+}
+
+/// A file that got its name.
+#[derive(Drop)]
+pub(crate) struct Named {
+    pub path: Path,
+    pub content: Content,
+    pub over: bool,
+}
+
+/// A draft that waits for its name.
+#[derive(Drop)]
+pub(crate) struct MemoryDraft {
+    path: Path,
+    content: Content,
+}
+
+impl Drafted for MemoryDraft {
+    ghost drafted = { λ d. (d.path, d.content) };
+}
+
+/// The directory.
+#[derive(Drop)]
+pub(crate) struct MemoryDir {
+    pub nodes: Vec<(Path, Node)>,
+    pub named: Vec<Named>,
+    /// Whether `A` and `a` are one name.
+    pub folds_case: bool,
+    /// The call that fails, counted from 1.
+    pub fails_at: u64,
+    calls: AtomicU64,
+}
+
+impl MemoryDir {
+    /// An empty directory, of which no call fails.
+    pub(crate) fn new(alloc: Global) -> MemoryDir {
+        MemoryDir {
+            nodes: Vec::new(alloc),
+            named: Vec::new(alloc),
+            folds_case: false,
+            fails_at: 0,
+            calls: AtomicU64::new(0),
+        }
+    }
+
+    /// How many calls were made.
+    pub(crate) fn calls(&self) -> u64 {
+        self.calls.load(SeqCst)
+    }
+
+    /// Counts a call, and fails where it is its turn.
+    fn count_call(&self) -> io::Result<()> {
+        let before = self.calls.fetch_add(1, SeqCst);
+        if before.wrapping_add(1) == self.fails_at {
+            return Err(io::Error::from(ErrorKind::PermissionDenied));
+        }
+        Ok(())
+    }
+
+    /// Whether the directory takes two paths for one.
+    fn is_same(&self, left: &Path, right: &Path) -> bool {
+        if self.folds_case {
+            left.text().eq_ignore_ascii_case(right.text())
+        } else {
+            left.text() == right.text()
+        }
+    }
+
+    /// Whether something stands at a path.
+    fn is_taken(&self, path: &Path) -> bool {
+        self.nodes.iter().any(|node| self.is_same(&node.0, path))
+    }
+}
+
+/// A copy of a file's bytes.
+fn copied(alloc: Global, content: &Content) -> Result<Vec<u8>, AllocError> {
+    let mut bytes = Vec::new(alloc);
+    bytes.extend_from_slice(content.bytes())?;
+    Ok(bytes)
+}
+
+/// A name as a listing answers it.
+fn listed(alloc: Global, path: &Path) -> Result<Option<String>, AllocError> {
+    match str::from_utf8(path.name()) {
+        Ok(text) => Ok(Some(String::from_str(alloc, text)?)),
+        Err(_) => Ok(None),
+    }
+}
+
+impl WorkDir for MemoryDir {
+    ghost lists = { λ _ _ _. Unit {0} };
+
+    ghost leads = { λ _ _ _. Unit {0} };
+
+    ghost refuses = { λ _ _ _. Unit {0} };
+
+    ghost stored = { λ d. map (λ n. put_of (n.path, n.content) n.over) d.named.items };
+
+    type Draft = MemoryDraft;
+
+    fn list(&self, alloc: Global, dir: &Path) -> io::Result<Vec<Option<String>>> {
+        self.count_call()?;
+        let mut names = Vec::new(alloc);
+        for (path, _) in &self.nodes {
+            if path.parent_text() == Some(dir.text()) {
+                names.push(listed(alloc, path)?)?;
+            }
+        }
+        Ok(names)
+    }
+
+    fn look(&self, alloc: Global, path: &Path) -> io::Result<Seen> {
+        self.count_call()?;
+        for (other, node) in &self.nodes {
+            if self.is_same(other, path) {
+                return match node {
+                    Node::Directory => Ok(Seen::Directory),
+                    Node::File(content) => Ok(Seen::File(copied(alloc, content)?)),
+                    Node::Link => Ok(Seen::Other),
+                };
+            }
+        }
+        Err(io::Error::from(ErrorKind::NotFound))
+    }
+
+    fn draft(
+        &self,
+        _alloc: Global,
+        path: &Path,
+        content: &Content,
+        _number: u64,
+    ) -> io::Result<MemoryDraft> {
+        self.count_call()?;
+        Ok(MemoryDraft {
+            path: path.clone()?,
+            content: content.clone()?,
+        })
+    }
+
+    fn put(&mut self, draft: MemoryDraft, over: bool) -> io::Result<()> {
+        self.count_call()?;
+        if !over && self.is_taken(&draft.path) {
+            return Err(io::Error::from(ErrorKind::AlreadyExists));
+        }
+        let MemoryDraft { path, content } = draft;
+        self.named.push(Named {
+            path,
+            content,
+            over,
+        })?;
+        Ok(())
+    }
+
+    fn count(&self) -> usize {
+        self.named.len()
+    }
+
+    fn discard(&self, _draft: MemoryDraft) {}
+}

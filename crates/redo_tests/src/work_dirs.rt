@@ -1,0 +1,128 @@
+//! Runs over a directory in memory.
+
+use crate::memory_dir::{MemoryDir, Node};
+use crate::trees::{limits_of, paths_of};
+use redo_bundle::Plain;
+use redo_path::{Path, resolve};
+use redo_run::{Cause, Exit, NoObserver, Options, RunDirFault, run_dir};
+use redo_tree::Content;
+use std::alloc::Global;
+use std::sync::Wait;
+use std::test::Fail;
+use std::thread::Threads;
+
+/// The path that a word names.
+fn path_of(alloc: Global, word: &str) -> Result<Path, Fail> {
+    Ok(resolve(alloc, &Path::root(), word.as_bytes())?)
+}
+
+/// A file with this text.
+fn file_of(alloc: Global, text: &str) -> Result<Node, Fail> {
+    let mut bytes = Vec::new(alloc);
+    bytes.extend_from_slice(text.as_bytes())?;
+    Ok(Node::File(Content::new(bytes)?))
+}
+
+/// A directory with two rules, of which one lies in a directory below, a link, and a file with a capital letter.
+fn small_dir(alloc: Global) -> Result<MemoryDir, Fail> {
+    let mut dir = MemoryDir::new(alloc);
+    dir.nodes
+        .push((path_of(alloc, "a.do")?, file_of(alloc, "echo a\n")?))?;
+    dir.nodes.push((path_of(alloc, "below")?, Node::Directory))?;
+    dir.nodes.push((path_of(alloc, "below/b.do")?, file_of(alloc, "echo b\n")?))?;
+    dir.nodes.push((path_of(alloc, "link")?, Node::Link))?;
+    dir.nodes
+        .push((path_of(alloc, "C")?, file_of(alloc, "mine\n")?))?;
+    dir.nodes
+        .push((path_of(alloc, "c.do")?, file_of(alloc, "echo c\n")?))?;
+    Ok(dir)
+}
+
+/// What a run came to: whether all was made and how many names were passed over, or why it has no report.
+fn ran<H: Threads + Wait + Sync>(
+    rt: &H,
+    alloc: Global,
+    dir: &mut MemoryDir,
+    targets: &str,
+    workers: usize,
+) -> Result<Result<(Exit, u64), RunDirFault>, Fail> {
+    let options = Options {
+        targets: paths_of(alloc, targets)?,
+        workers,
+        limits: limits_of(9)?,
+    };
+    let mut writer = Plain::new(Vec::new(alloc));
+    let mut cause = Cause::new(alloc);
+    let outcome = run_dir(
+        rt,
+        alloc,
+        dir,
+        &mut writer,
+        &options,
+        &NoObserver,
+        &mut cause,
+    );
+    Ok(outcome.map(|run| (run.exit, run.passed)))
+}
+
+/// The paths of the files that got their names, in order.
+fn named(alloc: Global, dir: &MemoryDir) -> Result<String, Fail> {
+    let mut text = String::new(alloc);
+    for file in &dir.named {
+        text.push_str(str::from_utf8(file.path.text())?)?;
+        text.push(' ')?;
+    }
+    Ok(text)
+}
+
+#[test]
+fn files_are_stored_in_path_order_and_the_book_last(rt: HostRuntime) -> Result<(), Fail> {
+    let alloc = rt.alloc();
+    for workers in [1, 3] {
+        let mut dir = small_dir(alloc)?;
+        let outcome = ran(&rt, alloc, &mut dir, "below/b a", workers)?;
+        assert_eq!(rt; outcome, Ok((Exit::Good, 1)));
+        assert_eq!(rt; named(alloc, &dir)?.as_str(), "a below/b .redo-book ");
+    }
+    Ok(())
+}
+
+#[test]
+fn each_call_that_fails_is_told(rt: HostRuntime) -> Result<(), Fail> {
+    let alloc = rt.alloc();
+    let mut whole = small_dir(alloc)?;
+    let _all = ran(&rt, alloc, &mut whole, "below/b a", 1)?;
+    // Two directories are listed, six names and the book's place looked at, and three files written and named.
+    assert_eq!(rt; whole.calls(), 15);
+    for call in 1..16u64 {
+        let mut dir = small_dir(alloc)?;
+        dir.fails_at = call;
+        let outcome = ran(&rt, alloc, &mut dir, "below/b a", 1)?;
+        let expected = if call <= 9 {
+            RunDirFault::Load
+        } else {
+            RunDirFault::Store(((call - 10) / 2) as usize)
+        };
+        assert_eq!(rt; outcome, Err(expected));
+        let stored = if call <= 9 {
+            0
+        } else {
+            ((call - 10) / 2) as usize
+        };
+        assert_eq!(rt; dir.named.len(), stored);
+    }
+    Ok(())
+}
+
+#[test]
+fn another_spelling_of_a_name_is_left_as_it_is(rt: HostRuntime) -> Result<(), Fail> {
+    let alloc = rt.alloc();
+    let mut dir = small_dir(alloc)?;
+    dir.folds_case = true;
+    assert_eq!(rt;
+        ran(&rt, alloc, &mut dir, "a c", 1)?,
+        Err(RunDirFault::Store(1))
+    );
+    assert_eq!(rt; named(alloc, &dir)?.as_str(), "a ");
+    Ok(())
+}
