@@ -4,15 +4,16 @@ ghost use Rattle.crossbeam_deque.specs.Handles.{worker_deque, worker_flavor, wor
 ghost use Rattle.redo_sync.specs.Relay.{SharesOut, taken_by};
 ghost use Rattle.redo_sync.specs.inside.Rule.{hand};
 
-use crate::rule::{Cut, Drain, Finished, Hand, Learn, Numbered, ShareOut};
+use crate::rule::{Cut, Drain, Hand, Numbered, ShareOut};
 use crate::source::JobSource;
 use crate::taker::JobTaker;
 use crossbeam_deque::Worker;
 use std::alloc::{AllocError, Global};
-use std::marker::{Brand, Model};
+use std::marker::Model;
 
-/// What became of the jobs of a relay: each was taken once, or is left. Only [`gather`] makes one. In a contract it is
-/// the numbers of the jobs that were given, of those that were taken and of those that are left.
+/// What became of the jobs of a relay: each was taken once, or is left. Only [`gather`] makes one, of a source that gave
+/// jobs of this type. In a contract it is the numbers of the jobs that were given, of those that were taken and of those
+/// that are left.
 #[derive(Drop)]
 pub struct Ledger<T: Numbered> {
     deque: Worker<T, Global, Hand, ShareOut>,
@@ -41,38 +42,6 @@ impl<T: Numbered> Ledger<T> {
     {
         self.left.as_slice()
     }
-}
-
-impl<T: Numbered + Drop> Ledger<T> {
-    /// The same ledger, as one of jobs of another type that go by the same numbers: as of jobs that were wrapped while
-    /// they were handed on. None may be left.
-    pub fn of<U: Numbered>(alloc: Global, ledger: &Ledger<U>) -> Result<Ledger<T>, AllocError>
-        requires { ledger.now.left ≡ [] }
-        ensures { IfOk result (λ l. l ≡ ledger.now) }
-    {
-        let mut deque = Worker::fifo_as(alloc, 1)?;
-        learn::<T, U, Brand>(&mut deque, ledger);
-        Ok(Ledger {
-            deque,
-            left: Vec::new(alloc),
-        })
-    }
-}
-
-/// Lets the user of an empty queue know what a ledger says.
-fn learn<T: Numbered + Drop, U: Numbered, K: Finished>(
-    deque: &mut Worker<T, Global, Hand, ShareOut>,
-    ledger: &Ledger<U>,
-)
-    requires none_left { ledger.now.left ≡ [] }
-    requires lists { (ledger.now.given ≡ K.given) × (ledger.now.taken ≡ K.taken) }
-    requires first { worker_view deque.old ≡ hand 66 [] [] [] }
-    ensures view { worker_view deque.new ≡ hand 66 K.given K.taken [] }
-    ensures shared_out { SharesOut K.given K.taken [] }
-{
-    // The ledger's own fact, that what was given was shared out.
-    let _left = ledger.left();
-    let _pass = deque.another::<Learn<K>>();
 }
 
 /// Ends a relay: takes in all takers of the source, and the jobs that they left. It is refused only where some job is
