@@ -15,7 +15,6 @@ use crate::scripts::begun;
 use redo_path::Path;
 use redo_record::Deps;
 use redo_step::{Job, Step, more_answers};
-use redo_sync::Numbered;
 use redo_which::Rule;
 use std::alloc::{AllocError, Global};
 use std::marker::Model;
@@ -231,19 +230,6 @@ impl Work {
                 advance_job(given, number, job, facts)
             }
         }
-    }
-}
-
-/// A relay tells jobs apart by their target and turn.
-impl Numbered for Work {
-    ghost number = { λ w. (w.target, w.turn) };
-
-    fn target(&self) -> &Path {
-        Work::target(self)
-    }
-
-    fn turn(&self) -> u64 {
-        Work::turn(self)
     }
 }
 

@@ -4,10 +4,11 @@ use Rattle.std.proofs.Common.{Result, Err}
 use Rattle.std.proofs.Math.ListN.{get_or-map}
 use Rattle.std.proofs.lemmas.List.{length-map, map-append}
 use Rattle.redo_build.specs.Takes.{is_at, times_taken, AreBegun, AreCountedOnce, IsTaken}
-use Rattle.redo_core.specs.Build.{GivenView}
 use Rattle.redo_core.specs.declared.board.Stop.{Stop}
 use Rattle.redo_core.specs.declared.board.Stop.TheVariants.{Memory}
 use Rattle.redo_report.specs.declared.report.Report.{Report}
+use Rattle.redo_step.specs.Limits.{LimitsView}
+use Rattle.redo_tree.specs.Tree.{Tree}
 use Rattle.redo_sync.specs.Relay.{Pair, RelayId, Shares, SharesOut, Source, Taker}
 use Rattle.redo_run.specs.inside.Workers.{IsAnswerTo, IsSameSource, IsStaffed}
 
@@ -49,7 +50,8 @@ one_back us ts u t same e =
     ∙ sym (map-append relay_of ts (t ∷ []))
 
 -- a build that met want of memory answers so
-pub without_memory : (given : GivenView) (answer : Result (Report × Shares) Stop) → answer ≡ Err Memory → IsAnswerTo given answer
-without_memory given answer is =
-    let P : Result (Report × Shares) Stop → Type 0 = IsAnswerTo given in
+pub without_memory : (tree : Tree) (request : List (List ℕ)) (limits : LimitsView) (answer : Result (Report × Shares) Stop) → answer ≡ Err Memory
+    → IsAnswerTo tree request limits answer
+without_memory tree request limits answer is =
+    let P : Result (Report × Shares) Stop → Type 0 = IsAnswerTo tree request limits in
     subst P (sym is) record { report = tt; none_left = tt; once = tt; begun = tt; too_many = λ e. absurd cc }

@@ -7,3 +7,4 @@ pub mod SoundLemmas
 pub mod StaysOutLemmas
 pub mod ToldLemmas
 pub mod CrossingLemmas
+pub mod KeepingExamples

@@ -34,6 +34,7 @@ use Rattle.redo_report.specs.declared.report.Row.{Row}
 use Rattle.redo_core.specs.Build.{GivenView, checks_for, plain_rules_for, rules_for, sources_for}
 use Rattle.redo_core.specs.Results.{IsGiven, IsResult, IsResultOn, NeedsTooMany}
 use Rattle.redo_core.specs.TreeSources.{HasHonestBook, IsTrueOfTrees}
+use Rattle.redo_run.proofs.OpenedLemmas.{OnePast, one_given}
 use Rattle.redo_run.specs.Skipping.{Agrees, IsSoundFor, KeepsSafely, but_book, told_by_row}
 
 -- ---- reports of one build
@@ -206,9 +207,6 @@ Skips = (given : GivenView) →
     outcome_at (plain_rules_for given) given.limits.targets p ≡ None → ⊥) → HasHonestBook given →
     IsSkipping (sources_for given) (checks_for given) given.request given.limits.targets
 
-abbrev OnePast : Type 0
-OnePast = (past other : PastView) → IsPast past → IsPast other → past.tree ≡ other.tree → past ≡ other
-
 abbrev StaysTree : Type 0
 StaysTree = (tree : Tree) (out : List (List ℕ)) → IsTree tree → IsTree (without tree out)
 
@@ -270,23 +268,16 @@ module _ (skip : Skips) (true_again : TrueAgain) (one_past : OnePast) (stays : S
     }
 
   module _ (tree : Tree) (request : List (List ℕ)) (limits : LimitsView) where
-    -- only one thing is given the tree, the request and the limits
-    one-given : (given other : GivenView) → IsGiven tree request limits given → IsGiven tree request limits other → given ≡ other
-    one-given given other is also =
-        let same : given.past ≡ other.past = one_past given.past other.past is.of_tree.is_past also.of_tree.is_past (is.of_tree.of_tree ∙ sym also.of_tree.of_tree) in
-        let asked = is.requested ∙ sym also.requested in let bound = is.within ∙ sym also.within in
-        λ i. record { past = same i; request = asked i; limits = bound i }
-
     pub sound-on : (result : Report) → IsTree tree → IsResultOn tree request limits result →
         (given : GivenView) → IsGiven tree request limits given → IsSoundFor given result
     sound-on result is_tree is given this =
         let P : GivenView → Type 0 = λ g. IsResult g result in
         sound-given given (subst IsTree (sym this.of_tree.of_tree) is_tree) this.of_tree.is_past result
-        (subst P (one-given is.0 given is.1 this) is.2)
+        (subst P (one_given one_past tree request limits is.0 given is.1 this) is.2)
 
     pub unsafe-on : NeedsTooMany tree request limits → (given : GivenView) → IsGiven tree request limits given → KeepsSafely given → ⊥
     unsafe-on many given this safe =
         let P : GivenView → Type 0 = λ g. IsTooMany (rules_for g) g.request g.limits.targets in
-        let over : IsTooMany (rules_for given) given.request given.limits.targets = subst P (one-given many.0 given many.1 this) many.2 in
+        let over : IsTooMany (rules_for given) given.request given.limits.targets = subst P (one_given one_past tree request limits many.0 given many.1 this) many.2 in
         let few = (skip given safe.within safe.none_cyclic safe.honest).within in
         omega (arith, over, few)

@@ -3,6 +3,7 @@ pub mod DirFaults
 pub mod Directories
 pub mod Exits
 pub mod Faults
+pub mod Jobs
 pub mod Picks
 pub mod RunFaults
 pub mod Runs

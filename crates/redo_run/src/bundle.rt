@@ -48,7 +48,7 @@ pub fn run_bundle<H: Threads + Wait + Sync, R: ByteIn, W: ByteOut, O: Observer>(
     let tree = read_bundle_by_line(alloc, reader, &mut cause.header)?;
     let request = requested(alloc, &options.targets)?;
     let past = past_of(rt, alloc, tree, options.workers)?;
-    let (report, _ledger) = build_over(
+    let report = build_over(
         rt,
         alloc,
         past,

@@ -35,7 +35,7 @@ impl<B: Build> Model for EndedDesk<B> {
 
     ghost use Rattle.redo_run.specs.inside.Workers.{IsEnded};
 
-    ghost invariant = { λ d. IsEnded B.given d.board d.source d.takers.items };
+    ghost invariant = { λ d. IsEnded B.tree B.request B.limits d.board d.source d.takers.items };
 }
 
 /// Sends what is left of a run out of the scope of its threads. The channel has room for it, and its receiver waits

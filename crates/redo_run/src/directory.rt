@@ -200,7 +200,7 @@ fn build<H: Threads + Wait + Sync, O: Observer>(
     let request = requested(alloc, &options.targets)?;
     let past = past_of(rt, alloc, tree, options.workers)?;
     let tree = Arc::try_clone(past.tree())?;
-    let (report, _ledger) = build_over(
+    let report = build_over(
         rt,
         alloc,
         past,

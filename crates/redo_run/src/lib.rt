@@ -47,6 +47,7 @@ pub use directory::{DirRun, run_dir, whichdo_dir};
 pub use exit::Exit;
 pub use fault::RunIoFault;
 pub use observer::{NoObserver, Observer};
+pub use of_build::{Build, JobOf};
 pub use one::build_one;
 pub use options::Options;
 pub use picks::{Pick, drive};

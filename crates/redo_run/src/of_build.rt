@@ -4,6 +4,7 @@
 //! piece is compared with the board when the program runs.
 
 ghost use Rattle.std.specs.Prelude.{◌≡◌};
+ghost use Rattle.redo_run.specs.Jobs.{IsWhatIsGiven};
 
 use crate::crew::Advance;
 use crate::observer::Observer;
@@ -13,38 +14,48 @@ use redo_sync::Numbered;
 use std::alloc::AllocError;
 use std::marker::{Brand, PhantomData};
 
-/// A build, named by what it is given. It has no value when the program runs.
+/// The build that workers are at, by the tree that it is over, what is requested and its limits. It has no value when
+/// the program runs.
 pub trait Build {
-    ghost use Rattle.redo_core.specs.Build.{GivenView};
+    ghost use Rattle.std.specs.Prelude.{List, ℕ};
+    ghost use Rattle.redo_step.specs.Limits.{LimitsView};
+    ghost use Rattle.redo_tree.specs.Tree.{Tree};
 
-    ghost given: { GivenView };
+    /// The tree as it was read.
+    ghost tree: { Tree };
+
+    /// What is requested.
+    ghost request: { List (List ℕ) };
+
+    /// How large it may grow.
+    ghost limits: { LimitsView };
 }
 
 impl Build for Brand {
     ghost use Rattle.std.specs.Prelude.{[]};
     ghost use Rattle.redo_tree.specs.Tree.{top};
 
-    ghost given = { record {
-      past = record { tree = top; sources = top; book = [] };
-      request = [];
-      limits = record { targets = 1; file_bytes = 1 };
-    } };
+    ghost tree = { top };
+
+    ghost request = { [] };
+
+    ghost limits = { record { targets = 1; file_bytes = 1 } };
 }
 
-/// A job of this build, on its way to a worker.
+/// A job of this build, on its way to a worker. It holds a work, which only a board of this build can have given.
 #[derive(Drop)]
-pub(crate) struct JobOf<B: Build> {
-    pub work: Work,
+pub struct JobOf<B: Build> {
+    work: Work,
     build: PhantomData<B>,
-    ghost given: { work.given ≡ B.given },
+    ghost of_build: { IsWhatIsGiven B.tree B.request B.limits work.given },
 }
 
 /// A piece of this build, on its way to the owner.
 #[derive(Drop)]
 pub(crate) struct PieceOf<B: Build> {
-    pub piece: Piece,
+    piece: Piece,
     build: PhantomData<B>,
-    ghost given: { piece.given ≡ B.given },
+    ghost of_build: { IsWhatIsGiven B.tree B.request B.limits piece.given },
 }
 
 /// What a worker sends: a piece, or that it ran out of memory.
@@ -52,8 +63,8 @@ pub(crate) type Message<B> = Result<PieceOf<B>, AllocError>;
 
 impl<B: Build> JobOf<B> {
     /// A work of this build.
-    pub fn new(work: Work) -> JobOf<B>
-        requires { work.given ≡ B.given }
+    pub(crate) fn new(work: Work) -> JobOf<B>
+        requires { IsWhatIsGiven B.tree B.request B.limits work.given }
         ensures { result.work ≡ work }
     {
         JobOf {
@@ -85,7 +96,7 @@ impl<B: Build> PieceOf<B> {
     /// The piece, which is of this build.
     pub fn into_piece(self) -> Piece
         ensures piece { result ≡ self.piece }
-        ensures given { result.given ≡ B.given }
+        ensures of_build { IsWhatIsGiven B.tree B.request B.limits result.given }
     {
         let PieceOf { piece, build: _ } = self;
         piece

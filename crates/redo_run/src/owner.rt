@@ -3,6 +3,7 @@
 ghost use Rattle.std.specs.Prelude.{◌≡◌, ◌<◌, Err, IsNone, OnOk};
 ghost use Rattle.redo_build.specs.Outcomes.{IsTooMany};
 ghost use Rattle.redo_core.specs.Faults.{IsSameBuild};
+ghost use Rattle.redo_core.specs.Results.{IsGiven};
 ghost use Rattle.redo_core.specs.Taken.{HasTaken};
 ghost use Rattle.redo_core.specs.Views.{limit_on, ready_count, request_on, rules_on};
 ghost use Rattle.redo_run.specs.inside.Workers.{HasTakenOn, IsSameSource};
@@ -13,6 +14,7 @@ use crate::of_build::{Build, JobOf, Message, PieceOf};
 use crossbeam_channel::Receiver;
 use redo_core::board::{Board, HandFault, Stop};
 use redo_core::laws::what_was_taken;
+use redo_past::laws::a_tree_has_one_past;
 use redo_sync::{JobSource, JobTaker};
 use std::alloc::AllocError;
 use std::sync::Wait;
@@ -30,13 +32,15 @@ fn give_newest<B: Build>(
     source: &mut JobSource<JobOf<B>>,
 ) -> Result<(), AllocError>
     requires ready { 0 < ready_count board.old }
-    requires of_build { board.old.given ≡ B.given }
+    requires of_build { IsGiven B.tree B.request B.limits board.old.given }
     ensures source { IsSameSource source.old source.new }
     ensures build { IsSameBuild board.old board.new }
     ensures running { OnOk result (IsNone board.new.stopped) }
     ensures taken { OnOk result (HasTaken board.old source.old.given → HasTaken board.new source.new.given) }
 {
     what_was_taken();
+    // The work is of the build that the type names.
+    a_tree_has_one_past();
     let work = board.take(board.ready() - 1)?;
     match source.give(JobOf::new(work)) {
         Ok(()) => Ok(()),
@@ -46,7 +50,7 @@ fn give_newest<B: Build>(
 
 /// Hands a piece in.
 fn hand_in<B: Build, R: Wait>(rt: &R, board: &mut Board, piece: PieceOf<B>) -> Result<(), Stop>
-    requires of_build { board.old.given ≡ B.given }
+    requires of_build { IsGiven B.tree B.request B.limits board.old.given }
     requires running { IsNone board.old.stopped }
     ensures build { IsSameBuild board.old board.new }
     ensures running { OnOk result (IsNone board.new.stopped) }
@@ -72,7 +76,7 @@ fn call_for_newest<B: Build, R: Wait>(
     lines: &Lines<'_, Message<B>>,
 ) -> Result<(), AllocError>
     requires ready { 0 < ready_count board.old }
-    requires of_build { board.old.given ≡ B.given }
+    requires of_build { IsGiven B.tree B.request B.limits board.old.given }
     ensures source { IsSameSource source.old source.new }
     ensures build { IsSameBuild board.old board.new }
     ensures running { OnOk result (IsNone board.new.stopped) }
@@ -96,7 +100,7 @@ fn advance_newest<B: Build, R: Wait, O: Observer>(
     observer: &O,
 ) -> Result<(), Stop>
     requires ready { 0 < ready_count board.old }
-    requires of_build { board.old.given ≡ B.given }
+    requires of_build { IsGiven B.tree B.request B.limits board.old.given }
     ensures source { IsSameSource source.old source.new }
     ensures taker { taker.new.relay ≡ taker.old.relay }
     ensures build { IsSameBuild board.old board.new }
@@ -120,7 +124,7 @@ fn receive<B: Build, R: Wait>(
     board: &mut Board,
     messages: &Receiver<Message<B>>,
 ) -> Result<(), Stop>
-    requires of_build { board.old.given ≡ B.given }
+    requires of_build { IsGiven B.tree B.request B.limits board.old.given }
     requires running { IsNone board.old.stopped }
     ensures build { IsSameBuild board.old board.new }
     ensures running { OnOk result (IsNone board.new.stopped) }
@@ -152,7 +156,7 @@ pub(crate) fn own<B: Build, R: Wait, O: Observer>(
     lines: &Lines<'_, Message<B>>,
     observer: &O,
 ) -> Result<(), Stop>
-    requires of_build { board.old.given ≡ B.given }
+    requires of_build { IsGiven B.tree B.request B.limits board.old.given }
     requires running { IsNone board.old.stopped }
     ensures source { IsSameSource source.old source.new }
     ensures taker { taker.new.relay ≡ taker.old.relay }

@@ -8,7 +8,7 @@
 ghost use Rattle.std.specs.Prelude.{◌≡◌, ◌≤◌, Err, [], IfOk, IsNone, IsTrue, ℕ};
 ghost use Rattle.redo_build.specs.Outcomes.{IsTooMany};
 ghost use Rattle.redo_build.specs.Takes.{AreBegun, AreCountedOnce};
-ghost use Rattle.redo_core.specs.Results.{IsRefused, IsResultOn, NeedsTooMany};
+ghost use Rattle.redo_core.specs.Results.{IsGiven, IsRefused, IsResultOn, NeedsTooMany};
 ghost use Rattle.redo_core.specs.Taken.{HasTaken};
 ghost use Rattle.redo_core.specs.Views.{limit_on, request_on, rules_on};
 ghost use Rattle.redo_sync.specs.Relay.{SharesOut, taken_by};
@@ -26,7 +26,6 @@ use crate::run_fault::RunFault;
 use redo_build::laws::counts_tell;
 use redo_core::board::{Board, Stop};
 use redo_core::laws::what_was_taken;
-use redo_core::work::Work;
 use redo_past::{Past, RunReport};
 use redo_path::Path;
 use redo_report::Report;
@@ -53,8 +52,8 @@ fn answer_of<B: Build, R: Threads + Wait + Sync>(
     alloc: Global,
     desk: EndedDesk<B>,
     threads: usize,
-) -> Result<(RunReport, Ledger<Work>), Stop>
-    ensures { IsAnswerTo B.given result }
+) -> Result<(RunReport, Ledger<JobOf<B>>), Stop>
+    ensures { IsAnswerTo B.tree B.request B.limits result }
 {
     what_was_taken();
     counts_tell();
@@ -70,7 +69,6 @@ fn answer_of<B: Build, R: Threads + Wait + Sync>(
     if !is_all_taken(&ledger) {
         never(rt)
     }
-    let ledger = Ledger::of(alloc, &ledger)?;
     let report = board.finish()?.with_digests_by(rt, alloc, threads)?;
     Ok((report, ledger))
 }
@@ -84,7 +82,7 @@ fn run_crew<'s, E, B: Build + Send + Sync + 's, R: Threads + Wait + Sync, O: Obs
     alloc: Global,
     desk: Desk<B>,
 ) -> Result<EndedDesk<B>, Stop>
-    requires of_build { desk.board.given ≡ B.given }
+    requires of_build { IsGiven B.tree B.request B.limits desk.board.given }
     requires running { IsNone desk.board.stopped }
     requires some { 1 ≤ desk.source.takers }
     requires staffed { IsStaffed desk.source desk.takers.items }
@@ -128,7 +126,7 @@ fn run_in_scope<B: Build + Send + Sync, R: Threads + Wait + Sync, O: Observer>(
     alloc: Global,
     desk: Desk<B>,
 ) -> Result<EndedDesk<B>, Stop>
-    requires of_build { desk.board.given ≡ B.given }
+    requires of_build { IsGiven B.tree B.request B.limits desk.board.given }
     requires running { IsNone desk.board.stopped }
     requires some { 1 ≤ desk.source.takers }
     requires staffed { IsStaffed desk.source desk.takers.items }
@@ -141,8 +139,9 @@ fn run_in_scope<B: Build + Send + Sync, R: Threads + Wait + Sync, O: Observer>(
         thread::scope_env(),
         rt,
         move |scope| -> Result<(), Stop>
-            requires { (desk.board.given ≡ B.given) × IsNone desk.board.stopped × (1 ≤ desk.source.takers) ×
-                IsStaffed desk.source desk.takers.items × HasTaken desk.board desk.source.given }
+            requires { IsGiven B.tree B.request B.limits desk.board.given × IsNone desk.board.stopped ×
+                (1 ≤ desk.source.takers) × IsStaffed desk.source desk.takers.items ×
+                HasTaken desk.board desk.source.given }
             ensures { result ≡ Err Stop.TooMany →
                 IsTooMany (rules_on desk.board) (request_on desk.board) (limit_on desk.board) }
         {
@@ -171,13 +170,13 @@ fn run_build<B: Build + Send + Sync, R: Threads + Wait + Sync, O: Observer>(
     board: Board,
     workers: usize,
     observer: &O,
-) -> Result<(RunReport, Ledger<Work>), Stop>
-    requires of_build { board.given ≡ B.given }
+) -> Result<(RunReport, Ledger<JobOf<B>>), Stop>
+    requires of_build { IsGiven B.tree B.request B.limits board.given }
     requires running { IsNone board.stopped }
     requires opened { HasTaken board [] }
     requires some { 1 ≤ workers }
     requires few { workers ≤ 64 }
-    ensures { IsAnswerTo board.given result }
+    ensures { IsAnswerTo B.tree B.request B.limits result }
 {
     let (source, takers) = relay(alloc, threads_for(workers) + 1)?;
     let desk = Desk::<B> {
@@ -209,7 +208,10 @@ pub(crate) fn past_of<R: Threads + Sync>(
 /// with the new book among its files. The ledger shows that each job was taken once. A target whose recorded entries
 /// all stand is kept; if keeping is safe, the report agrees with that of the sources alone. All threads have ended when
 /// it returns. `Memory` also means that a thread couldn't be started.
-pub fn build_many<R: Threads + Wait + Sync, O: Observer>(
+///
+/// The ledger is of jobs of this build by its type, which names the tree, the request and the limits: each job that it
+/// counts held a work that a board of this build gave.
+pub fn build_many<B: Build + Send + Sync, R: Threads + Wait + Sync, O: Observer>(
     rt: &R,
     alloc: Global,
     tree: Tree,
@@ -217,7 +219,8 @@ pub fn build_many<R: Threads + Wait + Sync, O: Observer>(
     limits: Limits,
     workers: usize,
     observer: &O,
-) -> Result<(Report, Ledger<Work>), RunFault>
+) -> Result<(Report, Ledger<JobOf<B>>), RunFault>
+    requires of_build { (B.tree ≡ tree) × (B.request ≡ request.now) × (B.limits ≡ limits) }
     requires some { 1 ≤ workers }
     requires few { workers ≤ 64 }
     ensures report { IfOk result (λ r. IsResultOn tree request.now limits r.0) }
@@ -230,12 +233,14 @@ pub fn build_many<R: Threads + Wait + Sync, O: Observer>(
     ensures only_unsafe { result ≡ Err RunFault.TooMany → IsUnsafeOn tree request.now limits }
 {
     let past = past_of(rt, alloc, tree, workers)?;
-    let (report, ledger) = build_over(rt, alloc, past, request, limits, workers, observer)?;
+    let (report, ledger) = build_by::<B, R, O>(
+        rt, alloc, past, request, limits, workers, observer,
+    )?;
     Ok((report.into_report(alloc)?, ledger))
 }
 
 /// The same as [`build_many`], over a past. The new book has no text yet.
-pub(crate) fn build_over<R: Threads + Wait + Sync, O: Observer>(
+fn build_by<B: Build + Send + Sync, R: Threads + Wait + Sync, O: Observer>(
     rt: &R,
     alloc: Global,
     past: Past,
@@ -243,7 +248,8 @@ pub(crate) fn build_over<R: Threads + Wait + Sync, O: Observer>(
     limits: Limits,
     workers: usize,
     observer: &O,
-) -> Result<(RunReport, Ledger<Work>), RunFault>
+) -> Result<(RunReport, Ledger<JobOf<B>>), RunFault>
+    requires of_build { (B.tree ≡ past.tree) × (B.request ≡ request.now) × (B.limits ≡ limits) }
     requires some { 1 ≤ workers }
     requires few { workers ≤ 64 }
     ensures report { IfOk result (λ r. IsResultOn past.tree request.now limits r.0) }
@@ -259,5 +265,52 @@ pub(crate) fn build_over<R: Threads + Wait + Sync, O: Observer>(
     keeping_is_sound();
     past.tree().is_tree();
     let board = Board::over(alloc, past, request, limits)?;
-    Ok(run_build::<Brand, R, O>(rt, alloc, board, workers, observer)?)
+    Ok(run_build::<B, R, O>(rt, alloc, board, workers, observer)?)
+}
+
+/// The report alone, without the ledger.
+fn report_by<B: Build + Send + Sync, R: Threads + Wait + Sync, O: Observer>(
+    rt: &R,
+    alloc: Global,
+    past: Past,
+    request: &[Path],
+    limits: Limits,
+    workers: usize,
+    observer: &O,
+) -> Result<RunReport, RunFault>
+    requires of_build { (B.tree ≡ past.tree) × (B.request ≡ request.now) × (B.limits ≡ limits) }
+    requires some { 1 ≤ workers }
+    requires few { workers ≤ 64 }
+    ensures report { IfOk result (IsResultOn past.tree request.now limits) }
+    ensures sound { IfOk result (IsSoundOn past.tree request.now limits) }
+    ensures book { (n : ℕ) → result ≡ Err (RunFault.Book n) → ⊥ }
+    ensures too_many { result ≡ Err RunFault.TooMany → NeedsTooMany past.tree request.now limits }
+    ensures only_unsafe { result ≡ Err RunFault.TooMany → IsUnsafeOn past.tree request.now limits }
+{
+    match build_by::<B, R, O>(rt, alloc, past, request, limits, workers, observer) {
+        Ok((report, _ledger)) => Ok(report),
+        Err(fault) => Err(fault),
+    }
+}
+
+/// Builds as [`build_many`] does, over what a run before has left, and answers the report alone, with the new book not
+/// as text yet.
+pub(crate) fn build_over<R: Threads + Wait + Sync, O: Observer>(
+    rt: &R,
+    alloc: Global,
+    past: Past,
+    request: &[Path],
+    limits: Limits,
+    workers: usize,
+    observer: &O,
+) -> Result<RunReport, RunFault>
+    requires some { 1 ≤ workers }
+    requires few { workers ≤ 64 }
+    ensures report { IfOk result (IsResultOn past.tree request.now limits) }
+    ensures sound { IfOk result (IsSoundOn past.tree request.now limits) }
+    ensures book { (n : ℕ) → result ≡ Err (RunFault.Book n) → ⊥ }
+    ensures too_many { result ≡ Err RunFault.TooMany → NeedsTooMany past.tree request.now limits }
+    ensures only_unsafe { result ≡ Err RunFault.TooMany → IsUnsafeOn past.tree request.now limits }
+{
+    report_by::<Brand, R, O>(rt, alloc, past, request, limits, workers, observer)
 }

@@ -127,22 +127,6 @@ module _ {T : Type 0} (n : T → Pair) where
         idle_snoc hs r (λ none. absurd (omega arith)) (idle_set hands port less (λ none. absurd (omega arith)) room.2),
       )
 
-  -- jobs that were all taken elsewhere change no balance
-  pub learns : (port : ℕ) (v : Hand) (given taken : List Pair) → 0 < v.parts → SharesOut given taken [] → Forks (Balanced n) port v (hand v.parts (v.given ++ given) (v.taken ++ taken) v.left) (hand 0 [] [] [])
-  learns port v given taken may out items hands room at =
-      let more = hand v.parts (v.given ++ given) (v.taken ++ taken) v.left in let r = hand 0 [] [] [] in let hs = set hands port more in (
-        (let s = sum_set (λ u. u.parts) hands port v more at in let b = room.0 in omega (arith, sum_snoc (λ u. u.parts) hs r)),
-        (λ p.
-            let s = sum_set (λ u. count_by p u.given) hands port v more at in
-            let t = sum_set (λ u. count_by p u.taken) hands port v more at in
-            let l = sum_set (λ u. count_by p u.left) hands port v more at in
-            let b = room.1 p in
-            let o = out p in
-            omega
-            (arith, sum_snoc (λ u. count_by p u.given) hs r, sum_snoc (λ u. count_by p u.taken) hs r, sum_snoc (λ u. count_by p u.left) hs r, count_by-append p v.given given, count_by-append p v.taken taken)),
-        idle_snoc hs r (λ _. (refl, refl, refl)) (idle_set hands port more (λ none. absurd (omega arith)) room.2),
-      )
-
   pub merges : (port : ℕ) (v : Hand) (other : ℕ) (u : Hand) → 0 < v.parts
       → Merges (Balanced n) port v other u (hand (v.parts + u.parts) (v.given ++ u.given) (v.taken ++ u.taken) (v.left ++ u.left)) (hand 0 [] [] [])
   merges port v other u may items hands room at apart at' =

@@ -4,16 +4,15 @@ ghost use Rattle.crossbeam_deque.specs.Handles.{worker_deque, worker_flavor, wor
 ghost use Rattle.redo_sync.specs.Relay.{SharesOut, taken_by};
 ghost use Rattle.redo_sync.specs.inside.Rule.{hand};
 
-use crate::rule::{Cut, Drain, Finished, Hand, Learn, Numbered, ShareOut};
+use crate::rule::{Cut, Drain, Hand, Numbered, ShareOut};
 use crate::source::JobSource;
 use crate::taker::JobTaker;
 use crossbeam_deque::Worker;
 use std::alloc::{AllocError, Global};
-use std::marker::{Brand, Model};
+use std::marker::Model;
 
-/// What became of the jobs of a relay: each was taken once or is left. Only [`gather`] makes one; [`Ledger::of`]
-/// rewrites one for another type of job. In a contract it is the numbers of the jobs given, of those taken and of those
-/// left.
+/// What became of the jobs of a relay: each was taken once or is left. Only [`gather`] makes one, of a source that gave
+/// jobs of this type. In a contract it is the numbers of the jobs given, of those taken and of those left.
 #[derive(Drop)]
 pub struct Ledger<T: Numbered> {
     deque: Worker<T, Global, Hand, ShareOut>,
@@ -42,38 +41,6 @@ impl<T: Numbered> Ledger<T> {
     {
         self.left.as_slice()
     }
-}
-
-impl<T: Numbered + Drop> Ledger<T> {
-    /// The same ledger for jobs of another type with the same numbers, such as jobs that were wrapped on their way
-    /// through the relay. No job may be left.
-    pub fn of<U: Numbered>(alloc: Global, ledger: &Ledger<U>) -> Result<Ledger<T>, AllocError>
-        requires { ledger.now.left ≡ [] }
-        ensures { IfOk result (λ l. l ≡ ledger.now) }
-    {
-        let mut deque = Worker::fifo_as(alloc, 1)?;
-        learn::<T, U, Brand>(&mut deque, ledger);
-        Ok(Ledger {
-            deque,
-            left: Vec::new(alloc),
-        })
-    }
-}
-
-/// Tells the user of an empty queue what a ledger says.
-fn learn<T: Numbered + Drop, U: Numbered, K: Finished>(
-    deque: &mut Worker<T, Global, Hand, ShareOut>,
-    ledger: &Ledger<U>,
-)
-    requires none_left { ledger.now.left ≡ [] }
-    requires lists { (ledger.now.given ≡ K.given) × (ledger.now.taken ≡ K.taken) }
-    requires first { worker_view deque.old ≡ hand 66 [] [] [] }
-    ensures view { worker_view deque.new ≡ hand 66 K.given K.taken [] }
-    ensures shared_out { SharesOut K.given K.taken [] }
-{
-    // This brings the ledger's own fact into the proof: what was given was shared out.
-    let _left = ledger.left();
-    let _pass = deque.another::<Learn<K>>();
 }
 
 /// Ends a relay: takes back all takers of the source, and the jobs that they left. Fails only if a job is left and

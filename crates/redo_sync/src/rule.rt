@@ -5,7 +5,6 @@ ghost use Rattle.redo_path.specs.declared.Path.{Path};
 use crossbeam_deque::protocol::{Join, Outcome, Protocol, Split};
 use redo_path::Path;
 use std::collections::LinkedList;
-use std::marker::{Brand, PhantomData};
 
 /// What a relay passes on: the job of a target at a turn. The ledger tells jobs apart by these two.
 pub trait Numbered {
@@ -99,37 +98,4 @@ impl<T: Numbered> Outcome<T, Hand> for Drain {
         × (v.parts ≡ 66 → pending w < pending v) };
 
     ghost empty = { λ v. SharesOut v.given v.taken v.left };
-}
-
-/// The numbers of jobs that were all taken, from which their ledger is written again. A type stands for them; no value
-/// of it is made.
-pub(crate) trait Finished {
-    ghost use Rattle.std.specs.Prelude.{List};
-    ghost use Rattle.redo_sync.specs.Relay.{Pair};
-
-    ghost given: { List Pair };
-
-    ghost taken: { List Pair };
-}
-
-impl Finished for Brand {
-    ghost use Rattle.std.specs.Prelude.{[]};
-
-    ghost given = { [] };
-
-    ghost taken = { [] };
-}
-
-/// A user learns of jobs that were given and taken elsewhere.
-pub(crate) struct Learn<K: Finished> {
-    _finished: PhantomData<K>,
-}
-
-impl<K: Finished> Split<Hand> for Learn<K> {
-    ghost use Rattle.std.specs.Prelude.{◌++◌, []};
-    ghost use Rattle.redo_sync.specs.inside.Rule.{hand};
-
-    ghost left = { λ v. hand v.parts (v.given ++ K.given) (v.taken ++ K.taken) v.left };
-
-    ghost right = { λ _. hand 0 [] [] [] };
 }

@@ -3,17 +3,19 @@
 
 use crate::pieces::{answer, counts, first_piece};
 use crate::trees::{
-    DIAMOND, DIAMOND_REPORT, REFUSED_BOOK, RING, RING_REPORT, limits_of, paths_of, tree_of,
+    DIAMOND, DIAMOND_REPORT, REFUSED_BOOK, RING, RING_REPORT, built_by, limits_of, paths_of,
+    tree_of,
 };
 use redo_core::board::{Board, HandFault, Stop};
 use redo_core::opening::OpenFault;
 use redo_core::work::{Piece, Work};
 use redo_path::Path;
 use redo_report::{Report, report_text};
-use redo_run::{NoObserver, RunFault, build_many, build_one};
+use redo_run::{NoObserver, RunFault, build_one};
 use redo_sync::{Cells, JobTaker, Numbered, Taken, relay};
 use redo_tree::Tree;
 use std::alloc::Global;
+use std::marker::Brand;
 use std::sync::Arc;
 use std::test::Fail;
 
@@ -75,8 +77,17 @@ fn four_workers_answer_as_ever_or_are_out_of_memory(rt: HostRuntime) -> Result<(
     for (rule, bundle, words, expected) in BUILDS {
         let request = paths_of(alloc, words)?;
         let tree = tree_of(alloc, bundle)?;
-        let found = build_many(&rt, alloc, tree, &request, limits_of(100)?, 4, &NoObserver);
-        let report = found.map(|(report, _ledger)| report);
+        let limits = limits_of(100)?;
+        let found = built_by::<Brand, NoObserver>(
+            &rt,
+            alloc,
+            tree,
+            &request,
+            limits,
+            4,
+            &NoObserver,
+        );
+        let report = found.map(|(report, _none_left)| report);
         assert!(rt;
             is_answer(alloc, report, expected, &mut was_refused)?,
             "{rule}"

@@ -1,11 +1,12 @@
 //! Which jobs workers take up, how often, and how many at a time.
 
-use crate::trees::{DIAMOND, DIAMOND_REPORT, limits_of, paths_of, tree_of};
+use crate::trees::{DIAMOND, DIAMOND_REPORT, built_by, limits_of, paths_of, tree_of};
 use redo_bundle::Plain;
 use redo_path::Path;
 use redo_report::report_text;
-use redo_run::{Cause, Exit, Observer, Options, build_many, run_bundle};
+use redo_run::{Cause, Exit, Observer, Options, run_bundle};
 use std::alloc::{AllocError, Global};
+use std::marker::Brand;
 use std::sync::atomic::AtomicU64;
 use std::sync::atomic::Ordering::SeqCst;
 use std::test::Fail;
@@ -147,18 +148,16 @@ fn each_job_enters_once_and_no_more_are_inside_than_workers(rt: HostRuntime) -> 
         let crowd = Crowd::new(alloc, workers as u64)?;
         let request = paths_of(alloc, "top")?;
         let tree = tree_of(alloc, DIAMOND)?;
-        let built = build_many(&rt, alloc, tree, &request, limits_of(4)?, workers, &crowd);
-        let (report, ledger) = built?;
+        let limits = limits_of(4)?;
+        let built = built_by::<Brand, Crowd>(&rt, alloc, tree, &request, limits, workers, &crowd);
+        let (report, none_left) = built?;
         let text = report_text(alloc, &report, false)?;
         assert_eq!(rt;
             text.as_slice(),
             DIAMOND_REPORT.as_bytes(),
             "{workers} workers"
         );
-        assert!(rt;
-            ledger.left().is_empty() && crowd.saw_each_once(),
-            "{workers} workers"
-        );
+        assert!(rt; none_left && crowd.saw_each_once(), "{workers} workers");
         assert_eq!(rt; crowd.too_many.load(SeqCst), 0, "{workers} workers");
     }
     Ok(())

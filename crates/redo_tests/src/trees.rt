@@ -1,10 +1,12 @@
 //! Trees, as bundles, and what builds over them are given.
 
-ghost use Rattle.std.specs.Prelude.{IfOk};
+ghost use Rattle.std.specs.Prelude.{◌≡◌, ◌≤◌, IfOk};
 ghost use Rattle.redo_bundle.specs.Bundle.{HasSmallFiles};
 
 use redo_bundle::{Plain, read_bundle};
 use redo_path::{Path, resolve};
+use redo_report::Report;
+use redo_run::{Build, Observer, RunFault, build_many};
 use redo_step::Limits;
 use redo_tree::Tree;
 use std::alloc::Global;
@@ -58,4 +60,25 @@ pub(crate) fn paths_of(alloc: Global, words: &str) -> Result<Vec<Path>, Fail> {
 /// Limits of this many targets, and of 100 bytes per file.
 pub(crate) fn limits_of(targets: u32) -> Result<Limits, Fail> {
     Ok(Limits::new(targets, 100).ok_or("limits")?)
+}
+
+/// A build by so many workers: its report, and whether no job is left. The type names the build in the contract of
+/// `build_many`, and stands in no type that comes back, so a test may pick it.
+pub(crate) fn built_by<B: Build + Send + Sync, O: Observer>(
+    rt: &HostRuntime,
+    alloc: Global,
+    tree: Tree,
+    request: &[Path],
+    limits: Limits,
+    workers: usize,
+    observer: &O,
+) -> Result<(Report, bool), RunFault>
+    requires of_build { (B.tree ≡ tree) × (B.request ≡ request.now) × (B.limits ≡ limits) }
+    requires some { 1 ≤ workers }
+    requires few { workers ≤ 64 }
+{
+    let (report, ledger) = build_many::<B, HostRuntime, O>(
+        rt, alloc, tree, request, limits, workers, observer,
+    )?;
+    Ok((report, ledger.left().is_empty()))
 }

@@ -1,15 +1,15 @@
 -- What a build by an owner and its workers comes to.
-use Rattle.std.specs.Prelude.{◌≡◌, List, [], Result, Err, IfOk, All, length}
-use Rattle.redo_core.specs.Build.{GivenView, rules_for}
-use Rattle.redo_build.specs.Outcomes.{IsTooMany}
+use Rattle.std.specs.Prelude.{◌≡◌, ℕ, List, [], Result, Err, IfOk, All, length}
 use Rattle.redo_build.specs.Takes.{AreBegun, AreCountedOnce}
-use Rattle.redo_core.specs.Results.{IsResult}
+use Rattle.redo_core.specs.Results.{IsGiven, IsResultOn, NeedsTooMany}
 use Rattle.redo_core.specs.Taken.{HasTaken}
 use Rattle.redo_core.specs.Views.{BoardView}
 use Rattle.redo_core.specs.declared.board.Stop.{Stop}
 use Rattle.redo_core.specs.declared.board.Stop.TheVariants.{TooMany}
 use Rattle.redo_report.specs.declared.report.Report.{Report}
+use Rattle.redo_step.specs.Limits.{LimitsView}
 use Rattle.redo_sync.specs.Relay.{Pair, Shares, Source, Taker}
+use Rattle.redo_tree.specs.Tree.{Tree}
 
 -- the source is of the same relay, with as many takers
 abbrev pub IsSameSource : Source → Source → Type 0
@@ -23,18 +23,20 @@ IsStaffed source takers = (length takers ≡ source.takers) × All (λ t. t.rela
 abbrev pub HasTakenOn : BoardView → BoardView → Type 0
 HasTakenOn old new = (taken : List Pair) → HasTaken old taken → HasTaken new taken
 
--- what is left of a run once all workers have ended: the board is of the build, all takers are back, and what the board
--- has taken is what was given
-pub record IsEnded (given : GivenView) (board : BoardView) (source : Source) (takers : List Taker) : Type 0 where
-  pub of_build : board.given ≡ given
+-- what a run has left once all workers are in: the board is of the build, all takers are back, and what the board has
+-- taken is what was given
+pub record IsEnded (tree : Tree) (request : List (List ℕ)) (limits : LimitsView) (board : BoardView) (source : Source)
+    (takers : List Taker) : Type 0 where
+  pub of_build : IsGiven tree request limits board.given
   pub staffed : IsStaffed source takers
   pub taken : HasTaken board source.given
 
--- a report is that of the build with the new book; its ledger shows each job taken once, and at turn 0 exactly those of
--- the begun scripts; too many targets come only from a build that needs too many
-pub record IsAnswerTo (given : GivenView) (answer : Result (Report × Shares) Stop) : Type 0 where
-  pub report : IfOk answer (λ r. IsResult given r.0)
+-- a report is that of the build with the new book, its ledger shows each job taken once and those of its begun scripts,
+-- and too many targets are answered where the build needs too many
+pub record IsAnswerTo (tree : Tree) (request : List (List ℕ)) (limits : LimitsView)
+    (answer : Result (Report × Shares) Stop) : Type 0 where
+  pub report : IfOk answer (λ r. IsResultOn tree request limits r.0)
   pub none_left : IfOk answer (λ r. r.1.left ≡ [])
   pub once : IfOk answer (λ r. AreCountedOnce r.1.taken)
   pub begun : IfOk answer (λ r. AreBegun r.1.taken r.0.begun.items)
-  pub too_many : answer ≡ Err TooMany → IsTooMany (rules_for given) given.request given.limits.targets
+  pub too_many : answer ≡ Err TooMany → NeedsTooMany tree request limits

@@ -2,7 +2,13 @@ use Rattle.std.proofs.Common.{◌-◌, ◌<◌, [], ◌∷◌, ◌++◌, ap, ari
 use Rattle.redo_core.specs.Taken.{HasTaken}
 use Rattle.redo_core.specs.Views.{BoardView, WorkView, ready_count}
 use Rattle.redo_sync.specs.Relay.{Pair}
+use Rattle.redo_run.proofs.OpenedLemmas.{one_given}
 use Rattle.redo_run.proofs.owner.give_newest.Goals as goal
+
+-- the work is of the build that the type names
+pub new-requires : goal.new-requires
+new-requires g c = λ other is.
+    c.in_ok-work.ensures.work.given ∙ one_given c.a_tree_has_one_past.ensures _ _ _ _ other c.requires.of_build is
 
 -- the job that is given is the one that the board has taken
 pub returns-in-Ok-clause-taken : goal.returns-in-Ok-clause-taken

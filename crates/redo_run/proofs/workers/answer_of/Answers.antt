@@ -10,10 +10,7 @@ use Rattle.redo_run.proofs.LedgerLemmas.{begun_shared, once_shared, without_memo
 use Rattle.redo_run.proofs.workers.answer_of.Goals as goal
 
 pub returns-in_err-ledger : goal.returns-in_err-ledger
-returns-in_err-ledger g c = without_memory _ _ (search rules)
-
-pub returns-in_err-ledger-2 : goal.returns-in_err-ledger-2
-returns-in_err-ledger-2 g c = without_memory _ _ (search rules)
+returns-in_err-ledger g c = without_memory _ _ _ _ (search rules)
 
 -- what the takers took is what the board had taken
 pub returns : goal.returns
@@ -26,20 +23,15 @@ returns g c =
     let out : SharesOut given ledger.taken [] = subst Q c.in_ok-ledger.ensures.given none.1 in
     let quiet : IsQuietBoard b = search rules in
     let shows : ShowsBuild (rules_on b) (request_on b) (limit_on b) b.state = search rules in
-    let once = once_shared given ledger.taken out (c.what_was_taken.ensures.counted b given ended.taken) in
     let R : Report → Type 0 = λ r. IsResult b.given r in
     let is : R result = subst R (sym c.in_ok-report.ensures) c.in_ok-finish.ensures in
     let of_given = c.what_was_taken.ensures.begun b given is.report ended.taken quiet shows is.built in
     let begun = begun_shared given ledger.taken out is.report.begun.items c.counts_tell.ensures.taken of_given in
-    let None : Shares → Type 0 = λ s. s.left ≡ [] in
-    let Once : Shares → Type 0 = λ s. AreCountedOnce s.taken in
-    let Begun : Shares → Type 0 = λ s. AreBegun s.taken result.begun.items in
     let B : List (List ℕ) → Type 0 = AreBegun ledger.taken in
-    let G : GivenView → Type 0 = λ v. IsResult v result in
     record {
-      report = subst G ended.of_build is;
-      none_left = subst None (sym c.in_ok-ledger-2.ensures) none.0;
-      once = subst Once (sym c.in_ok-ledger-2.ensures) once;
-      begun = subst Begun (sym c.in_ok-ledger-2.ensures) (subst B (sym is.with_book.begun) begun);
+      report = (b.given, ended.of_build, is);
+      none_left = none.0;
+      once = once_shared given ledger.taken out (c.what_was_taken.ensures.counted b given ended.taken);
+      begun = subst B (sym is.with_book.begun) begun;
       too_many = λ e. absurd cc;
     }

@@ -1,5 +1,5 @@
 use Rattle.redo_run.proofs.workers.build_over.Given as goal
 
--- the build that the workers are at is that of the board
-abbrev pub ghosts-run_build : goal.ghosts-run_build
-ghosts-run_build g a = record { given = a.board.given }
+-- the build that the workers are at is that of the tree that was read
+abbrev pub ghosts-report_by : goal.ghosts-report_by
+ghosts-report_by g a = record { tree = a.past.tree; request = a.request.now; limits = a.limits }

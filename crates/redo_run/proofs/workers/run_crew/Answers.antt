@@ -3,6 +3,8 @@ use denote.Param.{param}
 use denote.Param.Send.{arg_send, param_send}
 use Rattle.std.proofs.Common.{◌≡◌, ◌∙◌, List, ap, arith, map, sym, subst, Result}
 use Rattle.std.specs.Prelude.{OnOk}
+use Rattle.redo_core.specs.Build.{GivenView}
+use Rattle.redo_core.specs.Results.{IsGiven}
 use Rattle.redo_core.specs.Taken.{HasTaken}
 use Rattle.redo_core.specs.Views.{BoardView}
 use Rattle.redo_core.specs.declared.board.Stop.{Stop}
@@ -49,9 +51,10 @@ invariant_of-result g c =
           let Taken : Result Unit Stop → Type 0 = λ r. OnOk r (HasTaken c.args.desk.board c.args.desk.source.given → HasTaken b s.given) in
           let had = subst Taken (sym w.ended-is ∙ c.in_ok-ended.was) w.own-ended.ensures.taken c.requires.taken in
           let P : BoardView → Type 0 = λ v. HasTaken v s.given in
+          let G : GivenView → Type 0 = IsGiven g.B.Build.tree g.B.Build.request g.B.Build.limits in
           let Q : Source → Type 0 = λ t. HasTaken c.match-start_all.board t.given in
           record {
-            of_build = ap (λ (v : BoardView). v.given) w.board-is ∙ w.own-ended.ensures.build ∙ c.requires.of_build;
+            of_build = subst G (sym (ap (λ (v : BoardView). v.given) w.board-is ∙ w.own-ended.ensures.build)) c.requires.of_build;
             staffed = same_relays _ _ c.args.desk.source c.match-start_all.source back
                 (ap (λ s. s.relay) w.source-is ∙ kept.0, ap (λ s. s.takers) w.source-is ∙ kept.1) c.requires.staffed;
             taken = subst Q (sym w.source-is) (subst P (sym w.board-is) had);

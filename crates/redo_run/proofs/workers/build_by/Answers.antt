@@ -1,8 +1,16 @@
-use Rattle.std.proofs.Common.{rules, ◌∙◌, Err, ap, refl}
-use Rattle.redo_core.specs.Results.{NeedsTooMany}
-use Rattle.redo_tree.specs.Tree.{IsTree}
-use Rattle.redo_run.proofs.OpenedLemmas.{result_of, runs, stopped_at_limit, too_many_of}
-use Rattle.redo_run.proofs.workers.build_over.Goals as goal
+use Rattle.std.proofs.Common.{rules, ◌≡◌, [], ℕ, List, Err, ap, ◌∙◌}
+use Rattle.std.specs.Prelude.{IfOk}
+use Rattle.redo_core.specs.Results.{IsGiven, IsResultOn, NeedsTooMany}
+use Rattle.redo_step.specs.Limits.{LimitsView}
+use Rattle.redo_tree.specs.Tree.{IsTree, Tree}
+use Rattle.redo_run.proofs.OpenedLemmas.{of_others, of_these, runs, stopped_at_limit}
+use Rattle.redo_run.proofs.workers.build_by.Goals as goal
+
+-- the board is of the build that the type names
+pub run_build-requires-clause-of_build : goal.run_build-requires-clause-of_build
+run_build-requires-clause-of_build g c κs within =
+    let P : Tree → List (List ℕ) → LimitsView → Type 0 = λ t r l. IsGiven t r l c.in_ok-board.board.given in
+    of_others P _ _ _ _ _ _ c.requires.of_build c.in_ok-board.ensures.ok.given
 
 -- a board that was just opened runs
 pub run_build-requires-clause-running : goal.run_build-requires-clause-running
@@ -17,8 +25,7 @@ pub returns-in_err-run_build-clause-too_many : goal.returns-in_err-run_build-cla
 returns-in_err-run_build-clause-too_many g c = λ is.
     let made = rw is at c.from_residual-in_err-run_build.ensures in
     let stop = stopped_at_limit c.in_err-run_build.field-0.0 made.1 in
-    too_many_of _ _ refl c.args.request.now c.args.limits c.in_ok-board.board c.in_ok-board.ensures.ok
-    c.in_ok-board.board refl (c.run_build.ensures.too_many (c.in_err-run_build.was ∙ ap Err stop))
+    of_these NeedsTooMany _ _ _ _ _ _ c.requires.of_build (c.run_build.ensures.too_many (c.in_err-run_build.was ∙ ap Err stop))
 
 -- where the build needs too many, keeping is not safe
 pub returns-in_err-board-clause-only_unsafe : goal.returns-in_err-board-clause-only_unsafe
@@ -32,8 +39,8 @@ returns-in_err-run_build-clause-only_unsafe g c = λ is.
 
 pub returns-clause-report : goal.returns-clause-report
 returns-clause-report g c =
-    result_of _ _ refl c.args.request.now c.args.limits c.in_ok-board.board c.in_ok-board.ensures.ok
-    c.in_ok-board.board refl _ c.in_ok-run_build.ensures.report
+    let P : Tree → List (List ℕ) → LimitsView → Type 0 = λ t r l. IsResultOn t r l c.in_ok-run_build.field-0.0 in
+    of_these P _ _ _ _ _ _ c.requires.of_build c.in_ok-run_build.ensures.report
 
 -- where keeping is safe, it agrees with that of the sources
 pub returns-clause-sound : goal.returns-clause-sound
