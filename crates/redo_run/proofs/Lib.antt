@@ -1,10 +1,11 @@
+pub mod CrossingLemmas
+pub mod DirectoryLemmas
 pub mod DrivingLemmas
 pub mod ExitLemmas
+pub mod KeepingExamples
 pub mod LedgerLemmas
 pub mod OpenedLemmas
 pub mod RefusalLemmas
 pub mod SoundLemmas
 pub mod StaysOutLemmas
 pub mod ToldLemmas
-pub mod CrossingLemmas
-pub mod KeepingExamples

@@ -1,0 +1,10 @@
+use Rattle.std.specs.declared.io.ErrorKind.{ErrorKind}
+use Rattle.std.proofs.Common.{ℕ, List}
+use Rattle.redo_run.proofs.DirectoryLemmas.{stores_part}
+use Rattle.redo_run.proofs.directory.store.Goals as goal
+
+pub returns-in-Err-clause-part : goal.returns-in-Err-clause-part
+returns-in-Err-clause-part g c =
+    let told : List ℕ → ErrorKind → Type 0 = λ path kind. (d : g.row.D.Denot) × g.D.WorkDir.refuses d path kind in
+    let stored = g.D.WorkDir.stored in
+    stores_part told (stored c.args.dir.now) (stored c.store_files.new.dir) c.args.tree.now c.args.files.now c.in-Err.fault c.in-Err.ensures.text c.in-Err.ensures.stored c.in-Err.ensures.refused
