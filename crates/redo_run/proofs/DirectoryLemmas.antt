@@ -5,13 +5,11 @@ use Rattle.redo_dir.specs.Loaded.{IsLoaded}
 use Rattle.redo_dir.specs.Stored.{HasTexts, IsUnstored, Put, puts_in, stored_count}
 use Rattle.redo_dir.specs.declared.faults.StoreFault.{StoreFault}
 use Rattle.redo_dir.specs.declared.faults.StoreFault.TheVariants as store
-use Rattle.redo_report.specs.declared.report.Report.{Report}
 use Rattle.redo_tree.specs.Tree.{Node, Tree}
 use Rattle.redo_run.specs.DirFaults.{of_store}
-use Rattle.redo_run.specs.Directories.{IsBuilt, IsFaultOf, IsUnbuilt, IsUnread, Ran, StoresPart, to_store}
+use Rattle.redo_run.specs.Directories.{IsFaultOf, IsUnbuilt, IsUnread, Ran, StoresPart, to_store}
 use Rattle.redo_run.specs.declared.dir_fault.RunDirFault.{RunDirFault}
 use Rattle.redo_run.specs.declared.dir_fault.RunDirFault.TheVariants.{Load, Book, TooMany, Store, Device, Memory}
-use Rattle.redo_run.specs.declared.exit.Exit.{Exit}
 use Rattle.redo_run.specs.declared.options.Options.{Options}
 
 -- where a file wasn't stored

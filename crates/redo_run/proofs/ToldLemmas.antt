@@ -1,6 +1,6 @@
 -- What a run over a bundle tells of the text that it read.
 use Rattle.std.proofs.Common.{rules, ◌≡◌, ◌↔◌, ◌∙◌, [], ◌∷◌, length, List, ℕ, Bool, Option, Some, None, IsTrue, is_some}
-use Rattle.std.proofs.Common.{option_map, true, false, sym, subst, refl}
+use Rattle.std.proofs.Common.{option_map, true, sym, subst, refl}
 use Rattle.std.specs.Prelude.{IfSome, IsSome, Err, Result}
 use Rattle.std.specs.Io.KnownBytes.{Appends}
 use Rattle.redo_core.specs.Results.{IsGiven, IsRefused, IsResultOn, NeedsTooMany}

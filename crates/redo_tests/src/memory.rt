@@ -78,7 +78,7 @@ fn four_workers_answer_as_ever_or_are_out_of_memory(rt: HostRuntime) -> Result<(
         let request = paths_of(alloc, words)?;
         let tree = tree_of(alloc, bundle)?;
         let limits = limits_of(100)?;
-        let found = built_by::<Brand, NoObserver>(
+        let found = built_by::<Brand, HostRuntime, NoObserver>(
             &rt,
             alloc,
             tree,

@@ -149,7 +149,9 @@ fn each_job_enters_once_and_no_more_are_inside_than_workers(rt: HostRuntime) -> 
         let request = paths_of(alloc, "top")?;
         let tree = tree_of(alloc, DIAMOND)?;
         let limits = limits_of(4)?;
-        let built = built_by::<Brand, Crowd>(&rt, alloc, tree, &request, limits, workers, &crowd);
+        let built = built_by::<Brand, HostRuntime, Crowd>(
+            &rt, alloc, tree, &request, limits, workers, &crowd,
+        );
         let (report, none_left) = built?;
         let text = report_text(alloc, &report, false)?;
         assert_eq!(rt;

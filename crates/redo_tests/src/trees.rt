@@ -10,7 +10,9 @@ use redo_run::{Build, Observer, RunFault, build_many};
 use redo_step::Limits;
 use redo_tree::Tree;
 use std::alloc::Global;
+use std::sync::Wait;
 use std::test::Fail;
+use std::thread::Threads;
 
 /// `top` asks for `left` and `right`, and both ask for `base`.
 pub(crate) const DIAMOND: &str = "file 7 base.do\necho b\n\n\
@@ -64,8 +66,8 @@ pub(crate) fn limits_of(targets: u32) -> Result<Limits, Fail> {
 
 /// A build by so many workers: its report, and whether no job is left. The type names the build in the contract of
 /// `build_many`, and stands in no type that comes back, so a test may pick it.
-pub(crate) fn built_by<B: Build + Send + Sync, O: Observer>(
-    rt: &HostRuntime,
+pub(crate) fn built_by<B: Build + Send + Sync, R: Threads + Wait + Sync, O: Observer>(
+    rt: &R,
     alloc: Global,
     tree: Tree,
     request: &[Path],
@@ -77,7 +79,7 @@ pub(crate) fn built_by<B: Build + Send + Sync, O: Observer>(
     requires some { 1 ≤ workers }
     requires few { workers ≤ 64 }
 {
-    let (report, ledger) = build_many::<B, HostRuntime, O>(
+    let (report, ledger) = build_many::<B, R, O>(
         rt, alloc, tree, request, limits, workers, observer,
     )?;
     Ok((report, ledger.left().is_empty()))
