@@ -48,7 +48,7 @@ fn ran<H: Threads + Wait + Sync>(
 ) -> Result<Result<(Exit, u64), RunDirFault>, Fail> {
     let options = Options {
         targets: paths_of(alloc, targets)?,
-        workers,
+        workers: workers.clamp(1, 64),
         limits: limits_of(9)?,
     };
     let mut writer = Plain::new(Vec::new(alloc));
