@@ -12,7 +12,7 @@ use Rattle.redo_script.specs.Syntax.{Script}
 use Rattle.redo_script.specs.Texts.{script_in}
 use Rattle.redo_tree.specs.Tree as tree_words
 use Rattle.redo_tree.specs.Tree.{Tree, IsTree, Node, bytes_of, file_at, node_at}
-use Rattle.redo_which.specs.Candidates.{Place, book_path, candidates_of, is_do_file, is_never_made, once, places_of}
+use Rattle.redo_which.specs.Candidates.{Place, candidates_of, is_do_file, is_never_made, is_reserved, once, places_of}
 use Rattle.redo_which.specs.Rule.{Found, Source, Directory, NoDirectory, NoRule, Rule, Arguments}
 use Rattle.redo_which.specs.Rule.{arguments_of, chosen_of, found_of, is_file, is_rule, missing_of}
 use Rattle.redo_record.specs.declared.deps.Dep.{Dep}
@@ -98,7 +98,7 @@ no-candidates p named =
     ]) ≡ []) [
       | None ↦ refl
       | Some dir ↦
-          let never : is_never_made p ≡ true = or_left (is_do_file p) (bytes_eq p book_path) named in
+          let never : is_never_made p ≡ true = or_left (is_do_file p) (is_reserved p) named in
           ap (λ (v : Bool). cond v [] (once (places_of dir (name_of p)))) never
     ]
 

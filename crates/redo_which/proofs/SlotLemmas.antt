@@ -7,7 +7,7 @@ use Rattle.std.specs.Prelude.{IfSome, flat_map, nat_eq}
 use Rattle.redo_path.proofs.ApartLemmas.{apart}
 use Rattle.redo_path.specs.Names.{name_of, names, parent_of}
 use Rattle.std.specs.Prelude.{◌||◌, bytes_eq}
-use Rattle.redo_which.specs.Candidates.{Place, book_path, candidates_of, defaults_in, is_dot, place_at, suffixes, upward}
+use Rattle.redo_which.specs.Candidates.{Place, candidates_of, defaults_in, is_dot, is_reserved, place_at, suffixes, upward}
 use Rattle.redo_which.specs.inside.First.{LiesIn}
 use Rattle.redo_which.specs.inside.Slots.{IsFirstDot, shorter, slots_above, slots_by}
 use Rattle.redo_which.specs.inside.Distinct.{above, defaults_by, distinct_places, without_whole}
@@ -76,8 +76,8 @@ flat-whole name dir =
     ∙ sym (append_assoc (place_at dir 0 (name ++ codes ".do")) (defaults_by (without_whole name (suffixes name)) dir) (flat_map (defaults_in name) (above (upward dir))))
 
 -- those of a target in its directory
-pub candidates-some : (target dir name : List ℕ) (places : List Place) → LiesIn target dir → name ≡ name_of target → places ≡ cond (ends_with nat_eq name (codes ".do") || bytes_eq target book_path) [] (distinct_places dir name) → places ≡ candidates_of target
-candidates-some target dir name places h e k = k ∙ ap (λ n. cond (ends_with nat_eq n (codes ".do") || bytes_eq target book_path) [] (distinct_places dir n)) e ∙ sym (candidates-distinct target dir h)
+pub candidates-some : (target dir name : List ℕ) (places : List Place) → LiesIn target dir → name ≡ name_of target → places ≡ cond (ends_with nat_eq name (codes ".do") || is_reserved target) [] (distinct_places dir name) → places ≡ candidates_of target
+candidates-some target dir name places h e k = k ∙ ap (λ n. cond (ends_with nat_eq n (codes ".do") || is_reserved target) [] (distinct_places dir n)) e ∙ sym (candidates-distinct target dir h)
 
 -- the root has none
 pub candidates-none : (target : List ℕ) → None ≡ parent_of target → [] ≡ candidates_of target

@@ -7,14 +7,14 @@ ghost use Rattle.std.specs.Iterator.{YieldsFirst, YieldsFirstBy, item_count};
 ghost use Rattle.std.specs.Option.{option_to_list};
 ghost use Rattle.std.specs.Str.{bytes_eq};
 ghost use Rattle.redo_path.specs.Names.{IsPart, IsPath};
-ghost use Rattle.redo_which.specs.Candidates.{book_path, candidates_of, is_dot, suffixes};
+ghost use Rattle.redo_which.specs.Candidates.{candidates_of, is_dot, is_reserved as is_reserved_path, suffixes};
 ghost use Rattle.redo_which.specs.inside.First.{IsTarget};
 ghost use Rattle.redo_which.specs.inside.Passed.{Passes, places_left};
 ghost use Rattle.redo_which.specs.inside.Slots.{IsFirstDot, IsNext, shorter, slots_above, slots_by, slots_left};
 ghost use Rattle.redo_which.specs.inside.Distinct.{distinct_places, without_whole};
 
-use crate::BOOK;
 use crate::candidate_ref::{CandidateRef, fits};
+use crate::{BOOK, JOURNAL};
 use redo_path::{Path, parent_of_text};
 use redo_tree::Tree;
 use std::marker::Model;
@@ -196,7 +196,7 @@ fn first_next<'a>(target: &[u8], name: &'a [u8], dir: &'a [u8]) -> Next<'a>
     requires path { IsPath dir.now }
     requires part { IsPart name.now }
     ensures left { flat_map (λ places. places) (slots_left name.now result)
-        ≡ if ends_with nat_eq name.now (codes ".do") || bytes_eq target.now book_path then []
+        ≡ if ends_with nat_eq name.now (codes ".do") || is_reserved_path target.now then []
         else distinct_places dir.now name.now }
     ensures next { IsNext name.now result }
 {
@@ -207,11 +207,18 @@ fn first_next<'a>(target: &[u8], name: &'a [u8], dir: &'a [u8]) -> Next<'a>
     }
 }
 
-/// Whether the target with this text and name is one that no rule makes: a .do file, or the book of the last run.
-fn is_never_made(target: &[u8], name: &[u8]) -> bool
-    ensures { result ≡ (ends_with nat_eq name.now (codes ".do") || bytes_eq target.now book_path) }
+/// Whether the target with this text is the book or the journal.
+fn is_reserved(target: &[u8]) -> bool
+    ensures { result ≡ is_reserved_path target.now }
 {
-    name.ends_with(b".do") || target == BOOK
+    target == BOOK || target == JOURNAL
+}
+
+/// Whether the target with this text and name is one that no rule makes: a .do file, the book or the journal.
+fn is_never_made(target: &[u8], name: &[u8]) -> bool
+    ensures { result ≡ (ends_with nat_eq name.now (codes ".do") || is_reserved_path target.now) }
+{
+    name.ends_with(b".do") || is_reserved(target)
 }
 
 /// What comes after the whole name: the suffixes, without the longest if its candidate is the one by the whole name.

@@ -3,8 +3,8 @@
 //! The candidates for a target `D/name` are those that redo-whichdo(1) prints. First comes `D/name.do`. Then come, in
 //! `D` and each directory above it, `default<suffix>.do` for each suffix of the name that begins at a dot, longest
 //! first, and `default.do`. The first candidate that is a file of the tree is the rule. The search ends at the top
-//! directory. Names that end in `.do`, the top directory, and the book of the last run there ([`BOOK`]) have no
-//! candidates. A candidate too long for a path is left out, and one that occurs twice keeps its first place only.
+//! directory. Names that end in `.do`, the top directory, and the book ([`BOOK`]) and the journal ([`JOURNAL`]) there have
+//! no candidates. A candidate too long for a path is left out, and one that occurs twice keeps its first place only.
 //! Depends on `redo_path` and `redo_tree`.
 //!
 //! - here: the result of a search, as plain data;
@@ -30,6 +30,9 @@ use redo_path::Path;
 
 /// The path of the last run's book. No rule makes it.
 pub const BOOK: &[u8] = b".redo-book";
+
+/// The path of the journal, which is the new book while a run stores its files in a directory. No rule makes it.
+pub const JOURNAL: &[u8] = b".redo-journal";
 
 /// A .do file that may be a target's rule.
 #[derive(Debug, Drop)]

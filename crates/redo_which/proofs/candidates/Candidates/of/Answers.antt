@@ -1,8 +1,8 @@
 use Rattle.std.proofs.Common.{◌≤◌, ◌^◌, ◌∙◌, ◌||◌, [], ap, arith, codes, cond, length, nat_eq, subst, sym, List}
 use Rattle.std.specs.List.{ends_with}
-use Rattle.std.specs.Prelude.{bytes_eq, flat_map, IfSome}
+use Rattle.std.specs.Prelude.{flat_map, IfSome}
 use Rattle.redo_path.specs.Names.{parent_of}
-use Rattle.redo_which.specs.Candidates.{Place, book_path}
+use Rattle.redo_which.specs.Candidates.{Place, is_reserved}
 use Rattle.redo_which.specs.inside.First.{LiesIn}
 use Rattle.redo_which.specs.inside.Distinct.{distinct_places}
 use Rattle.redo_which.specs.inside.Slots.{slots_left}
@@ -19,7 +19,7 @@ returns-clause-candidates c =
       | in-Some w ↦
           let dir = w.in-Some.dir.now in
           let lies : LiesIn c.args.target.now dir = record { is_path = c.text.ensures.path; parent = w.in-Some.ensures.text ∙ ap parent_of c.text.ensures.text; split = rw (← c.text.ensures.text) w.in-Some.ensures.names } in
-          candidates-some c.args.target.now dir name (flat c.match-parent_of_text.next) lies c.name-name.ensures (ap flat w.next-is ∙ w.first_next-next.ensures.left ∙ ap (λ t. cond (ends_with nat_eq name (codes ".do") || bytes_eq t book_path) [] (distinct_places dir name)) w.text-in-Some.ensures.text)
+          candidates-some c.args.target.now dir name (flat c.match-parent_of_text.next) lies c.name-name.ensures (ap flat w.next-is ∙ w.first_next-next.ensures.left ∙ ap (λ t. cond (ends_with nat_eq name (codes ".do") || is_reserved t) [] (distinct_places dir name)) w.text-in-Some.ensures.text)
       | in-None w ↦ ap flat w.next-is ∙ candidates-none c.args.target.now (w.in-None.ensures.text ∙ ap parent_of c.text.ensures.text)
     ]
 
