@@ -2,13 +2,19 @@
 # the tree names and those that its .do files make. The tree is the directory of -C, or else the current one.
 
 _redo_options=(
-    "-j            Run at most N scripts side by side, 1 to 64"
-    "--jobs        Run at most N scripts side by side, 1 to 64"
-    "-k            Keep going though targets fail; required when targets are built"
-    "--keep-going  Keep going though targets fail; required when targets are built"
+    "-j            Run up to N scripts at a time, 1 to 64"
+    "--jobs        Run up to N scripts at a time, 1 to 64"
+    "-k            Keep going when targets fail; required for a build"
+    "--keep-going  Keep going when targets fail; required for a build"
     "--bundle      Read the tree as a bundle from standard input"
-    "-C            Read the tree from a directory"
-    "--whichdo     Print where the rule of TARGET is looked for, and build nothing"
+    "-C            Read the tree from the directory DIR"
+    "--whichdo     Print where the rule of TARGET is looked for"
+    "--targets     Print the built targets that stand as they were left"
+    "--sources     Print the sources that these depend on"
+    "--deps        Print what TARGET depends on"
+    "--rdeps       Print the targets that depend on PATH"
+    "--all         With --rdeps: directly or through others"
+    "--pack        Print the directory as a bundle"
     "-v            Say the cause behind a message, where it is known"
     "--verbose     Say the cause behind a message, where it is known"
     "-h            Print help"
@@ -62,7 +68,7 @@ _redo_offer_options() {
 }
 
 _redo() {
-    local at awaited= dir=. ended= whichdo= word REPLY
+    local at awaited= dir=. ended= alone= word REPLY
     COMPREPLY=()
     # The option that awaits the word at the cursor. An = is a word of its own.
     for ((at = 1; at < COMP_CWORD; at++)); do
@@ -77,7 +83,8 @@ _redo() {
             -j | -[kv]*j | --jobs) awaited=number ;;
             -C | -[kv]*C) awaited=dir ;;
             -C?*) dir=${REPLY#-C} ;;
-            --whichdo) awaited=target whichdo=yes ;;
+            --whichdo | --deps | --rdeps) awaited=target alone=yes ;;
+            --targets | --sources | --pack) alone=yes ;;
             esac
         fi
     done
@@ -93,7 +100,7 @@ _redo() {
         ;;
     target) _redo_offer_targets ;;
     *)
-        [[ $whichdo || ! $ended && $word == -* ]] || _redo_offer_targets
+        [[ $alone || ! $ended && $word == -* ]] || _redo_offer_targets
         [[ $ended || ${#COMPREPLY[@]} -gt 0 || $word && $word != -* ]] || _redo_offer_options
         ;;
     esac

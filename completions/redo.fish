@@ -23,7 +23,7 @@ function __redo_targets --description "The targets of the tree"
         string replace -rf '^target \S+ ' '' <$dir/.redo-book
     end
     # The word at the cursor, without its quotes.
-    set -l beginning (commandline -ct | string replace -r '^--whichdo=' '' | string replace -ra '[\\\\"\']' '')
+    set -l beginning (commandline -ct | string replace -r '^--(whichdo|r?deps)=' '' | string replace -ra '[\\\\"\']' '')
     for file in $dir/"$beginning"*.do
         set file (string replace -- $dir/ '' $file)
         if test -f $dir/$file; and not string match -qr '(^|/)default(\..*)?\.do$' -- $file
@@ -33,12 +33,18 @@ function __redo_targets --description "The targets of the tree"
 end
 
 complete -c redo -f
-complete -c redo -s j -l jobs -x -a "(seq 64)" -d "Run at most N scripts side by side, 1 to 64"
-complete -c redo -s k -l keep-going -d "Keep going though targets fail; required when targets are built"
+complete -c redo -s j -l jobs -x -a "(seq 64)" -d "Run up to N scripts at a time, 1 to 64"
+complete -c redo -s k -l keep-going -d "Keep going when targets fail; required for a build"
 complete -c redo -l bundle -d "Read the tree as a bundle from standard input"
-complete -c redo -s C -x -a "(__fish_complete_directories (commandline -ct))" -d "Read the tree from a directory"
-complete -c redo -l whichdo -x -a "(__redo_targets)" -d "Print where the rule of TARGET is looked for, and build nothing"
+complete -c redo -s C -x -a "(__fish_complete_directories (commandline -ct))" -d "Read the tree from the directory DIR"
+complete -c redo -l whichdo -x -a "(__redo_targets)" -d "Print where the rule of TARGET is looked for"
+complete -c redo -l targets -d "Print the built targets that stand as they were left"
+complete -c redo -l sources -d "Print the sources that these depend on"
+complete -c redo -l deps -x -a "(__redo_targets)" -d "Print what TARGET depends on"
+complete -c redo -l rdeps -x -a "(__redo_targets)" -d "Print the targets that depend on PATH"
+complete -c redo -l all -d "With --rdeps: directly or through others"
+complete -c redo -l pack -d "Print the directory as a bundle"
 complete -c redo -s v -l verbose -d "Say the cause behind a message, where it is known"
 complete -c redo -s h -l help -d "Print help"
 complete -c redo -s V -l version -d "Print version"
-complete -c redo -n "not __fish_contains_opt whichdo" -a "(__redo_targets)"
+complete -c redo -n "not __fish_contains_opt whichdo targets sources deps rdeps pack" -a "(__redo_targets)"

@@ -6,7 +6,10 @@
 ghost use Rattle.std.specs.Prelude.{◌≡◌, false};
 
 mod causes;
+mod commands;
 mod options;
+mod packing;
+mod queries;
 mod status;
 mod version;
 
@@ -121,6 +124,10 @@ where
     match action {
         Action::Build(options, input) => build(rt, alloc, options, input, cause),
         Action::Whichdo(target, input) => list(rt, alloc, target, input, cause),
+        Action::Ask(question, input, workers) => {
+            queries::ask(rt, alloc, question, input, *workers, cause)
+        }
+        Action::Pack(dir, workers) => packing::pack_dir(rt, alloc, dir, *workers, cause),
     }
 }
 
@@ -191,12 +198,12 @@ where
 }
 
 /// A writer with a buffer, as a report comes in many small pieces.
-fn buffered<S: Write + Drop>(alloc: Global, stream: S) -> Result<BufWriter<S>, Fault> {
+pub(crate) fn buffered<S: Write + Drop>(alloc: Global, stream: S) -> Result<BufWriter<S>, Fault> {
     BufWriter::with_capacity(alloc, BUFFER_BYTES, stream).map_err(|_| Fault::Memory)
 }
 
 /// Writes what is left in the buffer.
-fn flush<S: Write + Drop>(writer: &mut BufWriter<S>) -> Result<(), Fault> {
+pub(crate) fn flush<S: Write + Drop>(writer: &mut BufWriter<S>) -> Result<(), Fault> {
     writer.flush().map_err(|_| Fault::Output)
 }
 
@@ -228,7 +235,7 @@ where
 }
 
 /// Notes on standard error how many names of a directory were passed over, if any were.
-fn note_passed<H: Runtime>(rt: &H, passed: u64) {
+pub(crate) fn note_passed<H: Runtime>(rt: &H, passed: u64) {
     if passed != 0 {
         let _shown = eprintln!(rt; "redo: {passed} names passed over");
     }

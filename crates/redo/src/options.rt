@@ -2,9 +2,11 @@
 
 ghost use Rattle.std.specs.Prelude.{◌≤◌};
 
+use crate::commands;
 use crate::version::VERSION;
 use clap::{Arg, ArgAction, ArgMatches, Command, value_parser};
 use redo_path::{Path, PathFault, resolve};
+use redo_query::Question;
 use redo_run::Options;
 use redo_step::Limits;
 use std::alloc::{AllocError, AllocFailed, Global};
@@ -41,14 +43,20 @@ pub(crate) struct Call {
 pub(crate) enum Action {
     Build(Options, Input),
     Whichdo(Path, Input),
+    /// A question to the book of a tree, which is read by so many threads.
+    Ask(Question, Input, usize),
+    /// A directory is printed as a bundle. So many threads read it.
+    Pack(String, usize),
 }
 
 impl Action {
     /// The directory that is read, if one is.
     pub(crate) fn directory(&self) -> &str {
         match self {
-            Action::Build(_, Input::Directory(dir)) | Action::Whichdo(_, Input::Directory(dir)) =>
-                dir,
+            Action::Build(_, Input::Directory(dir))
+            | Action::Whichdo(_, Input::Directory(dir))
+            | Action::Ask(_, Input::Directory(dir), _)
+            | Action::Pack(dir, _) => dir,
             _ => "",
         }
     }
@@ -59,10 +67,12 @@ impl Action {
 pub(crate) enum Refusal {
     #[error("-k is required")]
     NoKeepGoing,
-    #[error("--bundle and -C exclude each other")]
-    BundleAndDirectory,
-    #[error("--whichdo takes no targets")]
-    TargetsBesideWhichdo,
+    #[error("{0} and {1} exclude each other")]
+    Excluded(&'static str, &'static str),
+    #[error("{0} goes only with {1}")]
+    Alone(&'static str, &'static str),
+    #[error("{0} takes no targets")]
+    TargetsBeside(&'static str),
     #[error("bad target")]
     BadTarget,
     #[error("out of memory")]
@@ -106,7 +116,7 @@ fn jobs<'a>(alloc: Global) -> Arg<'a> {
         .long("jobs")
         .value_name("N")
         .value_parser(value_parser!(usize).range(1..=64))
-        .help("Run at most N scripts side by side, 1 to 64 [default: 1]")
+        .help("Run up to N scripts at a time, 1 to 64 [default: 1]")
 }
 
 fn keep_going<'a>(alloc: Global) -> Arg<'a> {
@@ -114,7 +124,7 @@ fn keep_going<'a>(alloc: Global) -> Arg<'a> {
         .short('k')
         .long("keep-going")
         .action(ArgAction::SetTrue)
-        .help("Keep going though targets fail; required when targets are built")
+        .help("Keep going when targets fail; required for a build")
 }
 
 fn bundle<'a>(alloc: Global) -> Arg<'a> {
@@ -128,14 +138,14 @@ fn directory<'a>(alloc: Global) -> Arg<'a> {
     Arg::new(alloc, "directory")
         .short('C')
         .value_name("DIR")
-        .help("Read the tree from a directory [default: .]")
+        .help("Read the tree from the directory DIR [default: .]")
 }
 
 fn whichdo<'a>(alloc: Global) -> Arg<'a> {
     Arg::new(alloc, "whichdo")
         .long("whichdo")
         .value_name("TARGET")
-        .help("Print where the rule of TARGET is looked for, and build nothing")
+        .help("Print where the rule of TARGET is looked for")
 }
 
 fn verbose<'a>(alloc: Global) -> Arg<'a> {
@@ -155,7 +165,7 @@ fn targets<'a>(alloc: Global) -> Arg<'a> {
 
 /// The forms of the command line.
 pub(crate) fn command<'a>(alloc: Global) -> Result<Command<'a>, AllocError> {
-    Command::new(alloc, "redo")
+    let command = Command::new(alloc, "redo")
         .version(VERSION)
         .about("Builds targets by their .do scripts, in parallel")
         .arg(jobs(alloc))?
@@ -164,34 +174,47 @@ pub(crate) fn command<'a>(alloc: Global) -> Result<Command<'a>, AllocError> {
         .arg(directory(alloc))?
         .arg(whichdo(alloc))?
         .arg(verbose(alloc))?
-        .arg(targets(alloc))
+        .arg(targets(alloc))?;
+    commands::with_commands(alloc, command)
 }
 
 /// What the words ask for. Of several refusals it returns the first in the order of the enum.
 pub(crate) fn call_of(alloc: Global, matches: &ArgMatches<'_>) -> Result<Call, Refusal> {
-    let whichdo = matches.get_str("whichdo");
-    let bundle = matches.get_flag("bundle");
-    if whichdo.is_none() && !matches.get_flag("keep-going") {
+    if !commands::is_given(matches) && !matches.get_flag("keep-going") {
         return Err(Refusal::NoKeepGoing);
     }
-    if bundle && matches.contains_id("directory") {
-        return Err(Refusal::BundleAndDirectory);
-    }
-    if whichdo.is_some() && matches.contains_id("targets") {
-        return Err(Refusal::TargetsBesideWhichdo);
-    }
-    let input = if bundle {
-        Input::Bundle
-    } else {
-        let dir = matches.get_str("directory").unwrap_or(".");
-        Input::Directory(String::from_str(alloc, dir)?)
-    };
-    let action = match whichdo {
-        Some(word) => Action::Whichdo(target(alloc, word)?, input),
-        None => Action::Build(options(alloc, matches)?, input),
-    };
+    commands::check(matches)?;
+    let action = action_of(alloc, matches)?;
     let verbose = matches.get_flag("verbose");
     Ok(Call { action, verbose })
+}
+
+/// Where the tree is read from.
+fn input_of(alloc: Global, matches: &ArgMatches<'_>) -> Result<Input, AllocError> {
+    if matches.get_flag("bundle") {
+        return Ok(Input::Bundle);
+    }
+    Ok(Input::Directory(directory_of(alloc, matches)?))
+}
+
+/// The directory that is named, or else the current one.
+fn directory_of(alloc: Global, matches: &ArgMatches<'_>) -> Result<String, AllocError> {
+    String::from_str(alloc, matches.get_str("directory").unwrap_or("."))
+}
+
+/// What is done with the tree.
+fn action_of(alloc: Global, matches: &ArgMatches<'_>) -> Result<Action, Refusal> {
+    if matches.get_flag("pack") {
+        return Ok(Action::Pack(directory_of(alloc, matches)?, workers(matches)));
+    }
+    let input = input_of(alloc, matches)?;
+    if let Some(word) = matches.get_str("whichdo") {
+        return Ok(Action::Whichdo(target(alloc, word)?, input));
+    }
+    match commands::question_of(alloc, matches)? {
+        Some(question) => Ok(Action::Ask(question, input, workers(matches))),
+        None => Ok(Action::Build(options(alloc, matches)?, input)),
+    }
 }
 
 /// The first word that names no target, and why.
@@ -199,7 +222,7 @@ pub(crate) fn bad_target<'m>(
     alloc: Global,
     matches: &'m ArgMatches<'_>,
 ) -> Option<(&'m str, PathFault)> {
-    if let Some(word) = matches.get_str("whichdo") {
+    if let Some(word) = commands::word_of(matches) {
         return fault_of(alloc, word);
     }
     let words = matches.get_strs("targets")?;
@@ -215,8 +238,18 @@ fn fault_of(alloc: Global, word: &str) -> Option<(&str, PathFault)> {
 }
 
 /// The path that a word names, from the top.
-fn target(alloc: Global, word: &str) -> Result<Path, PathFault> {
+pub(crate) fn target(alloc: Global, word: &str) -> Result<Path, PathFault> {
     resolve(alloc, &Path::root(), word.as_bytes())
+}
+
+/// How many threads may work side by side.
+fn workers(matches: &ArgMatches<'_>) -> usize
+    ensures { result ≤ 64 }
+{
+    match matches.get_one::<usize>("jobs") {
+        Some(jobs) => jobs.clamp(1, MOST_JOBS),
+        None => 1,
+    }
 }
 
 fn options(alloc: Global, matches: &ArgMatches<'_>) -> Result<Options, Refusal> {
@@ -226,10 +259,7 @@ fn options(alloc: Global, matches: &ArgMatches<'_>) -> Result<Options, Refusal> 
             paths.push(target(alloc, word)?)?;
         }
     }
-    let workers = match matches.get_one::<usize>("jobs") {
-        Some(jobs) => jobs.clamp(1, MOST_JOBS),
-        None => 1,
-    };
+    let workers = workers(matches);
     match Limits::new(TARGETS, FILE_BYTES) {
         Some(limits) => Ok(Options {
             targets: paths,

@@ -2,8 +2,11 @@
 
 use crate::options::Refusal;
 use clap::Error;
-use redo_bundle::BundleFault;
+use redo_bundle::{Broken, BundleFault};
+use redo_pack::PackFault;
+use redo_past::PastFault;
 use redo_run::{RunDirFault, RunIoFault};
+use std::alloc::AllocError;
 use std::fmt;
 
 /// All requested targets are built or sources; a rule was found; help or the version was shown.
@@ -43,6 +46,46 @@ pub(crate) enum Fault {
     TooMany,
     Output,
     Memory,
+}
+
+impl From<AllocError> for Fault {
+    fn from(_error: AllocError) -> Fault {
+        Fault::Memory
+    }
+}
+
+impl From<Broken> for Fault {
+    fn from(_error: Broken) -> Fault {
+        Fault::Output
+    }
+}
+
+impl From<BundleFault> for Fault {
+    fn from(fault: BundleFault) -> Fault {
+        match fault {
+            BundleFault::Memory => Fault::Memory,
+            fault => Fault::Bundle(fault),
+        }
+    }
+}
+
+impl From<PastFault> for Fault {
+    fn from(fault: PastFault) -> Fault {
+        match fault {
+            PastFault::Book(line) => Fault::Book(line),
+            PastFault::Memory => Fault::Memory,
+        }
+    }
+}
+
+/// A file that is too large for a bundle can't be written into one.
+impl From<PackFault> for Fault {
+    fn from(fault: PackFault) -> Fault {
+        match fault {
+            PackFault::TooLarge(_) | PackFault::Device => Fault::Output,
+            PackFault::Memory => Fault::Memory,
+        }
+    }
 }
 
 impl From<RunIoFault> for Fault {

@@ -139,7 +139,7 @@ fn is_blocked<D: WorkDir>(
 }
 
 /// Reads a directory by at most N threads. Where it can't be read, the cause names what can't.
-fn load<T: Threads + Sync, D: WorkDir + Sync>(
+pub fn load<T: Threads + Sync, D: WorkDir + Sync>(
     rt: &T,
     alloc: Global,
     dir: &D,
@@ -157,8 +157,9 @@ where
     }
 }
 
-/// The same for a build, which needs a book that is a file.
-fn load_with_book<T: Threads + Sync, D: WorkDir + Sync>(
+/// The same for a build, which needs a book that is a file, and for whatever else asks the book. Where the directory can't
+/// be read, or where something stands in the place of its book that is no file, the cause names what it is.
+pub fn load_with_book<T: Threads + Sync, D: WorkDir + Sync>(
     rt: &T,
     alloc: Global,
     dir: &D,

@@ -43,7 +43,7 @@ mod workers;
 pub use bundle::{run_bundle, whichdo_bundle};
 pub use cause::{Cause, Said};
 pub use dir_fault::RunDirFault;
-pub use directory::{DirRun, run_dir, whichdo_dir};
+pub use directory::{DirRun, load, load_with_book, run_dir, whichdo_dir};
 pub use exit::Exit;
 pub use fault::RunIoFault;
 pub use observer::{NoObserver, Observer};

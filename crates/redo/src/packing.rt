@@ -1,0 +1,44 @@
+//! A directory as a bundle.
+
+use crate::status::Fault;
+use crate::{buffered, flush, note_passed};
+use redo_bundle::Plain;
+use redo_dir::SystemDir;
+use redo_pack::pack;
+use redo_run::{Cause, load};
+use redo_tree::Tree;
+use std::alloc::Global;
+use std::io;
+use std::rt::Runtime;
+use std::thread::Threads;
+
+/// Prints a directory as a bundle. So many threads read it.
+pub(crate) fn pack_dir<H: Runtime + Threads + Sync>(
+    rt: &H,
+    alloc: Global,
+    dir: &str,
+    workers: usize,
+    cause: &mut Cause,
+) -> Result<bool, Fault>
+where
+    H::File: Send,
+    H::Dir: Send,
+{
+    let dir = SystemDir::new(rt, alloc, dir);
+    let (tree, passed) = load(rt, alloc, &dir, workers, cause)?;
+    print(rt, alloc, &tree)?;
+    note_passed(rt, passed);
+    Ok(true)
+}
+
+/// Prints a tree as a bundle.
+fn print<H: Runtime>(rt: &H, alloc: Global, tree: &Tree) -> Result<(), Fault> {
+    let mut writer = Plain::new(buffered(alloc, io::writer(rt))?);
+    let outcome = match pack(alloc, &mut writer, tree) {
+        Ok(()) => flush(&mut writer.stream),
+        Err(fault) => Err(Fault::from(fault)),
+    };
+    // After a failed write the rest isn't tried again, as it would be if the buffer were dropped.
+    let (_out, _unwritten) = writer.stream.into_parts();
+    outcome
+}

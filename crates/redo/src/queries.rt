@@ -1,0 +1,83 @@
+//! Questions to the book of the last run.
+
+use crate::note_passed;
+use crate::options::Input;
+use crate::status::Fault;
+use bstr::BStr;
+use redo_bundle::{Plain, read_bundle_by_line, write_all};
+use redo_dir::SystemDir;
+use redo_past::Past;
+use redo_path::Path;
+use redo_query::{Answer, Question, answer_to};
+use redo_run::{Cause, load_with_book};
+use redo_tree::Tree;
+use std::alloc::Global;
+use std::io;
+use std::rt::Runtime;
+use std::thread::Threads;
+
+/// Reads a tree, by so many threads. Answers how many names were passed over, too.
+fn load<H: Runtime + Threads + Sync>(
+    rt: &H,
+    alloc: Global,
+    input: &Input,
+    workers: usize,
+    cause: &mut Cause,
+) -> Result<(Tree, u64), Fault>
+where
+    H::File: Send,
+    H::Dir: Send,
+{
+    match input {
+        Input::Bundle => {
+            let mut reader = Plain::new(rt.reader());
+            let tree = read_bundle_by_line(alloc, &mut reader, &mut cause.header)?;
+            Ok((tree, 0))
+        }
+        Input::Directory(dir) => {
+            let dir = SystemDir::new(rt, alloc, dir);
+            Ok(load_with_book(rt, alloc, &dir, workers, cause)?)
+        }
+    }
+}
+
+/// Prints the answer to a question, and returns whether the book knows what is asked for.
+pub(crate) fn ask<H: Runtime + Threads + Sync>(
+    rt: &H,
+    alloc: Global,
+    question: &Question,
+    input: &Input,
+    workers: usize,
+    cause: &mut Cause,
+) -> Result<bool, Fault>
+where
+    H::File: Send,
+    H::Dir: Send,
+{
+    let (tree, passed) = load(rt, alloc, input, workers, cause)?;
+    let past = Past::open_by(rt, alloc, workers, tree)?;
+    match answer_to(alloc, &past, question)? {
+        Answer::Lines(text) => {
+            let mut writer = Plain::new(io::writer(rt));
+            write_all(&mut writer, &text)?;
+            note_passed(rt, passed);
+            Ok(true)
+        }
+        Answer::Unknown(nearest) => {
+            show_unknown(rt, nearest);
+            note_passed(rt, passed);
+            Ok(false)
+        }
+    }
+}
+
+/// Says that the book doesn't know a path, and which name is the nearest that it knows.
+fn show_unknown<H: Runtime>(rt: &H, nearest: Option<&Path>) {
+    let _shown = match nearest {
+        Some(path) => {
+            let name = BStr::new(path.text());
+            eprintln!(rt; "redo: not in the book; the nearest name is {name:?}")
+        }
+        None => eprintln!(rt; "redo: not in the book"),
+    };
+}

@@ -1,0 +1,6 @@
+pub mod AmongLemmas
+pub mod NearLemmas
+pub mod NeedLemmas
+pub mod PlaceLemmas
+pub mod RoundLemmas
+pub mod SourceLemmas

@@ -1,0 +1,8 @@
+use Rattle.std.proofs.Common.{◌≡◌, map, take}
+use Rattle.redo_book.specs.Book.{record_of, targets_of}
+use Rattle.redo_query.proofs.users.targets_of.Given as goal
+
+-- the targets of the records so far
+abbrev pub invariant-loop-made : goal.invariant-loop-made
+invariant-loop-made l =
+    map (λ p. p.now) l.paths.items ≡ targets_of (map record_of (take l.made-index l.made-items))

@@ -1,0 +1,4 @@
+pub mod Answers
+pub mod Names
+pub mod Nearest
+pub mod inside
