@@ -180,7 +180,10 @@ where
         Input::Directory(dir) => {
             let mut dir = SystemDir::new(rt, alloc, dir);
             let run = run_dir(rt, alloc, &mut dir, writer, options, &NoObserver, cause)?;
-            (run.exit, run.passed)
+            let ended = (run.exit, run.passed);
+            // Forgotten as above.
+            mem::forget(run);
+            ended
         }
     };
     flush(&mut writer.stream)?;

@@ -1,3 +1,4 @@
 pub mod Book
 pub mod Intact
+pub mod Noted
 pub mod inside

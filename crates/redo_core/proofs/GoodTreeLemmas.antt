@@ -34,8 +34,8 @@ use Rattle.redo_step.proofs.Public.{always_at_top, recorded_met, top_not_created
 use Rattle.redo_skip.specs.Checks.{built, known_file, told}
 use Rattle.redo_skip.specs.NewBook.{CanBeNoted, IsGood}
 use Rattle.redo_skip.specs.Sources.{File, Sources}
-use Rattle.redo_report.specs.declared.report.Row.{Row}
-use Rattle.redo_past.specs.NewBook.{entry_as, is_built}
+use Rattle.redo_book.specs.Noted.{is_notable}
+use Rattle.redo_past.specs.NewBook.{is_built}
 use Rattle.redo_core.specs.Build.{sources_of}
 use Rattle.redo_core.specs.inside.Worlds.{IsFit, World, progress_in, world_of}
 use Rattle.redo_core.proofs.AlikeTreeLemmas.{entered-all}
@@ -201,19 +201,19 @@ module _ (tree : Tree) (limits : LimitsView) (p : Path) (a : Ask) where
     can_be_noted file kinds.Create q sane e h = tt
     can_be_noted file kinds.Always q sane e h = always_at_top setting a missing do_file parsed q h
 
-    has_line : (rows : List Row) → IsTree tree → held_in None (a []) ≡ None → (file : File) (k : DepKind) (q : Path) →
+    has_line : IsTree tree → held_in None (a []) ≡ None → (file : File) (k : DepKind) (q : Path) →
         came.outcome ≡ Some (outcomes.Built file) → is_entered came.deps k q ≡ true →
-        IsSome (entry_as tree rows k q)
-    has_line rows is_tree nothing file kinds.Change [] e h =
+        is_notable k q ≡ true
+    has_line is_tree nothing file kinds.Change [] e h =
         absurd (both_ways _ (top_unchanged tree limits.file_bytes p arguments is_tree.root do_file missing found parsed
         a file e nothing) h)
-    has_line rows is_tree nothing file kinds.Create [] e h =
+    has_line is_tree nothing file kinds.Create [] e h =
         absurd (both_ways _ (top_not_created tree limits.file_bytes p arguments is_tree.root do_file missing found
         parsed a file e) h)
-    has_line rows is_tree nothing file kinds.Always [] e h = refl
-    has_line rows is_tree nothing file kinds.Change (byte ∷ bytes) e h = refl
-    has_line rows is_tree nothing file kinds.Create (byte ∷ bytes) e h = refl
-    has_line rows is_tree nothing file kinds.Always (byte ∷ bytes) e h =
+    has_line is_tree nothing file kinds.Always [] e h = refl
+    has_line is_tree nothing file kinds.Change (byte ∷ bytes) e h = refl
+    has_line is_tree nothing file kinds.Create (byte ∷ bytes) e h = refl
+    has_line is_tree nothing file kinds.Always (byte ∷ bytes) e h =
         absurd (let bad : byte ∷ bytes ≡ [] = always_at_top setting a missing do_file parsed (byte ∷ bytes) h in cc)
 
   ruled-by : (file : File) (f : Found) → (f ≡ Source → is_some (file_at tree p) ≡ true) →
@@ -259,18 +259,18 @@ top-found tree is_tree =
       | None ↦ NoDirectory
     ]) is_tree.root
 
-pub lines : (tree : Tree) (limits : LimitsView) → IsTree tree → (rows : List Row) (p : Path) (a : Ask) (file : File) →
+pub lines : (tree : Tree) (limits : LimitsView) → IsTree tree → (p : Path) (a : Ask) (file : File) →
     told (a []) ≡ None → ((sources_of tree limits).progress p a).outcome ≡ Some (outcomes.Built file) →
-    AllByRecursion (λ d. IsSome (entry_as tree rows d.kind d.path)) ((sources_of tree limits).progress p a).deps
-lines tree limits is_tree rows p a file nothing ended =
+    AllByRecursion (λ d. is_notable d.kind d.path ≡ true) ((sources_of tree limits).progress p a).deps
+lines tree limits is_tree p a file nothing ended =
     let w : World = world_of tree limits in
     let P : Found → Type 0 = λ f. (k : DepKind) (q : Path) → is_entered (progress_in w p f a).deps k q ≡ true →
-    IsSome (entry_as tree rows k q) in
+    is_notable k q ≡ true in
     let each : P (found_of tree p) = built-ruled tree limits p a (found_of tree p) file P
-    (λ do_file missing arguments found k q h. has_line tree limits p a do_file missing arguments found rows is_tree
+    (λ do_file missing arguments found k q h. has_line tree limits p a do_file missing arguments found is_tree
     (told-held (a []) ∙ nothing) file k q
     (subst (λ (f : Found). (progress_in w p f a).outcome ≡ Some (outcomes.Built file)) found ended) h) ended in
-    entered-all (λ k q. IsSome (entry_as tree rows k q)) ((sources_of tree limits).progress p a).deps each
+    entered-all (λ k q. is_notable k q ≡ true) ((sources_of tree limits).progress p a).deps each
 
 pub built-at : (o : Option Outcome) → is_built (unwrap_or o outcomes.Cyclic) ≡ true →
     (file : File) × (o ≡ Some (outcomes.Built file))

@@ -30,6 +30,7 @@ use Rattle.redo_build.specs.Rules.{Ask, Rules, AreLawful, operands}
 use Rattle.redo_build.specs.Outcomes.{final_outcome, needed_at, outcome_at, record_of}
 use Rattle.redo_build.proofs.DepthLemmas.{cases_Option, outcome_at-step, outcome_at-zero, settled}
 use Rattle.redo_build.proofs.PathLemmas.{is_among-from}
+use Rattle.redo_book.specs.Noted.{entry_as, is_notable, new_record, noted}
 use Rattle.redo_skip.specs.Checks.{Check, Checks, Finding, stands, built, finding, is_asked, known_file}
 use Rattle.redo_skip.specs.Checks.{progress_checked, record_checked, standing, told}
 use Rattle.redo_skip.specs.NewBook as skip
@@ -143,7 +144,7 @@ module _ (given : GivenView) (is_tree : IsTree given.past.sources) (report : Rep
 
   -- the file that is known of a path is the one of which a book notes the state
   state-noted : (q : Path) (file : File) → (r.is_source q ≡ false → IsAmong (needed_at r request limit) q) →
-      known_file s end q ≡ Some file → past.state_at tree rows q ≡ state_of file
+      known_file s end q ≡ Some file → past.state_after tree rows q ≡ state_of file
   state-noted q file reached e = elim (cases_Bool (r.is_source q)) [
     | inl some ↦
         let bytes = source-parts (file_at tree q) some in
@@ -166,33 +167,32 @@ module _ (given : GivenView) (is_tree : IsTree given.past.sources) (report : Rep
 
   -- an entry as the new book has it
   entry-noted : (k : DepKind) (q : Path) → (k ≡ kinds.Change → r.is_source q ≡ false →
-      IsAmong (needed_at r request limit) q) → IsSome (past.entry_as tree rows k q) → CanBeNoted s end k q →
-      past.entry_as tree rows k q ≡ Some (skip.entry_as s end k q)
-  entry-noted kinds.Change [] reached line can = absurd cc
-  entry-noted kinds.Change (byte ∷ bytes) reached line can =
-      let q : Path = byte ∷ bytes in
-      let now : past.state_at tree rows q ≡ state_of can.0 = state-noted q can.0 (reached refl) can.1 in
-      let then : skip.state_at s end q ≡ state_of can.0 = ap (λ (o : Option File). option_and_then state_of o) can.1 in
-      ap (λ state. Some (Change state q)) (now ∙ sym then)
-  entry-noted kinds.Create [] reached line can = absurd cc
-  entry-noted kinds.Create (byte ∷ bytes) reached line can = refl
-  entry-noted kinds.Always [] reached line can = refl
-  entry-noted kinds.Always (byte ∷ bytes) reached line can = absurd cc
+      IsAmong (needed_at r request limit) q) → CanBeNoted s end k q →
+      entry_as (past.state_after tree rows) k q ≡ entry_as (skip.state_known s end) k q
+  entry-noted kinds.Change q reached can =
+      let now : past.state_after tree rows q ≡ state_of can.0 = state-noted q can.0 (reached refl) can.1 in
+      let then : skip.state_known s end q ≡ state_of can.0 = ap (λ (o : Option File). option_and_then state_of o) can.1 in
+      ap (λ state. Change state q) (now ∙ sym then)
+  entry-noted kinds.Create q reached can = refl
+  entry-noted kinds.Always q reached can = refl
 
   record IsNotable (d : Dep) : Type 0 where
     reached : d.kind ≡ kinds.Change → r.is_source d.path ≡ false → IsAmong (needed_at r request limit) d.path
-    line : IsSome (past.entry_as tree rows d.kind d.path)
+    line : is_notable d.kind d.path ≡ true
     can : CanBeNoted s end d.kind d.path
 
-  all-noted : (ds : List Dep) → AllByRecursion IsNotable ds → past.noted tree rows ds ≡ skip.noted s end ds
+  all-noted : (ds : List Dep) → AllByRecursion IsNotable ds →
+      noted (past.state_after tree rows) (past.notable ds) ≡ noted (skip.state_known s end) ds
   all-noted [] all = refl
   all-noted (d ∷ ds) all =
-      let here = entry-noted d.kind d.path all.0.reached all.0.line all.0.can in
-      rw here (ap (λ (es : List BookEntry). skip.entry_as s end d.kind d.path ∷ es) (all-noted ds all.1))
+      let here = entry-noted d.kind d.path all.0.reached all.0.can in
+      ap (λ (b : Bool). noted (past.state_after tree rows) (cond b (d ∷ past.notable ds) (past.notable ds))) all.0.line
+      ∙ ap (λ (e : BookEntry). e ∷ noted (past.state_after tree rows) (past.notable ds)) here
+      ∙ ap (λ (es : List BookEntry). entry_as (skip.state_known s end) d.kind d.path ∷ es) (all-noted ds all.1)
 
   notable : (ds : List Dep) → ((q : Path) → is_entered ds kinds.Change q ≡ true → r.is_source q ≡ false →
       IsAmong (needed_at r request limit) q) →
-      AllByRecursion (λ d. IsSome (past.entry_as tree rows d.kind d.path)) ds →
+      AllByRecursion (λ d. is_notable d.kind d.path ≡ true) ds →
       AllByRecursion (λ d. CanBeNoted s end d.kind d.path) ds → AllByRecursion IsNotable ds
   notable [] reached line can = tt
   notable (d ∷ ds) reached line can = (
@@ -238,7 +238,7 @@ module _ (given : GivenView) (is_tree : IsTree given.past.sources) (report : Rep
   -- what a script declared can be noted
   script-notable : (p : Path) (file : File) (ds : List Dep) → s.progress p end ≡ built file ds →
       ((q : Path) → IsAmong (operands r ds) q → IsAmong (needed_at r request limit) q) →
-      AllByRecursion (λ d. IsSome (past.entry_as tree rows d.kind d.path)) ds → AllByRecursion IsNotable ds
+      AllByRecursion (λ d. is_notable d.kind d.path ≡ true) ds → AllByRecursion IsNotable ds
   script-notable p file ds came reach line =
       notable ds (λ q h out. reach q (entered_operand r.is_source ds q out h)) line
       ((trees-good tree given.limits).notable p end file ds (λ q named made. sane-at limit q named made) came)
@@ -246,7 +246,7 @@ module _ (given : GivenView) (is_tree : IsTree given.past.sources) (report : Rep
   -- and so can the entries of a record that all stand
   stood-notable : (es : List BookEntry) → (finding s end es).standing ≡ stands →
       ((q : Path) → IsAmong (finding s end es).asked q → IsAmong (needed_at r request limit) q) →
-      AllByRecursion (λ d. IsSome (past.entry_as tree rows d.kind d.path)) (shown_all es) →
+      AllByRecursion (λ d. is_notable d.kind d.path ≡ true) (shown_all es) →
       AllByRecursion IsNotable (shown_all es)
   stood-notable [] t reach line = tt
   stood-notable (Change state q ∷ es) t reach line =
@@ -281,14 +281,14 @@ module _ (given : GivenView) (is_tree : IsTree given.past.sources) (report : Rep
   row-notable : (p : Path) (file : File) (o : Option Check) →
       (progress_checked s p o end).outcome ≡ Some (outcomes.Built file) →
       ((q : Path) → IsAmong (operands r (progress_checked s p o end).deps) q → IsAmong (needed_at r request limit) q) →
-      AllByRecursion (λ d. IsSome (past.entry_as tree rows d.kind d.path)) (record_checked s p o end) →
+      AllByRecursion (λ d. is_notable d.kind d.path ≡ true) (record_checked s p o end) →
       AllByRecursion IsNotable (record_checked s p o end)
   row-notable p file None e reach line =
       script-notable p file (s.progress p end).deps (built_eta (s.progress p end) file e) reach line
   row-notable p file (Some c) e reach line =
       let found : Finding = finding s end c.entries in
       let own : Progress = s.progress p end in
-      let L : List Dep → Type 0 = AllByRecursion (λ d. IsSome (past.entry_as tree rows d.kind d.path)) in
+      let L : List Dep → Type 0 = AllByRecursion (λ d. is_notable d.kind d.path ≡ true) in
       elim (cases_Standing found.standing) [
         | inl t ↦
             let seen = finding-seen s c.entries end t in
@@ -310,7 +310,7 @@ module _ (given : GivenView) (is_tree : IsTree given.past.sources) (report : Rep
 
   -- the record of a row is the one that the new book has of its target
   row-noted : (row : Row) → Contains rows row → is_built row.outcome ≡ true →
-      skip.new_book s (last_run_of given.past) request limit row.path ≡ Some (past.new_record tree rows row)
+      skip.new_book s (last_run_of given.past) request limit row.path ≡ Some (past.record_of_row tree rows row)
   row-noted row listed was_built =
       let p : Path = row.path in
       let k : Checks = checks_for given in
@@ -326,16 +326,16 @@ module _ (given : GivenView) (is_tree : IsTree given.past.sources) (report : Rep
       ] in
       let ds : List Dep = record_of r limit p in
       let same : arc_value row.deps ≡ ds = was.1 ∙ ap (λ (v : Bool). cond v [] ds) made in
-      let L : List Dep → Type 0 = AllByRecursion (λ d. IsSome (past.entry_as tree rows d.kind d.path)) in
-      let line : L ds = lines-checked given is_tree rows p end file (k p) (top-nothing given is_tree limit)
+      let L : List Dep → Type 0 = AllByRecursion (λ d. is_notable d.kind d.path ≡ true) in
+      let line : L ds = lines-checked given is_tree p end file (k p) (top-nothing given is_tree limit)
       (built-ended given is_tree limit p file made came.1) in
-      let entries : past.noted tree rows (arc_value row.deps) ≡ skip.noted s end ds =
-      ap (λ (es : List Dep). past.noted tree rows es) same
+      let entries : noted (past.state_after tree rows) (past.notable (arc_value row.deps)) ≡ noted (skip.state_known s end) ds =
+      ap (λ (es : List Dep). noted (past.state_after tree rows) (past.notable es)) same
       ∙ all-noted ds (row-notable p file (k p) (built-ended given is_tree limit p file made came.1)
       (λ q asked. reached p q (k p) refl m asked) line) in
       let made_file : file_in row.outcome ≡ file = ap file_in was.0 ∙ told-final (end p) file (ap told came.1) in
-      let new : past.new_record tree rows row ≡ skip.new_record s end p file ds =
-      records-same p (file_in row.outcome) file (past.noted tree rows (arc_value row.deps)) (skip.noted s end ds)
+      let new : past.record_of_row tree rows row ≡ new_record (skip.state_known s end) p file ds =
+      records-same p (file_in row.outcome) file (noted (past.state_after tree rows) (past.notable (arc_value row.deps))) (noted (skip.state_known s end) ds)
       made_file entries in
       let needed : List Path = needed_at r request limit in
       let built_file : (cond (is_among needed p) (option_and_then skip.built_with (end p)) None) ≡ Some file =
@@ -346,10 +346,10 @@ module _ (given : GivenView) (is_tree : IsTree given.past.sources) (report : Rep
 
   -- it is one of this run, or that of the last book
   pub row-true : (row : Row) → Contains rows row → is_built row.outcome ≡ true →
-      skip.IsOfRun s (last_run_of given.past) request limit row.path (past.new_record tree rows row)
+      skip.IsOfRun s (last_run_of given.past) request limit row.path (past.record_of_row tree rows row)
   row-true row listed was_built =
       all-here s (last_run_of given.past) request limit (plain_lawful given) (trees-good tree given.limits) is.within
-      row.path (past.new_record tree rows row) (row-noted row listed was_built)
+      row.path (past.record_of_row tree rows row) (row-noted row listed was_built)
 
 -- The whole book
 
@@ -381,7 +381,7 @@ book-true given report book is_tree is new old =
         | inr known ↦
             subst (IsTrueOfTrees given.limits.file_bytes) (sym here.is)
             (looked-up (IsTrueOfTrees given.limits.file_bytes) given.past.book old here.row.path
-            (past.new_record given.past.sources report.rows.items here.row) known)
+            (past.record_of_row given.past.sources report.rows.items here.row) known)
       ]
       | inr carried ↦ All-contains (IsTrueOfTrees given.limits.file_bytes) given.past.book r old carried.known
     ]) book (All-contains_itself book)

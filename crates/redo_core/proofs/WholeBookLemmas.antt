@@ -30,7 +30,8 @@ use Rattle.redo_skip.proofs.NewBookLemmas.{are-checks}
 use Rattle.redo_report.specs.Reports.{IsReport, deps_of}
 use Rattle.redo_report.specs.declared.report.Report.{Report}
 use Rattle.redo_report.specs.declared.report.Row.{Row}
-use Rattle.redo_past.specs.NewBook.{entry_as, is_built}
+use Rattle.redo_book.specs.Noted.{is_notable}
+use Rattle.redo_past.specs.NewBook.{is_built}
 use Rattle.redo_core.specs.Build.{GivenView, checks_for, last_run_of, rules_for, sources_for}
 use Rattle.redo_core.specs.inside.Worlds.{progress_in, world_of}
 use Rattle.redo_core.specs.TreeSources.{IsNotedWhole}
@@ -81,48 +82,48 @@ module _ (given : GivenView) (is_tree : IsTree given.past.sources) where
       ∙ ap (λ (f : Found). told (progress_in (world_of tree given.limits) [] f a).outcome) (top-found tree is_tree)
 
   -- a book has a line for each entry of a record all of whose entries stand
-  lines-stood : (rows : List Row) (a : Ask) (es : List BookEntry) → told (a []) ≡ None →
+  lines-stood : (a : Ask) (es : List BookEntry) → told (a []) ≡ None →
       (finding s a es).standing ≡ stands →
-      AllByRecursion (λ d. IsSome (entry_as tree rows d.kind d.path)) (shown_all es)
-  lines-stood rows a [] nothing t = tt
-  lines-stood rows a (Change state [] ∷ es) nothing t = absurd (
+      AllByRecursion (λ d. is_notable d.kind d.path ≡ true) (shown_all es)
+  lines-stood a [] nothing t = tt
+  lines-stood a (Change state [] ∷ es) nothing t = absurd (
       let both = found-stands s (Change state []) (standing s a (Change state [])) (finding s a es) t in
       let has = stands-file s state [] a both.0 in
       let none : known_file s a [] ≡ None =
       known-nothing (file_at tree []) (is_do_file []) (a []) (top-source tree is_tree) nothing in
       let bad : ◌≡◌ {A = Option File} None (Some has.0) = sym none ∙ has.1 in cc)
-  lines-stood rows a (Change state (byte ∷ bytes) ∷ es) nothing t =
+  lines-stood a (Change state (byte ∷ bytes) ∷ es) nothing t =
       let q : Path = byte ∷ bytes in
       let both = found-stands s (Change state q) (standing s a (Change state q)) (finding s a es) t in
-      (refl, lines-stood rows a es nothing both.1)
-  lines-stood rows a (Create [] ∷ es) nothing t = absurd (
+      (refl, lines-stood a es nothing both.1)
+  lines-stood a (Create [] ∷ es) nothing t = absurd (
       let both = found-stands s (Create []) (standing s a (Create [])) (finding s a es) t in
       let taken : s.is_free [] ≡ false =
       ap (λ (n : Option Node). is_none n && not (is_rule (found_of tree []))) is_tree.root in
       stands-free (s.is_free []) taken both.0)
-  lines-stood rows a (Create (byte ∷ bytes) ∷ es) nothing t =
+  lines-stood a (Create (byte ∷ bytes) ∷ es) nothing t =
       let q : Path = byte ∷ bytes in
       let both = found-stands s (Create q) (standing s a (Create q)) (finding s a es) t in
-      (refl, lines-stood rows a es nothing both.1)
-  lines-stood rows a (Always ∷ es) nothing t = absurd cc
+      (refl, lines-stood a es nothing both.1)
+  lines-stood a (Always ∷ es) nothing t = absurd cc
 
   -- and for each of the record of a target that was built
-  pub lines-checked : (rows : List Row) (p : Path) (a : Ask) (file : File) (o : Option Check) → told (a []) ≡ None →
+  pub lines-checked : (p : Path) (a : Ask) (file : File) (o : Option Check) → told (a []) ≡ None →
       (progress_checked s p o a).outcome ≡ Some (outcomes.Built file) →
-      AllByRecursion (λ d. IsSome (entry_as tree rows d.kind d.path)) (record_checked s p o a)
-  lines-checked rows p a file None nothing e = lines tree given.limits is_tree rows p a file nothing e
-  lines-checked rows p a file (Some c) nothing e =
+      AllByRecursion (λ d. is_notable d.kind d.path ≡ true) (record_checked s p o a)
+  lines-checked p a file None nothing e = lines tree given.limits is_tree p a file nothing e
+  lines-checked p a file (Some c) nothing e =
       let found : Finding = finding s a c.entries in
       let own : Progress = s.progress p a in
       elim (cases_Standing found.standing) [
         | inl t ↦
-            let P : List Dep → Type 0 = AllByRecursion (λ d. IsSome (entry_as tree rows d.kind d.path)) in
-            rw t (subst P (sym (finding-seen s c.entries a t)) (lines-stood rows a c.entries nothing t))
+            let P : List Dep → Type 0 = AllByRecursion (λ d. is_notable d.kind d.path ≡ true) in
+            rw t (subst P (sym (finding-seen s c.entries a t)) (lines-stood a c.entries nothing t))
         | inr other ↦ elim other [
           | inl l ↦ absurd (let bad : ◌≡◌ {A = Option Outcome} None (Some (outcomes.Built file)) =
               sym (progress-lacks c.file found own l) ∙ e in cc)
           | inr f ↦
-              rw f (lines tree given.limits is_tree rows p a file nothing (sym (progress-falls c.file found own f) ∙ e))
+              rw f (lines tree given.limits is_tree p a file nothing (sym (progress-falls c.file found own f) ∙ e))
         ]
       ]
 
@@ -150,21 +151,21 @@ module _ (given : GivenView) (is_tree : IsTree given.past.sources) where
     | inr made ↦ made
   ]
 
-  row-whole : (rows : List Row) (limit : ℕ) (row : Row) →
+  row-whole : (limit : ℕ) (row : Row) →
       (row.outcome ≡ final_outcome r limit row.path) × (arc_value row.deps ≡ deps_of r limit row.path) →
-      IsNotedWhole tree rows row
-  row-whole rows limit row is was =
+      IsNotedWhole row
+  row-whole limit row is was =
       let p : Path = row.path in
       let a : Ask = outcome_at r limit in
       let end = built-at (a p) (ap is_built (sym is.0) ∙ was) in
       let made = built-target limit p end.0 end.1 in
       let deps : arc_value row.deps ≡ r.recorded p a = is.1 ∙ ap (λ (v : Bool). cond v [] (r.recorded p a)) made in
-      subst (λ (ds : List Dep). AllByRecursion (λ d. IsSome (entry_as tree rows d.kind d.path)) ds) (sym deps)
-      (lines-checked rows p a end.0 (checks_for given p) (top-nothing limit) (built-ended limit p end.0 made end.1))
+      subst (λ (ds : List Dep). AllByRecursion (λ d. is_notable d.kind d.path ≡ true) ds) (sym deps)
+      (lines-checked p a end.0 (checks_for given p) (top-nothing limit) (built-ended limit p end.0 made end.1))
 
   pub report-whole : (request : List Path) (limit : ℕ) (report : Report) → IsReport r request limit report →
-      All (IsNotedWhole tree report.rows.items) report.rows.items
+      All IsNotedWhole report.rows.items
   report-whole request limit report is =
       All-weaker (λ row. (row.outcome ≡ final_outcome r limit row.path) ×
-      (arc_value row.deps ≡ deps_of r limit row.path)) (IsNotedWhole tree report.rows.items)
-      (λ row was. row-whole report.rows.items limit row was) report.rows.items is.outcomes
+      (arc_value row.deps ≡ deps_of r limit row.path)) IsNotedWhole
+      (λ row was. row-whole limit row was) report.rows.items is.outcomes

@@ -1,15 +1,16 @@
 -- Which records of a book are true of trees.
-use Rattle.std.specs.Prelude.{◌≡◌, ℕ, true, List, Option, Some, IsSome}
+use Rattle.std.specs.Prelude.{◌≡◌, ℕ, true, List, Option, Some}
 use Rattle.std.specs.Arc.{arc_value}
 use Rattle.std.specs.List.{AllByRecursion}
 use Rattle.redo_digest.specs.Digest.{state_of}
 use Rattle.redo_tree.specs.Tree.{Tree, file_at}
 use Rattle.redo_book.specs.Book.{Record, record_at}
+use Rattle.redo_book.specs.Noted.{is_notable}
 use Rattle.redo_build.specs.Outcomes.{outcome_at}
 use Rattle.redo_build.specs.Rules.{Ask}
 use Rattle.redo_skip.specs.Truth.{AreApart, IsWitness}
 use Rattle.redo_report.specs.declared.report.Row.{Row}
-use Rattle.redo_past.specs.NewBook.{entry_as, is_built}
+use Rattle.redo_past.specs.NewBook.{is_built}
 use Rattle.redo_core.specs.Build.{GivenView, plain_rules_for, sources_by, sources_for}
 
 -- a record is true of trees: in some tree, with some answers and with this limit of a file's bytes, its target came to
@@ -37,7 +38,7 @@ HasHonestBook given = (p : List ℕ) (r : Record) → record_at given.past.book 
     (is : IsTrueOfTrees given.limits.file_bytes r) × IsUnconfused given r is
 
 -- if the row's target was built, a book has each entry of its record
-abbrev pub IsNotedWhole : Tree → List Row → Row → Type 0
-IsNotedWhole sources rows row =
+abbrev pub IsNotedWhole : Row → Type 0
+IsNotedWhole row =
     is_built row.outcome ≡ true →
-    AllByRecursion (λ d. IsSome (entry_as sources rows d.kind d.path)) (arc_value row.deps)
+    AllByRecursion (λ d. is_notable d.kind d.path ≡ true) (arc_value row.deps)

@@ -1,10 +1,10 @@
 -- The entries of a record as a book has them stand once each.
-use Rattle.std.proofs.Common.{◌≡◌, Bool, true, false, ◌&&◌, ◌||◌, ℕ, List, [], ◌∷◌, Some, None, refl, sym, ap}
-use Rattle.std.proofs.Common.{subst, ◌∙◌}
-use Rattle.std.specs.List.{AllByRecursion, IsDistinct, cons_option}
+use Rattle.std.proofs.Common.{◌≡◌, Bool, true, false, ◌&&◌, ◌||◌, ℕ, List, [], ◌∷◌, refl, sym, ap}
+use Rattle.std.proofs.Common.{cond, map, ◌∙◌}
+use Rattle.std.specs.List.{AllByRecursion, IsDistinct}
 use Rattle.std.specs.Str.{bytes_eq}
+use Rattle.redo_digest.specs.Digest.{State}
 use Rattle.redo_path.proofs.ApartLemmas.{apart}
-use Rattle.redo_tree.specs.Tree.{Tree}
 use Rattle.redo_record.specs.declared.deps.Dep.{Dep}
 use Rattle.redo_record.specs.declared.deps.DepKind.{DepKind}
 use Rattle.redo_record.specs.declared.deps.DepKind.TheVariants as kinds
@@ -12,62 +12,53 @@ use Rattle.redo_record.specs.Entries.{AreOnce, is_entered, same_kind}
 use Rattle.redo_book.specs.declared.book.BookEntry.{BookEntry}
 use Rattle.redo_book.specs.declared.book.BookEntry.TheVariants.{Change, Create, Always}
 use Rattle.redo_book.specs.Book.{same_entry}
-use Rattle.redo_report.specs.declared.report.Row.{Row}
-use Rattle.redo_past.specs.NewBook.{entry_as, if_top, noted, state_at, unless_top}
+use Rattle.redo_book.specs.Noted.{entry_as, is_notable, is_top, noted}
+use Rattle.redo_past.specs.NewBook.{notable, state_after}
+use Rattle.redo_past.specs.inside.Books.{StatesView, noted_in}
 
--- an entry below the top directory stays what it is
-below : (path : List ℕ) (entry x : BookEntry) → unless_top path entry ≡ Some x → entry ≡ x
-below [] entry x h = apart cc
-below (byte ∷ bytes) entry x h = cc
+the-top : (path : List ℕ) → is_top path ≡ true → path ≡ []
+the-top [] h = refl
+the-top (byte ∷ bytes) h = apart cc
 
--- and one that is kept with the path of the top directory is about that path
-at-top : (path : List ℕ) (entry x : BookEntry) → if_top path entry ≡ Some x → (path ≡ []) × (entry ≡ x)
-at-top [] entry x h = (refl, cc)
-at-top (byte ∷ bytes) entry x h = apart cc
+neither : (a b : Bool) → (a || b) ≡ false → (a ≡ false) × (b ≡ false)
+neither true b h = apart cc
+neither false b h = (refl, h)
 
-differ : (a b x y : BookEntry) → a ≡ x → b ≡ y → same_entry a b ≡ false → same_entry x y ≡ false
-differ a b x y ea eb h = subst (λ z. same_entry z y ≡ false) ea (subst (λ z. same_entry a z ≡ false) eb h)
+module _ (states : StatesView) where
+  abbrev known : List ℕ → State
+  known = state_after states.sources states.rows
 
-module _ (sources : Tree) (rows : List Row) where
+  abbrev entry : Dep → BookEntry
+  entry d = entry_as known d.kind d.path
+
   -- entries of two kinds or paths are two
-  apart-entries : (j k : DepKind) (p q : List ℕ) (x y : BookEntry) → entry_as sources rows j p ≡ Some x → entry_as sources rows k q ≡ Some y → (same_kind j k && bytes_eq p q) ≡ false → same_entry x y ≡ false
-  apart-entries kinds.Change kinds.Change p q x y ex ey h =
-      differ (Change (state_at sources rows p) p) (Change (state_at sources rows q) q) x y (below p _ x ex) (below q _ y ey) h
-  apart-entries kinds.Create kinds.Create p q x y ex ey h = differ (Create p) (Create q) x y (below p _ x ex) (below q _ y ey) h
-  apart-entries kinds.Change kinds.Create p q x y ex ey h =
-      differ (Change (state_at sources rows p) p) (Create q) x y (below p _ x ex) (below q _ y ey) refl
-  apart-entries kinds.Create kinds.Change p q x y ex ey h =
-      differ (Create p) (Change (state_at sources rows q) q) x y (below p _ x ex) (below q _ y ey) refl
-  apart-entries kinds.Always kinds.Always p q x y ex ey h =
-      let tops = (at-top p Always x ex).0 in
-      let bottoms = (at-top q Always y ey).0 in
-      let bad : true ≡ false = sym (ap (λ r. bytes_eq r []) tops ∙ refl) ∙ sym (ap (bytes_eq p) bottoms) ∙ h in
+  apart-entries : (j k : DepKind) (p q : List ℕ) → is_notable j p ≡ true → is_notable k q ≡ true → (same_kind j k && bytes_eq p q) ≡ false → same_entry (entry_as known j p) (entry_as known k q) ≡ false
+  apart-entries kinds.Change kinds.Change p q jp kq h = h
+  apart-entries kinds.Create kinds.Create p q jp kq h = h
+  apart-entries kinds.Change kinds.Create p q jp kq h = refl
+  apart-entries kinds.Create kinds.Change p q jp kq h = refl
+  apart-entries kinds.Always kinds.Always p q jp kq h =
+      let bad : true ≡ false = sym (ap (λ r. bytes_eq r []) (the-top p jp) ∙ refl) ∙ sym (ap (bytes_eq p) (the-top q kq)) ∙ h in
       apart cc
-  apart-entries kinds.Always kinds.Change p q x y ex ey h =
-      differ Always (Change (state_at sources rows q) q) x y (at-top p _ x ex).1 (below q _ y ey) refl
-  apart-entries kinds.Always kinds.Create p q x y ex ey h = differ Always (Create q) x y (at-top p _ x ex).1 (below q _ y ey) refl
-  apart-entries kinds.Change kinds.Always p q x y ex ey h =
-      differ (Change (state_at sources rows p) p) Always x y (below p _ x ex) (at-top q _ y ey).1 refl
-  apart-entries kinds.Create kinds.Always p q x y ex ey h = differ (Create p) Always x y (below p _ x ex) (at-top q _ y ey).1 refl
+  apart-entries kinds.Always kinds.Change p q jp kq h = refl
+  apart-entries kinds.Always kinds.Create p q jp kq h = refl
+  apart-entries kinds.Change kinds.Always p q jp kq h = refl
+  apart-entries kinds.Create kinds.Always p q jp kq h = refl
 
-  neither : (a b : Bool) → (a || b) ≡ false → (a ≡ false) × (b ≡ false)
-  neither true b h = apart cc
-  neither false b h = (refl, h)
-
-  none-again : (d : Dep) (ds : List Dep) (x : BookEntry) → entry_as sources rows d.kind d.path ≡ Some x → is_entered ds d.kind d.path ≡ false → AllByRecursion (λ y. same_entry x y ≡ false) (noted sources rows ds)
-  none-again d [] x ex h = tt
-  none-again d (e ∷ ds) x ex h =
+  none-again : (d : Dep) (ds : List Dep) → is_notable d.kind d.path ≡ true → is_entered ds d.kind d.path ≡ false → AllByRecursion (λ y. same_entry (entry d) y ≡ false) (noted_in states ds)
+  none-again d [] can h = tt
+  none-again d (e ∷ ds) can h =
       let parts = neither (same_kind d.kind e.kind && bytes_eq d.path e.path) (is_entered ds d.kind d.path) h in
-      (elim (entry_as sources rows e.kind e.path) as (λ v. entry_as sources rows e.kind e.path ≡ v → AllByRecursion (λ y. same_entry x y ≡ false) (cons_option v (noted sources rows ds))) [
-        | None ↦ λ none. none-again d ds x ex parts.1
-        | Some y ↦ λ ey. (apart-entries d.kind e.kind d.path e.path x y ex ey parts.0, none-again d ds x ex parts.1)
+      (elim (is_notable e.kind e.path) as (λ b. is_notable e.kind e.path ≡ b → AllByRecursion (λ y. same_entry (entry d) y ≡ false) (map entry (cond b (e ∷ notable ds) (notable ds)))) [
+        | false ↦ λ no. none-again d ds can parts.1
+        | true ↦ λ yes. (apart-entries d.kind e.kind d.path e.path can yes parts.0, none-again d ds can parts.1)
       ]) refl
 
-  pub noted-once : (ds : List Dep) → AreOnce ds → IsDistinct same_entry (noted sources rows ds)
+  pub noted-once : (ds : List Dep) → AreOnce ds → IsDistinct same_entry (noted_in states ds)
   unfolding IsDistinct
   noted-once [] h = tt
   noted-once (d ∷ ds) h =
-      (elim (entry_as sources rows d.kind d.path) as (λ v. entry_as sources rows d.kind d.path ≡ v → IsDistinct same_entry (cons_option v (noted sources rows ds))) [
-        | None ↦ λ none. noted-once ds h.1
-        | Some x ↦ λ ex. (none-again d ds x ex h.0, noted-once ds h.1)
+      (elim (is_notable d.kind d.path) as (λ b. is_notable d.kind d.path ≡ b → IsDistinct same_entry (map entry (cond b (d ∷ notable ds) (notable ds)))) [
+        | false ↦ λ no. noted-once ds h.1
+        | true ↦ λ yes. (none-again d ds yes h.0, noted-once ds h.1)
       ]) refl

@@ -11,10 +11,11 @@ use Rattle.redo_tree.specs.Tree.{Tree}
 use Rattle.redo_which.specs.Rule.{found_of, is_rule}
 use Rattle.redo_book.specs.Book.{IsBook, IsRecord, Record}
 use Rattle.redo_report.specs.declared.report.Row.{Row}
-use Rattle.redo_past.specs.NewBook.{IsCarried, IsNewBook, IsOfRow, is_built, new_record}
+use Rattle.redo_book.specs.Noted.{is_top}
+use Rattle.redo_past.specs.NewBook.{IsCarried, IsNewBook, IsOfRow, is_built, record_of_row}
 use Rattle.redo_past.specs.Past.{IsPast, PastView}
 use Rattle.redo_which.specs.Candidates.{book_path}
-use Rattle.redo_past.specs.inside.Books.{AreRows, built_records, carries, is_top, leaves_record, new_records, record_if_built}
+use Rattle.redo_past.specs.inside.Books.{AreRows, built_records, carries, leaves_record, new_records, record_if_built}
 use Rattle.redo_past.proofs.CarryLemmas.{Without, both, carried, carries-it, was-not}
 use Rattle.redo_past.proofs.ItemLemmas.{IsItem, contained-item, item-contained, item-made, made-item}
 use Rattle.redo_past.proofs.JoinLemmas.{AreApart, AreSorted, item-of-built, item-of-old, joined-item, joined-sorted}
@@ -38,13 +39,13 @@ pub leaves-built : (row : Row) → leaves_record row ≡ true → is_built row.o
 leaves-built row h = (both (is_built row.outcome) (not (is_top row.path)) h).0
 
 module _ (sources : Tree) (rows : List Row) where
-  pub if-built : (row : Row) (r : Record) → record_if_built sources rows row ≡ Some r → (is_built row.outcome ≡ true) × (row.path ≢ []) × (new_record sources rows row ≡ r)
+  pub if-built : (row : Row) (r : Record) → record_if_built sources rows row ≡ Some r → (is_built row.outcome ≡ true) × (row.path ≢ []) × (record_of_row sources rows row ≡ r)
   if-built row r h =
-      let parts = cond_some (is_built row.outcome && not (is_top row.path)) (new_record sources rows row) r h in
+      let parts = cond_some (is_built row.outcome && not (is_top row.path)) (record_of_row sources rows row) r h in
       let each = both (is_built row.outcome) (not (is_top row.path)) parts.0 in
       (each.0, below row.path each.1, parts.1)
 
-  pub built-so : (row : Row) → is_built row.outcome ≡ true → row.path ≢ [] → record_if_built sources rows row ≡ Some (new_record sources rows row)
+  pub built-so : (row : Row) → is_built row.outcome ≡ true → row.path ≢ [] → record_if_built sources rows row ≡ Some (record_of_row sources rows row)
   built-so row built place = rw (built, not-top row.path place) refl
 
   row-item : (r : Record) → IsOfRow sources rows r → IsItem (built_records sources rows) r

@@ -2,7 +2,7 @@
 use Rattle.std.proofs.Common.{◌≡◌, ◌∙◌, ◌+◌, ◌++◌, ◌∷◌, [], List, ℕ, true, false, ap, append-nil, length, map, refl, subst, sym}
 use Rattle.std.proofs.lemmas.Grind.{flat_map-append}
 use Rattle.std.proofs.lemmas.List.{length-append, map-append}
-use Rattle.std.proofs.lemmas.List.Elements.{filter_map-append}
+use Rattle.std.proofs.lemmas.List.Elements.{filter-append}
 use Rattle.std.specs.Arc.{arc_value}
 use Rattle.std.specs.List.{AllByRecursion}
 use Rattle.std.specs.Prelude.{Option, Some, None, codes, flat_map}
@@ -18,9 +18,10 @@ use Rattle.redo_record.specs.Entries.{change_of, creates, entries_of, search_ent
 use Rattle.redo_book.specs.declared.book.BookEntry.{BookEntry}
 use Rattle.redo_book.specs.declared.book.BookEntry.TheVariants.{Always, Change, Create}
 use Rattle.redo_book.specs.Book.{IsEntry, entry_line, record_lines, target_line, text_of}
+use Rattle.redo_book.specs.Noted.{entry_as, is_notable, is_top, noted}
 use Rattle.redo_report.specs.declared.report.Row.{Row}
-use Rattle.redo_past.specs.NewBook.{entry_as, new_record, noted, state_at}
-use Rattle.redo_past.specs.inside.Books.{AreSized, StatesView, is_top, noted_text}
+use Rattle.redo_past.specs.NewBook.{notable, record_of_row, state_after}
+use Rattle.redo_past.specs.inside.Books.{AreSized, StatesView, noted_in, noted_text}
 
 abbrev entry_text : BookEntry → List ℕ
 entry_text e = entry_line e ++ 10 ∷ []
@@ -43,13 +44,15 @@ module _ (states : StatesView) where
   abbrev again : List ℕ → Dep
   again path = record { kind = kinds.Always; path = path }
 
-  noted-append : (ds es : List Dep) → noted states.sources states.rows (ds ++ es) ≡ noted states.sources states.rows ds ++ noted states.sources states.rows es
-  noted-append ds es = filter_map-append (λ (d : Dep). entry_as states.sources states.rows d.kind d.path) ds es
+  noted-append : (ds es : List Dep) → noted_in states (ds ++ es) ≡ noted_in states ds ++ noted_in states es
+  noted-append ds es =
+      ap (noted (state_after states.sources states.rows)) (filter-append (λ (d : Dep). is_notable d.kind d.path) ds es)
+      ∙ map-append (λ (d : Dep). entry_as (state_after states.sources states.rows) d.kind d.path) (notable ds) (notable es)
 
   pub text-append : (ds es : List Dep) → noted_text states (ds ++ es) ≡ noted_text states ds ++ noted_text states es
   text-append ds es =
-      let xs = noted states.sources states.rows ds in
-      let ys = noted states.sources states.rows es in
+      let xs = noted_in states ds in
+      let ys = noted_in states es in
       ap (λ entries. text_of (map entry_line entries)) (noted-append ds es)
       ∙ ap text_of (map-append entry_line xs ys)
       ∙ flat_map-append (λ line. line ++ 10 ∷ []) (map entry_line xs) (map entry_line ys)
@@ -71,7 +74,7 @@ module _ (states : StatesView) where
 
   -- the lines of the record of a target that was built
   pub built-text : (row : Row) (state : State) → state ≡ state_of (file_in row.outcome) →
-      text_of (record_lines (new_record states.sources states.rows row)) ≡ (target_line state row.path ++ 10 ∷ []) ++ noted_text states (arc_value row.deps)
+      text_of (record_lines (record_of_row states.sources states.rows row)) ≡ (target_line state row.path ++ 10 ∷ []) ++ noted_text states (arc_value row.deps)
   built-text row state is = ap (λ s. (target_line s row.path ++ 10 ∷ []) ++ noted_text states (arc_value row.deps)) (sym is)
 
   -- ---- the text of one entry
@@ -80,10 +83,10 @@ module _ (states : StatesView) where
   change-top [] h = refl
   change-top (byte ∷ bytes) h = apart cc
 
-  pub change-below : (path : List ℕ) (state : State) → is_top path ≡ false → state ≡ state_at states.sources states.rows path → noted_text states (changed path ∷ []) ≡ entry_text (Change state path)
+  pub change-below : (path : List ℕ) (state : State) → is_top path ≡ false → state ≡ state_after states.sources states.rows path → noted_text states (changed path ∷ []) ≡ entry_text (Change state path)
   change-below [] state h is = apart cc
   change-below (byte ∷ bytes) state h is =
-      append-nil (entry_text (Change (state_at states.sources states.rows (byte ∷ bytes)) (byte ∷ bytes)))
+      append-nil (entry_text (Change (state_after states.sources states.rows (byte ∷ bytes)) (byte ∷ bytes)))
       ∙ ap (λ s. entry_text (Change s (byte ∷ bytes))) (sym is)
 
   pub create-top : (path : List ℕ) → is_top path ≡ true → noted_text states (created path ∷ []) ≡ []
@@ -104,7 +107,7 @@ module _ (states : StatesView) where
 
   -- ---- missing candidates
 
-  noted-creates : (paths : List (List ℕ)) → AllByRecursion IsBelowRoot paths → noted states.sources states.rows (creates paths) ≡ map Create paths
+  noted-creates : (paths : List (List ℕ)) → AllByRecursion IsBelowRoot paths → noted_in states (creates paths) ≡ map Create paths
   noted-creates [] h = refl
   noted-creates ([] ∷ paths) h = absurd (h.0.0 refl)
   noted-creates ((byte ∷ bytes) ∷ paths) h = ap (λ es. Create (byte ∷ bytes) ∷ es) (noted-creates paths h.1)
@@ -133,17 +136,17 @@ module _ (states : StatesView) where
   more-sized ds es m n k first second sum = record {
     size = sum ∙ ap (λ a. a + n) first.size ∙ ap (λ b. length (noted_text states ds) + b) second.size
         ∙ sym (ap length (text-append ds es) ∙ length-append (noted_text states ds) (noted_text states es));
-    each = subst (AllByRecursion IsEntry) (sym (noted-append ds es)) (AllByRecursion-append IsEntry (noted states.sources states.rows ds) (noted states.sources states.rows es) first.each second.each);
+    each = subst (AllByRecursion IsEntry) (sym (noted-append ds es)) (AllByRecursion-append IsEntry (noted_in states ds) (noted_in states es) first.each second.each);
   }
 
   pub change-top-sized : (path : List ℕ) → is_top path ≡ true → AreSized states (changed path ∷ []) 0
   change-top-sized [] h = record { size = refl; each = tt }
   change-top-sized (byte ∷ bytes) h = apart cc
 
-  pub change-sized : (path : List ℕ) (n : ℕ) → is_top path ≡ false → IsPath path → n ≡ length (entry_text (Change (state_at states.sources states.rows path) path)) → AreSized states (changed path ∷ []) n
+  pub change-sized : (path : List ℕ) (n : ℕ) → is_top path ≡ false → IsPath path → n ≡ length (entry_text (Change (state_after states.sources states.rows path) path)) → AreSized states (changed path ∷ []) n
   change-sized [] n h p is = apart cc
   change-sized (byte ∷ bytes) n h p is = record {
-    size = is ∙ ap length (sym (append-nil (entry_text (Change (state_at states.sources states.rows (byte ∷ bytes)) (byte ∷ bytes)))));
+    size = is ∙ ap length (sym (append-nil (entry_text (Change (state_after states.sources states.rows (byte ∷ bytes)) (byte ∷ bytes)))));
     each = ((state-is _, ((λ e. apart cc), p)), tt);
   }
 
@@ -174,7 +177,7 @@ module _ (states : StatesView) where
 
   -- a record's lines are as long as that of the target and those of the entries
   pub built-sized : (row : Row) (t e n : ℕ) → t ≡ length (target_line (state_of (file_in row.outcome)) row.path ++ 10 ∷ []) → e ≡ length (noted_text states (arc_value row.deps)) → n ≡ t + e →
-      n ≡ length (text_of (record_lines (new_record states.sources states.rows row)))
+      n ≡ length (text_of (record_lines (record_of_row states.sources states.rows row)))
   built-sized row t e n is-t is-e sum =
       sum ∙ ap (λ a. a + e) is-t ∙ ap (λ b. length (target_line (state_of (file_in row.outcome)) row.path ++ 10 ∷ []) + b) is-e
       ∙ sym (length-append (target_line (state_of (file_in row.outcome)) row.path ++ 10 ∷ []) (noted_text states (arc_value row.deps)))

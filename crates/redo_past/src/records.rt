@@ -6,8 +6,9 @@ ghost use Rattle.redo_bundle.specs.Bundle.{Writes};
 ghost use Rattle.redo_record.specs.declared.deps.DepKind.TheVariants as kinds;
 ghost use Rattle.redo_record.specs.Entries.{change_of, creates};
 ghost use Rattle.redo_book.specs.Book.{record_lines, text_of};
-ghost use Rattle.redo_past.specs.NewBook.{is_built as was_built, new_record as record_for};
-ghost use Rattle.redo_past.specs.inside.Books.{StatesView, is_top as is_root, item_text, leaves_record, noted_text};
+ghost use Rattle.redo_book.specs.Noted.{is_top as is_root};
+ghost use Rattle.redo_past.specs.NewBook.{is_built as was_built, record_of_row as record_for};
+ghost use Rattle.redo_past.specs.inside.Books.{StatesView, item_text, leaves_record, noted_text};
 
 use crate::items::Item;
 use crate::states::{States, built_state};

@@ -5,7 +5,7 @@ ghost use Rattle.std.specs.List.{AllByRecursion};
 ghost use Rattle.redo_record.specs.declared.deps.DepKind.TheVariants as kinds;
 ghost use Rattle.redo_record.specs.Entries.{change_of, creates};
 ghost use Rattle.redo_book.specs.Book.{IsRecord, record_lines, text_of};
-ghost use Rattle.redo_past.specs.NewBook.{new_record as record_for};
+ghost use Rattle.redo_past.specs.NewBook.{record_of_row as record_for};
 ghost use Rattle.redo_past.specs.inside.Books.{AreSized, IsSound, StatesView, item_text, record_in};
 
 use crate::items::Item;

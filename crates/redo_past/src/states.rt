@@ -3,7 +3,7 @@
 ghost use Rattle.std.specs.Prelude.{◌≡◌, IfOk, is_some};
 ghost use Rattle.redo_digest.specs.Digest.{IsState, state_of as state_in};
 ghost use Rattle.redo_record.specs.Answers.{file_in};
-ghost use Rattle.redo_past.specs.NewBook.{state_at as state_after};
+ghost use Rattle.redo_past.specs.NewBook.{state_after};
 
 use crate::rows::Rows;
 use redo_digest::Digest;

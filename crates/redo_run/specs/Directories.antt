@@ -2,6 +2,7 @@
 -- answered when it was listed and looked at.
 use Rattle.std.specs.Prelude.{◌≡◌, ◌↔◌, ◌++◌, ◌⊎◌, Bool, true, false, not, IsTrue, IsSome, IsUtf8, ℕ, List, Option, Result}
 use Rattle.std.specs.Prelude.{Ok, Err, Some, None, bytes_eq, filter, nat_eq, slice_get, map, take}
+use Rattle.std.specs.Arc.{arc_value}
 use Rattle.std.specs.Cmp.Lexicographic.{pointwise}
 use Rattle.std.specs.Option.{option_eq}
 use Rattle.std.specs.Io.KnownBytes.{Appends}
@@ -121,15 +122,13 @@ pub record Ran (lists : List ℕ → List (Option (List ℕ)) → Type 0) (leads
   pub exit : Exit
   pub built : IsBuilt tree options report exit
 
--- A tree was loaded and built, those files of its build that it didn't have as they are were stored, the book last, and
--- the writer took the report, without the files, and nothing else.
+-- The tree was loaded and built, those files of its build that it didn't have as they are were stored, the book last,
+-- and the writer took the report, without the files, and nothing else.
 pub record ReportsTree (lists : List ℕ → List (Option (List ℕ)) → Type 0) (leads : List ℕ → Option Node → Type 0) (options : Options) (before after : List Step) (old new : Option (List ℕ)) (run : DirRun) : Type 0 where
-  pub tree : Tree
-  pub loaded : IsLoaded lists leads tree run.passed
-  pub report : Report
-  pub built : IsBuilt tree options report run.exit
-  pub stored : after ≡ before ++ puts_in tree (to_store tree report)
-  pub written : Appends old new (report_text report false)
+  pub loaded : IsLoaded lists leads (arc_value run.tree) run.passed
+  pub built : IsBuilt (arc_value run.tree) options run.report run.exit
+  pub stored : after ≡ before ++ puts_in (arc_value run.tree) (to_store (arc_value run.tree) run.report)
+  pub written : Appends old new (report_text run.report false)
 
 -- a tree was loaded, and isn't built for this reason
 pub record Stays (lists : List ℕ → List (Option (List ℕ)) → Type 0) (leads : List ℕ → Option Node → Type 0) (options : Options) (fault : RunDirFault) : Type 0 where

@@ -34,6 +34,10 @@ pub struct DirRun {
     pub exit: Exit,
     /// How many names were passed over, as `load_dir` says.
     pub passed: u64,
+    /// The tree that was loaded, with the old book.
+    pub tree: Arc<Tree>,
+    /// The report, with the files that were built or kept and the new book.
+    pub report: Report,
 }
 
 /// Whether it is the path of the book.
@@ -57,14 +61,15 @@ fn is_unchanged(tree: &Tree, file: &(Path, Content)) -> bool
 fn changed(
     alloc: Global,
     tree: &Tree,
-    files: Vec<(Path, Content)>,
+    files: &[(Path, Content)],
 ) -> Result<Vec<(Path, Content)>, AllocError>
-    ensures { IfOk result (λ changed. changed.items ≡ changed_from tree.now files.items) }
+    ensures { IfOk result (λ changed. changed.items ≡ changed_from tree.now files.now) }
 {
-    let mut changed = Vec::with_capacity(alloc, files.len())?;
-    'files: for file in files {
-        if !is_unchanged(tree, &file) {
-            changed.push(file)?;
+    let mut changed = Vec::new(alloc);
+    for file in files {
+        if !is_unchanged(tree, file) {
+            let (path, content) = file;
+            changed.push((path.clone()?, content.clone()?))?;
         }
     }
     Ok(changed)
@@ -247,7 +252,8 @@ where
 /// Nothing is written before the build has answered. The book is stored behind all other files. Where a file can't be
 /// stored, those before it were, and no report is written; where the report can't be written, all files were stored.
 ///
-/// The report goes out in many small pieces: hand in a writer with a buffer, and flush it afterwards.
+/// The report goes out in many small pieces: hand in a writer with a buffer, and flush it afterwards. A program that
+/// ends with the run may forget what it returns, rather than free it piece by piece.
 pub fn run_dir<H: Threads + Wait + Sync, D: WorkDir + Sync, W: ByteOut, O: Observer>(
     rt: &H,
     alloc: Global,
@@ -269,12 +275,15 @@ where
 {
     let (tree, passed) = load_with_book(rt, alloc, dir, options.workers, cause)?;
     let Built { tree, report, exit } = build(rt, alloc, tree, options, observer)?;
-    let Report { rows, files, begun } = report;
-    let files = with_book_last(alloc, changed(alloc, &tree, files)?)?;
+    let files = with_book_last(alloc, changed(alloc, &tree, &report.files)?)?;
     store(rt, alloc, dir, options.workers, &tree, &files, cause)?;
-    let report = Report { rows, files, begun };
     write_report(writer, &report, false)?;
-    Ok(DirRun { exit, passed })
+    Ok(DirRun {
+        exit,
+        passed,
+        tree,
+        report,
+    })
 }
 
 /// Reads a directory with all that is below it, and writes the candidates for a target's rule, as `whichdo_bundle`

@@ -28,8 +28,9 @@ use Rattle.redo_skip.specs.Checks.{Checks, built}
 use Rattle.redo_skip.specs.Checks.{progress_checked, record_checked, with_book, AreChecks, AreSame}
 use Rattle.redo_skip.specs.Truth.{shown_all, HasState, IsHonest, AreHonest}
 use Rattle.redo_book.specs.Intact.{is_intact}
-use Rattle.redo_skip.specs.NewBook.{LastRun, is_valid, check_by, checks_of, state_at, entry_as, noted}
-use Rattle.redo_skip.specs.NewBook.{new_record, carried, built_with, record_with, new_book, AreTrue, CanBeNoted}
+use Rattle.redo_book.specs.Noted.{entry_as, new_record, noted}
+use Rattle.redo_skip.specs.NewBook.{LastRun, is_valid, check_by, checks_of, state_known}
+use Rattle.redo_skip.specs.NewBook.{carried, built_with, record_with, new_book, AreTrue, CanBeNoted}
 use Rattle.redo_skip.specs.NewBook.{IsGood, IsOfRun, IsHonestRecord, AreHonestRecords}
 use Rattle.redo_skip.proofs.CheckLemmas.{cases_Standing, found-stands}
 use Rattle.redo_skip.proofs.AskedLemmas.{progress-lacks, progress-falls, progress-stands}
@@ -56,22 +57,22 @@ unrecorded-same s last request e = unchecked-same s (checks_of s last request) (
 module _ (s : Sources) (a : Ask) where
   -- noting entries changes nothing of what is shown
   noted-shown : (deps : List Dep) → AllByRecursion (λ d. CanBeNoted s a d.kind d.path) deps →
-      shown_all (noted s a deps) ≡ deps
+      shown_all (noted (state_known s a) deps) ≡ deps
   noted-shown [] h = refl
   noted-shown (d ∷ ds) h =
       (elim (d.kind) as (λ (k : DepKind). (q : List ℕ) → CanBeNoted s a k q → (rest : List Dep) → rest ≡ ds →
-      shown (entry_as s a k q) ∷ rest ≡ record { kind = k; path = q } ∷ ds) [
+      shown (entry_as (state_known s a) k q) ∷ rest ≡ record { kind = k; path = q } ∷ ds) [
         | kinds.Change ↦ λ q can rest e. ap (λ (xs : List Dep). record { kind = kinds.Change; path = q } ∷ xs) e
         | kinds.Create ↦ λ q can rest e. ap (λ (xs : List Dep). record { kind = kinds.Create; path = q } ∷ xs) e
         | kinds.Always ↦ λ q can rest e. ap (λ (xs : List Dep). record { kind = kinds.Always; path = [] } ∷ xs) e
             ∙ ap (λ (y : List ℕ). record { kind = kinds.Always; path = y } ∷ ds) (sym can)
-      ]) d.path h.0 (shown_all (noted s a ds)) (noted-shown ds h.1)
+      ]) d.path h.0 (shown_all (noted (state_known s a) ds)) (noted-shown ds h.1)
 
   noted-states : (deps : List Dep) → AllByRecursion (λ d. CanBeNoted s a d.kind d.path) deps →
-      AllByRecursion (HasState s a) (noted s a deps)
+      AllByRecursion (HasState s a) (noted (state_known s a) deps)
   noted-states [] h = tt
   noted-states (d ∷ ds) h = (
-    (elim (d.kind) as (λ (k : DepKind). (q : List ℕ) → CanBeNoted s a k q → HasState s a (entry_as s a k q)) [
+    (elim (d.kind) as (λ (k : DepKind). (q : List ℕ) → CanBeNoted s a k q → HasState s a (entry_as (state_known s a) k q)) [
       | kinds.Change ↦ λ q can. (can.0, can.1, cc)
       | kinds.Create ↦ λ q can. tt
       | kinds.Always ↦ λ q can. tt
@@ -80,13 +81,13 @@ module _ (s : Sources) (a : Ask) where
   )
 
   -- while all entries stand the new record is the old one
-  noted-kept : (es : List BookEntry) → (finding s a es).standing ≡ stands → noted s a (shown_all es) ≡ es
+  noted-kept : (es : List BookEntry) → (finding s a es).standing ≡ stands → noted (state_known s a) (shown_all es) ≡ es
   noted-kept [] t = refl
   noted-kept (Change state x ∷ es) t =
       let both = found-stands s (Change state x) (standing s a (Change state x)) (finding s a es) t in
       let has = stands-file s state x a both.0 in
-      let is : state_at s a x ≡ state = ap (λ known. option_and_then state_of known) has.1 ∙ has.2 in
-      ap (λ (y : State). Change y x ∷ noted s a (shown_all es)) is
+      let is : state_known s a x ≡ state = ap (λ known. option_and_then state_of known) has.1 ∙ has.2 in
+      ap (λ (y : State). Change y x ∷ noted (state_known s a) (shown_all es)) is
       ∙ ap (λ (xs : List BookEntry). Change state x ∷ xs) (noted-kept es both.1)
   noted-kept (Create x ∷ es) t =
       let both = found-stands s (Create x) (standing s a (Create x)) (finding s a es) t in
@@ -228,7 +229,7 @@ module _ (s : Sources) (last : LastRun) (request : List (List ℕ)) (limit : ℕ
 
   -- by its script: this run itself is the witness
   begun-here : (p : List ℕ) (file : File) → s.is_source p ≡ false → (s.progress p end).outcome ≡ Some (Built file) →
-      IsHere p (new_record s end p file (s.progress p end).deps)
+      IsHere p (new_record (state_known s end) p file (s.progress p end).deps)
   begun-here p file made e =
       let is : s.progress p end ≡ built file (s.progress p end).deps = built_eta (s.progress p end) file e in
       let can : AllByRecursion (λ d. CanBeNoted s end d.kind d.path) (s.progress p end).deps =
@@ -245,16 +246,16 @@ module _ (s : Sources) (last : LastRun) (request : List (List ℕ)) (limit : ℕ
       ((c : Check) → o ≡ Some c →
       record_at last.book p ≡ Some (record { target = p; state = state_of c.file; entries = c.entries })) →
       (progress_checked s p o end).outcome ≡ Some (Built file) →
-      IsHere p (new_record s end p file (record_checked s p o end))
+      IsHere p (new_record (state_known s end) p file (record_checked s p o end))
   built-here p file None made h e = begun-here p file made e
   built-here p file (Some c) made h e = elim (cases_Standing (finding s end c.entries).standing) [
     | inl t ↦
         let was : Some (Built c.file) ≡ Some (Built file) =
         sym (progress-stands c.file (finding s end c.entries) (s.progress p end) t) ∙ e in
         let same : c.file ≡ file = cc in
-        let seen : noted s end (finding s end c.entries).seen ≡ c.entries =
-        ap (λ ds. noted s end ds) (finding-seen s c.entries end t) ∙ noted-kept s end c.entries t in
-        let P : File → Type 0 = λ y. IsHere p (new_record s end p y (finding s end c.entries).seen) in
+        let seen : noted (state_known s end) (finding s end c.entries).seen ≡ c.entries =
+        ap (λ ds. noted (state_known s end) ds) (finding-seen s c.entries end t) ∙ noted-kept s end c.entries t in
+        let P : File → Type 0 = λ y. IsHere p (new_record (state_known s end) p y (finding s end c.entries).seen) in
         let Q : List BookEntry → Type 0 = λ y. IsHere p (record { target = p; state = state_of c.file; entries = y }) in
         rw t (subst P same (subst Q (sym seen) (inr (h c refl))))
     | inr other ↦ elim other [
@@ -289,7 +290,7 @@ module _ (s : Sources) (last : LastRun) (request : List (List ℕ)) (limit : ℕ
       record_with s last k limit p o ≡ Some r → IsHere p r
   new-here p None r h e = carried-here p r e
   new-here p (Some file) r h e =
-      let this : new_record s end p file (record_of rules limit p) ≡ r = cc in
+      let this : new_record (state_known s end) p file (record_of rules limit p) ≡ r = cc in
       let both = h file refl in
       subst (λ x. IsHere p x) this
       (built-here p file (k p) both.0 (λ c is. check-known s last request p c is) both.1)

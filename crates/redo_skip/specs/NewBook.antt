@@ -1,5 +1,5 @@
 -- What a run takes over from the last one, and the book that it leaves.
-use Rattle.std.specs.Prelude.{◌≡◌, ◌⊎◌, ℕ, Bool, true, false, ◌&&◌, not, List, [], Option, Some, None, map}
+use Rattle.std.specs.Prelude.{◌≡◌, ◌⊎◌, ℕ, Bool, true, false, ◌&&◌, not, List, [], Option, Some, None}
 use Rattle.std.specs.Prelude.{option_and_then, if◌then◌else◌}
 use Rattle.std.specs.List.{AllByRecursion}
 use Rattle.redo_digest.specs.Digest.{State, state_of}
@@ -9,10 +9,9 @@ use Rattle.redo_record.specs.declared.deps.DepKind.TheVariants as kinds
 use Rattle.redo_record.specs.declared.outcome.Outcome.{Outcome}
 use Rattle.redo_record.specs.declared.outcome.Outcome.TheVariants.{Source, Built, Failed, Cyclic}
 use Rattle.redo_record.specs.Paths.{is_among}
-use Rattle.redo_book.specs.declared.book.BookEntry.{BookEntry}
-use Rattle.redo_book.specs.declared.book.BookEntry.TheVariants.{Change, Create, Always}
 use Rattle.redo_book.specs.Book.{Record, record_at}
 use Rattle.redo_book.specs.Intact.{is_intact}
+use Rattle.redo_book.specs.Noted.{new_record}
 use Rattle.redo_build.specs.Rules.{Ask}
 use Rattle.redo_build.specs.Outcomes.{outcome_at, needed_at, record_of}
 use Rattle.redo_skip.specs.Checks.{Check, Checks, built, known_file, told, with_book}
@@ -39,22 +38,8 @@ checks_of s last request p =
     (record_at last.book p)
 
 -- the state of a path when a run ends: that of the file known there, or none
-abbrev pub state_at : Sources → Ask → List ℕ → State
-state_at s a q = option_and_then state_of (known_file s a q)
-
--- the entry of this kind and path, as a book has it
-abbrev pub entry_as : Sources → Ask → DepKind → List ℕ → BookEntry
-entry_as s a kinds.Change q = Change (state_at s a q) q
-entry_as s a kinds.Create q = Create q
-entry_as s a kinds.Always q = Always
-
--- the entries of a record as a book has them
-abbrev pub noted : Sources → Ask → List Dep → List BookEntry
-noted s a deps = map (λ d. entry_as s a d.kind d.path) deps
-
--- the record of a target that was built with this file and these entries
-abbrev pub new_record : Sources → Ask → List ℕ → File → List Dep → Record
-new_record s a p file deps = record { target = p; state = state_of file; entries = noted s a deps }
+abbrev pub state_known : Sources → Ask → List ℕ → State
+state_known s a q = option_and_then state_of (known_file s a q)
 
 -- the old record of a path, if it is valid and so carried
 abbrev pub carried : Sources → LastRun → List ℕ → Option Record
@@ -71,7 +56,7 @@ built_with Cyclic = None
 abbrev pub record_with : Sources → LastRun → Checks → ℕ → List ℕ → Option File → Option Record
 record_with s last k limit p None = carried s last p
 record_with s last k limit p (Some file) =
-    Some (new_record s (outcome_at (with_book s k) limit) p file (record_of (with_book s k) limit p))
+    Some (new_record (state_known s (outcome_at (with_book s k) limit)) p file (record_of (with_book s k) limit p))
 
 -- the new book's record of a path: that of a needed target that was built, else the carried one
 abbrev pub new_book : Sources → LastRun → List (List ℕ) → ℕ → List ℕ → Option Record

@@ -40,6 +40,21 @@ pub fn outcomes_agree()
         outcome_at (with_book s k) limit p ≡ outcome_at (without_book s) limit p }
 {}
 
+/// If the records of the last run are honest, a build with its book needs no target that the build without it doesn't
+/// need, cyclic targets or not; and so it keeps to the limit, too. As cyclic targets may be why fewer are needed, a
+/// target that only the build without the book needs has no row.
+pub fn honest_books_need_no_more()
+    ensures needed { (s : Sources) (last : LastRun) (request : List (List ℕ)) (limit : ℕ) →
+        AreLawful (without_book s) → length (needed_at (without_book s) request limit) ≤ limit →
+        AreHonestRecords s last (outcome_at (without_book s) limit) →
+        (p : List ℕ) → IsAmong (needed_at (with_book s (checks_of s last request)) request limit) p →
+        IsAmong (needed_at (without_book s) request limit) p }
+    ensures few { (s : Sources) (last : LastRun) (request : List (List ℕ)) (limit : ℕ) →
+        AreLawful (without_book s) → length (needed_at (without_book s) request limit) ≤ limit →
+        AreHonestRecords s last (outcome_at (without_book s) limit) →
+        length (needed_at (with_book s (checks_of s last request)) request limit) ≤ limit }
+{}
+
 /// `skipping_is_sound` for the book of the last run, if its records are honest: whatever is requested, and whatever
 /// files are there.
 pub fn true_books_skip_soundly()

@@ -10,12 +10,14 @@ use Rattle.std.specs.Vec.{with_item}
 use Rattle.redo_tree.specs.Tree.{Tree, file_at}
 use Rattle.redo_which.specs.Rule.{found_of, is_rule}
 use Rattle.redo_record.specs.declared.deps.Dep.{Dep}
+use Rattle.redo_book.specs.declared.book.BookEntry.{BookEntry}
 use Rattle.redo_book.specs.Book.{IsEntry, IsRecord, Record, book_lines, entry_line, record_lines, record_of, text_of}
+use Rattle.redo_book.specs.Noted.{is_top, noted}
 use Rattle.redo_report.specs.Reports.{AreAscending}
 use Rattle.redo_report.specs.declared.report.Report.{Report}
 use Rattle.redo_report.specs.declared.report.Row.{Row}
 use Rattle.redo_which.specs.Candidates.{book_path}
-use Rattle.redo_past.specs.NewBook.{is_built, new_record, noted, row_at}
+use Rattle.redo_past.specs.NewBook.{is_built, notable, record_of_row, row_at, state_after}
 use Rattle.redo_past.specs.Past.{PastView}
 use Rattle.redo_past.specs.declared.items.Item.{Item}
 use Rattle.redo_past.specs.declared.items.Item.TheVariants as items
@@ -38,18 +40,18 @@ pub record StatesView : Type 0 where
 abbrev pub states_after : PastView → List Row → StatesView
 states_after past rows = record { sources = past.sources; rows = rows }
 
--- the lines of entries of a record, as a book has them
+-- the entries of a record, as a book has them
+abbrev pub noted_in : StatesView → List Dep → List BookEntry
+noted_in states deps = noted (state_after states.sources states.rows) (notable deps)
+
+-- the lines of these entries
 abbrev pub noted_text : StatesView → List Dep → List ℕ
-noted_text states deps = text_of (map entry_line (noted states.sources states.rows deps))
+noted_text states deps = text_of (map entry_line (noted_in states deps))
 
 -- these lines have exactly n bytes, and a book can have each entry
 pub record AreSized (states : StatesView) (deps : List Dep) (n : ℕ) : Type 0 where
   pub size : n ≡ length (noted_text states deps)
-  pub each : AllByRecursion IsEntry (noted states.sources states.rows deps)
-
-abbrev pub is_top : List ℕ → Bool
-is_top [] = true
-is_top (byte ∷ bytes) = false
+  pub each : AllByRecursion IsEntry (noted_in states deps)
 
 -- whether a row's target was built and isn't the top directory
 abbrev pub leaves_record : Row → Bool
@@ -58,7 +60,7 @@ leaves_record row = is_built row.outcome && not (is_top row.path)
 -- the record of a row, if its target was built
 abbrev pub record_if_built : Tree → List Row → Row → Option Record
 record_if_built sources rows row =
-    if leaves_record row then Some (new_record sources rows row) else None
+    if leaves_record row then Some (record_of_row sources rows row) else None
 
 -- the records of the targets that were built
 abbrev pub built_records : Tree → List Row → List Record
@@ -104,7 +106,7 @@ new_text past rows = text_of (book_lines (new_records past rows))
 
 -- the record that is made of an item
 abbrev pub record_in : StatesView → Item → Record
-record_in states (items.Built row) = new_record states.sources states.rows row.now
+record_in states (items.Built row) = record_of_row states.sources states.rows row.now
 record_in states (items.Carried r) = record_of r.now
 
 -- the lines of that record

@@ -5,7 +5,7 @@ use Rattle.std.specs.List.{cons_option}
 use Rattle.std.specs.Prelude.{filter_map}
 use Rattle.redo_book.specs.Book.{IsBook, Record, record_of}
 use Rattle.redo_report.specs.declared.report.Row.{Row}
-use Rattle.redo_past.specs.NewBook.{new_record}
+use Rattle.redo_past.specs.NewBook.{record_of_row}
 use Rattle.redo_past.specs.inside.Books.{AreItems, StatesView, carries, is_before, is_behind, joined, leaves_record, new_records}
 use Rattle.redo_past.specs.inside.Books.{record_if_built}
 use Rattle.redo_past.proofs.JoinLemmas.{join-end, join-step, kept-book}
@@ -28,7 +28,7 @@ loop-row-preserved c =
     let old = map record_of c.loop-row.left.now in
     let f : Row → Option Record = record_if_built past.sources rows in
     let rest = filter_map f (drop (i + 1) rows) in
-    let r = new_record past.sources rows x in
+    let r = record_of_row past.sources rows x in
     let below : i < length rows = subst (λ (rs : List Row). i < length rs) same_rows (omega (arith, c.loop-row-test.true)) in
     let here : x ≡ slice_index_or rows i x = subst (λ (rs : List Row). x ≡ slice_index_or rs i x) same_rows c.row-item.is in
     let step : filter_map f (drop i rows) ≡ cons_option (f x) rest = left-more f rows i x below here in

@@ -3,8 +3,7 @@ use Rattle.std.specs.List.{AllByRecursion, IsDistinct}
 use Rattle.redo_digest.specs.Digest.{state_of}
 use Rattle.redo_record.specs.Answers.{file_in}
 use Rattle.redo_book.specs.Book.{IsEntry, same_entry}
-use Rattle.redo_past.specs.NewBook.{noted}
-use Rattle.redo_past.specs.inside.Books.{noted_text}
+use Rattle.redo_past.specs.inside.Books.{noted_in, noted_text}
 use Rattle.redo_past.proofs.EntryLemmas.{noted-once}
 use Rattle.redo_past.proofs.LoopLemmas.{if-so}
 use Rattle.redo_past.proofs.NotedLemmas.{built-sized, state-is}
@@ -20,12 +19,10 @@ returns-clause-size c =
 
 pub returns-clause-record : goal.returns-clause-record
 returns-clause-record c =
-    let S = c.args.files.now.sources in
-    let R = c.args.files.now.rows in
-    let of = noted S R in
+    let of = noted_in c.args.files.now in
     if-so _ _ c.add_sizes.result (λ n is. record {
       target = (c.requires.below, c.text-path.ensures.path);
       state = state-is _;
       entries = subst (λ ds. AllByRecursion IsEntry (of ds)) c.deref-2.ensures c.in_ok-entries.ensures.size.each;
-      once = subst (λ ds. IsDistinct same_entry (of ds)) c.deref.ensures (noted-once S R c.deref.result.now c.each_once.ensures);
+      once = subst (λ ds. IsDistinct same_entry (of ds)) c.deref.ensures (noted-once c.args.files.now c.deref.result.now c.each_once.ensures);
     }) c.add_sizes.ensures.sum

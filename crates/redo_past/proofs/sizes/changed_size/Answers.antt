@@ -1,5 +1,5 @@
 use Rattle.std.proofs.Common.{◌∙◌, sym}
-use Rattle.redo_past.specs.NewBook.{state_at}
+use Rattle.redo_past.specs.NewBook.{state_after}
 use Rattle.redo_past.proofs.NotedLemmas.{change-sized, change-top-sized, state-is}
 use Rattle.redo_past.proofs.sizes.changed_size.Goals as goal
 
@@ -11,4 +11,4 @@ returns c =
     let files = c.args.files.now in
     let path = c.args.path.now in
     change-sized files path c.change_size.result (sym c.is_top.ensures.top ∙ c.if-is_top.false) c.is_top.ensures.path
-    (c.change_size.ensures (state_at files.sources files.rows path) (state-is _) (sym c.has_file.ensures))
+    (c.change_size.ensures (state_after files.sources files.rows path) (state-is _) (sym c.has_file.ensures))

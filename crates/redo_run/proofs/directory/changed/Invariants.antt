@@ -1,7 +1,7 @@
-use Rattle.std.proofs.Common.{◌≡◌}
+use Rattle.std.proofs.Common.{◌≡◌, take}
 use Rattle.redo_run.specs.Directories.{changed_from}
 use Rattle.redo_run.proofs.directory.changed.Given as goal
 
 -- of those that were looked at, the changed ones
-abbrev pub invariant-files : goal.invariant-files
-invariant-files l = l.changed.items ≡ changed_from l.tree l.yielded
+abbrev pub invariant-loop-file : goal.invariant-loop-file
+invariant-loop-file l = l.changed.items ≡ changed_from l.tree (take l.file-index l.files)

@@ -1,8 +1,10 @@
-use Rattle.std.proofs.Common.{◌≡◌, ◌++◌, ◌∙◌, ℕ, List, ap, rules, subst, Err}
+use Rattle.std.proofs.Common.{◌≡◌, ◌++◌, ◌∙◌, ℕ, List, ap, rules, subst, sym, Err}
 use Rattle.std.specs.Prelude.{IfErr}
 use Rattle.std.specs.declared.io.ErrorKind.{ErrorKind}
+use Rattle.std.specs.Arc.{arc_value}
+use Rattle.redo_dir.specs.Loaded.{IsLoaded}
 use Rattle.redo_dir.specs.Stored.{puts_in}
-use Rattle.redo_run.specs.Directories.{IsFaultOf, StoresPart, changed_from, to_store, with_book_last}
+use Rattle.redo_run.specs.Directories.{IsBuilt, IsFaultOf, StoresPart, changed_from, to_store, with_book_last}
 use Rattle.redo_run.specs.declared.dir_fault.RunDirFault.TheVariants.{Device}
 use Rattle.redo_run.proofs.DirectoryLemmas.{unstored_fault}
 use Rattle.redo_run.proofs.directory.run_dir.Goals as goal
@@ -18,10 +20,11 @@ returns-in_err-store-clause-fault g c =
     let tree = c.in_ok-tree.tree in let report = c.in_ok-tree-2.field-0.report in
     let fault = c.in_err-store.field-0.0 in
     let read : c.deref.result.now ≡ tree = search rules in
-    let reread : c.deref-2.result.now ≡ tree = search rules in
-    let files : c.deref-3.result.now ≡ to_store tree report =
-    c.deref-3.ensures.value ∙ c.in_ok-files.ensures ∙ ap with_book_last (c.in_ok-changed.ensures ∙ ap (λ t. changed_from t report.files.items) read) in
-    let part = subst (λ fs. StoresPart told before after tree fs fault) files (subst (λ t. StoresPart told before after t c.deref-3.result.now fault) reread c.in_err-store.ensures.part) in
+    let reread : c.deref-3.result.now ≡ tree = search rules in
+    let files : c.deref-4.result.now ≡ to_store tree report =
+    c.deref-4.ensures.value ∙ c.in_ok-files.ensures ∙ ap with_book_last (c.in_ok-changed.ensures
+    ∙ ap (λ t. changed_from t c.deref-2.result.now) read ∙ ap (changed_from tree) c.deref-2.ensures.value) in
+    let part = subst (λ fs. StoresPart told before after tree fs fault) files (subst (λ t. StoresPart told before after t c.deref-4.result.now fault) reread c.in_err-store.ensures.part) in
     let result : Err fault ≡ c.from_residual-in_err-store.result = search rules in
     subst (λ r. IfErr r (IsFaultOf lists leads refuses told options before after)) result
     (unstored_fault lists leads refuses told options before (record {
@@ -43,11 +46,12 @@ returns-in_err-write_report-clause-fault g c =
     let before = g.D.WorkDir.done c.args.dir.now in let after = g.D.WorkDir.done c.store.new.dir in
     let tree = c.in_ok-tree.tree in let report = c.in_ok-tree-2.field-0.report in
     let read : c.deref.result.now ≡ tree = search rules in
-    let reread : c.deref-2.result.now ≡ tree = search rules in
-    let files : c.deref-3.result.now ≡ to_store tree report =
-    c.deref-3.ensures.value ∙ c.in_ok-files.ensures ∙ ap with_book_last (c.in_ok-changed.ensures ∙ ap (λ t. changed_from t report.files.items) read) in
+    let reread : c.deref-3.result.now ≡ tree = search rules in
+    let files : c.deref-4.result.now ≡ to_store tree report =
+    c.deref-4.ensures.value ∙ c.in_ok-files.ensures ∙ ap with_book_last (c.in_ok-changed.ensures
+    ∙ ap (λ t. changed_from t c.deref-2.result.now) read ∙ ap (changed_from tree) c.deref-2.ensures.value) in
     let stored : after ≡ before ++ puts_in tree (to_store tree report) =
-    c.in_ok-store.ensures.all ∙ ap (λ t. before ++ puts_in t c.deref-3.result.now) reread ∙ ap (λ fs. before ++ puts_in tree fs) files in
+    c.in_ok-store.ensures.all ∙ ap (λ t. before ++ puts_in t c.deref-4.result.now) reread ∙ ap (λ fs. before ++ puts_in tree fs) files in
     let result : Err Device ≡ c.from_residual-in_err-write_report.result = search rules in
     subst (λ r. IfErr r (IsFaultOf lists leads refuses told options before after)) result (
       record {
@@ -63,17 +67,23 @@ returns-in_err-write_report-clause-fault g c =
 
 pub returns-clause-report : goal.returns-clause-report
 returns-clause-report g c =
+    let lists = g.D.WorkDir.lists c.args.dir.now in
+    let leads = g.D.WorkDir.leads c.args.dir.now in
+    let options = c.args.options.now in
     let before = g.D.WorkDir.done c.args.dir.now in let after = g.D.WorkDir.done c.store.new.dir in
     let tree = c.in_ok-tree.tree in let report = c.in_ok-tree-2.field-0.report in
+    let exit = c.in_ok-tree-2.field-0.exit in let passed = c.in_ok-tree.passed in
+    let shared : tree ≡ arc_value c.in_ok-tree-2.field-0.tree = sym c.in_ok-tree-2.ensures.tree in
     let read : c.deref.result.now ≡ tree = search rules in
-    let reread : c.deref-2.result.now ≡ tree = search rules in
-    let files : c.deref-3.result.now ≡ to_store tree report =
-    c.deref-3.ensures.value ∙ c.in_ok-files.ensures ∙ ap with_book_last (c.in_ok-changed.ensures ∙ ap (λ t. changed_from t report.files.items) read) in
+    let reread : c.deref-3.result.now ≡ tree = search rules in
+    let files : c.deref-4.result.now ≡ to_store tree report =
+    c.deref-4.ensures.value ∙ c.in_ok-files.ensures ∙ ap with_book_last (c.in_ok-changed.ensures
+    ∙ ap (λ t. changed_from t c.deref-2.result.now) read ∙ ap (changed_from tree) c.deref-2.ensures.value) in
+    let stored : after ≡ before ++ puts_in tree (to_store tree report) =
+    c.in_ok-store.ensures.all ∙ ap (λ t. before ++ puts_in t c.deref-4.result.now) reread ∙ ap (λ fs. before ++ puts_in tree fs) files in
     record {
-      tree = tree;
-      loaded = c.in_ok-tree.ensures.loaded;
-      report = report;
-      built = c.in_ok-tree-2.ensures.built;
-      stored = c.in_ok-store.ensures.all ∙ ap (λ t. before ++ puts_in t c.deref-3.result.now) reread ∙ ap (λ fs. before ++ puts_in tree fs) files;
+      loaded = subst (λ t. IsLoaded lists leads t passed) shared c.in_ok-tree.ensures.loaded;
+      built = subst (λ t. IsBuilt t options report exit) shared c.in_ok-tree-2.ensures.built;
+      stored = subst (λ t. after ≡ before ++ puts_in t (to_store t report)) shared stored;
       written = c.in_ok-write_report.ensures.writes;
     }
