@@ -3,9 +3,10 @@
 ghost use Rattle.std.specs.Prelude.{◌≡◌, ◌++◌, ◌∷◌, [], IfOk, OnErr, OnOk, string_bytes};
 ghost use Rattle.std.specs.Path.{path_buf_bytes};
 ghost use Rattle.redo_dir.specs.Loaded.{Shows};
-ghost use Rattle.redo_dir.specs.Stored.{put_of};
-ghost use Rattle.redo_dir.specs.inside.Drafts.{IsBeside, puts_named, temporary_name};
+ghost use Rattle.redo_dir.specs.Stored.{put_of, steps_of};
+ghost use Rattle.redo_dir.specs.inside.Drafts.{IsBeside, temporary_name};
 
+use crate::changes::Change;
 use crate::work_dir::{Drafted, Seen, WorkDir};
 use redo_path::Path;
 use redo_tree::Content;
@@ -22,15 +23,7 @@ pub struct SystemDir<'a, R> {
     rt: &'a R,
     /// Where the directory is.
     top: &'a str,
-    stored: Vec<Named>,
-}
-
-/// A file that got its name.
-#[derive(Drop)]
-struct Named {
-    path: Path,
-    content: Content,
-    over: bool,
+    done: Vec<Change>,
 }
 
 /// A file of the system that was written under a temporary name.
@@ -127,7 +120,7 @@ impl<'a, R: Files> SystemDir<'a, R> {
         SystemDir {
             rt,
             top,
-            stored: Vec::new(alloc),
+            done: Vec::new(alloc),
         }
     }
 
@@ -141,28 +134,24 @@ impl<'a, R: Files> SystemDir<'a, R> {
 
     /// Gives a draft its name, and notes that it has it.
     fn name(&mut self, draft: &SystemDraft, over: bool) -> io::Result<()>
-        ensures stored { OnOk result (puts_named self.new.stored.items ≡
-            puts_named self.old.stored.items ++ put_of (draft.now.path, draft.now.content) over ∷ []) }
-        ensures kept { OnErr result (puts_named self.new.stored.items ≡ puts_named self.old.stored.items) }
+        ensures stored { OnOk result (steps_of self.new.done.items ≡
+            steps_of self.old.done.items ++ put_of (draft.now.path, draft.now.content) over ∷ []) }
+        ensures kept { OnErr result (steps_of self.new.done.items ≡ steps_of self.old.done.items) }
     {
-        let named = Named {
-            path: draft.path.clone()?,
-            content: draft.content.clone()?,
-            over,
-        };
+        let change = Change::Put(draft.path.clone()?, draft.content.clone()?, over);
         // So that no file gets a name that can't be noted.
-        self.stored.reserve(1)?;
+        self.done.reserve(1)?;
         if !over {
             check_free(self.rt, &draft.place)?;
         }
         fs::rename(self.rt, draft.beside.as_path(), draft.place.as_path())?;
-        self.stored.push(named)?;
+        self.done.push(change)?;
         Ok(())
     }
 }
 
 impl<R: Files> WorkDir for SystemDir<'_, R> {
-    ghost use Rattle.redo_dir.specs.inside.Drafts.{puts_named};
+    ghost use Rattle.redo_dir.specs.Stored.{steps_of};
 
     ghost lists = { λ _ _ _. Unit {0} };
 
@@ -170,7 +159,7 @@ impl<R: Files> WorkDir for SystemDir<'_, R> {
 
     ghost refuses = { λ _ _ _. Unit {0} };
 
-    ghost stored = { λ d. puts_named d.stored.items };
+    ghost done = { λ d. steps_of d.done.items };
 
     type Draft = SystemDraft;
 
@@ -216,8 +205,17 @@ impl<R: Files> WorkDir for SystemDir<'_, R> {
         outcome
     }
 
+    fn remove(&mut self, alloc: Global, path: &Path) -> io::Result<()> {
+        let place = self.place(alloc, path)?;
+        let change = Change::Remove(path.clone()?);
+        self.done.reserve(1)?;
+        fs::remove_file(self.rt, place.as_path())?;
+        self.done.push(change)?;
+        Ok(())
+    }
+
     fn count(&self) -> usize {
-        self.stored.len()
+        self.done.len()
     }
 
     fn discard(&self, draft: SystemDraft) {

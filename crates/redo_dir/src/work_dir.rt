@@ -3,7 +3,7 @@
 ghost use Rattle.std.specs.Prelude.{◌≡◌, ◌++◌, ◌∷◌, [], IfErr, IfOk, OnErr, OnOk, length};
 ghost use Rattle.std.specs.IoError.{error_kind};
 ghost use Rattle.redo_dir.specs.Loaded.{names_in, node_seen};
-ghost use Rattle.redo_dir.specs.Stored.{put_of};
+ghost use Rattle.redo_dir.specs.Stored.{Removes, put_of};
 
 use redo_path::Path;
 use redo_tree::Content;
@@ -35,7 +35,7 @@ pub trait WorkDir {
     ghost use Rattle.std.specs.Prelude.{List, Option, ℕ};
     ghost use Rattle.std.specs.declared.io.ErrorKind.{ErrorKind};
     ghost use Rattle.redo_tree.specs.Tree.{Node};
-    ghost use Rattle.redo_dir.specs.Stored.{Put};
+    ghost use Rattle.redo_dir.specs.Stored.{Step};
 
     /// A file under a temporary name of the run's own, which was written whole and closed.
     type Draft: Drafted + Drop;
@@ -46,8 +46,8 @@ pub trait WorkDir {
     ghost leads: { Self → List ℕ → Option Node → Type 0 };
     // A call at a path was answered by this error.
     ghost refuses: { Self → List ℕ → ErrorKind → Type 0 };
-    // The files that got their names, in this order.
-    ghost stored: { Self → List Put };
+    // The calls that changed the directory, in this order.
+    ghost done: { Self → List Step };
 
     /// Lists a directory. The order is the system's.
     fn list(&self, alloc: Global, dir: &Path) -> io::Result<Vec<Option<String>>>
@@ -74,13 +74,20 @@ pub trait WorkDir {
     /// Gives a draft its name, or removes it. Where no file was listed at its path (`over`) and a file or a directory
     /// stands there, as on a system that takes `A` for `a`, the error is `AlreadyExists`. A link there is replaced.
     fn put(&mut self, draft: Self::Draft, over: bool) -> io::Result<()>
-        ensures stored { OnOk result (stored self.new ≡ stored self.old ++ put_of (Self.Draft.drafted draft) over ∷ []) }
-        ensures kept { OnErr result (stored self.new ≡ stored self.old) }
+        ensures stored { OnOk result (done self.new ≡ done self.old ++ put_of (Self.Draft.drafted draft) over ∷ []) }
+        ensures kept { OnErr result (done self.new ≡ done self.old) }
         ensures refused { IfErr result (λ error. refuses self.old (Self.Draft.drafted draft).0 (error_kind error)) };
 
-    /// How many files got their names.
+    /// Removes a file. A directory is never removed; the error is `NotFound` where nothing has that name. Of a link the
+    /// link goes, not what it leads to.
+    fn remove(&mut self, alloc: Global, path: &Path) -> io::Result<()>
+        ensures removed { OnOk result (done self.new ≡ done self.old ++ Removes path.now ∷ []) }
+        ensures kept { OnErr result (done self.new ≡ done self.old) }
+        ensures refused { IfErr result (λ error. refuses self.old path.now (error_kind error)) };
+
+    /// How many calls changed the directory.
     fn count(&self) -> usize
-        ensures { result ≡ length (stored self.now) };
+        ensures { result ≡ length (done self.now) };
 
     /// Removes a draft.
     fn discard(&self, draft: Self::Draft);

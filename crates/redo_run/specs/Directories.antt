@@ -14,7 +14,7 @@ use Rattle.redo_tree.specs.Tree.{Node, Tree, file_at}
 use Rattle.redo_which.specs.Candidates.{book_path}
 use Rattle.redo_which.specs.Rule.{chosen_of}
 use Rattle.redo_dir.specs.Loaded.{Clash, IsLoaded}
-use Rattle.redo_dir.specs.Stored.{Put, puts_in}
+use Rattle.redo_dir.specs.Stored.{Step, puts_in}
 use Rattle.redo_dir.specs.declared.faults.LoadFault.{LoadFault}
 use Rattle.redo_dir.specs.declared.faults.LoadFault.TheVariants as load
 use Rattle.redo_run.specs.declared.directory.DirRun.{DirRun}
@@ -103,7 +103,7 @@ Misses told files place =
     ((IsUtf8 path → ⊥) ⊎ ((kind : ErrorKind) × told path kind))
 
 -- the first files of a list were stored, and why not all
-abbrev pub StoresPart : (List ℕ → ErrorKind → Type 0) → List Put → List Put → Tree → List (List ℕ × List ℕ) → RunDirFault → Type 0
+abbrev pub StoresPart : (List ℕ → ErrorKind → Type 0) → List Step → List Step → Tree → List (List ℕ × List ℕ) → RunDirFault → Type 0
 StoresPart told before after tree files Load = ⊥
 StoresPart told before after tree files (Book n) = ⊥
 StoresPart told before after tree files TooMany = ⊥
@@ -123,7 +123,7 @@ pub record Ran (lists : List ℕ → List (Option (List ℕ)) → Type 0) (leads
 
 -- A tree was loaded and built, those files of its build that it didn't have as they are were stored, the book last, and
 -- the writer took the report, without the files, and nothing else.
-pub record ReportsTree (lists : List ℕ → List (Option (List ℕ)) → Type 0) (leads : List ℕ → Option Node → Type 0) (options : Options) (before after : List Put) (old new : Option (List ℕ)) (run : DirRun) : Type 0 where
+pub record ReportsTree (lists : List ℕ → List (Option (List ℕ)) → Type 0) (leads : List ℕ → Option Node → Type 0) (options : Options) (before after : List Step) (old new : Option (List ℕ)) (run : DirRun) : Type 0 where
   pub tree : Tree
   pub loaded : IsLoaded lists leads tree run.passed
   pub report : Report
@@ -139,7 +139,7 @@ pub record Stays (lists : List ℕ → List (Option (List ℕ)) → Type 0) (lea
   pub why : IsUnbuilt tree options fault
 
 -- Why a run has no report, and what was stored all the same. Nothing is stored before the build has answered.
-abbrev pub IsFaultOf : (List ℕ → List (Option (List ℕ)) → Type 0) → (List ℕ → Option Node → Type 0) → (List ℕ → ErrorKind → Type 0) → (List ℕ → ErrorKind → Type 0) → Options → List Put → List Put → RunDirFault → Type 0
+abbrev pub IsFaultOf : (List ℕ → List (Option (List ℕ)) → Type 0) → (List ℕ → Option Node → Type 0) → (List ℕ → ErrorKind → Type 0) → (List ℕ → ErrorKind → Type 0) → Options → List Step → List Step → RunDirFault → Type 0
 IsFaultOf lists leads refuses told options before after Load = IsUnreadable lists leads refuses × (after ≡ before)
 IsFaultOf lists leads refuses told options before after (Book n) =
     Stays lists leads options (Book n) × (after ≡ before)

@@ -226,9 +226,9 @@ fn store<T: Threads + Sync, D: WorkDir + Sync>(
 ) -> Result<(), RunDirFault>
 where
     D::Draft: Send,
-    ensures all { OnOk result (D.stored dir.new ≡ D.stored dir.old ++ puts_in tree.now files.now) }
+    ensures all { OnOk result (D.done dir.new ≡ D.done dir.old ++ puts_in tree.now files.now) }
     ensures part { IfErr result (StoresPart (λ path kind. (d : D) × D.refuses d path kind)
-        (D.stored dir.old) (D.stored dir.new) tree.now files.now) }
+        (D.done dir.old) (D.done dir.new) tree.now files.now) }
 {
     match store_files(rt, dir, alloc, workers, tree, files) {
         Ok(()) => Ok(()),
@@ -261,9 +261,9 @@ where
     D::Draft: Send,
     requires writer { W.has_failed writer.old ≡ false }
     ensures report { IfOk result (ReportsTree (D.lists dir.old) (D.leads dir.old) options.now
-        (D.stored dir.old) (D.stored dir.new) (W.held writer.old) (W.held writer.new)) }
+        (D.done dir.old) (D.done dir.new) (W.held writer.old) (W.held writer.new)) }
     ensures fault { IfErr result (IsFaultOf (D.lists dir.old) (D.leads dir.old) (D.refuses dir.old)
-        (λ path kind. (d : D) × D.refuses d path kind) options.now (D.stored dir.old) (D.stored dir.new)) }
+        (λ path kind. (d : D) × D.refuses d path kind) options.now (D.done dir.old) (D.done dir.new)) }
     ensures untouched { IsUnwritten result writer.old writer.new }
     ensures device { IsErrOf result RunDirFault.Device ↔ (W.has_failed writer.new ≡ true) }
 {

@@ -1,10 +1,9 @@
 //! A directory in memory, which a run works in as in one of the system: its calls can be made to fail, and its names can
 //! be those of a system that takes capital letters for small ones.
 
-ghost use Rattle.std.specs.Prelude.{map};
-ghost use Rattle.redo_dir.specs.Stored.{put_of};
+ghost use Rattle.redo_dir.specs.Stored.{steps_of};
 
-use redo_dir::{Drafted, Seen, WorkDir};
+use redo_dir::{Change, Drafted, Seen, WorkDir};
 use redo_path::Path;
 use redo_tree::Content;
 use std::alloc::{AllocError, Global};
@@ -19,14 +18,6 @@ pub(crate) enum Node {
     Directory,
     File(Content),
     Link,
-}
-
-/// A file that got its name.
-#[derive(Drop)]
-pub(crate) struct Named {
-    pub path: Path,
-    pub content: Content,
-    pub over: bool,
 }
 
 /// A draft that waits for its name.
@@ -44,7 +35,7 @@ impl Drafted for MemoryDraft {
 #[derive(Drop)]
 pub(crate) struct MemoryDir {
     pub nodes: Vec<(Path, Node)>,
-    pub named: Vec<Named>,
+    pub done: Vec<Change>,
     /// Whether `A` and `a` are one name.
     pub folds_case: bool,
     /// The call that fails, counted from 1.
@@ -57,7 +48,7 @@ impl MemoryDir {
     pub(crate) fn new(alloc: Global) -> MemoryDir {
         MemoryDir {
             nodes: Vec::new(alloc),
-            named: Vec::new(alloc),
+            done: Vec::new(alloc),
             folds_case: false,
             fails_at: 0,
             calls: AtomicU64::new(0),
@@ -115,7 +106,7 @@ impl WorkDir for MemoryDir {
 
     ghost refuses = { λ _ _ _. Unit {0} };
 
-    ghost stored = { λ d. map (λ n. put_of (n.path, n.content) n.over) d.named.items };
+    ghost done = { λ d. steps_of d.done.items };
 
     type Draft = MemoryDraft;
 
@@ -164,16 +155,21 @@ impl WorkDir for MemoryDir {
             return Err(io::Error::from(ErrorKind::AlreadyExists));
         }
         let MemoryDraft { path, content } = draft;
-        self.named.push(Named {
-            path,
-            content,
-            over,
-        })?;
+        self.done.push(Change::Put(path, content, over))?;
+        Ok(())
+    }
+
+    fn remove(&mut self, _alloc: Global, path: &Path) -> io::Result<()> {
+        self.count_call()?;
+        if !self.is_taken(path) {
+            return Err(io::Error::from(ErrorKind::NotFound));
+        }
+        self.done.push(Change::Remove(path.clone()?))?;
         Ok(())
     }
 
     fn count(&self) -> usize {
-        self.named.len()
+        self.done.len()
     }
 
     fn discard(&self, _draft: MemoryDraft) {}

@@ -3,6 +3,7 @@
 use crate::memory_dir::{MemoryDir, Node};
 use crate::trees::{limits_of, paths_of};
 use redo_bundle::Plain;
+use redo_dir::Change;
 use redo_path::{Path, resolve};
 use redo_run::{Cause, Exit, NoObserver, Options, RunDirFault, run_dir};
 use redo_tree::Content;
@@ -68,9 +69,11 @@ fn ran<H: Threads + Wait + Sync>(
 /// The paths of the files that got their names, in order.
 fn named(alloc: Global, dir: &MemoryDir) -> Result<String, Fail> {
     let mut text = String::new(alloc);
-    for file in &dir.named {
-        text.push_str(str::from_utf8(file.path.text())?)?;
-        text.push(' ')?;
+    for change in &dir.done {
+        if let Change::Put(path, _, _) = change {
+            text.push_str(str::from_utf8(path.text())?)?;
+            text.push(' ')?;
+        }
     }
     Ok(text)
 }
@@ -109,7 +112,7 @@ fn each_call_that_fails_is_told(rt: HostRuntime) -> Result<(), Fail> {
         } else {
             ((call - 10) / 2) as usize
         };
-        assert_eq!(rt; dir.named.len(), stored);
+        assert_eq!(rt; dir.done.len(), stored);
     }
     Ok(())
 }

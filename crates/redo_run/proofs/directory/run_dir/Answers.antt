@@ -14,7 +14,7 @@ returns-in_err-store-clause-fault g c =
     let refuses = g.D.WorkDir.refuses c.args.dir.now in
     let told : List ℕ → ErrorKind → Type 0 = λ path kind. (d : g.row.D.Denot) × g.D.WorkDir.refuses d path kind in
     let options = c.args.options.now in
-    let before = g.D.WorkDir.stored c.args.dir.now in let after = g.D.WorkDir.stored c.store.new.dir in
+    let before = g.D.WorkDir.done c.args.dir.now in let after = g.D.WorkDir.done c.store.new.dir in
     let tree = c.in_ok-tree.tree in let report = c.in_ok-tree-2.field-0.report in
     let fault = c.in_err-store.field-0.0 in
     let read : c.deref.result.now ≡ tree = search rules in
@@ -40,7 +40,7 @@ returns-in_err-write_report-clause-fault g c =
     let refuses = g.D.WorkDir.refuses c.args.dir.now in
     let told : List ℕ → ErrorKind → Type 0 = λ path kind. (d : g.row.D.Denot) × g.D.WorkDir.refuses d path kind in
     let options = c.args.options.now in
-    let before = g.D.WorkDir.stored c.args.dir.now in let after = g.D.WorkDir.stored c.store.new.dir in
+    let before = g.D.WorkDir.done c.args.dir.now in let after = g.D.WorkDir.done c.store.new.dir in
     let tree = c.in_ok-tree.tree in let report = c.in_ok-tree-2.field-0.report in
     let read : c.deref.result.now ≡ tree = search rules in
     let reread : c.deref-2.result.now ≡ tree = search rules in
@@ -63,7 +63,7 @@ returns-in_err-write_report-clause-fault g c =
 
 pub returns-clause-report : goal.returns-clause-report
 returns-clause-report g c =
-    let before = g.D.WorkDir.stored c.args.dir.now in let after = g.D.WorkDir.stored c.store.new.dir in
+    let before = g.D.WorkDir.done c.args.dir.now in let after = g.D.WorkDir.done c.store.new.dir in
     let tree = c.in_ok-tree.tree in let report = c.in_ok-tree-2.field-0.report in
     let read : c.deref.result.now ≡ tree = search rules in
     let reread : c.deref-2.result.now ≡ tree = search rules in
