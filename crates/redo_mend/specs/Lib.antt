@@ -1,0 +1,4 @@
+pub mod Mended
+pub mod Own
+pub mod Recovered
+pub mod inside
