@@ -20,12 +20,22 @@ const FILE_BYTES: u32 = 16_777_216;
 /// The most scripts that may run side by side.
 const MOST_JOBS: usize = 64;
 
+/// Whether a run waits for the disk.
+#[derive(Clone, Copy, Debug, PartialEq, Eq)]
+pub(crate) enum Durability {
+    /// It waits for the journal alone.
+    Journal,
+    /// It waits for each file, too.
+    Files,
+}
+
 /// Where the tree is read from.
 #[derive(Drop)]
 pub(crate) enum Input {
     /// A bundle on standard input.
     Bundle,
-    Directory(String),
+    /// A directory, and how its files are stored.
+    Directory(String, Durability),
 }
 
 /// What the command line asks for.
@@ -47,8 +57,8 @@ impl Action {
     /// The directory that is read, if one is.
     pub(crate) fn directory(&self) -> &str {
         match self {
-            Action::Build(_, Input::Directory(dir)) | Action::Whichdo(_, Input::Directory(dir)) =>
-                dir,
+            Action::Build(_, Input::Directory(dir, _))
+            | Action::Whichdo(_, Input::Directory(dir, _)) => dir,
             _ => "",
         }
     }
@@ -63,6 +73,8 @@ pub(crate) enum Refusal {
     BundleAndDirectory,
     #[error("--whichdo takes no targets")]
     TargetsBesideWhichdo,
+    #[error("--sync goes with builds over a directory alone")]
+    SyncWithoutStoring,
     #[error("bad target")]
     BadTarget,
     #[error("out of memory")]
@@ -146,6 +158,13 @@ fn verbose<'a>(alloc: Global) -> Arg<'a> {
         .help("Say the cause behind a message, where it is known")
 }
 
+fn sync<'a>(alloc: Global) -> Arg<'a> {
+    Arg::new(alloc, "sync")
+        .long("sync")
+        .action(ArgAction::SetTrue)
+        .help("Wait until each stored file is on the disk before it gets its name")
+}
+
 fn targets<'a>(alloc: Global) -> Arg<'a> {
     Arg::new(alloc, "targets")
         .value_name("TARGETS")
@@ -164,6 +183,7 @@ pub(crate) fn command<'a>(alloc: Global) -> Result<Command<'a>, AllocError> {
         .arg(directory(alloc))?
         .arg(whichdo(alloc))?
         .arg(verbose(alloc))?
+        .arg(sync(alloc))?
         .arg(targets(alloc))
 }
 
@@ -180,11 +200,20 @@ pub(crate) fn call_of(alloc: Global, matches: &ArgMatches<'_>) -> Result<Call, R
     if whichdo.is_some() && matches.contains_id("targets") {
         return Err(Refusal::TargetsBesideWhichdo);
     }
+    let sync = matches.get_flag("sync");
+    if sync && (bundle || whichdo.is_some()) {
+        return Err(Refusal::SyncWithoutStoring);
+    }
     let input = if bundle {
         Input::Bundle
     } else {
         let dir = matches.get_str("directory").unwrap_or(".");
-        Input::Directory(String::from_str(alloc, dir)?)
+        let durability = if sync {
+            Durability::Files
+        } else {
+            Durability::Journal
+        };
+        Input::Directory(String::from_str(alloc, dir)?, durability)
     };
     let action = match whichdo {
         Some(word) => Action::Whichdo(target(alloc, word)?, input),

@@ -17,16 +17,16 @@ use Rattle.redo_dir.specs.inside.Batches.{Advances, Blames, Files, IsFront, Mean
 use Rattle.redo_dir.specs.inside.Batches.{fault_at, paths_of, unwritten_by}
 use Rattle.redo_dir.proofs.TextLemmas.{refused_at}
 
-get_within : {A : Type 0} (xs : List A) (k : ℕ) (x : A) → slice_get xs k ≡ Some x → k < length xs
+pub get_within : {A : Type 0} (xs : List A) (k : ℕ) (x : A) → slice_get xs k ≡ Some x → k < length xs
 get_within [] k x e = apart cc
 get_within (y ∷ ys) zero x e = omega arith
 get_within (y ∷ ys) (suc k) x e = let h = get_within ys k x e in omega (arith, h)
 
-get_behind : {A : Type 0} (xs : List A) (x : A) (ys : List A) → slice_get (xs ++ x ∷ ys) (length xs) ≡ Some x
+pub get_behind : {A : Type 0} (xs : List A) (x : A) (ys : List A) → slice_get (xs ++ x ∷ ys) (length xs) ≡ Some x
 get_behind [] x ys = refl
 get_behind (z ∷ zs) x ys = get_behind zs x ys
 
-get_front : {A : Type 0} (xs ys : List A) (k : ℕ) (x : A) → slice_get xs k ≡ Some x → slice_get (xs ++ ys) k ≡ Some x
+pub get_front : {A : Type 0} (xs ys : List A) (k : ℕ) (x : A) → slice_get xs k ≡ Some x → slice_get (xs ++ ys) k ≡ Some x
 get_front [] ys k x e = apart cc
 get_front (z ∷ zs) ys zero x e = e
 get_front (z ∷ zs) ys (suc k) x e = get_front zs ys k x e
@@ -224,7 +224,7 @@ some_stops told tree files some before old new k m n fault h at r a =
     let path = path_within behind m count stops.path (path_within (take m behind) n count stops.path stops.there) in
     record { path = stops.path; there = path_behind files k count (length (h.front ++ a.0)) stops.path len path; text = stops.text; blames = stops.blames }
 
-place_at : (fault : Unwritten) (k : ℕ) → place_of (fault_at fault k) ≡ k
+pub place_at : (fault : Unwritten) (k : ℕ) → place_of (fault_at fault k) ≡ k
 place_at (Device kind) k = refl
 place_at Name k = refl
 place_at Memory k = refl

@@ -1,7 +1,8 @@
 -- What was stored in a directory.
-use Rattle.std.specs.Prelude.{◌≡◌, Bool, ℕ, List, IsUtf8, length, map, slice_get, take, is_some, Some, Result, Ok, Err}
+use Rattle.std.specs.Prelude.{◌≡◌, Bool, ℕ, List, IsUtf8, length, map, slice_get, take, is_some, Option, Some, None, Result, Ok, Err}
 use Rattle.std.specs.List.{AllByRecursion}
 use Rattle.std.specs.declared.io.ErrorKind.{ErrorKind}
+use Rattle.redo_dir.specs.Own.{temporary_name}
 use Rattle.redo_dir.specs.declared.changes.Change.{Change}
 use Rattle.redo_dir.specs.declared.changes.Change.TheVariants as change
 use Rattle.redo_dir.specs.declared.faults.StoreFault.{StoreFault}
@@ -21,6 +22,11 @@ pub data Step : Type 0 where
 
 abbrev pub put_of : List ℕ × List ℕ → Bool → Step
 put_of file over = Puts file.0 file.1 over
+
+-- a temporary file has the name with this number of the run whose journal has that text
+abbrev pub IsNamed : Option (List ℕ) → ℕ → List ℕ → Type 0
+IsNamed (Some text) number name = name ≡ temporary_name text number
+IsNamed None number name = ⊥
 
 -- the step that a change of the directory is
 abbrev pub step_of : Change → Step

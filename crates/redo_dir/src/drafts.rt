@@ -46,7 +46,7 @@ impl<F: Drop> Draft<F> {
 }
 
 /// Writes a new file under the first temporary name that nothing has. The tries begin with the number `first`.
-fn write_new<D: WorkDir>(
+pub(crate) fn write_new<D: WorkDir>(
     dir: &D,
     alloc: Global,
     path: &Path,

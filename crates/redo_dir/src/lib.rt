@@ -13,10 +13,14 @@
 
 mod batches;
 mod changes;
+mod clearing;
 mod drafts;
 mod faults;
+mod journal;
 mod loading;
+mod lock;
 mod looking;
+mod own;
 mod places;
 mod storing;
 mod system;
@@ -24,8 +28,12 @@ mod unwritten;
 mod work_dir;
 
 pub use changes::Change;
-pub use faults::{LoadFault, StoreFault};
+pub use clearing::{Left, clear};
+pub use faults::{JournalFault, LoadFault, StoreFault};
+pub use journal::{ToStore, store_by_journal};
 pub use loading::load_dir;
+pub use lock::{DirLock, LockFault, Lockable, lock_dir};
+pub use own::{JOURNAL, Tag, journal_path};
 pub use storing::store_files;
 pub use system::{SystemDir, SystemDraft};
 pub use work_dir::{Drafted, Seen, WorkDir};

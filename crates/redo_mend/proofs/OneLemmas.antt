@@ -13,7 +13,7 @@ use Rattle.redo_past.specs.Past.{RefusesBook}
 use Rattle.redo_past.specs.declared.faults.PastFault.{PastFault}
 use Rattle.redo_past.specs.declared.faults.PastFault.TheVariants.{Book, Memory}
 use Rattle.redo_past.proofs.OrderLemmas.{same_path}
-use Rattle.redo_mend.specs.Own.{is_own, journal_path}
+use Rattle.redo_dir.specs.Own.{is_own, journal_path}
 use Rattle.redo_mend.specs.Recovered.{IsRecovered}
 use Rattle.redo_mend.specs.Mended.{HasNoMended, IsBookOf, IsMended, IsPassedOver, IsRecoveredTree, MendsTo}
 use Rattle.redo_mend.proofs.MendLemmas.{same-node}

@@ -22,7 +22,7 @@ use Rattle.redo_tree.proofs.NodeLemmas.{seen}
 use Rattle.redo_tree.proofs.WithoutLemmas.{is_here}
 use Rattle.redo_which.specs.Candidates.{book_path}
 use Rattle.redo_past.proofs.OrderLemmas.{same_path}
-use Rattle.redo_mend.specs.Own.{is_temporary, journal_path, temporary_front}
+use Rattle.redo_dir.specs.Own.{is_temporary, journal_path, temporary_front}
 
 -- ---- names
 

@@ -1,4 +1,3 @@
 pub mod Mended
-pub mod Own
 pub mod Recovered
 pub mod inside

@@ -5,7 +5,7 @@ ghost use Rattle.redo_tree.specs.Tree.{Directory, File, added, file_at, node_at,
 ghost use Rattle.redo_which.specs.Candidates.{book_path as path_of_book};
 ghost use Rattle.redo_book.specs.Book.{IsText};
 ghost use Rattle.redo_past.specs.Past.{RefusesBook};
-ghost use Rattle.redo_mend.specs.Own.{journal_path as path_of_journal};
+ghost use Rattle.redo_dir.specs.Own.{journal_path as path_of_journal};
 ghost use Rattle.redo_mend.specs.Mended.{HasNoMended, IsRecoveredTree, MendsTo};
 ghost use Rattle.redo_mend.specs.Mended.{book_to_put as text_to_put, own_files};
 ghost use Rattle.redo_mend.specs.inside.Leaving.{HasLeft};
@@ -13,10 +13,11 @@ ghost use Rattle.redo_mend.specs.inside.Leaving.{HasLeft};
 use crate::journal::{journal_in, old_book};
 use crate::left::{book_path, book_to_put};
 use crate::named::targets_named;
-use crate::own::{journal_path, temporaries};
+use crate::own::temporaries;
 use crate::recovered::recovered_text;
 use redo_book::Book;
 use redo_book::laws::a_book_has_no_fault;
+use redo_dir::{Left, journal_path};
 use redo_past::PastFault;
 use redo_path::Path;
 use redo_tree::{Content, Tree};
@@ -30,18 +31,6 @@ pub struct Mended {
     pub tree: Tree,
     /// What a run that was broken off has left; `None` if there is no journal.
     pub left: Option<Left>,
-}
-
-/// What a run that was broken off has left. It is to be cleared away before anything is stored: first the book is put in
-/// its place, then the own files are removed, in their order.
-#[derive(Drop)]
-pub struct Left {
-    /// The journal's text, of which the names of temporary files have digits.
-    pub journal: Content,
-    /// The text of the book to put in the book's place, if another one or none stands there.
-    pub book: Option<Content>,
-    /// The program's own files: the temporary files in path order, then the journal.
-    pub own: Vec<Path>,
 }
 
 /// A journal, and the book that it has the text of.

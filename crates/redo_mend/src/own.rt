@@ -1,28 +1,18 @@
-//! The names of the program's own files.
+//! The temporary files of a run that was broken off.
 
 ghost use Rattle.std.specs.Prelude.{◌≡◌, ◌&&◌, IfOk, filter, is_some, map, nat_eq};
 ghost use Rattle.std.specs.List.{starts_with};
 ghost use Rattle.std.specs.Map.{keys_of};
 ghost use Rattle.redo_path.specs.Names.{name_of};
 ghost use Rattle.redo_tree.specs.Tree.{file_at};
-ghost use Rattle.redo_mend.specs.Own.{is_temporary, journal_path as path_of_journal, temporary_front as front_of};
+ghost use Rattle.redo_dir.specs.Own.{is_temporary, temporary_front as front_of};
 
 use redo_path::Path;
 use redo_tree::{Content, Tree};
 use std::alloc::{AllocError, Global};
 
-/// The name of the journal, which stands in the top directory.
-pub const JOURNAL: &[u8] = b".redo-journal";
-
 /// How many digits of the journal's digest stand in the name of a temporary file.
 const FRONT_DIGITS: usize = 16;
-
-/// The path of the journal.
-pub fn journal_path(alloc: Global) -> Result<Path, AllocError>
-    ensures { IfOk result (λ path. path ≡ path_of_journal) }
-{
-    Path::of_text(alloc, JOURNAL)
-}
 
 /// How the names of the temporary files begin of the run that wrote this journal.
 fn temporary_front(alloc: Global, journal: &Content) -> Result<Vec<u8>, AllocError>

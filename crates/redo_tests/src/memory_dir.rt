@@ -3,7 +3,7 @@
 
 ghost use Rattle.redo_dir.specs.Stored.{steps_of};
 
-use redo_dir::{Change, Drafted, Seen, WorkDir};
+use redo_dir::{Change, Drafted, JOURNAL, Seen, Tag, WorkDir};
 use redo_path::Path;
 use redo_tree::Content;
 use std::alloc::{AllocError, Global};
@@ -25,10 +25,15 @@ pub(crate) enum Node {
 pub(crate) struct MemoryDraft {
     path: Path,
     content: Content,
+    name: String,
 }
 
 impl Drafted for MemoryDraft {
+    ghost use Rattle.std.specs.Prelude.{string_bytes};
+
     ghost drafted = { λ d. (d.path, d.content) };
+
+    ghost named = { λ d. string_bytes d.name };
 }
 
 /// The directory.
@@ -36,6 +41,7 @@ impl Drafted for MemoryDraft {
 pub(crate) struct MemoryDir {
     pub nodes: Vec<(Path, Node)>,
     pub done: Vec<Change>,
+    tag: Option<Tag>,
     /// Whether `A` and `a` are one name.
     pub folds_case: bool,
     /// The call that fails, counted from 1.
@@ -49,6 +55,7 @@ impl MemoryDir {
         MemoryDir {
             nodes: Vec::new(alloc),
             done: Vec::new(alloc),
+            tag: None,
             folds_case: false,
             fails_at: 0,
             calls: AtomicU64::new(0),
@@ -108,6 +115,8 @@ impl WorkDir for MemoryDir {
 
     ghost done = { λ d. steps_of d.done.items };
 
+    ghost tagged = { λ d. d.tag };
+
     type Draft = MemoryDraft;
 
     fn list(&self, alloc: Global, dir: &Path) -> io::Result<Vec<Option<String>>> {
@@ -135,17 +144,43 @@ impl WorkDir for MemoryDir {
         Err(io::Error::from(ErrorKind::NotFound))
     }
 
+    fn journal(&mut self, alloc: Global, text: &Content) -> io::Result<()> {
+        self.count_call()?;
+        let tag = Tag::of(alloc, text)?;
+        self.done.push(Change::Journal(text.clone()?))?;
+        self.tag = Some(tag);
+        Ok(())
+    }
+
+    fn resume(&mut self, alloc: Global, text: &Content) -> Result<(), AllocError> {
+        self.tag = Some(Tag::of(alloc, text)?);
+        Ok(())
+    }
+
+    fn finish(&mut self, _alloc: Global) -> io::Result<()> {
+        self.count_call()?;
+        self.done.push(Change::Finish)?;
+        Ok(())
+    }
+
     fn draft(
         &self,
-        _alloc: Global,
+        alloc: Global,
         path: &Path,
         content: &Content,
-        _number: u64,
+        number: u64,
     ) -> io::Result<MemoryDraft> {
         self.count_call()?;
+        let Some(tag) = &self.tag else {
+            return Err(io::Error::from(ErrorKind::PermissionDenied));
+        };
+        if path.text() == JOURNAL {
+            return Err(io::Error::from(ErrorKind::InvalidFilename));
+        }
         Ok(MemoryDraft {
             path: path.clone()?,
             content: content.clone()?,
+            name: tag.name(alloc, number)?,
         })
     }
 
@@ -154,7 +189,7 @@ impl WorkDir for MemoryDir {
         if !over && self.is_taken(&draft.path) {
             return Err(io::Error::from(ErrorKind::AlreadyExists));
         }
-        let MemoryDraft { path, content } = draft;
+        let MemoryDraft { path, content, .. } = draft;
         self.done.push(Change::Put(path, content, over))?;
         Ok(())
     }

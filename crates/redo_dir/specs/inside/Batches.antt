@@ -45,6 +45,12 @@ Blames told path (Device kind) = told path kind
 Blames told path Name = Unit {0}
 Blames told path Memory = Unit {0}
 
+-- the same where no path is at fault
+abbrev pub BlamesCall : Refusals → List ℕ → Unwritten → Type 0
+BlamesCall told path (Device kind) = told path kind
+BlamesCall told path Name = ⊥
+BlamesCall told path Memory = Unit {0}
+
 -- what is asked of a draft
 abbrev pub asked_of : {F : Type 0} → Draft F → Step
 asked_of draft = put_of (draft.path, draft.content) draft.over

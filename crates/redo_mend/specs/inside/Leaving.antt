@@ -2,7 +2,7 @@
 use Rattle.std.specs.Prelude.{◌≡◌, ℕ, List, MatchOption}
 use Rattle.redo_tree.specs.Tree.{Tree}
 use Rattle.redo_mend.specs.Mended.{book_to_put, own_files}
-use Rattle.redo_mend.specs.declared.mending.Left.{Left}
+use Rattle.redo_dir.specs.declared.clearing.Left.{Left}
 use Rattle.redo_mend.specs.declared.mending.Mended.{Mended}
 
 -- it is what has to be cleared away

@@ -1,7 +1,7 @@
 use Rattle.std.proofs.Common.{◌≡◌, filter, is_some, map, take}
 use Rattle.std.specs.Prelude.{◌&&◌}
 use Rattle.redo_tree.specs.Tree.{file_at}
-use Rattle.redo_mend.specs.Own.{is_temporary}
+use Rattle.redo_dir.specs.Own.{is_temporary}
 use Rattle.redo_mend.proofs.own.temporaries.Given as goal
 
 -- those so far that are files of the run
