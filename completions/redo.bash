@@ -9,6 +9,7 @@ _redo_options=(
     "--bundle      Read the tree as a bundle from standard input"
     "-C            Read the tree from a directory"
     "--whichdo     Print where the rule of TARGET is looked for, and build nothing"
+    "--sync        Wait until each stored file is on the disk before it gets its name"
     "-v            Say the cause behind a message, where it is known"
     "--verbose     Say the cause behind a message, where it is known"
     "-h            Print help"

@@ -38,6 +38,7 @@ complete -c redo -s k -l keep-going -d "Keep going though targets fail; required
 complete -c redo -l bundle -d "Read the tree as a bundle from standard input"
 complete -c redo -s C -x -a "(__fish_complete_directories (commandline -ct))" -d "Read the tree from a directory"
 complete -c redo -l whichdo -x -a "(__redo_targets)" -d "Print where the rule of TARGET is looked for, and build nothing"
+complete -c redo -l sync -d "Wait until each stored file is on the disk before it gets its name"
 complete -c redo -s v -l verbose -d "Say the cause behind a message, where it is known"
 complete -c redo -s h -l help -d "Print help"
 complete -c redo -s V -l version -d "Print version"
