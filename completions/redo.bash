@@ -8,6 +8,7 @@ _redo_options=(
     "--keep-going  Keep going when targets fail; required for a build"
     "--bundle      Read the tree as a bundle from standard input"
     "-C            Read the tree from the directory DIR"
+    "--sync        Have each file on the disk before it gets its name"
     "--whichdo     Print where the rule of TARGET is looked for"
     "--targets     Print the built targets that stand as they were left"
     "--sources     Print the sources that these depend on"

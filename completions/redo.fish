@@ -37,6 +37,7 @@ complete -c redo -s j -l jobs -x -a "(seq 64)" -d "Run up to N scripts at a time
 complete -c redo -s k -l keep-going -d "Keep going when targets fail; required for a build"
 complete -c redo -l bundle -d "Read the tree as a bundle from standard input"
 complete -c redo -s C -x -a "(__fish_complete_directories (commandline -ct))" -d "Read the tree from the directory DIR"
+complete -c redo -l sync -d "Have each file on the disk before it gets its name"
 complete -c redo -l whichdo -x -a "(__redo_targets)" -d "Print where the rule of TARGET is looked for"
 complete -c redo -l targets -d "Print the built targets that stand as they were left"
 complete -c redo -l sources -d "Print the sources that these depend on"

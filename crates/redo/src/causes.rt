@@ -25,7 +25,11 @@ pub(crate) fn of_fault(alloc: Global, fault: Fault, cause: &Cause, action: &Acti
     match fault {
         Fault::Bundle(fault) => of_bundle(alloc, fault, &cause.header),
         Fault::Directory => of_unread(alloc, cause, action.directory()),
-        Fault::Output => of_place(alloc, cause),
+        Fault::Output | Fault::Journal | Fault::Left => of_place(alloc, cause),
+        Fault::Busy => Ok(Some(format!(in alloc;
+            "the lock of {:?} is held; a run gives it back when it ends, however it ends",
+            action.directory()
+        )?)),
         Fault::Book(_) => Ok(Some(format!(in alloc;
             "the file .redo-book is not as a run leaves it; without it each file is a source"
         )?)),

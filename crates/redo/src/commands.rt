@@ -175,10 +175,14 @@ pub(crate) fn check(matches: &ArgMatches<'_>) -> Result<(), Refusal> {
     if matches.get_flag("bundle") && matches.contains_id("directory") {
         return Err(Refusal::Excluded("--bundle", "-C"));
     }
+    if matches.get_flag("bundle") && matches.get_flag("sync") {
+        return Err(Refusal::Excluded("--bundle", "--sync"));
+    }
     if matches.get_flag("all") && !matches.contains_id("rdeps") {
         return Err(Refusal::Alone("--all", "--rdeps"));
     }
     match first {
+        Some(command) if matches.get_flag("sync") => Err(Refusal::Excluded(command, "--sync")),
         Some(command) if matches.contains_id("targets") => Err(Refusal::TargetsBeside(command)),
         _ => Ok(()),
     }

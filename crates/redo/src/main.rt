@@ -15,12 +15,12 @@ mod version;
 
 use clap::error::ErrorKind;
 use clap::{ArgMatches, Error};
-use options::{Action, Call, Input, Refusal};
+use options::{Action, Call, Durability, Input, Refusal};
 use redo_bundle::Plain;
-use redo_dir::SystemDir;
+use redo_dir::{DirLock, LockFault, Lockable, SystemDir, lock_dir};
 use redo_path::Path;
 use redo_run::{
-    Cause, Exit, NoObserver, Options, run_bundle, run_dir, whichdo_bundle, whichdo_dir,
+    Cause, Exit, NoObserver, Options, Said, run_bundle, run_dir, whichdo_bundle, whichdo_dir,
 };
 use status::Fault;
 use std::alloc::Global;
@@ -118,7 +118,7 @@ fn run<H: Runtime + Threads + Wait + Sync>(
     cause: &mut Cause,
 ) -> Result<bool, Fault>
 where
-    H::File: Send,
+    H::File: Send + Lockable,
     H::Dir: Send,
 {
     match action {
@@ -140,7 +140,7 @@ fn build<H: Runtime + Threads + Wait + Sync>(
     cause: &mut Cause,
 ) -> Result<bool, Fault>
 where
-    H::File: Send,
+    H::File: Send + Lockable,
     H::Dir: Send,
 {
     let mut writer = Plain::new(buffered(alloc, io::writer(rt))?);
@@ -162,7 +162,7 @@ fn build_to<H: Runtime + Threads + Wait + Sync, W: Write + Drop>(
     cause: &mut Cause,
 ) -> Result<(Exit, u64), Fault>
 where
-    H::File: Send,
+    H::File: Send + Lockable,
     H::Dir: Send,
     requires { writer.old.broken ≡ false }
 {
@@ -184,8 +184,10 @@ where
             mem::forget(kept);
             (exit, 0)
         }
-        Input::Directory(dir) => {
-            let mut dir = SystemDir::new(rt, alloc, dir);
+        Input::Directory(dir, durability) => {
+            let lock = lock(rt, alloc, dir, cause)?;
+            let synced = *durability == Durability::Files;
+            let mut dir = SystemDir::locked(rt, alloc, dir, &lock, synced);
             let run = run_dir(rt, alloc, &mut dir, writer, options, &NoObserver, cause)?;
             let ended = (run.exit, run.passed);
             // Forgotten as above.
@@ -195,6 +197,27 @@ where
     };
     flush(&mut writer.stream)?;
     Ok(ended)
+}
+
+/// Takes the lock of a directory. Where it can't be opened, the cause says why.
+fn lock<H: Runtime>(
+    rt: &H,
+    alloc: Global,
+    dir: &str,
+    cause: &mut Cause,
+) -> Result<DirLock<H::File>, Fault>
+where
+    H::File: Lockable,
+{
+    match lock_dir(rt, alloc, dir) {
+        Ok(lock) => Ok(lock),
+        Err(fault) => {
+            if let LockFault::Device(kind) = fault {
+                cause.said = Some(Said::System(kind));
+            }
+            Err(Fault::from(fault))
+        }
+    }
 }
 
 /// A writer with a buffer, as a report comes in many small pieces.
@@ -225,7 +248,7 @@ where
             let mut reader = Plain::new(rt.reader());
             Ok(whichdo_bundle(alloc, &mut reader, &mut writer, target, cause)?)
         }
-        Input::Directory(dir) => {
+        Input::Directory(dir, _) => {
             let dir = SystemDir::new(rt, alloc, dir);
             let (found, passed) = whichdo_dir(rt, alloc, &dir, &mut writer, target, cause)?;
             note_passed(rt, passed);

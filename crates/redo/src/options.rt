@@ -22,12 +22,22 @@ const FILE_BYTES: u32 = 16_777_216;
 /// The most scripts that may run side by side.
 const MOST_JOBS: usize = 64;
 
+/// Whether a run waits for the disk.
+#[derive(Clone, Copy, Debug, PartialEq, Eq)]
+pub(crate) enum Durability {
+    /// It waits for the journal alone.
+    Journal,
+    /// It waits for each file, too.
+    Files,
+}
+
 /// Where the tree is read from.
 #[derive(Drop)]
 pub(crate) enum Input {
     /// A bundle on standard input.
     Bundle,
-    Directory(String),
+    /// A directory, and how its files are stored.
+    Directory(String, Durability),
 }
 
 /// What the command line asks for.
@@ -53,9 +63,9 @@ impl Action {
     /// The directory that is read, if one is.
     pub(crate) fn directory(&self) -> &str {
         match self {
-            Action::Build(_, Input::Directory(dir))
-            | Action::Whichdo(_, Input::Directory(dir))
-            | Action::Ask(_, Input::Directory(dir), _)
+            Action::Build(_, Input::Directory(dir, _))
+            | Action::Whichdo(_, Input::Directory(dir, _))
+            | Action::Ask(_, Input::Directory(dir, _), _)
             | Action::Pack(dir, _) => dir,
             _ => "",
         }
@@ -156,6 +166,13 @@ fn verbose<'a>(alloc: Global) -> Arg<'a> {
         .help("Say the cause behind a message, where it is known")
 }
 
+fn sync<'a>(alloc: Global) -> Arg<'a> {
+    Arg::new(alloc, "sync")
+        .long("sync")
+        .action(ArgAction::SetTrue)
+        .help("Have each file on the disk before it gets its name")
+}
+
 fn targets<'a>(alloc: Global) -> Arg<'a> {
     Arg::new(alloc, "targets")
         .value_name("TARGETS")
@@ -174,6 +191,7 @@ pub(crate) fn command<'a>(alloc: Global) -> Result<Command<'a>, AllocError> {
         .arg(directory(alloc))?
         .arg(whichdo(alloc))?
         .arg(verbose(alloc))?
+        .arg(sync(alloc))?
         .arg(targets(alloc))?;
     commands::with_commands(alloc, command)
 }
@@ -194,7 +212,16 @@ fn input_of(alloc: Global, matches: &ArgMatches<'_>) -> Result<Input, AllocError
     if matches.get_flag("bundle") {
         return Ok(Input::Bundle);
     }
-    Ok(Input::Directory(directory_of(alloc, matches)?))
+    Ok(Input::Directory(directory_of(alloc, matches)?, durability_of(matches)))
+}
+
+/// Whether a build waits for the disk.
+fn durability_of(matches: &ArgMatches<'_>) -> Durability {
+    if matches.get_flag("sync") {
+        Durability::Files
+    } else {
+        Durability::Journal
+    }
 }
 
 /// The directory that is named, or else the current one.

@@ -6,6 +6,7 @@ use crate::status::Fault;
 use bstr::BStr;
 use redo_bundle::{Plain, read_bundle_by_line, write_all};
 use redo_dir::SystemDir;
+use redo_mend::mend;
 use redo_past::Past;
 use redo_path::Path;
 use redo_query::{Answer, Question, answer_to};
@@ -16,7 +17,7 @@ use std::io;
 use std::rt::Runtime;
 use std::thread::Threads;
 
-/// Reads a tree, by so many threads. Answers how many names were passed over, too.
+/// Reads a tree, by so many threads, as a run goes on with it. Answers how many names were passed over, too.
 fn load<H: Runtime + Threads + Sync>(
     rt: &H,
     alloc: Global,
@@ -34,9 +35,10 @@ where
             let tree = read_bundle_by_line(alloc, &mut reader, &mut cause.header)?;
             Ok((tree, 0))
         }
-        Input::Directory(dir) => {
+        Input::Directory(dir, _) => {
             let dir = SystemDir::new(rt, alloc, dir);
-            Ok(load_with_book(rt, alloc, &dir, workers, cause)?)
+            let (tree, passed) = load_with_book(rt, alloc, &dir, workers, cause)?;
+            Ok((mend(rt, alloc, workers, tree)?.tree, passed))
         }
     }
 }

@@ -3,6 +3,7 @@
 use crate::options::Refusal;
 use clap::Error;
 use redo_bundle::{Broken, BundleFault};
+use redo_dir::LockFault;
 use redo_pack::PackFault;
 use redo_past::PastFault;
 use redo_run::{RunDirFault, RunIoFault};
@@ -15,7 +16,7 @@ pub(crate) const GOOD: u8 = 0;
 pub(crate) const FAILED: u8 = 1;
 /// The command line is refused.
 pub(crate) const USAGE: u8 = 2;
-/// The bundle or the book is refused, or the directory can't be read.
+/// The bundle or the book is refused, or the directory can't be read, or another run is at work in it.
 pub(crate) const INPUT: u8 = 3;
 /// Too many targets are needed.
 pub(crate) const TOO_MANY: u8 = 4;
@@ -44,6 +45,12 @@ pub(crate) enum Fault {
     /// The book of the last run has a fault, first in this line, counted from 1.
     Book(u64),
     TooMany,
+    /// Another run is at work in the directory.
+    Busy,
+    /// The journal can't be written.
+    Journal,
+    /// What a run has left that was broken off can't be cleared away.
+    Left,
     Output,
     Memory,
 }
@@ -106,8 +113,20 @@ impl From<RunDirFault> for Fault {
             RunDirFault::Load => Fault::Directory,
             RunDirFault::Book(line) => Fault::Book(line),
             RunDirFault::TooMany => Fault::TooMany,
+            RunDirFault::Journal => Fault::Journal,
+            RunDirFault::Left => Fault::Left,
             RunDirFault::Store(_) | RunDirFault::Device => Fault::Output,
             RunDirFault::Memory => Fault::Memory,
+        }
+    }
+}
+
+impl From<LockFault> for Fault {
+    fn from(fault: LockFault) -> Fault {
+        match fault {
+            LockFault::Busy => Fault::Busy,
+            LockFault::Device(_) => Fault::Directory,
+            LockFault::Memory => Fault::Memory,
         }
     }
 }
@@ -115,9 +134,9 @@ impl From<RunDirFault> for Fault {
 /// The status after a fault.
 pub(crate) fn of_fault(fault: Fault) -> u8 {
     match fault {
-        Fault::Bundle(_) | Fault::Directory | Fault::Book(_) => INPUT,
+        Fault::Bundle(_) | Fault::Directory | Fault::Book(_) | Fault::Busy => INPUT,
         Fault::TooMany => TOO_MANY,
-        Fault::Output => OUTPUT,
+        Fault::Journal | Fault::Left | Fault::Output => OUTPUT,
         Fault::Memory => MEMORY,
     }
 }
@@ -136,6 +155,9 @@ impl fmt::Display for Fault {
             Fault::Directory => write!(f, "directory not readable"),
             Fault::Book(line) => write!(f, "book: line {line}"),
             Fault::TooMany => write!(f, "too many targets"),
+            Fault::Busy => write!(f, "another run is at work here"),
+            Fault::Journal => write!(f, "journal not writable"),
+            Fault::Left => write!(f, "recovery failed"),
             Fault::Output => write!(f, "output failed"),
             Fault::Memory => write!(f, "out of memory"),
         }

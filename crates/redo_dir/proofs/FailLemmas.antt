@@ -1,5 +1,5 @@
 -- Why a directory wasn't read: a call was refused, or the names that were listed make no tree.
-use Rattle.std.proofs.Common.{◌≡◌, ℕ, List, [], ◌∷◌, ◌++◌, refl, sym, ap, subst, ◌∙◌, inl, inr, map}
+use Rattle.std.proofs.Common.{◌≡◌, ℕ, List, [], ◌∷◌, ◌++◌, refl, sym, ap, subst, ◌∙◌, inl, inr}
 use Rattle.std.proofs.Common.{Option, Some, None, append_assoc}
 use Rattle.std.specs.List.{AllByRecursion, AllZip, FoldsTo}
 use Rattle.std.specs.Prelude.{IfErr, Result, Ok, Err}
@@ -11,10 +11,10 @@ use Rattle.redo_tree.specs.Tree.{Node, grown, top}
 use Rattle.redo_dir.specs.declared.faults.LoadFault.{LoadFault}
 use Rattle.redo_dir.specs.declared.faults.LoadFault.TheVariants.{Device, Memory}
 use Rattle.redo_dir.specs.declared.looking.Name.{Name}
-use Rattle.redo_dir.specs.Loaded.{Clash, ComesTo, IsUnloaded, entries_of, load_fault, names_of, node_seen}
-use Rattle.redo_dir.specs.inside.Levels.{Breaks, IsAnswered, IsBetween, IsLooked, IsMark, IsStopped, KeepsPaths, ListsLevel}
+use Rattle.redo_dir.specs.Loaded.{ComesTo, IsUnloaded, entries_of, load_fault, names_of, node_seen}
+use Rattle.redo_dir.specs.inside.Levels.{IsAnswered, IsBetween, IsLooked, IsMark, IsStopped, KeepsPaths, ListsLevel}
 use Rattle.redo_dir.specs.inside.Levels.{Progress, ReceivesName, Refuses, StopsAt, paths_of, with_none_noted, with_none_waiting}
-use Rattle.redo_dir.proofs.LevelLemmas.{Received, listed, received, seen_leads}
+use Rattle.redo_dir.proofs.LevelLemmas.{listed, received, seen_leads}
 use Rattle.redo_dir.proofs.ListingLemmas.{AllZip-append, entries-append, grown-none, grown-on, names-append}
 
 -- the fault of a call that was refused

@@ -3,15 +3,15 @@ use Rattle.std.proofs.Common.{◌≡◌, ◌^◌, ◌-◌, ◌+◌, ℕ, List, [
 use Rattle.std.proofs.Common.{Option, Some, None, append_assoc, append-nil}
 use Rattle.std.proofs.lemmas.List.{length-map, map-append}
 use Rattle.std.specs.List.{AllByRecursion, AllZip, FoldsTo}
-use Rattle.std.specs.Prelude.{IsUtf8, Result, Ok, Err, count_by, is_none, min}
+use Rattle.std.specs.Prelude.{IsUtf8, Ok, count_by, is_none, min}
 use Rattle.std.specs.declared.io.ErrorKind.{ErrorKind}
 use Rattle.redo_path.specs.Names.{child_of}
 use Rattle.redo_path.proofs.ApartLemmas.{apart}
 use Rattle.redo_path.proofs.PartLemmas.{AllByRecursion-append}
-use Rattle.redo_tree.specs.Tree.{Node, Directory, File, added, grown, top}
+use Rattle.redo_tree.specs.Tree.{Node, Directory, File, grown, top}
 use Rattle.redo_dir.specs.declared.looking.Name.{Name}
 use Rattle.redo_dir.specs.Loaded.{ComesTo, IsLoaded, Listing, MayStand, asked, directories, entries_of, names_of, node_seen}
-use Rattle.redo_dir.specs.inside.Levels.{Enters, EntersNoted, IsAnswered, IsBetween, IsLooked, IsMark, KeepsPaths, ListsDir}
+use Rattle.redo_dir.specs.inside.Levels.{EntersNoted, IsAnswered, IsBetween, IsLooked, IsMark, KeepsPaths, ListsDir}
 use Rattle.redo_dir.specs.inside.Levels.{ListsLevel, Notes, Progress, Receives, ReceivesName, paths_of, with_none_noted, with_none_waiting}
 use Rattle.redo_dir.specs.inside.Levels.{with_noted, with_passed, with_waiting}
 use Rattle.redo_dir.proofs.ListingLemmas.{AllZip-append, directories-append, entries-append, grown-on, grown-one, names-append}

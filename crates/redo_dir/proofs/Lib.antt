@@ -1,6 +1,9 @@
+pub mod ClearLemmas
 pub mod EntryNameLemmas
 pub mod FailLemmas
 pub mod FrontLemmas
+pub mod JournalLemmas
 pub mod LevelLemmas
 pub mod ListingLemmas
+pub mod OwnLemmas
 pub mod TextLemmas

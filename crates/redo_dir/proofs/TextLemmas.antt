@@ -1,6 +1,6 @@
 -- Lists of paths that are text, and trees of them.
-use Rattle.std.proofs.Common.{◌≡◌, ℕ, List, [], ◌∷◌, map, take, refl, sym, ap, subst}
-use Rattle.std.proofs.Common.{Option, Some, None, ◌++◌, ◌∙◌}
+use Rattle.std.proofs.Common.{◌≡◌, ℕ, List, [], ◌∷◌, map, take, refl, sym, subst}
+use Rattle.std.proofs.Common.{Option, Some, None, ◌++◌}
 use Rattle.std.specs.Prelude.{Err, IsUtf8, slice_get, Ok}
 use Rattle.std.specs.List.{AllByRecursion, AllZip, FoldsTo}
 use Rattle.redo_dir.specs.declared.unwritten.Unwritten.{Unwritten}

@@ -1,3 +1,5 @@
 pub mod Loaded
+pub mod Own
 pub mod Stored
+pub mod Storing
 pub mod inside

@@ -1,3 +1,3 @@
 pub mod Batches
-pub mod Drafts
+pub mod Clearing
 pub mod Levels

@@ -46,7 +46,7 @@ impl<F: Drop> Draft<F> {
 }
 
 /// Writes a new file under the first temporary name that nothing has. The tries begin with the number `first`.
-fn write_new<D: WorkDir>(
+pub(crate) fn write_new<D: WorkDir>(
     dir: &D,
     alloc: Global,
     path: &Path,
@@ -107,8 +107,8 @@ where
 fn name<D: WorkDir>(dir: &mut D, draft: Draft<D::Draft>) -> Result<(), Unwritten>
     requires { IsWritten (λ path kind. (d : D) × D.refuses d path kind) D.Draft.drafted draft }
     ensures text { (path : List ℕ) → IsUtf8 path → MeansText result path }
-    ensures stored { OnOk result (D.stored dir.new ≡ D.stored dir.old ++ asked_of draft ∷ []) }
-    ensures kept { OnErr result (D.stored dir.new ≡ D.stored dir.old) }
+    ensures stored { OnOk result (D.done dir.new ≡ D.done dir.old ++ asked_of draft ∷ []) }
+    ensures kept { OnErr result (D.done dir.new ≡ D.done dir.old) }
     ensures refused { IfErr result (Blames (λ path kind. (d : D) × D.refuses d path kind) draft.path) }
 {
     let Draft { over, written, .. } = draft;
@@ -137,7 +137,7 @@ pub(crate) fn name_each<D: WorkDir>(
 ) -> Result<(), Unwritten>
     requires { AllByRecursion (IsWritten (λ path kind. (d : D) × D.refuses d path kind) D.Draft.drafted) drafts.items }
     ensures { Names (λ path kind. (d : D) × D.refuses d path kind)
-        (D.stored dir.old) (asked drafts.items) (D.stored dir.new) result }
+        (D.done dir.old) (asked drafts.items) (D.done dir.new) result }
 {
     let mut outcome = Ok(());
     'drafts: for draft in drafts {

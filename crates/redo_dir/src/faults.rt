@@ -52,3 +52,24 @@ pub enum StoreFault {
     #[error("out of memory")]
     Memory(usize),
 }
+
+/// Why a run did not store all by its journal.
+#[derive(Clone, Copy, Debug, PartialEq, Eq, Error)]
+pub enum JournalFault {
+    /// The journal can't be written, and what the system says of it. Nothing was stored.
+    #[error("the journal can't be written: {0}")]
+    Journal(ErrorKind),
+    /// A file can't be stored or, at the place behind the last, the book can't.
+    #[error("{0}")]
+    File(StoreFault),
+}
+
+impl From<StoreFault> for JournalFault {
+    ghost use Rattle.redo_dir.specs.declared.faults.JournalFault.TheVariants.{File};
+
+    ghost from_gives = { λ error fault. fault ≡ File error };
+
+    fn from(error: StoreFault) -> JournalFault {
+        JournalFault::File(error)
+    }
+}

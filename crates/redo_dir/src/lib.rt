@@ -4,7 +4,7 @@
 //! Both reach the file system through [`WorkDir`] alone, of which [`SystemDir`] is the system's; a test has one of its
 //! own. The crate stands on `redo_tree` and `redo_path`, and on `thiserror`.
 //!
-//! - `work_dir`: what a run asks of the file system; `system`: a directory of the system;
+//! - `work_dir`: what a run asks of the file system; `changes`: what it changed; `system`: a directory of the system;
 //! - `loading`: a directory as a tree; `places`: which of its names a tree takes in; `looking`: what they lead to;
 //! - `storing`: files that are stored; `batches`: which of them together, and by how many threads; `drafts`: how they are
 //!   written and named;
@@ -12,18 +12,28 @@
 #![tactic(auto)]
 
 mod batches;
+mod changes;
+mod clearing;
 mod drafts;
 mod faults;
+mod journal;
 mod loading;
+mod lock;
 mod looking;
+mod own;
 mod places;
 mod storing;
 mod system;
 mod unwritten;
 mod work_dir;
 
-pub use faults::{LoadFault, StoreFault};
+pub use changes::Change;
+pub use clearing::{Left, clear};
+pub use faults::{JournalFault, LoadFault, StoreFault};
+pub use journal::{ToStore, store_by_journal};
 pub use loading::load_dir;
+pub use lock::{DirLock, LockFault, Lockable, lock_dir};
+pub use own::{JOURNAL, Tag, journal_path};
 pub use storing::store_files;
 pub use system::{SystemDir, SystemDraft};
 pub use work_dir::{Drafted, Seen, WorkDir};

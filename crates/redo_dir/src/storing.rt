@@ -83,7 +83,7 @@ where
     D::Draft: Send,
     requires files { 0 < length files.now }
     ensures { Advances (λ path kind. (d : D) × D.refuses d path kind)
-        tree.now files.now (D.stored dir.old) (D.stored dir.new) result }
+        tree.now files.now (D.done dir.old) (D.done dir.new) result }
 {
     let mut drafts = drafts_of(alloc, tree, files)?;
     write_by(rt, dir, alloc, threads_for(workers, files), &mut drafts);
@@ -112,8 +112,8 @@ pub fn store_files<T: Threads + Sync, D: WorkDir + Sync>(
 where
     D::Draft: Send,
     ensures text { HasTexts result (map (λ file. file.0) files.now) }
-    ensures stored { D.stored dir.new ≡
-        D.stored dir.old ++ puts_in tree.now (take (stored_count result files.now) files.now) }
+    ensures stored { D.done dir.new ≡
+        D.done dir.old ++ puts_in tree.now (take (stored_count result files.now) files.now) }
     ensures refused { IfErr result
         (IsUnstored (λ path kind. (d : D) × D.refuses d path kind) (map (λ file. file.0) files.now)) }
 {

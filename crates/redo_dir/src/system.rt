@@ -1,20 +1,38 @@
 //! A directory of the system, as a run works in it.
 
+ghost use Rattle.std.specs.Path.{path_buf_bytes, path_with_file_name};
 ghost use Rattle.std.specs.Prelude.{◌≡◌, ◌++◌, ◌∷◌, [], IfOk, OnErr, OnOk, string_bytes};
-ghost use Rattle.std.specs.Path.{path_buf_bytes};
 ghost use Rattle.redo_dir.specs.Loaded.{Shows};
-ghost use Rattle.redo_dir.specs.Stored.{put_of};
-ghost use Rattle.redo_dir.specs.inside.Drafts.{IsBeside, puts_named, temporary_name};
+ghost use Rattle.redo_dir.specs.Stored.{IsNamed, put_of, steps_of};
 
+use crate::changes::Change;
+use crate::lock::DirLock;
+use crate::own::{JOURNAL, Tag};
 use crate::work_dir::{Drafted, Seen, WorkDir};
 use redo_path::Path;
 use redo_tree::Content;
+use redo_which::BOOK;
 use std::alloc::{AllocError, Global};
-use std::fs::{DirEntry, File, Metadata};
+use std::fs::{DirEntry, File, Metadata, OpenFile};
 use std::io::{ErrorKind, Read, Write};
 use std::path::{Path as SystemPath, PathBuf};
 use std::rt::Files;
 use std::{fs, io};
+
+/// The names of the journal and of the book.
+const JOURNAL_NAME: &str = ".redo-journal";
+
+const BOOK_NAME: &str = ".redo-book";
+
+/// What a run may do in a directory, beside reading it.
+#[derive(Clone, Copy, Debug, PartialEq, Eq)]
+enum Access {
+    Read,
+    /// It stores files, without waiting until they are on the disk.
+    Store,
+    /// It waits until a file is on the disk before the file gets its name, and until the names are before it ends.
+    StoreSynced,
+}
 
 /// A directory of the system. It may itself be a link; what is below it is never reached by one.
 #[derive(Drop)]
@@ -22,15 +40,9 @@ pub struct SystemDir<'a, R> {
     rt: &'a R,
     /// Where the directory is.
     top: &'a str,
-    stored: Vec<Named>,
-}
-
-/// A file that got its name.
-#[derive(Drop)]
-struct Named {
-    path: Path,
-    content: Content,
-    over: bool,
+    access: Access,
+    tag: Option<Tag>,
+    done: Vec<Change>,
 }
 
 /// A file of the system that was written under a temporary name.
@@ -40,12 +52,17 @@ pub struct SystemDraft {
     content: Content,
     /// Where it is to be.
     place: PathBuf,
-    /// Where it is.
+    /// Where it is, and its name there.
     beside: PathBuf,
+    name: String,
 }
 
 impl Drafted for SystemDraft {
+    ghost use Rattle.std.specs.Prelude.{string_bytes};
+
     ghost drafted = { λ d. (d.path, d.content) };
+
+    ghost named = { λ d. string_bytes d.name };
 }
 
 /// The bytes of a file, which had `size` of them when it was looked at.
@@ -71,19 +88,11 @@ fn read_seen<R: Files>(rt: &R, alloc: Global, place: &PathBuf, about: &Metadata)
     Ok(Seen::Other)
 }
 
-/// The temporary name with this number.
-fn temporary_name(alloc: Global, number: u64) -> Result<String, AllocError>
-    ensures { IfOk result (λ name. string_bytes name ≡ temporary_name number) }
+/// Where the file with this temporary name is, beside a place.
+fn place_beside(alloc: Global, place: &PathBuf, name: &str) -> Result<PathBuf, AllocError>
+    ensures { IfOk result (λ beside. path_buf_bytes beside ≡ path_with_file_name (path_buf_bytes place.now) name.now) }
 {
-    format!(in alloc; ".redo-{number}.tmp")
-}
-
-/// Where the file with the temporary name of this number is, beside a place.
-fn place_beside(alloc: Global, place: &PathBuf, number: u64) -> Result<PathBuf, AllocError>
-    ensures { IfOk result (λ beside. IsBeside (path_buf_bytes place.now) (path_buf_bytes beside)) }
-{
-    let name = temporary_name(alloc, number)?;
-    place.with_file_name(alloc, &name)
+    place.with_file_name(alloc, name)
 }
 
 /// A name as it was listed, or none where it isn't text.
@@ -98,10 +107,19 @@ fn name_of<F: Files + Drop>(
     }
 }
 
+/// Writes all bytes to a file, and waits until they are on the disk if they are to be.
+fn fill<F: Write + OpenFile>(file: &mut F, bytes: &[u8], synced: bool) -> io::Result<()> {
+    file.write_all(bytes)?;
+    if synced {
+        file.sync_all()?;
+    }
+    Ok(())
+}
+
 /// Writes bytes into a new file and closes it, or leaves no file of its own.
-fn write_new<R: Files>(rt: &R, place: &PathBuf, bytes: &[u8]) -> io::Result<()> {
+fn write_new<R: Files>(rt: &R, place: &PathBuf, bytes: &[u8], synced: bool) -> io::Result<()> {
     let mut file = File::create_new(rt, place.as_path())?;
-    let outcome = file.write_all(bytes);
+    let outcome = fill(&mut file, bytes, synced);
     drop(file);
     if outcome.is_err() {
         let _removed = fs::remove_file(rt, place.as_path());
@@ -121,14 +139,103 @@ fn check_free<R: Files>(rt: &R, place: &PathBuf) -> io::Result<()> {
     }
 }
 
+/// Waits until the names in a directory are on the disk. A file system that can't be asked for that is taken at its word.
+fn sync_names<R: Files>(rt: &R, place: &PathBuf) -> io::Result<()> {
+    let dir = fs::open(rt, place.as_path())?;
+    match dir.sync_all() {
+        Err(error)
+            if matches!(
+                error.kind(),
+                ErrorKind::InvalidInput | ErrorKind::Unsupported
+            ) => { Ok(()) }
+        outcome => outcome,
+    }
+}
+
+/// Writes a new file and waits until it is on the disk, with its name in the directory `top`; or leaves no file of its own.
+fn write_synced<R: Files>(rt: &R, top: &PathBuf, place: &PathBuf, bytes: &[u8]) -> io::Result<()> {
+    write_new(rt, place, bytes, true)?;
+    let outcome = sync_names(rt, top);
+    if outcome.is_err() {
+        let _removed = fs::remove_file(rt, place.as_path());
+    }
+    outcome
+}
+
 impl<'a, R: Files> SystemDir<'a, R> {
-    /// The directory at this path of the system.
+    /// The directory at this path of the system, to be read alone.
     pub fn new(rt: &'a R, alloc: Global, top: &'a str) -> SystemDir<'a, R> {
+        SystemDir::with_access(rt, alloc, top, Access::Read)
+    }
+
+    /// The directory at this path of the system, whose lock is held, to be read and written. If `synced`, each file is on
+    /// the disk before it gets its name.
+    pub fn locked(
+        rt: &'a R,
+        alloc: Global,
+        top: &'a str,
+        _lock: &'a DirLock<R::File>,
+        synced: bool,
+    ) -> SystemDir<'a, R> {
+        let access = if synced {
+            Access::StoreSynced
+        } else {
+            Access::Store
+        };
+        SystemDir::with_access(rt, alloc, top, access)
+    }
+
+    fn with_access(rt: &'a R, alloc: Global, top: &'a str, access: Access) -> SystemDir<'a, R> {
         SystemDir {
             rt,
             top,
-            stored: Vec::new(alloc),
+            access,
+            tag: None,
+            done: Vec::new(alloc),
         }
+    }
+
+    /// Refuses a change of a directory that is read alone.
+    fn check_writable(&self) -> io::Result<()> {
+        match self.access {
+            Access::Read => Err(io::Error::from(ErrorKind::PermissionDenied)),
+            Access::Store | Access::StoreSynced => Ok(()),
+        }
+    }
+
+    /// Where the system has a file of the top directory.
+    fn top_place(&self, alloc: Global, name: &str) -> io::Result<PathBuf> {
+        Ok(SystemPath::new(self.top).join(alloc, name)?)
+    }
+
+    /// The name of the temporary file with this number.
+    fn temporary_name(&self, alloc: Global, number: u64) -> io::Result<String>
+        ensures { IfOk result (λ name. IsNamed self.now.tag number (string_bytes name)) }
+    {
+        match &self.tag {
+            Some(tag) => Ok(tag.name(alloc, number)?),
+            None => Err(io::Error::from(ErrorKind::PermissionDenied)),
+        }
+    }
+
+    /// Waits until the names of all files that were put are on the disk.
+    fn sync_puts(&self, alloc: Global) -> io::Result<()> {
+        let mut last = None;
+        for change in &self.done {
+            let Change::Put(path, _, _) = change else {
+                continue;
+            };
+            let dir = path.parent_text();
+            // Those of one directory follow one another mostly.
+            if dir != last {
+                last = dir;
+                let Ok(text) = str::from_utf8(dir.unwrap_or_default()) else {
+                    continue;
+                };
+                sync_names(self.rt, &self.top_place(alloc, text)?)?;
+            }
+        }
+        Ok(())
     }
 
     /// Where the system has a path of the tree.
@@ -141,28 +248,26 @@ impl<'a, R: Files> SystemDir<'a, R> {
 
     /// Gives a draft its name, and notes that it has it.
     fn name(&mut self, draft: &SystemDraft, over: bool) -> io::Result<()>
-        ensures stored { OnOk result (puts_named self.new.stored.items ≡
-            puts_named self.old.stored.items ++ put_of (draft.now.path, draft.now.content) over ∷ []) }
-        ensures kept { OnErr result (puts_named self.new.stored.items ≡ puts_named self.old.stored.items) }
+        ensures stored { OnOk result (steps_of self.new.done.items ≡
+            steps_of self.old.done.items ++ put_of (draft.now.path, draft.now.content) over ∷ []) }
+        ensures kept { OnErr result (steps_of self.new.done.items ≡ steps_of self.old.done.items) }
+        ensures tag { self.new.tag ≡ self.old.tag }
     {
-        let named = Named {
-            path: draft.path.clone()?,
-            content: draft.content.clone()?,
-            over,
-        };
+        let change = Change::Put(draft.path.clone()?, draft.content.clone()?, over);
         // So that no file gets a name that can't be noted.
-        self.stored.reserve(1)?;
+        self.done.reserve(1)?;
         if !over {
             check_free(self.rt, &draft.place)?;
         }
         fs::rename(self.rt, draft.beside.as_path(), draft.place.as_path())?;
-        self.stored.push(named)?;
+        self.done.push(change)?;
         Ok(())
     }
 }
 
 impl<R: Files> WorkDir for SystemDir<'_, R> {
-    ghost use Rattle.redo_dir.specs.inside.Drafts.{puts_named};
+    ghost use Rattle.std.specs.Prelude.{option_map};
+    ghost use Rattle.redo_dir.specs.Stored.{steps_of};
 
     ghost lists = { λ _ _ _. Unit {0} };
 
@@ -170,7 +275,9 @@ impl<R: Files> WorkDir for SystemDir<'_, R> {
 
     ghost refuses = { λ _ _ _. Unit {0} };
 
-    ghost stored = { λ d. puts_named d.stored.items };
+    ghost done = { λ d. steps_of d.done.items };
+
+    ghost tagged = { λ d. d.tag };
 
     type Draft = SystemDraft;
 
@@ -190,6 +297,37 @@ impl<R: Files> WorkDir for SystemDir<'_, R> {
         read_seen(self.rt, alloc, &place, &about)
     }
 
+    fn journal(&mut self, alloc: Global, text: &Content) -> io::Result<()> {
+        self.check_writable()?;
+        let top = self.top_place(alloc, "")?;
+        let place = self.top_place(alloc, JOURNAL_NAME)?;
+        let change = Change::Journal(text.clone()?);
+        let tag = Tag::of(alloc, text)?;
+        self.done.reserve(1)?;
+        write_synced(self.rt, &top, &place, text.bytes())?;
+        self.done.push(change)?;
+        self.tag = Some(tag);
+        Ok(())
+    }
+
+    fn resume(&mut self, alloc: Global, text: &Content) -> Result<(), AllocError> {
+        self.tag = Some(Tag::of(alloc, text)?);
+        Ok(())
+    }
+
+    fn finish(&mut self, alloc: Global) -> io::Result<()> {
+        self.check_writable()?;
+        if self.access == Access::StoreSynced {
+            self.sync_puts(alloc)?;
+        }
+        let journal = self.top_place(alloc, JOURNAL_NAME)?;
+        let book = self.top_place(alloc, BOOK_NAME)?;
+        self.done.reserve(1)?;
+        fs::rename(self.rt, journal.as_path(), book.as_path())?;
+        self.done.push(Change::Finish)?;
+        Ok(())
+    }
+
     fn draft(
         &self,
         alloc: Global,
@@ -197,14 +335,22 @@ impl<R: Files> WorkDir for SystemDir<'_, R> {
         content: &Content,
         number: u64,
     ) -> io::Result<SystemDraft> {
+        self.check_writable()?;
+        if path.text() == JOURNAL {
+            return Err(io::Error::from(ErrorKind::InvalidFilename));
+        }
         let place = self.place(alloc, path)?;
-        let beside = place_beside(alloc, &place, number)?;
-        write_new(self.rt, &beside, content.bytes())?;
+        let name = self.temporary_name(alloc, number)?;
+        let beside = place_beside(alloc, &place, &name)?;
+        // A book that was recovered is the only one once the journal is gone.
+        let synced = self.access == Access::StoreSynced || path.text() == BOOK;
+        write_new(self.rt, &beside, content.bytes(), synced)?;
         Ok(SystemDraft {
             path: path.clone()?,
             content: content.clone()?,
             place,
             beside,
+            name,
         })
     }
 
@@ -216,8 +362,22 @@ impl<R: Files> WorkDir for SystemDir<'_, R> {
         outcome
     }
 
+    fn remove(&mut self, alloc: Global, path: &Path) -> io::Result<()> {
+        self.check_writable()?;
+        let place = self.place(alloc, path)?;
+        let change = Change::Remove(path.clone()?);
+        self.done.reserve(1)?;
+        if path.text() == JOURNAL {
+            // The book that was recovered by it has its name on the disk before.
+            sync_names(self.rt, &self.top_place(alloc, "")?)?;
+        }
+        fs::remove_file(self.rt, place.as_path())?;
+        self.done.push(change)?;
+        Ok(())
+    }
+
     fn count(&self) -> usize {
-        self.stored.len()
+        self.done.len()
     }
 
     fn discard(&self, draft: SystemDraft) {

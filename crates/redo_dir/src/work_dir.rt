@@ -1,13 +1,15 @@
 //! The directory that a run works in: what a run asks of the file system.
 
-ghost use Rattle.std.specs.Prelude.{◌≡◌, ◌++◌, ◌∷◌, [], IfErr, IfOk, OnErr, OnOk, length};
+ghost use Rattle.std.specs.Prelude.{◌≡◌, ◌≢◌, ◌++◌, ◌∷◌, [], IfErr, IfOk, OnErr, OnOk, Some, length};
 ghost use Rattle.std.specs.IoError.{error_kind};
 ghost use Rattle.redo_dir.specs.Loaded.{names_in, node_seen};
-ghost use Rattle.redo_dir.specs.Stored.{put_of};
+ghost use Rattle.redo_dir.specs.Own.{journal_path};
+ghost use Rattle.redo_dir.specs.Stored.{Finishes, IsNamed, Journals, Removes, put_of};
+ghost use Rattle.redo_which.specs.Candidates.{book_path};
 
 use redo_path::Path;
 use redo_tree::Content;
-use std::alloc::Global;
+use std::alloc::{AllocError, Global};
 use std::io;
 
 /// What a path leads to. A link is neither a directory nor a file.
@@ -24,6 +26,8 @@ pub trait Drafted {
 
     // The path that it is to have, and its bytes.
     ghost drafted: { Self → List ℕ × List ℕ };
+    // The name that it has until then, beside its path.
+    ghost named: { Self → List ℕ };
 }
 
 /// The directory that a run works in. A run reaches the file system by these calls alone: nothing else is listed, read,
@@ -35,7 +39,7 @@ pub trait WorkDir {
     ghost use Rattle.std.specs.Prelude.{List, Option, ℕ};
     ghost use Rattle.std.specs.declared.io.ErrorKind.{ErrorKind};
     ghost use Rattle.redo_tree.specs.Tree.{Node};
-    ghost use Rattle.redo_dir.specs.Stored.{Put};
+    ghost use Rattle.redo_dir.specs.Stored.{Step};
 
     /// A file under a temporary name of the run's own, which was written whole and closed.
     type Draft: Drafted + Drop;
@@ -46,8 +50,10 @@ pub trait WorkDir {
     ghost leads: { Self → List ℕ → Option Node → Type 0 };
     // A call at a path was answered by this error.
     ghost refuses: { Self → List ℕ → ErrorKind → Type 0 };
-    // The files that got their names, in this order.
-    ghost stored: { Self → List Put };
+    // The calls that changed the directory, in this order.
+    ghost done: { Self → List Step };
+    // The text of the journal by which temporary files are named, once there is one.
+    ghost tagged: { Self → Option (List ℕ) };
 
     /// Lists a directory. The order is the system's.
     fn list(&self, alloc: Global, dir: &Path) -> io::Result<Vec<Option<String>>>
@@ -59,8 +65,29 @@ pub trait WorkDir {
         ensures answer { IfOk result (λ seen. leads self.now path.now (node_seen seen)) }
         ensures refused { IfErr result (λ error. refuses self.now path.now (error_kind error)) };
 
+    /// Writes the journal with this text, in its own place, and waits until it is on the disk. The error is
+    /// `AlreadyExists` where something stands there. A run that is killed meanwhile may leave a beginning of it. From then
+    /// on temporary files are named by it.
+    fn journal(&mut self, alloc: Global, text: &Content) -> io::Result<()>
+        ensures journal { OnOk result (done self.new ≡ done self.old ++ Journals text.now ∷ []) }
+        ensures kept { OnErr result (done self.new ≡ done self.old) }
+        ensures tag { OnOk result (tagged self.new ≡ Some text.now) }
+        ensures refused { IfErr result (λ error. refuses self.old journal_path (error_kind error)) };
+
+    /// Names temporary files by the journal that a run which was broken off has left, with this text.
+    fn resume(&mut self, alloc: Global, text: &Content) -> Result<(), AllocError>
+        ensures kept { done self.new ≡ done self.old }
+        ensures tag { OnOk result (tagged self.new ≡ Some text.now) };
+
+    /// Makes the journal the book.
+    fn finish(&mut self, alloc: Global) -> io::Result<()>
+        ensures finished { OnOk result (done self.new ≡ done self.old ++ Finishes ∷ []) }
+        ensures kept { OnErr result (done self.new ≡ done self.old) }
+        ensures refused { IfErr result (λ error. refuses self.old book_path (error_kind error)) };
+
     /// Writes a new file into the directory of `path`, under the temporary name of this number, and closes it. At an
-    /// error no file is left. It is `AlreadyExists` where something has that name; that is left as it is.
+    /// error no file is left. It is `AlreadyExists` where something has that name; that is left as it is. The path of the
+    /// journal is refused, and so is any before there is a journal to name the file by.
     fn draft(
         &self,
         alloc: Global,
@@ -69,18 +96,29 @@ pub trait WorkDir {
         number: u64,
     ) -> io::Result<Self::Draft>
         ensures draft { IfOk result (λ draft. Self.Draft.drafted draft ≡ (path.now, content.now)) }
+        ensures named { IfOk result (λ draft. IsNamed (tagged self.now) number (Self.Draft.named draft)) }
+        ensures other { OnOk result (path.now ≢ journal_path) }
         ensures refused { IfErr result (λ error. refuses self.now path.now (error_kind error)) };
 
     /// Gives a draft its name, or removes it. Where no file was listed at its path (`over`) and a file or a directory
     /// stands there, as on a system that takes `A` for `a`, the error is `AlreadyExists`. A link there is replaced.
     fn put(&mut self, draft: Self::Draft, over: bool) -> io::Result<()>
-        ensures stored { OnOk result (stored self.new ≡ stored self.old ++ put_of (Self.Draft.drafted draft) over ∷ []) }
-        ensures kept { OnErr result (stored self.new ≡ stored self.old) }
+        ensures stored { OnOk result (done self.new ≡ done self.old ++ put_of (Self.Draft.drafted draft) over ∷ []) }
+        ensures kept { OnErr result (done self.new ≡ done self.old) }
+        ensures tag { tagged self.new ≡ tagged self.old }
         ensures refused { IfErr result (λ error. refuses self.old (Self.Draft.drafted draft).0 (error_kind error)) };
 
-    /// How many files got their names.
+    /// Removes a file. A directory is never removed; the error is `NotFound` where nothing has that name. Of a link the
+    /// link goes, not what it leads to.
+    fn remove(&mut self, alloc: Global, path: &Path) -> io::Result<()>
+        ensures removed { OnOk result (done self.new ≡ done self.old ++ Removes path.now ∷ []) }
+        ensures kept { OnErr result (done self.new ≡ done self.old) }
+        ensures tag { tagged self.new ≡ tagged self.old }
+        ensures refused { IfErr result (λ error. refuses self.old path.now (error_kind error)) };
+
+    /// How many calls changed the directory.
     fn count(&self) -> usize
-        ensures { result ≡ length (stored self.now) };
+        ensures { result ≡ length (done self.now) };
 
     /// Removes a draft.
     fn discard(&self, draft: Self::Draft);

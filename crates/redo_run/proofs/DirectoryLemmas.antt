@@ -1,45 +1,55 @@
 -- What a run over a directory comes to, step by step.
-use Rattle.std.proofs.Common.{◌≡◌, ℕ, List, ◌++◌, map, take, inl, inr, refl, Option, Err}
+use Rattle.std.proofs.Common.{◌≡◌, ◌++◌, ◌<◌, ◌+◌, suc, ℕ, List, take, length, inl, inr, refl, Option}
 use Rattle.std.specs.declared.io.ErrorKind.{ErrorKind}
 use Rattle.redo_dir.specs.Loaded.{IsLoaded}
-use Rattle.redo_dir.specs.Stored.{HasTexts, IsUnstored, Put, puts_in, stored_count}
-use Rattle.redo_dir.specs.declared.faults.StoreFault.{StoreFault}
-use Rattle.redo_dir.specs.declared.faults.StoreFault.TheVariants as store
+use Rattle.redo_dir.specs.Stored.{Step}
+use Rattle.redo_mend.specs.Mended.{MendsTo}
 use Rattle.redo_tree.specs.Tree.{Node, Tree}
-use Rattle.redo_run.specs.DirFaults.{of_store}
-use Rattle.redo_run.specs.Directories.{IsFaultOf, IsUnbuilt, IsUnread, Ran, StoresPart, to_store}
+use Rattle.redo_run.specs.Directories.{IsFaultOf, IsUnbuilt, IsUnmended, IsUnread, Ran, steps_of}
+use Rattle.redo_run.specs.Storing.{clearing, storing, to_store}
+use Rattle.redo_run.specs.inside.Storing.{IsPart}
 use Rattle.redo_run.specs.declared.dir_fault.RunDirFault.{RunDirFault}
-use Rattle.redo_run.specs.declared.dir_fault.RunDirFault.TheVariants.{Load, Book, TooMany, Store, Device, Memory}
+use Rattle.redo_run.specs.declared.dir_fault.RunDirFault.TheVariants.{Load, Book, TooMany, Store, Journal, Left, Device, Memory}
 use Rattle.redo_run.specs.declared.options.Options.{Options}
 
--- where a file wasn't stored
-pub stores_part : (told : List ℕ → ErrorKind → Type 0) (before after : List Put) (tree : Tree) (files : List (List ℕ × List ℕ)) (fault : StoreFault) → HasTexts {A = Unit {0}} (Err fault) (map (λ f. f.0) files) → after ≡ before ++ puts_in tree (take (stored_count (Err fault) files) files) → IsUnstored told (map (λ f. f.0) files) fault → StoresPart told before after tree files (of_store fault)
-stores_part told before after tree files (store.Device place kind) t e u = (e, (u.0, u.1, inr (kind, u.2)))
-stores_part told before after tree files (store.Name place) t e u = (e, (t.0, t.1, inl t.2))
-stores_part told before after tree files (store.Memory place) t e u = (place, e)
-
 -- what was read, built and stored, and what each fault says of it
-module _ (lists : List ℕ → List (Option (List ℕ)) → Type 0) (leads : List ℕ → Option Node → Type 0) (refuses : List ℕ → ErrorKind → Type 0) (told : List ℕ → ErrorKind → Type 0) (options : Options) (before : List Put) where
+module _ (lists : List ℕ → List (Option (List ℕ)) → Type 0) (leads : List ℕ → Option Node → Type 0) (refuses : List ℕ → ErrorKind → Type 0) (told : List ℕ → ErrorKind → Type 0) (options : Options) (before : List Step) where
   pub unread_fault : (fault : RunDirFault) → IsUnread lists leads refuses fault → IsFaultOf lists leads refuses told options before before fault
   unread_fault Load h = (h, refl)
   unread_fault (Book n) h = absurd h
   unread_fault TooMany h = absurd h
   unread_fault (Store place) h = absurd h
+  unread_fault Journal h = absurd h
+  unread_fault Left h = absurd h
   unread_fault Device h = absurd h
   unread_fault Memory h = inl refl
 
-  pub unbuilt_fault : (tree : Tree) (passed : ℕ) (fault : RunDirFault) → IsLoaded lists leads tree passed → IsUnbuilt tree options fault → IsFaultOf lists leads refuses told options before before fault
-  unbuilt_fault tree passed Load l h = absurd h
-  unbuilt_fault tree passed (Book n) l h = (record { tree = tree; passed = passed; loaded = l; why = h }, refl)
-  unbuilt_fault tree passed TooMany l h = (record { tree = tree; passed = passed; loaded = l; why = h }, refl)
-  unbuilt_fault tree passed (Store place) l h = absurd h
-  unbuilt_fault tree passed Device l h = absurd h
-  unbuilt_fault tree passed Memory l h = inl refl
+  pub unmended_fault : (loaded : Tree) (passed : ℕ) (fault : RunDirFault) → IsLoaded lists leads loaded passed → IsUnmended loaded fault → IsFaultOf lists leads refuses told options before before fault
+  unmended_fault loaded passed Load l h = absurd h
+  unmended_fault loaded passed (Book n) l h = (record { loaded = loaded; passed = passed; is_loaded = l; why = inl h }, refl)
+  unmended_fault loaded passed TooMany l h = absurd h
+  unmended_fault loaded passed (Store place) l h = absurd h
+  unmended_fault loaded passed Journal l h = absurd h
+  unmended_fault loaded passed Left l h = absurd h
+  unmended_fault loaded passed Device l h = absurd h
+  unmended_fault loaded passed Memory l h = inl refl
 
-  pub unstored_fault : (r : Ran lists leads options) (after : List Put) (fault : RunDirFault) → StoresPart told before after r.tree (to_store r.tree r.report) fault → IsFaultOf lists leads refuses told options before after fault
-  unstored_fault r after Load h = absurd h
-  unstored_fault r after (Book n) h = absurd h
-  unstored_fault r after TooMany h = absurd h
-  unstored_fault r after (Store place) h = (r, h)
-  unstored_fault r after Device h = absurd h
-  unstored_fault r after Memory h = inr (r, h)
+  pub unbuilt_fault : (loaded tree : Tree) (passed : ℕ) (fault : RunDirFault) → IsLoaded lists leads loaded passed → MendsTo loaded tree → IsUnbuilt tree options fault → IsFaultOf lists leads refuses told options before before fault
+  unbuilt_fault loaded tree passed Load l m h = absurd h
+  unbuilt_fault loaded tree passed (Book n) l m h = (record { loaded = loaded; passed = passed; is_loaded = l; why = inr (tree, m, h) }, refl)
+  unbuilt_fault loaded tree passed TooMany l m h = (record { loaded = loaded; passed = passed; is_loaded = l; why = inr (tree, m, h) }, refl)
+  unbuilt_fault loaded tree passed (Store place) l m h = absurd h
+  unbuilt_fault loaded tree passed Journal l m h = absurd h
+  unbuilt_fault loaded tree passed Left l m h = absurd h
+  unbuilt_fault loaded tree passed Device l m h = absurd h
+  unbuilt_fault loaded tree passed Memory l m h = inl refl
+
+  pub undone_fault : (r : Ran lists leads options) (after : List Step) (fault : RunDirFault) → IsPart told (clearing r.loaded r.tree) (storing r.tree (to_store r.tree r.report.files.items)) before after fault → IsFaultOf lists leads refuses told options before after fault
+  undone_fault r after Load h = absurd h
+  undone_fault r after (Book n) h = absurd h
+  undone_fault r after TooMany h = absurd h
+  undone_fault r after (Store place) h = (r, h)
+  undone_fault r after Journal h = (r, h)
+  undone_fault r after Left h = (r, h.0, h.1, h.2)
+  undone_fault r after Device h = absurd h
+  undone_fault r after Memory h = inr (r, h.0, h.1)

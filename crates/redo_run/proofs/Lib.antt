@@ -8,4 +8,5 @@ pub mod OpenedLemmas
 pub mod RefusalLemmas
 pub mod SoundLemmas
 pub mod StaysOutLemmas
+pub mod StoringLemmas
 pub mod ToldLemmas

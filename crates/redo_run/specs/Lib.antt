@@ -8,4 +8,5 @@ pub mod Picks
 pub mod RunFaults
 pub mod Runs
 pub mod Skipping
+pub mod Storing
 pub mod inside

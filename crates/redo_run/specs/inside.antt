@@ -1,2 +1,4 @@
 pub mod Driving
+pub mod Loading
+pub mod Storing
 pub mod Workers

@@ -1,8 +1,9 @@
 //! Where a run failed, for messages.
 
-use redo_dir::StoreFault;
+use redo_dir::{JOURNAL, JournalFault, Left, StoreFault};
 use redo_path::Path;
 use redo_tree::Content;
+use redo_which::BOOK;
 use std::alloc::Global;
 use std::io::ErrorKind;
 use thiserror::Error;
@@ -27,6 +28,9 @@ pub enum Said {
     /// Something stands in the place of the book that is no file.
     #[error("the book has to be a plain file")]
     NoFile,
+    /// Something stands in the place of the journal that is no file.
+    #[error("the journal has to be a plain file")]
+    NoJournalFile,
 }
 
 impl Cause {
@@ -47,15 +51,42 @@ impl Cause {
         }
     }
 
-    /// Notes which of these files couldn't be stored. A path that isn't UTF-8 counts as a name that the system refuses.
-    pub(crate) fn note_unstored(&mut self, files: &[(Path, Content)], fault: StoreFault) {
+    /// Notes a path of the top directory, and what the system said of it.
+    fn note_text(&mut self, path: &[u8], said: ErrorKind) {
+        self.place.clear();
+        if self.place.extend_from_slice(path).is_ok() {
+            self.said = Some(Said::System(said));
+        }
+    }
+
+    /// Notes which of these files couldn't be stored, or that the journal or the book couldn't. A path that isn't UTF-8
+    /// counts as a name that the system refuses.
+    pub(crate) fn note_unstored(&mut self, files: &[(Path, Content)], fault: JournalFault) {
         let (place, said) = match fault {
-            StoreFault::Device(place, kind) => (place, kind),
-            StoreFault::Name(place) => (place, ErrorKind::InvalidFilename),
-            StoreFault::Memory(_) => return,
+            JournalFault::Journal(kind) => return self.note_text(JOURNAL, kind),
+            JournalFault::File(StoreFault::Device(place, kind)) => (place, kind),
+            JournalFault::File(StoreFault::Name(place)) => (place, ErrorKind::InvalidFilename),
+            JournalFault::File(StoreFault::Memory(_)) => return,
         };
-        if let Some((path, _)) = files.get(place) {
-            self.note(path, Said::System(said));
+        match files.get(place) {
+            Some((path, _)) => self.note(path, Said::System(said)),
+            None => self.note_text(BOOK, said),
+        }
+    }
+
+    /// Notes which file couldn't be cleared away of what a run has left, or that its book couldn't be put in its place.
+    pub(crate) fn note_left(&mut self, left: &Left, fault: StoreFault) {
+        let StoreFault::Device(place, said) = fault else {
+            return;
+        };
+        let before = if left.book.is_some() { 1 } else { 0 };
+        match place.checked_sub(before) {
+            Some(place) => {
+                if let Some(path) = left.own.get(place) {
+                    self.note(path, Said::System(said));
+                }
+            }
+            None => self.note_text(BOOK, said),
         }
     }
 }

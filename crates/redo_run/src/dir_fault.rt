@@ -1,11 +1,14 @@
 //! Why a run over a directory has no result.
 
 ghost use Rattle.std.specs.Prelude.{◌≡◌};
+ghost use Rattle.redo_run.specs.DirFaults.{of_left as left_fault};
 
 use crate::RunFault;
 use redo_bundle::Broken;
-use redo_dir::{LoadFault, StoreFault};
+use redo_dir::{JournalFault, LoadFault, StoreFault};
+use redo_past::PastFault;
 use std::alloc::{AllocError, AllocFailed};
+use std::io::ErrorKind;
 use thiserror::Error;
 
 /// Why a run over a directory has no result.
@@ -21,6 +24,12 @@ pub enum RunDirFault {
     /// The built file at this place, counted from 0 in path order, could not be stored. Those before it were.
     #[error("the built file at place {0} could not be stored")]
     Store(usize),
+    /// The journal could not be written, and so nothing was stored.
+    #[error("the journal could not be written")]
+    Journal,
+    /// What a run has left that was broken off could not be cleared away, and so nothing was stored.
+    #[error("what a broken-off run has left could not be cleared away")]
+    Left,
     #[error("the writer failed")]
     Device,
     #[error("out of memory")]
@@ -85,6 +94,19 @@ impl From<RunFault> for RunDirFault {
     }
 }
 
+impl From<PastFault> for RunDirFault {
+    ghost use Rattle.redo_run.specs.DirFaults.{of_past};
+
+    ghost from_gives = { λ error fault. fault ≡ of_past error };
+
+    fn from(error: PastFault) -> RunDirFault {
+        match error {
+            PastFault::Book(line) => RunDirFault::Book(line),
+            PastFault::Memory => RunDirFault::Memory,
+        }
+    }
+}
+
 /// Want of memory in the store is that of the run.
 impl From<StoreFault> for RunDirFault {
     ghost use Rattle.redo_run.specs.DirFaults.{of_store};
@@ -96,5 +118,30 @@ impl From<StoreFault> for RunDirFault {
             StoreFault::Device(place, _) | StoreFault::Name(place) => RunDirFault::Store(place),
             StoreFault::Memory(_) => RunDirFault::Memory,
         }
+    }
+}
+
+/// The same where files are stored by a journal.
+impl From<JournalFault> for RunDirFault {
+    ghost use Rattle.redo_run.specs.DirFaults.{of_journal_fault};
+
+    ghost from_gives = { λ error fault. fault ≡ of_journal_fault error };
+
+    fn from(error: JournalFault) -> RunDirFault {
+        match error {
+            JournalFault::Journal(ErrorKind::OutOfMemory) => RunDirFault::Memory,
+            JournalFault::Journal(_) => RunDirFault::Journal,
+            JournalFault::File(fault) => RunDirFault::from(fault),
+        }
+    }
+}
+
+/// The fault of a run that couldn't clear away what another has left.
+pub(crate) fn of_left(fault: StoreFault) -> RunDirFault
+    ensures { result ≡ left_fault fault }
+{
+    match fault {
+        StoreFault::Device(_, _) | StoreFault::Name(_) => RunDirFault::Left,
+        StoreFault::Memory(_) => RunDirFault::Memory,
     }
 }

@@ -1,25 +1,27 @@
 //! Runs over a directory.
 
-ghost use Rattle.std.specs.Prelude.{◌≡◌, ◌↔◌, ◌++◌, false, IfErr, IfOk, IsErrOf, OnOk, true, bytes_eq};
+ghost use Rattle.std.specs.Prelude.{◌≡◌, ◌↔◌, false, IfErr, IfOk, IsErrOf, is_some, true};
 ghost use Rattle.std.specs.Arc.{arc_value};
+ghost use Rattle.redo_tree.specs.Tree.{file_at};
 ghost use Rattle.redo_dir.specs.Loaded.{IsLoaded};
-ghost use Rattle.redo_dir.specs.Stored.{puts_in};
 ghost use Rattle.redo_run.specs.DirFaults.{of_load};
-ghost use Rattle.redo_run.specs.Directories.{FallsInList, IsBuilt, IsBlocked, IsFaultOf, IsRefusedBy, IsUnbuilt, IsUnread, IsUnwritten};
-ghost use Rattle.redo_run.specs.Directories.{ListsTree, ReportsTree, StoresPart, changed_from, stands_in};
-ghost use Rattle.redo_run.specs.Directories.{with_book_last as in_order_of_storing};
+ghost use Rattle.redo_run.specs.Directories.{FallsInList, IsBuilt, IsBlocked, IsFaultOf, IsRefusedBy, IsUnbuilt, IsUnread};
+ghost use Rattle.redo_run.specs.Directories.{IsUnwritten, ListsTree, ReportsTree};
+ghost use Rattle.redo_run.specs.inside.Loading.{HasNoPlace};
 ghost use Rattle.redo_which.specs.Candidates.{book_path};
 
 use crate::candidates::text_of_search;
 use crate::exit::exit_after;
 use crate::request::requested;
+use crate::storing::{Plan, carry_out, to_store};
 use crate::workers::{build_over, past_of};
 use crate::{Cause, Exit, Observer, Options, RunDirFault, Said};
 use redo_bundle::{ByteOut, write_all};
-use redo_dir::{LoadFault, Seen, StoreFault, WorkDir, load_dir, store_files};
+use redo_dir::{LoadFault, Seen, WorkDir, journal_path, load_dir};
+use redo_mend::{Mended, mend};
 use redo_path::Path;
 use redo_report::{Report, write_report};
-use redo_tree::{Content, Tree};
+use redo_tree::Tree;
 use redo_which::BOOK;
 use redo_which::lookup::search;
 use std::alloc::{AllocError, Global};
@@ -34,66 +36,10 @@ pub struct DirRun {
     pub exit: Exit,
     /// How many names were passed over, as `load_dir` says.
     pub passed: u64,
-    /// The tree that was loaded, with the old book.
+    /// The tree that was built: as it was loaded, or mended.
     pub tree: Arc<Tree>,
     /// The report, with the files that were built or kept and the new book.
     pub report: Report,
-}
-
-/// Whether it is the path of the book.
-fn is_book(path: &Path) -> bool
-    ensures { result ≡ bytes_eq path.now book_path }
-{
-    path.text() == BOOK
-}
-
-/// Whether the tree has the file as it is. The bytes of one that was kept are those of the tree's, not a copy.
-fn is_unchanged(tree: &Tree, file: &(Path, Content)) -> bool
-    ensures { result ≡ stands_in tree.now file.now }
-{
-    match tree.content(&file.0) {
-        Some(content) => *content == file.1,
-        None => false,
-    }
-}
-
-/// The files that the tree doesn't have as they are: so what stands is not stored again.
-fn changed(
-    alloc: Global,
-    tree: &Tree,
-    files: &[(Path, Content)],
-) -> Result<Vec<(Path, Content)>, AllocError>
-    ensures { IfOk result (λ changed. changed.items ≡ changed_from tree.now files.now) }
-{
-    let mut changed = Vec::new(alloc);
-    for file in files {
-        if !is_unchanged(tree, file) {
-            let (path, content) = file;
-            changed.push((path.clone()?, content.clone()?))?;
-        }
-    }
-    Ok(changed)
-}
-
-/// The files as they are stored: in path order, but the book behind all others. So where storing breaks off the old
-/// book still stands, and tells of each file that was not stored yet what it told before.
-fn with_book_last(
-    alloc: Global,
-    files: Vec<(Path, Content)>,
-) -> Result<Vec<(Path, Content)>, AllocError>
-    ensures { IfOk result (λ sorted. sorted.items ≡ in_order_of_storing files.items) }
-{
-    let mut others = Vec::with_capacity(alloc, files.len())?;
-    let mut book = Vec::new(alloc);
-    'files: for file in files {
-        if is_book(&file.0) {
-            book.push(file)?;
-        } else {
-            others.push(file)?;
-        }
-    }
-    others.append(&mut book)?;
-    Ok(others)
 }
 
 /// The fault of a directory that can't be read. The cause names what can't.
@@ -113,27 +59,32 @@ fn book_path_of(alloc: Global) -> Result<Path, AllocError>
     Path::of_text(alloc, BOOK)
 }
 
-/// Whether something stands in the place of the book that is no file of the tree: a link, say. A run without its book
-/// would take each file for a source.
+/// Whether the tree has a book.
+fn has_book(alloc: Global, tree: &Tree) -> Result<bool, AllocError>
+    ensures { IfOk result (λ has. has ≡ is_some (file_at tree.now book_path)) }
+{
+    Ok(tree.content(&book_path_of(alloc)?).is_some())
+}
+
+/// Whether something stands at a path that is no file of the tree: a link, say.
 fn is_blocked<D: WorkDir>(
     dir: &D,
     alloc: Global,
     tree: &Tree,
-    book: &Path,
+    place: &Path,
 ) -> Result<bool, LoadFault>
-    requires { book.now ≡ book_path }
-    ensures blocked { IfOk result (IsBlocked (D.leads dir.now) tree.now) }
+    ensures blocked { IfOk result (IsBlocked (D.leads dir.now) tree.now place.now) }
     ensures refused { IfErr result (IsRefusedBy (D.refuses dir.now)) }
 {
-    if tree.content(book).is_some() {
+    if tree.content(place).is_some() {
         return Ok(false);
     }
-    match dir.look(alloc, book) {
+    match dir.look(alloc, place) {
         Ok(_) => Ok(true),
         Err(error) => match error.kind() {
             ErrorKind::NotFound => Ok(false),
             ErrorKind::OutOfMemory => Err(LoadFault::Memory),
-            kind => Err(LoadFault::Device(book.clone()?, kind)),
+            kind => Err(LoadFault::Device(place.clone()?, kind)),
         },
     }
 }
@@ -157,8 +108,30 @@ where
     }
 }
 
-/// The same for a build, which needs a book that is a file, and for whatever else asks the book. Where the directory can't
-/// be read, or where something stands in the place of its book that is no file, the cause names what it is.
+/// Refuses a directory in which something stands in the place of the book or of the journal that is no file of the tree. A
+/// run without its book would take each file for a source. The cause names the place.
+fn check_place<D: WorkDir>(
+    dir: &D,
+    alloc: Global,
+    tree: &Tree,
+    place: &Path,
+    no_file: Said,
+    cause: &mut Cause,
+) -> Result<(), RunDirFault>
+    ensures refused { IfErr result (HasNoPlace (D.leads dir.now) (D.refuses dir.now) tree.now place.now) }
+{
+    match is_blocked(dir, alloc, tree, place) {
+        Ok(false) => Ok(()),
+        Ok(true) => {
+            cause.note(place, no_file);
+            Err(RunDirFault::Load)
+        }
+        Err(fault) => Err(unread(cause, fault)),
+    }
+}
+
+/// The same for a build, and for whatever else asks the book: the book has to be a file if there is one, and the journal
+/// too. Where the directory can't be read, or where something else stands in their places, the cause names what it is.
 pub fn load_with_book<T: Threads + Sync, D: WorkDir + Sync>(
     rt: &T,
     alloc: Global,
@@ -173,14 +146,10 @@ where
 {
     let (tree, passed) = load(rt, alloc, dir, workers, cause)?;
     let book = book_path_of(alloc)?;
-    match is_blocked(dir, alloc, &tree, &book) {
-        Ok(false) => Ok((tree, passed)),
-        Ok(true) => {
-            cause.note(&book, Said::NoFile);
-            Err(RunDirFault::Load)
-        }
-        Err(fault) => Err(unread(cause, fault)),
-    }
+    check_place(dir, alloc, &tree, &book, Said::NoFile, cause)?;
+    let journal = journal_path(alloc)?;
+    check_place(dir, alloc, &tree, &journal, Said::NoJournalFile, cause)?;
+    Ok((tree, passed))
 }
 
 /// What a build of a tree came to.
@@ -220,38 +189,18 @@ fn build<H: Threads + Wait + Sync, O: Observer>(
     Ok(Built { tree, report, exit })
 }
 
-/// Stores files by at most N threads. Where one can't be stored, the cause names it.
-fn store<T: Threads + Sync, D: WorkDir + Sync>(
-    rt: &T,
-    alloc: Global,
-    dir: &mut D,
-    workers: usize,
-    tree: &Tree,
-    files: &[(Path, Content)],
-    cause: &mut Cause,
-) -> Result<(), RunDirFault>
-where
-    D::Draft: Send,
-    ensures all { OnOk result (D.stored dir.new ≡ D.stored dir.old ++ puts_in tree.now files.now) }
-    ensures part { IfErr result (StoresPart (λ path kind. (d : D) × D.refuses d path kind)
-        (D.stored dir.old) (D.stored dir.new) tree.now files.now) }
-{
-    match store_files(rt, dir, alloc, workers, tree, files) {
-        Ok(()) => Ok(()),
-        Err(fault) => {
-            cause.note_unstored(files, fault);
-            Err(RunDirFault::from(fault))
-        }
-    }
-}
-
 /// Reads a directory with all that is below it, builds the targets of its sources, stores the files that were built and
 /// the new book in the directory, and then writes the report, without the files. A file that already stood there as it
 /// came out is not written again. The workers also read the directory, make the digests that the book is compared with,
 /// and write the files.
 ///
-/// Nothing is written before the build has answered. The book is stored behind all other files. Where a file can't be
-/// stored, those before it were, and no report is written; where the report can't be written, all files were stored.
+/// Where a run was broken off while it stored its files, the tree is mended first: its files count as built, as its
+/// journal tells.
+///
+/// Nothing is written before the build has answered. Then what a broken-off run has left is cleared away, and the new book
+/// is written as the journal; the journal becomes the book once the other files are stored. Where a file can't be stored,
+/// those before it were, and no report is written; where the report can't be written, all files were stored. A run that
+/// has nothing to store writes no journal.
 ///
 /// The report goes out in many small pieces: hand in a writer with a buffer, and flush it afterwards. A program that
 /// ends with the run may forget what it returns, rather than free it piece by piece.
@@ -268,16 +217,19 @@ where
     D::Draft: Send,
     requires writer { W.has_failed writer.old ≡ false }
     ensures report { IfOk result (ReportsTree (D.lists dir.old) (D.leads dir.old) options.now
-        (D.stored dir.old) (D.stored dir.new) (W.held writer.old) (W.held writer.new)) }
+        (D.done dir.old) (D.done dir.new) (W.held writer.old) (W.held writer.new)) }
     ensures fault { IfErr result (IsFaultOf (D.lists dir.old) (D.leads dir.old) (D.refuses dir.old)
-        (λ path kind. (d : D) × D.refuses d path kind) options.now (D.stored dir.old) (D.stored dir.new)) }
+        (λ path kind. (d : D) × D.refuses d path kind) options.now (D.done dir.old) (D.done dir.new)) }
     ensures untouched { IsUnwritten result writer.old writer.new }
     ensures device { IsErrOf result RunDirFault.Device ↔ (W.has_failed writer.new ≡ true) }
 {
     let (tree, passed) = load_with_book(rt, alloc, dir, options.workers, cause)?;
+    let over = has_book(alloc, &tree)?;
+    let Mended { tree, left } = mend(rt, alloc, options.workers, tree)?;
     let Built { tree, report, exit } = build(rt, alloc, tree, options, observer)?;
-    let files = with_book_last(alloc, changed(alloc, &tree, &report.files)?)?;
-    store(rt, alloc, dir, options.workers, &tree, &files, cause)?;
+    let new = to_store(alloc, &tree, &report.files)?;
+    let plan = Plan { left, over, new };
+    carry_out(rt, alloc, dir, options.workers, &tree, &plan, cause)?;
     write_report(writer, &report, false)?;
     Ok(DirRun {
         exit,

@@ -16,7 +16,7 @@
 //! - `run_fault`: why a build has no report; `exit`: whether every requested path is a source or built;
 //! - `laws`: laws of runs, as contracts of functions that do nothing;
 //! - `bundle`: the two calls over bundles; `options` and `fault`: what they take and refuse; `directory` and
-//!   `dir_fault`: the same over a directory; `request` and `candidates`: what both share.
+//!   `dir_fault`: the same over a directory; `storing`: what is stored there; `request` and `candidates`: what both share.
 #![tactic(auto)]
 
 mod bundle;
@@ -38,6 +38,7 @@ mod owner;
 mod picks;
 mod request;
 mod run_fault;
+mod storing;
 mod workers;
 
 pub use bundle::{run_bundle, whichdo_bundle};

@@ -1,10 +1,9 @@
 //! A directory in memory, which a run works in as in one of the system: its calls can be made to fail, and its names can
 //! be those of a system that takes capital letters for small ones.
 
-ghost use Rattle.std.specs.Prelude.{map};
-ghost use Rattle.redo_dir.specs.Stored.{put_of};
+ghost use Rattle.redo_dir.specs.Stored.{steps_of};
 
-use redo_dir::{Drafted, Seen, WorkDir};
+use redo_dir::{Change, Drafted, JOURNAL, Seen, Tag, WorkDir};
 use redo_path::Path;
 use redo_tree::Content;
 use std::alloc::{AllocError, Global};
@@ -21,30 +20,28 @@ pub(crate) enum Node {
     Link,
 }
 
-/// A file that got its name.
-#[derive(Drop)]
-pub(crate) struct Named {
-    pub path: Path,
-    pub content: Content,
-    pub over: bool,
-}
-
 /// A draft that waits for its name.
 #[derive(Drop)]
 pub(crate) struct MemoryDraft {
     path: Path,
     content: Content,
+    name: String,
 }
 
 impl Drafted for MemoryDraft {
+    ghost use Rattle.std.specs.Prelude.{string_bytes};
+
     ghost drafted = { λ d. (d.path, d.content) };
+
+    ghost named = { λ d. string_bytes d.name };
 }
 
 /// The directory.
 #[derive(Drop)]
 pub(crate) struct MemoryDir {
     pub nodes: Vec<(Path, Node)>,
-    pub named: Vec<Named>,
+    pub done: Vec<Change>,
+    tag: Option<Tag>,
     /// Whether `A` and `a` are one name.
     pub folds_case: bool,
     /// The call that fails, counted from 1.
@@ -57,7 +54,8 @@ impl MemoryDir {
     pub(crate) fn new(alloc: Global) -> MemoryDir {
         MemoryDir {
             nodes: Vec::new(alloc),
-            named: Vec::new(alloc),
+            done: Vec::new(alloc),
+            tag: None,
             folds_case: false,
             fails_at: 0,
             calls: AtomicU64::new(0),
@@ -115,7 +113,9 @@ impl WorkDir for MemoryDir {
 
     ghost refuses = { λ _ _ _. Unit {0} };
 
-    ghost stored = { λ d. map (λ n. put_of (n.path, n.content) n.over) d.named.items };
+    ghost done = { λ d. steps_of d.done.items };
+
+    ghost tagged = { λ d. d.tag };
 
     type Draft = MemoryDraft;
 
@@ -144,17 +144,43 @@ impl WorkDir for MemoryDir {
         Err(io::Error::from(ErrorKind::NotFound))
     }
 
+    fn journal(&mut self, alloc: Global, text: &Content) -> io::Result<()> {
+        self.count_call()?;
+        let tag = Tag::of(alloc, text)?;
+        self.done.push(Change::Journal(text.clone()?))?;
+        self.tag = Some(tag);
+        Ok(())
+    }
+
+    fn resume(&mut self, alloc: Global, text: &Content) -> Result<(), AllocError> {
+        self.tag = Some(Tag::of(alloc, text)?);
+        Ok(())
+    }
+
+    fn finish(&mut self, _alloc: Global) -> io::Result<()> {
+        self.count_call()?;
+        self.done.push(Change::Finish)?;
+        Ok(())
+    }
+
     fn draft(
         &self,
-        _alloc: Global,
+        alloc: Global,
         path: &Path,
         content: &Content,
-        _number: u64,
+        number: u64,
     ) -> io::Result<MemoryDraft> {
         self.count_call()?;
+        let Some(tag) = &self.tag else {
+            return Err(io::Error::from(ErrorKind::PermissionDenied));
+        };
+        if path.text() == JOURNAL {
+            return Err(io::Error::from(ErrorKind::InvalidFilename));
+        }
         Ok(MemoryDraft {
             path: path.clone()?,
             content: content.clone()?,
+            name: tag.name(alloc, number)?,
         })
     }
 
@@ -163,17 +189,22 @@ impl WorkDir for MemoryDir {
         if !over && self.is_taken(&draft.path) {
             return Err(io::Error::from(ErrorKind::AlreadyExists));
         }
-        let MemoryDraft { path, content } = draft;
-        self.named.push(Named {
-            path,
-            content,
-            over,
-        })?;
+        let MemoryDraft { path, content, .. } = draft;
+        self.done.push(Change::Put(path, content, over))?;
+        Ok(())
+    }
+
+    fn remove(&mut self, _alloc: Global, path: &Path) -> io::Result<()> {
+        self.count_call()?;
+        if !self.is_taken(path) {
+            return Err(io::Error::from(ErrorKind::NotFound));
+        }
+        self.done.push(Change::Remove(path.clone()?))?;
         Ok(())
     }
 
     fn count(&self) -> usize {
-        self.named.len()
+        self.done.len()
     }
 
     fn discard(&self, _draft: MemoryDraft) {}

@@ -3,6 +3,7 @@
 use crate::memory_dir::{MemoryDir, Node};
 use crate::trees::{limits_of, paths_of};
 use redo_bundle::Plain;
+use redo_dir::Change;
 use redo_path::{Path, resolve};
 use redo_run::{Cause, Exit, NoObserver, Options, RunDirFault, run_dir};
 use redo_tree::Content;
@@ -65,24 +66,52 @@ fn ran<H: Threads + Wait + Sync>(
     Ok(outcome.map(|run| (run.exit, run.passed)))
 }
 
-/// The paths of the files that got their names, in order.
-fn named(alloc: Global, dir: &MemoryDir) -> Result<String, Fail> {
+/// What was changed, in order: `journal`, the path of a file that got its name, `book` for the journal that became it, and
+/// a path behind `-` for a file that was removed.
+fn changes(alloc: Global, dir: &MemoryDir) -> Result<String, Fail> {
     let mut text = String::new(alloc);
-    for file in &dir.named {
-        text.push_str(str::from_utf8(file.path.text())?)?;
+    for change in &dir.done {
+        match change {
+            Change::Journal(_) => text.push_str("journal")?,
+            Change::Put(path, _, _) => text.push_str(str::from_utf8(path.text())?)?,
+            Change::Finish => text.push_str("book")?,
+            Change::Remove(path) => {
+                text.push('-')?;
+                text.push_str(str::from_utf8(path.text())?)?;
+            }
+        }
         text.push(' ')?;
     }
     Ok(text)
 }
 
 #[test]
-fn files_are_stored_in_path_order_and_the_book_last(rt: HostRuntime) -> Result<(), Fail> {
+fn files_are_stored_in_path_order_behind_the_journal(rt: HostRuntime) -> Result<(), Fail> {
     let alloc = rt.alloc();
     for workers in [1, 3] {
         let mut dir = small_dir(alloc)?;
         let outcome = ran(&rt, alloc, &mut dir, "below/b a", workers)?;
         assert_eq!(rt; outcome, Ok((Exit::Good, 1)));
-        assert_eq!(rt; named(alloc, &dir)?.as_str(), "a below/b .redo-book ");
+        assert_eq!(rt; changes(alloc, &dir)?.as_str(), "journal a below/b book ");
+    }
+    Ok(())
+}
+
+#[test]
+fn what_a_broken_off_run_has_left_is_cleared_away_first(rt: HostRuntime) -> Result<(), Fail> {
+    let alloc = rt.alloc();
+    // A torn journal, and a whole one, of an empty book.
+    let rows = [
+        ("en", "-.redo-journal journal a below/b book "),
+        ("end\n", ".redo-book -.redo-journal journal a below/b book "),
+    ];
+    for (text, expected) in rows {
+        let mut dir = small_dir(alloc)?;
+        dir.nodes
+            .push((path_of(alloc, ".redo-journal")?, file_of(alloc, text)?))?;
+        let outcome = ran(&rt, alloc, &mut dir, "below/b a", 1)?;
+        assert_eq!(rt; outcome, Ok((Exit::Good, 1)));
+        assert_eq!(rt; changes(alloc, &dir)?.as_str(), expected);
     }
     Ok(())
 }
@@ -92,24 +121,22 @@ fn each_call_that_fails_is_told(rt: HostRuntime) -> Result<(), Fail> {
     let alloc = rt.alloc();
     let mut whole = small_dir(alloc)?;
     let _all = ran(&rt, alloc, &mut whole, "below/b a", 1)?;
-    // Two directories are listed, six names and the book's place looked at, and three files written and named.
-    assert_eq!(rt; whole.calls(), 15);
-    for call in 1..16u64 {
+    // Two directories are listed, six names and the places of book and journal looked at; the journal is written, two
+    // files are written and named, and the journal becomes the book.
+    assert_eq!(rt; whole.calls(), 16);
+    for call in 1..17u64 {
         let mut dir = small_dir(alloc)?;
         dir.fails_at = call;
         let outcome = ran(&rt, alloc, &mut dir, "below/b a", 1)?;
-        let expected = if call <= 9 {
-            RunDirFault::Load
-        } else {
-            RunDirFault::Store(((call - 10) / 2) as usize)
+        let (expected, done) = match call {
+            1..=10 => (RunDirFault::Load, 0),
+            11 => (RunDirFault::Journal, 0),
+            12 | 13 => (RunDirFault::Store(0), 1),
+            14 | 15 => (RunDirFault::Store(1), 2),
+            _ => (RunDirFault::Store(2), 3),
         };
         assert_eq!(rt; outcome, Err(expected));
-        let stored = if call <= 9 {
-            0
-        } else {
-            ((call - 10) / 2) as usize
-        };
-        assert_eq!(rt; dir.named.len(), stored);
+        assert_eq!(rt; dir.done.len(), done);
     }
     Ok(())
 }
@@ -123,6 +150,6 @@ fn another_spelling_of_a_name_is_left_as_it_is(rt: HostRuntime) -> Result<(), Fa
         ran(&rt, alloc, &mut dir, "a c", 1)?,
         Err(RunDirFault::Store(1))
     );
-    assert_eq!(rt; named(alloc, &dir)?.as_str(), "a ");
+    assert_eq!(rt; changes(alloc, &dir)?.as_str(), "journal a ");
     Ok(())
 }

@@ -1,5 +1,5 @@
 -- Files that are stored together: first all are written under temporary names, and then they get their own.
-use Rattle.std.specs.Prelude.{◌≡◌, ◌<◌, ◌⊎◌, ℕ, List, [], ◌∷◌, ◌++◌, IfErr, IsUtf8, OnErr, OnOk, Some, Result, Ok, Err}
+use Rattle.std.specs.Prelude.{◌≡◌, ◌<◌, Bool, ℕ, List, [], ◌∷◌, ◌++◌, IfErr, IsUtf8, OnOk, Some, Result, Ok, Err}
 use Rattle.std.specs.Prelude.{length, map, slice_get, take}
 use Rattle.std.specs.declared.io.ErrorKind.{ErrorKind}
 use Rattle.std.specs.declared.io.ErrorKind.TheVariants.{OutOfMemory}
@@ -9,7 +9,7 @@ use Rattle.redo_dir.specs.declared.faults.StoreFault.{StoreFault}
 use Rattle.redo_dir.specs.declared.faults.StoreFault.TheVariants as fault
 use Rattle.redo_dir.specs.declared.unwritten.Unwritten.{Unwritten}
 use Rattle.redo_dir.specs.declared.unwritten.Unwritten.TheVariants.{Device, Name, Memory}
-use Rattle.redo_dir.specs.Stored.{Put, put_in, put_of}
+use Rattle.redo_dir.specs.Stored.{Step, put_in, put_of}
 
 -- files by their paths in the tree, with their bytes
 abbrev pub Files : Type 0
@@ -45,11 +45,17 @@ Blames told path (Device kind) = told path kind
 Blames told path Name = Unit {0}
 Blames told path Memory = Unit {0}
 
+-- the same where no path is at fault
+abbrev pub BlamesCall : Refusals → List ℕ → Unwritten → Type 0
+BlamesCall told path (Device kind) = told path kind
+BlamesCall told path Name = ⊥
+BlamesCall told path Memory = Unit {0}
+
 -- what is asked of a draft
-abbrev pub asked_of : {F : Type 0} → Draft F → Put
+abbrev pub asked_of : {F : Type 0} → Draft F → Step
 asked_of draft = put_of (draft.path, draft.content) draft.over
 
-abbrev pub asked : {F : Type 0} → List (Draft F) → List Put
+abbrev pub asked : {F : Type 0} → List (Draft F) → List Step
 asked drafts = map asked_of drafts
 
 -- a file was written, or the system's error is that of a call at its path
@@ -62,7 +68,7 @@ abbrev pub IsWritten : {F : Type 0} → Refusals → (F → List ℕ × List ℕ
 IsWritten told drafted draft = HasWritten told drafted (draft.path, draft.content) draft.written
 
 -- the first files of a list, as they take their places in a directory that was read as this tree; their paths are text
-abbrev pub IsFront : Tree → Files → List Put → Type 0
+abbrev pub IsFront : Tree → Files → List Step → Type 0
 IsFront tree files [] = Unit {0}
 IsFront tree [] (put ∷ front) = ⊥
 IsFront tree (file ∷ files) (put ∷ front) = (put ≡ put_in tree file) × IsUtf8 file.0 × IsFront tree files front
@@ -75,25 +81,26 @@ pub record Stops (told : Refusals) (files : Files) (count : ℕ) (fault : Unwrit
   pub blames : Blames told path fault
 
 -- the first N drafts got their names, and the one behind them didn't
-pub record IsHalted (told : Refusals) (old drafts new : List Put) (fault : Unwritten) : Type 0 where
+pub record IsHalted (told : Refusals) (old drafts new : List Step) (fault : Unwritten) : Type 0 where
   pub count : ℕ
-  pub draft : Put
-  pub behind : slice_get drafts count ≡ Some draft
-  pub blames : Blames told draft.path fault
+  pub file : List ℕ × List ℕ
+  pub over : Bool
+  pub behind : slice_get drafts count ≡ Some (put_of file over)
+  pub blames : Blames told file.0 fault
   pub first : new ≡ old ++ take count drafts
 
 -- drafts got their names: all of them, or those before one that didn't, for another reason than its path
-pub record Names (told : Refusals) (old drafts new : List Put) (result : Result (Unit {0}) Unwritten) : Type 0 where
+pub record Names (told : Refusals) (old drafts new : List Step) (result : Result (Unit {0}) Unwritten) : Type 0 where
   pub text : (path : List ℕ) → IsUtf8 path → MeansText result path
   pub all : OnOk result (new ≡ old ++ drafts)
   pub front : IfErr result (IsHalted told old drafts new)
 
 -- the first of some files were stored: one at least, or those before one that wasn't
-abbrev pub Goes : Refusals → Tree → Files → List Put → Result (Unit {0}) Unwritten → Type 0
+abbrev pub Goes : Refusals → Tree → Files → List Step → Result (Unit {0}) Unwritten → Type 0
 Goes told tree files front (Ok x) = (0 < length front) × IsFront tree files front
 Goes told tree files front (Err fault) = IsFront tree files front × Stops told files (length front) fault
 
 -- the same behind those that were stored before
-abbrev pub Advances : Refusals → Tree → Files → List Put → List Put → Result (Unit {0}) Unwritten → Type 0
+abbrev pub Advances : Refusals → Tree → Files → List Step → List Step → Result (Unit {0}) Unwritten → Type 0
 Advances told tree files old new result =
-    (front : List Put) × (new ≡ old ++ front) × Goes told tree files front result
+    (front : List Step) × (new ≡ old ++ front) × Goes told tree files front result

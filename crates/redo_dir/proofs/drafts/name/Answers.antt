@@ -1,4 +1,4 @@
-use Rattle.std.proofs.Common.{◌≡◌, ap, rules, subst, Ok, Err}
+use Rattle.std.proofs.Common.{◌≡◌, rules, subst, Err}
 use Rattle.std.specs.IoError.{error_kind}
 use Rattle.std.specs.Prelude.{IfErr}
 use Rattle.redo_dir.specs.inside.Batches.{Blames, HasWritten, Refusals}

@@ -1,5 +1,5 @@
-use Rattle.std.proofs.Common.{◌≡◌, ◌++◌, ◌∷◌, [], ◌∙◌, ap, append_assoc, rules, subst, sym}
-use Rattle.std.proofs.lemmas.List.{map-append}
+use Rattle.std.proofs.Common.{◌≡◌, ◌++◌, ◌∷◌, [], ◌∙◌, ap, append-nil, append_assoc, rules, subst, sym}
+use Rattle.std.proofs.lemmas.List.{map-append, nil_from_length}
 use Rattle.redo_dir.specs.inside.Batches.{Names, Refusals, asked, asked_of}
 use Rattle.redo_dir.proofs.FrontLemmas.{names_left, names_more}
 use Rattle.redo_dir.proofs.drafts.name_each.Goals as goal
@@ -7,20 +7,20 @@ use Rattle.redo_dir.proofs.drafts.name_each.Goals as goal
 pub drafts-preserved-then-is_ok : goal.drafts-preserved-then-is_ok
 drafts-preserved-then-is_ok g c =
     let told : Refusals = λ path kind. (d : g.row.D.Denot) × g.D.WorkDir.refuses d path kind in
-    let stored = g.D.WorkDir.stored in
+    let stored = g.D.WorkDir.done in
     let draft = c.in-Some.draft in
     let seam = map-append asked_of c.drafts.yielded (draft ∷ []) in
     let next : c.drafts.draft-iterator.rest.items ≡ draft ∷ c.next.new.self.rest.items = search rules in
     record {
       names = subst (λ ds. Names told (stored c.args.dir.now) ds (stored c.name-outcome.new.dir) c.name-outcome.result) (sym seam)
-          (names_more told (stored c.args.dir.now) (asked c.drafts.yielded) (stored c.drafts.dir) (stored c.name-outcome.new.dir) (asked_of draft) c.drafts.outcome c.name-outcome.result c.drafts.invariant.names (search rules) c.name-outcome.ensures.text c.name-outcome.ensures.stored c.name-outcome.ensures.kept c.name-outcome.ensures.refused);
+          (names_more told (stored c.args.dir.now) (asked c.drafts.yielded) (stored c.drafts.dir) (stored c.name-outcome.new.dir) (draft.path, draft.content) draft.over c.drafts.outcome c.name-outcome.result c.drafts.invariant.names (search rules) c.name-outcome.ensures.text c.name-outcome.ensures.stored c.name-outcome.ensures.kept c.name-outcome.ensures.refused);
       left = c.drafts.invariant.left ∙ ap (λ ds. c.drafts.yielded ++ ds) next ∙ sym (append_assoc c.drafts.yielded (draft ∷ []) c.next.new.self.rest.items);
     }
 
 pub drafts-preserved : goal.drafts-preserved
 drafts-preserved g c =
     let told : Refusals = λ path kind. (d : g.row.D.Denot) × g.D.WorkDir.refuses d path kind in
-    let stored = g.D.WorkDir.stored in
+    let stored = g.D.WorkDir.done in
     let draft = c.in-Some.draft in
     let seam = map-append asked_of c.drafts.yielded (draft ∷ []) in
     let next : c.drafts.draft-iterator.rest.items ≡ draft ∷ c.next.new.self.rest.items = search rules in
@@ -29,3 +29,11 @@ drafts-preserved g c =
           (names_left told (stored c.args.dir.now) (asked c.drafts.yielded) (stored c.drafts.dir) (asked_of draft) c.drafts.outcome c.drafts.invariant.names (search rules));
       left = c.drafts.invariant.left ∙ ap (λ ds. c.drafts.yielded ++ ds) next ∙ sym (append_assoc c.drafts.yielded (draft ∷ []) c.next.new.self.rest.items);
     }
+
+pub returns : goal.returns
+returns g c =
+    let told : Refusals = λ path kind. (d : g.row.D.Denot) × g.D.WorkDir.refuses d path kind in
+    let stored = g.D.WorkDir.done in
+    let none = nil_from_length c.drafts.draft-iterator.rest.items (search rules) in
+    let whole : c.drafts.yielded ≡ c.args.drafts.items = sym (c.drafts.invariant.left ∙ ap (λ ds. c.drafts.yielded ++ ds) none ∙ append-nil c.drafts.yielded) in
+    subst (λ ds. Names told (stored c.args.dir.now) (asked ds) (stored c.drafts.dir) c.drafts.outcome) whole c.drafts.invariant.names

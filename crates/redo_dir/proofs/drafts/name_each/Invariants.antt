@@ -5,6 +5,6 @@ use Rattle.redo_dir.proofs.drafts.name_each.Given as goal
 -- the drafts so far got their names, or those before one that didn't
 abbrev pub invariant-drafts : goal.invariant-drafts
 invariant-drafts g l = record {
-  names : Names (λ path kind. (d : g.row.D.Denot) × g.D.WorkDir.refuses d path kind) (g.D.WorkDir.stored l.fn.dir) (asked l.yielded) (g.D.WorkDir.stored l.dir) l.outcome;
+  names : Names (λ path kind. (d : g.row.D.Denot) × g.D.WorkDir.refuses d path kind) (g.D.WorkDir.done l.fn.dir) (asked l.yielded) (g.D.WorkDir.done l.dir) l.outcome;
   left : l.fn.drafts.items ≡ l.yielded ++ l.draft-iterator.rest.items;
 }

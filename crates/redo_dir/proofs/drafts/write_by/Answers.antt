@@ -1,5 +1,4 @@
-use Rattle.std.proofs.Common.{◌≡◌, ◌<◌, ◌∙◌, ap, sym, subst, ℕ, length, get_or, rules}
-use Rattle.redo_dir.specs.declared.drafts.Draft.{Draft}
+use Rattle.std.proofs.Common.{◌≡◌, ◌<◌, ◌∙◌, ap, sym, subst, length, rules}
 use Rattle.redo_dir.specs.Stored.{put_of}
 use Rattle.redo_dir.specs.inside.Batches.{IsWritten, Refusals, asked_of}
 use Rattle.redo_dir.proofs.ListingLemmas.{all_each, map_each}

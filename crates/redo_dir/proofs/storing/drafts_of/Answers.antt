@@ -1,4 +1,4 @@
-use Rattle.std.proofs.Common.{◌≡◌, ◌∙◌, ◌+◌, ◌<◌, ap, arith, length, map, rules, subst, sym, length-append, get_or}
+use Rattle.std.proofs.Common.{◌≡◌, ◌∙◌, ◌+◌, ◌<◌, ap, arith, length, rules, subst, sym, length-append, get_or}
 use Rattle.std.proofs.lemmas.List.{length-map}
 use Rattle.redo_dir.specs.inside.Batches.{IsFront, asked, asked_of}
 use Rattle.redo_dir.proofs.FrontLemmas.{first_stops, front_next}

@@ -1,17 +1,17 @@
-use Rattle.std.proofs.Common.{◌≡◌, ◌≤◌, ◌+◌, ◌-◌, ◌∙◌, ◌++◌, ap, arith, rules, subst, length, length-append}
-use Rattle.std.specs.Prelude.{OnOk, Err}
+use Rattle.std.proofs.Common.{◌≡◌, ◌≤◌, ◌-◌, ◌∙◌, ◌++◌, ap, rules, length}
+use Rattle.std.specs.Prelude.{Err}
 use Rattle.redo_dir.specs.inside.Batches.{Refusals, fault_at}
 use Rattle.redo_dir.proofs.FrontLemmas.{all_puts, all_texts, more_stored, nothing_yet, puts_before, some_stops, texts_before, told_before}
 use Rattle.redo_dir.proofs.FrontLemmas.{front_length}
 use Rattle.redo_dir.proofs.storing.store_files.Goals as goal
 
 pub loop-stored-init : goal.loop-stored-init
-loop-stored-init g c = (nothing_yet c.args.tree.now c.args.files.now (g.D.WorkDir.stored c.args.dir.now), search rules)
+loop-stored-init g c = (nothing_yet c.args.tree.now c.args.files.now (g.D.WorkDir.done c.args.dir.now), search rules)
 
 pub returns-in-Err-clause-text : goal.returns-in-Err-clause-text
 returns-in-Err-clause-text g c =
     let told : Refusals = λ path kind. (d : g.row.D.Denot) × g.D.WorkDir.refuses d path kind in
-    let tree = c.args.tree.now in let files = c.args.files.now in let stored = g.D.WorkDir.stored in
+    let tree = c.args.tree.now in let files = c.args.files.now in let stored = g.D.WorkDir.done in
     let before = stored c.args.dir.now in let old = stored c.loop-stored.dir in let new = stored c.store_front-outcome.new.dir in
     let some = c.front_of-front.result.now in let fault = c.in-Err.fault in
     let so = c.loop-stored.invariant in
@@ -25,7 +25,7 @@ returns-in-Err-clause-text g c =
 pub returns-in-Err-clause-stored : goal.returns-in-Err-clause-stored
 returns-in-Err-clause-stored g c =
     let told : Refusals = λ path kind. (d : g.row.D.Denot) × g.D.WorkDir.refuses d path kind in
-    let tree = c.args.tree.now in let files = c.args.files.now in let stored = g.D.WorkDir.stored in
+    let tree = c.args.tree.now in let files = c.args.files.now in let stored = g.D.WorkDir.done in
     let before = stored c.args.dir.now in let old = stored c.loop-stored.dir in let new = stored c.store_front-outcome.new.dir in
     let some = c.front_of-front.result.now in let fault = c.in-Err.fault in
     let so = c.loop-stored.invariant in
@@ -36,7 +36,7 @@ returns-in-Err-clause-stored g c =
 pub returns-in-Err-clause-refused : goal.returns-in-Err-clause-refused
 returns-in-Err-clause-refused g c =
     let told : Refusals = λ path kind. (d : g.row.D.Denot) × g.D.WorkDir.refuses d path kind in
-    let tree = c.args.tree.now in let files = c.args.files.now in let stored = g.D.WorkDir.stored in
+    let tree = c.args.tree.now in let files = c.args.files.now in let stored = g.D.WorkDir.done in
     let before = stored c.args.dir.now in let old = stored c.loop-stored.dir in let new = stored c.store_front-outcome.new.dir in
     let some = c.front_of-front.result.now in let fault = c.in-Err.fault in
     let so = c.loop-stored.invariant in
@@ -49,7 +49,7 @@ returns-in-Err-clause-refused g c =
 pub loop-stored-preserved : goal.loop-stored-preserved
 loop-stored-preserved g c =
     let told : Refusals = λ path kind. (d : g.row.D.Denot) × g.D.WorkDir.refuses d path kind in
-    let tree = c.args.tree.now in let files = c.args.files.now in let stored = g.D.WorkDir.stored in
+    let tree = c.args.tree.now in let files = c.args.files.now in let stored = g.D.WorkDir.done in
     let before = stored c.args.dir.now in let old = stored c.loop-stored.dir in let new = stored c.store_front-outcome.new.dir in
     let so = c.loop-stored.invariant in
     let way = more_stored told tree files c.front_of-front.result.now before old new c.loop-stored.stored _ _ c.store_front-outcome.result so.0 so.1 c.front_of-front.ensures.front c.store_front-outcome.ensures in
@@ -65,4 +65,4 @@ pub returns-clause-stored : goal.returns-clause-stored
 returns-clause-stored g c =
     let so = c.loop-stored.invariant in
     let all : length c.args.files.now ≤ length so.0.front = search rules in
-    so.0.more ∙ ap (λ fs. g.D.WorkDir.stored c.args.dir.now ++ fs) (all_puts c.args.tree.now c.args.files.now so.0.front so.0.first all)
+    so.0.more ∙ ap (λ fs. g.D.WorkDir.done c.args.dir.now ++ fs) (all_puts c.args.tree.now c.args.files.now so.0.front so.0.first all)

@@ -7,7 +7,7 @@ use Rattle.redo_dir.proofs.storing.store_front.Goals as goal
 pub returns-in_err-drafts : goal.returns-in_err-drafts
 returns-in_err-drafts g c =
     let told : Refusals = λ path kind. (d : g.row.D.Denot) × g.D.WorkDir.refuses d path kind in
-    let stored = g.D.WorkDir.stored c.args.dir.now in
+    let stored = g.D.WorkDir.done c.args.dir.now in
     let fault = c.in_err-drafts.field-0.0 in
     let result : Err fault ≡ c.from_residual.result = search rules in
     subst (Advances told c.args.tree.now c.args.files.now stored stored) result
@@ -16,7 +16,7 @@ returns-in_err-drafts g c =
 pub returns : goal.returns
 returns g c =
     let told : Refusals = λ path kind. (d : g.row.D.Denot) × g.D.WorkDir.refuses d path kind in
-    let stored = g.D.WorkDir.stored in
+    let stored = g.D.WorkDir.done in
     let tree = c.args.tree.now in let files = c.args.files.now in
     let drafts = c.in_ok-drafts.drafts.items in
     let written = c.write_by.new.drafts in

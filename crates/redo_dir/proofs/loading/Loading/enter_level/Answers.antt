@@ -1,5 +1,5 @@
 use Rattle.std.proofs.Common.{◌≡◌, [], ap, rules, length, ◌∙◌}
-use Rattle.std.proofs.lemmas.List.{length-map, take_at}
+use Rattle.std.proofs.lemmas.List.{take_at}
 use Rattle.redo_dir.specs.inside.Levels.{Progress, paths_of, progress}
 use Rattle.redo_dir.proofs.FailLemmas.{stopped_noted}
 use Rattle.redo_dir.proofs.LevelLemmas.{kept_length}

@@ -1,0 +1,103 @@
+//! What a run has left that was broken off, cleared away.
+
+ghost use Rattle.std.specs.Prelude.{◌≡◌, ◌≤◌, ◌++◌, ◌∷◌, [], IfErr, OnErr, OnOk, length, map, take};
+ghost use Rattle.redo_dir.specs.Stored.{Removes, put_of};
+ghost use Rattle.redo_dir.specs.Storing.{IsUncleared, cleared_count, paths_to_clear, steps_to_clear};
+ghost use Rattle.redo_dir.specs.inside.Batches.{BlamesCall};
+ghost use Rattle.redo_dir.specs.inside.Clearing.{Leaves};
+ghost use Rattle.redo_which.specs.Candidates.{book_path};
+
+use crate::StoreFault;
+use crate::drafts::write_new;
+use crate::unwritten::Unwritten;
+use crate::work_dir::WorkDir;
+use redo_path::Path;
+use redo_tree::Content;
+use redo_which::BOOK;
+use std::alloc::Global;
+
+/// What a run has left that was broken off. It is to be cleared away before anything is stored: first the book is put in
+/// its place, then the own files are removed, in their order.
+#[derive(Drop)]
+pub struct Left {
+    /// The journal's text, of which the names of temporary files have digits.
+    pub journal: Content,
+    /// The text of the book to put in the book's place, if another one or none stands there.
+    pub book: Option<Content>,
+    /// The program's own files: the temporary files in path order, then the journal.
+    pub own: Vec<Path>,
+}
+
+/// Puts the recovered book in its place.
+fn put_book<D: WorkDir>(
+    dir: &mut D,
+    alloc: Global,
+    journal: &Content,
+    text: &Content,
+    over: bool,
+) -> Result<(), Unwritten>
+    ensures put { OnOk result (D.done dir.new ≡ D.done dir.old ++ put_of (book_path, text.now) over ∷ []) }
+    ensures kept { OnErr result (D.done dir.new ≡ D.done dir.old) }
+    ensures refused { IfErr result (BlamesCall (λ path kind. (d : D) × D.refuses d path kind) book_path) }
+{
+    let path = Path::of_text(alloc, BOOK)?;
+    dir.resume(alloc, journal)?;
+    let draft = write_new(dir, alloc, &path, text, 0)?;
+    dir.put(draft, over)?;
+    Ok(())
+}
+
+/// Removes one file.
+fn remove<D: WorkDir>(dir: &mut D, alloc: Global, path: &Path) -> Result<(), Unwritten>
+    ensures removed { OnOk result (D.done dir.new ≡ D.done dir.old ++ Removes path.now ∷ []) }
+    ensures kept { OnErr result (D.done dir.new ≡ D.done dir.old) }
+    ensures refused { IfErr result (BlamesCall (λ path kind. (d : D) × D.refuses d path kind) path.now) }
+{
+    dir.remove(alloc, path)?;
+    Ok(())
+}
+
+/// Removes files, and stops at the first that can't be removed. The fault tells how many steps were done since the
+/// directory had so many.
+fn remove_each<D: WorkDir>(
+    dir: &mut D,
+    alloc: Global,
+    paths: &[Path],
+    first: usize,
+) -> Result<(), StoreFault>
+    requires { first ≤ length (D.done dir.old) }
+    ensures all { OnOk result (D.done dir.new ≡ D.done dir.old ++ map Removes paths.now) }
+    ensures part { IfErr result (Leaves (λ path kind. (d : D) × D.refuses d path kind)
+        paths.now first (D.done dir.old) (D.done dir.new)) }
+{
+    for path in paths {
+        if let Err(why) = remove(dir, alloc, path) {
+            return Err(why.at(dir.count() - first));
+        }
+    }
+    Ok(())
+}
+
+/// Clears away what a run has left that was broken off, and stops at the first step that can't be done. `over` says
+/// whether a file was listed in the book's place.
+///
+/// The journal goes last: until then the next run comes to the same book again, and knows the temporary files.
+pub fn clear<D: WorkDir>(
+    dir: &mut D,
+    alloc: Global,
+    left: &Left,
+    over: bool,
+) -> Result<(), StoreFault>
+    ensures done { D.done dir.new ≡ D.done dir.old ++
+        take (cleared_count result (paths_to_clear left.now.book left.now.own.items)) (steps_to_clear over left.now.book left.now.own.items) }
+    ensures refused { IfErr result (IsUncleared (λ path kind. (d : D) × D.refuses d path kind)
+        (paths_to_clear left.now.book left.now.own.items)) }
+{
+    let first = dir.count();
+    if let Some(text) = &left.book {
+        if let Err(why) = put_book(dir, alloc, &left.journal, text, over) {
+            return Err(why.at(0));
+        }
+    }
+    remove_each(dir, alloc, &left.own, first)
+}

@@ -1,0 +1,5 @@
+pub mod FoundLemmas
+pub mod MendLemmas
+pub mod OneLemmas
+pub mod OwnLemmas
+pub mod SaidLemmas

@@ -1,0 +1,3 @@
+pub mod Mended
+pub mod Recovered
+pub mod inside

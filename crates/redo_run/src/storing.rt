@@ -1,0 +1,179 @@
+//! What a run over a directory stores.
+
+ghost use Rattle.std.specs.Prelude.{◌≡◌, ◌++◌, bytes_eq, filter, IfErr, IfOk, OnOk, option_map};
+ghost use Rattle.redo_dir.specs.Storing.{paths_to_clear, steps_to_clear, steps_to_store};
+ghost use Rattle.redo_run.specs.Storing.{if_new, new_book_in, others_from, stands_in, to_store as what_to_store};
+ghost use Rattle.redo_run.specs.inside.Storing.{IsPart, LeavesPart, StoresPart, steps_left, steps_new, view_of};
+ghost use Rattle.redo_which.specs.Candidates.{book_path};
+
+use crate::dir_fault::of_left;
+use crate::{Cause, RunDirFault};
+use redo_dir::{Left, ToStore, WorkDir, clear, store_by_journal};
+use redo_path::Path;
+use redo_tree::{Content, Tree};
+use redo_which::BOOK;
+use std::alloc::{AllocError, Global};
+use std::thread::Threads;
+
+/// Whether it is the path of the book.
+fn is_book(path: &Path) -> bool
+    ensures { result ≡ bytes_eq path.now book_path }
+{
+    path.text() == BOOK
+}
+
+/// Whether the tree has the file as it is. The bytes of one that was kept are those of the tree's, not a copy.
+fn is_unchanged(tree: &Tree, file: &(Path, Content)) -> bool
+    ensures { result ≡ stands_in tree.now file.now }
+{
+    match tree.content(&file.0) {
+        Some(content) => *content == file.1,
+        None => false,
+    }
+}
+
+/// The files but for the book, those that the tree doesn't have as they are: so what stands is not stored again.
+fn others(
+    alloc: Global,
+    tree: &Tree,
+    files: &[(Path, Content)],
+) -> Result<Vec<(Path, Content)>, AllocError>
+    ensures { IfOk result (λ others. others.items ≡ others_from tree.now files.now) }
+{
+    let mut others = Vec::new(alloc);
+    for file in files {
+        if !is_unchanged(tree, file) && !is_book(&file.0) {
+            let (path, content) = file;
+            others.push((path.clone()?, content.clone()?))?;
+        }
+    }
+    Ok(others)
+}
+
+/// The books among files.
+fn books(alloc: Global, files: &[(Path, Content)]) -> Result<Vec<(Path, Content)>, AllocError>
+    ensures { IfOk result (λ books. books.items ≡ filter (λ f. bytes_eq f.0 book_path) files.now) }
+{
+    let mut books = Vec::new(alloc);
+    for file in files {
+        if is_book(&file.0) {
+            let (path, content) = file;
+            books.push((path.clone()?, content.clone()?))?;
+        }
+    }
+    Ok(books)
+}
+
+/// This book and these files to be stored; none where there is no file and the tree has the book.
+fn if_any(
+    tree: &Tree,
+    book: &(Path, Content),
+    files: Vec<(Path, Content)>,
+) -> Result<Option<ToStore>, AllocError>
+    ensures { IfOk result (λ new. option_map view_of new ≡ if_new tree.now book.now files.items) }
+{
+    if files.is_empty() && is_unchanged(tree, book) {
+        return Ok(None);
+    }
+    let book = book.1.clone()?;
+    Ok(Some(ToStore { book, files }))
+}
+
+/// What a run stores of the files of its report: the new book, and the other files that the tree doesn't have as they came
+/// out. Nothing if it has all of them.
+pub(crate) fn to_store(
+    alloc: Global,
+    tree: &Tree,
+    files: &[(Path, Content)],
+) -> Result<Option<ToStore>, AllocError>
+    ensures { IfOk result (λ new. option_map view_of new ≡ what_to_store tree.now files.now) }
+{
+    let books = books(alloc, files)?;
+    let others = others(alloc, tree, files)?;
+    match books.first() {
+        Some(book) => if_any(tree, book, others),
+        None => Ok(None),
+    }
+}
+
+/// What a run does to its directory.
+#[derive(Drop)]
+pub(crate) struct Plan {
+    /// What a run that was broken off has left, to be cleared away.
+    pub left: Option<Left>,
+    /// Whether a file was listed in the book's place.
+    pub over: bool,
+    pub new: Option<ToStore>,
+}
+
+/// Clears away what a run has left that was broken off. Where it can't be, the cause names the file.
+fn clear_left<D: WorkDir>(
+    dir: &mut D,
+    alloc: Global,
+    plan: &Plan,
+    cause: &mut Cause,
+) -> Result<(), RunDirFault>
+    ensures all { OnOk result (D.done dir.new ≡ D.done dir.old ++ steps_left plan.now) }
+    ensures part { IfErr result (LeavesPart (λ path kind. (d : D) × D.refuses d path kind)
+        (steps_left plan.now) (D.done dir.old) (D.done dir.new)) }
+{
+    let Some(left) = &plan.left else {
+        return Ok(());
+    };
+    match clear(dir, alloc, left, plan.over) {
+        Ok(()) => Ok(()),
+        Err(fault) => {
+            cause.note_left(left, fault);
+            Err(of_left(fault))
+        }
+    }
+}
+
+/// Stores files by at most N threads. Where one can't be stored, the cause names it.
+fn store<T: Threads + Sync, D: WorkDir + Sync>(
+    rt: &T,
+    alloc: Global,
+    dir: &mut D,
+    workers: usize,
+    tree: &Tree,
+    plan: &Plan,
+    cause: &mut Cause,
+) -> Result<(), RunDirFault>
+where
+    D::Draft: Send,
+    ensures all { OnOk result (D.done dir.new ≡ D.done dir.old ++ steps_new tree.now plan.now) }
+    ensures part { IfErr result (StoresPart (λ path kind. (d : D) × D.refuses d path kind)
+        (steps_new tree.now plan.now) (D.done dir.old) (D.done dir.new)) }
+{
+    let Some(new) = &plan.new else {
+        return Ok(());
+    };
+    match store_by_journal(rt, dir, alloc, workers, tree, new) {
+        Ok(()) => Ok(()),
+        Err(fault) => {
+            cause.note_unstored(&new.files, fault);
+            Err(RunDirFault::from(fault))
+        }
+    }
+}
+
+/// Does to a directory what is planned, over the tree that was built: first what has to be cleared away, then what is to
+/// be stored.
+pub(crate) fn carry_out<T: Threads + Sync, D: WorkDir + Sync>(
+    rt: &T,
+    alloc: Global,
+    dir: &mut D,
+    workers: usize,
+    tree: &Tree,
+    plan: &Plan,
+    cause: &mut Cause,
+) -> Result<(), RunDirFault>
+where
+    D::Draft: Send,
+    ensures all { OnOk result (D.done dir.new ≡ D.done dir.old ++ (steps_left plan.now ++ steps_new tree.now plan.now)) }
+    ensures part { IfErr result (IsPart (λ path kind. (d : D) × D.refuses d path kind)
+        (steps_left plan.now) (steps_new tree.now plan.now) (D.done dir.old) (D.done dir.new)) }
+{
+    clear_left(dir, alloc, plan, cause)?;
+    store(rt, alloc, dir, workers, tree, plan, cause)
+}
