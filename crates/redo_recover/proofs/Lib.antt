@@ -1,0 +1,12 @@
+pub mod AgainLemmas
+pub mod BreakLemmas
+pub mod CanLemmas
+pub mod ClearLemmas
+pub mod ClearedLemmas
+pub mod OpenLemmas
+pub mod RecoverExamples
+pub mod SourceLemmas
+pub mod StepLemmas
+pub mod StoreLemmas
+pub mod TornLemmas
+pub mod TwinLemmas
