@@ -5,14 +5,12 @@ use Rattle.std.specs.Str.{bytes_eq}
 use Rattle.hex.specs.Hex.{encode_lower}
 use Rattle.sha2.specs.Sha256.{sha256}
 use Rattle.redo_path.specs.Names.{name_of}
+use Rattle.redo_which.specs.Candidates.{journal_path}
 
--- the path of the journal, in the top directory
-abbrev pub journal_path : List ℕ
-journal_path = codes ".redo-journal"
-
--- how the names of the temporary files begin of the run that wrote this journal: with 16 digits of its digest
+-- how the names of the temporary files begin of the run that wrote this journal: with 16 digits of the digest of its
+-- first 4,096 bytes
 abbrev pub temporary_front : List ℕ → List ℕ
-temporary_front text = codes ".redo-" ++ take 16 (encode_lower (sha256 text)) ++ codes "-"
+temporary_front text = codes ".redo-" ++ take 16 (encode_lower (sha256 (take 4096 text))) ++ codes "-"
 
 -- the temporary name with this number of that run
 abbrev pub temporary_name : List ℕ → ℕ → List ℕ

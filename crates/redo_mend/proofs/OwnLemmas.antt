@@ -20,9 +20,9 @@ use Rattle.redo_tree.specs.Tree.{File, Node, Tree, bytes_of, file_at, node_at}
 use Rattle.redo_tree.specs.declared.entries.Entry.{Entry}
 use Rattle.redo_tree.proofs.NodeLemmas.{seen}
 use Rattle.redo_tree.proofs.WithoutLemmas.{is_here}
-use Rattle.redo_which.specs.Candidates.{book_path}
+use Rattle.redo_which.specs.Candidates.{book_path, journal_path}
 use Rattle.redo_past.proofs.OrderLemmas.{same_path}
-use Rattle.redo_dir.specs.Own.{is_temporary, journal_path, temporary_front}
+use Rattle.redo_dir.specs.Own.{is_temporary, temporary_front}
 
 -- ---- names
 
@@ -34,10 +34,11 @@ begins-short xs ys h =
 
 length-front : (text : List ℕ) → length (temporary_front text) ≡ 23
 length-front text =
-    let digits : length (encode_lower (sha256 text)) ≡ 64 = length-encode_with _ (sha256 text) ∙ ap (λ n. 2 * n) (length-sha256 text) in
-    let some : length (take 16 (encode_lower (sha256 text))) ≡ 16 = length-take-le 16 (encode_lower (sha256 text)) (omega arith) in
-    let behind = length-append (take 16 (encode_lower (sha256 text))) (codes "-") in
-    let whole = length-append (codes ".redo-") (take 16 (encode_lower (sha256 text)) ++ codes "-") in
+    let digest : List ℕ = sha256 (take 4096 text) in
+    let digits : length (encode_lower digest) ≡ 64 = length-encode_with _ digest ∙ ap (λ n. 2 * n) (length-sha256 (take 4096 text)) in
+    let some : length (take 16 (encode_lower digest)) ≡ 16 = length-take-le 16 (encode_lower digest) (omega arith) in
+    let behind = length-append (take 16 (encode_lower digest)) (codes "-") in
+    let whole = length-append (codes ".redo-") (take 16 (encode_lower digest) ++ codes "-") in
     omega (arith, some, behind, whole)
 
 -- a short name is no temporary file's
