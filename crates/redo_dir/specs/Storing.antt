@@ -3,8 +3,7 @@ use Rattle.std.specs.Prelude.{◌≡◌, ◌++◌, ℕ, suc, Bool, List, [], ◌
 use Rattle.std.specs.Prelude.{slice_get}
 use Rattle.std.specs.declared.io.ErrorKind.{ErrorKind}
 use Rattle.redo_tree.specs.Tree.{Tree}
-use Rattle.redo_which.specs.Candidates.{book_path}
-use Rattle.redo_dir.specs.Own.{journal_path}
+use Rattle.redo_which.specs.Candidates.{book_path, journal_path}
 use Rattle.redo_dir.specs.Stored.{Finishes, HasTexts, IsUnstored, Journals, Removes, Step, place_of, put_of, puts_in}
 use Rattle.redo_dir.specs.declared.faults.JournalFault.{JournalFault}
 use Rattle.redo_dir.specs.declared.faults.JournalFault.TheVariants.{Journal, File}

@@ -33,7 +33,7 @@ pub use faults::{JournalFault, LoadFault, StoreFault};
 pub use journal::{ToStore, store_by_journal};
 pub use loading::load_dir;
 pub use lock::{DirLock, LockFault, Lockable, lock_dir};
-pub use own::{JOURNAL, Tag, journal_path};
+pub use own::{Tag, journal_path};
 pub use storing::store_files;
 pub use system::{SystemDir, SystemDraft};
 pub use work_dir::{Drafted, Seen, WorkDir};

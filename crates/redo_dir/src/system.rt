@@ -7,11 +7,11 @@ ghost use Rattle.redo_dir.specs.Stored.{IsNamed, put_of, steps_of};
 
 use crate::changes::Change;
 use crate::lock::DirLock;
-use crate::own::{JOURNAL, Tag};
+use crate::own::Tag;
 use crate::work_dir::{Drafted, Seen, WorkDir};
 use redo_path::Path;
 use redo_tree::Content;
-use redo_which::BOOK;
+use redo_which::{BOOK, JOURNAL};
 use std::alloc::{AllocError, Global};
 use std::fs::{DirEntry, File, Metadata, OpenFile};
 use std::io::{ErrorKind, Read, Write};

@@ -3,9 +3,8 @@
 ghost use Rattle.std.specs.Prelude.{◌≡◌, ◌≢◌, ◌++◌, ◌∷◌, [], IfErr, IfOk, OnErr, OnOk, Some, length};
 ghost use Rattle.std.specs.IoError.{error_kind};
 ghost use Rattle.redo_dir.specs.Loaded.{names_in, node_seen};
-ghost use Rattle.redo_dir.specs.Own.{journal_path};
+ghost use Rattle.redo_which.specs.Candidates.{book_path, journal_path};
 ghost use Rattle.redo_dir.specs.Stored.{Finishes, IsNamed, Journals, Removes, put_of};
-ghost use Rattle.redo_which.specs.Candidates.{book_path};
 
 use redo_path::Path;
 use redo_tree::Content;

@@ -15,10 +15,10 @@ use Rattle.redo_names.specs.Paths.{is_among}
 use Rattle.redo_tree.specs.Tree.{Directory, File, IsTree, Node, Tree, added, bytes_of, file_at, node_at, refusal, with_node, without}
 use Rattle.redo_tree.proofs.GrowLemmas.{IsTree-with, Puts-with, free}
 use Rattle.redo_tree.proofs.WithoutLemmas.{IsTree-without, directory_stays, file_at-without, stood}
-use Rattle.redo_which.specs.Candidates.{book_path}
+use Rattle.redo_which.specs.Candidates.{book_path, journal_path}
 use Rattle.redo_book.specs.Book.{IsText, Record, book_lines, text_of}
 use Rattle.redo_past.proofs.OrderLemmas.{same_path}
-use Rattle.redo_dir.specs.Own.{is_own, is_temporary, journal_path}
+use Rattle.redo_dir.specs.Own.{is_own, is_temporary}
 use Rattle.redo_mend.specs.Mended.{IsBookOf, IsMended, IsRecoveredTree, book_to_put, is_taken_out, own_files}
 use Rattle.redo_mend.specs.Recovered.{IsRecovered}
 use Rattle.redo_mend.proofs.OwnLemmas.{among-append, among-filter, book-other, file-among, journal-other}

@@ -7,13 +7,13 @@ use Rattle.std.specs.Str.{bytes_eq}
 use Rattle.redo_path.proofs.ApartLemmas.{apart}
 use Rattle.redo_tree.specs.Tree.{Directory, Tree, file_at, node_at, without}
 use Rattle.redo_tree.proofs.KeptLemmas.{one_sorted}
-use Rattle.redo_which.specs.Candidates.{book_path}
+use Rattle.redo_which.specs.Candidates.{book_path, journal_path}
 use Rattle.redo_book.specs.Book.{IsRefused, IsText, Record}
 use Rattle.redo_past.specs.Past.{RefusesBook}
 use Rattle.redo_past.specs.declared.faults.PastFault.{PastFault}
 use Rattle.redo_past.specs.declared.faults.PastFault.TheVariants.{Book, Memory}
 use Rattle.redo_past.proofs.OrderLemmas.{same_path}
-use Rattle.redo_dir.specs.Own.{is_own, journal_path}
+use Rattle.redo_dir.specs.Own.{is_own}
 use Rattle.redo_mend.specs.Recovered.{IsRecovered}
 use Rattle.redo_mend.specs.Mended.{HasNoMended, IsBookOf, IsMended, IsPassedOver, IsRecoveredTree, MendsTo}
 use Rattle.redo_mend.proofs.MendLemmas.{same-node}

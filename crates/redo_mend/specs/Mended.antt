@@ -6,11 +6,11 @@ use Rattle.std.specs.Map.{keys_of}
 use Rattle.std.specs.Option.{option_eq}
 use Rattle.std.specs.Str.{bytes_eq}
 use Rattle.redo_tree.specs.Tree.{Directory, IsTree, Tree, file_at, node_at, without}
-use Rattle.redo_which.specs.Candidates.{book_path}
+use Rattle.redo_which.specs.Candidates.{book_path, journal_path}
 use Rattle.redo_book.specs.Book.{IsText, Record, book_lines, text_of}
 use Rattle.redo_past.specs.declared.faults.PastFault.{PastFault}
 use Rattle.redo_past.specs.declared.faults.PastFault.TheVariants.{Book, Memory}
-use Rattle.redo_dir.specs.Own.{is_own, journal_path}
+use Rattle.redo_dir.specs.Own.{is_own}
 use Rattle.redo_mend.specs.Recovered.{IsRecovered}
 
 -- the tree with this book's text in the book's place, without the own files of the run that wrote this journal

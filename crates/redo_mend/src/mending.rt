@@ -2,10 +2,9 @@
 
 ghost use Rattle.std.specs.Prelude.{◌≡◌, ◌≢◌, ◌∷◌, [], IfErr, IfOk, IfSome, Ok, Some, option_map};
 ghost use Rattle.redo_tree.specs.Tree.{Directory, File, added, file_at, node_at, without};
-ghost use Rattle.redo_which.specs.Candidates.{book_path as path_of_book};
+ghost use Rattle.redo_which.specs.Candidates.{book_path as path_of_book, journal_path as path_of_journal};
 ghost use Rattle.redo_book.specs.Book.{IsText};
 ghost use Rattle.redo_past.specs.Past.{RefusesBook};
-ghost use Rattle.redo_dir.specs.Own.{journal_path as path_of_journal};
 ghost use Rattle.redo_mend.specs.Mended.{HasNoMended, IsRecoveredTree, MendsTo};
 ghost use Rattle.redo_mend.specs.Mended.{book_to_put as text_to_put, own_files};
 ghost use Rattle.redo_mend.specs.inside.Leaving.{HasLeft};

@@ -9,8 +9,7 @@ use Rattle.std.specs.declared.io.ErrorKind.{ErrorKind}
 use Rattle.std.specs.declared.io.ErrorKind.TheVariants.{OutOfMemory}
 use Rattle.redo_path.proofs.ApartLemmas.{apart}
 use Rattle.redo_tree.specs.Tree.{Tree, file_at}
-use Rattle.redo_which.specs.Candidates.{book_path}
-use Rattle.redo_dir.specs.Own.{journal_path}
+use Rattle.redo_which.specs.Candidates.{book_path, journal_path}
 use Rattle.redo_dir.specs.Stored.{Finishes, Journals, Removes, Step, place_of, puts_in}
 use Rattle.redo_dir.specs.Storing.{HasTextsByJournal, IsUncleared, IsUnstoredByJournal, paths_to_clear, paths_to_store, steps_done, steps_to_clear, steps_to_store}
 use Rattle.redo_dir.specs.declared.clearing.Left.{Left}

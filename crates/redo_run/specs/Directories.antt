@@ -10,10 +10,9 @@ use Rattle.redo_core.specs.Results.{IsGiven, IsRefused, IsResult, NeedsTooMany a
 use Rattle.redo_report.specs.ReportText.{report_text}
 use Rattle.redo_report.specs.declared.report.Report.{Report}
 use Rattle.redo_tree.specs.Tree.{Node, Tree, file_at}
-use Rattle.redo_which.specs.Candidates.{book_path}
+use Rattle.redo_which.specs.Candidates.{book_path, journal_path}
 use Rattle.redo_which.specs.Rule.{chosen_of}
 use Rattle.redo_dir.specs.Loaded.{Clash, IsLoaded}
-use Rattle.redo_dir.specs.Own.{journal_path}
 use Rattle.redo_dir.specs.Stored.{Step}
 use Rattle.redo_mend.specs.Mended.{MendsTo}
 use Rattle.redo_dir.specs.declared.faults.LoadFault.{LoadFault}

@@ -5,8 +5,7 @@ use Rattle.std.specs.Cmp.Lexicographic.{pointwise}
 use Rattle.std.specs.Option.{option_eq, option_map_or}
 use Rattle.std.specs.declared.io.ErrorKind.{ErrorKind}
 use Rattle.redo_tree.specs.Tree.{Tree, file_at}
-use Rattle.redo_which.specs.Candidates.{book_path}
-use Rattle.redo_dir.specs.Own.{journal_path}
+use Rattle.redo_which.specs.Candidates.{book_path, journal_path}
 use Rattle.redo_dir.specs.Stored.{Finishes, Journals, Puts, Removes, Step}
 use Rattle.redo_dir.specs.Storing.{steps_to_clear, steps_to_store}
 use Rattle.redo_mend.specs.Mended.{book_to_put, own_files}

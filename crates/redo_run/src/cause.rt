@@ -1,9 +1,9 @@
 //! Where a run failed, for messages.
 
-use redo_dir::{JOURNAL, JournalFault, Left, StoreFault};
+use redo_dir::{JournalFault, Left, StoreFault};
 use redo_path::Path;
 use redo_tree::Content;
-use redo_which::BOOK;
+use redo_which::{BOOK, JOURNAL};
 use std::alloc::Global;
 use std::io::ErrorKind;
 use thiserror::Error;

@@ -3,9 +3,10 @@
 
 ghost use Rattle.redo_dir.specs.Stored.{steps_of};
 
-use redo_dir::{Change, Drafted, JOURNAL, Seen, Tag, WorkDir};
+use redo_dir::{Change, Drafted, Seen, Tag, WorkDir};
 use redo_path::Path;
 use redo_tree::Content;
+use redo_which::JOURNAL;
 use std::alloc::{AllocError, Global};
 use std::io;
 use std::io::ErrorKind;

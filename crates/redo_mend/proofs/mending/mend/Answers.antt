@@ -2,7 +2,7 @@ use Rattle.std.proofs.Common.{rules, ◌≡◌, Some}
 use Rattle.std.specs.Prelude.{Err, IfErr, Ok}
 use Rattle.redo_past.specs.Past.{RefusesBook}
 use Rattle.redo_tree.specs.Tree.{file_at}
-use Rattle.redo_dir.specs.Own.{journal_path}
+use Rattle.redo_which.specs.Candidates.{journal_path}
 use Rattle.redo_mend.specs.Mended.{HasNoMended}
 use Rattle.redo_mend.proofs.OneLemmas.{none-refused}
 use Rattle.redo_mend.proofs.mending.mend.Goals as goal

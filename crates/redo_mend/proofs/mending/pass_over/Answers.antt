@@ -1,6 +1,6 @@
 use Rattle.std.proofs.Common.{rules, ◌≡◌, ◌∙◌, ◌∷◌, [], refl}
 use Rattle.redo_tree.specs.Tree.{without}
-use Rattle.redo_dir.specs.Own.{journal_path}
+use Rattle.redo_which.specs.Candidates.{journal_path}
 use Rattle.redo_mend.proofs.MendLemmas.{book-over, own-over}
 use Rattle.redo_mend.proofs.mending.pass_over.Goals as goal
 
