@@ -126,6 +126,12 @@ def room():
     return tempfile.TemporaryDirectory()
 
 
+def room_in_memory():
+    """The same in memory, where the system has a place for it: a test that waits for the disk often takes long."""
+    place = "/dev/shm"
+    return tempfile.TemporaryDirectory(dir=place if os.access(place, os.W_OK) else None)
+
+
 def redo(words):
     """A line of the program's on standard error."""
     return f"redo: {words}\n".encode()

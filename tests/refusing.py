@@ -8,7 +8,8 @@ import sys
 import tempfile
 import threading
 from collections import namedtuple
-from errno import EAGAIN, EIO, ENOMEM, ENOSPC
+from errno import EAGAIN, EIO, ENOMEM, ENOSPC, EWOULDBLOCK
+from signal import SIGKILL
 
 sys.dont_write_bytecode = True
 from program import Case, run
@@ -25,10 +26,13 @@ KINDS = {
     "say": EIO,
     "rename": EIO,
     "remove": EIO,
+    "sync": EIO,
+    "lock": EWOULDBLOCK,
 }
 WITHOUT_END = 2**63
-# In place of an error: the program is killed at the call.
-KILLED = 4096
+# In place of an error: the program gets a signal at the call.
+SIGNALS = 4096
+KILLED = SIGNALS + SIGKILL
 
 # How many calls of each kind a run made, and how many of them were refused.
 Counts = namedtuple("Counts", [*KINDS, "refused"])
@@ -48,16 +52,21 @@ class Refusing:
     def close(self):
         self.room.cleanup()
 
-    def run(self, words, text, kind, first, last=None, error=None, most=WITHOUT_END, **more):
-        """Runs the program, with the calls of a kind refused from the first to the last, or the first alone, and with
-        reads and writes of so many bytes at most. Answers what it came to, and the counts."""
+    def told(self, kind, first, last=None, error=None, most=WITHOUT_END):
+        """The environment of a run, with the calls of a kind refused from the first to the last, or the first alone,
+        and with reads and writes of so many bytes at most; and the file of the counts."""
         counts = f"{self.room.name}/{threading.get_ident()}"
         with open(counts, "wb") as file:
             file.write(bytes(8 * len(Counts._fields)))
         error = KINDS[kind] if error is None else error
         told = [list(KINDS).index(kind), first, last or first, error, most]
         refuse = {"LD_PRELOAD": self.library, "REFUSE": " ".join(map(str, told)), "COUNTS": counts}
-        found = run(words, text, env={**os.environ, **refuse}, **more)
+        return {**os.environ, **refuse}, counts
+
+    def run(self, words, text, kind, first, last=None, error=None, most=WITHOUT_END, **more):
+        """Runs the program where calls are refused, as `told` says. Answers what it came to, and the counts."""
+        environment, counts = self.told(kind, first, last, error, most)
+        found = run(words, text, env=environment, **more)
         with open(counts, "rb") as file:
             return found, Counts._make(struct.unpack(f"={len(Counts._fields)}Q", file.read()))
 

@@ -9,6 +9,9 @@ from hashlib import sha256
 # The file at the top of a tree that is the book of the last run.
 BOOK = ".redo-book"
 
+# The file at the top of a directory that tells of the files of a run that was broken off.
+JOURNAL = ".redo-journal"
+
 # The words behind `failed` in a row of a report.
 WHY = (
     rb"norule|directory|nodirectory|both"
@@ -136,7 +139,7 @@ def bare(tree):
 def candidates(path):
     """Where the rule of a target is looked for."""
     dir, slash, name = path.rpartition("/")
-    if path == BOOK or not path or name.endswith(".do"):
+    if path in (BOOK, JOURNAL) or not path or name.endswith(".do"):
         return
     yield path + ".do"
     suffixes = [name[at:] for at, byte in enumerate(name) if byte == "."] + [""]
@@ -145,6 +148,25 @@ def candidates(path):
         if not dir:
             return
         dir, slash, _ = dir.rpartition("/")
+
+
+def mended(tree):
+    """What a run goes on with over a directory: without a journal its tree. With one, the journal and the files of its
+    run that have temporary names have gone, and of each target the book has the journal's record where the file is as
+    that says, else the old book's where it is as that says. A text that is no book is passed over."""
+    if tree.get(JOURNAL) is None:
+        return tree
+    text = as_bytes(tree[JOURNAL])
+    if fault_of_book(text) is not None:
+        return {path: content for path, content in tree.items() if path != JOURNAL}
+    front = f".redo-{sha256(text[:4096]).hexdigest()[:16]}-"
+    own = {path for path, content in tree.items() if content is not None and path.rpartition("/")[2].startswith(front)}
+    found = {}
+    for book in book_of(tree), text:
+        told = records(book) if book is not None else {}
+        found |= {target: it for target, it in told.items() if state(tree.get(target)) == it[0]}
+    left = {path: content for path, content in tree.items() if path not in own and path != JOURNAL}
+    return {**left, BOOK: book_text(found)}
 
 
 def has_rule(path, stated, left):
@@ -187,7 +209,11 @@ def new_book(stated, book, head, files):
     """The book that a run leaves: over a tree of states with this book, it came to this report and these files."""
     left = sources(stated, book)
     made = noted(head, files, left)
-    found = {**carried(stated, book, left, made), **made}
+    return book_text({**carried(stated, book, left, made), **made})
+
+
+def book_text(found):
+    """The text of a book with these records."""
     lines = []
     for target in in_order(found):
         at, entries = found[target]
