@@ -150,6 +150,11 @@ def candidates(path):
         dir, slash, _ = dir.rpartition("/")
 
 
+def temporary(journal, number):
+    """The name of a temporary file of the run with this journal."""
+    return f".redo-{sha256(journal[:4096]).hexdigest()[:16]}-{number}.tmp"
+
+
 def mended(tree):
     """What a run goes on with over a directory: without a journal its tree. With one, the journal and the files of its
     run that have temporary names have gone, and of each target the book has the journal's record where the file is as
@@ -159,7 +164,7 @@ def mended(tree):
     text = as_bytes(tree[JOURNAL])
     if fault_of_book(text) is not None:
         return {path: content for path, content in tree.items() if path != JOURNAL}
-    front = f".redo-{sha256(text[:4096]).hexdigest()[:16]}-"
+    front = temporary(text, "")[: -len(".tmp")]
     own = {path for path, content in tree.items() if content is not None and path.rpartition("/")[2].startswith(front)}
     found = {}
     for book in book_of(tree), text:
