@@ -344,14 +344,15 @@ impl<R: Files> WorkDir for SystemDir<'_, R> {
         let beside = place_beside(alloc, &place, &name)?;
         // A book that was recovered is the only one once the journal is gone.
         let synced = self.access == Access::StoreSynced || path.text() == BOOK;
-        write_new(self.rt, &beside, content.bytes(), synced)?;
-        Ok(SystemDraft {
+        let draft = SystemDraft {
             path: path.clone()?,
             content: content.clone()?,
             place,
             beside,
             name,
-        })
+        };
+        write_new(self.rt, &draft.beside, content.bytes(), synced)?;
+        Ok(draft)
     }
 
     fn put(&mut self, draft: SystemDraft, over: bool) -> io::Result<()> {
