@@ -5,12 +5,22 @@ ghost use Rattle.std.specs.List.{starts_with};
 ghost use Rattle.std.specs.Map.{keys_of};
 ghost use Rattle.redo_path.specs.Names.{name_of};
 ghost use Rattle.redo_tree.specs.Tree.{file_at};
-ghost use Rattle.redo_dir.specs.Own.{is_temporary};
+ghost use Rattle.redo_dir.specs.Own.{is_temporary, temporary_front as front_of};
 
 use redo_dir::Tag;
 use redo_path::Path;
 use redo_tree::{Content, Tree};
 use std::alloc::{AllocError, Global};
+
+/// How the names of the temporary files begin of the run that wrote this journal.
+fn temporary_front(alloc: Global, journal: &Content) -> Result<Vec<u8>, AllocError>
+    ensures { IfOk result (λ front. front.items ≡ front_of journal.now) }
+{
+    let tag = Tag::of(alloc, journal)?;
+    let mut front = Vec::new(alloc);
+    front.extend_from_slice(tag.front().as_bytes())?;
+    Ok(front)
+}
 
 /// The paths of a tree, in their order.
 fn paths_of(alloc: Global, tree: &Tree) -> Result<Vec<&Path>, AllocError>
@@ -35,12 +45,11 @@ pub(crate) fn temporaries(
     ensures { IfOk result (λ paths. paths.items ≡
         filter (λ p. is_some (file_at tree.now p) && is_temporary journal.now p) (keys_of tree.now)) }
 {
-    let tag = Tag::of(alloc, journal)?;
-    let front = tag.front().as_bytes();
+    let front = temporary_front(alloc, journal)?;
     let all = paths_of(alloc, tree)?;
     let mut paths = Vec::new(alloc);
     for path in &all {
-        if is_file_with(tree, path, front) {
+        if is_file_with(tree, path, &front) {
             paths.push(Path::clone(path)?)?;
         }
     }
