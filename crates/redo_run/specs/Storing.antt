@@ -16,7 +16,7 @@ stands_in tree f = option_eq (pointwise nat_eq) (file_at tree f.0) (Some f.1)
 
 -- the files but for the book, those that the tree doesn't have as they are
 abbrev pub others_from : Tree → List (List ℕ × List ℕ) → List (List ℕ × List ℕ)
-others_from tree files = filter (λ f. not (stands_in tree f) && not (bytes_eq f.0 book_path)) files
+others_from tree files = filter (λ f. not (bytes_eq f.0 book_path) && not (stands_in tree f)) files
 
 -- the new book among the files of a report
 abbrev pub new_book_in : List (List ℕ × List ℕ) → Option (List ℕ × List ℕ)

@@ -42,7 +42,7 @@ fn others(
 {
     let mut others = Vec::new(alloc);
     for file in files {
-        if !is_unchanged(tree, file) && !is_book(&file.0) {
+        if !is_book(&file.0) && !is_unchanged(tree, file) {
             let (path, content) = file;
             others.push((path.clone()?, content.clone()?))?;
         }
