@@ -1,6 +1,6 @@
 //! The command line.
 
-ghost use Rattle.std.specs.Prelude.{◌≤◌};
+ghost use Rattle.std.specs.Prelude.{◌≤◌, ◌<◌};
 
 use crate::commands;
 use crate::version::VERSION;
@@ -271,7 +271,8 @@ pub(crate) fn target(alloc: Global, word: &str) -> Result<Path, PathFault> {
 
 /// How many threads may work side by side.
 fn workers(matches: &ArgMatches<'_>) -> usize
-    ensures { result ≤ 64 }
+    ensures some { 0 < result }
+    ensures few { result ≤ 64 }
 {
     match matches.get_one::<usize>("jobs") {
         Some(jobs) => jobs.clamp(1, MOST_JOBS),
