@@ -2,7 +2,9 @@
 use Rattle.std.proofs.Common.{map, remove, slice_get, slice_set, slice_index_or, option_and_then, ◌≡◌, ℕ, zero, suc}
 use Rattle.std.proofs.Common.{◌<◌, ◌≤◌, Bool, true, false, inl, inr, List, [], ◌∷◌, length, filter, Option, Some, None}
 use Rattle.std.proofs.Common.{is_some, IsNone, rules, refl, sym, ap, subst, ◌∙◌, arith, bytes_eq}
+use Rattle.std.specs.Prelude.{count_by}
 use Rattle.std.proofs.lemmas.Bool.{cases_Bool}
+use Rattle.std.proofs.lemmas.List.Sums.{length-filter}
 use Rattle.redo_build.specs.Rules.{Ask, Rules, AreLawful, operands}
 use Rattle.redo_build.specs.Outcomes.{outcome_at}
 use Rattle.redo_build.proofs.SeenLemmas.{entry_of-path, decided_count-length}
@@ -12,7 +14,7 @@ use Rattle.redo_build.proofs.TurnLemmas.{deps_at_turn-more, Extends-trans'}
 use Rattle.redo_build.proofs.StandingLemmas.{outcomes_of-deep}
 use Rattle.redo_build.specs.Schedule.{Entry, paths_of, entry_of, only, outcomes_of, State, put, sent_out, taken, happens}
 use Rattle.redo_core.specs.inside.Slots.{rounds_of, slot_entries, stage_outcome, is_stage_out, is_stage_ready, Fits, AllAnswered}
-use Rattle.redo_core.specs.inside.Slots.{entries_from, slot_entry, stage_deps, path_at, state_from, IsParked}
+use Rattle.redo_core.specs.inside.Slots.{decided_slots, is_stage_decided, entries_from, slot_entry, stage_deps, path_at, state_from, IsParked}
 use Rattle.redo_core.specs.declared.table.Slot.{Slot}
 use Rattle.redo_core.specs.declared.table.Stage.{Stage}
 use Rattle.redo_core.specs.declared.table.Stage.TheVariants.{Due, Checking, Waiting, Ready, Out, Decided}
@@ -37,6 +39,42 @@ out_count-slots r a (p ∷ ps) [] h = absurd (omega arith)
 out_count-slots r a (p ∷ ps) (slot ∷ slots) h =
     let rest = out_count-slots r a ps slots (omega arith) in
     elim (cases_Bool (is_stage_out slot.stage)) [ inl t ↦ rw t (ap suc rest) | inr f ↦ rw f rest ]
+
+decided-outcome : (stage : Stage) → is_some (stage_outcome stage) ≡ is_stage_decided stage
+decided-outcome (Due held) = refl
+decided-outcome (Checking awaiting) = refl
+decided-outcome (Waiting parked) = refl
+decided-outcome (Ready work) = refl
+decided-outcome Out = refl
+decided-outcome (Decided fact) = refl
+
+decided-slots : (r : Rules) (a : Ask) (ps : List (List ℕ)) (slots : List Slot) → length slots ≡ length ps →
+    length (filter (λ e. is_some e.outcome) (slot_entries r a ps slots)) ≡ length (filter (λ slot. is_stage_decided slot.stage) slots)
+decided-slots r a [] [] h = refl
+decided-slots r a [] (slot ∷ slots) h = absurd (omega arith)
+decided-slots r a (p ∷ ps) [] h = absurd (omega arith)
+decided-slots r a (p ∷ ps) (slot ∷ slots) h =
+    let rest = decided-slots r a ps slots (omega arith) in
+    let same = decided-outcome slot.stage in
+    elim (cases_Bool (is_stage_decided slot.stage)) [
+      | inl t ↦ rw (same, t) (ap suc rest)
+      | inr f ↦ rw (same, f) rest
+    ]
+
+-- as many entries have an outcome as slots are decided
+pub decided_count-slots : (r : Rules) (a : Ask) (ps : List (List ℕ)) (slots : List Slot) → length slots ≡ length ps →
+    count_by (λ e. is_some e.outcome) (slot_entries r a ps slots) ≡ decided_slots slots
+decided_count-slots r a ps slots h =
+    sym (length-filter (λ e. is_some e.outcome) (slot_entries r a ps slots)) ∙ decided-slots r a ps slots h
+    ∙ length-filter (λ slot. is_stage_decided slot.stage) slots
+
+-- there are as many entries as slots
+pub length-slots : (r : Rules) (a : Ask) (ps : List (List ℕ)) (slots : List Slot) → length slots ≡ length ps →
+    length (slot_entries r a ps slots) ≡ length slots
+length-slots r a [] [] h = refl
+length-slots r a [] (slot ∷ slots) h = absurd (omega arith)
+length-slots r a (p ∷ ps) [] h = absurd (omega arith)
+length-slots r a (p ∷ ps) (slot ∷ slots) h = ap suc (length-slots r a ps slots (omega arith))
 
 pub IsNone-from : {A : Type 0} (o : Option A) → is_some o ≡ false → IsNone o
 IsNone-from None h = search rules

@@ -1,6 +1,6 @@
 -- What contracts see of facts, works, pieces and boards.
 use Rattle.std.specs.Prelude.{◌≡◌, ℕ, Bool, List, length, Option, Some, None, IsNone, slice_get, is_some, if◌then◌else◌}
-use Rattle.std.specs.Prelude.{bytes_eq}
+use Rattle.std.specs.Prelude.{bytes_eq, count_by}
 use Rattle.std.specs.Map.{lookup}
 use Rattle.redo_record.specs.Progress.{Progress}
 use Rattle.redo_build.specs.Rules.{Ask, Rules, operands}
@@ -64,6 +64,14 @@ ready_count b = if is_some b.stopped then 0 else length b.state.ready
 -- how many jobs are out
 abbrev pub jobs_out : BoardView → ℕ
 jobs_out b = if is_some b.stopped then 0 else out_count b.state
+
+-- how many targets have been seen
+abbrev pub seen_count : BoardView → ℕ
+seen_count b = if is_some b.stopped then 0 else length b.state.entries
+
+-- how many of them are decided
+abbrev pub decided_count : BoardView → ℕ
+decided_count b = if is_some b.stopped then 0 else count_by (λ e. is_some e.outcome) b.state.entries
 
 -- a run of open events leads from the opening to this state
 pub record IsReached (r : Rules) (request : List (List ℕ)) (s : State) : Type 0 where

@@ -5,7 +5,7 @@
 ghost use Rattle.std.specs.Prelude.{◌≡◌, ◌↔◌, ◌<◌, ◌≤◌, ◌+◌, ◌*◌, IsTrue, IsNone, IfOk, IfErr, OnOk, OnErr, length};
 ghost use Rattle.std.specs.Prelude.{Err, Some, None, ℕ};
 ghost use Rattle.std.specs.Arc.{arc_value};
-ghost use Rattle.redo_core.specs.Views.{ready_count, jobs_out, after, rules_on, request_on, limit_on, IsQuietBoard};
+ghost use Rattle.redo_core.specs.Views.{ready_count, jobs_out, seen_count, decided_count, after, rules_on, request_on, limit_on, IsQuietBoard};
 ghost use Rattle.redo_core.specs.Views.{Belongs, IsHandedIn, IsWorkTaken};
 ghost use Rattle.redo_core.specs.Results.{IsGiven, IsOpened, IsRefused, IsResult, NeedsTooMany};
 ghost use Rattle.redo_build.specs.Outcomes.{IsTooMany};
@@ -244,6 +244,29 @@ impl Board {
             0
         } else {
             self.table.out
+        }
+    }
+
+    /// How many targets have been seen so far, and may still become more; 0 once the board has stopped.
+    pub fn seen(&self) -> usize
+        ensures { result ≡ seen_count self.now }
+    {
+        if self.stopped.is_some() {
+            0
+        } else {
+            self.table.slots.len()
+        }
+    }
+
+    /// How many of them are decided: built, kept or failed; 0 once the board has stopped. Each call counts them, in time
+    /// linear in the targets that have been seen.
+    pub fn decided(&self) -> usize
+        ensures { result ≡ decided_count self.now }
+    {
+        if self.stopped.is_some() {
+            0
+        } else {
+            self.table.decided()
         }
     }
 

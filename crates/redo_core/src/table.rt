@@ -9,7 +9,7 @@ ghost use Rattle.redo_core.specs.inside.Slots.{IsOutSlotAt, IsWaitingThere, IsHe
 ghost use Rattle.redo_core.specs.inside.Slots.{IsWatchAdded, IsMadeReadyAt, IsFed, IsLookedAt, IsBegun, IsPushed};
 ghost use Rattle.redo_core.specs.inside.Slots.{IsEnteredInto, IsFull, table_entries, IsDecidedAt, IsParkedAt};
 ghost use Rattle.redo_core.specs.inside.Slots.{IsOutThere, Gains, IsAnswered, IsResumedAt, GoesOnWith, IsFallen};
-ghost use Rattle.redo_core.specs.inside.Slots.{IsAskedAt, IsTakenOut, is_stage_due, IsDueThere};
+ghost use Rattle.redo_core.specs.inside.Slots.{decided_slots, IsAskedAt, IsTakenOut, is_stage_due, IsDueThere};
 ghost use Rattle.redo_core.specs.inside.Works.{known_in};
 
 use crate::begin::begin;
@@ -390,6 +390,19 @@ impl Table {
             stage,
         })?;
         Ok(())
+    }
+
+    /// How many targets are decided.
+    pub(crate) fn decided(&self) -> usize
+        ensures { result ≡ decided_slots self.now.slots.items }
+    {
+        let mut count = 0;
+        for at in 0..self.slots.len() {
+            if self.slots[at].is_decided() {
+                count += 1;
+            }
+        }
+        count
     }
 
     /// Decides a target that was out, and returns the numbers to look at again.

@@ -1,7 +1,7 @@
 -- How a board keeps its entries.
 use Rattle.std.specs.Prelude.{◌≡◌, ◌⊎◌, ℕ, ◌+◌, ◌<◌, ◌≤◌, Bool, true, false, not, List, [], ◌∷◌, ◌++◌, Option, Some}
 use Rattle.std.specs.Prelude.{None, IsNone, if◌then◌else◌, map, length, filter, slice_get, slice_set}
-use Rattle.std.specs.Prelude.{unwrap_or, IsSorted, IsPermutation, Box}
+use Rattle.std.specs.Prelude.{count_by, unwrap_or, IsSorted, IsPermutation, Box}
 use Rattle.std.specs.Ordering.{nat_cmp}
 use Rattle.std.specs.declared.alloc.Global.{Global}
 use Rattle.std.specs.declared.vec.Vec.{Vec}
@@ -312,6 +312,10 @@ is_stage_decided (Waiting parked) = false
 is_stage_decided (Ready work) = false
 is_stage_decided Out = false
 is_stage_decided (Decided fact) = true
+
+-- how many slots are decided
+abbrev pub decided_slots : List Slot → ℕ
+decided_slots slots = count_by (λ slot. is_stage_decided slot.stage) slots
 
 -- the path has a slot that is decided
 pub record IsDecidedSlot (t : Table) (q : List ℕ) : Type 0 where
