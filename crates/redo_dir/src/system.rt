@@ -13,7 +13,7 @@ use redo_path::Path;
 use redo_tree::Content;
 use redo_which::{BOOK, JOURNAL};
 use std::alloc::{AllocError, Global};
-use std::fs::{DirEntry, File, Metadata, OpenFile};
+use std::fs::{DirEntry, File, Metadata, OpenFile, Permissions};
 use std::io::{ErrorKind, Read, Write};
 use std::path::{Path as SystemPath, PathBuf};
 use std::rt::Files;
@@ -107,19 +107,50 @@ fn name_of<F: Files + Drop>(
     }
 }
 
-/// Writes all bytes to a file, and waits until they are on the disk if they are to be.
-fn fill<F: Write + OpenFile>(file: &mut F, bytes: &[u8], synced: bool) -> io::Result<()> {
-    file.write_all(bytes)?;
-    if synced {
+/// Who may read, write and run the file at a place, if one stands there.
+fn permissions_at<R: Files>(rt: &R, place: &PathBuf) -> io::Result<Option<Permissions>> {
+    match fs::symlink_metadata(rt, place.as_path()) {
+        Ok(about) if about.is_file() => Ok(Some(about.permissions())),
+        Ok(_) => Ok(None),
+        Err(error) if error.kind() == ErrorKind::NotFound => Ok(None),
+        Err(error) => Err(error),
+    }
+}
+
+/// Gives a new file these permissions. Where it has them, the system isn't asked: some file systems know no others.
+fn permit<F: OpenFile>(file: &F, permissions: Permissions) -> io::Result<()> {
+    if file.metadata()?.permissions() == permissions {
+        return Ok(());
+    }
+    file.set_permissions(permissions)
+}
+
+/// What a new file is to have.
+#[derive(Drop)]
+struct NewFile<'a> {
+    bytes: &'a [u8],
+    /// The permissions of the file that it replaces.
+    permissions: Option<Permissions>,
+    /// Whether it is waited for until it is on the disk.
+    synced: bool,
+}
+
+/// Fills a new file. It has its permissions before it has any bytes, so that nobody reads them who may not.
+fn fill<F: Write + OpenFile>(file: &mut F, new: NewFile<'_>) -> io::Result<()> {
+    if let Some(permissions) = new.permissions {
+        permit(file, permissions)?;
+    }
+    file.write_all(new.bytes)?;
+    if new.synced {
         file.sync_all()?;
     }
     Ok(())
 }
 
-/// Writes bytes into a new file and closes it, or leaves no file of its own.
-fn write_new<R: Files>(rt: &R, place: &PathBuf, bytes: &[u8], synced: bool) -> io::Result<()> {
+/// Writes a new file and closes it, or leaves no file of its own.
+fn write_new<R: Files>(rt: &R, place: &PathBuf, new: NewFile<'_>) -> io::Result<()> {
     let mut file = File::create_new(rt, place.as_path())?;
-    let outcome = fill(&mut file, bytes, synced);
+    let outcome = fill(&mut file, new);
     drop(file);
     if outcome.is_err() {
         let _removed = fs::remove_file(rt, place.as_path());
@@ -152,9 +183,14 @@ fn sync_names<R: Files>(rt: &R, place: &PathBuf) -> io::Result<()> {
     }
 }
 
-/// Writes a new file and waits until it is on the disk, with its name in the directory `top`; or leaves no file of its own.
-fn write_synced<R: Files>(rt: &R, top: &PathBuf, place: &PathBuf, bytes: &[u8]) -> io::Result<()> {
-    write_new(rt, place, bytes, true)?;
+/// Writes a new file, whose name in the directory `top` is then on the disk; or leaves no file of its own.
+fn write_named<R: Files>(
+    rt: &R,
+    top: &PathBuf,
+    place: &PathBuf,
+    new: NewFile<'_>,
+) -> io::Result<()> {
+    write_new(rt, place, new)?;
     let outcome = sync_names(rt, top);
     if outcome.is_err() {
         let _removed = fs::remove_file(rt, place.as_path());
@@ -301,10 +337,16 @@ impl<R: Files> WorkDir for SystemDir<'_, R> {
         self.check_writable()?;
         let top = self.top_place(alloc, "")?;
         let place = self.top_place(alloc, JOURNAL_NAME)?;
+        let book = self.top_place(alloc, BOOK_NAME)?;
         let change = Change::Journal(text.clone()?);
         let tag = Tag::of(alloc, text)?;
         self.done.reserve(1)?;
-        write_synced(self.rt, &top, &place, text.bytes())?;
+        let new = NewFile {
+            bytes: text.bytes(),
+            permissions: permissions_at(self.rt, &book)?,
+            synced: true,
+        };
+        write_named(self.rt, &top, &place, new)?;
         self.done.push(change)?;
         self.tag = Some(tag);
         Ok(())
@@ -344,6 +386,11 @@ impl<R: Files> WorkDir for SystemDir<'_, R> {
         let beside = place_beside(alloc, &place, &name)?;
         // A book that was recovered is the only one once the journal is gone.
         let synced = self.access == Access::StoreSynced || path.text() == BOOK;
+        let new = NewFile {
+            bytes: content.bytes(),
+            permissions: permissions_at(self.rt, &place)?,
+            synced,
+        };
         let draft = SystemDraft {
             path: path.clone()?,
             content: content.clone()?,
@@ -351,7 +398,7 @@ impl<R: Files> WorkDir for SystemDir<'_, R> {
             beside,
             name,
         };
-        write_new(self.rt, &draft.beside, content.bytes(), synced)?;
+        write_new(self.rt, &draft.beside, new)?;
         Ok(draft)
     }
 
