@@ -2,6 +2,7 @@
 use Rattle.std.proofs.Common.{rules, ◌≡◌, ◌↔◌, ◌∙◌, [], ◌∷◌, length, List, ℕ, Bool, Option, Some, None, IsTrue, is_some}
 use Rattle.std.proofs.Common.{option_map, true, sym, subst, refl}
 use Rattle.std.specs.Prelude.{IfSome, IsSome, Err, Result}
+use Rattle.std.specs.Arc.{arc_value}
 use Rattle.std.specs.Io.KnownBytes.{Appends}
 use Rattle.redo_core.specs.Results.{IsGiven, IsRefused, IsResultOn, NeedsTooMany}
 use Rattle.redo_report.specs.ReportText.{report_text}
@@ -11,6 +12,7 @@ use Rattle.redo_bundle.specs.declared.faults.WriteFault.{WriteFault}
 use Rattle.redo_bundle.specs.declared.faults.WriteFault.TheVariants as write
 use Rattle.redo_bundle.specs.declared.faults.BundleFault.TheVariants as bundle
 use Rattle.redo_tree.specs.Tree.{Tree}
+use Rattle.redo_run.specs.declared.bundle.BundleRun.{BundleRun}
 use Rattle.redo_run.specs.declared.options.Options.{Options}
 use Rattle.redo_run.specs.declared.fault.RunIoFault.{RunIoFault}
 use Rattle.redo_run.specs.declared.fault.RunIoFault.TheVariants as run
@@ -51,7 +53,7 @@ module _ (options : Options) (tree : Tree) (request : List (List ℕ)) (named : 
       ((n : ℕ) → fault ≡ build.Book n → IsRefused tree n) →
       (fault ≡ build.TooMany → NeedsTooMany tree request options.limits) →
       (fault ≡ build.TooMany → IsUnsafeOn tree request options.limits) →
-      IfSome left (λ text. Explains {A = Exit} options text old new (Err (of_build fault)))
+      IfSome left (λ text. Explains {A = BundleRun} options text old new (Err (of_build fault)))
   explains_build None old new fault bundle book many never = tt
   explains_build (Some text) old new (build.Book n) bundle book many never = (tree, bundle, book n refl)
   explains_build (Some text) old new build.TooMany bundle book many never = (
@@ -66,7 +68,7 @@ module _ (options : Options) (tree : Tree) (request : List (List ℕ)) (named : 
   pub explains_write : (fault : WriteFault) (left old new : Option (List ℕ)) (report : Report) →
       IfSome left (λ text. IsBundle text tree) → IsResultOn tree request options.limits report →
       Writes {E = WriteFault} old new (Err fault) (report_text report true) →
-      IfSome left (λ text. Explains {A = Exit} options text old new (Err (of_write fault)))
+      IfSome left (λ text. Explains {A = BundleRun} options text old new (Err (of_write fault)))
   explains_write fault None old new report bundle is h = tt
   explains_write write.Device (Some text) old new report bundle is h = record {
     tree = tree;
@@ -81,24 +83,23 @@ module _ (options : Options) (tree : Tree) (request : List (List ℕ)) (named : 
   explains_write write.Memory (Some text) old new report bundle is h = tt
 
   -- the whole report was written
-  pub reports : (left old new : Option (List ℕ)) (report : Report) (written : List ℕ) (exit : Exit) →
-      IfSome left (λ text. IsBundle text tree) → (is : IsResultOn tree request options.limits report) →
-      IsSoundOn tree request options.limits report →
-      written ≡ report_text report true → Appends old new written →
-      IsExitOf is.0 exit →
-      IfSome left (λ text. Reports options text old new exit)
-  reports None old new report written exit bundle is sound made h good = tt
-  reports (Some text) old new report written exit bundle is sound made h good = record {
-    tree = tree;
-    bundle = bundle;
-    given = is.0;
-    is_given = moved (λ ps. IsGiven tree ps options.limits is.0) is.1;
-    report = report;
-    is = is.2;
-    sound = sound is.0 is.1;
-    written = subst (Appends old new) made h;
-    good = good;
-  }
+  pub reports : (left old new : Option (List ℕ)) (run : BundleRun) → arc_value run.tree ≡ tree →
+      IfSome left (λ text. IsBundle text tree) → (is : IsResultOn tree request options.limits run.report) →
+      IsSoundOn tree request options.limits run.report →
+      Appends old new (report_text run.report true) →
+      IsExitOf is.0 run.exit →
+      IfSome left (λ text. Reports options text old new run)
+  reports None old new run same bundle is sound written good = tt
+  reports (Some text) old new run same bundle is sound written good =
+      let M : Tree → Type 0 = λ t. IsGiven t (request_in options) options.limits is.0 in record {
+        bundle = subst (λ t. IsBundle text t) (sym same) bundle;
+        given = is.0;
+        is_given = subst M (sym same) (moved (λ ps. IsGiven tree ps options.limits is.0) is.1);
+        is = is.2;
+        sound = sound is.0 is.1;
+        written = written;
+        good = good;
+      }
 
   -- a tree needs too many targets
   pub too_many_in : NeedsTooMany tree request options.limits → IsUnsafeOn tree request options.limits → IsUnbuilt tree options dir.TooMany
@@ -150,13 +151,13 @@ nothing_told None = tt
 nothing_told (Some x) = tt
 
 -- a report that is not written for want of memory leaves the writer as it was
-pub untouched_by_write : {W : Type 0} (fault : WriteFault) (old new : W) → (fault ≡ write.Memory → new ≡ old) → IsUntouched {A = Exit} {W = W} (Err (of_write fault)) old new
+pub untouched_by_write : {W : Type 0} (fault : WriteFault) (old new : W) → (fault ≡ write.Memory → new ≡ old) → IsUntouched {A = BundleRun} {W = W} (Err (of_write fault)) old new
 untouched_by_write write.Device old new h = tt
 untouched_by_write write.Memory old new h = h refl
 
 -- a run's fault is that of a report which is not written
 abbrev pub Unwritten : WriteFault → RunIoFault → Type 0
-Unwritten fault told = ◌≡◌ {A = Result Exit RunIoFault} (Err (of_write fault)) (Err told)
+Unwritten fault told = ◌≡◌ {A = Result BundleRun RunIoFault} (Err (of_write fault)) (Err told)
 
 -- a report that is not written tells of no failure of the reader, where there was none
 pub no_read_by_write : (fault : WriteFault) (failed : Bool) → (failed ≡ true → ⊥) →

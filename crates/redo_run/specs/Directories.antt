@@ -130,6 +130,26 @@ pub record Stays (lists : List ℕ → List (Option (List ℕ)) → Type 0) (lea
   pub is_loaded : IsLoaded lists leads loaded passed
   pub why : IsUnmended loaded fault ⊎ ((tree : Tree) × MendsTo loaded tree × IsUnbuilt tree options fault)
 
+-- a tree was loaded, and mended to the one that was built; and the writer took the report, without the files, and nothing
+-- else
+pub record PreviewsTree (lists : List ℕ → List (Option (List ℕ)) → Type 0) (leads : List ℕ → Option Node → Type 0) (options : Options) (old new : Option (List ℕ)) (run : DirRun) : Type 0 where
+  pub loaded : Tree
+  pub is_loaded : IsLoaded lists leads loaded run.passed
+  pub mends : MendsTo loaded (arc_value run.tree)
+  pub built : IsBuilt (arc_value run.tree) options run.report run.exit
+  pub written : Appends old new (report_text run.report false)
+
+-- why a run that stores nothing has no report
+abbrev pub FallsInPreview : (List ℕ → List (Option (List ℕ)) → Type 0) → (List ℕ → Option Node → Type 0) → (List ℕ → ErrorKind → Type 0) → Options → RunDirFault → Type 0
+FallsInPreview lists leads refuses options Load = IsUnreadable lists leads refuses
+FallsInPreview lists leads refuses options (Book n) = Stays lists leads options (Book n)
+FallsInPreview lists leads refuses options TooMany = Stays lists leads options TooMany
+FallsInPreview lists leads refuses options (Store place) = ⊥
+FallsInPreview lists leads refuses options Journal = ⊥
+FallsInPreview lists leads refuses options Left = ⊥
+FallsInPreview lists leads refuses options Device = Ran lists leads options
+FallsInPreview lists leads refuses options Memory = Unit {0}
+
 -- Why a run has no report, and which steps were done all the same. None is done before the build has answered.
 abbrev pub IsFaultOf : (List ℕ → List (Option (List ℕ)) → Type 0) → (List ℕ → Option Node → Type 0) → (List ℕ → ErrorKind → Type 0) → (List ℕ → ErrorKind → Type 0) → Options → List Step → List Step → RunDirFault → Type 0
 IsFaultOf lists leads refuses told options before after Load = IsUnreadable lists leads refuses × (after ≡ before)

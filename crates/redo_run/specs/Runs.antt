@@ -1,6 +1,7 @@
 -- What a run over a bundle leaves on its writer.
 use Rattle.std.specs.Prelude.{◌≡◌, ◌↔◌, ◌++◌, ◌∷◌, [], ℕ, Bool, true, IsTrue, IsSome, List, Option, Result, Ok, Err}
 use Rattle.std.specs.Prelude.{codes}
+use Rattle.std.specs.Arc.{arc_value}
 use Rattle.std.specs.Io.KnownBytes.{Appends}
 use Rattle.redo_core.specs.Build.{GivenView}
 use Rattle.redo_core.specs.Results.{IsGiven, IsRefused, IsResult, IsResultOn, NeedsTooMany as TreeNeedsTooMany}
@@ -9,7 +10,7 @@ use Rattle.redo_report.specs.declared.report.Report.{Report}
 use Rattle.redo_bundle.specs.Bundle.{IsBundle, Reads}
 use Rattle.redo_tree.specs.Tree.{Tree}
 use Rattle.redo_which.specs.Rule.{chosen_of}
-use Rattle.redo_run.specs.declared.exit.Exit.{Exit}
+use Rattle.redo_run.specs.declared.bundle.BundleRun.{BundleRun}
 use Rattle.redo_run.specs.declared.options.Options.{Options}
 use Rattle.redo_run.specs.declared.fault.RunIoFault.{RunIoFault}
 use Rattle.redo_run.specs.declared.fault.RunIoFault.TheVariants.{Bundle, Book, TooMany, Device, Memory}
@@ -29,17 +30,15 @@ request_in options = request_of options.targets.items
 abbrev pub IsReportFor : Options → Tree → Report → Type 0
 IsReportFor options tree report = IsResultOn tree (request_in options) options.limits report
 
--- the text is a bundle of a tree, and the writer took the report of its build, and nothing else
-pub record Reports (options : Options) (text : List ℕ) (old new : Option (List ℕ)) (exit : Exit) : Type 0 where
-  pub tree : Tree
-  pub bundle : IsBundle text tree
+-- the text is a bundle of the tree that was built, and the writer took the report of the build, and nothing else
+pub record Reports (options : Options) (text : List ℕ) (old new : Option (List ℕ)) (run : BundleRun) : Type 0 where
+  pub bundle : IsBundle text (arc_value run.tree)
   pub given : GivenView
-  pub is_given : IsGiven tree (request_in options) options.limits given
-  pub report : Report
-  pub is : IsResult given report
-  pub sound : IsSoundFor given report
-  pub written : Appends old new (report_text report true)
-  pub good : IsExitOf given exit
+  pub is_given : IsGiven (arc_value run.tree) (request_in options) options.limits given
+  pub is : IsResult given run.report
+  pub sound : IsSoundFor given run.report
+  pub written : Appends old new (report_text run.report true)
+  pub good : IsExitOf given run.exit
 
 -- the text is a bundle of a tree that needs too many targets, and keeping isn't safe over it
 abbrev pub NeedsTooMany : Options → List ℕ → Type 0

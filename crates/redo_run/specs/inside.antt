@@ -1,4 +1,5 @@
 pub mod Driving
+pub mod Foreseen
 pub mod Loading
 pub mod Storing
 pub mod Workers

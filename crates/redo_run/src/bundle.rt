@@ -12,18 +12,30 @@ use crate::{Cause, Exit, Observer, Options, RunIoFault};
 use redo_bundle::{ByteIn, ByteOut, read_bundle_by_line, write_all};
 use redo_past::RunReport;
 use redo_path::Path;
+use redo_tree::Tree;
 use redo_which::lookup::search;
 use std::alloc::Global;
-use std::sync::Wait;
+use std::sync::{Arc, Wait};
 use std::thread::Threads;
+
+/// What a run over a bundle came to.
+#[derive(Drop)]
+pub struct BundleRun {
+    /// Whether every requested path is a source or built.
+    pub exit: Exit,
+    /// The tree that was built.
+    pub tree: Arc<Tree>,
+    /// The report, whose new book isn't text yet.
+    pub report: RunReport,
+}
 
 /// Reads a bundle to its end, builds the requested targets, and writes the report, with the files of all targets that
 /// are built or kept, and the new book. The report is the same for every number of workers. Nothing is written before
 /// the build is done. The text of the new book is written piece by piece, and is never in memory.
 ///
 /// The report is written in many small pieces: hand in a buffered writer, such as `Plain::new` over std's `BufWriter`,
-/// and flush it afterwards. Then `kept` has the report, and with it all memory that the run still holds. A program that
-/// ends with the run may forget it, rather than free it piece by piece.
+/// and flush it afterwards. What is returned holds all memory of the run. A program that ends with the run may forget
+/// it, rather than free it piece by piece.
 pub fn run_bundle<H: Threads + Wait + Sync, R: ByteIn, W: ByteOut, O: Observer>(
     rt: &H,
     alloc: Global,
@@ -32,12 +44,11 @@ pub fn run_bundle<H: Threads + Wait + Sync, R: ByteIn, W: ByteOut, O: Observer>(
     options: &Options,
     observer: &O,
     cause: &mut Cause,
-    kept: &mut Option<RunReport>,
-) -> Result<Exit, RunIoFault>
+) -> Result<BundleRun, RunIoFault>
     requires reader { R.has_failed reader.old ≡ false }
     requires writer { W.has_failed writer.old ≡ false }
-    ensures report { IfOk result (λ exit. IfSome (R.left reader.old)
-        (λ text. Reports options.now text (W.held writer.old) (W.held writer.new) exit)) }
+    ensures report { IfOk result (λ run. IfSome (R.left reader.old)
+        (λ text. Reports options.now text (W.held writer.old) (W.held writer.new) run)) }
     ensures fault { IfSome (R.left reader.old)
         (λ text. Explains options.now text (W.held writer.old) (W.held writer.new) result) }
     ensures untouched { IsUntouched result writer.old writer.new }
@@ -48,6 +59,7 @@ pub fn run_bundle<H: Threads + Wait + Sync, R: ByteIn, W: ByteOut, O: Observer>(
     let tree = read_bundle_by_line(alloc, reader, &mut cause.header)?;
     let request = requested(alloc, &options.targets)?;
     let past = past_of(rt, alloc, tree, options.workers)?;
+    let tree = Arc::try_clone(past.tree())?;
     let report = build_over(
         rt,
         alloc,
@@ -59,8 +71,7 @@ pub fn run_bundle<H: Threads + Wait + Sync, R: ByteIn, W: ByteOut, O: Observer>(
     )?;
     let exit = exit_after(alloc, &report, &request)?;
     report.write(alloc, writer)?;
-    *kept = Some(report);
-    Ok(exit)
+    Ok(BundleRun { exit, tree, report })
 }
 
 /// Reads a bundle to its end, and writes the candidates for a target's rule, one a line: those that are missing, and

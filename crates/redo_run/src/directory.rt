@@ -6,7 +6,8 @@ ghost use Rattle.redo_tree.specs.Tree.{file_at};
 ghost use Rattle.redo_dir.specs.Loaded.{IsLoaded};
 ghost use Rattle.redo_run.specs.DirFaults.{of_load};
 ghost use Rattle.redo_run.specs.Directories.{FallsInList, IsBuilt, IsBlocked, IsFaultOf, IsRefusedBy, IsUnbuilt, IsUnread};
-ghost use Rattle.redo_run.specs.Directories.{IsUnwritten, ListsTree, ReportsTree};
+ghost use Rattle.redo_run.specs.Directories.{FallsInPreview, IsUnwritten, ListsTree, PreviewsTree, ReportsTree};
+ghost use Rattle.redo_run.specs.inside.Foreseen.{IsForeseen, IsUnforeseen};
 ghost use Rattle.redo_run.specs.inside.Loading.{HasNoPlace};
 ghost use Rattle.redo_which.specs.Candidates.{book_path};
 
@@ -189,6 +190,42 @@ fn build<H: Threads + Wait + Sync, O: Observer>(
     Ok(Built { tree, report, exit })
 }
 
+/// What a run over a directory came to, and what is left to be done to the directory.
+#[derive(Drop)]
+struct Foreseen {
+    run: DirRun,
+    plan: Plan,
+}
+
+/// Reads a directory, mends its tree, builds the targets, and plans what a run stores. The directory stays as it is.
+fn foresee<H: Threads + Wait + Sync, D: WorkDir + Sync, O: Observer>(
+    rt: &H,
+    alloc: Global,
+    dir: &D,
+    options: &Options,
+    observer: &O,
+    cause: &mut Cause,
+) -> Result<Foreseen, RunDirFault>
+where
+    D::Draft: Send,
+    ensures foreseen { IfOk result (IsForeseen (D.lists dir.now) (D.leads dir.now) options.now) }
+    ensures fault { IfErr result (IsUnforeseen (D.lists dir.now) (D.leads dir.now) (D.refuses dir.now) options.now) }
+{
+    let (tree, passed) = load_with_book(rt, alloc, dir, options.workers, cause)?;
+    let over = has_book(alloc, &tree)?;
+    let Mended { tree, left } = mend(rt, alloc, options.workers, tree)?;
+    let Built { tree, report, exit } = build(rt, alloc, tree, options, observer)?;
+    let new = to_store(alloc, &tree, &report.files)?;
+    let plan = Plan { left, over, new };
+    let run = DirRun {
+        exit,
+        passed,
+        tree,
+        report,
+    };
+    Ok(Foreseen { run, plan })
+}
+
 /// Reads a directory with all that is below it, builds the targets of its sources, stores the files that were built and
 /// the new book in the directory, and then writes the report, without the files. A file that already stood there as it
 /// came out is not written again. The workers also read the directory, make the digests that the book is compared with,
@@ -223,20 +260,38 @@ where
     ensures untouched { IsUnwritten result writer.old writer.new }
     ensures device { IsErrOf result RunDirFault.Device ↔ (W.has_failed writer.new ≡ true) }
 {
-    let (tree, passed) = load_with_book(rt, alloc, dir, options.workers, cause)?;
-    let over = has_book(alloc, &tree)?;
-    let Mended { tree, left } = mend(rt, alloc, options.workers, tree)?;
-    let Built { tree, report, exit } = build(rt, alloc, tree, options, observer)?;
-    let new = to_store(alloc, &tree, &report.files)?;
-    let plan = Plan { left, over, new };
-    carry_out(rt, alloc, dir, options.workers, &tree, &plan, cause)?;
-    write_report(writer, &report, false)?;
-    Ok(DirRun {
-        exit,
-        passed,
-        tree,
-        report,
-    })
+    let Foreseen { run, plan } = foresee(rt, alloc, dir, options, observer, cause)?;
+    carry_out(rt, alloc, dir, options.workers, &run.tree, &plan, cause)?;
+    write_report(writer, &run.report, false)?;
+    Ok(run)
+}
+
+/// Writes the report that [`run_dir`] would write, and leaves the directory as it is: a run to try out.
+pub fn preview_dir<H: Threads + Wait + Sync, D: WorkDir + Sync, W: ByteOut, O: Observer>(
+    rt: &H,
+    alloc: Global,
+    dir: &D,
+    writer: &mut W,
+    options: &Options,
+    observer: &O,
+    cause: &mut Cause,
+) -> Result<DirRun, RunDirFault>
+where
+    D::Draft: Send,
+    requires writer { W.has_failed writer.old ≡ false }
+    ensures report { IfOk result (PreviewsTree (D.lists dir.now) (D.leads dir.now) options.now
+        (W.held writer.old) (W.held writer.new)) }
+    ensures fault { IfErr result
+        (FallsInPreview (D.lists dir.now) (D.leads dir.now) (D.refuses dir.now) options.now) }
+    ensures untouched { IsUnwritten result writer.old writer.new }
+    ensures device { IsErrOf result RunDirFault.Device ↔ (W.has_failed writer.new ≡ true) }
+{
+    let Foreseen {
+        run: preview,
+        plan: _,
+    } = foresee(rt, alloc, dir, options, observer, cause)?;
+    write_report(writer, &preview.report, false)?;
+    Ok(preview)
 }
 
 /// Reads a directory with all that is below it, and writes the candidates for a target's rule, as `whichdo_bundle`

@@ -3,7 +3,7 @@
 //! [`run_bundle`] reads a bundle to its end, builds the requested targets with as many workers as the options say, and
 //! writes the report; [`whichdo_bundle`] writes where the rule of a target is looked for. [`run_dir`] and
 //! [`whichdo_dir`] do the same for a directory; `run_dir` stores into it the files that it doesn't have yet as they
-//! came out. [`build_many`] is the build alone, with the ledger of its jobs, and [`build_one`] the same in one thread,
+//! came out, and [`preview_dir`] stores nothing. [`build_many`] is the build alone, with the ledger of its jobs, and [`build_one`] the same in one thread,
 //! without a relay. The crate stands on `redo_build` for what a build is, on `redo_skip` for when it is safe to keep
 //! targets, on `redo_core` for the board, on `redo_sync` for the relay through which jobs go to workers, on
 //! `crossbeam_channel` for their way back, on `redo_report` for the report and its text, on `redo_tree`, `redo_bundle`
@@ -41,10 +41,10 @@ mod run_fault;
 mod storing;
 mod workers;
 
-pub use bundle::{run_bundle, whichdo_bundle};
+pub use bundle::{BundleRun, run_bundle, whichdo_bundle};
 pub use cause::{Cause, Said};
 pub use dir_fault::RunDirFault;
-pub use directory::{DirRun, load, load_with_book, run_dir, whichdo_dir};
+pub use directory::{DirRun, load, load_with_book, preview_dir, run_dir, whichdo_dir};
 pub use exit::Exit;
 pub use fault::RunIoFault;
 pub use observer::{NoObserver, Observer};

@@ -25,11 +25,12 @@ pub(crate) fn never<R: Wait>(rt: &R) -> ! {
     unreachable!()
 }
 
-/// Takes the target that became ready last, and gives its job. So what was just asked for is built before more is asked
+/// Takes the target that became ready last, tells the observer, and gives its job. So what was just asked for is built before more is asked
 /// for, and few scripts are under way at a time.
-fn give_newest<B: Build>(
+fn give_newest<B: Build, O: Observer>(
     board: &mut Board,
     source: &mut JobSource<JobOf<B>>,
+    observer: &O,
 ) -> Result<(), AllocError>
     requires ready { 0 < ready_count board.old }
     requires of_build { IsGiven B.tree B.request B.limits board.old.given }
@@ -42,6 +43,7 @@ fn give_newest<B: Build>(
     // The work is of the build that the type names.
     a_tree_has_one_past();
     let work = board.take(board.ready() - 1)?;
+    observer.given_out(board, work.target(), work.turn());
     match source.give(JobOf::new(work)) {
         Ok(()) => Ok(()),
         Err((_job, error)) => Err(error),
@@ -69,11 +71,12 @@ fn hand_in<B: Build, R: Wait>(rt: &R, board: &mut Board, piece: PieceOf<B>) -> R
 
 /// Gives the newest job, and calls a worker for it if none looks for one. Nobody hears the call only if every worker
 /// has ended, and none ends before the run does.
-fn call_for_newest<B: Build, R: Wait>(
+fn call_for_newest<B: Build, R: Wait, O: Observer>(
     rt: &R,
     board: &mut Board,
     source: &mut JobSource<JobOf<B>>,
     lines: &Lines<'_, Message<B>>,
+    observer: &O,
 ) -> Result<(), AllocError>
     requires ready { 0 < ready_count board.old }
     requires of_build { IsGiven B.tree B.request B.limits board.old.given }
@@ -82,7 +85,7 @@ fn call_for_newest<B: Build, R: Wait>(
     ensures running { OnOk result (IsNone board.new.stopped) }
     ensures taken { OnOk result (HasTaken board.old source.old.given → HasTaken board.new source.new.given) }
 {
-    give_newest(board, source)?;
+    give_newest(board, source, observer)?;
     if !lines.lookers.take() && lines.calls.send(rt, Call).is_err() {
         never(rt)
     }
@@ -110,7 +113,7 @@ fn advance_newest<B: Build, R: Wait, O: Observer>(
         IsTooMany (rules_on board.old) (request_on board.old) (limit_on board.old) }
 {
     lines.lookers.add();
-    call_for_newest(rt, board, source, lines)?;
+    call_for_newest(rt, board, source, lines, observer)?;
     let Some(job) = job_of_owner(rt, lines.lookers, taker) else {
         return Ok(());
     };
@@ -172,7 +175,7 @@ pub(crate) fn own<B: Build, R: Wait, O: Observer>(
         if board.ready() > 0 && is_for_owner(board, lines) {
             advance_newest(rt, board, source, taker, lines, observer)?;
         } else if board.ready() > 0 && board.out() < lines.most_out {
-            call_for_newest(rt, board, source, lines)?;
+            call_for_newest(rt, board, source, lines, observer)?;
         } else {
             receive(rt, board, &lines.messages)?;
         }

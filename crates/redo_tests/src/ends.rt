@@ -71,7 +71,7 @@ fn run_to<R: Threads + Wait + Sync, W: ByteOut>(
         workers: 1,
         limits: limits_of(1)?,
     };
-    Ok(run_bundle(
+    match run_bundle(
         rt,
         alloc,
         &mut Plain::new(HELLO.as_bytes()),
@@ -79,8 +79,10 @@ fn run_to<R: Threads + Wait + Sync, W: ByteOut>(
         &options,
         &NoObserver,
         &mut Cause::new(alloc),
-        &mut None,
-    ))
+    ) {
+        Ok(run) => Ok(Ok(run.exit)),
+        Err(fault) => Ok(Err(fault)),
+    }
 }
 
 #[test]

@@ -2,6 +2,7 @@
 
 use crate::trees::{DIAMOND, DIAMOND_REPORT, built_by, limits_of, paths_of, tree_of};
 use redo_bundle::Plain;
+use redo_core::board::Board;
 use redo_path::Path;
 use redo_report::report_text;
 use redo_run::{Cause, Exit, Observer, Options, run_bundle};
@@ -25,6 +26,8 @@ struct Pair {
 }
 
 impl Observer for Pair {
+    fn given_out(&self, _board: &Board, _target: &Path, _turn: u64) {}
+
     fn taken_up(&self, target: &Path, _turn: u64) {
         if target.text() == b"top".as_slice() {
             return;
@@ -62,9 +65,12 @@ fn both_must_be_inside_a_run(rt: HostRuntime) -> Result<(), Fail> {
             &options,
             &pair,
             &mut Cause::new(alloc),
-            &mut None,
         );
-        assert!(rt; outcome == Ok(Exit::Good), "{words}");
+        let exit = match outcome {
+            Ok(run) => Ok(run.exit),
+            Err(fault) => Err(fault),
+        };
+        assert!(rt; exit == Ok(Exit::Good), "{words}");
         assert_eq!(rt; pair.entered.load(SeqCst), 2, "{words}");
         assert_eq!(rt; pair.in_vain.load(SeqCst), 0, "{words}");
     }
@@ -127,6 +133,8 @@ impl Crowd {
 }
 
 impl Observer for Crowd {
+    fn given_out(&self, _board: &Board, _target: &Path, _turn: u64) {}
+
     fn taken_up(&self, target: &Path, turn: u64) {
         self.note(target, turn);
         self.inside.fetch_add(1, SeqCst);

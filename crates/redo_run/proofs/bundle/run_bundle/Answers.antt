@@ -1,8 +1,9 @@
-use Rattle.std.proofs.Common.{◌≡◌, ℕ, Err, List, refl, sym, ap, subst, ◌∙◌}
+use Rattle.std.proofs.Common.{◌≡◌, ℕ, Err, List, rules, sym, ap, subst, ◌∙◌}
 use Rattle.std.proofs.lemmas.Result.{err_from_is_err_and}
 use Rattle.redo_core.specs.Results.{IsRefused, IsResultOn, NeedsTooMany}
 use Rattle.redo_run.specs.Runs.{request_of}
 use Rattle.redo_run.specs.Skipping.{IsSoundOn, IsUnsafeOn}
+use Rattle.redo_run.specs.declared.bundle.BundleRun.{BundleRun}
 use Rattle.redo_run.specs.declared.run_fault.RunFault.TheVariants as build
 use Rattle.redo_tree.specs.Tree.{Tree}
 use Rattle.redo_run.proofs.ToldLemmas.{device_by_write, explains_build, explains_write, no_memory_by_write, no_read_by_write}
@@ -59,9 +60,10 @@ returns-clause-report g c =
     let is : Q c.in_ok-request.request.items = subst Q c.deref-2.ensures.value (subst M shared c.in_ok-report.ensures.report) in
     let sound : R c.in_ok-request.request.items = subst R c.deref-2.ensures.value (subst N shared c.in_ok-report.ensures.sound) in
     let exit = c.in_ok-exit.ensures is.0 (is.1.requested ∙ sym c.deref-3.ensures.value) is.2 in
+    let run : BundleRun = record { exit = c.in_ok-exit.exit; tree = c.in_ok-tree-2.tree; report = report } in
     reports c.args.options.now tree c.in_ok-request.request.items
-    (c.in_ok-request.ensures ∙ ap request_of c.deref.ensures.value) _ _ _ report _ c.in_ok-exit.exit
-    c.in_ok-tree.ensures.reads is sound refl c.in_ok-write.ensures.writes exit
+    (c.in_ok-request.ensures ∙ ap request_of c.deref.ensures.value) _ _ _ run (search rules)
+    c.in_ok-tree.ensures.reads is sound c.in_ok-write.ensures.writes exit
 
 -- the exit isn't found for want of memory
 pub returns-in_err-exit-clause-fault : goal.returns-in_err-exit-clause-fault
@@ -89,3 +91,9 @@ pub returns-in_err-write-clause-memory : goal.returns-in_err-write-clause-memory
 returns-in_err-write-clause-memory g c =
     let p = err_from_is_err_and c.from_residual-in_err-write.result c.from_residual-in_err-write.ensures.1 in
     rw (p.1, p.2) (no_memory_by_write c.in_err-write.field-0.0)
+
+-- nor is the tree shared
+pub returns-in_err-tree-2-clause-fault : goal.returns-in_err-tree-2-clause-fault
+returns-in_err-tree-2-clause-fault g c =
+    let p = err_from_is_err_and c.from_residual-in_err-tree-2.result c.from_residual-in_err-tree-2.ensures.1 in
+    rw (p.1, p.2) (nothing_told (g.R.ByteIn.left c.args.reader.now))

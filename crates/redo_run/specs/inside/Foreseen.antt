@@ -1,0 +1,34 @@
+-- What a run over a directory knows before it stores.
+use Rattle.std.specs.Prelude.{◌≡◌, Bool, ℕ, List, Option}
+use Rattle.std.specs.Arc.{arc_value}
+use Rattle.std.specs.declared.io.ErrorKind.{ErrorKind}
+use Rattle.redo_tree.specs.Tree.{Node, Tree}
+use Rattle.redo_dir.specs.Loaded.{IsLoaded}
+use Rattle.redo_mend.specs.Mended.{MendsTo}
+use Rattle.redo_run.specs.Directories.{IsBuilt, IsUnreadable, Stays}
+use Rattle.redo_run.specs.Storing.{clearing, storing, to_store}
+use Rattle.redo_run.specs.inside.Storing.{steps_left, steps_new}
+use Rattle.redo_run.specs.declared.directory.Foreseen.{Foreseen}
+use Rattle.redo_run.specs.declared.options.Options.{Options}
+use Rattle.redo_run.specs.declared.dir_fault.RunDirFault.{RunDirFault}
+use Rattle.redo_run.specs.declared.dir_fault.RunDirFault.TheVariants.{Load, Book, TooMany, Store, Journal, Left, Device, Memory}
+
+-- a tree was loaded, mended and built, and what is planned are the steps by which that is stored
+pub record IsForeseen (lists : List ℕ → List (Option (List ℕ)) → Type 0) (leads : List ℕ → Option Node → Type 0) (options : Options) (f : Foreseen) : Type 0 where
+  pub loaded : Tree
+  pub is_loaded : IsLoaded lists leads loaded f.run.passed
+  pub mends : MendsTo loaded (arc_value f.run.tree)
+  pub built : IsBuilt (arc_value f.run.tree) options f.run.report f.run.exit
+  pub left : steps_left f.plan ≡ clearing loaded (arc_value f.run.tree)
+  pub new : steps_new (arc_value f.run.tree) f.plan ≡ storing (arc_value f.run.tree) (to_store (arc_value f.run.tree) f.run.report.files.items)
+
+-- why nothing is foreseen: the directory can't be read, its book is refused, or it needs too many targets
+abbrev pub IsUnforeseen : (List ℕ → List (Option (List ℕ)) → Type 0) → (List ℕ → Option Node → Type 0) → (List ℕ → ErrorKind → Type 0) → Options → RunDirFault → Type 0
+IsUnforeseen lists leads refuses options Load = IsUnreadable lists leads refuses
+IsUnforeseen lists leads refuses options (Book n) = Stays lists leads options (Book n)
+IsUnforeseen lists leads refuses options TooMany = Stays lists leads options TooMany
+IsUnforeseen lists leads refuses options (Store place) = ⊥
+IsUnforeseen lists leads refuses options Journal = ⊥
+IsUnforeseen lists leads refuses options Left = ⊥
+IsUnforeseen lists leads refuses options Device = ⊥
+IsUnforeseen lists leads refuses options Memory = Unit {0}
