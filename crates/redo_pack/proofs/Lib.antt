@@ -1,1 +1,2 @@
 pub mod LargeLemmas
+pub mod UnpackLemmas

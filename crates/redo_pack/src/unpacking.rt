@@ -1,0 +1,110 @@
+//! A tree's directories and files, made in a directory that has none.
+
+ghost use Rattle.std.specs.Prelude.{◌≡◌, ◌++◌, ◌∷◌, [], IfErr, OnErr, OnOk};
+ghost use Rattle.std.specs.IoError.{error_kind};
+ghost use Rattle.redo_tree.specs.Tree.{node_of};
+ghost use Rattle.redo_pack.specs.Unpacks.{IsUnmade, Stops, below, is_top as is_the_top};
+
+use redo_path::Path;
+use redo_tree::{Content, Entry, Tree};
+use std::alloc::{AllocError, Global};
+use std::io;
+use std::io::ErrorKind;
+
+/// A directory in which directories and files are made. Paths are those of a tree; the directory itself is the root.
+///
+/// The ghost names keep what was asked and answered, so that contracts can speak of it.
+/// [`SystemTop`](crate::SystemTop) asks the system.
+pub trait Making {
+    ghost use Rattle.std.specs.Prelude.{◌≡◌, ◌++◌, ◌∷◌, [], IfErr, List, OnErr, OnOk, ℕ};
+    ghost use Rattle.std.specs.IoError.{error_kind};
+    ghost use Rattle.std.specs.declared.io.ErrorKind.{ErrorKind};
+    ghost use Rattle.redo_tree.specs.Tree.{Directory, File, Node};
+
+    // What was made, in this order.
+    ghost made: { Self → List (List ℕ × Node) };
+    // A call at a path was answered by this error.
+    ghost refuses: { Self → List ℕ → ErrorKind → Type 0 };
+
+    /// Makes a directory. The error is `AlreadyExists` where something has its name.
+    fn make_dir(&mut self, alloc: Global, path: &Path) -> io::Result<()>
+        ensures made { OnOk result (made self.new ≡ made self.old ++ (path.now, Directory) ∷ []) }
+        ensures kept { OnErr result (made self.new ≡ made self.old) }
+        ensures refused { IfErr result (λ error. refuses self.old path.now (error_kind error)) };
+
+    /// Makes a file. The error is `AlreadyExists` where something has its name.
+    fn make_file(&mut self, alloc: Global, path: &Path, content: &Content) -> io::Result<()>
+        ensures made { OnOk result (made self.new ≡ made self.old ++ (path.now, File content.now) ∷ []) }
+        ensures kept { OnErr result (made self.new ≡ made self.old) }
+        ensures refused { IfErr result (λ error. refuses self.old path.now (error_kind error)) };
+}
+
+/// Why a tree isn't unpacked to its end.
+#[derive(Debug, Drop)]
+pub enum UnpackFault {
+    /// The system refused a call at this path, and said this. What comes before the path was made.
+    Device(Path, ErrorKind),
+    /// Memory ran out.
+    Memory,
+}
+
+impl From<AllocError> for UnpackFault {
+    ghost use Rattle.redo_pack.specs.declared.unpacking.UnpackFault.TheVariants.{Memory};
+
+    ghost from_gives = { λ _ fault. fault ≡ Memory };
+
+    fn from(_error: AllocError) -> UnpackFault {
+        UnpackFault::Memory
+    }
+}
+
+/// Whether it is the path of the top directory, which stands already.
+fn is_top(path: &Path) -> bool
+    ensures { result ≡ is_the_top path.now }
+{
+    path.text().is_empty()
+}
+
+/// Makes what a tree has at a path.
+fn make<D: Making>(alloc: Global, dir: &mut D, path: &Path, entry: &Entry) -> io::Result<()>
+    ensures made { OnOk result (D.made dir.new ≡ D.made dir.old ++ (path.now, node_of entry.now) ∷ []) }
+    ensures kept { OnErr result (D.made dir.new ≡ D.made dir.old) }
+    ensures refused { IfErr result (λ error. D.refuses dir.old path.now (error_kind error)) }
+{
+    match entry {
+        Entry::Directory => dir.make_dir(alloc, path),
+        Entry::File(content) => dir.make_file(alloc, path, content),
+    }
+}
+
+/// The fault of a call at a path that the system refused.
+fn unmade(path: &Path, kind: ErrorKind) -> UnpackFault
+    ensures { IsUnmade result path.now kind }
+{
+    match kind {
+        ErrorKind::OutOfMemory => UnpackFault::Memory,
+        kind => match path.clone() {
+            Ok(path) => UnpackFault::Device(path, kind),
+            Err(_) => UnpackFault::Memory,
+        },
+    }
+}
+
+/// Makes the directories and files of a tree, in path order, so that a directory comes before what is in it. It stops at
+/// the first that the system refuses.
+pub fn unpack<D: Making>(alloc: Global, dir: &mut D, tree: &Tree) -> Result<(), UnpackFault>
+    ensures made { OnOk result (D.made dir.new ≡ D.made dir.old ++ below tree.now) }
+    ensures stops { IfErr result (Stops (λ path kind. (d : D) × D.refuses d path kind) (below tree.now)
+        (D.made dir.old) (D.made dir.new)) }
+{
+    let entries = tree.in_order(alloc)?.into_iter();
+    for (path, entry) in entries {
+        if is_top(path) {
+            continue;
+        }
+        if let Err(error) = make(alloc, dir, path, entry) {
+            return Err(unmade(path, error.kind()));
+        }
+    }
+    Ok(())
+}
