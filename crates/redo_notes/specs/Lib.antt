@@ -1,0 +1,3 @@
+pub mod Notes
+pub mod Texts
+pub mod inside

@@ -1,0 +1,34 @@
+-- What is printed of notes.
+use Rattle.std.specs.Prelude.{◌-◌, ◌==◌, ◌++◌, ℕ, List, [], codes, decimal, flat_map, if◌then◌else◌, length, take}
+use Rattle.redo_notes.specs.declared.kinds.Notes.{Notes}
+use Rattle.redo_notes.specs.declared.kinds.Unbuilt.{Unbuilt}
+
+-- the line of a source that has a rule
+abbrev pub unbuilt_line : Unbuilt → List ℕ
+unbuilt_line note =
+    note.path ++ codes ": no run left it so, so it counts as yours and isn't built; remove it to have " ++ note.do_file
+    ++ codes " make it\n"
+
+-- the line of a target that was built without a file
+abbrev pub unmade_line : List ℕ → List ℕ
+unmade_line path =
+    path ++ codes ": it was built without a file now, but the file of an earlier run stays; remove it, or it counts as yours from the next run on\n"
+
+-- the line of a target without a rule
+abbrev pub ruleless_line : List ℕ → List ℕ
+ruleless_line path =
+    path ++ codes ": no rule makes it any more, and its file stays; remove it, or it counts as yours from the next run on\n"
+
+-- how many more there are, if any
+abbrev pub more_line : ℕ → List ℕ
+more_line count = if count == 0 then [] else codes "and " ++ decimal count ++ codes " more like it\n"
+
+-- the lines of at most so many of these, and how many more there are
+abbrev pub some_lines : {A : Type 0} → (A → List ℕ) → ℕ → List A → List ℕ
+some_lines line most notes = flat_map line (take most notes) ++ more_line (length notes - most)
+
+-- the lines of notes, at most so many of each kind
+abbrev pub note_lines : Notes → ℕ → List ℕ
+note_lines notes most =
+    some_lines unbuilt_line most notes.unbuilt.items ++ some_lines unmade_line most notes.unmade.items
+    ++ some_lines ruleless_line most notes.ruleless.items

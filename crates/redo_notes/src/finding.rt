@@ -1,0 +1,162 @@
+//! What is found of each kind of note.
+
+ghost use Rattle.std.specs.Prelude.{◌≡◌, ◌++◌, [], List, ℕ, IfOk, OnOk};
+ghost use Rattle.std.specs.List.{cons_option};
+ghost use Rattle.redo_names.specs.Paths.{is_among};
+ghost use Rattle.redo_tree.specs.Tree.{node_of};
+ghost use Rattle.redo_book.specs.Book.{record_of};
+ghost use Rattle.redo_past.specs.Past.{is_generated as was_generated};
+ghost use Rattle.redo_notes.specs.Notes.{do_file_of as file_of_rule, is_asked, is_ruleless as has_no_rule, is_unmade as was_unmade};
+ghost use Rattle.redo_notes.specs.Notes.{ruleless as ruleless_in, unbuilt as unbuilt_in, unbuilt_at as unbuilt_by, unmade as unmade_in};
+
+use crate::asked::{asked_by, has};
+use crate::kinds::{Notes, Unbuilt};
+use redo_book::BookRecord;
+use redo_names::PathSet;
+use redo_past::Past;
+use redo_path::Path;
+use redo_record::Outcome;
+use redo_report::{Report, Row};
+use redo_tree::{Entry, Tree};
+use redo_which::Search;
+use redo_which::lookup::search;
+use std::alloc::{AllocError, Global};
+
+/// The .do file that the search for a path's rule chooses.
+fn do_file_of(alloc: Global, sources: &Tree, path: &Path) -> Result<Option<Path>, AllocError>
+    ensures { IfOk result (λ file. file ≡ file_of_rule sources.now path.now) }
+{
+    let Search { missing: _, chosen } = search(alloc, sources, path)?;
+    match chosen {
+        Some(candidate) => Ok(Some(candidate.do_file)),
+        None => Ok(None),
+    }
+}
+
+/// The note of an entry of the sources, if it is a file that was asked for and has a rule.
+fn unbuilt_at(
+    alloc: Global,
+    sources: &Tree,
+    asked: &PathSet,
+    path: &Path,
+    entry: &Entry,
+) -> Result<Option<Unbuilt>, AllocError>
+    ensures { IfOk result (λ note. note ≡ unbuilt_by sources.now (is_among asked.now) (path.now, node_of entry.now)) }
+{
+    if !matches!(entry, Entry::File(_)) || !has(asked, path) {
+        return Ok(None);
+    }
+    match do_file_of(alloc, sources, path)? {
+        Some(do_file) => Ok(Some(Unbuilt {
+            path: path.clone()?,
+            do_file,
+        })),
+        None => Ok(None),
+    }
+}
+
+/// Adds a note, if there is one.
+fn add_note(notes: &mut Vec<Unbuilt>, note: Option<Unbuilt>) -> Result<(), AllocError>
+    ensures { OnOk result (notes.new.items ≡ notes.old.items ++ cons_option note []) }
+{
+    match note {
+        Some(note) => {
+            notes.push(note)?;
+            Ok(())
+        }
+        None => Ok(()),
+    }
+}
+
+/// The sources that were asked for and have a rule, in path order.
+fn unbuilt(
+    alloc: Global,
+    past: &Past,
+    request: &[Path],
+    report: &Report,
+) -> Result<Vec<Unbuilt>, AllocError>
+    ensures { IfOk result (λ notes. notes.items ≡ unbuilt_in past.now request.now report.now) }
+{
+    let asked = asked_by(alloc, request, &report.rows)?;
+    let sources = past.sources();
+    let mut notes = Vec::new(alloc);
+    for (path, entry) in sources.in_order(alloc)? {
+        let note = unbuilt_at(alloc, sources, &asked, path, entry)?;
+        add_note(&mut notes, note)?;
+    }
+    Ok(notes)
+}
+
+/// Whether a row was built without a file, where the tree has one at its path.
+fn is_unmade(tree: &Tree, row: &Row) -> bool
+    ensures { result ≡ was_unmade tree.now row.now }
+{
+    matches!(row.outcome, Outcome::Built(None)) && tree.content(&row.path).is_some()
+}
+
+/// The targets that were built without a file and whose file of an earlier run stays, in path order.
+fn unmade(alloc: Global, past: &Past, report: &Report) -> Result<Vec<Path>, AllocError>
+    ensures { IfOk result (λ paths. paths.items ≡ unmade_in past.now report.now) }
+{
+    let mut paths = Vec::new(alloc);
+    for row in &report.rows {
+        if is_unmade(past.tree(), row) {
+            paths.push(row.path.clone()?)?;
+        }
+    }
+    Ok(paths)
+}
+
+/// Whether the file at a record's target has the digest that the record has.
+fn is_generated(tree: &Tree, made: &BookRecord) -> bool
+    ensures { result ≡ was_generated tree.now (record_of made.now) }
+{
+    match (tree.content(&made.target), &made.state) {
+        (Some(content), Some(digest)) => content.digest() == *digest,
+        _ => false,
+    }
+}
+
+/// Whether a record's target has its generated file, and no rule.
+fn is_ruleless(alloc: Global, past: &Past, made: &BookRecord) -> Result<bool, AllocError>
+    ensures { IfOk result (λ answer. answer ≡ has_no_rule past.now (record_of made.now)) }
+{
+    if !is_generated(past.tree(), made) {
+        return Ok(false);
+    }
+    Ok(do_file_of(alloc, past.sources(), &made.target)?.is_none())
+}
+
+/// The targets of the book whose generated file stays and that no rule makes, in path order.
+fn ruleless(alloc: Global, past: &Past) -> Result<Vec<Path>, AllocError>
+    ensures { IfOk result (λ paths. paths.items ≡ ruleless_in past.now) }
+{
+    let mut paths = Vec::new(alloc);
+    for made in past.book().records() {
+        if is_ruleless(alloc, past, made)? {
+            paths.push(made.target.clone()?)?;
+        }
+    }
+    Ok(paths)
+}
+
+/// What is stale after a build over a past, or soon will be.
+pub fn notes(
+    alloc: Global,
+    past: &Past,
+    request: &[Path],
+    report: &Report,
+) -> Result<Notes, AllocError>
+    ensures unbuilt { IfOk result (λ notes. notes.unbuilt.items ≡ unbuilt_in past.now request.now report.now) }
+    ensures unmade { IfOk result (λ notes. notes.unmade.items ≡ unmade_in past.now report.now) }
+    ensures ruleless { IfOk result (λ notes. notes.ruleless.items ≡ ruleless_in past.now) }
+{
+    let unbuilt = unbuilt(alloc, past, request, report)?;
+    let unmade = unmade(alloc, past, report)?;
+    let ruleless = ruleless(alloc, past)?;
+    Ok(Notes {
+        unbuilt,
+        unmade,
+        ruleless,
+    })
+}

@@ -1,0 +1,19 @@
+//! What is stale after a build, or soon will be.
+//!
+//! [`notes`] compares what a run took over from the last one with what the build came to: files that were taken for
+//! sources although a rule would make them, and files of earlier runs that no run makes any more. The crate stands on
+//! redo_past for the former and on redo_report for the latter, on redo_which for the search for a rule, and on the crates
+//! below for what these hold.
+//!
+//! - `kinds`: the three kinds; `asked`: which paths a build has asked for; `finding`: what is found of each kind;
+//! - `text`: the lines.
+#![tactic(auto)]
+
+mod asked;
+mod finding;
+mod kinds;
+mod text;
+
+pub use finding::notes;
+pub use kinds::{Notes, Unbuilt};
+pub use text::text_of;
