@@ -1,0 +1,4 @@
+pub mod Cleaned
+pub mod Planned
+pub mod Texts
+pub mod inside
