@@ -1,0 +1,10 @@
+pub mod DeepLemmas
+pub mod HonestLemmas
+pub mod KeptLemmas
+pub mod ListedLemmas
+pub mod MarkLemmas
+pub mod ReasonLemmas
+pub mod RunLemmas
+pub mod ScheduleLemmas
+pub mod StandingLemmas
+pub mod WhyExamples

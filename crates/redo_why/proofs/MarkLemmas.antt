@@ -1,0 +1,501 @@
+-- What marks and verdicts tell of a check under an ask that fits them.
+use Rattle.std.proofs.Common.{◌≡◌, ℕ, Bool, true, false, ◌⊎◌, inl, inr, List, [], ◌∷◌, Option, Some, None}
+use Rattle.std.proofs.Common.{flat_map, refl, sym, ap, ◌∙◌}
+use Rattle.std.proofs.lemmas.Bool.{cases_Bool}
+use Rattle.redo_digest.specs.Digest.{State, state_of}
+use Rattle.redo_record.specs.declared.outcome.Outcome.{Outcome}
+use Rattle.redo_record.specs.declared.outcome.Outcome.TheVariants.{Built}
+use Rattle.redo_record.specs.Paths.{IsAmong}
+use Rattle.redo_book.specs.declared.book.BookEntry.{BookEntry}
+use Rattle.redo_book.specs.declared.book.BookEntry.TheVariants.{Change, Create, Always}
+use Rattle.redo_build.specs.Rules.{Ask}
+use Rattle.redo_skip.specs.Sources.{Sources}
+use Rattle.redo_skip.specs.Checks.{is_asked, file_told, source_file, has_state, same_state, stands, lacks}
+use Rattle.redo_skip.specs.Checks.{falls, stands_if, standing, asks, finding, Check, Checks}
+use Rattle.redo_skip.proofs.CheckLemmas.{by_answer, standing-asked, standing-fixed, among-asks, found-first}
+use Rattle.redo_skip.proofs.CheckLemmas.{found-later, found-stands}
+use Rattle.redo_build.proofs.PathLemmas.{IsAmong-left, IsAmong-right}
+use Rattle.redo_build.proofs.DepthLemmas.{cases_Option}
+use Rattle.redo_why.specs.Verdicts.{Verdict, Keeps, Begins, Either, Verdicts, Mark, Holds, Drops, Unsure, Waits}
+use Rattle.redo_why.specs.Verdicts.{holds_if, mark_checked, mark_asked, mark, verdict_by, verdict, verdict_checked}
+use Rattle.redo_why.specs.OutOfDate.{drop_by, entry_path, first_drop, first_unsure, named, unsure_by}
+use Rattle.redo_why.specs.Reasons.{first_fallen}
+use Rattle.redo_why.proofs.ReasonLemmas.{by-stands, by-falls, by-lacks, first-stands, first-falls}
+
+pub cases_Mark : (m : Mark) → (m ≡ Holds) ⊎ ((m ≡ Drops) ⊎ ((m ≡ Unsure) ⊎ (m ≡ Waits)))
+cases_Mark Holds = inl refl
+cases_Mark Drops = inr (inl refl)
+cases_Mark Unsure = inr (inr (inl refl))
+cases_Mark Waits = inr (inr (inr refl))
+
+holds_if-holds : (t : Bool) → holds_if t ≡ Holds → t ≡ true
+holds_if-holds true e = refl
+holds_if-holds false e = absurd cc
+
+holds_if-drops : (t : Bool) → holds_if t ≡ Drops → t ≡ false
+holds_if-drops true e = absurd cc
+holds_if-drops false e = refl
+
+holds_if-waits : (t : Bool) → holds_if t ≡ Waits → ⊥
+holds_if-waits true e = cc
+holds_if-waits false e = cc
+
+holds_if-unsure : (t : Bool) → holds_if t ≡ Unsure → ⊥
+holds_if-unsure true e = cc
+holds_if-unsure false e = cc
+
+-- in check, kept, and with the recorded state or without
+record IsKept (state : State) (o : Option Check) (v : Option Verdict) (same : Bool) : Type 0 where
+  check : Check
+  at : o ≡ Some check
+  keeps : v ≡ Some Keeps
+  agrees : same_state (state_of check.file) state ≡ same
+
+asked-holds : (ruled : Bool) (state : State) (o : Option Check) (v : Option Verdict) →
+    mark_asked ruled state o v ≡ Holds → IsKept state o v true
+asked-holds true state None v e = absurd cc
+asked-holds false state None v e = absurd cc
+asked-holds ruled state (Some c) None e = absurd cc
+asked-holds ruled state (Some c) (Some Keeps) e =
+    record { check = c; at = refl; keeps = refl; agrees = holds_if-holds (same_state (state_of c.file) state) e }
+asked-holds ruled state (Some c) (Some Begins) e = absurd cc
+asked-holds ruled state (Some c) (Some Either) e = absurd cc
+
+asked-drops : (ruled : Bool) (state : State) (o : Option Check) (v : Option Verdict) →
+    mark_asked ruled state o v ≡ Drops → IsKept state o v false ⊎ (ruled ≡ false)
+asked-drops true state None v e = absurd cc
+asked-drops false state None v e = inr refl
+asked-drops ruled state (Some c) None e = absurd cc
+asked-drops ruled state (Some c) (Some Keeps) e =
+    inl (record { check = c; at = refl; keeps = refl; agrees = holds_if-drops (same_state (state_of c.file) state) e })
+asked-drops ruled state (Some c) (Some Begins) e = absurd cc
+asked-drops ruled state (Some c) (Some Either) e = absurd cc
+
+asked-waits : (ruled : Bool) (state : State) (o : Option Check) (v : Option Verdict) →
+    mark_asked ruled state o v ≡ Waits → ((c : Check) × (o ≡ Some c)) × (v ≡ None)
+asked-waits true state None v e = absurd cc
+asked-waits false state None v e = absurd cc
+asked-waits ruled state (Some c) None e = ((c, refl), refl)
+asked-waits ruled state (Some c) (Some Keeps) e = absurd (holds_if-waits (same_state (state_of c.file) state) e)
+asked-waits ruled state (Some c) (Some Begins) e = absurd cc
+asked-waits ruled state (Some c) (Some Either) e = absurd cc
+
+module _ (s : Sources) (k : Checks) (v : Verdicts) where
+  pub mark-asked : (state : State) (x : List ℕ) → is_asked s x ≡ true →
+      mark s k v (Change state x) ≡ mark_asked (s.has_rule x) state (k x) (v x)
+  mark-asked state x t = rw t refl
+
+  pub mark-fixed : (state : State) (x : List ℕ) → is_asked s x ≡ false →
+      mark s k v (Change state x) ≡ holds_if (has_state state (source_file s x))
+  mark-fixed state x f = rw f refl
+
+  pub verdict-first : (e : BookEntry) (m : Mark) (rest : Option Verdict) → mark s k v e ≡ m →
+      verdict_by (mark s k v e) rest ≡ verdict_by m rest
+  verdict-first e m rest is = ap (λ x. verdict_by x rest) is
+
+module _ (s : Sources) (k : Checks) (v : Verdicts) (a : Ask) where
+  -- the answer to a path is as its verdict says: it is kept; or it has no rule, and fails
+  pub record FitsAt (q : List ℕ) : Type 0 where
+    pub kept : (c : Check) → k q ≡ Some c → v q ≡ Some Keeps → a q ≡ Some (Built c.file)
+    pub lost : s.has_rule q ≡ false → (o : Outcome) × (a q ≡ Some o) × (file_told o ≡ None)
+
+  pub holds-stands : (e : BookEntry) → mark s k v e ≡ Holds → ((q : List ℕ) → IsAmong (asks s e) q → FitsAt q) →
+      standing s a e ≡ stands
+  holds-stands (Change state x) h fits = elim (cases_Bool (is_asked s x)) [
+    | inl t ↦
+        let is = asked-holds (s.has_rule x) state (k x) (v x) (sym (mark-asked s k v state x t) ∙ h) in
+        standing-asked s a state x t
+        ∙ ap (by_answer state) ((fits x (among-asks s state x t)).kept is.check is.at is.keeps)
+        ∙ ap stands_if is.agrees
+    | inr f ↦
+        standing-fixed s a state x f
+        ∙ ap stands_if (holds_if-holds (has_state state (source_file s x)) (sym (mark-fixed s k v state x f) ∙ h))
+  ]
+  holds-stands (Create x) h fits = ap stands_if (holds_if-holds (s.is_free x) h)
+  holds-stands Always h fits = absurd cc
+
+  pub drops-falls : (e : BookEntry) → mark s k v e ≡ Drops → ((q : List ℕ) → IsAmong (asks s e) q → FitsAt q) →
+      standing s a e ≡ falls
+  drops-falls (Change state x) h fits = elim (cases_Bool (is_asked s x)) [
+    | inl t ↦ elim (asked-drops (s.has_rule x) state (k x) (v x) (sym (mark-asked s k v state x t) ∙ h)) [
+      | inl is ↦
+          standing-asked s a state x t
+          ∙ ap (by_answer state) ((fits x (among-asks s state x t)).kept is.check is.at is.keeps)
+          ∙ ap stands_if is.agrees
+      | inr unruled ↦
+          let fails = (fits x (among-asks s state x t)).lost unruled in
+          standing-asked s a state x t ∙ ap (by_answer state) fails.1
+          ∙ ap (λ file. stands_if (has_state state file)) fails.2
+    ]
+    | inr f ↦
+        standing-fixed s a state x f
+        ∙ ap stands_if (holds_if-drops (has_state state (source_file s x)) (sym (mark-fixed s k v state x f) ∙ h))
+  ]
+  drops-falls (Create x) h fits = ap stands_if (holds_if-drops (s.is_free x) h)
+  drops-falls Always h fits = refl
+
+  -- what is kept by its verdict stands in the check
+  pub keeps-stands : (es : List BookEntry) → verdict s k v es ≡ Some Keeps →
+      ((q : List ℕ) → IsAmong (finding s a es).asked q → FitsAt q) → (finding s a es).standing ≡ stands
+  keeps-stands [] h fits = refl
+  keeps-stands (e ∷ es) h fits =
+      let first : (q : List ℕ) → IsAmong (asks s e) q → FitsAt q =
+      λ q m. fits q (found-first s e (standing s a e) (finding s a es) q m) in
+      elim (cases_Mark (mark s k v e)) [
+        | inl holds ↦
+            let here = holds-stands e holds first in
+            by-stands s a e (standing s a e) (finding s a es) here
+            ∙ keeps-stands es (sym (verdict-first s k v e Holds (verdict s k v es) holds) ∙ h)
+            (λ q m. fits q (found-later s e (standing s a e) (finding s a es) q here m))
+        | inr other ↦ elim other [
+          | inl drops ↦ absurd (
+              let bad : Some Begins ≡ Some Keeps = sym (verdict-first s k v e Drops (verdict s k v es) drops) ∙ h in cc)
+          | inr more ↦ elim more [
+            | inl unsure ↦ absurd (
+                let bad : Some Either ≡ Some Keeps =
+                sym (verdict-first s k v e Unsure (verdict s k v es) unsure) ∙ h in cc)
+            | inr waits ↦ absurd (
+                let bad : None ≡ Some Keeps = sym (verdict-first s k v e Waits (verdict s k v es) waits) ∙ h in cc)
+          ]
+        ]
+      ]
+
+  -- what is begun by its verdict falls in the check
+  pub begins-falls : (es : List BookEntry) → verdict s k v es ≡ Some Begins →
+      ((q : List ℕ) → IsAmong (finding s a es).asked q → FitsAt q) → (finding s a es).standing ≡ falls
+  begins-falls [] h fits = absurd (let bad : Some Keeps ≡ Some Begins = h in cc)
+  begins-falls (e ∷ es) h fits =
+      let first : (q : List ℕ) → IsAmong (asks s e) q → FitsAt q =
+      λ q m. fits q (found-first s e (standing s a e) (finding s a es) q m) in
+      elim (cases_Mark (mark s k v e)) [
+        | inl holds ↦
+            let here = holds-stands e holds first in
+            by-stands s a e (standing s a e) (finding s a es) here
+            ∙ begins-falls es (sym (verdict-first s k v e Holds (verdict s k v es) holds) ∙ h)
+            (λ q m. fits q (found-later s e (standing s a e) (finding s a es) q here m))
+        | inr other ↦ elim other [
+          | inl drops ↦ by-falls s a e (standing s a e) (finding s a es) (drops-falls e drops first)
+          | inr more ↦ elim more [
+            | inl unsure ↦ absurd (
+                let bad : Some Either ≡ Some Begins =
+                sym (verdict-first s k v e Unsure (verdict s k v es) unsure) ∙ h in cc)
+            | inr waits ↦ absurd (
+                let bad : None ≡ Some Begins = sym (verdict-first s k v e Waits (verdict s k v es) waits) ∙ h in cc)
+          ]
+        ]
+      ]
+
+  drop-later : (e d : BookEntry) (m : Mark) (rest : Option BookEntry) → (m ≡ Drops → ⊥) → drop_by e m rest ≡ Some d →
+      rest ≡ Some d
+  drop-later e d Holds rest other is = is
+  drop-later e d Drops rest other is = absurd (other refl)
+  drop-later e d Unsure rest other is = is
+  drop-later e d Waits rest other is = is
+
+  -- where an entry drops, at any place, a check doesn't stand
+  pub drop-refutes : (es : List BookEntry) (d : BookEntry) → first_drop s k v es ≡ Some d →
+      (finding s a es).standing ≡ stands → ((q : List ℕ) → IsAmong (finding s a es).asked q → FitsAt q) → ⊥
+  drop-refutes [] d is t fits = absurd cc
+  drop-refutes (e ∷ es) d is t fits =
+      let both = found-stands s e (standing s a e) (finding s a es) t in
+      let not_here : mark s k v e ≡ Drops → ⊥ = λ drops.
+      let bad : falls ≡ stands = sym (drops-falls e drops
+      (λ q m. fits q (found-first s e (standing s a e) (finding s a es) q m))) ∙ both.0 in cc in
+      drop-refutes es d (drop-later e d (mark s k v e) (first_drop s k v es) not_here is) both.1
+      (λ q m. fits q (found-later s e (standing s a e) (finding s a es) q both.0 m))
+
+-- More verdicts
+
+-- every verdict of the first is one of the second
+abbrev pub Grows : Verdicts → Verdicts → Type 0
+Grows v w = (q : List ℕ) (x : Verdict) → v q ≡ Some x → w q ≡ Some x
+
+asked-grows : (ruled : Bool) (state : State) (o : Option Check) (x y : Option Verdict) →
+    ((z : Verdict) → x ≡ Some z → y ≡ Some z) → (mark_asked ruled state o x ≡ Waits → ⊥) →
+    mark_asked ruled state o y ≡ mark_asked ruled state o x
+asked-grows ruled state None x y more goes = refl
+asked-grows ruled state (Some c) None y more goes = absurd (goes refl)
+asked-grows ruled state (Some c) (Some z) y more goes =
+    ap (mark_checked (same_state (state_of c.file) state)) (more z refl)
+
+module _ (s : Sources) (k : Checks) (v w : Verdicts) (more : Grows v w) where
+  mark-grows : (e : BookEntry) → (mark s k v e ≡ Waits → ⊥) → mark s k w e ≡ mark s k v e
+  mark-grows (Change state x) goes = elim (cases_Bool (is_asked s x)) [
+    | inl t ↦
+        mark-asked s k w state x t
+        ∙ asked-grows (s.has_rule x) state (k x) (v x) (w x) (more x) (λ e. goes (mark-asked s k v state x t ∙ e))
+        ∙ sym (mark-asked s k v state x t)
+    | inr f ↦ mark-fixed s k w state x f ∙ sym (mark-fixed s k v state x f)
+  ]
+  mark-grows (Create x) goes = refl
+  mark-grows Always goes = refl
+
+  pub verdict-grows : (es : List BookEntry) (x : Verdict) → verdict s k v es ≡ Some x → verdict s k w es ≡ Some x
+  verdict-grows [] x is = is
+  verdict-grows (e ∷ es) x is = elim (cases_Mark (mark s k v e)) [
+    | inl holds ↦
+        let there = mark-grows e (λ e'. let bad : Holds ≡ Waits = sym holds ∙ e' in cc) ∙ holds in
+        verdict-first s k w e Holds (verdict s k w es) there
+        ∙ verdict-grows es x (sym (verdict-first s k v e Holds (verdict s k v es) holds) ∙ is)
+    | inr other ↦ elim other [
+      | inl drops ↦
+          let there = mark-grows e (λ e'. let bad : Drops ≡ Waits = sym drops ∙ e' in cc) ∙ drops in
+          verdict-first s k w e Drops (verdict s k w es) there
+          ∙ (sym (verdict-first s k v e Drops (verdict s k v es) drops) ∙ is)
+      | inr more' ↦ elim more' [
+        | inl unsure ↦
+            let there = mark-grows e (λ e'. let bad : Unsure ≡ Waits = sym unsure ∙ e' in cc) ∙ unsure in
+            verdict-first s k w e Unsure (verdict s k w es) there
+            ∙ (sym (verdict-first s k v e Unsure (verdict s k v es) unsure) ∙ is)
+        | inr waits ↦ absurd (
+            let bad : None ≡ Some x = sym (verdict-first s k v e Waits (verdict s k v es) waits) ∙ is in cc)
+      ]
+    ]
+  ]
+
+  pub checked-grows : (o : Option Check) (x : Verdict) → verdict_checked s k v o ≡ Some x →
+      verdict_checked s k w o ≡ Some x
+  checked-grows None x is = is
+  checked-grows (Some c) x is = verdict-grows c.entries x is
+
+-- where each has the verdicts of the other they are the same
+pub checked-same : (s : Sources) (k : Checks) (v w : Verdicts) → Grows v w → Grows w v → (o : Option Check) →
+    verdict_checked s k v o ≡ verdict_checked s k w o
+checked-same s k v w more less o = elim (cases_Option (verdict_checked s k v o)) [
+  | inl none ↦ elim (cases_Option (verdict_checked s k w o)) [
+    | inl none' ↦ none ∙ sym none'
+    | inr some ↦ absurd (
+        let bad : None ≡ Some some.0 = sym none ∙ checked-grows s k w v less o some.0 some.1 in cc)
+  ]
+  | inr some ↦ some.1 ∙ sym (checked-grows s k v w more o some.0 some.1)
+]
+
+-- Other checks
+
+-- alike at a path: in check with the same, and with the same verdict
+abbrev pub AreAlikeAt : Checks → Verdicts → Checks → Verdicts → List ℕ → Type 0
+AreAlikeAt k v l w q = (k q ≡ l q) × (v q ≡ w q)
+
+module _ (s : Sources) (k l : Checks) (v w : Verdicts) where
+  mark-same : (e : BookEntry) → ((q : List ℕ) → IsAmong (asks s e) q → AreAlikeAt k v l w q) →
+      mark s k v e ≡ mark s l w e
+  mark-same (Change state x) alike = elim (cases_Bool (is_asked s x)) [
+    | inl t ↦
+        let here = alike x (among-asks s state x t) in
+        mark-asked s k v state x t ∙ ap (λ o. mark_asked (s.has_rule x) state o (v x)) here.0
+        ∙ ap (mark_asked (s.has_rule x) state (l x)) here.1 ∙ sym (mark-asked s l w state x t)
+    | inr f ↦ mark-fixed s k v state x f ∙ sym (mark-fixed s l w state x f)
+  ]
+  mark-same (Create x) alike = refl
+  mark-same Always alike = refl
+
+  verdict-same : (es : List BookEntry) → ((q : List ℕ) → IsAmong (flat_map (asks s) es) q → AreAlikeAt k v l w q) →
+      verdict s k v es ≡ verdict s l w es
+  verdict-same [] alike = refl
+  verdict-same (e ∷ es) alike =
+      ap (λ m. verdict_by m (verdict s k v es))
+      (mark-same e (λ q m. alike q (IsAmong-left (asks s e) (flat_map (asks s) es) q m)))
+      ∙ ap (verdict_by (mark s l w e))
+      (verdict-same es (λ q m. alike q (IsAmong-right (asks s e) (flat_map (asks s) es) q m)))
+
+  pub drop-same : (es : List BookEntry) → ((q : List ℕ) → IsAmong (flat_map (asks s) es) q → AreAlikeAt k v l w q) →
+      first_drop s k v es ≡ first_drop s l w es
+  drop-same [] alike = refl
+  drop-same (e ∷ es) alike =
+      ap (λ m. drop_by e m (first_drop s k v es))
+      (mark-same e (λ q m. alike q (IsAmong-left (asks s e) (flat_map (asks s) es) q m)))
+      ∙ ap (drop_by e (mark s l w e))
+      (drop-same es (λ q m. alike q (IsAmong-right (asks s e) (flat_map (asks s) es) q m)))
+
+  pub others-same : (o : Option Check) → ((q : List ℕ) → IsAmong (named s o) q → AreAlikeAt k v l w q) →
+      verdict_checked s k v o ≡ verdict_checked s l w o
+  others-same None alike = refl
+  others-same (Some c) alike = verdict-same c.entries alike
+
+-- What waits
+
+module _ (s : Sources) (k : Checks) (v : Verdicts) (a : Ask) where
+  -- the answer to a path isn't against its verdict: what is kept has no other file, and what waits has no answer
+  pub record LacksAt (q : List ℕ) : Type 0 where
+    pub kept : (c : Check) → k q ≡ Some c → v q ≡ Some Keeps → (a q ≡ None) ⊎ (a q ≡ Some (Built c.file))
+    pub waits : (c : Check) → k q ≡ Some c → v q ≡ None → a q ≡ None
+
+  holds-lacks : (e : BookEntry) → mark s k v e ≡ Holds → ((q : List ℕ) → IsAmong (asks s e) q → LacksAt q) →
+      (standing s a e ≡ lacks) ⊎ (standing s a e ≡ stands)
+  holds-lacks (Change state x) h lack = elim (cases_Bool (is_asked s x)) [
+    | inl t ↦
+        let is = asked-holds (s.has_rule x) state (k x) (v x) (sym (mark-asked s k v state x t) ∙ h) in
+        elim ((lack x (among-asks s state x t)).kept is.check is.at is.keeps) [
+          | inl none ↦ inl (standing-asked s a state x t ∙ ap (by_answer state) none)
+          | inr some ↦
+              inr (standing-asked s a state x t ∙ ap (by_answer state) some ∙ ap stands_if is.agrees)
+        ]
+    | inr f ↦ inr (
+        standing-fixed s a state x f
+        ∙ ap stands_if (holds_if-holds (has_state state (source_file s x)) (sym (mark-fixed s k v state x f) ∙ h)))
+  ]
+  holds-lacks (Create x) h lack = inr (ap stands_if (holds_if-holds (s.is_free x) h))
+  holds-lacks Always h lack = absurd cc
+
+  waits-lacks : (e : BookEntry) → mark s k v e ≡ Waits → ((q : List ℕ) → IsAmong (asks s e) q → LacksAt q) →
+      standing s a e ≡ lacks
+  waits-lacks (Change state x) h lack = elim (cases_Bool (is_asked s x)) [
+    | inl t ↦
+        let is = asked-waits (s.has_rule x) state (k x) (v x) (sym (mark-asked s k v state x t) ∙ h) in
+        let none = (lack x (among-asks s state x t)).waits is.0.0 is.0.1 is.1 in
+        standing-asked s a state x t ∙ ap (by_answer state) none
+    | inr f ↦ absurd (
+        holds_if-waits (has_state state (source_file s x)) (sym (mark-fixed s k v state x f) ∙ h))
+  ]
+  waits-lacks (Create x) h lack = absurd (holds_if-waits (s.is_free x) h)
+  waits-lacks Always h lack = absurd cc
+
+  -- where there is no verdict a check waits
+  pub none-lacks : (es : List BookEntry) → verdict s k v es ≡ None →
+      ((q : List ℕ) → IsAmong (finding s a es).asked q → LacksAt q) → (finding s a es).standing ≡ lacks
+  none-lacks [] h lack = absurd (let bad : Some Keeps ≡ None = h in cc)
+  none-lacks (e ∷ es) h lack =
+      let here : (q : List ℕ) → IsAmong (asks s e) q → LacksAt q =
+      λ q m. lack q (found-first s e (standing s a e) (finding s a es) q m) in
+      elim (cases_Mark (mark s k v e)) [
+        | inl holds ↦ elim (holds-lacks e holds here) [
+          | inl l ↦ by-lacks s a e (standing s a e) (finding s a es) l
+          | inr t ↦
+              by-stands s a e (standing s a e) (finding s a es) t
+              ∙ none-lacks es (sym (verdict-first s k v e Holds (verdict s k v es) holds) ∙ h)
+              (λ q m. lack q (found-later s e (standing s a e) (finding s a es) q t m))
+        ]
+        | inr other ↦ elim other [
+          | inl drops ↦ absurd (
+              let bad : Some Begins ≡ None = sym (verdict-first s k v e Drops (verdict s k v es) drops) ∙ h in cc)
+          | inr more ↦ elim more [
+            | inl unsure ↦ absurd (
+                let bad : Some Either ≡ None = sym (verdict-first s k v e Unsure (verdict s k v es) unsure) ∙ h in cc)
+            | inr waits ↦ by-lacks s a e (standing s a e) (finding s a es) (waits-lacks e waits here)
+          ]
+        ]
+      ]
+
+-- The first entry that drops is the first that fell, where the verdict is that the script is begun
+
+module _ (s : Sources) (k : Checks) (v : Verdicts) (a : Ask) where
+  drop-holds : (e : BookEntry) (m : Mark) (rest : Option BookEntry) → m ≡ Holds → drop_by e m rest ≡ rest
+  drop-holds e m rest is = rw is refl
+
+  drop-drops : (e : BookEntry) (m : Mark) (rest : Option BookEntry) → m ≡ Drops → drop_by e m rest ≡ Some e
+  drop-drops e m rest is = rw is refl
+
+  pub begins-first : (es : List BookEntry) → verdict s k v es ≡ Some Begins →
+      ((q : List ℕ) → IsAmong (finding s a es).asked q → FitsAt s k v a q) → first_fallen s a es ≡ first_drop s k v es
+  begins-first [] h fits = refl
+  begins-first (e ∷ es) h fits =
+      let first : (q : List ℕ) → IsAmong (asks s e) q → FitsAt s k v a q =
+      λ q m. fits q (found-first s e (standing s a e) (finding s a es) q m) in
+      elim (cases_Mark (mark s k v e)) [
+        | inl holds ↦
+            let here = holds-stands s k v a e holds first in
+            first-stands s a e (standing s a e) (first_fallen s a es) here
+            ∙ begins-first es (sym (verdict-first s k v e Holds (verdict s k v es) holds) ∙ h)
+            (λ q m. fits q (found-later s e (standing s a e) (finding s a es) q here m))
+            ∙ sym (drop-holds e (mark s k v e) (first_drop s k v es) holds)
+        | inr other ↦ elim other [
+          | inl drops ↦
+              first-falls s a e (standing s a e) (first_fallen s a es) (drops-falls s k v a e drops first)
+              ∙ sym (drop-drops e (mark s k v e) (first_drop s k v es) drops)
+          | inr more ↦ elim more [
+            | inl unsure ↦ absurd (
+                let bad : Some Either ≡ Some Begins =
+                sym (verdict-first s k v e Unsure (verdict s k v es) unsure) ∙ h in cc)
+            | inr waits ↦ absurd (
+                let bad : None ≡ Some Begins = sym (verdict-first s k v e Waits (verdict s k v es) waits) ∙ h in cc)
+          ]
+        ]
+      ]
+
+module _ (s : Sources) (k : Checks) (v : Verdicts) where
+  drop-some : (e : BookEntry) (m : Mark) (rest : Option BookEntry) → ((d : BookEntry) × (rest ≡ Some d)) →
+      (d : BookEntry) × (drop_by e m rest ≡ Some d)
+  drop-some e Holds rest some = some
+  drop-some e Drops rest some = (e, refl)
+  drop-some e Unsure rest some = some
+  drop-some e Waits rest some = some
+
+  -- some entry drops where the verdict is that the script is begun
+  pub begins-drop : (es : List BookEntry) → verdict s k v es ≡ Some Begins →
+      (d : BookEntry) × (first_drop s k v es ≡ Some d)
+  begins-drop [] h = absurd (let bad : Some Keeps ≡ Some Begins = h in cc)
+  begins-drop (e ∷ es) h = elim (cases_Mark (mark s k v e)) [
+    | inl holds ↦
+        drop-some e (mark s k v e) (first_drop s k v es)
+        (begins-drop es (sym (verdict-first s k v e Holds (verdict s k v es) holds) ∙ h))
+    | inr other ↦ elim other [
+      | inl drops ↦ (e, ap (λ m. drop_by e m (first_drop s k v es)) drops)
+      | inr more ↦ elim more [
+        | inl unsure ↦ absurd (
+            let bad : Some Either ≡ Some Begins = sym (verdict-first s k v e Unsure (verdict s k v es) unsure) ∙ h in cc)
+        | inr waits ↦ absurd (
+            let bad : None ≡ Some Begins = sym (verdict-first s k v e Waits (verdict s k v es) waits) ∙ h in cc)
+      ]
+    ]
+  ]
+
+-- Where the verdict is that it may be either, an entry hangs on a script
+
+-- begun by its verdict, or maybe
+abbrev pub IsOpenVerdict : Option Verdict → Type 0
+IsOpenVerdict v = (v ≡ Some Begins) ⊎ (v ≡ Some Either)
+
+-- a path with a rule that is in no check, or is begun by its verdict, or may be
+pub record IsUnsureAt (s : Sources) (k : Checks) (v : Verdicts) (q : List ℕ) : Type 0 where
+  pub target : is_asked s q ≡ true
+  pub why : ((k q ≡ None) × (s.has_rule q ≡ true)) ⊎ (((c : Check) × (k q ≡ Some c)) × IsOpenVerdict (v q))
+
+asked-unsure : (ruled : Bool) (state : State) (o : Option Check) (v : Option Verdict) →
+    mark_asked ruled state o v ≡ Unsure →
+    ((o ≡ None) × (ruled ≡ true)) ⊎ (((c : Check) × (o ≡ Some c)) × IsOpenVerdict v)
+asked-unsure true state None v e = inl (refl, refl)
+asked-unsure false state None v e = absurd cc
+asked-unsure ruled state (Some c) None e = absurd cc
+asked-unsure ruled state (Some c) (Some Keeps) e = absurd (holds_if-unsure (same_state (state_of c.file) state) e)
+asked-unsure ruled state (Some c) (Some Begins) e = inr ((c, refl), inl refl)
+asked-unsure ruled state (Some c) (Some Either) e = inr ((c, refl), inr refl)
+
+module _ (s : Sources) (k : Checks) (v : Verdicts) where
+  mark-unsure : (e : BookEntry) → mark s k v e ≡ Unsure →
+      (q : List ℕ) × IsAmong (asks s e) q × IsUnsureAt s k v q × (q ≡ entry_path e)
+  mark-unsure (Change state x) h = elim (cases_Bool (is_asked s x)) [
+    | inl t ↦
+        let why = asked-unsure (s.has_rule x) state (k x) (v x) (sym (mark-asked s k v state x t) ∙ h) in
+        (x, among-asks s state x t, record { target = t; why = why }, refl)
+    | inr f ↦ absurd (holds_if-unsure (has_state state (source_file s x)) (sym (mark-fixed s k v state x f) ∙ h))
+  ]
+  mark-unsure (Create x) h = absurd (holds_if-unsure (s.is_free x) h)
+  mark-unsure Always h = absurd cc
+
+  pub either-unsure : (es : List BookEntry) → verdict s k v es ≡ Some Either →
+      (q : List ℕ) × IsAmong (flat_map (asks s) es) q × IsUnsureAt s k v q × (q ≡ first_unsure s k v es)
+  either-unsure [] h = absurd (let bad : Some Keeps ≡ Some Either = h in cc)
+  either-unsure (e ∷ es) h = elim (cases_Mark (mark s k v e)) [
+    | inl holds ↦
+        let later = either-unsure es (sym (verdict-first s k v e Holds (verdict s k v es) holds) ∙ h) in (
+          later.0,
+          IsAmong-right (asks s e) (flat_map (asks s) es) later.0 later.1,
+          later.2,
+          later.3 ∙ sym (ap (λ m. unsure_by e m (first_unsure s k v es)) holds),
+        )
+    | inr other ↦ elim other [
+      | inl drops ↦ absurd (
+          let bad : Some Begins ≡ Some Either = sym (verdict-first s k v e Drops (verdict s k v es) drops) ∙ h in cc)
+      | inr more ↦ elim more [
+        | inl unsure ↦
+            let found = mark-unsure e unsure in (
+              found.0,
+              IsAmong-left (asks s e) (flat_map (asks s) es) found.0 found.1,
+              found.2,
+              found.3 ∙ sym (ap (λ m. unsure_by e m (first_unsure s k v es)) unsure),
+            )
+        | inr waits ↦ absurd (
+            let bad : None ≡ Some Either = sym (verdict-first s k v e Waits (verdict s k v es) waits) ∙ h in cc)
+      ]
+    ]
+  ]

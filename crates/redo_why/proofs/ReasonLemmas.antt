@@ -1,0 +1,334 @@
+-- One reason for each script that is begun, and which.
+use Rattle.std.proofs.Common.{◌≡◌, ◌↔◌, ℕ, Bool, true, false, not, ◌&&◌, cond, inl, inr, List, [], ◌∷◌, ◌++◌}
+use Rattle.std.proofs.Common.{Option, Some, None, refl, sym, ap, ◌∙◌}
+use Rattle.std.specs.Prelude.{option_and_then}
+use Rattle.std.specs.List.{AllByRecursion}
+use Rattle.std.specs.Str.{bytes_eq}
+use Rattle.std.proofs.lemmas.Bool.{cases_Bool}
+use Rattle.std.proofs.lemmas.Slice.Eq.{bytes_eq-Decides}
+use Rattle.redo_record.specs.Paths.{IsAmong, is_among}
+use Rattle.redo_book.specs.declared.book.BookEntry.{BookEntry}
+use Rattle.redo_book.specs.Book.{Record, record_at}
+use Rattle.redo_book.specs.Intact.{is_intact}
+use Rattle.redo_build.specs.Rules.{Ask, Extends}
+use Rattle.redo_skip.specs.Sources.{Sources, without_book}
+use Rattle.redo_skip.specs.Checks.{Standing, stands, lacks, falls, standing, Finding, found_by, finding, Check}
+use Rattle.redo_skip.specs.Checks.{with_book}
+use Rattle.redo_skip.specs.NewBook.{LastRun, is_valid, check_by, checks_of}
+use Rattle.redo_skip.proofs.CheckLemmas.{cases_Standing, finding-stays, found-first, found-later, standing-same}
+use Rattle.redo_why.specs.Reasons.{Reason, Requested, Unrecorded, Altered, Fallen, first_by, first_fallen}
+use Rattle.redo_why.specs.Reasons.{reason_fallen, reason_recorded, reason_of, IsFirstFallen}
+use Rattle.redo_why.proofs.StandingLemmas.{begins_checked, is_fallen}
+
+-- Of entries
+
+module _ (s : Sources) (a : Ask) where
+  pub first-stands : (e : BookEntry) (v : Standing) (rest : Option BookEntry) → v ≡ stands → first_by e v rest ≡ rest
+  first-stands e v rest t = rw t refl
+
+  pub first-falls : (e : BookEntry) (v : Standing) (rest : Option BookEntry) → v ≡ falls → first_by e v rest ≡ Some e
+  first-falls e v rest t = rw t refl
+
+  first-lacks : (e : BookEntry) (v : Standing) (rest : Option BookEntry) → v ≡ lacks → first_by e v rest ≡ None
+  first-lacks e v rest t = rw t refl
+
+  pub by-stands : (e : BookEntry) (v : Standing) (rest : Finding) → v ≡ stands → (found_by s e v rest).standing ≡ rest.standing
+  by-stands e v rest t = rw t refl
+
+  pub by-falls : (e : BookEntry) (v : Standing) (rest : Finding) → v ≡ falls → (found_by s e v rest).standing ≡ falls
+  by-falls e v rest t = rw t refl
+
+  pub by-lacks : (e : BookEntry) (v : Standing) (rest : Finding) → v ≡ lacks → (found_by s e v rest).standing ≡ lacks
+  by-lacks e v rest t = rw t refl
+
+  -- some entry is the first that fell where the check falls
+  pub falls-first : (es : List BookEntry) → (finding s a es).standing ≡ falls →
+      (e : BookEntry) × (first_fallen s a es ≡ Some e)
+  falls-first [] f = absurd cc
+  falls-first (e ∷ es) f = elim (cases_Standing (standing s a e)) [
+    | inl t ↦
+        let later = falls-first es (sym (by-stands e (standing s a e) (finding s a es) t) ∙ f) in
+        (later.0, first-stands e (standing s a e) (first_fallen s a es) t ∙ later.1)
+    | inr other ↦ elim other [
+      | inl l ↦ absurd (
+          let bad : lacks ≡ falls = sym (by-lacks e (standing s a e) (finding s a es) l) ∙ f in cc)
+      | inr d ↦ (e, first-falls e (standing s a e) (first_fallen s a es) d)
+    ]
+  ]
+
+  pub first-is : (es : List BookEntry) (e : BookEntry) → first_fallen s a es ≡ Some e → IsFirstFallen s a es e
+  first-is [] e is = absurd cc
+  first-is (x ∷ es) e is = elim (cases_Standing (standing s a x)) [
+    | inl t ↦
+        let later = first-is es e (sym (first-stands x (standing s a x) (first_fallen s a es) t) ∙ is) in
+        record {
+          before = x ∷ later.before;
+          after = later.after;
+          whole = ap (λ (xs : List BookEntry). x ∷ xs) later.whole;
+          stood = (t, later.stood);
+          fell = later.fell;
+        }
+    | inr other ↦ elim other [
+      | inl l ↦ absurd (
+          let bad : None ≡ Some e = sym (first-lacks x (standing s a x) (first_fallen s a es) l) ∙ is in cc)
+      | inr d ↦
+          let here : Some x ≡ Some e = sym (first-falls x (standing s a x) (first_fallen s a es) d) ∙ is in
+          let same : x ≡ e = cc in
+          record {
+            before = [];
+            after = es;
+            whole = ap (λ (y : BookEntry). y ∷ es) same;
+            stood = tt;
+            fell = ap (standing s a) (sym same) ∙ d;
+          }
+    ]
+  ]
+
+  is-first-in : (before after : List BookEntry) (e : BookEntry) →
+      AllByRecursion (λ x. standing s a x ≡ stands) before → standing s a e ≡ falls →
+      first_fallen s a (before ++ e ∷ after) ≡ Some e
+  is-first-in [] after e stood fell = first-falls e (standing s a e) (first_fallen s a after) fell
+  is-first-in (x ∷ xs) after e stood fell =
+      first-stands x (standing s a x) (first_fallen s a (xs ++ e ∷ after)) stood.0
+      ∙ is-first-in xs after e stood.1 fell
+
+  pub is-first : (es : List BookEntry) (e : BookEntry) → IsFirstFallen s a es e → first_fallen s a es ≡ Some e
+  is-first es e is = ap (first_fallen s a) is.whole ∙ is-first-in is.before is.after e is.stood is.fell
+
+  falls-in : (before after : List BookEntry) (e : BookEntry) →
+      AllByRecursion (λ x. standing s a x ≡ stands) before → standing s a e ≡ falls →
+      (finding s a (before ++ e ∷ after)).standing ≡ falls
+  falls-in [] after e stood fell = by-falls e (standing s a e) (finding s a after) fell
+  falls-in (x ∷ xs) after e stood fell =
+      by-stands x (standing s a x) (finding s a (xs ++ e ∷ after)) stood.0 ∙ falls-in xs after e stood.1 fell
+
+  pub first-falls-all : (es : List BookEntry) (e : BookEntry) → first_fallen s a es ≡ Some e →
+      (finding s a es).standing ≡ falls
+  first-falls-all es e is =
+      let first = first-is es e is in
+      ap (λ (xs : List BookEntry). (finding s a xs).standing) first.whole
+      ∙ falls-in first.before first.after e first.stood first.fell
+
+-- Under more answers
+
+single : (s : Sources) (e : BookEntry) (v : Standing) (a : Ask) → (found_by s e v (finding s a [])).standing ≡ v
+single s e stands a = refl
+single s e lacks a = refl
+single s e falls a = refl
+
+pub standing-stays : (s : Sources) (e : BookEntry) (a b : Ask) → Extends (without_book s) a b →
+    (standing s a e ≡ lacks → ⊥) → standing s b e ≡ standing s a e
+standing-stays s e a b more goes =
+    let stays = finding-stays s (e ∷ []) a b more (λ l. goes (sym (single s e (standing s a e) a) ∙ l)) in
+    sym (single s e (standing s b e) b) ∙ sym (ap (λ (v : Finding). v.standing) stays) ∙ single s e (standing s a e) a
+
+-- the first that fell is the same
+pub first-stays : (s : Sources) (es : List BookEntry) (e : BookEntry) (a b : Ask) → Extends (without_book s) a b →
+    first_fallen s a es ≡ Some e → first_fallen s b es ≡ Some e
+first-stays s [] e a b more is = absurd cc
+first-stays s (x ∷ es) e a b more is = elim (cases_Standing (standing s a x)) [
+  | inl t ↦
+      let there = standing-stays s x a b more (λ l. let bad : stands ≡ lacks = sym t ∙ l in cc) ∙ t in
+      let later = sym (first-stands s a x (standing s a x) (first_fallen s a es) t) ∙ is in
+      first-stands s b x (standing s b x) (first_fallen s b es) there ∙ first-stays s es e a b more later
+  | inr other ↦ elim other [
+    | inl l ↦ absurd (
+        let bad : None ≡ Some e = sym (first-lacks s a x (standing s a x) (first_fallen s a es) l) ∙ is in cc)
+    | inr d ↦
+        let there = standing-stays s x a b more (λ l. let bad : falls ≡ lacks = sym d ∙ l in cc) ∙ d in
+        first-falls s b x (standing s b x) (first_fallen s b es) there
+        ∙ sym (first-falls s a x (standing s a x) (first_fallen s a es) d) ∙ is
+  ]
+]
+
+first-rest : (e : BookEntry) (v : Standing) (x y : Option BookEntry) → (v ≡ stands → x ≡ y) →
+    first_by e v x ≡ first_by e v y
+first-rest e stands x y h = h refl
+first-rest e lacks x y h = refl
+first-rest e falls x y h = refl
+
+-- asks that agree on what the check asks for have the same first that fell
+pub first-same : (s : Sources) (es : List BookEntry) (a b : Ask) →
+    ((q : List ℕ) → IsAmong (finding s a es).asked q → a q ≡ b q) → first_fallen s a es ≡ first_fallen s b es
+first-same s [] a b same = refl
+first-same s (e ∷ es) a b same =
+    let first : standing s a e ≡ standing s b e =
+    standing-same s e a b (λ q m. same q (found-first s e (standing s a e) (finding s a es) q m)) in
+    first-rest e (standing s a e) (first_fallen s a es) (first_fallen s b es)
+    (λ t. first-same s es a b (λ q m. same q (found-later s e (standing s a e) (finding s a es) q t m)))
+    ∙ ap (λ v. first_by e v (first_fallen s b es)) first
+
+-- Of a target, by whether it is requested and by its record
+
+-- the check and the reason of a target that is requested or not, with this record or none
+abbrev pub check_from : Sources → LastRun → Bool → Option Record → Option Check
+check_from s last asked o =
+    option_and_then (λ r. cond (not asked && is_valid s last r) (Some (check_by last r)) None) o
+
+abbrev reason_from : Sources → LastRun → Ask → Bool → Option Record → Option Reason
+reason_from s last a asked o = cond asked (Some Requested) (reason_recorded s last a o)
+
+module _ (s : Sources) (last : LastRun) (a : Ask) where
+  fallen-some : (o : Option BookEntry) (why : Reason) → reason_fallen o ≡ Some why →
+      (e : BookEntry) × (o ≡ Some e) × (why ≡ Fallen e)
+  fallen-some None why is = absurd cc
+  fallen-some (Some e) why is = (e, refl, cc)
+
+  intact-begins : (r : Record) → s.has_rule r.target ≡ true → is_intact last.file r ≡ true →
+      begins_checked s (check_from s last false (Some r)) a ≡ is_fallen (finding s a r.entries).standing
+  intact-begins r ruled intact = rw (ruled, intact) refl
+
+  pub intact-reason : (r : Record) → is_intact last.file r ≡ true →
+      reason_recorded s last a (Some r) ≡ reason_fallen (first_fallen s a r.entries)
+  intact-reason r intact = rw intact refl
+
+  altered-begins : (r : Record) → s.has_rule r.target ≡ true → is_intact last.file r ≡ false →
+      begins_checked s (check_from s last false (Some r)) a ≡ true
+  altered-begins r ruled altered = rw (ruled, altered) refl
+
+  altered-reason : (r : Record) → is_intact last.file r ≡ false → reason_recorded s last a (Some r) ≡ Some Altered
+  altered-reason r altered = rw altered refl
+
+  is_fallen-falls : (v : Standing) → is_fallen v ≡ true → v ≡ falls
+  is_fallen-falls stands e = absurd cc
+  is_fallen-falls lacks e = absurd cc
+  is_fallen-falls falls e = refl
+
+  begun-from : (asked : Bool) (o : Option Record) → ((r : Record) → o ≡ Some r → s.has_rule r.target ≡ true) →
+      (begins_checked s (check_from s last asked o) a ≡ true) ↔
+      ((why : Reason) × (reason_from s last a asked o ≡ Some why))
+  begun-from true None ruled = (λ _. (Requested, refl), λ _. refl)
+  begun-from true (Some r) ruled = (λ _. (Requested, refl), λ _. refl)
+  begun-from false None ruled = (λ _. (Unrecorded, refl), λ _. refl)
+  begun-from false (Some r) ruled = elim (cases_Bool (is_intact last.file r)) [
+    | inl t ↦ (
+      λ begun.
+          let fell = falls-first s a r.entries
+          (is_fallen-falls (finding s a r.entries).standing (sym (intact-begins r (ruled r refl) t) ∙ begun)) in
+          (Fallen fell.0, intact-reason r t ∙ ap reason_fallen fell.1),
+      λ some.
+          let found = fallen-some (first_fallen s a r.entries) some.0 (sym (intact-reason r t) ∙ some.1) in
+          intact-begins r (ruled r refl) t ∙ ap is_fallen (first-falls-all s a r.entries found.0 found.1),
+    )
+    | inr f ↦ (λ _. (Altered, altered-reason r f), λ _. altered-begins r (ruled r refl) f)
+  ]
+
+  -- Which reason
+
+  requested-from : (asked : Bool) (o : Option Record) → reason_from s last a asked o ≡ Some Requested → asked ≡ true
+  requested-from true o is = refl
+  requested-from false None is = absurd (let bad : Unrecorded ≡ Requested = cc in cc)
+  requested-from false (Some r) is = elim (cases_Bool (is_intact last.file r)) [
+    | inl t ↦
+        let found = fallen-some (first_fallen s a r.entries) Requested (sym (intact-reason r t) ∙ is) in
+        absurd (let bad : Requested ≡ Fallen found.0 = found.2 in cc)
+    | inr f ↦ absurd (let bad : Some Altered ≡ Some Requested = sym (altered-reason r f) ∙ is in cc)
+  ]
+
+  unrecorded-from : (asked : Bool) (o : Option Record) → reason_from s last a asked o ≡ Some Unrecorded →
+      (asked ≡ false) × (o ≡ None)
+  unrecorded-from true o is = absurd cc
+  unrecorded-from false None is = (refl, refl)
+  unrecorded-from false (Some r) is = elim (cases_Bool (is_intact last.file r)) [
+    | inl t ↦
+        let found = fallen-some (first_fallen s a r.entries) Unrecorded (sym (intact-reason r t) ∙ is) in
+        absurd (let bad : Unrecorded ≡ Fallen found.0 = found.2 in cc)
+    | inr f ↦ absurd (let bad : Some Altered ≡ Some Unrecorded = sym (altered-reason r f) ∙ is in cc)
+  ]
+
+  altered-from : (asked : Bool) (o : Option Record) → reason_from s last a asked o ≡ Some Altered →
+      (asked ≡ false) × ((r : Record) × (o ≡ Some r) × (is_intact last.file r ≡ false))
+  altered-from true o is = absurd cc
+  altered-from false None is = absurd cc
+  altered-from false (Some r) is = elim (cases_Bool (is_intact last.file r)) [
+    | inl t ↦
+        let found = fallen-some (first_fallen s a r.entries) Altered (sym (intact-reason r t) ∙ is) in
+        absurd (let bad : Altered ≡ Fallen found.0 = found.2 in cc)
+    | inr f ↦ (refl, (r, refl, f))
+  ]
+
+  fallen-from : (asked : Bool) (o : Option Record) (e : BookEntry) → reason_from s last a asked o ≡ Some (Fallen e) →
+      (asked ≡ false) × ((r : Record) × (o ≡ Some r) × (is_intact last.file r ≡ true) × IsFirstFallen s a r.entries e)
+  fallen-from true o e is = absurd cc
+  fallen-from false None e is = absurd cc
+  fallen-from false (Some r) e is = elim (cases_Bool (is_intact last.file r)) [
+    | inl t ↦
+        let found = fallen-some (first_fallen s a r.entries) (Fallen e) (sym (intact-reason r t) ∙ is) in
+        let same : e ≡ found.0 = cc in
+        (refl, (r, refl, t, first-is s a r.entries e (found.1 ∙ ap (λ (x : BookEntry). Some x) (sym same))))
+    | inr f ↦ absurd (let bad : Some Altered ≡ Some (Fallen e) = sym (altered-reason r f) ∙ is in cc)
+  ]
+
+pub found-target : (book : List Record) (p : List ℕ) (r : Record) → record_at book p ≡ Some r → r.target ≡ p
+found-target [] p r e = absurd cc
+found-target (x ∷ book) p r e = elim (cases_Bool (bytes_eq x.target p)) [
+  | inl t ↦
+      let here : Some x ≡ Some r = rw t at e in
+      let same : x ≡ r = cc in
+      ap (λ (y : Record). y.target) (sym same) ∙ (bytes_eq-Decides x.target p).0 t
+  | inr f ↦ found-target book p r (rw f at e)
+]
+
+module _ (s : Sources) (last : LastRun) (request : List (List ℕ)) where
+  -- a script is begun exactly where there is a reason
+  pub begun-reason : (a : Ask) (p : List ℕ) → s.has_rule p ≡ true →
+      ((with_book s (checks_of s last request)).begins p a ≡ true) ↔
+      ((why : Reason) × (reason_of s last request a p ≡ Some why))
+  begun-reason a p ruled = begun-from s last a (is_among request p) (record_at last.book p)
+      (λ r e. ap s.has_rule (found-target last.book p r e) ∙ ruled)
+
+  pub reason-requested : (a : Ask) (p : List ℕ) →
+      (reason_of s last request a p ≡ Some Requested) ↔ (is_among request p ≡ true)
+  reason-requested a p = (
+    requested-from s last a (is_among request p) (record_at last.book p),
+    λ t. rw t refl,
+  )
+
+  pub reason-unrecorded : (a : Ask) (p : List ℕ) → (reason_of s last request a p ≡ Some Unrecorded) ↔
+      ((is_among request p ≡ false) × (record_at last.book p ≡ None))
+  reason-unrecorded a p = (
+    unrecorded-from s last a (is_among request p) (record_at last.book p),
+    λ parts. rw parts.0 (rw parts.1 refl),
+  )
+
+  pub reason-altered : (a : Ask) (p : List ℕ) → (reason_of s last request a p ≡ Some Altered) ↔
+      ((is_among request p ≡ false) ×
+      ((r : Record) × (record_at last.book p ≡ Some r) × (is_intact last.file r ≡ false)))
+  reason-altered a p = (
+    altered-from s last a (is_among request p) (record_at last.book p),
+    λ parts. rw parts.0 (rw parts.1.1 (altered-reason s last a parts.1.0 parts.1.2)),
+  )
+
+  pub reason-fallen : (a : Ask) (p : List ℕ) (e : BookEntry) → (reason_of s last request a p ≡ Some (Fallen e)) ↔
+      ((is_among request p ≡ false) × ((r : Record) × (record_at last.book p ≡ Some r) × (is_intact last.file r ≡ true) ×
+      IsFirstFallen s a r.entries e))
+  reason-fallen a p e = (
+    fallen-from s last a (is_among request p) (record_at last.book p) e,
+    λ parts. rw parts.0 (rw parts.1.1 (intact-reason s last a parts.1.0 parts.1.2
+        ∙ ap reason_fallen (is-first s a parts.1.0.entries e parts.1.3))),
+  )
+
+  pub reason-recorded : (a : Ask) (p : List ℕ) (r : Record) → is_among request p ≡ false →
+      record_at last.book p ≡ Some r → is_intact last.file r ≡ true → (e : BookEntry) → first_fallen s a r.entries ≡ Some e →
+      reason_of s last request a p ≡ Some (Fallen e)
+  reason-recorded a p r free at intact e is =
+      rw free (rw at (intact-reason s last a r intact ∙ ap reason_fallen is))
+
+  -- under more answers it is the same
+  pub reason-stays : (a b : Ask) (p : List ℕ) (why : Reason) → Extends (without_book s) a b →
+      reason_of s last request a p ≡ Some why → reason_of s last request b p ≡ Some why
+  reason-stays a b p Requested more is = (reason-requested b p).1 ((reason-requested a p).0 is)
+  reason-stays a b p Unrecorded more is = (reason-unrecorded b p).1 ((reason-unrecorded a p).0 is)
+  reason-stays a b p Altered more is = (reason-altered b p).1 ((reason-altered a p).0 is)
+  reason-stays a b p (Fallen e) more is =
+      let parts = (reason-fallen a p e).0 is in
+      (reason-fallen b p e).1 (
+        parts.0,
+        (
+          parts.1.0,
+          parts.1.1,
+          parts.1.2,
+          first-is s b parts.1.0.entries e
+              (first-stays s parts.1.0.entries e a b more (is-first s a parts.1.0.entries e parts.1.3)),
+        ),
+      )

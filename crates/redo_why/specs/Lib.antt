@@ -1,0 +1,4 @@
+pub mod OutOfDate
+pub mod Reasons
+pub mod Runs
+pub mod Verdicts

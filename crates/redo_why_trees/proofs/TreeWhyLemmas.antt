@@ -1,0 +1,123 @@
+-- The laws of reasons and lists, over a tree.
+use Rattle.std.proofs.Common.{◌≡◌, ℕ, inl, inr, List, [], ◌∷◌, map, Some, None}
+use Rattle.std.proofs.Common.{All, ap, subst, ◌∙◌}
+use Rattle.std.proofs.lemmas.Bool.{both_ways}
+use Rattle.std.proofs.lemmas.List.Elements.{All-head, All-tail}
+use Rattle.redo_record.specs.Paths.{IsAmong}
+use Rattle.redo_book.specs.Book.{Record, record_at}
+use Rattle.redo_build.specs.Rules.{Ask, AreLawful}
+use Rattle.redo_build.specs.Outcomes.{outcome_at, final_outcome}
+use Rattle.redo_report.specs.Reports.{IsReport, deps_of}
+use Rattle.std.specs.Arc.{arc_value}
+use Rattle.redo_report.specs.declared.report.Report.{Report}
+use Rattle.redo_report.specs.declared.report.Row.{Row}
+use Rattle.redo_skip.specs.NewBook.{LastRun, IsGood, AreHonestRecords, IsHonestRecord}
+use Rattle.redo_skip.specs.Sources.{Sources, without_book}
+use Rattle.redo_skip.specs.Truth.{IsBegun}
+use Rattle.redo_why.specs.Reasons.{Reason}
+use Rattle.redo_why.specs.OutOfDate.{Stale, Ring}
+use Rattle.redo_why.specs.Runs.{Needs}
+use Rattle.redo_why.proofs.ReasonLemmas.{begun-reason}
+use Rattle.redo_why.proofs.RunLemmas.{unlisted-kept, stale-begun, ring-cyclic}
+use Rattle.redo_why.proofs.ScheduleLemmas.{reason-told}
+use Rattle.redo_core.specs.Build.{GivenView, last_run_of, plain_rules_for, rules_for, sources_by, sources_for}
+use Rattle.redo_core.specs.TreeSources.{HasHonestBook, IsTrueOfTrees, IsUnconfused}
+use Rattle.redo_core.proofs.AlikeTreeLemmas.{trees-alike}
+use Rattle.redo_core.proofs.GoodTreeLemmas.{trees-good}
+use Rattle.redo_core.proofs.LawfulTreeLemmas.{rules_lawful}
+use Rattle.redo_why_trees.specs.TreeWhy.{IsNeededFor, TellsOf, listed_for, reason_for}
+
+module _ (given : GivenView) where
+  abbrev s : Sources
+  s = sources_for given
+
+  abbrev last : LastRun
+  last = last_run_of given.past
+
+  abbrev limit : ℕ
+  limit = given.limits.targets
+
+  abbrev end : Ask
+  end = outcome_at (rules_for given) limit
+
+  lawful : AreLawful (without_book s)
+  lawful = rules_lawful given.past.sources given.limits
+
+  good : IsGood s
+  good = trees-good given.past.sources given.limits
+
+  honest-record : (r : Record) (truth : IsTrueOfTrees given.limits.file_bytes r) → IsUnconfused given r truth →
+      IsHonestRecord s last (outcome_at (plain_rules_for given) limit) r
+  honest-record r truth apart = record {
+    truth = record { sources = sources_by truth.tree given.limits.file_bytes; ask = truth.ask; witness = truth.witness };
+    alike =
+        trees-alike truth.tree given.past.sources given.limits.file_bytes truth.ask
+        (outcome_at (plain_rules_for given) limit) r.target;
+    result = apart.made;
+    apart = apart.met;
+  }
+
+  honest-records : HasHonestBook given → AreHonestRecords s last (outcome_at (plain_rules_for given) limit)
+  honest-records all p r e = let one = all p r e in honest-record r one.0 one.1
+
+  module _ (report : Report) (is : IsReport (rules_for given) given.request limit report) where
+    needs : (p : List ℕ) → IsNeededFor given p → Needs s last given.request limit p
+    needs p n = elim n.free [
+      | inl alone ↦ inl (record { few = is.within; needed = n.needed; alone = alone })
+      | inr honest ↦ inr (record {
+        few = honest.few;
+        needed = n.needed;
+        unasked = honest.unasked;
+        honest = honest-records honest.honest;
+      })
+    ]
+
+    begun-of : (p : List ℕ) → IsAmong report.begun.items p → IsBegun (rules_for given) given.request limit p
+    begun-of p m =
+        let parts = (is.begun p).0 m in record { needed = parts.0; ruled = parts.1; begins = parts.2 }
+
+    pub unlisted-report : (p : List ℕ) (r : Record) → record_at given.past.book p ≡ Some r → IsNeededFor given p →
+        listed_for given p ≡ None → IsAmong report.begun.items p → ⊥
+    unlisted-report p r at n none m =
+        let kept = unlisted-kept s last given.request limit lawful good p r at (needs p n) none in
+        both_ways _ kept.waits ((is.begun p).0 m).2
+
+    pub stale-report : (p : List ℕ) (r : Record) → record_at given.past.book p ≡ Some r → IsNeededFor given p →
+        (why : Reason) → listed_for given p ≡ Some (Stale why) → (end p ≡ None → ⊥) → IsAmong report.begun.items p
+    stale-report p r at n why stale ended =
+        let begun = stale-begun s last given.request limit lawful good p r at (needs p n) why stale ended in
+        (is.begun p).1 (begun.needed, begun.ruled, begun.begins)
+
+    pub ring-report : (p : List ℕ) (r : Record) → record_at given.past.book p ≡ Some r → IsNeededFor given p →
+        listed_for given p ≡ Some Ring → IsAmong report.begun.items p → ⊥
+    ring-report p r at n ring m =
+        let cyclic = ring-cyclic s last given.request limit lawful good p r at (needs p n) ring in
+        both_ways _ cyclic.1 ((is.begun p).0 m).2
+
+    told-row : (rows : List Row) (b : Ask) (q : List ℕ) → All (λ row. b row.path ≡ Some row.outcome) rows →
+        All (λ row. (row.outcome ≡ final_outcome (rules_for given) limit row.path) ×
+        (arc_value row.deps ≡ deps_of (rules_for given) limit row.path)) rows →
+        IsAmong (map (λ row. row.path) rows) q → b q ≡ Some (final_outcome (rules_for given) limit q)
+    told-row [] b q tells ends m = absurd m
+    told-row (x ∷ xs) b q tells ends m = elim m [
+      | inl here ↦
+          let P : List ℕ → Type 0 = λ y. b y ≡ Some (final_outcome (rules_for given) limit y) in
+          let told : b x.path ≡ Some x.outcome = All-head (λ (row : Row). b row.path ≡ Some row.outcome) x xs tells in
+          let ended = All-head (λ (row : Row). (row.outcome ≡ final_outcome (rules_for given) limit row.path) ×
+          (arc_value row.deps ≡ deps_of (rules_for given) limit row.path)) x xs ends in
+          subst P here (told ∙ ap (λ o. Some o) ended.0)
+      | inr later ↦ told-row xs b q (All-tail (λ (row : Row). b row.path ≡ Some row.outcome) x xs tells)
+          (All-tail (λ (row : Row). (row.outcome ≡ final_outcome (rules_for given) limit row.path) ×
+          (arc_value row.deps ≡ deps_of (rules_for given) limit row.path)) x xs ends) later
+    ]
+
+    pub report-reasons : (b : Ask) → TellsOf report b → (p : List ℕ) → IsAmong report.begun.items p →
+        (why : Reason) × (reason_for given end p ≡ Some why) × (reason_for given b p ≡ Some why)
+    report-reasons b tells p m =
+        let begun = begun-of p m in
+        let why = (begun-reason s last given.request end p begun.ruled).0 begun.begins in (
+          why.0,
+          why.1,
+          reason-told s last given.request limit lawful good is.within b
+              (λ q n. told-row report.rows.items b q tells is.outcomes ((is.rows q).1 (inl n))) p begun why.0 why.1,
+        )
