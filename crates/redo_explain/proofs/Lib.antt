@@ -1,0 +1,3 @@
+pub mod AlteredLemmas
+pub mod BegunLemmas
+pub mod RowLemmas

@@ -1,0 +1,4 @@
+pub mod Explained
+pub mod Views
+pub mod Words
+pub mod inside
