@@ -1,0 +1,9 @@
+pub mod GoneLemmas
+pub mod ItemLemmas
+pub mod LineLemmas
+pub mod RestingLemmas
+pub mod RingLemmas
+pub mod ScanLemmas
+pub mod StepLemmas
+pub mod TableLemmas
+pub mod WordLemmas

@@ -1,0 +1,5 @@
+pub mod Items
+pub mod Lines
+pub mod Resting
+pub mod Rows
+pub mod Verdicts

@@ -1,0 +1,22 @@
+//! What is out of date: the targets of the book that the next run would begin, or may, told without building.
+//!
+//! [`out_of_date`] lists them, one a line with the reason, for every run or for one that requests some paths. It stands on
+//! redo_past for the tree, its sources and its book, on redo_which for rules, on redo_core for the definition of a run's
+//! checks, on redo_why for what may be told of a run before any script runs, and on redo_explain for the words of reasons.
+//!
+//! - `list`: the list; `text`: its lines;
+//! - `items`: what the tree alone tells of each entry; `verdicts`: what follows for each record; `words`: what is told of
+//!   one;
+//! - `asked`: which targets a run is asked about: all, or what its request rests on;
+//! - [`laws`]: what a list tells of runs.
+#![tactic(auto)]
+
+mod asked;
+mod items;
+pub mod laws;
+mod list;
+mod text;
+mod verdicts;
+mod words;
+
+pub use list::out_of_date;
