@@ -1,0 +1,3 @@
+pub mod AmongLemmas
+pub mod GraphLemmas
+pub mod TextLemmas

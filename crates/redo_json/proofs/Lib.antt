@@ -1,0 +1,3 @@
+pub mod ReasonLemmas
+pub mod TextLemmas
+pub mod ToldLemmas

@@ -1,0 +1,99 @@
+-- What a row of a report is told as: tokens of JSON. `print` of the json crate gives the text of tokens.
+use Rattle.std.specs.Prelude.{Bool, true, false, ℕ, List, [], ◌∷◌, ◌++◌, Option, Some, None, codes, decimal, flat_map, length}
+use Rattle.std.specs.Prelude.{if◌then◌else◌, is_some}
+use Rattle.std.specs.Arc.{arc_value}
+use Rattle.std.specs.Str.{is_utf8}
+use Rattle.std.specs.Str.Lossy.{utf8_lossy}
+use Rattle.hex.specs.Hex.{encode_lower}
+use Rattle.json.specs.Token.{Token, begin_object, end_object, begin_array, end_array, key, string, number, boolean}
+use Rattle.redo_record.specs.declared.deps.Dep.{Dep}
+use Rattle.redo_record.specs.declared.deps.DepKind.{DepKind}
+use Rattle.redo_record.specs.declared.deps.DepKind.TheVariants as kinds
+use Rattle.redo_record.specs.declared.outcome.Outcome.{Outcome}
+use Rattle.redo_record.specs.declared.outcome.Outcome.TheVariants as outcomes
+use Rattle.redo_record.specs.declared.outcome.Why.{Why}
+use Rattle.redo_record.specs.declared.outcome.Why.TheVariants as whys
+use Rattle.redo_report.specs.ReportText.{why_words}
+use Rattle.redo_report.specs.declared.report.Row.{Row}
+use Rattle.redo_which.specs.Rule.{Found}
+use Rattle.redo_why.specs.Reasons.{Reason}
+use Rattle.redo_explain.specs.Words.{reason_words}
+
+-- a member whose value is a text
+abbrev pub text_member : List ℕ → List ℕ → List Token
+text_member name text = key name ∷ string text ∷ []
+
+-- a member whose value is a number
+abbrev pub number_member : List ℕ → ℕ → List Token
+number_member name n = key name ∷ number (decimal n) ∷ []
+
+-- a path that isn't UTF-8 is told twice: readable, and as the hex text of its bytes
+abbrev pub hex_members : List ℕ → List Token
+hex_members path = if is_utf8 path then [] else text_member (codes "path_hex") (encode_lower path)
+
+abbrev pub path_members : List ℕ → List Token
+path_members path = text_member (codes "path") (utf8_lossy path) ++ hex_members path
+
+-- an entry of a record; `always` has no path
+abbrev pub entry_members : DepKind → List ℕ → List Token
+entry_members kinds.Change path = text_member (codes "kind") (codes "change") ++ path_members path
+entry_members kinds.Create path = text_member (codes "kind") (codes "create") ++ path_members path
+entry_members kinds.Always path = text_member (codes "kind") (codes "always")
+
+abbrev pub entry_tokens : Dep → List Token
+entry_tokens dep = begin_object ∷ [] ++ entry_members dep.kind dep.path ++ end_object ∷ []
+
+-- the word for what became of a path, by whether its script was begun: a target that was built and not begun was kept
+abbrev pub outcome_word : Outcome → Bool → List ℕ
+outcome_word outcomes.Source begun = codes "source"
+outcome_word (outcomes.Built file) true = codes "built"
+outcome_word (outcomes.Built file) false = codes "kept"
+outcome_word (outcomes.Failed why) begun = codes "failed"
+outcome_word outcomes.Cyclic begun = codes "cyclic"
+
+-- the line of the script that a failure names, if it names one
+abbrev pub line_of : Why → Option ℕ
+line_of whys.NoRule = None
+line_of whys.Directory = None
+line_of whys.NoDirectory = None
+line_of (whys.Script fault) = Some fault.line
+line_of (whys.Exit status) = None
+line_of (whys.Depends line) = Some line
+line_of (whys.Unquoted line) = Some line
+line_of (whys.Outside line) = Some line
+line_of (whys.Undeclared line) = Some line
+line_of (whys.Exists line) = Some line
+line_of (whys.Buildable line) = Some line
+line_of (whys.Direct line) = Some line
+line_of (whys.Elsewhere line) = Some line
+line_of whys.BothOutputs = None
+line_of (whys.TooLarge line) = Some line
+line_of (whys.Format line) = Some line
+
+abbrev pub line_members : Option ℕ → List Token
+line_members None = []
+line_members (Some line) = number_member (codes "line") line
+
+-- how many bytes a file has, and why a target failed, in the words of a report
+abbrev pub outcome_members : Outcome → List Token
+outcome_members outcomes.Source = []
+outcome_members (outcomes.Built None) = []
+outcome_members (outcomes.Built (Some bytes)) = number_member (codes "bytes") (length bytes)
+outcome_members (outcomes.Failed why) = text_member (codes "reason") (why_words why) ++ line_members (line_of why)
+outcome_members outcomes.Cyclic = []
+
+-- whether the script was begun, and why
+abbrev pub begun_members : (List ℕ → Found) → Option Reason → List Token
+begun_members found None = key (codes "begun") ∷ boolean false ∷ []
+begun_members found (Some reason) =
+    (key (codes "begun") ∷ boolean true ∷ []) ++ text_member (codes "why") (utf8_lossy (reason_words found reason))
+
+abbrev pub deps_member : List Dep → List Token
+deps_member deps = (key (codes "deps") ∷ begin_array ∷ []) ++ flat_map entry_tokens deps ++ end_array ∷ []
+
+-- a row, with the reason for which its script was begun, if it was
+abbrev pub row_tokens : (List ℕ → Found) → Option Reason → Row → List Token
+row_tokens found reason row =
+    begin_object ∷ [] ++ path_members row.path
+    ++ text_member (codes "outcome") (outcome_word row.outcome (is_some reason)) ++ outcome_members row.outcome
+    ++ begun_members found reason ++ deps_member (arc_value row.deps) ++ end_object ∷ []

@@ -1,0 +1,66 @@
+-- What a report is told as: one object of JSON, and a newline.
+use Rattle.std.specs.Prelude.{◌≡◌, Bool, ℕ, List, [], ◌∷◌, ◌++◌, Option, bytes_eq, codes, count_by, flat_map, is_some}
+use Rattle.std.specs.Map.{lookup}
+use Rattle.json.specs.Print.{print}
+use Rattle.json.specs.Token.{Token, begin_object, end_object, begin_array, end_array, key}
+use Rattle.redo_report.specs.declared.report.Report.{Report}
+use Rattle.redo_report.specs.declared.report.Row.{Row}
+use Rattle.redo_which.specs.Rule.{Found, found_of}
+use Rattle.redo_past.specs.Past.{PastView}
+use Rattle.redo_step.specs.Limits.{LimitsView}
+use Rattle.redo_core.specs.Build.{GivenView}
+use Rattle.redo_core.specs.Results.{IsGiven, IsResult}
+use Rattle.redo_why.specs.Reasons.{Reason}
+use Rattle.redo_explain.specs.Explained.{AreReasons}
+use Rattle.redo_json.specs.Members.{number_member, outcome_word, row_tokens}
+
+-- the reason for which the script of each path was begun, if it was
+abbrev pub Reasons : Type 0
+Reasons = List ℕ → Option Reason
+
+-- the reasons of these begun scripts
+abbrev pub reasons_in : List (List ℕ × Reason) → Reasons
+reasons_in begun path = lookup (bytes_eq path) begun
+
+-- whether this is the word for what became of a row
+abbrev pub has_word : Reasons → List ℕ → Row → Bool
+has_word reasons word row = bytes_eq (outcome_word row.outcome (is_some (reasons row.path))) word
+
+-- how many rows have that word
+unfoldable pub count_of : Reasons → List Row → List ℕ → ℕ
+count_of reasons rows word = count_by (has_word reasons word) rows
+
+abbrev pub count_member : Reasons → List Row → List ℕ → List ℕ → List Token
+count_member reasons rows name word = number_member name (count_of reasons rows word)
+
+abbrev pub built_members : Reasons → List Row → List Token
+built_members reasons rows =
+    count_member reasons rows (codes "built") (codes "built") ++ count_member reasons rows (codes "kept") (codes "kept")
+
+abbrev pub other_members : Reasons → List Row → List Token
+other_members reasons rows =
+    count_member reasons rows (codes "failed") (codes "failed")
+    ++ count_member reasons rows (codes "cyclic") (codes "cyclic")
+    ++ count_member reasons rows (codes "sources") (codes "source")
+
+abbrev pub summary_tokens : Reasons → List Row → List Token
+summary_tokens reasons rows = begin_object ∷ [] ++ built_members reasons rows ++ other_members reasons rows ++ end_object ∷ []
+
+abbrev pub rows_tokens : (List ℕ → Found) → Reasons → List Row → List Token
+rows_tokens found reasons rows = flat_map (λ row. row_tokens found (reasons row.path) row) rows
+
+-- the status, the rows in the report's order, and how many there are of each kind
+abbrev pub report_tokens : (List ℕ → Found) → Reasons → ℕ → List Row → List Token
+report_tokens found reasons status rows =
+    begin_object ∷ [] ++ number_member (codes "status") status
+    ++ (key (codes "targets") ∷ begin_array ∷ []) ++ rows_tokens found reasons rows
+    ++ (end_array ∷ key (codes "summary") ∷ []) ++ summary_tokens reasons rows ++ end_object ∷ []
+
+-- the text tells the report with some begun scripts and reasons; these are the scripts that a build of this past and
+-- request has begun, each with the reason for which it was begun, if the report is what that build came to
+pub record IsTold (past : PastView) (request : List (List ℕ)) (report : Report) (status : ℕ) (text : List ℕ) : Type 0 where
+  pub begun : List (List ℕ × Reason)
+  pub text_is :
+      text ≡ print (report_tokens (found_of past.sources) (reasons_in begun) status report.rows.items) ++ 10 ∷ []
+  pub reasons : (limits : LimitsView) (given : GivenView) → IsGiven past.tree request limits given →
+      IsResult given report → AreReasons given report begun
