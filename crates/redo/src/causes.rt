@@ -20,12 +20,33 @@ pub(crate) fn of_target(alloc: Global, bad: Option<(&str, PathFault)>) -> Words 
     }
 }
 
+/// Why a build needs `-k`.
+pub(crate) fn of_no_keep_going(alloc: Global) -> Words {
+    Ok(Some(format!(in alloc;
+        "a build that stopped at its first failure would come to other files for each order of its scripts; say redo -k"
+    )?))
+}
+
 /// The cause of a run's fault: the entry of the bundle, the directory or file, the book, or the limit.
 pub(crate) fn of_fault(alloc: Global, fault: Fault, cause: &Cause, action: &Action) -> Words {
     match fault {
         Fault::Bundle(fault) => of_bundle(alloc, fault, &cause.header),
         Fault::Directory => of_unread(alloc, cause, action.directory()),
-        Fault::Output | Fault::Journal | Fault::Left => of_place(alloc, cause),
+        Fault::Unstored | Fault::Unremoved | Fault::Journal | Fault::Left => {
+            of_place(alloc, cause)
+        }
+        Fault::NoBook => Ok(Some(format!(in alloc;
+            "no run has left a book in {:?}, so every file there counts as yours",
+            action.directory()
+        )?)),
+        Fault::NotEmpty => Ok(Some(format!(in alloc;
+            "{:?} has names; a bundle is unpacked into an empty directory or a new one",
+            action.directory()
+        )?)),
+        Fault::Output if action.stores_first() => Ok(Some(format!(in alloc;
+            "the files and the book are stored; only the report is lost"
+        )?)),
+        Fault::Output => Ok(None),
         Fault::Busy => Ok(Some(format!(in alloc;
             "the lock of {:?} is held; a run gives it back when it ends, however it ends",
             action.directory()

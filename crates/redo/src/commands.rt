@@ -1,60 +1,75 @@
 //! The options that say what is done in place of a build, and which options don't go together.
 
 use crate::options::{Refusal, target};
+use clap::parser::ValueSource;
 use clap::{Arg, ArgAction, ArgMatches, Command};
-use redo_path::PathFault;
+use redo_path::{Path, PathFault};
 use redo_query::Question;
 use std::alloc::{AllocError, Global};
 
-/// An option: by which name the parser knows it, how users write it, and whether it has a value.
-struct Named {
-    id: &'static str,
-    shown: &'static str,
-    has_value: bool,
-}
+/// An option: by which name the parser knows it, and how users write it.
+#[derive(Clone, Copy)]
+struct Named(&'static str, &'static str);
+
+const OOD: Named = Named("ood", "--ood");
+
+const PACK: Named = Named("pack", "--pack");
+
+const UNPACK: Named = Named("unpack", "--unpack");
+
+const CLEAN: Named = Named("clean", "--clean");
+
+const BUNDLE: Named = Named("bundle", "--bundle");
+
+const DIRECTORY: Named = Named("directory", "-C");
+
+const TOP: Named = Named("top", "--top");
+
+const SYNC: Named = Named("sync", "--sync");
+
+const DRY_RUN: Named = Named("dry-run", "-n");
+
+const EXPLAIN: Named = Named("explain", "--explain");
+
+const STRICT: Named = Named("strict", "--strict");
+
+const FORMAT: Named = Named("format", "--format");
 
 /// What is done in place of a build. Each of these options excludes the others.
-static COMMANDS: [Named; 6] = [
-    Named {
-        id: "whichdo",
-        shown: "--whichdo",
-        has_value: true,
-    },
-    Named {
-        id: "list-targets",
-        shown: "--targets",
-        has_value: false,
-    },
-    Named {
-        id: "list-sources",
-        shown: "--sources",
-        has_value: false,
-    },
-    Named {
-        id: "deps",
-        shown: "--deps",
-        has_value: true,
-    },
-    Named {
-        id: "rdeps",
-        shown: "--rdeps",
-        has_value: true,
-    },
-    Named {
-        id: "pack",
-        shown: "--pack",
-        has_value: false,
-    },
+static COMMANDS: [Named; 9] = [
+    Named("whichdo", "--whichdo"),
+    Named("list-targets", "--targets"),
+    Named("list-sources", "--sources"),
+    Named("deps", "--deps"),
+    Named("rdeps", "--rdeps"),
+    OOD,
+    PACK,
+    UNPACK,
+    CLEAN,
 ];
+
+/// Other options that exclude each other.
+static PAIRS: [(Named, Named); 11] = [
+    (PACK, BUNDLE),
+    (UNPACK, BUNDLE),
+    (UNPACK, TOP),
+    (CLEAN, BUNDLE),
+    (BUNDLE, DIRECTORY),
+    (BUNDLE, TOP),
+    (BUNDLE, SYNC),
+    (BUNDLE, DRY_RUN),
+    (DIRECTORY, TOP),
+    (SYNC, DRY_RUN),
+    (Named("verbose", "-v"), Named("quiet", "-q")),
+];
+
+/// Options of builds alone.
+static OF_BUILDS: [Named; 4] = [SYNC, EXPLAIN, STRICT, FORMAT];
 
 impl Named {
     /// Whether the option is on the command line.
-    fn is_used(&self, matches: &ArgMatches<'_>) -> bool {
-        if self.has_value {
-            matches.contains_id(self.id)
-        } else {
-            matches.get_flag(self.id)
-        }
+    fn is_used(self, matches: &ArgMatches<'_>) -> bool {
+        matches.value_source(self.0) == Some(ValueSource::CommandLine)
     }
 }
 
@@ -101,11 +116,35 @@ fn all<'a>(alloc: Global) -> Arg<'a> {
         .help_heading(BOOK)
 }
 
+fn ood<'a>(alloc: Global) -> Arg<'a> {
+    Arg::new(alloc, "ood")
+        .long("ood")
+        .action(ArgAction::SetTrue)
+        .help("Print which targets are out of date, and why")
+        .help_heading(BOOK)
+}
+
 fn pack<'a>(alloc: Global) -> Arg<'a> {
     Arg::new(alloc, "pack")
         .long("pack")
         .action(ArgAction::SetTrue)
         .help("Print the directory as a bundle")
+        .help_heading("Trees")
+}
+
+fn unpack<'a>(alloc: Global) -> Arg<'a> {
+    Arg::new(alloc, "unpack")
+        .long("unpack")
+        .action(ArgAction::SetTrue)
+        .help("Make a bundle's files in an empty or new directory")
+        .help_heading("Trees")
+}
+
+fn clean<'a>(alloc: Global) -> Arg<'a> {
+    Arg::new(alloc, "clean")
+        .long("clean")
+        .action(ArgAction::SetTrue)
+        .help("Remove the files that the last run left, and its book")
         .help_heading("Trees")
 }
 
@@ -120,7 +159,10 @@ pub(crate) fn with_commands<'a>(
         .arg(deps(alloc))?
         .arg(rdeps(alloc))?
         .arg(all(alloc))?
-        .arg(pack(alloc))
+        .arg(ood(alloc))?
+        .arg(pack(alloc))?
+        .arg(unpack(alloc))?
+        .arg(clean(alloc))
 }
 
 /// Whether an option says what is done in place of a build.
@@ -132,6 +174,7 @@ pub(crate) fn is_given(matches: &ArgMatches<'_>) -> bool {
 pub(crate) fn question_of(
     alloc: Global,
     matches: &ArgMatches<'_>,
+    below: &Path,
 ) -> Result<Option<Question>, PathFault> {
     if matches.get_flag("list-targets") {
         return Ok(Some(Question::Targets));
@@ -140,10 +183,13 @@ pub(crate) fn question_of(
         return Ok(Some(Question::Sources));
     }
     if let Some(word) = matches.get_str("deps") {
-        return Ok(Some(Question::Deps(target(alloc, word)?)));
+        return Ok(Some(Question::Deps(target(alloc, below, word)?)));
     }
     match matches.get_str("rdeps") {
-        Some(word) => Ok(Some(Question::Users(target(alloc, word)?, matches.get_flag("all")))),
+        Some(word) => Ok(Some(Question::Users(
+            target(alloc, below, word)?,
+            matches.get_flag("all"),
+        ))),
         None => Ok(None),
     }
 }
@@ -158,32 +204,48 @@ pub(crate) fn word_of<'m>(matches: &'m ArgMatches<'_>) -> Option<&'m str> {
     None
 }
 
-/// Refuses options that don't go together: two that say what is done, or one that another one needs.
-pub(crate) fn check(matches: &ArgMatches<'_>) -> Result<(), Refusal> {
+/// What is done in place of a build, if anything is. Two that say so exclude each other.
+fn command_of(matches: &ArgMatches<'_>) -> Result<Option<&'static str>, Refusal> {
     let mut first = None;
     for option in &COMMANDS {
         if option.is_used(matches) {
             match first {
-                Some(other) => return Err(Refusal::Excluded(other, option.shown)),
-                None => first = Some(option.shown),
+                Some(other) => return Err(Refusal::Excluded(other, option.1)),
+                None => first = Some(option.1),
             }
         }
     }
-    if matches.get_flag("bundle") && matches.get_flag("pack") {
-        return Err(Refusal::Excluded("--pack", "--bundle"));
-    }
-    if matches.get_flag("bundle") && matches.contains_id("directory") {
-        return Err(Refusal::Excluded("--bundle", "-C"));
-    }
-    if matches.get_flag("bundle") && matches.get_flag("sync") {
-        return Err(Refusal::Excluded("--bundle", "--sync"));
+    Ok(first)
+}
+
+/// Refuses options that don't go together: two that exclude each other, or one that another one needs.
+pub(crate) fn check(matches: &ArgMatches<'_>) -> Result<(), Refusal> {
+    let command = command_of(matches)?;
+    for (one, other) in &PAIRS {
+        if one.is_used(matches) && other.is_used(matches) {
+            return Err(Refusal::Excluded(one.1, other.1));
+        }
     }
     if matches.get_flag("all") && !matches.contains_id("rdeps") {
         return Err(Refusal::Alone("--all", "--rdeps"));
     }
-    match first {
-        Some(command) if matches.get_flag("sync") => Err(Refusal::Excluded(command, "--sync")),
-        Some(command) if matches.contains_id("targets") => Err(Refusal::TargetsBeside(command)),
-        _ => Ok(()),
+    if matches.get_flag("with-rules") && matches.get_str("format") != Some("dot") {
+        return Err(Refusal::Alone("--with-rules", "--format dot"));
     }
+    let Some(command) = command else {
+        return Ok(());
+    };
+    for option in &OF_BUILDS {
+        if option.is_used(matches) {
+            return Err(Refusal::Excluded(command, option.1));
+        }
+    }
+    // A clean may be tried out, too.
+    if DRY_RUN.is_used(matches) && command != CLEAN.1 {
+        return Err(Refusal::Excluded(command, DRY_RUN.1));
+    }
+    if matches.contains_id("targets") && command != OOD.1 {
+        return Err(Refusal::TargetsBeside(command));
+    }
+    Ok(())
 }

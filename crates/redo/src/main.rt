@@ -5,31 +5,41 @@
 
 ghost use Rattle.std.specs.Prelude.{◌≡◌, false};
 
+mod above;
+mod after;
+mod building;
 mod causes;
+mod cleaning;
 mod commands;
+mod formats;
 mod options;
 mod packing;
+mod passing;
+mod progress;
 mod queries;
 mod status;
+mod summary;
+mod unpacking;
 mod version;
+mod voice;
 
 use clap::error::ErrorKind;
 use clap::{ArgMatches, Error};
-use options::{Action, Call, Durability, Input, Refusal};
+use options::{Action, Call, Input, Refusal};
+use progress::Progress;
 use redo_bundle::Plain;
 use redo_dir::{DirLock, LockFault, Lockable, SystemDir, lock_dir};
 use redo_path::Path;
-use redo_run::{
-    Cause, Exit, NoObserver, Options, Said, run_bundle, run_dir, whichdo_bundle, whichdo_dir,
-};
+use redo_run::{Cause, Said, whichdo_bundle, whichdo_dir};
 use status::Fault;
 use std::alloc::Global;
-use std::io::{BufWriter, Write};
+use std::io::{BufWriter, IsTerminal, Write};
 use std::process::ExitCode;
 use std::rt::Runtime;
 use std::sync::Wait;
 use std::thread::Threads;
-use std::{env, io, mem};
+use std::{env, io};
+use voice::Voice;
 
 /// The size of the buffer of standard output, in bytes.
 const BUFFER_BYTES: usize = 65_536;
@@ -41,12 +51,13 @@ fn main(rt: HostRuntime) -> ExitCode {
         Err(status) => return ExitCode::from(status),
     };
     let mut cause = Cause::new(alloc);
-    match run(&rt, alloc, &call.action, &mut cause) {
+    let progress = Progress::new(&rt, call.voice.progress);
+    match run(&rt, alloc, &call, &progress, &mut cause) {
         Ok(true) => ExitCode::from(status::GOOD),
         Ok(false) => ExitCode::from(status::FAILED),
         Err(fault) => {
             let _shown = eprintln!(rt; "redo: {fault}");
-            if call.verbose {
+            if call.voice.causes {
                 show_cause(&rt, causes::of_fault(alloc, fault, &cause, &call.action));
             }
             ExitCode::from(status::of_fault(fault))
@@ -63,7 +74,18 @@ fn read_call(rt: &HostRuntime, alloc: Global) -> Result<Call, u8> {
         Ok(matches) => matches,
         Err(error) => return Err(show_parse(rt, &error)),
     };
-    options::call_of(alloc, &matches).map_err(|refusal| refuse_call(rt, alloc, refusal, &matches))
+    call_of(rt, alloc, &matches).map_err(|refusal| refuse_call(rt, alloc, refusal, &matches))
+}
+
+/// What the words ask for, in this place and on this standard error.
+fn call_of(rt: &HostRuntime, alloc: Global, matches: &ArgMatches<'_>) -> Result<Call, Refusal> {
+    options::check(matches)?;
+    let here = above::place_of(rt, alloc, matches)?;
+    let action = options::action_of(alloc, matches, here)?;
+    // By common use, any value but an empty one says that no colours are wanted.
+    let plain = env::var(rt, "NO_COLOR").is_ok_and(|value| !value.is_empty());
+    let voice = Voice::of(matches, rt.stderr().is_terminal(), plain);
+    Ok(Call { action, voice })
 }
 
 /// Shows what the parse ended in: help or the version on standard output, a refusal on standard error. Returns the exit
@@ -94,13 +116,27 @@ fn refuse(rt: &HostRuntime, refusal: Refusal) -> u8 {
 /// Shows why words that were read are refused, and with `-v` the word. Returns the exit status.
 fn refuse_call(rt: &HostRuntime, alloc: Global, refusal: Refusal, matches: &ArgMatches<'_>) -> u8 {
     let status = refuse(rt, refusal);
-    if refusal == Refusal::BadTarget && matches.get_flag("verbose") {
-        show_cause(
-            rt,
-            causes::of_target(alloc, options::bad_target(alloc, matches)),
-        );
+    if matches.get_count("verbose") != 0 {
+        show_cause(rt, cause_of(rt, alloc, refusal, matches));
     }
     status
+}
+
+/// Why words that were read are refused, if more is known than the refusal says.
+fn cause_of(
+    rt: &HostRuntime,
+    alloc: Global,
+    refusal: Refusal,
+    matches: &ArgMatches<'_>,
+) -> causes::Words {
+    match refusal {
+        Refusal::BadTarget => match above::place_of(rt, alloc, matches) {
+            Ok(here) => causes::of_target(alloc, options::bad_target(alloc, matches, &here.below)),
+            Err(_) => Ok(None),
+        },
+        Refusal::NoKeepGoing => causes::of_no_keep_going(alloc),
+        _ => Ok(None),
+    }
 }
 
 /// Shows a cause behind a message, if it is known and there is memory for its words.
@@ -114,93 +150,33 @@ fn show_cause<E: Drop>(rt: &HostRuntime, cause: Result<Option<String>, E>) {
 fn run<H: Runtime + Threads + Wait + Sync>(
     rt: &H,
     alloc: Global,
-    action: &Action,
+    call: &Call,
+    progress: &Progress<'_>,
     cause: &mut Cause,
 ) -> Result<bool, Fault>
 where
     H::File: Send + Lockable,
     H::Dir: Send,
 {
-    match action {
-        Action::Build(options, input) => build(rt, alloc, options, input, cause),
+    match &call.action {
+        Action::Build(build) => building::build(rt, alloc, build, call.voice, progress, cause),
         Action::Whichdo(target, input) => list(rt, alloc, target, input, cause),
         Action::Ask(question, input, workers) => {
             queries::ask(rt, alloc, question, input, *workers, cause)
         }
+        Action::OutOfDate(targets, input, workers) => {
+            queries::list_out_of_date(rt, alloc, targets, input, *workers, cause)
+        }
         Action::Pack(dir, workers) => packing::pack_dir(rt, alloc, dir, *workers, cause),
+        Action::Unpack(dir) => unpacking::unpack_into(rt, alloc, dir, cause),
+        Action::Clean(dir, workers, dry_run) => {
+            cleaning::clean_dir(rt, alloc, dir, *workers, *dry_run, cause)
+        }
     }
 }
 
-/// Builds targets, and returns whether all that was requested is a source or built.
-fn build<H: Runtime + Threads + Wait + Sync>(
-    rt: &H,
-    alloc: Global,
-    options: &Options,
-    input: &Input,
-    cause: &mut Cause,
-) -> Result<bool, Fault>
-where
-    H::File: Send + Lockable,
-    H::Dir: Send,
-{
-    let mut writer = Plain::new(buffered(alloc, io::writer(rt))?);
-    let outcome = build_to(rt, alloc, options, input, &mut writer, cause);
-    // After a failed write the rest isn't tried again, as it would be if the buffer were dropped.
-    let (_out, _unwritten) = writer.stream.into_parts();
-    let (exit, passed) = outcome?;
-    note_passed(rt, passed);
-    Ok(exit == Exit::Good)
-}
-
-/// Builds targets, and writes the whole report. Returns how they ended, and how many names were passed over.
-fn build_to<H: Runtime + Threads + Wait + Sync, W: Write + Drop>(
-    rt: &H,
-    alloc: Global,
-    options: &Options,
-    input: &Input,
-    writer: &mut Plain<BufWriter<W>>,
-    cause: &mut Cause,
-) -> Result<(Exit, u64), Fault>
-where
-    H::File: Send + Lockable,
-    H::Dir: Send,
-    requires { writer.old.broken ≡ false }
-{
-    let ended = match input {
-        Input::Bundle => {
-            let mut reader = Plain::new(rt.reader());
-            let mut kept = None;
-            let exit = run_bundle(
-                rt,
-                alloc,
-                &mut reader,
-                writer,
-                options,
-                &NoObserver,
-                cause,
-                &mut kept,
-            )?;
-            // A leak on purpose: the process ends now, and the system takes back all memory at once.
-            mem::forget(kept);
-            (exit, 0)
-        }
-        Input::Directory(dir, durability) => {
-            let lock = lock(rt, alloc, dir, cause)?;
-            let synced = *durability == Durability::Files;
-            let mut dir = SystemDir::locked(rt, alloc, dir, &lock, synced);
-            let run = run_dir(rt, alloc, &mut dir, writer, options, &NoObserver, cause)?;
-            let ended = (run.exit, run.passed);
-            // Forgotten as above.
-            mem::forget(run);
-            ended
-        }
-    };
-    flush(&mut writer.stream)?;
-    Ok(ended)
-}
-
 /// Takes the lock of a directory. Where it can't be opened, the cause says why.
-fn lock<H: Runtime>(
+pub(crate) fn lock<H: Runtime>(
     rt: &H,
     alloc: Global,
     dir: &str,
@@ -248,7 +224,7 @@ where
             let mut reader = Plain::new(rt.reader());
             Ok(whichdo_bundle(alloc, &mut reader, &mut writer, target, cause)?)
         }
-        Input::Directory(dir, _) => {
+        Input::Directory(dir) => {
             let dir = SystemDir::new(rt, alloc, dir);
             let (found, passed) = whichdo_dir(rt, alloc, &dir, &mut writer, target, cause)?;
             note_passed(rt, passed);

@@ -2,8 +2,11 @@
 
 ghost use Rattle.std.specs.Prelude.{◌≤◌, ◌<◌};
 
+use crate::above::Here;
 use crate::commands;
 use crate::version::VERSION;
+use crate::voice::Voice;
+use clap::builder::ValueParser;
 use clap::{Arg, ArgAction, ArgMatches, Command, value_parser};
 use redo_path::{Path, PathFault, resolve};
 use redo_query::Question;
@@ -19,16 +22,21 @@ pub(crate) const TARGETS: u32 = 65_536;
 
 const FILE_BYTES: u32 = 16_777_216;
 
+/// The forms in which a report is printed.
+static FORMATS: [&str; 3] = ["report", "json", "dot"];
+
 /// The most scripts that may run side by side.
 const MOST_JOBS: usize = 64;
 
-/// Whether a run waits for the disk.
+/// Whether a run stores its files, and whether it waits for the disk.
 #[derive(Clone, Copy, Debug, PartialEq, Eq)]
-pub(crate) enum Durability {
+pub(crate) enum Storing {
+    /// It stores nothing.
+    Nothing,
     /// It waits for the journal alone.
-    Journal,
+    Plain,
     /// It waits for each file, too.
-    Files,
+    Synced,
 }
 
 /// Where the tree is read from.
@@ -36,38 +44,85 @@ pub(crate) enum Durability {
 pub(crate) enum Input {
     /// A bundle on standard input.
     Bundle,
-    /// A directory, and how its files are stored.
-    Directory(String, Durability),
+    /// A directory.
+    Directory(String),
+}
+
+/// In which form a report is printed.
+#[derive(Clone, Copy, Debug, PartialEq, Eq)]
+pub(crate) enum Format {
+    /// The report's own.
+    Report,
+    /// An object of JSON, without files.
+    Json,
+    /// A graph for Graphviz; if `true`, with the rules.
+    Dot(bool),
+}
+
+/// A build, and what is said of it.
+#[derive(Drop)]
+pub(crate) struct Build {
+    pub(crate) options: Options,
+    pub(crate) input: Input,
+    pub(crate) storing: Storing,
+    pub(crate) format: Format,
+    /// Whether each begun script is told with the reason for which it was begun.
+    pub(crate) explained: bool,
+    /// Whether a stale file is a failure.
+    pub(crate) strict: bool,
 }
 
 /// What the command line asks for.
 #[derive(Drop)]
 pub(crate) struct Call {
     pub(crate) action: Action,
-    /// Whether a message is followed by its cause.
-    pub(crate) verbose: bool,
+    pub(crate) voice: Voice,
 }
 
 /// What is to be done.
 #[derive(Drop)]
 pub(crate) enum Action {
-    Build(Options, Input),
+    Build(Build),
     Whichdo(Path, Input),
     /// A question to the book of a tree, which is read by so many threads.
     Ask(Question, Input, usize),
+    /// What is out of date is printed, of a run that requests these targets, or of any. So many threads read the tree.
+    OutOfDate(Vec<Path>, Input, usize),
     /// A directory is printed as a bundle. So many threads read it.
     Pack(String, usize),
+    /// A bundle on standard input becomes a directory.
+    Unpack(String),
+    /// What the last run left in a directory is removed. So many threads read it, and in a dry run nothing is removed.
+    Clean(String, usize, bool),
 }
 
 impl Action {
     /// The directory that is read, if one is.
     pub(crate) fn directory(&self) -> &str {
         match self {
-            Action::Build(_, Input::Directory(dir, _))
-            | Action::Whichdo(_, Input::Directory(dir, _))
-            | Action::Ask(_, Input::Directory(dir, _), _)
-            | Action::Pack(dir, _) => dir,
+            Action::Build(
+                Build {
+                    input: Input::Directory(dir),
+                    ..
+                },
+            )
+            | Action::Whichdo(_, Input::Directory(dir))
+            | Action::Ask(_, Input::Directory(dir), _)
+            | Action::OutOfDate(_, Input::Directory(dir), _)
+            | Action::Pack(dir, _)
+            | Action::Unpack(dir)
+            | Action::Clean(dir, _, _) => dir,
             _ => "",
+        }
+    }
+
+    /// Whether files are stored before anything is printed.
+    pub(crate) fn stores_first(&self) -> bool {
+        match self {
+            Action::Build(build) => {
+                matches!(build.input, Input::Directory(_)) && build.storing != Storing::Nothing
+            }
+            _ => false,
         }
     }
 }
@@ -85,6 +140,10 @@ pub(crate) enum Refusal {
     TargetsBeside(&'static str),
     #[error("bad target")]
     BadTarget,
+    #[error("no book here or above")]
+    NoTop,
+    #[error("directory not readable")]
+    Directory,
     #[error("out of memory")]
     Memory,
 }
@@ -120,20 +179,23 @@ impl From<PathFault> for Refusal {
     }
 }
 
+/// Of several uses the last counts, so that an alias may have the option.
 fn jobs<'a>(alloc: Global) -> Arg<'a> {
     Arg::new(alloc, "jobs")
         .short('j')
         .long("jobs")
         .value_name("N")
+        .action(ArgAction::Append)
         .value_parser(value_parser!(usize).range(1..=64))
         .help("Run up to N scripts at a time, 1 to 64 [default: 1]")
 }
 
+/// Further uses change nothing.
 fn keep_going<'a>(alloc: Global) -> Arg<'a> {
     Arg::new(alloc, "keep-going")
         .short('k')
         .long("keep-going")
-        .action(ArgAction::SetTrue)
+        .action(ArgAction::Count)
         .help("Keep going when targets fail; required for a build")
 }
 
@@ -151,6 +213,58 @@ fn directory<'a>(alloc: Global) -> Arg<'a> {
         .help("Read the tree from the directory DIR [default: .]")
 }
 
+fn top<'a>(alloc: Global) -> Arg<'a> {
+    Arg::new(alloc, "top")
+        .long("top")
+        .action(ArgAction::SetTrue)
+        .help("Read it from the nearest directory with a book")
+}
+
+fn dry_run<'a>(alloc: Global) -> Arg<'a> {
+    Arg::new(alloc, "dry-run")
+        .short('n')
+        .long("dry-run")
+        .action(ArgAction::SetTrue)
+        .help("Do all but change the directory")
+}
+
+fn explain<'a>(alloc: Global) -> Arg<'a> {
+    Arg::new(alloc, "explain")
+        .long("explain")
+        .action(ArgAction::SetTrue)
+        .help("Say why each script was begun")
+}
+
+fn strict<'a>(alloc: Global) -> Arg<'a> {
+    Arg::new(alloc, "strict")
+        .long("strict")
+        .action(ArgAction::SetTrue)
+        .help("Fail if a file is stale or soon will be")
+}
+
+fn report_format<'a>(alloc: Global) -> Arg<'a> {
+    Arg::new(alloc, "format")
+        .long("format")
+        .value_name("FORMAT")
+        .value_parser(ValueParser::Names(&FORMATS))
+        .hide_possible_values(true)
+        .help("Print the report as report, json or dot")
+}
+
+fn with_rules<'a>(alloc: Global) -> Arg<'a> {
+    Arg::new(alloc, "with-rules")
+        .long("with-rules")
+        .action(ArgAction::SetTrue)
+        .help("With --format dot: draw .do files, too")
+}
+
+fn sync<'a>(alloc: Global) -> Arg<'a> {
+    Arg::new(alloc, "sync")
+        .long("sync")
+        .action(ArgAction::SetTrue)
+        .help("Have each file on the disk before it gets its name")
+}
+
 fn whichdo<'a>(alloc: Global) -> Arg<'a> {
     Arg::new(alloc, "whichdo")
         .long("whichdo")
@@ -162,15 +276,16 @@ fn verbose<'a>(alloc: Global) -> Arg<'a> {
     Arg::new(alloc, "verbose")
         .short('v')
         .long("verbose")
-        .action(ArgAction::SetTrue)
-        .help("Say the cause behind a message, where it is known")
+        .action(ArgAction::Count)
+        .help("Add causes to messages, and notes on stale files")
 }
 
-fn sync<'a>(alloc: Global) -> Arg<'a> {
-    Arg::new(alloc, "sync")
-        .long("sync")
-        .action(ArgAction::SetTrue)
-        .help("Have each file on the disk before it gets its name")
+fn quiet<'a>(alloc: Global) -> Arg<'a> {
+    Arg::new(alloc, "quiet")
+        .short('q')
+        .long("quiet")
+        .action(ArgAction::Count)
+        .help("Print no notes and no progress on a terminal")
 }
 
 fn targets<'a>(alloc: Global) -> Arg<'a> {
@@ -185,62 +300,85 @@ pub(crate) fn command<'a>(alloc: Global) -> Result<Command<'a>, AllocError> {
     let command = Command::new(alloc, "redo")
         .version(VERSION)
         .about("Builds targets by their .do scripts, in parallel")
+        .override_usage("redo -k [OPTIONS] [TARGETS]...")
         .arg(jobs(alloc))?
         .arg(keep_going(alloc))?
         .arg(bundle(alloc))?
         .arg(directory(alloc))?
+        .arg(top(alloc))?
+        .arg(dry_run(alloc))?
+        .arg(explain(alloc))?
+        .arg(report_format(alloc))?
+        .arg(with_rules(alloc))?
+        .arg(strict(alloc))?
+        .arg(sync(alloc))?
         .arg(whichdo(alloc))?
         .arg(verbose(alloc))?
-        .arg(sync(alloc))?
+        .arg(quiet(alloc))?
         .arg(targets(alloc))?;
     commands::with_commands(alloc, command)
 }
 
-/// What the words ask for. Of several refusals it returns the first in the order of the enum.
-pub(crate) fn call_of(alloc: Global, matches: &ArgMatches<'_>) -> Result<Call, Refusal> {
-    if !commands::is_given(matches) && !matches.get_flag("keep-going") {
+/// Refuses words that ask for nothing that could be done. Of several refusals it returns the first in the order of the
+/// enum.
+pub(crate) fn check(matches: &ArgMatches<'_>) -> Result<(), Refusal> {
+    if !commands::is_given(matches) && matches.get_count("keep-going") == 0 {
         return Err(Refusal::NoKeepGoing);
     }
-    commands::check(matches)?;
-    let action = action_of(alloc, matches)?;
-    let verbose = matches.get_flag("verbose");
-    Ok(Call { action, verbose })
+    commands::check(matches)
 }
 
-/// Where the tree is read from.
-fn input_of(alloc: Global, matches: &ArgMatches<'_>) -> Result<Input, AllocError> {
-    if matches.get_flag("bundle") {
-        return Ok(Input::Bundle);
-    }
-    Ok(Input::Directory(directory_of(alloc, matches)?, durability_of(matches)))
-}
-
-/// Whether a build waits for the disk.
-fn durability_of(matches: &ArgMatches<'_>) -> Durability {
-    if matches.get_flag("sync") {
-        Durability::Files
-    } else {
-        Durability::Journal
-    }
-}
-
-/// The directory that is named, or else the current one.
-fn directory_of(alloc: Global, matches: &ArgMatches<'_>) -> Result<String, AllocError> {
-    String::from_str(alloc, matches.get_str("directory").unwrap_or("."))
-}
-
-/// What is done with the tree.
-fn action_of(alloc: Global, matches: &ArgMatches<'_>) -> Result<Action, Refusal> {
+/// What the words ask for, read in this place. They were checked.
+pub(crate) fn action_of(
+    alloc: Global,
+    matches: &ArgMatches<'_>,
+    here: Here,
+) -> Result<Action, Refusal> {
+    let Here { top, below } = here;
     if matches.get_flag("pack") {
-        return Ok(Action::Pack(directory_of(alloc, matches)?, workers(matches)));
+        return Ok(Action::Pack(top, workers(matches)));
     }
-    let input = input_of(alloc, matches)?;
+    if matches.get_flag("unpack") {
+        return Ok(Action::Unpack(top));
+    }
+    if matches.get_flag("clean") {
+        return Ok(Action::Clean(top, workers(matches), matches.get_flag("dry-run")));
+    }
+    let input = if matches.get_flag("bundle") {
+        Input::Bundle
+    } else {
+        Input::Directory(top)
+    };
     if let Some(word) = matches.get_str("whichdo") {
-        return Ok(Action::Whichdo(target(alloc, word)?, input));
+        return Ok(Action::Whichdo(target(alloc, &below, word)?, input));
     }
-    match commands::question_of(alloc, matches)? {
+    if matches.get_flag("ood") {
+        let targets = named(alloc, matches, &below)?;
+        return Ok(Action::OutOfDate(targets, input, workers(matches)));
+    }
+    match commands::question_of(alloc, matches, &below)? {
         Some(question) => Ok(Action::Ask(question, input, workers(matches))),
-        None => Ok(Action::Build(options(alloc, matches)?, input)),
+        None => Ok(Action::Build(build_of(alloc, matches, input, &below)?)),
+    }
+}
+
+/// Whether a build stores its files, and whether it waits for the disk.
+fn storing_of(matches: &ArgMatches<'_>) -> Storing {
+    if matches.get_flag("dry-run") {
+        Storing::Nothing
+    } else if matches.get_flag("sync") {
+        Storing::Synced
+    } else {
+        Storing::Plain
+    }
+}
+
+/// In which form the report is printed.
+fn format_of(matches: &ArgMatches<'_>) -> Format {
+    match matches.get_str("format") {
+        Some("json") => Format::Json,
+        Some("dot") => Format::Dot(matches.get_flag("with-rules")),
+        _ => Format::Report,
     }
 }
 
@@ -248,25 +386,26 @@ fn action_of(alloc: Global, matches: &ArgMatches<'_>) -> Result<Action, Refusal>
 pub(crate) fn bad_target<'m>(
     alloc: Global,
     matches: &'m ArgMatches<'_>,
+    below: &Path,
 ) -> Option<(&'m str, PathFault)> {
     if let Some(word) = commands::word_of(matches) {
-        return fault_of(alloc, word);
+        return fault_of(alloc, below, word);
     }
     let words = matches.get_strs("targets")?;
-    words.iter().find_map(|word| fault_of(alloc, word))
+    words.iter().find_map(|word| fault_of(alloc, below, word))
 }
 
 /// The word, and why it names no target, if it names none.
-fn fault_of(alloc: Global, word: &str) -> Option<(&str, PathFault)> {
-    match target(alloc, word) {
+fn fault_of<'w>(alloc: Global, below: &Path, word: &'w str) -> Option<(&'w str, PathFault)> {
+    match target(alloc, below, word) {
         Ok(_) => None,
         Err(fault) => Some((word, fault)),
     }
 }
 
-/// The path that a word names, from the top.
-pub(crate) fn target(alloc: Global, word: &str) -> Result<Path, PathFault> {
-    resolve(alloc, &Path::root(), word.as_bytes())
+/// The path from the top that a word names, which is read in the directory `below` it.
+pub(crate) fn target(alloc: Global, below: &Path, word: &str) -> Result<Path, PathFault> {
+    resolve(alloc, below, word.as_bytes())
 }
 
 /// How many threads may work side by side.
@@ -274,26 +413,57 @@ fn workers(matches: &ArgMatches<'_>) -> usize
     ensures some { 0 < result }
     ensures few { result ≤ 64 }
 {
-    match matches.get_one::<usize>("jobs") {
-        Some(jobs) => jobs.clamp(1, MOST_JOBS),
+    match matches.get_many::<usize>("jobs") {
+        Some(jobs) => match jobs.last() {
+            Some(Ok(jobs)) => jobs.clamp(1, MOST_JOBS),
+            _ => 1,
+        },
         None => 1,
     }
 }
 
-fn options(alloc: Global, matches: &ArgMatches<'_>) -> Result<Options, Refusal> {
+/// The targets that are named.
+fn named(alloc: Global, matches: &ArgMatches<'_>, below: &Path) -> Result<Vec<Path>, Refusal> {
     let mut paths = Vec::new(alloc);
     if let Some(words) = matches.get_strs("targets") {
         for word in words {
-            paths.push(target(alloc, word)?)?;
+            paths.push(target(alloc, below, word)?)?;
         }
     }
+    Ok(paths)
+}
+
+/// The targets that are requested: `all`, where none is named.
+fn requested(alloc: Global, matches: &ArgMatches<'_>, below: &Path) -> Result<Vec<Path>, Refusal> {
+    let mut paths = named(alloc, matches, below)?;
+    if paths.is_empty() {
+        paths.push(target(alloc, &Path::root(), "all")?)?;
+    }
+    Ok(paths)
+}
+
+/// A build as the options want it.
+fn build_of(
+    alloc: Global,
+    matches: &ArgMatches<'_>,
+    input: Input,
+    below: &Path,
+) -> Result<Build, Refusal> {
+    let targets = requested(alloc, matches, below)?;
     let workers = workers(matches);
-    match Limits::new(TARGETS, FILE_BYTES) {
-        Some(limits) => Ok(Options {
-            targets: paths,
+    let Some(limits) = Limits::new(TARGETS, FILE_BYTES) else {
+        unreachable!()
+    };
+    Ok(Build {
+        options: Options {
+            targets,
             workers,
             limits,
-        }),
-        None => unreachable!(),
-    }
+        },
+        input,
+        storing: storing_of(matches),
+        format: format_of(matches),
+        explained: matches.get_flag("explain"),
+        strict: matches.get_flag("strict"),
+    })
 }

@@ -7,6 +7,7 @@ use bstr::BStr;
 use redo_bundle::{Plain, read_bundle_by_line, write_all};
 use redo_dir::SystemDir;
 use redo_mend::mend;
+use redo_ood::out_of_date;
 use redo_past::Past;
 use redo_path::Path;
 use redo_query::{Answer, Question, answer_to};
@@ -35,7 +36,7 @@ where
             let tree = read_bundle_by_line(alloc, &mut reader, &mut cause.header)?;
             Ok((tree, 0))
         }
-        Input::Directory(dir, _) => {
+        Input::Directory(dir) => {
             let dir = SystemDir::new(rt, alloc, dir);
             let (tree, passed) = load_with_book(rt, alloc, &dir, workers, cause)?;
             Ok((mend(rt, alloc, workers, tree)?.tree, passed))
@@ -71,6 +72,28 @@ where
             Ok(false)
         }
     }
+}
+
+/// Prints which targets of the book are out of date, and returns whether none is. With targets it tells of a run that
+/// requests these alone.
+pub(crate) fn list_out_of_date<H: Runtime + Threads + Sync>(
+    rt: &H,
+    alloc: Global,
+    targets: &[Path],
+    input: &Input,
+    workers: usize,
+    cause: &mut Cause,
+) -> Result<bool, Fault>
+where
+    H::File: Send,
+    H::Dir: Send,
+{
+    let (tree, passed) = load(rt, alloc, input, workers, cause)?;
+    let past = Past::open_by(rt, alloc, workers, tree)?;
+    let text = out_of_date(alloc, &past, targets)?;
+    write_all(&mut Plain::new(io::writer(rt)), &text)?;
+    note_passed(rt, passed);
+    Ok(text.is_empty())
 }
 
 /// Says that the book doesn't know a path, and which name is the nearest that it knows.

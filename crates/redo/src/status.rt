@@ -33,6 +33,7 @@ pub(crate) fn of_parse(error: &Error) -> u8 {
 pub(crate) fn of_refusal(refusal: Refusal) -> u8 {
     match refusal {
         Refusal::Memory => MEMORY,
+        Refusal::NoTop | Refusal::Directory => INPUT,
         _ => USAGE,
     }
 }
@@ -47,10 +48,19 @@ pub(crate) enum Fault {
     TooMany,
     /// Another run is at work in the directory.
     Busy,
+    /// There is no book to clean by.
+    NoBook,
+    /// The directory in which a bundle is to be unpacked isn't empty.
+    NotEmpty,
     /// The journal can't be written.
     Journal,
     /// What a run has left that was broken off can't be cleared away.
     Left,
+    /// A file can't be stored.
+    Unstored,
+    /// A file can't be removed.
+    Unremoved,
+    /// Standard output can't be written.
     Output,
     Memory,
 }
@@ -115,7 +125,8 @@ impl From<RunDirFault> for Fault {
             RunDirFault::TooMany => Fault::TooMany,
             RunDirFault::Journal => Fault::Journal,
             RunDirFault::Left => Fault::Left,
-            RunDirFault::Store(_) | RunDirFault::Device => Fault::Output,
+            RunDirFault::Store(_) => Fault::Unstored,
+            RunDirFault::Device => Fault::Output,
             RunDirFault::Memory => Fault::Memory,
         }
     }
@@ -134,9 +145,11 @@ impl From<LockFault> for Fault {
 /// The status after a fault.
 pub(crate) fn of_fault(fault: Fault) -> u8 {
     match fault {
-        Fault::Bundle(_) | Fault::Directory | Fault::Book(_) | Fault::Busy => INPUT,
+        Fault::Bundle(_) | Fault::Directory | Fault::Book(_) => INPUT,
+        Fault::Busy | Fault::NoBook | Fault::NotEmpty => INPUT,
         Fault::TooMany => TOO_MANY,
-        Fault::Journal | Fault::Left | Fault::Output => OUTPUT,
+        Fault::Journal | Fault::Left | Fault::Unstored | Fault::Unremoved => OUTPUT,
+        Fault::Output => OUTPUT,
         Fault::Memory => MEMORY,
     }
 }
@@ -156,9 +169,12 @@ impl fmt::Display for Fault {
             Fault::Book(line) => write!(f, "book: line {line}"),
             Fault::TooMany => write!(f, "too many targets"),
             Fault::Busy => write!(f, "another run is at work here"),
+            Fault::NoBook => write!(f, "no book here"),
+            Fault::NotEmpty => write!(f, "directory not empty"),
+            Fault::Unremoved => write!(f, "clean failed"),
             Fault::Journal => write!(f, "journal not writable"),
             Fault::Left => write!(f, "recovery failed"),
-            Fault::Output => write!(f, "output failed"),
+            Fault::Unstored | Fault::Output => write!(f, "output failed"),
             Fault::Memory => write!(f, "out of memory"),
         }
     }

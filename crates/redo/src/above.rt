@@ -1,0 +1,90 @@
+//! The directory that a run is over, and directories above it.
+
+use crate::options::Refusal;
+use clap::ArgMatches;
+use redo_path::{Path, resolve};
+use std::alloc::Global;
+use std::io::ErrorKind;
+use std::path::Path as SystemPath;
+use std::rt::Runtime;
+use std::{env, fs, io};
+
+/// Where a run is, and where the words of its command line are read.
+#[derive(Drop)]
+pub(crate) struct Here {
+    /// The top of the tree, as the system names it.
+    pub(crate) top: String,
+    /// The directory in which words are read, from the top.
+    pub(crate) below: Path,
+}
+
+/// The name of the book.
+const BOOK_NAME: &str = ".redo-book";
+
+/// Whether a directory has a book. What can't be looked at counts as none.
+pub(crate) fn has_book<H: Runtime>(rt: &H, alloc: Global, dir: SystemPath<'_>) -> bool {
+    let Ok(book) = dir.join(alloc, BOOK_NAME) else {
+        return false;
+    };
+    match fs::symlink_metadata(rt, book.as_path()) {
+        Ok(about) => about.is_file(),
+        Err(_) => false,
+    }
+}
+
+/// Why the current directory isn't known.
+fn unknown(error: io::Error) -> Refusal {
+    match error.kind() {
+        ErrorKind::OutOfMemory => Refusal::Memory,
+        _ => Refusal::Directory,
+    }
+}
+
+/// The nearest directory that has a book, the current one or one above it; words are read in the current one.
+fn nearest<H: Runtime>(rt: &H, alloc: Global) -> Result<Here, Refusal> {
+    let current = env::current_dir(rt).map_err(unknown)?;
+    for dir in current.ancestors() {
+        if has_book(rt, alloc, dir) {
+            let Ok(rest) = current.strip_prefix(dir) else {
+                return Err(Refusal::NoTop);
+            };
+            let below = if rest.as_str().is_empty() {
+                Path::root()
+            } else {
+                resolve(alloc, &Path::root(), rest.as_str().as_bytes())?
+            };
+            let top = String::from_str(alloc, dir.as_str())?;
+            return Ok(Here { top, below });
+        }
+    }
+    Err(Refusal::NoTop)
+}
+
+/// Where the options want a run to be.
+pub(crate) fn place_of<H: Runtime>(
+    rt: &H,
+    alloc: Global,
+    matches: &ArgMatches<'_>,
+) -> Result<Here, Refusal> {
+    if matches.get_flag("top") {
+        return nearest(rt, alloc);
+    }
+    let top = String::from_str(alloc, matches.get_str("directory").unwrap_or("."))?;
+    Ok(Here {
+        top,
+        below: Path::root(),
+    })
+}
+
+/// How many levels above a directory the nearest one is that has a book, if one has.
+pub(crate) fn levels_to_book<H: Runtime>(rt: &H, alloc: Global, dir: &str) -> Option<usize> {
+    let Ok(place) = fs::canonicalize(rt, SystemPath::new(dir)) else {
+        return None;
+    };
+    for (levels, above) in place.ancestors().enumerate() {
+        if levels > 0 && has_book(rt, alloc, above) {
+            return Some(levels);
+        }
+    }
+    None
+}

@@ -1,0 +1,190 @@
+//! Builds.
+
+ghost use Rattle.std.specs.Prelude.{◌≡◌, false};
+
+use crate::after::{After, say_after};
+use crate::formats::print_report;
+use crate::options::{Build, Format, Input, Storing};
+use crate::passing::note_names;
+use crate::progress::Progress;
+use crate::status::Fault;
+use crate::voice::Voice;
+use crate::{buffered, flush, lock, note_passed};
+use redo_bundle::Plain;
+use redo_dir::{Lockable, SystemDir};
+use redo_run::{BundleRun, Cause, DirRun, Exit, preview_dir, run_bundle, run_dir};
+use std::alloc::Global;
+use std::io::{BufWriter, Write};
+use std::rt::Runtime;
+use std::sync::Wait;
+use std::thread::Threads;
+use std::{io, mem};
+
+/// What a build came to.
+#[derive(Drop)]
+enum Run {
+    OverBundle(BundleRun),
+    OverDir(DirRun),
+}
+
+/// Builds targets, and returns whether all went well.
+pub(crate) fn build<H: Runtime + Threads + Wait + Sync>(
+    rt: &H,
+    alloc: Global,
+    build: &Build,
+    voice: Voice,
+    progress: &Progress<'_>,
+    cause: &mut Cause,
+) -> Result<bool, Fault>
+where
+    H::File: Send + Lockable,
+    H::Dir: Send,
+{
+    let outcome = match build.format {
+        Format::Report => build_and_write(rt, alloc, build, io::writer(rt), progress, cause),
+        // The report is made of what the build returns.
+        Format::Json | Format::Dot(_) => {
+            build_and_write(rt, alloc, build, io::sink(), progress, cause)
+        }
+    };
+    progress.clear();
+    let after = After {
+        build,
+        voice,
+        milliseconds: progress.milliseconds(),
+    };
+    match outcome? {
+        Run::OverBundle(run) => end_over_bundle(rt, alloc, &after, run),
+        Run::OverDir(run) => end_over_dir(rt, alloc, &after, run),
+    }
+}
+
+/// What is said behind a report changes how a strict build ends, and no other. If there is no memory for it, it is left
+/// out.
+fn is_fine(after: &After<'_>, said: Result<bool, Fault>) -> Result<bool, Fault> {
+    match said {
+        Err(_) if !after.build.strict => Ok(true),
+        said => said,
+    }
+}
+
+/// Says what is to be said of a build over a bundle, and returns whether all went well.
+fn end_over_bundle<H: Runtime + Threads + Sync>(
+    rt: &H,
+    alloc: Global,
+    after: &After<'_>,
+    run: BundleRun,
+) -> Result<bool, Fault> {
+    let BundleRun { exit, tree, report } = run;
+    let good = exit == Exit::Good;
+    if after.is_silent() {
+        // A leak on purpose: the process ends now, and the system takes back all memory at once.
+        mem::forget(report);
+        mem::forget(tree);
+        return Ok(good);
+    }
+    let report = match report.into_report(alloc) {
+        Ok(report) => report,
+        Err(_) => return Ok(is_fine(after, Err(Fault::Memory))? && good),
+    };
+    print_report(rt, alloc, after.build, &tree, &report, good)?;
+    Ok(is_fine(after, say_after(rt, alloc, after, &tree, &report))? && good)
+}
+
+/// Says what is to be said of a build over a directory, and returns whether all went well.
+fn end_over_dir<H: Runtime + Threads + Sync>(
+    rt: &H,
+    alloc: Global,
+    after: &After<'_>,
+    run: DirRun,
+) -> Result<bool, Fault> {
+    let good = run.exit == Exit::Good;
+    print_report(rt, alloc, after.build, &run.tree, &run.report, good)?;
+    note_passed(rt, run.passed);
+    if let (true, Input::Directory(dir)) = (run.passed != 0, &after.build.input) {
+        note_names(rt, alloc, after.voice, dir, &run.tree);
+    }
+    let fine = if after.is_silent() {
+        true
+    } else {
+        is_fine(after, say_after(rt, alloc, after, &run.tree, &run.report))?
+    };
+    // Forgotten as above.
+    mem::forget(run);
+    Ok(fine && good)
+}
+
+/// Builds targets, and writes the whole report to a stream.
+fn build_and_write<H: Runtime + Threads + Wait + Sync, W: Write + Drop>(
+    rt: &H,
+    alloc: Global,
+    build: &Build,
+    stream: W,
+    progress: &Progress<'_>,
+    cause: &mut Cause,
+) -> Result<Run, Fault>
+where
+    H::File: Send + Lockable,
+    H::Dir: Send,
+{
+    let mut writer = Plain::new(buffered(alloc, stream)?);
+    let outcome = build_to(rt, alloc, build, &mut writer, progress, cause);
+    // After a failed write the rest isn't tried again, as it would be if the buffer were dropped.
+    let (_stream, _unwritten) = writer.stream.into_parts();
+    outcome
+}
+
+/// Builds targets, and writes the whole report.
+fn build_to<H: Runtime + Threads + Wait + Sync, W: Write + Drop>(
+    rt: &H,
+    alloc: Global,
+    build: &Build,
+    writer: &mut Plain<BufWriter<W>>,
+    progress: &Progress<'_>,
+    cause: &mut Cause,
+) -> Result<Run, Fault>
+where
+    H::File: Send + Lockable,
+    H::Dir: Send,
+    requires { writer.old.broken ≡ false }
+{
+    let run = match &build.input {
+        Input::Bundle => {
+            let mut reader = Plain::new(rt.reader());
+            let options = &build.options;
+            let run = run_bundle(rt, alloc, &mut reader, writer, options, progress, cause)?;
+            Run::OverBundle(run)
+        }
+        Input::Directory(dir) => {
+            Run::OverDir(build_dir(rt, alloc, dir, build, writer, progress, cause)?)
+        }
+    };
+    flush(&mut writer.stream)?;
+    Ok(run)
+}
+
+/// Builds the targets of a directory.
+fn build_dir<H: Runtime + Threads + Wait + Sync, W: Write + Drop>(
+    rt: &H,
+    alloc: Global,
+    dir: &str,
+    build: &Build,
+    writer: &mut Plain<BufWriter<W>>,
+    progress: &Progress<'_>,
+    cause: &mut Cause,
+) -> Result<DirRun, Fault>
+where
+    H::File: Send + Lockable,
+    H::Dir: Send,
+    requires { writer.old.broken ≡ false }
+{
+    let options = &build.options;
+    if build.storing == Storing::Nothing {
+        let dir = SystemDir::new(rt, alloc, dir);
+        return Ok(preview_dir(rt, alloc, &dir, writer, options, progress, cause)?);
+    }
+    let lock = lock(rt, alloc, dir, cause)?;
+    let synced = build.storing == Storing::Synced;
+    let mut dir = SystemDir::locked(rt, alloc, dir, &lock, synced);
+    Ok(run_dir(rt, alloc, &mut dir, writer, options, progress, cause)?)
+}

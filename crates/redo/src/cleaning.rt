@@ -1,0 +1,96 @@
+//! The clean of a directory.
+
+use crate::status::Fault;
+use crate::{lock, note_passed};
+use redo_bundle::{Plain, write_all};
+use redo_clean::{CleanFault, CleanPlan, clean, cleaned_text, has_book, plan, planned_text};
+use redo_dir::{Lockable, StoreFault, SystemDir, WorkDir};
+use redo_mend::{Mended, mend};
+use redo_past::Past;
+use redo_run::{Cause, Said, load_with_book};
+use std::alloc::Global;
+use std::io;
+use std::rt::Runtime;
+use std::thread::Threads;
+
+/// What a clean of a directory would do, and how many names were passed over. So many threads read the directory.
+fn plan_of<H: Runtime + Threads + Sync, D: WorkDir + Sync>(
+    rt: &H,
+    alloc: Global,
+    dir: &D,
+    workers: usize,
+    cause: &mut Cause,
+) -> Result<(CleanPlan, u64), Fault>
+where
+    D::Draft: Send,
+{
+    let (tree, passed) = load_with_book(rt, alloc, dir, workers, cause)?;
+    let over = has_book(&tree);
+    let Mended { tree, left } = mend(rt, alloc, workers, tree)?;
+    let past = Past::open_by(rt, alloc, workers, tree)?;
+    let plan = plan(alloc, &past, left, over)?;
+    if plan.is_empty() {
+        return Err(Fault::NoBook);
+    }
+    Ok((plan, passed))
+}
+
+/// Prints what a clean did, or would do.
+fn print<H: Runtime>(rt: &H, text: &[u8]) -> Result<(), Fault> {
+    let mut writer = Plain::new(io::writer(rt));
+    Ok(write_all(&mut writer, text)?)
+}
+
+/// Removes what the last run left, and prints what became of it. Where the clean is broken off, what it has removed is
+/// printed, too.
+fn clean_by_plan<D: WorkDir, H: Runtime>(
+    rt: &H,
+    alloc: Global,
+    dir: &mut D,
+    plan: &CleanPlan,
+    cause: &mut Cause,
+) -> Result<(), Fault> {
+    let mut fates = Vec::new(alloc);
+    let outcome = clean(alloc, dir, plan, &mut fates);
+    print(rt, &cleaned_text(alloc, plan, &fates)?)?;
+    match outcome {
+        Ok(()) => Ok(()),
+        Err(CleanFault::Memory | CleanFault::Left(StoreFault::Memory(_))) => Err(Fault::Memory),
+        Err(CleanFault::Left(_)) => Err(Fault::Left),
+        Err(CleanFault::Device(path, said)) => {
+            cause.place.clear();
+            cause.place.extend_from_slice(path.text())?;
+            cause.said = Some(Said::System(said));
+            Err(Fault::Unremoved)
+        }
+    }
+}
+
+/// Cleans a directory, which so many threads read; in a dry run, prints what would become of it.
+pub(crate) fn clean_dir<H: Runtime + Threads + Sync>(
+    rt: &H,
+    alloc: Global,
+    dir: &str,
+    workers: usize,
+    dry_run: bool,
+    cause: &mut Cause,
+) -> Result<bool, Fault>
+where
+    H::File: Send + Lockable,
+    H::Dir: Send,
+{
+    let passed = if dry_run {
+        let dir = SystemDir::new(rt, alloc, dir);
+        let (plan, passed) = plan_of(rt, alloc, &dir, workers, cause)?;
+        print(rt, &planned_text(alloc, &plan)?)?;
+        passed
+    } else {
+        let lock = lock(rt, alloc, dir, cause)?;
+        let mut dir = SystemDir::locked(rt, alloc, dir, &lock, false);
+        let (plan, passed) = plan_of(rt, alloc, &dir, workers, cause)?;
+        clean_by_plan(rt, alloc, &mut dir, &plan, cause)?;
+        passed
+    };
+    note_passed(rt, passed);
+    Ok(true)
+}

@@ -1,0 +1,130 @@
+//! The names that a run passed over.
+
+use crate::voice::Voice;
+use bstr::BStr;
+use redo_dir::{Seen, SystemDir, WorkDir};
+use redo_path::{Path, resolve};
+use redo_tree::{Entry, Kind, Tree};
+use std::alloc::{AllocError, Global};
+use std::io;
+use std::rt::Runtime;
+
+/// So many names are said at most.
+const MOST: usize = 10;
+
+/// Why a name was passed over.
+#[derive(Clone, Copy)]
+enum Why {
+    /// It isn't UTF-8, so what it is isn't known either.
+    NoText,
+    /// No path has it: it holds a control byte, or is too long.
+    NoPath,
+    /// It is neither that of a file nor that of a directory.
+    NoFile,
+}
+
+/// Why a name in a directory was passed over, if it was.
+fn why_passed<D: WorkDir>(
+    alloc: Global,
+    dir: &D,
+    tree: &Tree,
+    above: &Path,
+    name: &Option<String>,
+) -> io::Result<Option<Why>> {
+    let Some(name) = name else {
+        return Ok(Some(Why::NoText));
+    };
+    let Ok(path) = resolve(alloc, above, name.as_bytes()) else {
+        return Ok(Some(Why::NoPath));
+    };
+    if tree.kind(&path) != Kind::Nothing {
+        return Ok(None);
+    }
+    match dir.look(alloc, &path)? {
+        Seen::Other => Ok(Some(Why::NoFile)),
+        Seen::File(_) | Seen::Directory => Ok(None),
+    }
+}
+
+/// The path of a name in a directory, for messages.
+fn shown(alloc: Global, above: &Path, name: &str) -> Result<Vec<u8>, AllocError> {
+    let mut text = Vec::new(alloc);
+    text.extend_from_slice(above.text())?;
+    if !text.is_empty() {
+        text.push(b'/')?;
+    }
+    text.extend_from_slice(name.as_bytes())?;
+    Ok(text)
+}
+
+/// The words for a name in a directory that isn't text.
+fn words_without_name(alloc: Global, above: &Path) -> Result<String, AllocError> {
+    let dir = if above.text().is_empty() {
+        BStr::new(b".".as_slice())
+    } else {
+        BStr::new(above.text())
+    };
+    format!(in alloc; "a name in {dir:?} was passed over: it isn't UTF-8")
+}
+
+/// The words for a name in a directory that was passed over.
+fn words(
+    alloc: Global,
+    above: &Path,
+    name: &Option<String>,
+    why: Why,
+) -> Result<String, AllocError> {
+    let Some(name) = name else {
+        return words_without_name(alloc, above);
+    };
+    let path = shown(alloc, above, name)?;
+    let path = BStr::new(&path);
+    match why {
+        Why::NoFile => format!(in alloc;
+            "{path:?} was passed over: it is no file and no directory"
+        ),
+        _ => format!(in alloc; "{path:?} was passed over: no path may have such a name"),
+    }
+}
+
+/// Says which names of a directory were passed over when this tree was read: the first of them, and how many more.
+fn say_names<H: Runtime>(
+    rt: &H,
+    alloc: Global,
+    voice: Voice,
+    dir: &str,
+    tree: &Tree,
+) -> io::Result<()> {
+    let dir = SystemDir::new(rt, alloc, dir);
+    let mut count = 0usize;
+    for (above, entry) in tree.in_order(alloc)? {
+        if !matches!(entry, Entry::Directory) {
+            continue;
+        }
+        for name in dir.list(alloc, above)? {
+            let Some(why) = why_passed(alloc, &dir, tree, above, &name)? else {
+                continue;
+            };
+            count = count.saturating_add(1);
+            if count <= MOST {
+                voice.note(rt, words(alloc, above, &name, why)?.as_bytes());
+            }
+        }
+    }
+    if count > MOST {
+        let more = count - MOST;
+        voice.note(
+            rt,
+            format!(in alloc; "and {more} more were passed over")?.as_bytes(),
+        );
+    }
+    Ok(())
+}
+
+/// Says which names of a directory were passed over, if notes are said. Where the directory can't be read any more, the
+/// rest is left out.
+pub(crate) fn note_names<H: Runtime>(rt: &H, alloc: Global, voice: Voice, dir: &str, tree: &Tree) {
+    if voice.notes {
+        let _said = say_names(rt, alloc, voice, dir, tree);
+    }
+}

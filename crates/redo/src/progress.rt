@@ -1,0 +1,112 @@
+//! The line that shows how far a build is.
+
+use bstr::BStr;
+use redo_core::board::Board;
+use redo_path::Path;
+use redo_run::Observer;
+use std::sync::atomic::AtomicU64;
+use std::sync::atomic::Ordering::Relaxed;
+use std::time::Instant;
+
+/// For so many milliseconds of a build nothing is shown.
+const PATIENCE: u64 = 300;
+
+/// So many milliseconds lie between two lines, at least.
+const PAUSE: u64 = 100;
+
+/// At most so many events are passed over between two looks at the clock.
+const MOST_PASSED: u64 = 64;
+
+/// Shows how far a build is, where it is to. Only the thread with the board shows it, and no other reads what is noted
+/// here.
+#[derive(Drop)]
+pub(crate) struct Progress<'a> {
+    rt: &'a HostRuntime,
+    /// When the build began; none if nothing is to be shown.
+    began: Option<Instant>,
+    /// How many events are passed over between two looks at the clock. A look may cost more than a short script.
+    stride: AtomicU64,
+    /// How many events are passed over before the next look.
+    passes: AtomicU64,
+    /// When the clock was looked at last, in milliseconds from the beginning.
+    looked: AtomicU64,
+    /// When the last line was shown; 0 if none was.
+    shown: AtomicU64,
+}
+
+impl<'a> Progress<'a> {
+    /// The progress of a build that begins now.
+    pub(crate) fn new(rt: &'a HostRuntime, is_shown: bool) -> Progress<'a> {
+        let began = if is_shown {
+            Instant::now(rt).ok()
+        } else {
+            None
+        };
+        Progress {
+            rt,
+            began,
+            stride: AtomicU64::new(1),
+            passes: AtomicU64::new(0),
+            looked: AtomicU64::new(0),
+            shown: AtomicU64::new(0),
+        }
+    }
+
+    /// How many milliseconds ago the build began, if that is to be shown.
+    pub(crate) fn milliseconds(&self) -> Option<u64> {
+        let elapsed = self.began?.elapsed(self.rt).ok()?;
+        u64::try_from(elapsed.as_millis()).ok()
+    }
+
+    /// Looks at the clock, unless this event is passed over. Where events follow one another within a millisecond, more of
+    /// them are passed over from now on.
+    fn look(&self) -> Option<u64> {
+        let passes = self.passes.load(Relaxed);
+        if passes > 0 {
+            self.passes.store(passes - 1, Relaxed);
+            return None;
+        }
+        let now = self.milliseconds()?;
+        let stride = if now > self.looked.load(Relaxed) {
+            1
+        } else {
+            self.stride.load(Relaxed).saturating_mul(2).min(MOST_PASSED)
+        };
+        self.looked.store(now, Relaxed);
+        self.stride.store(stride, Relaxed);
+        self.passes.store(stride, Relaxed);
+        Some(now)
+    }
+
+    /// Whether a line is due at this moment.
+    fn is_due(&self, now: u64) -> bool {
+        now >= PATIENCE && now.saturating_sub(self.shown.load(Relaxed)) >= PAUSE
+    }
+
+    /// Clears the line, if there is one.
+    pub(crate) fn clear(&self) {
+        if self.shown.load(Relaxed) != 0 {
+            let _shown = eprint!(self.rt; "\r\x1b[K");
+        }
+    }
+}
+
+impl Observer for Progress<'_> {
+    /// Writes the line over the one before. The terminal cuts it at its width.
+    fn given_out(&self, board: &Board, target: &Path, _turn: u64) {
+        if self.began.is_none() {
+            return;
+        }
+        let Some(now) = self.look() else {
+            return;
+        };
+        if self.is_due(now) {
+            self.shown.store(now, Relaxed);
+            let (decided, seen) = (board.decided(), board.seen());
+            let target = BStr::new(target.text());
+            let _shown = eprint!(self.rt; "\r\x1b[?7l[{decided}/{seen}] {target}\x1b[K\x1b[?7h");
+        }
+    }
+
+    fn taken_up(&self, _target: &Path, _turn: u64) {}
+}
