@@ -1,15 +1,15 @@
 /* A library that is loaded into the program before the C library. It counts the program's calls by their kind, and
    refuses those of one kind from one call to another, counted from 1, with an error number, or with the answer 0 where
-   that is 0; past all errors it is 4096 and the number of a signal, which the program gets at the call. And it lets a
-   read or a write move so many bytes at most: REFUSE is "kind first last error most". The counts stand in the file that
-   COUNTS names, however the program ends: the calls of each kind, and then the refused ones. It takes in no header,
-   since the kit's compiler comes without. */
+   that is 0; past all errors it is 4096 and the number of a signal, which the program gets at the call, before it is
+   made. And it lets a read or a write move so many bytes at most: REFUSE is "kind first last error most". The counts
+   stand in the file that COUNTS names, however the program ends: the calls of each kind, and then the refused ones. It
+   takes in no header, since the kit's compiler comes without. */
 
 typedef unsigned long size_t;
 typedef long ssize_t;
 
 enum { SIGNALS = 4096 };
-enum { MEMORY, THREAD, OPEN, LOOK, LIST, READ, WRITE, SAY, RENAME, REMOVE, SYNC, LOCK, KINDS };
+enum { MEMORY, THREAD, OPEN, LOOK, LIST, READ, WRITE, SAY, RENAME, REMOVE, SYNC, LOCK, MODE, KINDS };
 
 /* Of the C library. */
 extern void *__libc_malloc(size_t), *__libc_calloc(size_t, size_t), *__libc_realloc(void *, size_t);
@@ -30,7 +30,7 @@ static int (*next_statx)(int, const char *, int, unsigned, void *), (*next_renam
 static int (*next_unlink)(const char *), (*next_pthread_create)(void *, const void *, void *(*)(void *), void *);
 static ssize_t (*next_getdents64)(int, void *, size_t), (*next_read)(int, void *, size_t);
 static ssize_t (*next_write)(int, const void *, size_t);
-static int (*next_fsync)(int), (*next_flock)(int, int);
+static int (*next_fsync)(int), (*next_flock)(int, int), (*next_fchmod)(int, unsigned);
 
 __attribute__((constructor)) static void begin(void) {
     char *told = getenv("REFUSE"), *file = getenv("COUNTS");
@@ -45,6 +45,7 @@ __attribute__((constructor)) static void begin(void) {
     next_write = dlsym(NEXT, "write");
     next_fsync = dlsym(NEXT, "fsync");
     next_flock = dlsym(NEXT, "flock");
+    next_fchmod = dlsym(NEXT, "fchmod");
     if (told == 0 || file == 0)
         return;
     kind = strtoul(told, &told, 10);
@@ -64,8 +65,10 @@ static int refused(unsigned long this) {
     if (this != kind || call < first || last < call)
         return 0;
     __atomic_add_fetch(&counts[KINDS], 1, __ATOMIC_SEQ_CST);
-    if (error > SIGNALS)
+    if (error > SIGNALS) {
         kill(getpid(), error - SIGNALS);
+        return 0;
+    }
     *__errno_location() = error;
     return 1;
 }
@@ -125,3 +128,5 @@ int unlink(const char *path) { return refused(REMOVE) ? -1 : next_unlink(path); 
 int fsync(int file) { return refused(SYNC) ? -1 : next_fsync(file); }
 
 int flock(int file, int how) { return refused(LOCK) ? -1 : next_flock(file, how); }
+
+int fchmod(int file, unsigned mode) { return refused(MODE) ? -1 : next_fchmod(file, mode); }

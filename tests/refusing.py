@@ -8,8 +8,8 @@ import sys
 import tempfile
 import threading
 from collections import namedtuple
-from errno import EAGAIN, EIO, ENOMEM, ENOSPC, EWOULDBLOCK
-from signal import SIGKILL
+from errno import EAGAIN, EIO, ENOMEM, ENOSPC, EPERM, EWOULDBLOCK
+from signal import SIGKILL, SIGSTOP
 
 sys.dont_write_bytecode = True
 from program import Case, run
@@ -28,11 +28,12 @@ KINDS = {
     "remove": EIO,
     "sync": EIO,
     "lock": EWOULDBLOCK,
+    "mode": EPERM,
 }
 WITHOUT_END = 2**63
-# In place of an error: the program gets a signal at the call.
+# In place of an error: the program gets a signal at the call, by which it ends, or waits before the call is made.
 SIGNALS = 4096
-KILLED = SIGNALS + SIGKILL
+KILLED, STOPPED = SIGNALS + SIGKILL, SIGNALS + SIGSTOP
 
 # How many calls of each kind a run made, and how many of them were refused.
 Counts = namedtuple("Counts", [*KINDS, "refused"])

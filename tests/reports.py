@@ -1,6 +1,6 @@
 """What a report and a book hold, told again from the manual and without the program: the parts of a report, the first
-line at fault of a text that is no book, what a tree's book says of its files, which targets a run keeps by it, and the
-book that a run leaves."""
+line at fault of a text that is no book, what a tree's book says of its files, which targets a run keeps by it, the book
+that a run leaves, and what is noted of it."""
 
 import os
 import re
@@ -181,6 +181,41 @@ def has_rule(path, stated, left):
     if path in left or stated.get(path, "") is None or above and stated.get(above, "") is not None:
         return False
     return any(it in left for it in candidates(path))
+
+
+def rule_of(path, left):
+    """The .do file that the search for a path's rule chooses, whatever is at the path; None where it finds none."""
+    return next((it for it in candidates(path) if it in left), None)
+
+
+# Why a file is noted: a source that a rule would make, a file that a target was built without, and one without a rule.
+UNBUILT = "{}: no run left it so, so it counts as yours and isn't built; remove it to have {} make it"
+YOURS = "; remove it, or it counts as yours from the next run on"
+UNMADE = "{}: it was built without a file now, but the file of an earlier run stays" + YOURS
+RULELESS = "{}: no rule makes it any more, and its file stays" + YOURS
+
+
+def stale(tree, requested, head):
+    """What is noted of a run over a tree that came to this report: the lines of each kind."""
+    stated, book, head = states(tree), book_of(tree), os.fsdecode(head)
+    left = sources(stated, book)
+    asked = {*requested, *re.findall(r"^dep change (.*)$", head, re.M)}
+    bare = re.findall(r"^built none (.*)$", head, re.M)
+    made = {target: at for target, (at, _) in (records(book) if book is not None else {}).items()}
+    ruled = {path: rule_of(path, left) for path in {*left, *made}}
+    return [
+        [UNBUILT.format(path, ruled[path]) for path in in_order(left) if path in asked and ruled[path]],
+        [UNMADE.format(path) for path in in_order(bare) if stated.get(path)],
+        [RULELESS.format(path) for path in in_order(made) if stated.get(path) == made[path] and not ruled[path]],
+    ]
+
+
+def notes(tree, requested, head, most=10):
+    """The lines that are said of a run: of each kind at most so many, and then how many more there are."""
+    lines = []
+    for kind in stale(tree, requested, head):
+        lines += kind[:most] + [f"and {len(kind) - most} more like it"] * (len(kind) > most)
+    return os.fsencode("".join(line + "\n" for line in lines))
 
 
 def noted(head, files, left):
