@@ -8,6 +8,13 @@ _redo_options=(
     "--keep-going  Keep going when targets fail; required for a build"
     "--bundle      Read the tree as a bundle from standard input"
     "-C            Read the tree from the directory DIR"
+    "--top         Read it from the nearest directory with a book"
+    "-n            Do all but change the directory"
+    "--dry-run     Do all but change the directory"
+    "--explain     Say why each script was begun"
+    "--format      Print the report as report, json or dot"
+    "--with-rules  With --format dot: draw .do files, too"
+    "--strict      Fail if a file is stale or soon will be"
     "--sync        Have each file on the disk before it gets its name"
     "--whichdo     Print where the rule of TARGET is looked for"
     "--targets     Print the built targets that stand as they were left"
@@ -15,9 +22,14 @@ _redo_options=(
     "--deps        Print what TARGET depends on"
     "--rdeps       Print the targets that depend on PATH"
     "--all         With --rdeps: directly or through others"
+    "--ood         Print which targets are out of date, and why"
     "--pack        Print the directory as a bundle"
-    "-v            Say the cause behind a message, where it is known"
-    "--verbose     Say the cause behind a message, where it is known"
+    "--unpack      Make a bundle's files in an empty or new directory"
+    "--clean       Remove the files that the last run left, and its book"
+    "-v            Add causes to messages, and notes on stale files"
+    "--verbose     Add causes to messages, and notes on stale files"
+    "-q            Print no notes and no progress on a terminal"
+    "--quiet       Print no notes and no progress on a terminal"
     "-h            Print help"
     "--help        Print help"
     "-V            Print version"
@@ -81,11 +93,11 @@ _redo() {
         elif [[ ! $ended ]]; then
             case $REPLY in
             --) ended=yes ;;
-            -j | -[kv]*j | --jobs) awaited=number ;;
-            -C | -[kv]*C) awaited=dir ;;
+            -j | -[knqv]*j | --jobs) awaited=number ;;
+            -C | -[knqv]*C) awaited=dir ;;
             -C?*) dir=${REPLY#-C} ;;
             --whichdo | --deps | --rdeps) awaited=target alone=yes ;;
-            --targets | --sources | --pack) alone=yes ;;
+            --targets | --sources | --pack | --unpack | --clean) alone=yes ;;
             esac
         fi
     done

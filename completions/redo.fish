@@ -6,7 +6,7 @@ function __redo_targets --description "The targets of the tree"
     set -l before
     for word in (commandline -opc)
         switch "$before"
-            case -C '-k*C' '-v*C'
+            case -C '-k*C' '-n*C' '-q*C' '-v*C'
                 set dir $word
         end
         switch $word
@@ -37,6 +37,12 @@ complete -c redo -s j -l jobs -x -a "(seq 64)" -d "Run up to N scripts at a time
 complete -c redo -s k -l keep-going -d "Keep going when targets fail; required for a build"
 complete -c redo -l bundle -d "Read the tree as a bundle from standard input"
 complete -c redo -s C -x -a "(__fish_complete_directories (commandline -ct))" -d "Read the tree from the directory DIR"
+complete -c redo -l top -d "Read it from the nearest directory with a book"
+complete -c redo -s n -l dry-run -d "Do all but change the directory"
+complete -c redo -l explain -d "Say why each script was begun"
+complete -c redo -l format -x -a "report json dot" -d "Print the report as report, json or dot"
+complete -c redo -l with-rules -d "With --format dot: draw .do files, too"
+complete -c redo -l strict -d "Fail if a file is stale or soon will be"
 complete -c redo -l sync -d "Have each file on the disk before it gets its name"
 complete -c redo -l whichdo -x -a "(__redo_targets)" -d "Print where the rule of TARGET is looked for"
 complete -c redo -l targets -d "Print the built targets that stand as they were left"
@@ -44,8 +50,12 @@ complete -c redo -l sources -d "Print the sources that these depend on"
 complete -c redo -l deps -x -a "(__redo_targets)" -d "Print what TARGET depends on"
 complete -c redo -l rdeps -x -a "(__redo_targets)" -d "Print the targets that depend on PATH"
 complete -c redo -l all -d "With --rdeps: directly or through others"
+complete -c redo -l ood -d "Print which targets are out of date, and why"
 complete -c redo -l pack -d "Print the directory as a bundle"
-complete -c redo -s v -l verbose -d "Say the cause behind a message, where it is known"
+complete -c redo -l unpack -d "Make a bundle's files in an empty or new directory"
+complete -c redo -l clean -d "Remove the files that the last run left, and its book"
+complete -c redo -s v -l verbose -d "Add causes to messages, and notes on stale files"
+complete -c redo -s q -l quiet -d "Print no notes and no progress on a terminal"
 complete -c redo -s h -l help -d "Print help"
 complete -c redo -s V -l version -d "Print version"
-complete -c redo -n "not __fish_contains_opt whichdo targets sources deps rdeps pack" -a "(__redo_targets)"
+complete -c redo -n "not __fish_contains_opt whichdo targets sources deps rdeps pack unpack clean" -a "(__redo_targets)"
