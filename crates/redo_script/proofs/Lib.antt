@@ -7,6 +7,7 @@ pub mod FoundScriptLemmas
 pub mod FoundTokenLemmas
 pub mod HandedLemmas
 pub mod InterpreterLemmas
+pub mod MarkLemmas
 pub mod NameLemmas
 pub mod NulLemmas
 pub mod NumberLemmas
@@ -26,6 +27,7 @@ pub mod RefusingLemmas
 pub mod RunLemmas
 pub mod SpelledLemmas
 pub mod StatementLemmas
+pub mod StopMarkLemmas
 pub mod StopTokenLemmas
 pub mod TableLemmas
 pub mod WholeScriptLemmas

@@ -11,22 +11,9 @@ use Rattle.redo_script.specs.Syntax.{bare, quoted, named_bare, named_quoted}
 use Rattle.redo_script.specs.Tokens.{Token, redirect, ends_word, is_escaped}
 use Rattle.redo_script.specs.Reading.{Reader, with_token, with_begun_word, with_word, word_byte, gap_byte, in_word}
 use Rattle.redo_script.specs.Reading.{parameter_named, with_parameter, with_symbol, with_name, after_dollar, in_double, next_byte, at_end}
+use Rattle.redo_script.specs.inside.Lexer.{is_inside}
 use Rattle.redo_script.proofs.BitLemmas.{never, injected}
 use Rattle.redo_script.proofs.OneByteLemmas.{at}
-
-abbrev pub is_inside : Mode → Bool
-is_inside modes.Gap = false
-is_inside modes.Semicolon = false
-is_inside modes.Redirect = false
-is_inside modes.Comment = false
-is_inside modes.Word = false
-is_inside modes.Dollar = false
-is_inside modes.Name = false
-is_inside modes.Single = true
-is_inside modes.Double = true
-is_inside modes.QuotedDollar = true
-is_inside modes.QuotedName = true
-is_inside modes.Escape = true
 
 -- a byte outside quotes opens them, in its line, if anything does
 abbrev OpensAt : ℕ → ℕ → Mode → ℕ → Type 0

@@ -17,14 +17,15 @@ use Rattle.redo_script.specs.Reading.{with_name, with_symbol, after_dollar, afte
 use Rattle.redo_script.specs.Reading.{in_word, in_single, in_double, after_backslash, parameter_named, with_parameter}
 use Rattle.redo_script.specs.Reading.{next_byte, at_end, read_on, tokens_of}
 use Rattle.redo_script.specs.Places.{line_from, CanGoOn, NeedsParameter, QuoteIsOpen, StopsAtByte, StopsAtEnd}
+use Rattle.redo_script.specs.inside.Lexer.{is_inside}
 use Rattle.redo_script.proofs.BitLemmas.{never, bind_ok, not_same, not_in}
 use Rattle.redo_script.proofs.OneByteLemmas.{at}
-use Rattle.redo_script.proofs.OpenQuoteLemmas.{is_inside, out, QuoteOpens, opens_from, remains_from, inside_ends}
+use Rattle.redo_script.proofs.OpenQuoteLemmas.{out, QuoteOpens, opens_from, remains_from, inside_ends}
 use Rattle.redo_script.proofs.OnlyTokenLemmas.{only_tokens}
 use Rattle.redo_script.proofs.FoundTokenLemmas.{found_tokens}
 
 -- one byte leaves reading in its line or the next, or is the fault, in its line
-abbrev KeepsLine : ℕ → ℕ → Result Reader ScriptFault → Type 0
+abbrev pub KeepsLine : ℕ → ℕ → Result Reader ScriptFault → Type 0
 KeepsLine l b (Ok r) = r.line ≡ line_after l b
 KeepsLine l b (Err f) = f ≡ record { line = l; why = reasons.Unsupported }
 
@@ -110,7 +111,7 @@ mode_keeps modes.QuotedDollar r b = quoted_dollar_keeps (at modes.QuotedDollar r
 mode_keeps modes.QuotedName r b = by_if r.line b (continues_name b) _ _ (λ e. stays r.line b (not_same continues_name b 10 refl e)) (λ e. double_keeps (with_symbol (at modes.QuotedName r.line r) modes.Double (named_quoted r.name)) b)
 mode_keeps modes.Escape r b = escape_keeps (at modes.Escape r.line r) b
 
-keeps : (r : Reader) (b : ℕ) → KeepsLine r.line b (next_byte r b)
+pub keeps : (r : Reader) (b : ℕ) → KeepsLine r.line b (next_byte r b)
 keeps r b = mode_keeps r.mode r b
 
 named : (b : ℕ) → ((p : Parameter) × Names b p) ⊎ (parameter_named b ≡ None)
@@ -158,16 +159,16 @@ closes : (r : Reader) → Closes r
 closes r = mode_closes r.mode r
 
 -- what reading a beginning of the bytes leaves
-data Leads : Reader → List ℕ → Reader → Type 0 where
+pub data Leads : Reader → List ℕ → Reader → Type 0 where
   nowhere : {r : Reader} → Leads r [] r
   further : {r r' last : Reader} {b : ℕ} {bs : List ℕ} → next_byte r b ≡ Ok r' → Leads r' bs last → Leads r (b ∷ bs) last
 
-leads_on : {r last : Reader} {bs : List ℕ} (more : List ℕ) → Leads r bs last → read_on r (bs ++ more) ≡ read_on last more
+pub leads_on : {r last : Reader} {bs : List ℕ} (more : List ℕ) → Leads r bs last → read_on r (bs ++ more) ≡ read_on last more
 unfolding read_on
 leads_on more nowhere = refl
 leads_on more (further e k) = rw e (leads_on more k)
 
-leads_line : {r last : Reader} {bs : List ℕ} → Leads r bs last → last.line ≡ line_from r.line bs
+pub leads_line : {r last : Reader} {bs : List ℕ} → Leads r bs last → last.line ≡ line_from r.line bs
 leads_line nowhere = refl
 leads_line (further {r} {r'} {last} {b} {bs} e k) =
     let here : r'.line ≡ line_after r.line b = rw e at (keeps r b) in
@@ -204,13 +205,13 @@ stop_of (b ∷ bs) r fault h = next (λ r' k. stop_of bs r' fault k) (next_byte 
     next goes (Ok r') e = later r' e (goes r' (rw e at h))
     next goes (Err f) e = inl (record { before = []; byte = b; after = bs; last = r; is = refl; leads = nowhere; stops = e ∙ same_fault f fault (rw e at h) })
 
-can_go_on : (before : List ℕ) (last : Reader) → Leads at_start before last → CanGoOn before
+pub can_go_on : (before : List ℕ) (last : Reader) → Leads at_start before last → CanGoOn before
 unfolding tokens_of
 can_go_on before last k =
     let c = closes last in
     record { more = c.more; tokens = c.tokens; are_tokens = found_tokens (before ++ c.more) c.tokens (leads_on c.more k ∙ c.reads) }
 
-can_not : (before : List ℕ) (b : ℕ) (last : Reader) (fault : ScriptFault) → Leads at_start before last → next_byte last b ≡ Err fault → CanGoOn (before ++ b ∷ []) → ⊥
+pub can_not : (before : List ℕ) (b : ℕ) (last : Reader) (fault : ScriptFault) → Leads at_start before last → next_byte last b ≡ Err fault → CanGoOn (before ++ b ∷ []) → ⊥
 unfolding tokens_of read_on
 can_not before b last fault k e g =
     let all : read_on at_start ((before ++ b ∷ []) ++ g.more) ≡ Ok g.tokens = only_tokens ((before ++ b ∷ []) ++ g.more) g.tokens g.are_tokens in
@@ -219,7 +220,7 @@ can_not before b last fault k e g =
     never (sym stuck ∙ (rw same at all))
 
 -- reading goes on inside quotes
-data Within : Reader → List ℕ → Reader → Type 0 where
+pub data Within : Reader → List ℕ → Reader → Type 0 where
   ends_in : {r : Reader} → is_inside r.mode ≡ true → Within r [] r
   goes_in : {r r' last : Reader} {b : ℕ} {bs : List ℕ} → is_inside r.mode ≡ true → next_byte r b ≡ Ok r' → Within r' bs last → Within r (b ∷ bs) last
 
@@ -248,17 +249,17 @@ cut (c ∷ x) y (goes_in {r} {r'} {last} {b} {bs} i n k) e =
     record { last = on.last; leads = further one on.leads; is_in = on.is_in }
 
 -- the quote in which reading stands
-record InQuote (r : Reader) (bs : List ℕ) (last : Reader) : Type 0 where
-  before : List ℕ
-  quote : ℕ
-  inside : List ℕ
-  mid : Reader
-  inner : Reader
-  is : bs ≡ before ++ quote ∷ inside
-  leads : Leads r before mid
-  opens : QuoteOpens mid quote inner
-  step : next_byte mid quote ≡ Ok inner
-  within : Within inner inside last
+pub record InQuote (r : Reader) (bs : List ℕ) (last : Reader) : Type 0 where
+  pub before : List ℕ
+  pub quote : ℕ
+  pub inside : List ℕ
+  pub mid : Reader
+  pub inner : Reader
+  pub is : bs ≡ before ++ quote ∷ inside
+  pub leads : Leads r before mid
+  pub opens : QuoteOpens mid quote inner
+  pub step : next_byte mid quote ≡ Ok inner
+  pub within : Within inner inside last
 
 quote_of : {r last : Reader} {bs : List ℕ} → Leads r bs last → is_inside last.mode ≡ true → Within r bs last ⊎ InQuote r bs last
 quote_of nowhere i = inl (ends_in i)
@@ -269,11 +270,11 @@ quote_of (further {r} {r'} {last} {b} {bs} e k) i = one_more (cases_Bool (is_ins
     one_more (inl here) (inl w) = inl (goes_in here e w)
     one_more (inr o) (inl w) = inr (record { before = []; quote = b; inside = bs; mid = r; inner = r'; is = refl; leads = nowhere; opens = opens_from r.mode r r' b o e (is_within w); step = e; within = w })
 
-reads_to : {r last : Reader} {bs : List ℕ} → Leads r bs last → read_on r bs ≡ at_end last
+pub reads_to : {r last : Reader} {bs : List ℕ} → Leads r bs last → read_on r bs ≡ at_end last
 unfolding read_on
 reads_to {r} {last} {bs} k = ap (λ x. read_on r x) (sym (append-nil bs)) ∙ leads_on [] k
 
-quote_is_open : (text : List ℕ) (last : Reader) (fault : ScriptFault) → InQuote at_start text last → fault ≡ record { line = last.opened; why = reasons.OpenQuote } → QuoteIsOpen text fault
+pub quote_is_open : (text : List ℕ) (last : Reader) (fault : ScriptFault) → InQuote at_start text last → fault ≡ record { line = last.opened; why = reasons.OpenQuote } → QuoteIsOpen text fault
 unfolding tokens_of read_on
 quote_is_open text last fault q f = record {
   before = q.before;
@@ -294,7 +295,12 @@ quote_is_open text last fault q f = record {
         let all : read_on at_start (q.before ++ q.quote ∷ x) ≡ Err stuck.0 = leads_on (q.quote ∷ x) q.leads ∙ (on ∙ (reads_to s.leads ∙ stuck.1)) in
         never (sym all ∙ h)
 
-leads_one : {r mid last : Reader} {bs : List ℕ} (b : ℕ) → Leads r bs mid → next_byte mid b ≡ Ok last → Leads r (bs ++ b ∷ []) last
+-- it is that quote
+pub quote_place : (text : List ℕ) (last : Reader) (fault : ScriptFault) (q : InQuote at_start text last) (f : fault ≡ record { line = last.opened; why = reasons.OpenQuote }) → (quote_is_open text last fault q f).before ≡ q.before
+unfolding quote_is_open
+quote_place text last fault q f = refl
+
+pub leads_one : {r mid last : Reader} {bs : List ℕ} (b : ℕ) → Leads r bs mid → next_byte mid b ≡ Ok last → Leads r (bs ++ b ∷ []) last
 leads_one b nowhere e = further e nowhere
 leads_one b (further k i) e = further k (leads_one b i e)
 
@@ -316,12 +322,12 @@ digit_next text last m n symbol k e b g = elim (named b) [
 no_digit : (text : List ℕ) (last next : Reader) → Leads at_start text last → next_byte last 32 ≡ Ok next → NeedsParameter text → ⊥
 no_digit text last next k e g = elim (g 32 (goes_on text last next 32 k e)) [ inl n ↦ blank_names n.0 n.1 | inr b ↦ cc b ]
 
-abbrev EndsAs : List ℕ → Reader → ScriptFault → Type 0
+abbrev pub EndsAs : List ℕ → Reader → ScriptFault → Type 0
 EndsAs text r fault =
     (NeedsParameter text × (fault ≡ record { line = r.line; why = reasons.Unsupported }))
     ⊎ ((NeedsParameter text → ⊥) × (is_inside r.mode ≡ true) × (fault ≡ record { line = r.opened; why = reasons.OpenQuote }))
 
-end_fault : (text : List ℕ) (m : Mode) (r : Reader) (fault : ScriptFault) → Leads at_start text (at m r.line r) → at_end (at m r.line r) ≡ Err fault → EndsAs text (at m r.line r) fault
+pub end_fault : (text : List ℕ) (m : Mode) (r : Reader) (fault : ScriptFault) → Leads at_start text (at m r.line r) → at_end (at m r.line r) ≡ Err fault → EndsAs text (at m r.line r) fault
 unfolding at_end next_byte
 end_fault text modes.Gap r fault k h = absurd (cc h)
 end_fault text modes.Semicolon r fault k h = absurd (cc h)

@@ -10,4 +10,5 @@ pub mod Texts
 pub mod Places
 pub mod Refusals
 pub mod Refused
+pub mod Marks
 pub mod inside

@@ -3,3 +3,4 @@ pub mod Lexer
 pub mod Parser
 pub mod Passes
 pub mod Runs
+pub mod Stops

@@ -1,6 +1,8 @@
 //! From bytes to tokens, byte by byte.
 
+pub mod marks;
 mod runs;
+pub mod stops;
 
 ghost use Rattle.std.specs.Prelude.{◌≡◌, ◌+◌, ◌<◌, ◌≤◌, ◌^◌, map, Ok, OnOk, IfOk, IfErr, []};
 ghost use Rattle.redo_script.specs.Faults.{Gives, fault_at, no_memory};

@@ -9,6 +9,8 @@
 //! - `reader`: the passes over a text, and `parse`.
 //! - `bytes`, `spans`, `token`, `lexer`: from bytes to tokens; `lexer::runs`: many bytes at once.
 //! - `item`, `name`, `number`, `form`, `partial`, `open`, `parser`: from tokens to statements.
+//! - `places`, `lexer::stops`, `lexer::marks`, `parser::reading`: which bytes of a text are to blame for its fault, and
+//!   which are the words of a statement. They read a text once more, byte by byte.
 //! - `laws`: theorems that relate the grammar to the functions that find a text's fault. Each is a function that does
 //!   nothing and whose contract is the law.
 #![tactic(auto)]
@@ -25,6 +27,7 @@ mod number;
 mod open;
 mod parser;
 mod partial;
+mod places;
 mod reader;
 mod spans;
 mod token;
@@ -32,4 +35,6 @@ mod token;
 pub use ast::{Command, Condition, Parameter, Part, Redirection, Script, Stmt, Test, Word, Writer};
 pub use bytes::is_plain_byte;
 pub use fault::{Reason, ScriptFault};
+pub use name::{command_names, is_command_name};
+pub use places::{FaultPlace, Span, Spot, place_of_fault, statement_words};
 pub use reader::parse;

@@ -1,6 +1,7 @@
 //! The names of commands.
 
-ghost use Rattle.std.specs.Prelude.{◌≡◌, IfSome, is_some};
+ghost use Rattle.std.specs.Prelude.{◌≡◌, IfSome, is_some, map, true};
+ghost use Rattle.redo_script.specs.Syntax.{byte};
 ghost use Rattle.redo_script.specs.Parsing.{commands, is_one_of};
 ghost use Rattle.redo_script.specs.Refusals.{conditions};
 ghost use Rattle.redo_script.specs.inside.Parser.{item_of, word_named};
@@ -63,4 +64,29 @@ impl CommandName {
             CommandName::Test | CommandName::True | CommandName::False
         )
     }
+}
+
+/// The names of all commands, in the order of the manual.
+pub fn command_names() -> [&'static str; 10]
+    ensures { map (λ name. name.now) result ≡ commands }
+{
+    [
+        "echo",
+        "printf",
+        "cat",
+        "test",
+        "redo-ifchange",
+        "redo-ifcreate",
+        "redo-always",
+        "true",
+        "false",
+        "exit",
+    ]
+}
+
+/// Whether a word of these plain bytes is the name of a command.
+pub fn is_command_name(word: &[u8]) -> bool
+    ensures { result ≡ is_one_of commands (record { is_plain = true; word = map byte word.now }) }
+{
+    CommandName::of(&Item::Lent(true, word)).is_some()
 }

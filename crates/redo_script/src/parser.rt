@@ -1,5 +1,7 @@
 //! From tokens to statements.
 
+pub mod reading;
+
 ghost use Rattle.std.specs.Prelude.{◌≡◌, Ok, OnOk, IfErr, [], ◌∷◌, ◌++◌, List, Result, map};
 ghost use Rattle.redo_script.specs.declared.fault.ScriptFault.{ScriptFault};
 ghost use Rattle.redo_script.specs.Syntax.{Script as ScriptTree};
