@@ -87,10 +87,10 @@ module _ (setting : Setting) (ask : Ask) where
       rw is (l.0, l.1, rw (stands_before index whole) first)
   stop_comes line c index s t stops.Memory p whole rest other e k is at = absurd is
 
-  opened_simple : (x : Stmt) (line : ℕ) (c : CommandTree) (rest : Script) → x ≡ stmt.Simple line c → before x rest ≡ simple line (command_of c) rest
+  pub opened_simple : (x : Stmt) (line : ℕ) (c : CommandTree) (rest : Script) → x ≡ stmt.Simple line c → before x rest ≡ simple line (command_of c) rest
   opened_simple x line c rest is = before-opened x rest ∙ rw is (ap (λ o. opened o rest) (outs-Simple line c))
 
-  opened_if : (x : Stmt) (line : ℕ) (c : ConditionTree) (a b : Vec Stmt Global) (rest : Script) → x ≡ stmt.If line c a b → before x rest ≡ choice line (condition_of c) (script_of a.items) (script_of b.items) rest
+  pub opened_if : (x : Stmt) (line : ℕ) (c : ConditionTree) (a b : Vec Stmt Global) (rest : Script) → x ≡ stmt.If line c a b → before x rest ≡ choice line (condition_of c) (script_of a.items) (script_of b.items) rest
   opened_if x line c a b rest is = before-opened x rest ∙ rw is (ap (λ o. opened o rest) (outs-If line c a b))
 
   pub passes_goes : (x : Stmt) (line : ℕ) (c : CommandTree) (index : ℕ) (s t : State) → x ≡ stmt.Simple line c → command_run setting ask line (command_of c) s ≡ goes t → IsPassed setting ask x index s progress.Finished t
@@ -125,7 +125,7 @@ module _ (setting : Setting) (ask : Ask) where
     comes = λ whole rest at. let o = opened_if x line c a b rest is in rw o (stops_first (condition_result setting ask line (condition_of c) s) (choice line (condition_of c) (script_of a.items) (script_of b.items) rest) index s stop p whole (all_of setting rest) (choice_ends line (condition_of c) (script_of a.items) (script_of b.items) rest s) e k before (at ∙ o));
   }
 
-  opened_loop : (x : Stmt) (line : ℕ) (name : List ℕ) (ws : Vec WordTree Global) (body : Vec Stmt Global) (rest : Script) → x ≡ stmt.Loop line name ws body → before x rest ≡ loop line name (words_of ws.items) (script_of body.items) rest
+  pub opened_loop : (x : Stmt) (line : ℕ) (name : List ℕ) (ws : Vec WordTree Global) (body : Vec Stmt Global) (rest : Script) → x ≡ stmt.Loop line name ws body → before x rest ≡ loop line name (words_of ws.items) (script_of body.items) rest
   opened_loop x line name ws body rest is = before-opened x rest ∙ rw is (ap (λ o. opened o rest) (outs-Loop line name ws body))
 
   pub passes_words : (x : Stmt) (line : ℕ) (name : List ℕ) (ws : Vec WordTree Global) (body : Vec Stmt Global) (index : ℕ) (s : State) (stop : Halt) (p : RunEnd) → x ≡ stmt.Loop line name ws body → IsMeant (option_map Err (end_by stop)) (texts_of setting line (words_of ws.items)) → kept_by {X = List (List ℕ)} (Err stop) ≡ None → IsStopBefore stop index p → IsPassed setting ask x index s p s
@@ -293,7 +293,7 @@ module _ (setting : Setting) (ask : Ask) where
 
   -- the loop over statements
 
-  at_item : (xs : List Stmt) (index : ℕ) (x : Stmt) → index < length xs → x ≡ get_or xs index x → skip index (script_of xs) ≡ before x (skip (index + 1) (script_of xs))
+  pub at_item : (xs : List Stmt) (index : ℕ) (x : Stmt) → index < length xs → x ≡ get_or xs index x → skip index (script_of xs) ≡ before x (skip (index + 1) (script_of xs))
   at_item xs index x lt is = rw add-one (skip_at xs index x lt ∙ ap (λ y. opened (out-Stmt y) (skip (suc index) (script_of xs))) (sym is) ∙ sym (before-opened x (skip (suc index) (script_of xs))))
 
   pub item_comes : (xs : List Stmt) (first index : ℕ) (x : Stmt) (s t u : State) (p : RunEnd) → index < length xs → x ≡ get_or xs index x → Reaches setting ask (all_of setting (skip first (script_of xs))) s (all_of setting (skip index (script_of xs))) t → IsPassed setting ask x index t p u → Comes setting ask (script_of xs) (all_of setting (skip first (script_of xs))) (all_of setting (skip (index + 1) (script_of xs))) s p u

@@ -29,4 +29,8 @@ pub mod TopDirectoryLemmas
 pub mod RecordLemmas
 pub mod DoFileLemmas
 pub mod AgreeingExamples
+pub mod EndExamples
+pub mod EndLemmas
+pub mod WalkLemmas
+pub mod BlameLemmas
 pub mod Public

@@ -20,16 +20,16 @@ use Rattle.redo_step.specs.Statements.{meaning, run, Made, made, not_made, resul
 use Rattle.redo_record.specs.Answers.{Ask}
 use Rattle.redo_record.specs.declared.deps.Dep.{Dep}
 
-abbrev word : List ℕ → Word
+abbrev pub word : List ℕ → Word
 word [] = []
 word (b ∷ bs) = byte b ∷ word bs
 
-abbrev arguments : List ℕ → Parameter → List ℕ
+abbrev pub arguments : List ℕ → Parameter → List ℕ
 arguments target One = target
 arguments target Two = target
 arguments target Three = target ++ codes ".redo.tmp"
 
-abbrev setting : List ℕ → (Path → Option (List ℕ)) → ℕ → Setting
+abbrev pub setting : List ℕ → (Path → Option (List ℕ)) → ℕ → Setting
 setting target source limit = record {
   source = source;
   is_directory = λ _. false;
@@ -42,13 +42,13 @@ setting target source limit = record {
   bound = [];
 }
 
-abbrev no_source : Path → Option (List ℕ)
+abbrev pub no_source : Path → Option (List ℕ)
 no_source p = None
 
-abbrev one_source : Path → Option (List ℕ)
+abbrev pub one_source : Path → Option (List ℕ)
 one_source p = if bytes_eq p (codes "src") then Some (codes "x" ++ 10 ∷ []) else None
 
-abbrev no_answers : Ask
+abbrev pub no_answers : Ask
 no_answers p = None
 
 abbrev third_word : Word

@@ -24,7 +24,7 @@ weight_opened (opens.Simple line c) rest = omega arith
 weight_opened (opens.If line c a b) rest = omega arith
 weight_opened (opens.Loop line name ws body) rest = omega arith
 
-weight_before : (x : Stmt) (rest : Script) → weight (before x rest) ≡ weight (before x finish) + weight rest
+pub weight_before : (x : Stmt) (rest : Script) → weight (before x rest) ≡ weight (before x finish) + weight rest
 weight_before x rest = rw (before-opened x rest, before-opened x finish) (weight_opened (out-Stmt x) rest)
 
 pub weight_item : (xs : List Stmt) (n : ℕ) (d : Stmt) → n < length xs → weight (before (get_or xs n d) finish) ≤ weight (script_of xs)
@@ -32,7 +32,7 @@ weight_item [] n d h = absurd (omega arith)
 weight_item (x ∷ xs) zero d h = let e = weight_before x (script_of xs) in omega arith
 weight_item (x ∷ xs) (suc n) d h = let e = weight_before x (script_of xs) in let rest = weight_item xs n d (omega arith) in omega arith
 
-weight_if : (x : Stmt) (line : ℕ) (c : ConditionTree) (a b : Vec Stmt Global) → x ≡ stmt.If line c a b → weight (before x finish) ≡ weight (script_of a.items) + weight (script_of b.items) + 1
+pub weight_if : (x : Stmt) (line : ℕ) (c : ConditionTree) (a b : Vec Stmt Global) → x ≡ stmt.If line c a b → weight (before x finish) ≡ weight (script_of a.items) + weight (script_of b.items) + 1
 weight_if x line c a b is =
     let o : before x finish ≡ choice line (condition_of c) (script_of a.items) (script_of b.items) finish = before-opened x finish ∙ rw is (ap (λ o. opened o finish) (outs-If line c a b)) in
     rw o (omega arith)

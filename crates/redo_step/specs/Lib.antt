@@ -17,4 +17,7 @@ pub mod Begins
 pub mod Agreeing
 pub mod JobView
 pub mod Job
+pub mod Operands
+pub mod Ends
+pub mod Given
 pub mod inside

@@ -3,6 +3,8 @@ use Rattle.std.specs.Prelude.{ℕ, List, [], Option, Some, None, Result, Ok, Err
 use Rattle.redo_record.specs.declared.outcome.Why.{Why}
 use Rattle.redo_record.specs.Paths.{Path}
 use Rattle.redo_record.specs.declared.deps.Dep.{Dep}
+use Rattle.redo_step.specs.declared.halt.Ending.{Ending}
+use Rattle.redo_step.specs.declared.halt.Ending.TheVariants as endings
 
 -- standard output, the bytes of $3 once it is created, and the declared entries
 pub record State : Type 0 where
@@ -19,6 +21,11 @@ pub data End : Type 0 where
   exited : ℕ → End
   faulted : Why → End
   stopped : List Path → End
+
+-- how a script ends that lacks no answers
+abbrev pub end_of : Ending → End
+end_of (endings.Exited n) = exited n
+end_of (endings.Faulted w) = faulted w
 
 -- a run so far: it goes on, or it has ended
 pub data Run : Type 0 where

@@ -1,6 +1,7 @@
 pub mod Endings
 pub mod Kept
 pub mod Machine
+pub mod Operands
 pub mod Parts
 pub mod Printing
 pub mod Scene
@@ -9,3 +10,4 @@ pub mod Stands
 pub mod Text
 pub mod Waiting
 pub mod Writing
+pub mod Walk

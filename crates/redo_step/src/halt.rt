@@ -7,9 +7,9 @@ use redo_path::Path;
 use redo_record::Why;
 use std::alloc::{AllocError, AllocFailed};
 
-/// How a script ends.
-#[derive(Debug, Drop)]
-pub(crate) enum Ending {
+/// How a script ends: with a status, or with a fault.
+#[derive(Clone, Copy, Debug, PartialEq, Eq)]
+pub enum Ending {
     Exited(u8),
     Faulted(Why),
 }

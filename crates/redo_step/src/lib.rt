@@ -9,36 +9,44 @@
 //! - A job and how it goes on: `job`, `machine`, `place`, `halt`.
 //! - Commands, one idea each: `scene` (what they see), `scope` (the names that loops bind), `text`, `value` and
 //!   `words`, `files`, `printf`, `sink` and `writing`, `declaring`, `commands`.
+//! - Where a script ended, and by which operand: `ends`, `walk`, `operands`, `blame` and `shown`.
 //! - Laws over what scripts mean: `laws`.
 #![tactic(auto)]
 
 mod answers;
+mod blame;
 mod commands;
 mod declaring;
+mod ends;
 mod files;
 mod halt;
 mod job;
 mod laws;
 mod limits;
 mod machine;
+mod operands;
 mod parsed;
 mod place;
 mod printf;
 mod refusal;
 mod scene;
 mod scope;
+mod shown;
 mod sink;
 mod text;
 mod value;
 mod wait;
+mod walk;
 mod words;
 mod writing;
 
 pub use answers::Answers;
+pub use ends::{AtFault, EndPlace, Given, find_end};
+pub use halt::Ending;
 pub use job::{Done, Job, Step};
 pub use laws::{
-    agreeing_records, agreeing_runs, followed_records, more_answers, next_operand,
-    progress_is_lawful, same_rules, what_was_built_is_met,
+    agreeing_records, agreeing_runs, an_act_ends_its_run, followed_records, more_answers,
+    next_operand, progress_is_lawful, same_rules, what_was_built_is_met,
 };
 pub use limits::Limits;
 pub use parsed::Parsed;

@@ -14,7 +14,11 @@ use redo_which::Args;
 use std::alloc::{AllocError, Global};
 
 /// What a parameter stands for.
-fn argument<'a>(alloc: Global, args: &'a Args, parameter: Parameter) -> Result<Text<'a>, AllocError>
+pub(crate) fn argument<'a>(
+    alloc: Global,
+    args: &'a Args,
+    parameter: Parameter,
+) -> Result<Text<'a>, AllocError>
     ensures { IfOk result (λ text. text ≡ value_in (arguments_view args.now) parameter) }
 {
     match parameter {
@@ -25,7 +29,7 @@ fn argument<'a>(alloc: Global, args: &'a Args, parameter: Parameter) -> Result<T
 }
 
 /// Whether a value may stand outside quotes.
-fn is_fit_value(bytes: &[u8]) -> bool
+pub(crate) fn is_fit_value(bytes: &[u8]) -> bool
     ensures { result ≡ is_fit bytes.now }
 {
     !bytes.is_empty() && are_plain_bytes(bytes)

@@ -3,8 +3,6 @@ use Rattle.std.specs.Prelude.{◌≡◌, ℕ, ◌+◌, ◌<◌, length, List, �
 use Rattle.std.specs.Prelude.{Ok, Err}
 use Rattle.redo_script.specs.Syntax.{Script, Word, Condition, finish, choice, loop}
 use Rattle.redo_step.specs.declared.machine.Effects.{Effects}
-use Rattle.redo_step.specs.declared.halt.Ending.{Ending}
-use Rattle.redo_step.specs.declared.halt.Ending.TheVariants as endings
 use Rattle.redo_step.specs.declared.halt.Halt.{Halt}
 use Rattle.redo_step.specs.declared.halt.Halt.TheVariants as stops
 use Rattle.redo_step.specs.declared.wait.Waiting.{Waiting}
@@ -12,7 +10,8 @@ use Rattle.redo_step.specs.declared.machine.RunEnd.{RunEnd}
 use Rattle.redo_step.specs.declared.machine.RunEnd.TheVariants as progress
 use Rattle.redo_step.specs.declared.machine.Turns.{Turns}
 use Rattle.redo_step.specs.Setting.{Setting, with_value}
-use Rattle.redo_step.specs.Runs.{State, End, exited, faulted, stopped, Run, goes, ends}
+pub use Rattle.redo_step.specs.Runs.{end_of}
+use Rattle.redo_step.specs.Runs.{State, End, stopped, Run, goes, ends}
 use Rattle.redo_record.specs.Answers.{Ask}
 use Rattle.redo_step.specs.declared.place.Branch.{Branch}
 use Rattle.redo_step.specs.declared.place.Branch.TheVariants.{First, Second}
@@ -27,11 +26,6 @@ use Rattle.redo_step.specs.inside.Kept.{IsKept}
 -- what a script has done so far
 abbrev pub state_of : Effects → State
 state_of e = record { output = e.output.items; third = option_map (λ v. v.items) e.third; entries = e.deps }
-
--- how a script ends
-abbrev pub end_of : Ending → End
-end_of (endings.Exited n) = exited n
-end_of (endings.Faulted w) = faulted w
 
 -- how the run ends if a command halted so; lack of memory isn't an end
 abbrev pub end_by : Halt → Option End

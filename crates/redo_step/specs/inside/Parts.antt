@@ -16,3 +16,15 @@ added parameters names (parts.Quoted p) = Some (parameters p)
 added parameters names (parts.Bare p) = fit (parameters p)
 added parameters names (parts.NamedQuoted n) = Some (names n)
 added parameters names (parts.NamedBare n) = fit (names n)
+
+-- these bytes, if they may not stand outside quotes
+abbrev pub unfit : List ℕ → Option (List ℕ)
+unfit bytes = if is_fit bytes then None else Some bytes
+
+-- what a part stands for, if it is outside quotes and that isn't fit
+abbrev pub unfit_part : (Parameter → List ℕ) → (List ℕ → List ℕ) → Part → Option (List ℕ)
+unfit_part parameters names (parts.Lit bytes) = None
+unfit_part parameters names (parts.Quoted p) = None
+unfit_part parameters names (parts.Bare p) = unfit (parameters p)
+unfit_part parameters names (parts.NamedQuoted n) = None
+unfit_part parameters names (parts.NamedBare n) = unfit (names n)
