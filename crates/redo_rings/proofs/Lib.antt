@@ -1,0 +1,7 @@
+pub mod CircleLemmas
+pub mod FoundLemmas
+pub mod GraphLemmas
+pub mod KnownLemmas
+pub mod PlaceLemmas
+pub mod WalkLemmas
+pub mod WayLemmas
