@@ -1,0 +1,2 @@
+pub mod Diagnoses
+pub mod inside

@@ -1,0 +1,35 @@
+//! What is wrong with each failed target of a build, where, and what to do: told after the build.
+//!
+//! [`diagnoses`] goes by the sources that a build had and by its report alone; the build keeps nothing for it. Of a
+//! script that can't be read it asks redo_script for the place of the fault; a script that failed while it ran is run again
+//! with the outcomes that the report has, and redo_step tells at which command and operand it ended. The crate stands on
+//! redo_record for outcomes, on redo_report for what was built, on redo_which and redo_tree for rules and
+//! sources, on redo_rings for rings, on redo_path for paths, and on `strsim` for names that are near.
+//!
+//! - `diagnosis`: a diagnosis as data; `finding`: those of a report; `behind`: how many targets wait behind a failed one;
+//! - `answers`: the outcomes that a report has; `scripts`: a target's script, read and run again;
+//! - `places`: places in a script's text;
+//! - what is said: `said` (pieces), `bytes` (bytes that are refused), `commands` (their names and forms), `faults` (scripts
+//!   that can't be read), `ends` (scripts that failed), `missing` (targets without a script), `near` (names that are near);
+//! - `shown`: bytes as a reader may see them; `text`: the lines.
+#![tactic(auto)]
+
+mod answers;
+mod behind;
+mod bytes;
+mod commands;
+mod diagnosis;
+mod ends;
+mod faults;
+mod finding;
+mod missing;
+mod near;
+mod places;
+mod said;
+mod scripts;
+mod shown;
+mod text;
+
+pub use diagnosis::{Diagnosed, Diagnosis, Place};
+pub use finding::diagnoses;
+pub use text::{text_of, text_of_rings};
