@@ -1,0 +1,6 @@
+pub mod Html
+pub mod Lists
+pub mod Pages
+pub mod Parts
+pub mod Whole
+pub mod inside

@@ -1,0 +1,19 @@
+-- What a page of targets that are out of date has, piece by piece.
+use Rattle.std.specs.Prelude.{ℕ, List, [], ◌∷◌, ◌++◌, flat_map, length}
+use Rattle.redo_page.specs.Parts.{Piece, Fixed, Number, Text, a_tag, of_list}
+use Rattle.redo_page.specs.declared.list.Listed.{Listed}
+use Rattle.redo_page.specs.declared.parts.ListPart.TheVariants as list_parts
+use Rattle.redo_page.specs.declared.parts.Part.TheVariants as parts
+use Rattle.redo_page.specs.declared.parts.Tag.TheVariants as tags
+
+-- a target's path, its state and why
+abbrev pub listed_pieces : Listed → List Piece
+listed_pieces listed =
+    of_list list_parts.Row ∷ Text listed.path ∷ of_list list_parts.State ∷ Fixed (parts.State listed.state)
+    ∷ a_tag tags.Cell ∷ Text listed.why.items ∷ a_tag tags.LineEnd ∷ []
+
+abbrev pub list_pieces : ℕ → List Listed → List Piece
+list_pieces status targets =
+    (Fixed parts.Head ∷ of_list list_parts.Begin ∷ Number status ∷ of_list list_parts.Count ∷ Number (length targets)
+    ∷ of_list list_parts.Table ∷ of_list list_parts.Heads ∷ []) ++ flat_map listed_pieces targets
+    ++ of_list list_parts.End ∷ []

@@ -1,0 +1,157 @@
+-- The fixed parts of a page, and what else one is made of.
+use Rattle.std.specs.Prelude.{ℕ, List, codes, decimal, flat_map}
+use Rattle.redo_page.specs.Html.{escaped}
+use Rattle.redo_page.specs.declared.head.TheConstants.{HEAD}
+use Rattle.redo_page.specs.declared.middle.TheConstants.{MIDDLE}
+use Rattle.redo_page.specs.declared.tail.TheConstants.{TAIL}
+use Rattle.redo_page.specs.declared.parts.Part.{Part}
+use Rattle.redo_page.specs.declared.parts.Part.TheVariants as parts
+use Rattle.redo_page.specs.declared.parts.Word.{Word}
+use Rattle.redo_page.specs.declared.parts.Word.TheVariants as words
+use Rattle.redo_page.specs.declared.parts.Tag.{Tag}
+use Rattle.redo_page.specs.declared.parts.Tag.TheVariants as tags
+use Rattle.redo_page.specs.declared.parts.SumPart.{SumPart}
+use Rattle.redo_page.specs.declared.parts.SumPart.TheVariants as sum_parts
+use Rattle.redo_page.specs.declared.parts.FailurePart.{FailurePart}
+use Rattle.redo_page.specs.declared.parts.FailurePart.TheVariants as failure_parts
+use Rattle.redo_page.specs.declared.parts.RingPart.{RingPart}
+use Rattle.redo_page.specs.declared.parts.RingPart.TheVariants as ring_parts
+use Rattle.redo_page.specs.declared.parts.RowPart.{RowPart}
+use Rattle.redo_page.specs.declared.parts.RowPart.TheVariants as row_parts
+use Rattle.redo_page.specs.declared.parts.ListPart.{ListPart}
+use Rattle.redo_page.specs.declared.parts.ListPart.TheVariants as list_parts
+use Rattle.redo_page.specs.declared.parts.State.{State}
+use Rattle.redo_page.specs.declared.parts.State.TheVariants as states
+
+-- The bytes of fixed parts
+
+abbrev pub word_bytes : Word → List ℕ
+word_bytes words.Built = codes "built"
+word_bytes words.Kept = codes "kept"
+word_bytes words.Failed = codes "failed"
+word_bytes words.Cyclic = codes "cyclic"
+word_bytes words.Source = codes "source"
+word_bytes words.Nothing = codes "none"
+
+abbrev pub tag_bytes : Tag → List ℕ
+tag_bytes tags.Link = codes "<a href=\"#t"
+tag_bytes tags.LinkText = codes "\">"
+tag_bytes tags.LinkEnd = codes "</a>"
+tag_bytes tags.Paragraph = codes "<p>"
+tag_bytes tags.ParagraphEnd = codes "</p>\n"
+tag_bytes tags.SectionEnd = codes "</section>\n"
+tag_bytes tags.Cell = codes "<td>"
+tag_bytes tags.Blank = codes " "
+tag_bytes tags.LineEnd = codes "\n"
+
+abbrev pub sum_bytes : SumPart → List ℕ
+sum_bytes sum_parts.Begin = codes "<dl class=\"sum\">\n<div><dt>exit status<dd>"
+sum_bytes sum_parts.Line = codes "<div class=\""
+sum_bytes sum_parts.Name = codes "\"><dt>"
+sum_bytes sum_parts.Count = codes "<dd>"
+sum_bytes sum_parts.LineEnd = codes "</div>\n"
+sum_bytes sum_parts.Sources = codes "<div class=\"none\"><dt>requested sources<dd>"
+sum_bytes sum_parts.End = codes "</dl>\n<p class=\"go\"><a href=\"#targets\">To the targets</a></p>\n"
+
+abbrev pub failure_bytes : FailurePart → List ℕ
+failure_bytes failure_parts.Begin = codes "<section id=\"failures\"><h2>Failures</h2>\n"
+failure_bytes failure_parts.Article = codes "<article id=\"f"
+failure_bytes failure_parts.Name = codes "\"><h3>"
+failure_bytes failure_parts.NameEnd = codes "</h3>\n"
+failure_bytes failure_parts.File = codes "<p><bdi>"
+failure_bytes failure_parts.Line = codes "</bdi>:"
+failure_bytes failure_parts.Column = codes ":"
+failure_bytes failure_parts.Message = codes ": "
+failure_bytes failure_parts.Excerpt = codes "<pre><i>"
+failure_bytes failure_parts.Before = codes "</i>"
+failure_bytes failure_parts.Marked = codes "<mark>"
+failure_bytes failure_parts.After = codes "</mark>"
+failure_bytes failure_parts.ExcerptEnd = codes "</pre>\n"
+failure_bytes failure_parts.ArticleEnd = codes "</article>\n"
+
+abbrev pub ring_bytes : RingPart → List ℕ
+ring_bytes ring_parts.Begin = codes "<section id=\"rings\"><h2>Rings</h2>\n"
+ring_bytes ring_parts.Ring = codes "<ol class=\"ring\">\n"
+ring_bytes ring_parts.Member = codes "<li>"
+ring_bytes ring_parts.Waiting = codes "</ol>\n<p>Not in the ring, but waiting for it: "
+
+abbrev pub row_bytes : RowPart → List ℕ
+row_bytes row_parts.Begin = codes "<tr class=\""
+row_bytes row_parts.Path = codes "\"><th scope=\"row\"><details><summary>"
+row_bytes row_parts.Record = codes "</summary><dl id=\"t"
+row_bytes row_parts.Needs = codes "<dt>needs"
+row_bytes row_parts.Change = codes "<dd>change "
+row_bytes row_parts.Create = codes "<dd>create "
+row_bytes row_parts.Always = codes "<dd>always"
+row_bytes row_parts.NeededBy = codes "<dt>needed by<dd class=\"by\">"
+row_bytes row_parts.Outcome = codes "</dl></details><td>"
+row_bytes row_parts.Failure = codes " <a href=\"#f"
+
+abbrev pub list_bytes : ListPart → List ℕ
+list_bytes list_parts.Begin = codes "<h2>Out of date</h2>\n<dl class=\"sum\">\n<div><dt>status<dd>"
+list_bytes list_parts.Count = codes "</div>\n<div><dt>targets<dd>"
+list_bytes list_parts.Table = codes "</div>\n</dl>\n<table>\n<thead><tr><th scope=\"col\">Path"
+list_bytes list_parts.Heads = codes "<th scope=\"col\">State<th scope=\"col\">Why\n<tbody>\n"
+list_bytes list_parts.Row = codes "<tr><th scope=\"row\"><bdi>"
+list_bytes list_parts.State = codes "</bdi><td>"
+list_bytes list_parts.End = codes "</table>\n</main>\n"
+
+abbrev pub state_bytes : State → List ℕ
+state_bytes states.Stale = codes "stale"
+state_bytes states.Maybe = codes "maybe"
+state_bytes states.Ring = codes "ring"
+state_bytes states.Lost = codes "lost"
+
+abbrev pub part_bytes : Part → List ℕ
+part_bytes parts.Head = HEAD.now
+part_bytes parts.Middle = MIDDLE.now
+part_bytes parts.Tail = TAIL.now
+part_bytes (parts.Word it) = word_bytes it
+part_bytes (parts.Tag it) = tag_bytes it
+part_bytes (parts.Sum it) = sum_bytes it
+part_bytes (parts.Failure it) = failure_bytes it
+part_bytes (parts.Ring it) = ring_bytes it
+part_bytes (parts.Row it) = row_bytes it
+part_bytes (parts.List it) = list_bytes it
+part_bytes (parts.State it) = state_bytes it
+
+-- What a page is made of
+
+-- a piece of a page: a fixed part, a number or a text
+pub data Piece : Type 0 where
+  Fixed : Part → Piece
+  Number : ℕ → Piece
+  Text : List ℕ → Piece
+
+-- how a piece is written: a number in decimal, a text escaped
+unfoldable pub written : Piece → List ℕ
+written (Fixed it) = part_bytes it
+written (Number n) = decimal n
+written (Text bytes) = escaped bytes
+
+-- pieces in order
+abbrev pub text_of : List Piece → List ℕ
+text_of pieces = flat_map written pieces
+
+-- Fixed parts as pieces
+
+abbrev pub a_word : Word → Piece
+a_word it = Fixed (parts.Word it)
+
+abbrev pub a_tag : Tag → Piece
+a_tag it = Fixed (parts.Tag it)
+
+abbrev pub of_sum : SumPart → Piece
+of_sum it = Fixed (parts.Sum it)
+
+abbrev pub of_failure : FailurePart → Piece
+of_failure it = Fixed (parts.Failure it)
+
+abbrev pub of_ring : RingPart → Piece
+of_ring it = Fixed (parts.Ring it)
+
+abbrev pub of_row : RowPart → Piece
+of_row it = Fixed (parts.Row it)
+
+abbrev pub of_list : ListPart → Piece
+of_list it = Fixed (parts.List it)

@@ -1,0 +1,38 @@
+//! A report as one page of HTML that needs nothing else.
+//!
+//! [`page`] tells a report with its failures, rings and reasons, [`list_page`] which targets are out of date. A page
+//! is made of fixed parts, decimal numbers and texts alone. Each text is escaped, and stands in the content of an
+//! element: never in a tag, an attribute, the style, the script or the title. What differs between two pages is never
+//! read as markup.
+//!
+//! A table shows each row of the report, with a link to each row that its record names and to each that names it. It
+//! is there without the script, which adds a filter, an order and a picture. The policy in the head lets nothing else
+//! run, and nothing be fetched.
+//!
+//! The crate stands on redo_report, redo_record and redo_script for what is told, on redo_diagnose for failures, on
+//! redo_rings for rings, on redo_path and redo_names for paths, and on `itoa` for decimal numbers.
+//!
+//! - `whole`: the page of a report, from `summary`, `failures`, `rings` and `rows`; `list`: the page of a list;
+//! - `links`: which row has a path, and which rows need it; `reasons`: why a target failed, in words;
+//! - `writer`: what is written, and how; `escape`: texts; `parts`: fixed parts, of which `head`, `middle` and `tail`
+//!   are long.
+#![tactic(auto)]
+
+mod escape;
+mod failures;
+mod head;
+mod links;
+mod list;
+mod middle;
+mod parts;
+mod reasons;
+mod rings;
+mod rows;
+mod summary;
+mod tail;
+mod whole;
+mod writer;
+
+pub use list::{Listed, list_page};
+pub use parts::State;
+pub use whole::{Told, page};
