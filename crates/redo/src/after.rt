@@ -1,6 +1,7 @@
 //! What is said on standard error behind the report of a build.
 
 use crate::above::{has_book, levels_to_book};
+use crate::diagnosing::say_diagnoses;
 use crate::options::{Build, Format, Input, Storing};
 use crate::status::Fault;
 use crate::summary::{Counted, Summary};
@@ -105,6 +106,9 @@ pub(crate) fn say_after<H: Runtime + Threads + Sync>(
     let past = Past::open_by(rt, alloc, build.options.workers, tree.clone()?)?;
     if build.explained {
         say(rt, &explain(alloc, &past, &build.options.targets, report)?);
+    }
+    if after.voice.notes {
+        say_diagnoses(rt, alloc, after, &past, report)?;
     }
     let notes = notes(alloc, &past, &build.options.targets, report)?;
     if after.voice.notes || build.strict {

@@ -43,7 +43,7 @@ where
     let outcome = match build.format {
         Format::Report => build_and_write(rt, alloc, build, io::writer(rt), progress, cause),
         // The report is made of what the build returns.
-        Format::Json | Format::Dot(_) => {
+        Format::Json | Format::Dot(_) | Format::Html => {
             build_and_write(rt, alloc, build, io::sink(), progress, cause)
         }
     };

@@ -52,7 +52,8 @@ pub(crate) fn of_fault(alloc: Global, fault: Fault, cause: &Cause, action: &Acti
             action.directory()
         )?)),
         Fault::Book(_) => Ok(Some(format!(in alloc;
-            "the file .redo-book is not as a run leaves it; without it each file is a source"
+            "the file .redo-book is not as a run leaves it; after a merge take one side's whole, as by \
+            git checkout --ours .redo-book; without it each file that was built counts as yours"
         )?)),
         Fault::TooMany => Ok(Some(format!(in alloc; "more than {TARGETS} targets are needed")?)),
         Fault::Memory => Ok(None),

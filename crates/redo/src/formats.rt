@@ -4,29 +4,70 @@ use crate::options::{Build, Format};
 use crate::status;
 use crate::status::Fault;
 use redo_bundle::{Plain, write_all};
+use redo_diagnose::diagnoses;
 use redo_dot::dot;
+use redo_explain::{reason_words, reasons};
 use redo_json::json;
+use redo_names::PathMap;
+use redo_page::{Told, page};
 use redo_past::Past;
 use redo_report::Report;
+use redo_rings::rings;
 use redo_tree::Tree;
-use std::alloc::Global;
+use std::alloc::{AllocError, Global};
 use std::io;
 use std::rt::Runtime;
 use std::thread::Threads;
 
-/// The report of a build over a tree as JSON.
-fn as_json<H: Runtime + Threads + Sync>(
+/// The past of the tree that was built.
+fn past_of<H: Runtime + Threads + Sync>(
     rt: &H,
     alloc: Global,
     build: &Build,
     tree: &Tree,
+) -> Result<Past, Fault> {
+    Ok(Past::open_by(rt, alloc, build.options.workers, tree.clone()?)?)
+}
+
+/// The status of a build, by whether every requested path is a source or built.
+fn status_of(good: bool) -> u8 {
+    if good { status::GOOD } else { status::FAILED }
+}
+
+/// Why each begun script of a build was begun, in words, by its target.
+fn whys(
+    alloc: Global,
+    build: &Build,
+    past: &Past,
     report: &Report,
-    good: bool,
-) -> Result<Vec<u8>, Fault> {
-    let options = &build.options;
-    let past = Past::open_by(rt, alloc, options.workers, tree.clone()?)?;
-    let status = if good { status::GOOD } else { status::FAILED };
-    Ok(json(alloc, &past, &options.targets, report, status)?)
+) -> Result<PathMap<Vec<u8>>, AllocError> {
+    let mut whys = PathMap::new(alloc);
+    for script in reasons(alloc, past, &build.options.targets, report)? {
+        let words = reason_words(alloc, past.sources(), &script.reason)?;
+        whys.insert(script.target.clone()?, words)?;
+    }
+    Ok(whys)
+}
+
+/// The report of a build as a page.
+fn as_page(
+    alloc: Global,
+    build: &Build,
+    past: &Past,
+    report: &Report,
+    status: u8,
+) -> Result<Vec<u8>, AllocError> {
+    let limits = build.options.limits;
+    let diagnosed = diagnoses(alloc, past.sources(), limits, report, usize::MAX)?;
+    let whys = whys(alloc, build, past, report)?;
+    let rings = rings(alloc, report)?;
+    let told = Told {
+        status,
+        whys: &whys,
+        diagnoses: &diagnosed.diagnoses,
+        rings: &rings,
+    };
+    page(alloc, report, &told)
 }
 
 /// Prints the report of a build over a tree, where it is wanted in another form than its own. `good` tells whether every
@@ -41,8 +82,21 @@ pub(crate) fn print_report<H: Runtime + Threads + Sync>(
 ) -> Result<(), Fault> {
     let text = match build.format {
         Format::Report => return Ok(()),
-        Format::Json => as_json(rt, alloc, build, tree, report, good)?,
+        Format::Json => {
+            let past = past_of(rt, alloc, build, tree)?;
+            json(
+                alloc,
+                &past,
+                &build.options.targets,
+                report,
+                status_of(good),
+            )?
+        }
         Format::Dot(with_rules) => dot(alloc, report, with_rules)?,
+        Format::Html => {
+            let past = past_of(rt, alloc, build, tree)?;
+            as_page(alloc, build, &past, report, status_of(good))?
+        }
     };
     Ok(write_all(&mut Plain::new(io::writer(rt)), &text)?)
 }

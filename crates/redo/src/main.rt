@@ -11,6 +11,7 @@ mod building;
 mod causes;
 mod cleaning;
 mod commands;
+mod diagnosing;
 mod formats;
 mod options;
 mod packing;
@@ -82,10 +83,15 @@ fn call_of(rt: &HostRuntime, alloc: Global, matches: &ArgMatches<'_>) -> Result<
     options::check(matches)?;
     let here = above::place_of(rt, alloc, matches)?;
     let action = options::action_of(alloc, matches, here)?;
+    let voice = voice_of(rt, matches);
+    Ok(Call { action, voice })
+}
+
+/// How much is said on this standard error.
+fn voice_of(rt: &HostRuntime, matches: &ArgMatches<'_>) -> Voice {
     // By common use, any value but an empty one says that no colours are wanted.
     let plain = env::var(rt, "NO_COLOR").is_ok_and(|value| !value.is_empty());
-    let voice = Voice::of(matches, rt.stderr().is_terminal(), plain);
-    Ok(Call { action, voice })
+    Voice::of(matches, rt.stderr().is_terminal(), plain)
 }
 
 /// Shows what the parse ended in: help or the version on standard output, a refusal on standard error. Returns the exit
@@ -113,10 +119,10 @@ fn refuse(rt: &HostRuntime, refusal: Refusal) -> u8 {
     status::of_refusal(refusal)
 }
 
-/// Shows why words that were read are refused, and with `-v` the word. Returns the exit status.
+/// Shows why words that were read are refused, and the word where causes are shown. Returns the exit status.
 fn refuse_call(rt: &HostRuntime, alloc: Global, refusal: Refusal, matches: &ArgMatches<'_>) -> u8 {
     let status = refuse(rt, refusal);
-    if matches.get_count("verbose") != 0 {
+    if voice_of(rt, matches).causes {
         show_cause(rt, cause_of(rt, alloc, refusal, matches));
     }
     status

@@ -23,7 +23,7 @@ pub(crate) const TARGETS: u32 = 65_536;
 const FILE_BYTES: u32 = 16_777_216;
 
 /// The forms in which a report is printed.
-static FORMATS: [&str; 3] = ["report", "json", "dot"];
+static FORMATS: [&str; 4] = ["report", "json", "dot", "html"];
 
 /// The most scripts that may run side by side.
 const MOST_JOBS: usize = 64;
@@ -57,6 +57,8 @@ pub(crate) enum Format {
     Json,
     /// A graph for Graphviz; if `true`, with the rules.
     Dot(bool),
+    /// A page for a browser.
+    Html,
 }
 
 /// A build, and what is said of it.
@@ -248,7 +250,7 @@ fn report_format<'a>(alloc: Global) -> Arg<'a> {
         .value_name("FORMAT")
         .value_parser(ValueParser::Names(&FORMATS))
         .hide_possible_values(true)
-        .help("Print the report as report, json or dot")
+        .help("Print the report as report, json, dot or html")
 }
 
 fn with_rules<'a>(alloc: Global) -> Arg<'a> {
@@ -378,6 +380,7 @@ fn format_of(matches: &ArgMatches<'_>) -> Format {
     match matches.get_str("format") {
         Some("json") => Format::Json,
         Some("dot") => Format::Dot(matches.get_flag("with-rules")),
+        Some("html") => Format::Html,
         _ => Format::Report,
     }
 }

@@ -9,7 +9,7 @@ use std::rt::Runtime;
 pub(crate) struct Voice {
     /// A message is followed by its cause.
     pub(crate) causes: bool,
-    /// What is stale is noted.
+    /// What is wrong with failed targets is told, and what is stale is noted.
     pub(crate) notes: bool,
     /// The progress of a build is shown, and what it came to: standard error is a terminal.
     pub(crate) progress: bool,
@@ -24,7 +24,7 @@ impl Voice {
         let verbose = matches.get_count("verbose") != 0;
         let quiet = matches.get_count("quiet") != 0;
         Voice {
-            causes: verbose,
+            causes: verbose || (terminal && !quiet),
             notes: verbose || (terminal && !quiet),
             progress: terminal && !quiet,
             colour: terminal && !plain,
@@ -37,6 +37,18 @@ impl Voice {
             let line = BStr::new(line);
             let _shown = if self.colour {
                 eprintln!(rt; "\x1b[33m{line}\x1b[0m")
+            } else {
+                eprintln!(rt; "{line}")
+            };
+        }
+    }
+    /// Says what is wrong with failed targets. A line of a script, which is indented, isn't coloured.
+    pub(crate) fn diagnose<H: Runtime>(self, rt: &H, text: &[u8]) {
+        for line in text.lines() {
+            let is_quoted = line.starts_with(b"    ");
+            let line = BStr::new(line);
+            let _shown = if self.colour && !is_quoted {
+                eprintln!(rt; "\x1b[31m{line}\x1b[0m")
             } else {
                 eprintln!(rt; "{line}")
             };
