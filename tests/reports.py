@@ -218,6 +218,16 @@ def notes(tree, requested, head, most=10):
     return os.fsencode("".join(line + "\n" for line in lines))
 
 
+# A line of notes on files.
+NOTE = "|".join(re.escape(line).replace(r"\{\}", "[^\n]+") for line in (UNBUILT, UNMADE, RULELESS))
+NOTES = re.compile(rb"^(?:%s|and [1-9][0-9]* more like it)\n" % NOTE.encode(), re.M)
+
+
+def notes_in(said):
+    """The notes on files, of all that a run says behind its report: without what is said of failed targets."""
+    return b"".join(NOTES.findall(said))
+
+
 def noted(head, files, left):
     """The records of a run's built targets, by its report."""
     made = {path: state(content) for path, content in files.items()}
