@@ -1,6 +1,6 @@
 pub mod GoneLemmas
 pub mod ItemLemmas
-pub mod LineLemmas
+pub mod ListedLemmas
 pub mod RestingLemmas
 pub mod RingLemmas
 pub mod ScanLemmas

@@ -10,7 +10,8 @@ use Rattle.redo_book.specs.Book.{Record, record_of}
 use Rattle.redo_past.specs.Past.{PastView}
 use Rattle.redo_why.specs.OutOfDate.{drop_by}
 use Rattle.redo_why.specs.Verdicts.{Mark, Holds, Drops, Unsure, Waits}
-use Rattle.redo_ood.specs.inside.Lines.{HaveItems, drop_in, drops, holds, lines_in, mark_in, open_by, open_in, told_line, told_of}
+use Rattle.redo_ood.specs.inside.Lines.{HaveItems, drop_in, drops, holds, listed_in, mark_in, open_by, open_in, listed_told, told_of}
+use Rattle.redo_list.specs.Lists.{ListedView}
 use Rattle.redo_ood.specs.inside.Verdicts.{Known}
 use Rattle.redo_ood.specs.declared.verdicts.Item.{Item}
 use Rattle.redo_ood.specs.declared.verdicts.Row.{Row}
@@ -117,25 +118,25 @@ have-at (r ∷ rs) (y ∷ rows) have (suc i) made row below at there =
 module _ (past : PastView) (v : Known) (asked : List ℕ → Bool) (rs : List BookRecord) (rows : List Row) (i : ℕ) (made : BookRecord)
     (row : Row) (below : i < length rs) (at : made ≡ slice_index_or rs i made) (within : i < length rows)
     (there : row ≡ slice_index_or rows i row) where
-  abbrev left : List ℕ
-  left = lines_in past v asked (map record_of (drop (i + 1) rs)) (drop (i + 1) rows)
+  abbrev left : List ListedView
+  left = listed_in past v asked (map record_of (drop (i + 1) rs)) (drop (i + 1) rows)
 
-  abbrev here : List ℕ
-  here = told_line past.sources made.target (told_of past v (record_of made) row.items.items)
+  abbrev here : List ListedView
+  here = listed_told past.sources made.target (told_of past v (record_of made) row.items.items)
 
-  lines-next : lines_in past v asked (map record_of (drop i rs)) (drop i rows) ≡ (if asked made.target then here else []) ++ left
-  lines-next =
-      ap (λ xs. lines_in past v asked (map record_of xs) (drop i rows)) (dropped rs i made below at)
-      ∙ ap (λ ys. lines_in past v asked (record_of made ∷ map record_of (drop (i + 1) rs)) ys) (dropped rows i row within there)
+  listed-next : listed_in past v asked (map record_of (drop i rs)) (drop i rows) ≡ (if asked made.target then here else []) ++ left
+  listed-next =
+      ap (λ xs. listed_in past v asked (map record_of xs) (drop i rows)) (dropped rs i made below at)
+      ∙ ap (λ ys. listed_in past v asked (record_of made ∷ map record_of (drop (i + 1) rs)) ys) (dropped rows i row within there)
 
-  pub line-more : (text all new : List ℕ) → text ++ lines_in past v asked (map record_of (drop i rs)) (drop i rows) ≡ all →
-      asked made.target ≡ true → new ≡ text ++ here → new ++ left ≡ all
-  line-more text all new so is told =
-      ap (λ t. t ++ left) told ∙ append_assoc text here left
-      ∙ sym (ap (λ b. text ++ ((if b then here else []) ++ left)) is) ∙ sym (ap (λ l. text ++ l) lines-next) ∙ so
+  pub listed-more : (so_far all new : List ListedView) → so_far ++ listed_in past v asked (map record_of (drop i rs)) (drop i rows) ≡ all →
+      asked made.target ≡ true → new ≡ so_far ++ here → new ++ left ≡ all
+  listed-more so_far all new so is told =
+      ap (λ t. t ++ left) told ∙ append_assoc so_far here left
+      ∙ sym (ap (λ b. so_far ++ ((if b then here else []) ++ left)) is) ∙ sym (ap (λ l. so_far ++ l) listed-next) ∙ so
 
-  pub line-less : (text all new : List ℕ) → text ++ lines_in past v asked (map record_of (drop i rs)) (drop i rows) ≡ all →
-      asked made.target ≡ false → new ≡ text → new ++ left ≡ all
-  line-less text all new so is told =
-      ap (λ t. t ++ left) told ∙ sym (ap (λ b. text ++ ((if b then here else []) ++ left)) is)
-      ∙ sym (ap (λ l. text ++ l) lines-next) ∙ so
+  pub listed-less : (so_far all new : List ListedView) → so_far ++ listed_in past v asked (map record_of (drop i rs)) (drop i rows) ≡ all →
+      asked made.target ≡ false → new ≡ so_far → new ++ left ≡ all
+  listed-less so_far all new so is told =
+      ap (λ t. t ++ left) told ∙ sym (ap (λ b. so_far ++ ((if b then here else []) ++ left)) is)
+      ∙ sym (ap (λ l. so_far ++ l) listed-next) ∙ so

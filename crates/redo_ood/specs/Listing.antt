@@ -1,9 +1,9 @@
--- What is listed of the targets that have a record, and in which words.
-use Rattle.std.specs.Prelude.{◌≡◌, ◌↔◌, ◌||◌, ℕ, Bool, true, false, List, [], ◌∷◌, ◌++◌, Option, Some, None}
-use Rattle.std.specs.Prelude.{codes, filter, flat_map, if◌then◌else◌, is_some}
+-- What is listed of the targets that have a record, and why.
+use Rattle.std.specs.Prelude.{◌≡◌, ◌↔◌, ℕ, Bool, true, List, [], ◌∷◌, ◌++◌, Option, Some, None}
+use Rattle.std.specs.Prelude.{codes, filter, flat_map, if◌then◌else◌}
 use Rattle.redo_names.specs.Paths.{IsAmong}
-use Rattle.redo_tree.specs.Tree.{Tree, file_at}
-use Rattle.redo_which.specs.Rule.{found_of, is_rule}
+use Rattle.redo_tree.specs.Tree.{Tree}
+use Rattle.redo_which.specs.Rule.{found_of}
 use Rattle.redo_book.specs.declared.book.BookEntry.{BookEntry}
 use Rattle.redo_book.specs.declared.book.BookEntry.TheVariants.{Change, Create, Always}
 use Rattle.redo_book.specs.Book.{Record, record_at}
@@ -19,6 +19,9 @@ use Rattle.redo_why.specs.Runs.{verdict_with}
 use Rattle.redo_past.specs.Past.{PastView}
 use Rattle.redo_core.specs.Build.{GivenView, checks_for, last_run_of, sources_for}
 use Rattle.redo_step.specs.Limits.{LimitsView}
+use Rattle.redo_list.specs.Lists.{ListedView}
+use Rattle.redo_list.specs.declared.listed.State.{State}
+use Rattle.redo_list.specs.declared.listed.State.TheVariants as states
 
 -- What is listed
 
@@ -39,14 +42,14 @@ word_of s last k v r =
 abbrev pub word_with : Sources → LastRun → List (List ℕ) → Record → Option Word
 word_with s last request r = word_of s last (checks_of s last request) (verdict_with s last request) r
 
--- The words
+-- What is told of a target that is listed
 
--- the word that begins a line
-abbrev pub kind_word : Word → List ℕ
-kind_word (Stale why) = codes "stale "
-kind_word (Maybe on) = codes "maybe "
-kind_word Ring = codes "ring "
-kind_word Lost = codes "lost "
+-- its state
+abbrev pub state_by : Word → State
+state_by (Stale why) = states.Stale
+state_by (Maybe on) = states.Maybe
+state_by Ring = states.Ring
+state_by Lost = states.Lost
 
 -- why it is listed, where its record waits for this path, if it waits
 abbrev pub why_words : Tree → List ℕ → Word → List ℕ
@@ -55,15 +58,11 @@ why_words tree waited (Maybe on) = on ++ codes " may come out otherwise"
 why_words tree waited Ring = codes "it waits for " ++ waited ++ codes ", which waits for itself or a ring"
 why_words tree waited Lost = codes "no rule makes it any more"
 
--- the line of a target
-abbrev pub word_line : Tree → List ℕ → List ℕ → Word → List ℕ
-word_line tree target waited word =
-    kind_word word ++ target ++ codes ": " ++ why_words tree waited word ++ 10 ∷ []
-
--- nothing, or a line
-abbrev pub line_if : Tree → List ℕ → List ℕ → Option Word → List ℕ
-line_if tree target waited None = []
-line_if tree target waited (Some word) = word_line tree target waited word
+-- nothing, or the target
+abbrev pub listed_if : Tree → List ℕ → List ℕ → Option Word → List ListedView
+listed_if tree target waited None = []
+listed_if tree target waited (Some word) =
+    record { target = target; state = state_by word; why = why_words tree waited word } ∷ []
 
 -- the path of an entry if it waits, else what the further ones have
 abbrev pub waits_by : BookEntry → Mark → List ℕ → List ℕ
@@ -94,7 +93,7 @@ pub record IsRingOf (s : Sources) (last : LastRun) (request : List (List ℕ)) (
 
 -- The list of a run that is given a past and a request
 
--- a run over a past that requests these paths, with these limits; no line goes by the limits
+-- a run over a past that requests these paths, with these limits; nothing listed goes by the limits
 abbrev pub run_over : PastView → List (List ℕ) → LimitsView → GivenView
 run_over past request limits = record { past = past; request = request; limits = limits }
 
@@ -102,10 +101,10 @@ run_over past request limits = record { past = past; request = request; limits =
 abbrev pub verdicts_for : GivenView → Verdicts
 verdicts_for given = verdict_with (sources_for given) (last_run_of given.past) given.request
 
--- the line of a record, if anything is listed of its target
-abbrev pub line_for : GivenView → Record → List ℕ
-line_for given r =
-    line_if given.past.sources r.target
+-- what is listed of the target of a record, if anything is
+abbrev pub listed_for : GivenView → Record → List ListedView
+listed_for given r =
+    listed_if given.past.sources r.target
     (first_waiting (sources_for given) (checks_for given) (verdicts_for given) r.entries)
     (word_with (sources_for given) (last_run_of given.past) given.request r)
 
@@ -121,8 +120,8 @@ abbrev pub AreAskedAbout : GivenView → List (List ℕ) → (List ℕ → Bool)
 AreAskedAbout given [] asked = (path : List ℕ) → asked path ≡ true
 AreAskedAbout given (q ∷ qs) asked = (path : List ℕ) → (asked path ≡ true) ↔ RestsOn given path
 
--- the list: the lines of the records whose targets the run is asked about, in path order
-pub record IsList (given : GivenView) (text : List ℕ) : Type 0 where
+-- the list: what is listed of the records whose targets the run is asked about, in path order
+pub record IsList (given : GivenView) (listed : List ListedView) : Type 0 where
   pub asked : List ℕ → Bool
   pub are : AreAskedAbout given given.request asked
-  pub lines : text ≡ flat_map (line_for given) (filter (λ r. asked r.target) given.past.book)
+  pub targets : listed ≡ flat_map (listed_for given) (filter (λ r. asked r.target) given.past.book)

@@ -1,10 +1,11 @@
 //! What is out of date: the targets of the book that the next run would begin, or may, told without building.
 //!
-//! [`out_of_date`] lists them, one a line with the reason, for every run or for one that requests some paths. It stands on
+//! [`out_of_date`] lists them with their reasons, for every run or for one that requests some paths. It stands on
 //! redo_past for the tree, its sources and its book, on redo_which for rules, on redo_core for the definition of a run's
-//! checks, on redo_why for what may be told of a run before any script runs, and on redo_explain for the words of reasons.
+//! checks, on redo_why for what may be told of a run before any script runs, on redo_explain for the words of reasons, and
+//! on redo_list for the form of a list.
 //!
-//! - `list`: the list; `text`: its lines;
+//! - `list`: the list; `told`: what it has of a target; `whys`: why, in words;
 //! - `items`: what the tree alone tells of each entry; `verdicts`: what follows for each record; `words`: what is told of
 //!   one;
 //! - `asked`: which targets a run is asked about: all, or what its request rests on;
@@ -15,8 +16,9 @@ mod asked;
 mod items;
 pub mod laws;
 mod list;
-mod text;
+mod told;
 mod verdicts;
+mod whys;
 mod words;
 
 pub use list::out_of_date;

@@ -12,7 +12,8 @@ use Rattle.redo_why.specs.OutOfDate.{entry_path}
 use Rattle.redo_why.specs.OutOfDate as why
 use Rattle.redo_why.specs.Reasons.{Altered, Fallen}
 use Rattle.redo_why.specs.Verdicts.{Mark, Holds, Drops, Unsure, Waits, mark_checked}
-use Rattle.redo_ood.specs.Listing.{word_line}
+use Rattle.redo_ood.specs.Listing.{listed_if}
+use Rattle.redo_list.specs.Lists.{ListedView}
 use Rattle.redo_ood.specs.inside.Rows.{told_as}
 use Rattle.redo_ood.specs.inside.Verdicts.{Known}
 use Rattle.redo_ood.specs.declared.verdicts.Item.{Item}
@@ -20,7 +21,7 @@ use Rattle.redo_ood.specs.declared.verdicts.Item.TheVariants as items
 use Rattle.redo_ood.specs.declared.verdicts.Row.{Row}
 use Rattle.redo_ood.specs.declared.asked.Asked.{Asked}
 use Rattle.redo_ood.specs.declared.asked.Asked.TheVariants as askeds
-use Rattle.redo_ood.specs.declared.text.Why.{Why}
+use Rattle.redo_ood.specs.declared.whys.Why.{Why}
 use Rattle.redo_ood.specs.declared.words.Mark.{Mark as CodeMark}
 use Rattle.redo_ood.specs.declared.words.Mark.TheVariants as marks
 use Rattle.redo_ood.specs.declared.words.Open.{Open}
@@ -111,14 +112,14 @@ told_of past v r is =
     (if is_intact (file_at past.tree) r then told_in v r.entries is else Some (why.Stale Altered, []))
     else Some (why.Lost, [])
 
--- a line of three parts behind the target
+-- a reason of three parts
 abbrev pub why_in : Why → List ℕ
 why_in why = why.before.now ++ why.path.now ++ why.after.now
 
--- the line of a record, if anything is told of its target
-abbrev pub told_line : Tree → List ℕ → Option Told → List ℕ
-told_line tree target None = []
-told_line tree target (Some told) = word_line tree target told.1 told.0
+-- what is listed of a target, if anything is told of it
+abbrev pub listed_told : Tree → List ℕ → Option Told → List ListedView
+listed_told tree target None = []
+listed_told tree target (Some told) = listed_if tree target told.1 (Some told.0)
 
 -- each record has as many items as entries
 abbrev pub HaveItems : List Record → List Row → Type 0
@@ -132,10 +133,10 @@ abbrev pub asks : Asked → List ℕ → Bool
 asks askeds.All path = true
 asks (askeds.These paths) path = is_among paths path
 
--- the lines of records that are asked about
-abbrev pub lines_in : PastView → Known → (List ℕ → Bool) → List Record → List Row → List ℕ
-lines_in past v asked [] rows = []
-lines_in past v asked (r ∷ rs) [] = []
-lines_in past v asked (r ∷ rs) (row ∷ rows) =
-    (if asked r.target then told_line past.sources r.target (told_of past v r row.items.items) else [])
-    ++ lines_in past v asked rs rows
+-- what is listed of records that are asked about
+abbrev pub listed_in : PastView → Known → (List ℕ → Bool) → List Record → List Row → List ListedView
+listed_in past v asked [] rows = []
+listed_in past v asked (r ∷ rs) [] = []
+listed_in past v asked (r ∷ rs) (row ∷ rows) =
+    (if asked r.target then listed_told past.sources r.target (told_of past v r row.items.items) else [])
+    ++ listed_in past v asked rs rows

@@ -1,12 +1,14 @@
-use Rattle.std.proofs.Common.{◌≡◌, ◌∙◌, ◌<◌, ◌++◌, Global, ℕ, Vec, ap, arith, length, rules, subst, sym}
+use Rattle.std.proofs.Common.{◌≡◌, ◌∙◌, ◌<◌, ◌++◌, Global, Vec, ap, arith, length, map, rules, subst, sym}
 use Rattle.std.specs.Prelude.{option_map}
 use Rattle.redo_book.specs.Book.{record_of}
-use Rattle.redo_ood.specs.inside.Lines.{HaveItems, asks, told_line, told_of, word_as}
+use Rattle.redo_list.specs.Lists.{listed_view}
+use Rattle.redo_ood.specs.inside.Lines.{HaveItems, asks, listed_told, told_of, word_as}
 use Rattle.redo_ood.specs.inside.Verdicts.{in_table}
+use Rattle.redo_list.specs.declared.listed.Listed.{Listed}
 use Rattle.redo_ood.specs.declared.verdicts.Row.{Row}
-use Rattle.redo_ood.proofs.ScanLemmas.{have-at, item-at, line-less, line-more, rows-length}
-use Rattle.redo_ood.proofs.list.lines.Goals as goal
-use Rattle.redo_ood.proofs.list.lines.Goals.{then-has+in_ok-word+in_ok-push_word, else-has}
+use Rattle.redo_ood.proofs.ScanLemmas.{have-at, item-at, listed-less, listed-more, rows-length}
+use Rattle.redo_ood.proofs.list.list_of.Goals as goal
+use Rattle.redo_ood.proofs.list.list_of.Goals.{then-has+in_ok-word+in_ok-push_told, else-has}
 
 pub bounds-rows-number : goal.bounds-rows-number
 bounds-rows-number c =
@@ -34,21 +36,21 @@ loop-number-preserved c =
     let within : i < length rows = omega (arith, long, c.loop-number-test.true) in
     let made = c.index-records-number.result in
     elim c.if-has.branch [
-      | then-has+in_ok-word+in_ok-push_word w ↦
+      | then-has+in_ok-word+in_ok-push_told w ↦
           let row = w.index-rows-number.result in
           let tells = told_of past (in_table c.args.table.now) (record_of made) in
           let sources : w.deref-then-has.result.now ≡ past.sources = search rules in
           let word = w.in_ok-word.ensures ∙ ap tells (w.deref.ensures.value ∙ ap (λ (r : Row). r.items.items) (sym w.index-rows-number.is)) in
-          let told : c.if-has.text.items ≡ c.loop-number.text.items ++ told_line past.sources made.target (tells row.items.items) =
-          ap (λ (t : Vec ℕ Global). t.items) w.text-is ∙ w.in_ok-push_word.ensures
-          ∙ ap (λ l. c.loop-number.text.items ++ l)
-          (ap (λ tree. told_line tree made.target (option_map word_as w.in_ok-word.word)) sources ∙ ap (told_line past.sources made.target) word) in
-          line-more past (in_table c.args.table.now) (asks c.args.asked.now) rs rows i made row c.loop-number-test.true
-          c.index-records-number.is within w.index-rows-number.is c.loop-number.text.items _ c.if-has.text.items c.loop-number.invariant
+          let told : map listed_view c.if-has.listed.items ≡ map listed_view c.loop-number.listed.items ++ listed_told past.sources made.target (tells row.items.items) =
+          ap (λ (t : Vec Listed Global). map listed_view t.items) w.listed-is ∙ w.in_ok-push_told.ensures
+          ∙ ap (λ l. map listed_view c.loop-number.listed.items ++ l)
+          (ap (λ tree. listed_told tree made.target (option_map word_as w.in_ok-word.word)) sources ∙ ap (listed_told past.sources made.target) word) in
+          listed-more past (in_table c.args.table.now) (asks c.args.asked.now) rs rows i made row c.loop-number-test.true
+          c.index-records-number.is within w.index-rows-number.is (map listed_view c.loop-number.listed.items) _ (map listed_view c.if-has.listed.items) c.loop-number.invariant
           (sym c.has.ensures ∙ w.if-has.true) told
       | else-has w ↦
           let row = item-at rows i within in
-          line-less past (in_table c.args.table.now) (asks c.args.asked.now) rs rows i made row.0 c.loop-number-test.true
-          c.index-records-number.is within row.1 c.loop-number.text.items _ c.if-has.text.items c.loop-number.invariant
-          (sym c.has.ensures ∙ w.if-has.false) (ap (λ (t : Vec ℕ Global). t.items) w.text-is)
+          listed-less past (in_table c.args.table.now) (asks c.args.asked.now) rs rows i made row.0 c.loop-number-test.true
+          c.index-records-number.is within row.1 (map listed_view c.loop-number.listed.items) _ (map listed_view c.if-has.listed.items) c.loop-number.invariant
+          (sym c.has.ensures ∙ w.if-has.false) (ap (λ (t : Vec Listed Global). map listed_view t.items) w.listed-is)
     ]

@@ -1,11 +1,11 @@
-//! The lines of a list.
+//! Why a target is listed, in words.
 
-ghost use Rattle.std.specs.Prelude.{◌≡◌, ◌++◌, ◌∷◌, [], IfOk, OnOk, codes, option_map};
+ghost use Rattle.std.specs.Prelude.{◌≡◌, ◌++◌, IfOk};
 ghost use Rattle.redo_why.specs.OutOfDate.{entry_path};
 ghost use Rattle.redo_explain.specs.Words.{entry_words};
 ghost use Rattle.redo_which.specs.Rule.{found_of};
-ghost use Rattle.redo_ood.specs.Listing.{kind_word, why_words};
-ghost use Rattle.redo_ood.specs.inside.Lines.{told_line, why_in, word_as};
+ghost use Rattle.redo_ood.specs.Listing.{why_words};
+ghost use Rattle.redo_ood.specs.inside.Lines.{why_in, word_as};
 
 use crate::words::Word;
 use redo_book::BookEntry;
@@ -97,50 +97,15 @@ fn why_of<'a>(alloc: Global, sources: &Tree, word: Word<'a>) -> Result<Why<'a>, 
     }
 }
 
-/// The word that begins a line.
-fn kind_of(word: Word<'_>) -> &'static [u8]
-    ensures { result.now ≡ kind_word (word_as word.entry).0 }
+/// Why a target is listed, as a text.
+pub(crate) fn why_text(alloc: Global, sources: &Tree, word: Word<'_>) -> Result<Vec<u8>, AllocError>
+    ensures { IfOk result (λ text.
+        text.items ≡ why_words sources.now (word_as word.entry).1 (word_as word.entry).0) }
 {
-    match word {
-        Word::Altered | Word::Fallen(_) => b"stale ",
-        Word::Maybe(_) => b"maybe ",
-        Word::Ring(_) => b"ring ",
-        Word::Lost => b"lost ",
-    }
-}
-
-/// Adds the line of a target.
-fn push_line(text: &mut Vec<u8>, kind: &[u8], target: &Path, why: Why<'_>) -> Result<(), AllocError>
-    ensures { OnOk result (text.new.items ≡
-        text.old.items ++ (kind.now ++ target.now ++ codes ": " ++ why_in why.entry ++ 10 ∷ [])) }
-{
-    text.extend_from_slice(kind)?;
-    text.extend_from_slice(target.text())?;
-    text.extend_from_slice(b": ")?;
+    let why = why_of(alloc, sources, word)?;
+    let mut text = Vec::new(alloc);
     text.extend_from_slice(why.before)?;
     text.extend_from_slice(why.path)?;
     text.extend_from_slice(why.after)?;
-    text.extend_from_slice(b"\n")?;
-    Ok(())
-}
-
-/// Adds the line of a target, if anything is told of it.
-pub(crate) fn push_word(
-    alloc: Global,
-    text: &mut Vec<u8>,
-    sources: &Tree,
-    target: &Path,
-    word: Option<Word<'_>>,
-) -> Result<(), AllocError>
-    ensures { OnOk result (text.new.items ≡
-        text.old.items ++ told_line sources.now target.now (option_map word_as word.entry)) }
-{
-    match word {
-        Some(word) => {
-            let why = why_of(alloc, sources, word)?;
-            push_line(text, kind_of(word), target, why)?;
-            Ok(())
-        }
-        None => Ok(()),
-    }
+    Ok(text)
 }

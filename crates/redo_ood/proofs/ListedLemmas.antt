@@ -1,4 +1,4 @@
--- The lines that code writes are those of the definitions.
+-- What the code lists is what the definitions list.
 use Rattle.std.proofs.Common.{◌≡◌, ◌∙◌, ◌++◌, ℕ, Bool, true, false, inl, inr, List, [], ◌∷◌, Option, Some, None}
 use Rattle.std.proofs.Common.{refl, sym, ap, subst, filter}
 use Rattle.std.proofs.lemmas.Bool.{cases_Bool}
@@ -16,9 +16,10 @@ use Rattle.redo_why.specs.OutOfDate.{drop_by, entry_path, first_drop, first_unsu
 use Rattle.redo_why.specs.Reasons.{Altered}
 use Rattle.redo_why.specs.Verdicts.{Verdict, Keeps, Begins, Either, Verdicts, Mark, Holds, Drops, Unsure, Waits}
 use Rattle.redo_why.specs.Verdicts.{mark, mark_checked, verdict, verdict_by}
-use Rattle.redo_ood.specs.Listing.{IsList, AreAskedAbout, first_waiting, line_for, line_if, verdicts_for, waits_by}
+use Rattle.redo_ood.specs.Listing.{IsList, AreAskedAbout, first_waiting, listed_for, listed_if, verdicts_for, waits_by}
 use Rattle.redo_ood.specs.Listing.{word_of_entries}
-use Rattle.redo_ood.specs.inside.Lines.{HaveItems, Told, drop_in, lines_in, mark_in, open_by, open_in, told_in, told_line}
+use Rattle.redo_list.specs.Lists.{ListedView}
+use Rattle.redo_ood.specs.inside.Lines.{HaveItems, Told, drop_in, listed_in, mark_in, open_by, open_in, told_in, listed_told}
 use Rattle.redo_ood.specs.inside.Lines.{told_of, told_open}
 use Rattle.redo_ood.specs.inside.Rows.{AreItems, AreRows, IsAt, IsItem, told_as}
 use Rattle.redo_ood.specs.inside.Verdicts.{AreVerdicts, Known, in_table}
@@ -45,25 +46,25 @@ opened-more e Drops o x d u w h = (refl, refl)
 opened-more e Unsure o x d u w h = (refl, refl)
 opened-more e Waits o x d u w h = (refl, refl)
 
--- the line by that entry
-line-opened : (tree : Tree) (target : List ℕ) (o : Option (BookEntry × Mark)) (x : Option Verdict) (d : Option BookEntry) (u w : List ℕ) →
-    Opened o x d u w → told_line tree target (told_open d o) ≡ line_if tree target w (word_by u d x)
-line-opened tree target None x d u w h = rw h refl
-line-opened tree target (Some (e, Holds)) x d u w h = absurd h
-line-opened tree target (Some (e, Drops)) x d u w h = rw (h.0, h.1) refl
-line-opened tree target (Some (e, Unsure)) x None u w h = rw (h.0, h.1) refl
-line-opened tree target (Some (e, Unsure)) x (Some d) u w h = rw h.0 refl
-line-opened tree target (Some (e, Waits)) x d u w h = rw (h.0, h.1) refl
+-- what is listed by that entry
+listed-opened : (tree : Tree) (target : List ℕ) (o : Option (BookEntry × Mark)) (x : Option Verdict) (d : Option BookEntry) (u w : List ℕ) →
+    Opened o x d u w → listed_told tree target (told_open d o) ≡ listed_if tree target w (word_by u d x)
+listed-opened tree target None x d u w h = rw h refl
+listed-opened tree target (Some (e, Holds)) x d u w h = absurd h
+listed-opened tree target (Some (e, Drops)) x d u w h = rw (h.0, h.1) refl
+listed-opened tree target (Some (e, Unsure)) x None u w h = rw (h.0, h.1) refl
+listed-opened tree target (Some (e, Unsure)) x (Some d) u w h = rw h.0 refl
+listed-opened tree target (Some (e, Waits)) x d u w h = rw (h.0, h.1) refl
 
--- the line of a target by what its record tells, if it is no source, has a rule and is as the last run left it
-line-tested : (tree : Tree) (target waited : List ℕ) (source ruled intact : Bool) (t : Option Told) (word : Option why.Word) →
-    told_line tree target t ≡ line_if tree target waited word →
-    told_line tree target (if source then None else if ruled then (if intact then t else Some (why.Stale Altered, [])) else Some (why.Lost, []))
-    ≡ line_if tree target waited (if source then None else if ruled then (if intact then word else Some (why.Stale Altered)) else Some why.Lost)
-line-tested tree target waited true ruled intact t word same = refl
-line-tested tree target waited false false intact t word same = refl
-line-tested tree target waited false true false t word same = refl
-line-tested tree target waited false true true t word same = same
+-- what is listed of a target by what its record tells, if it is no source, has a rule and is as the last run left it
+listed-tested : (tree : Tree) (target waited : List ℕ) (source ruled intact : Bool) (t : Option Told) (word : Option why.Word) →
+    listed_told tree target t ≡ listed_if tree target waited word →
+    listed_told tree target (if source then None else if ruled then (if intact then t else Some (why.Stale Altered, [])) else Some (why.Lost, []))
+    ≡ listed_if tree target waited (if source then None else if ruled then (if intact then word else Some (why.Stale Altered)) else Some why.Lost)
+listed-tested tree target waited true ruled intact t word same = refl
+listed-tested tree target waited false false intact t word same = refl
+listed-tested tree target waited false true false t word same = refl
+listed-tested tree target waited false true true t word same = same
 
 module _ (s : Sources) (k : Checks) (book : List Record) (known : Known) (v : Verdicts)
     (same : (j : ℕ) (q : List ℕ) (c : Check) → k q ≡ Some c → IsAt book q j → told_as (known j) ≡ v q) where
@@ -95,11 +96,11 @@ module _ (s : Sources) (k : Checks) (book : List Record) (known : Known) (v : Ve
       ∙ ap (drop_by e (mark s k v e)) (dropped es is are.1)
 
   entries-told : (tree : Tree) (target : List ℕ) (es : List BookEntry) (is : List Item) → AreItems s k book es is →
-      told_line tree target (told_in known es is)
-      ≡ line_if tree target (first_waiting s k v es) (word_of_entries s k v es)
+      listed_told tree target (told_in known es is)
+      ≡ listed_if tree target (first_waiting s k v es) (word_of_entries s k v es)
   entries-told tree target es is are =
-      ap (λ d. told_line tree target (told_open d (open_in known es is))) (dropped es is are)
-      ∙ line-opened tree target (open_in known es is) (verdict s k v es) (first_drop s k v es) (first_unsure s k v es)
+      ap (λ d. listed_told tree target (told_open d (open_in known es is))) (dropped es is are)
+      ∙ listed-opened tree target (open_in known es is) (verdict s k v es) (first_drop s k v es) (first_unsure s k v es)
       (first_waiting s k v es) (opened es is are)
 
 pub have-items : (s : Sources) (k : Checks) (book rs : List Record) (rows : List Row) → AreRows s k book rs rows → HaveItems rs rows
@@ -118,9 +119,9 @@ module _ (given : GivenView) (rows : List Row) (table : List (Option CodeVerdict
   k = checks_for given
 
   record-told : (r : Record) (is : List Item) → AreItems s k given.past.book r.entries is →
-      told_line given.past.sources r.target (told_of given.past (in_table table) r is) ≡ line_for given r
+      listed_told given.past.sources r.target (told_of given.past (in_table table) r is) ≡ listed_for given r
   record-told r is items =
-      line-tested given.past.sources r.target (first_waiting s k (verdicts_for given) r.entries)
+      listed-tested given.past.sources r.target (first_waiting s k (verdicts_for given) r.entries)
       (is_some (file_at given.past.sources r.target)) (is_rule (found_of given.past.sources r.target))
       (is_intact (file_at given.past.tree) r) (told_in (in_table table) r.entries is)
       (word_of_entries s k (verdicts_for given) r.entries)
@@ -128,24 +129,24 @@ module _ (given : GivenView) (rows : List Row) (table : List (Option CodeVerdict
       (λ j q c check at. table-told s (last_run_of given.past) given.request rows are table verdicts q c check j at)
       given.past.sources r.target r.entries is items)
 
-  lines-told : (asked : List ℕ → Bool) (rs : List Record) (ys : List Row) → AreRows s k given.past.book rs ys →
-      lines_in given.past (in_table table) asked rs ys ≡ flat_map (line_for given) (filter (λ r. asked r.target) rs)
-  lines-told asked [] [] rs-are = refl
-  lines-told asked [] (y ∷ ys) rs-are = absurd rs-are
-  lines-told asked (r ∷ rs) [] rs-are = absurd rs-are
-  lines-told asked (r ∷ rs) (y ∷ ys) rs-are = elim (cases_Bool (asked r.target)) [
+  listed-told : (asked : List ℕ → Bool) (rs : List Record) (ys : List Row) → AreRows s k given.past.book rs ys →
+      listed_in given.past (in_table table) asked rs ys ≡ flat_map (listed_for given) (filter (λ r. asked r.target) rs)
+  listed-told asked [] [] rs-are = refl
+  listed-told asked [] (y ∷ ys) rs-are = absurd rs-are
+  listed-told asked (r ∷ rs) [] rs-are = absurd rs-are
+  listed-told asked (r ∷ rs) (y ∷ ys) rs-are = elim (cases_Bool (asked r.target)) [
     | inl t ↦
-        let head : told_line given.past.sources r.target (told_of given.past (in_table table) r y.items.items) ≡ line_for given r =
+        let head : listed_told given.past.sources r.target (told_of given.past (in_table table) r y.items.items) ≡ listed_for given r =
         record-told r y.items.items rs-are.0 in
-        rw t (ap (λ l. l ++ lines_in given.past (in_table table) asked rs ys) head
-        ∙ ap (λ l. line_for given r ++ l) (lines-told asked rs ys rs-are.1))
-    | inr f ↦ rw f (lines-told asked rs ys rs-are.1)
+        rw t (ap (λ l. l ++ listed_in given.past (in_table table) asked rs ys) head
+        ∙ ap (λ l. listed_for given r ++ l) (listed-told asked rs ys rs-are.1))
+    | inr f ↦ rw f (listed-told asked rs ys rs-are.1)
   ]
 
-  pub is-list : (asked : List ℕ → Bool) (text : List ℕ) → AreAskedAbout given given.request asked →
-      text ≡ lines_in given.past (in_table table) asked given.past.book rows → IsList given text
-  is-list asked text about told = record {
+  pub is-list : (asked : List ℕ → Bool) (listed : List ListedView) → AreAskedAbout given given.request asked →
+      listed ≡ listed_in given.past (in_table table) asked given.past.book rows → IsList given listed
+  is-list asked listed about told = record {
     asked = asked;
     are = about;
-    lines = told ∙ lines-told asked given.past.book rows are;
+    targets = told ∙ listed-told asked given.past.book rows are;
   }
