@@ -1,14 +1,16 @@
 -- What a set of paths has.
 use Rattle.std.proofs.Common.{◌≡◌, ◌∙◌, ◌+◌, ◌<◌, ℕ, Bool, true, false, ◌||◌, inl, inr, List, [], ◌∷◌, ◌++◌, Option, Some, None, refl, sym, ap}
-use Rattle.std.proofs.Common.{subst, length, take, slice_get, slice_index_or, is_some}
+use Rattle.std.proofs.Common.{subst, length, map, take, slice_get, slice_index_or, is_some}
 use Rattle.std.proofs.lemmas.Bool.{cases_Bool}
-use Rattle.std.proofs.lemmas.List.{take_more}
+use Rattle.std.proofs.lemmas.List.{map-append, take_more}
 use Rattle.std.proofs.lemmas.Slice.Eq.{bytes_eq-Decides}
 use Rattle.std.specs.Prelude.{MatchOption}
 use Rattle.std.specs.Str.{bytes_eq}
 use Rattle.redo_names.specs.Paths.{IsAmong, is_among, with_path}
 use Rattle.redo_build.proofs.PathLemmas.{is_among-from, is_among-true}
 use Rattle.redo_build.proofs.QueueLemmas.{slice_get-among}
+use Rattle.redo_list.specs.declared.listed.Listed.{Listed}
+use Rattle.redo_dot.specs.Lists.{is_listed}
 
 -- whether a number is found tells whether a path is one of these
 pub number-tells : (ps : List (List ℕ)) (p : List ℕ) (o : Option ℕ) →
@@ -49,3 +51,17 @@ pub set-more : (ps qs : List (List ℕ)) (i : ℕ) (x p : List ℕ) → i < leng
 set-more ps qs i x p within is same =
     with-path-tells qs x p ∙ ap (λ b. b || bytes_eq x p) same ∙ sym (or-more (take i ps) x p) ∙
     ap (λ y. is_among (take i ps ++ y ∷ []) p) is ∙ ap (λ l. is_among l p) (sym (take_more ps i x within))
+
+abbrev targets-of : List Listed → List (List ℕ)
+targets-of ts = map (λ it. it.target) ts
+
+-- one listed target more
+pub listed-more : (ts : List Listed) (qs : List (List ℕ)) (i : ℕ) (x : Listed) (p : List ℕ) → i < length ts →
+    x ≡ slice_index_or ts i x → is_among qs p ≡ is_listed (take i ts) p →
+    is_among (with_path qs x.target) p ≡ is_listed (take (i + 1) ts) p
+listed-more ts qs i x p within is same =
+    with-path-tells qs x.target p ∙ ap (λ b. b || bytes_eq x.target p) same
+    ∙ sym (or-more (targets-of (take i ts)) x.target p)
+    ∙ ap (λ y. is_among (targets-of (take i ts) ++ y.target ∷ []) p) is
+    ∙ ap (λ qs. is_among qs p) (sym (map-append (λ it. it.target) (take i ts) (slice_index_or ts i x ∷ [])))
+    ∙ ap (λ l. is_among (targets-of l) p) (sym (take_more ts i x within))

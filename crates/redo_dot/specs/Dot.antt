@@ -86,10 +86,13 @@ abbrev pub row_lines : (List ℕ → Bool) → Bool → Row → List ℕ
 row_lines begun with_rules row =
     node_line begun row ++ flat_map (entry_lines with_rules row.path) (arc_value row.deps)
 
+-- the graph with these lines
+abbrev pub graph_with : List ℕ → List ℕ
+graph_with lines = codes "digraph redo {\nnode [shape=plaintext];\n" ++ lines ++ codes "}\n"
+
 -- the graph of rows, by whether each path's script was begun; what only edges name is a node too, by the language
 abbrev pub graph_of : (List ℕ → Bool) → Bool → List Row → List ℕ
-graph_of begun with_rules rows =
-    codes "digraph redo {\nnode [shape=plaintext];\n" ++ flat_map (row_lines begun with_rules) rows ++ codes "}\n"
+graph_of begun with_rules rows = graph_with (flat_map (row_lines begun with_rules) rows)
 
 abbrev pub graph_text : Report → Bool → List ℕ
 graph_text report with_rules = graph_of (is_among report.begun.items) with_rules report.rows.items

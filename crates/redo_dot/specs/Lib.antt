@@ -1,1 +1,2 @@
 pub mod Dot
+pub mod Lists

@@ -18,14 +18,14 @@ fn is_do_file(path: &Path) -> bool
 }
 
 /// The look of an edge for `change`.
-fn change_look(is_do: bool) -> &'static [u8]
+pub(crate) fn change_look(is_do: bool) -> &'static [u8]
     ensures { result.now ≡ look_of_change is_do }
 {
     if is_do { b" [color=grey];\n" } else { b";\n" }
 }
 
 /// The look of an edge for `create`.
-fn create_look(is_do: bool) -> &'static [u8]
+pub(crate) fn create_look(is_do: bool) -> &'static [u8]
     ensures { result.now ≡ look_of_create is_do }
 {
     if is_do {
@@ -47,7 +47,12 @@ fn push_do_file(text: &mut Vec<u8>, is_do: bool, path: &Path) -> Result<(), Allo
 }
 
 /// Adds the line of an edge.
-fn push_edge(text: &mut Vec<u8>, target: &Path, path: &Path, look: &[u8]) -> Result<(), AllocError>
+pub(crate) fn push_edge(
+    text: &mut Vec<u8>,
+    target: &Path,
+    path: &Path,
+    look: &[u8],
+) -> Result<(), AllocError>
     ensures { OnOk result (text.new.items ≡ text.old.items ++ edge_line target.now path.now look.now) }
 {
     push_name(text, target)?;

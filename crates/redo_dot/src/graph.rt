@@ -25,7 +25,7 @@ fn set_of(alloc: Global, paths: &[Path]) -> Result<PathSet, AllocError>
 }
 
 /// Whether a path is one of these.
-fn has(paths: &PathSet, path: &Path) -> bool
+pub(crate) fn has(paths: &PathSet, path: &Path) -> bool
     ensures { result ≡ is_among paths.now path.now }
 {
     paths.number_of(path).is_some()

@@ -1,19 +1,25 @@
-//! A report as a graph, in the language of graphviz's `dot`.
+//! A report, or a list of targets that are out of date, as a graph, in the language of graphviz's `dot`.
 //!
 //! [`dot`] draws each row as a node, and each entry of a record as an edge from its target to the path that it names. A
 //! target is a box: black if its script was begun, grey if it was kept, red if it failed, and orange if it is cyclic. A
 //! source is plain text, and so is a path where nothing is. An edge is solid for `change` and dashed for `create`.
 //! Candidates and rules, the `.do` files, are grey, and are left out unless they are wanted.
 //!
-//! A name stands in quotes as a label shows it. Of a path that isn't UTF-8, each byte from 128 shows as the character of
-//! that number. The crate stands on redo_report for what is drawn, on redo_record and redo_which for entries, on
-//! redo_names and redo_path for paths, and on `itoa` for decimal numbers.
+//! [`list_dot`] draws each listed target as a box: black if a run begins its script, grey if it may be kept, red if it
+//! has no rule any more, and orange if it waits for itself or a ring. Edges lead from one listed target to another.
 //!
-//! - `graph`: the whole text; `edges`: the edges of a record; `names`: names in quotes.
+//! A name stands in quotes as a label shows it. Of a path that isn't UTF-8, each byte from 128 shows as the character of
+//! that number. The crate stands on redo_report and redo_list for what is drawn, on redo_record, redo_which and
+//! redo_book for entries, on redo_names and redo_path for paths, and on `itoa` for decimal numbers.
+//!
+//! - `graph`: the whole text of a report; `edges`: the edges of a record; `list`: the text of a list;
+//! - `names`: names in quotes.
 #![tactic(auto)]
 
 mod edges;
 mod graph;
+mod list;
 mod names;
 
 pub use graph::dot;
+pub use list::list_dot;

@@ -1,3 +1,3 @@
-pub mod ReasonLemmas
+pub mod KnownLemmas
 pub mod TextLemmas
 pub mod ToldLemmas

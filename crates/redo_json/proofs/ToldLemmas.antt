@@ -1,30 +1,42 @@
--- The text of a report, by the reasons that were found.
-use Rattle.std.proofs.Common.{◌≡◌, ◌∙◌, ◌++◌, ◌∷◌, [], ℕ, List, ap, map}
+-- The text of a report, by what is known.
+use Rattle.std.proofs.Common.{◌≡◌, ◌∙◌, ◌++◌, ◌∷◌, [], ℕ, List, Option, ap, map}
+use Rattle.std.specs.Borrow.{Bor}
 use Rattle.json.specs.Print.{print}
 use Rattle.json.specs.Token.{Token}
+use Rattle.redo_diagnose.specs.declared.diagnosis.Diagnosis.{Diagnosis}
 use Rattle.redo_explain.specs.declared.begun.Begun.{Begun}
 use Rattle.redo_explain.specs.declared.begun.Reason.{Reason as ReasonHere}
 use Rattle.redo_explain.specs.Views.{begun_view}
 use Rattle.redo_report.specs.declared.report.Row.{Row}
+use Rattle.redo_rings.specs.declared.ring.Ring.{Ring}
 use Rattle.redo_tree.specs.Tree.{Tree}
 use Rattle.redo_which.specs.Rule.{Found, found_of}
-use Rattle.redo_json.specs.Told.{Reasons, reasons_in, report_tokens}
-use Rattle.redo_json.specs.inside.Found.{AreReasonsOf, reasons_by}
+use Rattle.redo_why.specs.Reasons.{Reason}
+use Rattle.redo_json.specs.Members.{Known}
+use Rattle.redo_json.specs.Told.{Reasons, known_of, reasons_in, report_tokens}
+use Rattle.redo_json.specs.inside.Known.{AreDiagnosesOf, AreReasonsOf, diagnoses_by, reasons_by}
 
--- the same reasons have the same tokens
-same-reasons : (found : List ℕ → Found) (a b : Reasons) (status : ℕ) (rows : List Row) → ((path : List ℕ) → a path ≡ b path) →
-    report_tokens found a status rows ≡ report_tokens found b status rows
-same-reasons found a b status rows same = ap (λ (r : Reasons). report_tokens found r status rows) (λ i path. same path i)
+abbrev known-with : (List ℕ → Found) → Reasons → (List ℕ → Option Diagnosis) → Known
+known-with found reason diagnosis = record { found = found; reason = reason; diagnosis = diagnosis }
+
+-- the same values are known
+pub same-known : (sources : Tree) (reasons : List (List ℕ × ReasonHere)) (found : List (List ℕ × Bor Diagnosis))
+    (begun : List (List ℕ × Reason)) (diagnoses : List Diagnosis) →
+    AreReasonsOf begun reasons → AreDiagnosesOf diagnoses found →
+    known-with (found_of sources) (reasons_by reasons) (diagnoses_by found) ≡ known_of sources begun diagnoses
+same-known sources reasons found begun diagnoses are all =
+    ap (λ (r : Reasons). known-with (found_of sources) r (diagnoses_by found)) (λ i path. are path i)
+    ∙ ap (λ (d : List ℕ → Option Diagnosis). known-with (found_of sources) (reasons_in begun) d) (λ i path. all path i)
 
 -- the text of the tokens, where what was passed is what is told of
-pub told-text : (text : List ℕ) (tokens : List Token) (tree sources : Tree) (given rows : List Row) (these begun : List Begun)
-    (found : List (List ℕ × ReasonHere)) (status : ℕ) →
-    text ≡ print tokens ++ 10 ∷ [] → tokens ≡ report_tokens (found_of tree) (reasons_by found) status given →
-    tree ≡ sources → given ≡ rows → AreReasonsOf (map begun_view these) found → these ≡ begun →
-    text ≡ print (report_tokens (found_of sources) (reasons_in (map begun_view begun)) status rows) ++ 10 ∷ []
-told-text text tokens tree sources given rows these begun found status is made t g are b =
+pub told-text : (text : List ℕ) (tokens : List Token) (known : Known) (tree sources : Tree) (given rows : List Row)
+    (these begun : List Begun) (diagnoses : List Diagnosis) (status : ℕ) (rings : List Ring) →
+    text ≡ print tokens ++ 10 ∷ [] → tokens ≡ report_tokens known status rings given →
+    known ≡ known_of tree (map begun_view these) diagnoses → tree ≡ sources → given ≡ rows → these ≡ begun →
+    text ≡ print (report_tokens (known_of sources (map begun_view begun) diagnoses) status rings rows) ++ 10 ∷ []
+told-text text tokens known tree sources given rows these begun diagnoses status rings is made k t g b =
     is ∙ ap (λ ts. print ts ++ 10 ∷ []) (made
-    ∙ ap (λ s. report_tokens (found_of s) (reasons_by found) status given) t
-    ∙ ap (λ rs. report_tokens (found_of sources) (reasons_by found) status rs) g
-    ∙ same-reasons (found_of sources) (reasons_by found) (reasons_in (map begun_view these)) status rows are
-    ∙ ap (λ bs. report_tokens (found_of sources) (reasons_in (map begun_view bs)) status rows) b)
+    ∙ ap (λ k. report_tokens k status rings given) k
+    ∙ ap (λ s. report_tokens (known_of s (map begun_view these) diagnoses) status rings given) t
+    ∙ ap (λ rs. report_tokens (known_of sources (map begun_view these) diagnoses) status rings rs) g
+    ∙ ap (λ bs. report_tokens (known_of sources (map begun_view bs) diagnoses) status rings rows) b)

@@ -1,6 +1,6 @@
--- What a row of a report is told as: tokens of JSON. `print` of the json crate gives the text of tokens.
+-- What the rows and rings of a report are told as: tokens of JSON. `print` of the json crate gives the text of tokens.
 use Rattle.std.specs.Prelude.{Bool, true, false, ℕ, List, [], ◌∷◌, ◌++◌, Option, Some, None, codes, decimal, flat_map, length}
-use Rattle.std.specs.Prelude.{if◌then◌else◌, is_some}
+use Rattle.std.specs.Prelude.{◌==◌, if◌then◌else◌, is_some}
 use Rattle.std.specs.Arc.{arc_value}
 use Rattle.std.specs.Str.{is_utf8}
 use Rattle.std.specs.Str.Lossy.{utf8_lossy}
@@ -15,6 +15,9 @@ use Rattle.redo_record.specs.declared.outcome.Why.{Why}
 use Rattle.redo_record.specs.declared.outcome.Why.TheVariants as whys
 use Rattle.redo_report.specs.ReportText.{why_words}
 use Rattle.redo_report.specs.declared.report.Row.{Row}
+use Rattle.redo_diagnose.specs.declared.diagnosis.Diagnosis.{Diagnosis}
+use Rattle.redo_diagnose.specs.declared.diagnosis.Place.{Place}
+use Rattle.redo_rings.specs.declared.ring.Ring.{Ring}
 use Rattle.redo_which.specs.Rule.{Found}
 use Rattle.redo_why.specs.Reasons.{Reason}
 use Rattle.redo_explain.specs.Words.{reason_words}
@@ -28,11 +31,14 @@ abbrev pub number_member : List ℕ → ℕ → List Token
 number_member name n = key name ∷ number (decimal n) ∷ []
 
 -- a path that isn't UTF-8 is told twice: readable, and as the hex text of its bytes
-abbrev pub hex_members : List ℕ → List Token
-hex_members path = if is_utf8 path then [] else text_member (codes "path_hex") (encode_lower path)
+abbrev pub hex_members : List ℕ → List ℕ → List Token
+hex_members name path = if is_utf8 path then [] else text_member name (encode_lower path)
 
 abbrev pub path_members : List ℕ → List Token
-path_members path = text_member (codes "path") (utf8_lossy path) ++ hex_members path
+path_members path = text_member (codes "path") (utf8_lossy path) ++ hex_members (codes "path_hex") path
+
+abbrev pub file_members : List ℕ → List Token
+file_members file = text_member (codes "file") (utf8_lossy file) ++ hex_members (codes "file_hex") file
 
 -- an entry of a record; `always` has no path
 abbrev pub entry_members : DepKind → List ℕ → List Token
@@ -82,6 +88,31 @@ outcome_members (outcomes.Built (Some bytes)) = number_member (codes "bytes") (l
 outcome_members (outcomes.Failed why) = text_member (codes "reason") (why_words why) ++ line_members (line_of why)
 outcome_members outcomes.Cyclic = []
 
+-- where a script fails: its file, the line, what is meant there, and the line's text
+abbrev pub mark_members : Place → List Token
+mark_members place =
+    file_members place.file ++ number_member (codes "line") place.line
+    ++ number_member (codes "column") place.column ++ number_member (codes "length") place.length
+    ++ text_member (codes "text") (utf8_lossy place.text.items)
+
+abbrev pub place_members : Option Place → List Token
+place_members None = []
+place_members (Some place) = mark_members place
+
+-- what to do, if there are words for it
+abbrev pub help_members : List ℕ → List Token
+help_members help = if length help == 0 then [] else text_member (codes "help") (utf8_lossy help)
+
+-- what is wrong with a target, where, what to do, and how many others failed because of it
+unfoldable pub diagnosis_tokens : Diagnosis → List Token
+diagnosis_tokens d =
+    begin_object ∷ [] ++ place_members d.place ++ text_member (codes "message") (utf8_lossy d.message.items)
+    ++ help_members d.help.items ++ number_member (codes "waiting") d.waiting ++ end_object ∷ []
+
+abbrev pub diagnosis_member : Option Diagnosis → List Token
+diagnosis_member None = []
+diagnosis_member (Some d) = key (codes "diagnosis") ∷ diagnosis_tokens d
+
 -- whether the script was begun, and why
 abbrev pub begun_members : (List ℕ → Found) → Option Reason → List Token
 begun_members found None = key (codes "begun") ∷ boolean false ∷ []
@@ -91,9 +122,32 @@ begun_members found (Some reason) =
 abbrev pub deps_member : List Dep → List Token
 deps_member deps = (key (codes "deps") ∷ begin_array ∷ []) ++ flat_map entry_tokens deps ++ end_array ∷ []
 
--- a row, with the reason for which its script was begun, if it was
-abbrev pub row_tokens : (List ℕ → Found) → Option Reason → Row → List Token
-row_tokens found reason row =
-    begin_object ∷ [] ++ path_members row.path
-    ++ text_member (codes "outcome") (outcome_word row.outcome (is_some reason)) ++ outcome_members row.outcome
-    ++ begun_members found reason ++ deps_member (arc_value row.deps) ++ end_object ∷ []
+-- what is known of paths: what the search finds, the reason for which a script was begun, if it was, and the diagnosis
+-- of a target, if it has one
+pub record Known : Type 0 where
+  pub found : List ℕ → Found
+  pub reason : List ℕ → Option Reason
+  pub diagnosis : List ℕ → Option Diagnosis
+
+-- what became of a row, and what is wrong with it
+unfoldable pub ended_members : Known → Row → List Token
+ended_members known row =
+    text_member (codes "outcome") (outcome_word row.outcome (is_some (known.reason row.path)))
+    ++ outcome_members row.outcome ++ diagnosis_member (known.diagnosis row.path)
+
+abbrev pub row_tokens : Known → Row → List Token
+row_tokens known row =
+    begin_object ∷ [] ++ path_members row.path ++ ended_members known row
+    ++ begun_members known.found (known.reason row.path) ++ deps_member (arc_value row.deps) ++ end_object ∷ []
+
+-- cyclic targets that ask for one another in a ring, and how many others wait for it
+abbrev pub member_tokens : List ℕ → List Token
+member_tokens path = begin_object ∷ [] ++ path_members path ++ end_object ∷ []
+
+abbrev pub ring_tokens : Ring → List Token
+ring_tokens ring =
+    (begin_object ∷ key (codes "paths") ∷ begin_array ∷ []) ++ flat_map member_tokens ring.members.items
+    ++ end_array ∷ [] ++ number_member (codes "waiting") ring.waiting ++ end_object ∷ []
+
+abbrev pub rings_member : List Ring → List Token
+rings_member rings = (key (codes "rings") ∷ begin_array ∷ []) ++ flat_map ring_tokens rings ++ end_array ∷ []

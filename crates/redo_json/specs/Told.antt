@@ -1,18 +1,23 @@
 -- What a report is told as: one object of JSON, and a newline.
-use Rattle.std.specs.Prelude.{◌≡◌, Bool, ℕ, List, [], ◌∷◌, ◌++◌, Option, bytes_eq, codes, count_by, flat_map, is_some}
+use Rattle.std.specs.Prelude.{◌≡◌, Bool, ℕ, List, [], ◌∷◌, ◌++◌, Option, bytes_eq, codes, count_by, flat_map}
+use Rattle.std.specs.Prelude.{is_some, map}
 use Rattle.std.specs.Map.{lookup}
 use Rattle.json.specs.Print.{print}
 use Rattle.json.specs.Token.{Token, begin_object, end_object, begin_array, end_array, key}
 use Rattle.redo_report.specs.declared.report.Report.{Report}
 use Rattle.redo_report.specs.declared.report.Row.{Row}
-use Rattle.redo_which.specs.Rule.{Found, found_of}
+use Rattle.redo_diagnose.specs.declared.diagnosis.Diagnosis.{Diagnosis}
+use Rattle.redo_rings.specs.declared.ring.Ring.{Ring}
+use Rattle.redo_tree.specs.Tree.{Tree}
+use Rattle.redo_which.specs.Rule.{found_of}
 use Rattle.redo_past.specs.Past.{PastView}
 use Rattle.redo_step.specs.Limits.{LimitsView}
 use Rattle.redo_core.specs.Build.{GivenView}
 use Rattle.redo_core.specs.Results.{IsGiven, IsResult}
 use Rattle.redo_why.specs.Reasons.{Reason}
 use Rattle.redo_explain.specs.Explained.{AreReasons}
-use Rattle.redo_json.specs.Members.{number_member, outcome_word, row_tokens}
+use Rattle.redo_json.specs.Members.{Known, number_member, outcome_word, rings_member, row_tokens}
+use Rattle.redo_json.specs.declared.told.Told.{Told}
 
 -- the reason for which the script of each path was begun, if it was
 abbrev pub Reasons : Type 0
@@ -21,6 +26,15 @@ Reasons = List ℕ → Option Reason
 -- the reasons of these begun scripts
 abbrev pub reasons_in : List (List ℕ × Reason) → Reasons
 reasons_in begun path = lookup (bytes_eq path) begun
+
+-- the first of these diagnoses that is of a path, if there is one
+abbrev pub diagnosis_in : List Diagnosis → List ℕ → Option Diagnosis
+diagnosis_in diagnoses path = lookup (bytes_eq path) (map (λ d. (d.target, d)) diagnoses)
+
+-- what is known by the sources, the begun scripts and the diagnoses
+abbrev pub known_of : Tree → List (List ℕ × Reason) → List Diagnosis → Known
+known_of sources begun diagnoses =
+    record { found = found_of sources; reason = reasons_in begun; diagnosis = diagnosis_in diagnoses }
 
 -- whether this is the word for what became of a row
 abbrev pub has_word : Reasons → List ℕ → Row → Bool
@@ -46,21 +60,22 @@ other_members reasons rows =
 abbrev pub summary_tokens : Reasons → List Row → List Token
 summary_tokens reasons rows = begin_object ∷ [] ++ built_members reasons rows ++ other_members reasons rows ++ end_object ∷ []
 
-abbrev pub rows_tokens : (List ℕ → Found) → Reasons → List Row → List Token
-rows_tokens found reasons rows = flat_map (λ row. row_tokens found (reasons row.path) row) rows
+abbrev pub rows_tokens : Known → List Row → List Token
+rows_tokens known rows = flat_map (row_tokens known) rows
 
--- the status, the rows in the report's order, and how many there are of each kind
-abbrev pub report_tokens : (List ℕ → Found) → Reasons → ℕ → List Row → List Token
-report_tokens found reasons status rows =
+-- the status, the rows in the report's order, the rings, and how many rows there are of each kind
+abbrev pub report_tokens : Known → ℕ → List Ring → List Row → List Token
+report_tokens known status rings rows =
     begin_object ∷ [] ++ number_member (codes "status") status
-    ++ (key (codes "targets") ∷ begin_array ∷ []) ++ rows_tokens found reasons rows
-    ++ (end_array ∷ key (codes "summary") ∷ []) ++ summary_tokens reasons rows ++ end_object ∷ []
+    ++ (key (codes "targets") ∷ begin_array ∷ []) ++ rows_tokens known rows ++ end_array ∷ []
+    ++ rings_member rings ++ key (codes "summary") ∷ [] ++ summary_tokens known.reason rows ++ end_object ∷ []
 
--- the text tells the report with some begun scripts and reasons; these are the scripts that a build of this past and
--- request has begun, each with the reason for which it was begun, if the report is what that build came to
-pub record IsTold (past : PastView) (request : List (List ℕ)) (report : Report) (status : ℕ) (text : List ℕ) : Type 0 where
+-- the text tells the report and what is told beside it, with some begun scripts and reasons; these are the scripts
+-- that a build of this past and request has begun, each with the reason for which it was begun, if the report is what
+-- that build came to
+pub record IsTold (past : PastView) (report : Report) (told : Told) (text : List ℕ) : Type 0 where
   pub begun : List (List ℕ × Reason)
-  pub text_is :
-      text ≡ print (report_tokens (found_of past.sources) (reasons_in begun) status report.rows.items) ++ 10 ∷ []
-  pub reasons : (limits : LimitsView) (given : GivenView) → IsGiven past.tree request limits given →
+  pub text_is : text ≡ print (report_tokens (known_of past.sources begun told.diagnoses.now) told.status told.rings.now
+      report.rows.items) ++ 10 ∷ []
+  pub reasons : (limits : LimitsView) (given : GivenView) → IsGiven past.tree told.request.now limits given →
       IsResult given report → AreReasons given report begun

@@ -3,7 +3,7 @@
 ghost use Rattle.std.specs.Prelude.{◌≡◌, ◌++◌, OnOk};
 ghost use Rattle.std.specs.Str.{is_utf8};
 ghost use Rattle.std.specs.Str.Lossy.{utf8_lossy};
-ghost use Rattle.redo_json.specs.Members.{hex_members, path_members, text_member};
+ghost use Rattle.redo_json.specs.Members.{file_members, hex_members, path_members, text_member};
 
 use crate::members::Tokens;
 use redo_path::Path;
@@ -30,15 +30,15 @@ pub(crate) fn push_readable(
     out.text(name, text.as_str())
 }
 
-/// Adds the bytes of a path in hex, if it isn't UTF-8.
-fn push_hex(alloc: Global, out: &mut Tokens, path: &Path) -> Result<(), AllocError>
-    ensures { OnOk result (out.new ≡ out.old ++ hex_members path.now) }
+/// Adds a member whose value is the bytes of a path in hex, if it isn't UTF-8.
+fn push_hex(alloc: Global, out: &mut Tokens, name: &str, path: &Path) -> Result<(), AllocError>
+    ensures { OnOk result (out.new ≡ out.old ++ hex_members name.now path.now) }
 {
     if is_text(path.text()) {
         return Ok(());
     }
     let digits = hex::encode(alloc, path.text())?;
-    out.text("path_hex", digits.as_str())
+    out.text(name, digits.as_str())
 }
 
 /// Adds a path.
@@ -46,5 +46,13 @@ pub(crate) fn push_path(alloc: Global, out: &mut Tokens, path: &Path) -> Result<
     ensures { OnOk result (out.new ≡ out.old ++ path_members path.now) }
 {
     push_readable(alloc, out, "path", path.text())?;
-    push_hex(alloc, out, path)
+    push_hex(alloc, out, "path_hex", path)
+}
+
+/// Adds the path of a file.
+pub(crate) fn push_file(alloc: Global, out: &mut Tokens, file: &Path) -> Result<(), AllocError>
+    ensures { OnOk result (out.new ≡ out.old ++ file_members file.now) }
+{
+    push_readable(alloc, out, "file", file.text())?;
+    push_hex(alloc, out, "file_hex", file)
 }

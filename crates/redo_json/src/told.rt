@@ -1,19 +1,34 @@
 //! The whole text.
 
 ghost use Rattle.std.specs.Prelude.{◌≡◌, ◌++◌, IfOk, OnOk};
-ghost use Rattle.redo_which.specs.Rule.{found_of};
 ghost use Rattle.redo_json.specs.Told.{IsTold, built_members, count_member, other_members, report_tokens};
 ghost use Rattle.redo_json.specs.Told.{summary_tokens};
-ghost use Rattle.redo_json.specs.inside.Found.{reasons_by};
+ghost use Rattle.redo_json.specs.inside.Known.{known_by, reasons_by};
 
+use crate::known::{Known, Reasons};
 use crate::members::Tokens;
-use crate::rows::{Reasons, count_of, push_rows, reasons_of};
+use crate::rings::push_rings;
+use crate::rows::{count_of, push_rows};
+use redo_diagnose::Diagnosis;
 use redo_explain::reasons;
 use redo_past::Past;
 use redo_path::Path;
 use redo_report::{Report, Row};
-use redo_tree::Tree;
+use redo_rings::Ring;
 use std::alloc::{AllocError, Global};
+
+/// What is told besides the report.
+#[derive(Clone, Copy)]
+pub struct Told<'a> {
+    /// The status with which the program ends.
+    pub status: u8,
+    /// The paths that were requested.
+    pub request: &'a [Path],
+    /// Each is told in the row of its target; one whose target has no row isn't. Lines and columns count from 1, columns
+    /// and lengths in bytes.
+    pub diagnoses: &'a [Diagnosis],
+    pub rings: &'a [Ring],
+}
 
 /// Adds how many rows have a word.
 fn push_count(
@@ -59,42 +74,40 @@ fn push_summary(out: &mut Tokens, rows: &[Row], reasons: &Reasons<'_>) -> Result
 /// The tokens of a report's text.
 fn tokens_of(
     alloc: Global,
-    sources: &Tree,
+    known: &Known<'_>,
     rows: &[Row],
-    reasons: &Reasons<'_>,
-    status: u8,
+    told: &Told<'_>,
 ) -> Result<Tokens, AllocError>
     ensures { IfOk result (λ tokens. tokens ≡
-        report_tokens (found_of sources.now) (reasons_by reasons.now) status rows.now) }
+        report_tokens (known_by known.now) told.now.status told.now.rings.now rows.now) }
 {
     let mut out = Tokens::new(alloc);
     out.begin_object()?;
-    out.number("status", u64::from(status))?;
+    out.number("status", u64::from(told.status))?;
     out.begin_array("targets")?;
-    push_rows(alloc, &mut out, sources, rows, reasons)?;
+    push_rows(alloc, &mut out, known, rows)?;
     out.end_array()?;
+    push_rings(alloc, &mut out, told.rings)?;
     out.key("summary")?;
-    push_summary(&mut out, rows, reasons)?;
+    push_summary(&mut out, rows, &known.reasons)?;
     out.end_object()?;
     Ok(out)
 }
 
 /// The report as JSON: one object and a newline.
 ///
-/// `past` is that of the tree that was built, `request` the paths that were requested, and `status` the status with
-/// which the program ends.
+/// `past` is that of the tree that was built.
 pub fn json(
     alloc: Global,
     past: &Past,
-    request: &[Path],
     report: &Report,
-    status: u8,
+    told: &Told<'_>,
 ) -> Result<Vec<u8>, AllocError>
-    ensures { IfOk result (λ text. IsTold past.now request.now report.now status text.items) }
+    ensures { IfOk result (λ text. IsTold past.now report.now told.now text.items) }
 {
-    let begun = reasons(alloc, past, request, report)?;
-    let found = reasons_of(alloc, &begun)?;
-    let tokens = tokens_of(alloc, past.sources(), &report.rows, &found, status)?;
+    let begun = reasons(alloc, past, told.request, report)?;
+    let known = Known::of(alloc, past.sources(), &begun, told.diagnoses)?;
+    let tokens = tokens_of(alloc, &known, &report.rows, told)?;
     let text = tokens.into_line()?;
     Ok(text)
 }

@@ -1,7 +1,7 @@
 -- What a page of targets that are out of date has, piece by piece.
 use Rattle.std.specs.Prelude.{ℕ, List, [], ◌∷◌, ◌++◌, flat_map, length}
+use Rattle.redo_list.specs.declared.listed.Listed.{Listed}
 use Rattle.redo_page.specs.Parts.{Piece, Fixed, Number, Text, a_tag, of_list}
-use Rattle.redo_page.specs.declared.list.Listed.{Listed}
 use Rattle.redo_page.specs.declared.parts.ListPart.TheVariants as list_parts
 use Rattle.redo_page.specs.declared.parts.Part.TheVariants as parts
 use Rattle.redo_page.specs.declared.parts.Tag.TheVariants as tags
@@ -9,7 +9,7 @@ use Rattle.redo_page.specs.declared.parts.Tag.TheVariants as tags
 -- a target's path, its state and why
 abbrev pub listed_pieces : Listed → List Piece
 listed_pieces listed =
-    of_list list_parts.Row ∷ Text listed.path ∷ of_list list_parts.State ∷ Fixed (parts.State listed.state)
+    of_list list_parts.Row ∷ Text listed.target ∷ of_list list_parts.State ∷ Fixed (parts.State listed.state)
     ∷ a_tag tags.Cell ∷ Text listed.why.items ∷ a_tag tags.LineEnd ∷ []
 
 abbrev pub list_pieces : ℕ → List Listed → List Piece

@@ -1,5 +1,6 @@
 -- The fixed parts of a page, and what else one is made of.
 use Rattle.std.specs.Prelude.{ℕ, List, codes, decimal, flat_map}
+use Rattle.redo_list.specs.Lists.{state_word}
 use Rattle.redo_page.specs.Html.{escaped}
 use Rattle.redo_page.specs.declared.head.TheConstants.{HEAD}
 use Rattle.redo_page.specs.declared.middle.TheConstants.{MIDDLE}
@@ -20,8 +21,6 @@ use Rattle.redo_page.specs.declared.parts.RowPart.{RowPart}
 use Rattle.redo_page.specs.declared.parts.RowPart.TheVariants as row_parts
 use Rattle.redo_page.specs.declared.parts.ListPart.{ListPart}
 use Rattle.redo_page.specs.declared.parts.ListPart.TheVariants as list_parts
-use Rattle.redo_page.specs.declared.parts.State.{State}
-use Rattle.redo_page.specs.declared.parts.State.TheVariants as states
 
 -- The bytes of fixed parts
 
@@ -96,12 +95,6 @@ list_bytes list_parts.Row = codes "<tr><th scope=\"row\"><bdi>"
 list_bytes list_parts.State = codes "</bdi><td>"
 list_bytes list_parts.End = codes "</table>\n</main>\n"
 
-abbrev pub state_bytes : State → List ℕ
-state_bytes states.Stale = codes "stale"
-state_bytes states.Maybe = codes "maybe"
-state_bytes states.Ring = codes "ring"
-state_bytes states.Lost = codes "lost"
-
 abbrev pub part_bytes : Part → List ℕ
 part_bytes parts.Head = HEAD.now
 part_bytes parts.Middle = MIDDLE.now
@@ -113,7 +106,7 @@ part_bytes (parts.Failure it) = failure_bytes it
 part_bytes (parts.Ring it) = ring_bytes it
 part_bytes (parts.Row it) = row_bytes it
 part_bytes (parts.List it) = list_bytes it
-part_bytes (parts.State it) = state_bytes it
+part_bytes (parts.State it) = state_word it
 
 -- What a page is made of
 

@@ -10,7 +10,8 @@
 //! run, and nothing be fetched.
 //!
 //! The crate stands on redo_report, redo_record and redo_script for what is told, on redo_diagnose for failures, on
-//! redo_rings for rings, on redo_path and redo_names for paths, and on `itoa` for decimal numbers.
+//! redo_rings for rings, on redo_list for lists, on redo_path and redo_names for paths, and on `itoa` for decimal
+//! numbers.
 //!
 //! - `whole`: the page of a report, from `summary`, `failures`, `rings` and `rows`; `list`: the page of a list;
 //! - `links`: which row has a path, and which rows need it; `reasons`: why a target failed, in words;
@@ -33,6 +34,5 @@ mod tail;
 mod whole;
 mod writer;
 
-pub use list::{Listed, list_page};
-pub use parts::State;
+pub use list::list_page;
 pub use whole::{Told, page};

@@ -5,26 +5,17 @@ ghost use Rattle.redo_page.specs.Html.{Reads, escaped, shown};
 ghost use Rattle.redo_page.specs.Lists.{list_pieces, listed_pieces};
 ghost use Rattle.redo_page.specs.Parts.{text_of};
 
-use crate::parts::{ListPart, Part, State, Tag};
+use crate::parts::{ListPart, Part, Tag};
 use crate::writer::Writer;
-use redo_path::Path;
+use redo_list::Listed;
 use std::alloc::{AllocError, Global};
-
-/// A target that is out of date.
-#[derive(Debug, Drop)]
-pub struct Listed {
-    pub path: Path,
-    pub state: State,
-    /// Why, in words.
-    pub why: Vec<u8>,
-}
 
 /// Adds a target.
 fn push_listed(out: &mut Writer, listed: &Listed) -> Result<(), AllocError>
     ensures { OnOk result (out.new ≡ out.old ++ text_of (listed_pieces listed.now)) }
 {
     out.fixed(Part::List(ListPart::Row))?;
-    out.text(listed.path.text())?;
+    out.text(listed.target.text())?;
     out.fixed(Part::List(ListPart::State))?;
     out.fixed(Part::State(listed.state))?;
     out.fixed(Part::Tag(Tag::Cell))?;

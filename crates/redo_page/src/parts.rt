@@ -2,11 +2,12 @@
 
 ghost use Rattle.std.specs.Prelude.{◌≡◌};
 ghost use Rattle.redo_page.specs.Parts.{failure_bytes, list_bytes, part_bytes, ring_bytes, row_bytes, sum_bytes};
-ghost use Rattle.redo_page.specs.Parts.{state_bytes, tag_bytes, word_bytes};
+ghost use Rattle.redo_page.specs.Parts.{tag_bytes, word_bytes};
 
 use crate::head::HEAD;
 use crate::middle::MIDDLE;
 use crate::tail::TAIL;
+use redo_list::State;
 
 /// Bytes that are the same on each page where they stand.
 #[derive(Clone, Copy)]
@@ -42,7 +43,7 @@ impl Part {
             Part::Ring(part) => part.bytes(),
             Part::Row(part) => part.bytes(),
             Part::List(part) => part.bytes(),
-            Part::State(state) => state.bytes(),
+            Part::State(state) => state.word().as_bytes(),
         }
     }
 }
@@ -269,32 +270,6 @@ impl ListPart {
             ListPart::Row => b"<tr><th scope=\"row\"><bdi>",
             ListPart::State => b"</bdi><td>",
             ListPart::End => b"</table>\n</main>\n",
-        }
-    }
-}
-
-/// In what way a target is out of date.
-#[derive(Clone, Copy, Debug)]
-pub enum State {
-    /// The next run begins its script.
-    Stale,
-    /// The next run may begin its script.
-    Maybe,
-    /// It waits for itself.
-    Ring,
-    /// It can't be made any more.
-    Lost,
-}
-
-impl State {
-    fn bytes(self) -> &'static [u8]
-        ensures { result.now ≡ state_bytes self }
-    {
-        match self {
-            State::Stale => b"stale",
-            State::Maybe => b"maybe",
-            State::Ring => b"ring",
-            State::Lost => b"lost",
         }
     }
 }

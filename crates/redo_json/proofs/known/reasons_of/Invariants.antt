@@ -1,7 +1,7 @@
 use Rattle.std.proofs.Common.{map, take}
 use Rattle.redo_explain.specs.Views.{begun_view}
-use Rattle.redo_json.specs.inside.Found.{AreReasonsOf}
-use Rattle.redo_json.proofs.rows.reasons_of.Given as goal
+use Rattle.redo_json.specs.inside.Known.{AreReasonsOf}
+use Rattle.redo_json.proofs.known.reasons_of.Given as goal
 
 -- the reasons so far
 abbrev pub invariant-loop-script : goal.invariant-loop-script
