@@ -12,7 +12,7 @@ _redo_options=(
     "-n            Do all but change the directory"
     "--dry-run     Do all but change the directory"
     "--explain     Say why each script was begun"
-    "--format      Print the report as report, json, dot or html"
+    "--format      Print the report or list as report, json, dot or html"
     "--with-rules  With --format dot: draw .do files, too"
     "--strict      Fail if a file is stale or soon will be"
     "--sync        Have each file on the disk before it gets its name"

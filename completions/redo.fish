@@ -40,7 +40,7 @@ complete -c redo -s C -x -a "(__fish_complete_directories (commandline -ct))" -d
 complete -c redo -l top -d "Read it from the nearest directory with a book"
 complete -c redo -s n -l dry-run -d "Do all but change the directory"
 complete -c redo -l explain -d "Say why each script was begun"
-complete -c redo -l format -x -a "report json dot html" -d "Print the report as report, json, dot or html"
+complete -c redo -l format -x -a "report json dot html" -d "Print the report or list as report, json, dot or html"
 complete -c redo -l with-rules -d "With --format dot: draw .do files, too"
 complete -c redo -l strict -d "Fail if a file is stale or soon will be"
 complete -c redo -l sync -d "Have each file on the disk before it gets its name"

@@ -85,6 +85,17 @@ def bundle(tree):
     return bytes(text + b"end\n")
 
 
+def packed(tree):
+    """The bundle of files and directories (None), whose paths may be bytes that aren't UTF-8, in any order."""
+    text = bytearray()
+    for path, content in sorted(tree.items(), key=lambda it: as_bytes(it[0])):
+        if content is None:
+            text += b"dir %s\n" % as_bytes(path)
+        else:
+            text += b"file %d %s\n%s\n" % (len(as_bytes(content)), as_bytes(path), as_bytes(content))
+    return bytes(text + b"end\n")
+
+
 def put(place, tree):
     """Makes the files and directories of a tree, as `bundle` takes it, in a directory."""
     for path, content in tree.items():

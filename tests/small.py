@@ -64,6 +64,31 @@ end
 """
 
 
+# A book of which targets are out of date in each way, some with names that markup or UTF-8 might stumble over; and what
+# `--ood` lists by it: paths, states and reasons.
+OUT_OF_DATE = {
+    ".redo-book": b'target none a<&"b\nalways\n'
+                  b"target none gone\n"
+                  b'target none m\nchange none a<&"b\n'
+                  b"target none n\xff\nchange none m\n"
+                  b"target none o\nchange none n\xff\n"
+                  b"target none p\ncreate gone\nalways\n"
+                  b"target none q\nchange none q\n"
+                  b"target none r\n"
+                  b"end\n",
+    **{path + b".do": "" for path in (b'a<&"b', b"m", b"n\xff", b"o", b"p", b"q", b"r")},
+}
+OUT_OF_DATE_LIST = [
+    (b'a<&"b', b"stale", b"it is made in each run"),
+    (b"gone", b"lost", b"no rule makes it any more"),
+    (b"m", b"maybe", b'a<&"b may come out otherwise'),
+    (b"n\xff", b"maybe", b"m may come out otherwise"),
+    (b"o", b"maybe", b"n\xff may come out otherwise"),
+    (b"p", b"stale", b"it is made in each run"),
+    (b"q", b"ring", b"it waits for q, which waits for itself or a ring"),
+]
+
+
 def chain(names, last, reads=False):
     """A chain of targets, each of which asks for the next one, or reads it as well. The last one has a script of its
     own."""

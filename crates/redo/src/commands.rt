@@ -35,6 +35,8 @@ const STRICT: Named = Named("strict", "--strict");
 
 const FORMAT: Named = Named("format", "--format");
 
+const WITH_RULES: Named = Named("with-rules", "--with-rules");
+
 /// What is done in place of a build. Each of these options excludes the others.
 static COMMANDS: [Named; 9] = [
     Named("whichdo", "--whichdo"),
@@ -63,8 +65,8 @@ static PAIRS: [(Named, Named); 11] = [
     (Named("verbose", "-v"), Named("quiet", "-q")),
 ];
 
-/// Options of builds alone.
-static OF_BUILDS: [Named; 4] = [SYNC, EXPLAIN, STRICT, FORMAT];
+/// Options of builds. [`takes`] tells which command takes one of them, too.
+static OF_BUILDS: [Named; 6] = [SYNC, EXPLAIN, STRICT, FORMAT, WITH_RULES, DRY_RUN];
 
 impl Named {
     /// Whether the option is on the command line.
@@ -218,6 +220,11 @@ fn command_of(matches: &ArgMatches<'_>) -> Result<Option<&'static str>, Refusal>
     Ok(first)
 }
 
+/// Whether a command takes an option of builds, too: a list has forms, and a clean may be tried out.
+fn takes(command: &str, option: Named) -> bool {
+    (command == OOD.1 && option.1 == FORMAT.1) || (command == CLEAN.1 && option.1 == DRY_RUN.1)
+}
+
 /// Refuses options that don't go together: two that exclude each other, or one that another one needs.
 pub(crate) fn check(matches: &ArgMatches<'_>) -> Result<(), Refusal> {
     let command = command_of(matches)?;
@@ -236,13 +243,9 @@ pub(crate) fn check(matches: &ArgMatches<'_>) -> Result<(), Refusal> {
         return Ok(());
     };
     for option in &OF_BUILDS {
-        if option.is_used(matches) {
+        if option.is_used(matches) && !takes(command, *option) {
             return Err(Refusal::Excluded(command, option.1));
         }
-    }
-    // A clean may be tried out, too.
-    if DRY_RUN.is_used(matches) && command != CLEAN.1 {
-        return Err(Refusal::Excluded(command, DRY_RUN.1));
     }
     if matches.contains_id("targets") && command != OOD.1 {
         return Err(Refusal::TargetsBeside(command));

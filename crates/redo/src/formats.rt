@@ -7,7 +7,7 @@ use redo_bundle::{Plain, write_all};
 use redo_diagnose::diagnoses;
 use redo_dot::dot;
 use redo_explain::{reason_words, reasons};
-use redo_json::json;
+use redo_json::{Told as ToldAsJson, json};
 use redo_names::PathMap;
 use redo_page::{Told, page};
 use redo_past::Past;
@@ -27,11 +27,6 @@ fn past_of<H: Runtime + Threads + Sync>(
     tree: &Tree,
 ) -> Result<Past, Fault> {
     Ok(Past::open_by(rt, alloc, build.options.workers, tree.clone()?)?)
-}
-
-/// The status of a build, by whether every requested path is a source or built.
-fn status_of(good: bool) -> u8 {
-    if good { status::GOOD } else { status::FAILED }
 }
 
 /// Why each begun script of a build was begun, in words, by its target.
@@ -70,6 +65,26 @@ fn as_page(
     page(alloc, report, &told)
 }
 
+/// The report of a build as JSON.
+fn as_json(
+    alloc: Global,
+    build: &Build,
+    past: &Past,
+    report: &Report,
+    status: u8,
+) -> Result<Vec<u8>, AllocError> {
+    let limits = build.options.limits;
+    let diagnosed = diagnoses(alloc, past.sources(), limits, report, usize::MAX)?;
+    let rings = rings(alloc, report)?;
+    let told = ToldAsJson {
+        status,
+        request: &build.options.targets,
+        diagnoses: &diagnosed.diagnoses,
+        rings: &rings,
+    };
+    json(alloc, past, report, &told)
+}
+
 /// Prints the report of a build over a tree, where it is wanted in another form than its own. `good` tells whether every
 /// requested path is a source or built.
 pub(crate) fn print_report<H: Runtime + Threads + Sync>(
@@ -84,18 +99,12 @@ pub(crate) fn print_report<H: Runtime + Threads + Sync>(
         Format::Report => return Ok(()),
         Format::Json => {
             let past = past_of(rt, alloc, build, tree)?;
-            json(
-                alloc,
-                &past,
-                &build.options.targets,
-                report,
-                status_of(good),
-            )?
+            as_json(alloc, build, &past, report, status::of_good(good))?
         }
         Format::Dot(with_rules) => dot(alloc, report, with_rules)?,
         Format::Html => {
             let past = past_of(rt, alloc, build, tree)?;
-            as_page(alloc, build, &past, report, status_of(good))?
+            as_page(alloc, build, &past, report, status::of_good(good))?
         }
     };
     Ok(write_all(&mut Plain::new(io::writer(rt)), &text)?)

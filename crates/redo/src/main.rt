@@ -13,6 +13,7 @@ mod cleaning;
 mod commands;
 mod diagnosing;
 mod formats;
+mod lists;
 mod options;
 mod packing;
 mod passing;
@@ -54,8 +55,7 @@ fn main(rt: HostRuntime) -> ExitCode {
     let mut cause = Cause::new(alloc);
     let progress = Progress::new(&rt, call.voice.progress);
     match run(&rt, alloc, &call, &progress, &mut cause) {
-        Ok(true) => ExitCode::from(status::GOOD),
-        Ok(false) => ExitCode::from(status::FAILED),
+        Ok(good) => ExitCode::from(status::of_good(good)),
         Err(fault) => {
             let _shown = eprintln!(rt; "redo: {fault}");
             if call.voice.causes {
@@ -170,9 +170,7 @@ where
         Action::Ask(question, input, workers) => {
             queries::ask(rt, alloc, question, input, *workers, cause)
         }
-        Action::OutOfDate(targets, input, workers) => {
-            queries::list_out_of_date(rt, alloc, targets, input, *workers, cause)
-        }
+        Action::OutOfDate(listing) => queries::list_out_of_date(rt, alloc, listing, cause),
         Action::Pack(dir, workers) => packing::pack_dir(rt, alloc, dir, *workers, cause),
         Action::Unpack(dir) => unpacking::unpack_into(rt, alloc, dir, cause),
         Action::Clean(dir, workers, dry_run) => {

@@ -22,7 +22,7 @@ pub(crate) const TARGETS: u32 = 65_536;
 
 const FILE_BYTES: u32 = 16_777_216;
 
-/// The forms in which a report is printed.
+/// The forms in which a report or a list is printed.
 static FORMATS: [&str; 4] = ["report", "json", "dot", "html"];
 
 /// The most scripts that may run side by side.
@@ -48,10 +48,10 @@ pub(crate) enum Input {
     Directory(String),
 }
 
-/// In which form a report is printed.
+/// In which form a report is printed, or a list of what is out of date.
 #[derive(Clone, Copy, Debug, PartialEq, Eq)]
 pub(crate) enum Format {
-    /// The report's own.
+    /// Its own.
     Report,
     /// An object of JSON, without files.
     Json,
@@ -74,6 +74,17 @@ pub(crate) struct Build {
     pub(crate) strict: bool,
 }
 
+/// Of which run what is out of date is listed, and how.
+#[derive(Drop)]
+pub(crate) struct Listing {
+    /// What the run requests; nothing, where the list is for every run.
+    pub(crate) targets: Vec<Path>,
+    pub(crate) input: Input,
+    /// How many threads read the tree.
+    pub(crate) workers: usize,
+    pub(crate) format: Format,
+}
+
 /// What the command line asks for.
 #[derive(Drop)]
 pub(crate) struct Call {
@@ -88,8 +99,8 @@ pub(crate) enum Action {
     Whichdo(Path, Input),
     /// A question to the book of a tree, which is read by so many threads.
     Ask(Question, Input, usize),
-    /// What is out of date is printed, of a run that requests these targets, or of any. So many threads read the tree.
-    OutOfDate(Vec<Path>, Input, usize),
+    /// What is out of date is printed.
+    OutOfDate(Listing),
     /// A directory is printed as a bundle. So many threads read it.
     Pack(String, usize),
     /// A bundle on standard input becomes a directory.
@@ -110,7 +121,12 @@ impl Action {
             )
             | Action::Whichdo(_, Input::Directory(dir))
             | Action::Ask(_, Input::Directory(dir), _)
-            | Action::OutOfDate(_, Input::Directory(dir), _)
+            | Action::OutOfDate(
+                Listing {
+                    input: Input::Directory(dir),
+                    ..
+                },
+            )
             | Action::Pack(dir, _)
             | Action::Unpack(dir)
             | Action::Clean(dir, _, _) => dir,
@@ -250,7 +266,7 @@ fn report_format<'a>(alloc: Global) -> Arg<'a> {
         .value_name("FORMAT")
         .value_parser(ValueParser::Names(&FORMATS))
         .hide_possible_values(true)
-        .help("Print the report as report, json, dot or html")
+        .help("Print the report or list as report, json, dot or html")
 }
 
 fn with_rules<'a>(alloc: Global) -> Arg<'a> {
@@ -355,8 +371,12 @@ pub(crate) fn action_of(
         return Ok(Action::Whichdo(target(alloc, &below, word)?, input));
     }
     if matches.get_flag("ood") {
-        let targets = named(alloc, matches, &below)?;
-        return Ok(Action::OutOfDate(targets, input, workers(matches)));
+        return Ok(Action::OutOfDate(Listing {
+            targets: named(alloc, matches, &below)?,
+            input,
+            workers: workers(matches),
+            format: format_of(matches),
+        }));
     }
     match commands::question_of(alloc, matches, &below)? {
         Some(question) => Ok(Action::Ask(question, input, workers(matches))),
@@ -375,7 +395,7 @@ fn storing_of(matches: &ArgMatches<'_>) -> Storing {
     }
 }
 
-/// In which form the report is printed.
+/// In which form the report or the list is printed.
 fn format_of(matches: &ArgMatches<'_>) -> Format {
     match matches.get_str("format") {
         Some("json") => Format::Json,

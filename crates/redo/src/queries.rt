@@ -1,7 +1,8 @@
 //! Questions to the book of the last run.
 
+use crate::lists::list_in;
 use crate::note_passed;
-use crate::options::Input;
+use crate::options::{Input, Listing};
 use crate::status::Fault;
 use bstr::BStr;
 use redo_bundle::{Plain, read_bundle_by_line, write_all};
@@ -79,21 +80,20 @@ where
 pub(crate) fn list_out_of_date<H: Runtime + Threads + Sync>(
     rt: &H,
     alloc: Global,
-    targets: &[Path],
-    input: &Input,
-    workers: usize,
+    listing: &Listing,
     cause: &mut Cause,
 ) -> Result<bool, Fault>
 where
     H::File: Send,
     H::Dir: Send,
 {
-    let (tree, passed) = load(rt, alloc, input, workers, cause)?;
-    let past = Past::open_by(rt, alloc, workers, tree)?;
-    let text = out_of_date(alloc, &past, targets)?;
+    let (tree, passed) = load(rt, alloc, &listing.input, listing.workers, cause)?;
+    let past = Past::open_by(rt, alloc, listing.workers, tree)?;
+    let listed = out_of_date(alloc, &past, &listing.targets)?;
+    let text = list_in(alloc, listing.format, &past, &listed)?;
     write_all(&mut Plain::new(io::writer(rt)), &text)?;
     note_passed(rt, passed);
-    Ok(text.is_empty())
+    Ok(listed.is_empty())
 }
 
 /// Says that the book doesn't know a path, and which name is the nearest that it knows.

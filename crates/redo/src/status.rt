@@ -25,6 +25,11 @@ pub(crate) const OUTPUT: u8 = 5;
 /// Memory ran out.
 pub(crate) const MEMORY: u8 = 6;
 
+/// The status by whether all went well.
+pub(crate) fn of_good(good: bool) -> u8 {
+    if good { GOOD } else { FAILED }
+}
+
 /// The status after a parse that ended in help, the version or a refusal.
 pub(crate) fn of_parse(error: &Error) -> u8 {
     if error.use_stderr() { USAGE } else { GOOD }
