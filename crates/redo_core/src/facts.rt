@@ -9,6 +9,7 @@ use redo_path::Path;
 use redo_record::{Deps, Outcome};
 use redo_step::Answers;
 use redo_sync::Known;
+use redo_tree::Tree;
 use std::alloc::{AllocError, Global};
 
 /// At most this many facts are compared with a path; further ones are looked up.
@@ -48,6 +49,21 @@ impl Facts {
         self.asked
     }
 
+    /// Whether one of the first few targets or sources has a file of at least `least` bytes.
+    pub(crate) fn has_file_of(&self, sources: &Tree, least: usize) -> bool {
+        'facts: for known in &self.few {
+            let fact = known.read();
+            let is_large = match fact.outcome() {
+                Outcome::Source => has_file_of(sources, fact.target(), least),
+                outcome => outcome.file().unwrap_or(b"").len() >= least,
+            };
+            if is_large {
+                return true;
+            }
+        }
+        false
+    }
+
     /// Makes room for `additional` more facts, as far as they are among the first few.
     pub(crate) fn reserve(&mut self, additional: usize) -> Result<(), AllocError>
         ensures known { known_in self.new ≡ known_in self.old }
@@ -78,6 +94,14 @@ impl Facts {
             }
         }
         Ok(())
+    }
+}
+
+/// Whether a tree has a file of at least `least` bytes at a path.
+pub(crate) fn has_file_of(tree: &Tree, path: &Path, least: usize) -> bool {
+    match tree.file(path) {
+        Some(bytes) => bytes.len() >= least,
+        None => false,
     }
 }
 

@@ -1,7 +1,8 @@
 //! Jobs on their way to a worker and back.
-ghost use Rattle.std.specs.Prelude.{◌≡◌, ◌↔◌, [], Some, None, is_some, IfOk, IsTrue};
+ghost use Rattle.std.specs.Prelude.{◌≡◌, ◌↔◌, [], Some, None, MatchOption, is_some, option_copied, IfOk, IsTrue};
 ghost use Rattle.std.specs.Arc.{arc_value};
 ghost use Rattle.redo_build.specs.Lacking.{lacking_under};
+ghost use Rattle.redo_record.specs.Answers.{file_in};
 ghost use Rattle.redo_core.specs.Build.{rules_for};
 ghost use Rattle.redo_core.specs.Views.{told_by};
 ghost use Rattle.redo_core.specs.inside.Works.{IsUnreadWork, IsWorkWith, HoldsOutcomes, all_asked, found_as, known_in};
@@ -9,7 +10,7 @@ ghost use Rattle.redo_core.specs.inside.Works.{told_in};
 ghost use Rattle.redo_core.specs.inside.Ends.{IsEndAt};
 
 use crate::fact::Fact;
-use crate::facts::Facts;
+use crate::facts::{Facts, has_file_of};
 use crate::given::Given;
 use crate::scripts::begun;
 use redo_path::Path;
@@ -199,6 +200,17 @@ impl Work {
         }
     }
 
+    /// Whether it is about to read at least `least` bytes at once: its script at turn 0, and later one of the first few
+    /// files that it asked for. So whoever gives out works can tell which are worth a thread of their own. No report
+    /// depends on it.
+    pub fn reads(&self, least: usize) -> bool {
+        let sources = self.given.sources();
+        match &self.script {
+            Script::Unread(unread) => has_file_of(sources, &unread.rule.do_file, least),
+            Script::Begun(begun) => begun.facts.has_file_of(sources, least),
+        }
+    }
+
     /// Advances the script as far as the outcomes of the work allow: to its end, or to the first redo-ifchange(1) that
     /// lacks an answer. Without memory the work is lost.
     pub fn advance(self) -> Result<Piece, AllocError>
@@ -305,6 +317,17 @@ impl Piece {
         ensures { IsEndAt self.given self.target self.turn result }
     {
         self.end
+    }
+
+    /// The file that the script made, if it has ended and made one.
+    pub fn file(&self) -> Option<&[u8]>
+        ensures { MatchOption self.now.progress.outcome (result ≡ None) (λ outcome.
+            option_copied result ≡ file_in outcome) }
+    {
+        match &self.end {
+            End::Ended(fact, _) => fact.outcome().file(),
+            End::Stopped { .. } => None,
+        }
     }
 
     /// Whether the script ended, in whatever way. If not, its target waits.
