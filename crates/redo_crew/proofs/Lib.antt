@@ -1,0 +1,10 @@
+pub mod RunLemmas
+pub mod BoundLemmas
+pub mod KeptLemmas
+pub mod OverLemmas
+pub mod CountLemmas
+pub mod RoomLemmas
+pub mod StockLemmas
+pub mod StuckLemmas
+pub mod TakenLemmas
+pub mod Examples
