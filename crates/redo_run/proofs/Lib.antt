@@ -7,6 +7,7 @@ pub mod LedgerLemmas
 pub mod OpenedLemmas
 pub mod RefusalLemmas
 pub mod SoundLemmas
+pub mod StaffLemmas
 pub mod StaysOutLemmas
 pub mod StoringLemmas
 pub mod ToldLemmas

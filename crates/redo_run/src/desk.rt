@@ -1,19 +1,29 @@
-//! The board of a build with both ends of its relay, before a run and after it.
+//! What the owner of a build has, before a run and after it.
 
 use crate::of_build::{Build, JobOf};
 use crate::owner::never;
+use crate::pace::Pace;
 use crossbeam_channel::Sender;
 use redo_core::board::Board;
 use redo_sync::{JobSource, JobTaker};
 use std::marker::Model;
 use std::sync::Wait;
 
-/// The board of a build, with both ends of its relay. The last taker is the owner's own, the others are for workers.
+/// The board of a build, the end of its relay that gives jobs, and a taker of the owner's own.
 #[derive(Drop)]
 pub(crate) struct Desk<B: Build> {
     pub board: Board,
     pub source: JobSource<JobOf<B>>,
-    pub takers: Vec<JobTaker<JobOf<B>>>,
+    pub taker: JobTaker<JobOf<B>>,
+    pub pace: Pace,
+}
+
+impl<B: Build> Model for Desk<B> {
+    ghost use Rattle.redo_run.specs.inside.Workers.{DeskView};
+
+    ghost Value = { DeskView };
+
+    ghost view = { λ d. record { board = d.board; source = d.source; own = d.taker.relay } };
 }
 
 /// What is left of a run once all workers have ended.

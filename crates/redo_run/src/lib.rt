@@ -6,12 +6,12 @@
 //! came out, and [`preview_dir`] stores nothing. [`build_many`] is the build alone, with the ledger of its jobs, and [`build_one`] the same in one thread,
 //! without a relay. The crate stands on `redo_build` for what a build is, on `redo_skip` for when it is safe to keep
 //! targets, on `redo_core` for the board, on `redo_sync` for the relay through which jobs go to workers, on
-//! `crossbeam_channel` for their way back, on `redo_report` for the report and its text, on `redo_tree`, `redo_bundle`
+//! `redo_crew` for who looks for one and who sleeps, on `crossbeam_channel` for their way back, on `redo_report` for the report and its text, on `redo_tree`, `redo_bundle`
 //! and `redo_dir` for trees and where they come from, and on `redo_which` for the search.
 //!
 //! - `one`: a build by one thread; `workers`: by many, or by one through a relay; `owner`: what the thread with the
-//!   board does; `crew`: what the workers do; `desk`: what the owner has before a run and after it; `lookers`: how many
-//!   workers look for a job; `of_build`: what they send each other; `observer`: who is told of each job; `picks`: a
+//!   board does; `crew`: what the workers do; `desk`: what the owner has before a run and after it; `staff`: the
+//!   workers, started and not; `pace`: which jobs are worth one; `of_build`: what they send each other; `observer`: who is told of each job; `picks`: a
 //!   build in a given order;
 //! - `run_fault`: why a build has no report; `exit`: whether every requested path is a source or built;
 //! - `laws`: laws of runs, as contracts of functions that do nothing;
@@ -29,15 +29,16 @@ mod directory;
 mod exit;
 mod fault;
 pub mod laws;
-mod lookers;
 mod observer;
 mod of_build;
 mod one;
 mod options;
 mod owner;
+mod pace;
 mod picks;
 mod request;
 mod run_fault;
+mod staff;
 mod storing;
 mod workers;
 

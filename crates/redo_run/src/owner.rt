@@ -1,23 +1,26 @@
-//! The owner of the board: it gives what is ready to the relay, and hands in what comes back.
+//! The owner of the board: it advances short scripts itself, offers long ones to workers, and hands in what comes back.
 
-ghost use Rattle.std.specs.Prelude.{◌≡◌, ◌<◌, Err, IsNone, OnOk};
-ghost use Rattle.redo_build.specs.Outcomes.{IsTooMany};
-ghost use Rattle.redo_core.specs.Faults.{IsSameBuild};
+ghost use Rattle.std.specs.Prelude.{◌≡◌, ◌<◌, ◌≤◌, ◌+◌, Err, IfOk, IsNone, OnOk, false, length, map, ℕ};
 ghost use Rattle.redo_core.specs.Results.{IsGiven};
-ghost use Rattle.redo_core.specs.Taken.{HasTaken};
-ghost use Rattle.redo_core.specs.Views.{limit_on, ready_count, request_on, rules_on};
-ghost use Rattle.redo_run.specs.inside.Workers.{HasTakenOn, IsSameSource};
+ghost use Rattle.redo_core.specs.Views.{IsQuietBoard, ready_count};
+ghost use Rattle.redo_sync.specs.Relay.{RelayId};
+ghost use Rattle.redo_run.specs.inside.Workers.{HasKeptUp, IsManned, IsSameDesk, NeedsMany};
 
-use crate::crew::{Advance, Call, Lines, job_of_owner};
+use crate::crew::{Advance, claimed};
+use crate::desk::Desk;
 use crate::observer::Observer;
 use crate::of_build::{Build, JobOf, Message, PieceOf};
-use crossbeam_channel::Receiver;
-use redo_core::board::{Board, HandFault, Stop};
+use crate::staff::Staff;
+use redo_core::board::{HandFault, Stop};
 use redo_core::laws::what_was_taken;
+use redo_crew::Offer;
 use redo_past::laws::a_tree_has_one_past;
-use redo_sync::{JobSource, JobTaker};
 use std::alloc::AllocError;
 use std::sync::Wait;
+use std::thread::Threads;
+
+/// The workers of a build.
+pub(crate) type StaffOf<'r, 's, E, B, R, O> = Staff<'r, 's, E, JobOf<B>, Message<B>, R, O>;
 
 /// Doesn't return. No run comes here, though the types of what comes out of a queue don't say so.
 pub(crate) fn never<R: Wait>(rt: &R) -> ! {
@@ -25,159 +28,181 @@ pub(crate) fn never<R: Wait>(rt: &R) -> ! {
     unreachable!()
 }
 
-/// Takes the target that became ready last, tells the observer, and gives its job. So what was just asked for is built before more is asked
-/// for, and few scripts are under way at a time.
-fn give_newest<B: Build, O: Observer>(
-    board: &mut Board,
-    source: &mut JobSource<JobOf<B>>,
-    observer: &O,
-) -> Result<(), AllocError>
-    requires ready { 0 < ready_count board.old }
-    requires of_build { IsGiven B.tree B.request B.limits board.old.given }
-    ensures source { IsSameSource source.old source.new }
-    ensures build { IsSameBuild board.old board.new }
-    ensures running { OnOk result (IsNone board.new.stopped) }
-    ensures taken { OnOk result (HasTaken board.old source.old.given → HasTaken board.new source.new.given) }
-{
-    what_was_taken();
-    // The work is of the build that the type names.
-    a_tree_has_one_past();
-    let work = board.take(board.ready() - 1)?;
-    observer.given_out(board, work.target(), work.turn());
-    match source.give(JobOf::new(work)) {
-        Ok(()) => Ok(()),
-        Err((_job, error)) => Err(error),
-    }
+/// Whether a worker may have a job, while so many others are ready and out: there is room for one more, and the owner is
+/// left with another one to do or to wait for. So a chain of targets needs no hand-over.
+fn may_offer(ready: usize, out: usize, most_out: usize) -> bool {
+    out < most_out && (ready > 0 || out > 0)
 }
 
-/// Hands a piece in.
-fn hand_in<B: Build, R: Wait>(rt: &R, board: &mut Board, piece: PieceOf<B>) -> Result<(), Stop>
-    requires of_build { IsGiven B.tree B.request B.limits board.old.given }
-    requires running { IsNone board.old.stopped }
-    ensures build { IsSameBuild board.old board.new }
-    ensures running { OnOk result (IsNone board.new.stopped) }
-    ensures taken { OnOk result (HasTakenOn board.old board.new) }
-    ensures too_many { result ≡ Err Stop.TooMany →
-        IsTooMany (rules_on board.old) (request_on board.old) (limit_on board.old) }
-{
-    what_was_taken();
-    match board.hand_in(piece.into_piece()) {
-        Ok(()) => Ok(()),
-        Err(HandFault::TooMany) => Err(Stop::TooMany),
-        Err(HandFault::Memory) => Err(Stop::Memory),
-        Err(HandFault::Stranger(_piece)) => never(rt),
-    }
-}
-
-/// Gives the newest job, and calls a worker for it if none looks for one. Nobody hears the call only if every worker
-/// has ended, and none ends before the run does.
-fn call_for_newest<B: Build, R: Wait, O: Observer>(
-    rt: &R,
-    board: &mut Board,
-    source: &mut JobSource<JobOf<B>>,
-    lines: &Lines<'_, Message<B>>,
-    observer: &O,
-) -> Result<(), AllocError>
-    requires ready { 0 < ready_count board.old }
-    requires of_build { IsGiven B.tree B.request B.limits board.old.given }
-    ensures source { IsSameSource source.old source.new }
-    ensures build { IsSameBuild board.old board.new }
-    ensures running { OnOk result (IsNone board.new.stopped) }
-    ensures taken { OnOk result (HasTaken board.old source.old.given → HasTaken board.new source.new.given) }
-{
-    give_newest(board, source, observer)?;
-    if !lines.lookers.take() && lines.calls.send(rt, Call).is_err() {
-        never(rt)
-    }
-    Ok(())
-}
-
-/// Gives the newest job, takes it, and hands its piece in. If a worker that looks takes it first, its piece comes as
-/// any other.
-fn advance_newest<B: Build, R: Wait, O: Observer>(
-    rt: &R,
-    board: &mut Board,
-    source: &mut JobSource<JobOf<B>>,
-    taker: &mut JobTaker<JobOf<B>>,
-    lines: &Lines<'_, Message<B>>,
-    observer: &O,
-) -> Result<(), Stop>
-    requires ready { 0 < ready_count board.old }
-    requires of_build { IsGiven B.tree B.request B.limits board.old.given }
-    ensures source { IsSameSource source.old source.new }
-    ensures taker { taker.new.relay ≡ taker.old.relay }
-    ensures build { IsSameBuild board.old board.new }
-    ensures running { OnOk result (IsNone board.new.stopped) }
-    ensures taken { OnOk result (HasTaken board.old source.old.given → HasTaken board.new source.new.given) }
-    ensures too_many { result ≡ Err Stop.TooMany →
-        IsTooMany (rules_on board.old) (request_on board.old) (limit_on board.old) }
-{
-    lines.lookers.add();
-    call_for_newest(rt, board, source, lines, observer)?;
-    let Some(job) = job_of_owner(rt, lines.lookers, taker) else {
-        return Ok(());
-    };
-    hand_in(rt, board, job.advance(observer)?)
-}
-
-/// Receives one message, and hands its piece in. All senders are gone only if every worker has ended, and none ends
-/// before the run does.
-fn receive<B: Build, R: Wait>(
-    rt: &R,
-    board: &mut Board,
-    messages: &Receiver<Message<B>>,
-) -> Result<(), Stop>
-    requires of_build { IsGiven B.tree B.request B.limits board.old.given }
-    requires running { IsNone board.old.stopped }
-    ensures build { IsSameBuild board.old board.new }
-    ensures running { OnOk result (IsNone board.new.stopped) }
-    ensures taken { OnOk result (HasTakenOn board.old board.new) }
-    ensures too_many { result ≡ Err Stop.TooMany →
-        IsTooMany (rules_on board.old) (request_on board.old) (limit_on board.old) }
-{
-    match messages.recv(rt) {
-        Ok(message) => {
-            let piece = message?;
-            hand_in(rt, board, piece)
+impl<B: Build> Desk<B> {
+    /// Takes the target that became ready last, tells the observer, and gives its job to the relay. So what was just asked
+    /// for is built before more is asked for, and few scripts are under way at a time. Returns whether it is to be offered
+    /// to a worker.
+    fn give_newest<O: Observer>(
+        &mut self,
+        observer: &O,
+        most_out: usize,
+    ) -> Result<bool, AllocError>
+        requires ready { 0 < ready_count self.old.board }
+        requires of_build { IsGiven B.tree B.request B.limits self.old.board.given }
+        requires running { IsNone self.old.board.stopped }
+        ensures same { IsSameDesk self.old self.new }
+        ensures kept_up { OnOk result (HasKeptUp self.old self.new) }
+    {
+        what_was_taken();
+        // The work is of the build that the type names.
+        a_tree_has_one_past();
+        let (ready, out) = (self.board.ready() - 1, self.board.out());
+        let work = self.board.take(ready)?;
+        observer.given_out(&self.board, work.target(), work.turn());
+        let is_for_worker = may_offer(ready, out, most_out)
+            && self.pace.is_for_worker(&work, ready, out);
+        match self.source.give(JobOf::new(work)) {
+            Ok(()) => Ok(is_for_worker),
+            Err((_job, error)) => Err(error),
         }
-        Err(_) => never(rt),
+    }
+
+    /// Hands a piece in.
+    fn hand_in<R: Wait>(&mut self, rt: &R, piece: PieceOf<B>) -> Result<(), Stop>
+        requires of_build { IsGiven B.tree B.request B.limits self.old.board.given }
+        requires running { IsNone self.old.board.stopped }
+        ensures same { IsSameDesk self.old self.new }
+        ensures kept_up { OnOk result (HasKeptUp self.old self.new) }
+        ensures too_many { result ≡ Err Stop.TooMany → NeedsMany self.old }
+    {
+        what_was_taken();
+        let piece = piece.into_piece();
+        self.pace.made(piece.file());
+        match self.board.hand_in(piece) {
+            Ok(()) => Ok(()),
+            Err(HandFault::TooMany) => Err(Stop::TooMany),
+            Err(HandFault::Memory) => Err(Stop::Memory),
+            Err(HandFault::Stranger(_piece)) => never(rt),
+        }
+    }
+
+    /// Advances a job to which the owner has a right, and hands its piece in.
+    fn advance_claimed<R: Wait, O: Observer>(&mut self, rt: &R, observer: &O) -> Result<(), Stop>
+        requires of_build { IsGiven B.tree B.request B.limits self.old.board.given }
+        requires running { IsNone self.old.board.stopped }
+        ensures same { IsSameDesk self.old self.new }
+        ensures kept_up { OnOk result (HasKeptUp self.old self.new) }
+        ensures too_many { result ≡ Err Stop.TooMany → NeedsMany self.old }
+    {
+        let piece = claimed(rt, &mut self.taker).advance(observer)?;
+        self.pace.advanced();
+        self.hand_in(rt, piece)
+    }
+
+    /// Hands in what a worker has sent.
+    fn take_in<R: Wait>(&mut self, rt: &R, message: Message<B>) -> Result<(), Stop>
+        requires of_build { IsGiven B.tree B.request B.limits self.old.board.given }
+        requires running { IsNone self.old.board.stopped }
+        ensures same { IsSameDesk self.old self.new }
+        ensures kept_up { OnOk result (HasKeptUp self.old self.new) }
+        ensures too_many { result ≡ Err Stop.TooMany → NeedsMany self.old }
+    {
+        self.pace.came_back();
+        self.hand_in(rt, message?)
     }
 }
 
-/// Whether the owner advances the newest job itself: nothing is out, and there is no worker or nothing else is ready.
-/// So nothing waits for the owner meanwhile, and a chain of targets needs no hand-over.
-fn is_for_owner<B: Build>(board: &Board, lines: &Lines<'_, Message<B>>) -> bool {
-    board.out() == 0 && (board.ready() == 1 || lines.most_out == 0)
+/// Builds the newest target a part further: gives its job, and offers it to workers or advances it.
+fn build_newest<'s, E, B: Build + Send + Sync + 's, R: Threads + Wait + Sync, O: Observer>(
+    desk: &mut Desk<B>,
+    staff: &mut StaffOf<'_, 's, E, B, R, O>,
+) -> Result<(), Stop>
+    requires ready { 0 < ready_count desk.old.board }
+    requires of_build { IsGiven B.tree B.request B.limits desk.old.board.given }
+    requires running { IsNone desk.old.board.stopped }
+    ensures same { IsSameDesk desk.old desk.new }
+    ensures kept_up { OnOk result (HasKeptUp desk.old desk.new) }
+    ensures too_many { result ≡ Err Stop.TooMany → NeedsMany desk.old }
+    ensures manned { OnOk result ((relay : RelayId) (count : ℕ) →
+        IsManned relay count staff.old.idle.items (map (λ h. h.promise.0.value.relay) staff.old.hands.items) →
+        IsManned relay count staff.new.idle.items (map (λ h. h.promise.0.value.relay) staff.new.hands.items)) }
+    ensures few { length staff.new.idle.items + length staff.new.hands.items ≤
+        length staff.old.idle.items + length staff.old.hands.items }
+{
+    let is_for_worker = desk.give_newest(staff.observer, staff.most_out)?;
+    if is_for_worker {
+        match staff.crew.offer(staff.rt) {
+            Offer::Called => return Ok(()),
+            Offer::Hire(looking) => return Ok(staff.start(looking)?),
+            Offer::Spared => {
+                desk.pace.forget_trial();
+                return Ok(());
+            }
+            Offer::Full => desk.pace.forget_trial(),
+        }
+    }
+    desk.advance_claimed(staff.rt, staff.observer)
 }
 
-/// Gives what is ready and hands in what comes, until nothing is ready or out.
-pub(crate) fn own<B: Build, R: Wait, O: Observer>(
-    rt: &R,
-    board: &mut Board,
-    source: &mut JobSource<JobOf<B>>,
-    taker: &mut JobTaker<JobOf<B>>,
-    lines: &Lines<'_, Message<B>>,
-    observer: &O,
-) -> Result<(), Stop>
-    requires of_build { IsGiven B.tree B.request B.limits board.old.given }
-    requires running { IsNone board.old.stopped }
-    ensures source { IsSameSource source.old source.new }
-    ensures taker { taker.new.relay ≡ taker.old.relay }
-    ensures build { IsSameBuild board.old board.new }
-    ensures taken { OnOk result (HasTaken board.old source.old.given → HasTaken board.new source.new.given) }
-    ensures too_many { result ≡ Err Stop.TooMany →
-        IsTooMany (rules_on board.old) (request_on board.old) (limit_on board.old) }
+/// Takes one turn: hands in a piece that has come, builds a ready target further, advances a job that no worker has come
+/// to yet, or waits for a piece. Returns false where nothing is ready or out.
+fn turn<'s, E, B: Build + Send + Sync + 's, R: Threads + Wait + Sync, O: Observer>(
+    desk: &mut Desk<B>,
+    staff: &mut StaffOf<'_, 's, E, B, R, O>,
+) -> Result<bool, Stop>
+    requires of_build { IsGiven B.tree B.request B.limits desk.old.board.given }
+    requires running { IsNone desk.old.board.stopped }
+    ensures same { IsSameDesk desk.old desk.new }
+    ensures kept_up { OnOk result (HasKeptUp desk.old desk.new) }
+    ensures ended { IfOk result (λ more. more ≡ false → IsQuietBoard desk.new.board) }
+    ensures too_many { result ≡ Err Stop.TooMany → NeedsMany desk.old }
+    ensures manned { OnOk result ((relay : RelayId) (count : ℕ) →
+        IsManned relay count staff.old.idle.items (map (λ h. h.promise.0.value.relay) staff.old.hands.items) →
+        IsManned relay count staff.new.idle.items (map (λ h. h.promise.0.value.relay) staff.new.hands.items)) }
+    ensures few { length staff.new.idle.items + length staff.new.hands.items ≤
+        length staff.old.idle.items + length staff.old.hands.items }
 {
-    'turns: for _ in rt.forever() {
-        if board.ready() == 0 && board.out() == 0 {
+    if desk.board.out() > 0
+        && let Ok(message) = staff.pieces.try_recv(staff.rt)
+    {
+        desk.take_in(staff.rt, message)?;
+        return Ok(true);
+    }
+    if desk.board.ready() > 0 {
+        build_newest(desk, staff)?;
+        return Ok(true);
+    }
+    if staff.crew.claim(staff.rt) {
+        desk.pace.forget_trial();
+        desk.advance_claimed(staff.rt, staff.observer)?;
+        return Ok(true);
+    }
+    if desk.board.out() == 0 {
+        return Ok(false);
+    }
+    match staff.pieces.recv(staff.rt) {
+        Ok(message) => desk.take_in(staff.rt, message)?,
+        Err(_) => never(staff.rt),
+    }
+    Ok(true)
+}
+
+/// Takes turns until nothing is ready or out.
+pub(crate) fn own<'s, E, B: Build + Send + Sync + 's, R: Threads + Wait + Sync, O: Observer>(
+    desk: &mut Desk<B>,
+    staff: &mut StaffOf<'_, 's, E, B, R, O>,
+) -> Result<(), Stop>
+    requires of_build { IsGiven B.tree B.request B.limits desk.old.board.given }
+    requires running { IsNone desk.old.board.stopped }
+    ensures same { IsSameDesk desk.old desk.new }
+    ensures kept_up { OnOk result (HasKeptUp desk.old desk.new) }
+    ensures quiet { OnOk result (IsQuietBoard desk.new.board) }
+    ensures too_many { result ≡ Err Stop.TooMany → NeedsMany desk.old }
+    ensures manned { OnOk result ((relay : RelayId) (count : ℕ) →
+        IsManned relay count staff.old.idle.items (map (λ h. h.promise.0.value.relay) staff.old.hands.items) →
+        IsManned relay count staff.new.idle.items (map (λ h. h.promise.0.value.relay) staff.new.hands.items)) }
+    ensures few { length staff.new.idle.items + length staff.new.hands.items ≤
+        length staff.old.idle.items + length staff.old.hands.items }
+{
+    'turns: for _ in staff.rt.forever() {
+        if !turn(desk, staff)? {
             return Ok(());
-        }
-        if board.ready() > 0 && is_for_owner(board, lines) {
-            advance_newest(rt, board, source, taker, lines, observer)?;
-        } else if board.ready() > 0 && board.out() < lines.most_out {
-            call_for_newest(rt, board, source, lines, observer)?;
-        } else {
-            receive(rt, board, &lines.messages)?;
         }
     }
     unreachable!()

@@ -1,9 +1,9 @@
 //! A build by many workers, and by one.
 //!
-//! The thread that asked for the build owns the board, without a lock. It gives each job that is ready to a relay, from
-//! which the workers take it, calls a worker if none looks for a job, and hands in the pieces that come back through a
-//! channel. If only one script can go on, and always with one worker, it takes the job itself. Once all workers have
-//! ended, the ledger of the relay shows that each job was taken once.
+//! The thread that asked for the build owns the board, without a lock, and is one of the workers. Each job goes through
+//! a relay, from which it is taken once. The owner advances short scripts itself. It offers long ones to the others,
+//! calling one if too few look for a job, and hands in the pieces that come back through a channel. Once all workers
+//! have ended, the ledger of the relay shows that each job was taken once.
 
 ghost use Rattle.std.specs.Prelude.{◌≡◌, ◌≤◌, Err, [], IfOk, IsNone, IsTrue, ℕ};
 ghost use Rattle.redo_build.specs.Outcomes.{IsTooMany};
@@ -13,24 +13,26 @@ ghost use Rattle.redo_core.specs.Taken.{HasTaken};
 ghost use Rattle.redo_core.specs.Views.{limit_on, request_on, rules_on};
 ghost use Rattle.redo_sync.specs.Relay.{SharesOut, taken_by};
 ghost use Rattle.redo_run.specs.Skipping.{IsSoundOn, IsUnsafeOn};
-ghost use Rattle.redo_run.specs.inside.Workers.{IsAnswerTo, IsStaffed};
+ghost use Rattle.redo_run.specs.inside.Workers.{IsAnswerTo, IsStaffedBy, NeedsMany};
 
-use crate::crew::{join_all, lines_for, start_all};
+use crate::crew::{Shared, join_all};
 use crate::desk::{Desk, EndedDesk, hand_out};
 use crate::laws::keeping_is_sound;
-use crate::lookers::Lookers;
 use crate::observer::Observer;
 use crate::of_build::{Build, JobOf};
 use crate::owner::{never, own};
+use crate::pace::Pace;
 use crate::run_fault::RunFault;
+use crate::staff::{Staff, channel, most_out};
 use redo_build::laws::counts_tell;
 use redo_core::board::{Board, Stop};
 use redo_core::laws::what_was_taken;
+use redo_crew::Crew;
 use redo_past::{Past, RunReport};
 use redo_path::Path;
 use redo_report::Report;
 use redo_step::Limits;
-use redo_sync::{Ledger, gather, relay};
+use redo_sync::{JobTaker, Ledger, gather, relay};
 use redo_tree::Tree;
 use std::alloc::Global;
 use std::marker::Brand;
@@ -45,8 +47,7 @@ fn is_all_taken<B: Build>(ledger: &Ledger<JobOf<B>>) -> bool
     ledger.left().is_empty()
 }
 
-/// What a run came to, once all workers have ended. No run comes here while jobs are ready, out or left. At most
-/// `threads` threads make the digests that the new book tells of.
+/// What a run came to, once all workers have ended. No run comes here while jobs are left. At most `threads` threads make the digests that the new book tells of.
 fn answer_of<B: Build, R: Threads + Wait + Sync>(
     rt: &R,
     alloc: Global,
@@ -63,7 +64,7 @@ fn answer_of<B: Build, R: Threads + Wait + Sync>(
         takers,
     } = desk;
     if !board.quiet() {
-        never(rt)
+        unreachable!()
     }
     let ledger = gather(source, takers)?;
     if !is_all_taken(&ledger) {
@@ -73,42 +74,57 @@ fn answer_of<B: Build, R: Threads + Wait + Sync>(
     Ok((report, ledger))
 }
 
-/// Runs a build to its end: by the owner, and by a worker with a thread of its own for each other taker.
+/// Runs a build to its end: by the owner, and by as many workers as it needs of those that there are takers for.
 fn run_crew<'s, E, B: Build + Send + Sync + 's, R: Threads + Wait + Sync, O: Observer>(
     scope: &Scope<'s, E>,
-    rt: &'s R,
-    observer: &'s O,
-    lookers: &'s Lookers,
+    shared: Shared<'s, R, O>,
     alloc: Global,
-    desk: Desk<B>,
+    mut desk: Desk<B>,
+    takers: Vec<JobTaker<JobOf<B>>>,
 ) -> Result<EndedDesk<B>, Stop>
     requires of_build { IsGiven B.tree B.request B.limits desk.board.given }
     requires running { IsNone desk.board.stopped }
-    requires some { 1 ≤ desk.source.takers }
-    requires staffed { IsStaffed desk.source desk.takers.items }
+    requires staffed { IsStaffedBy desk takers.items }
     requires taken { HasTaken desk.board desk.source.given }
-    ensures too_many { result ≡ Err Stop.TooMany →
-        IsTooMany (rules_on desk.board) (request_on desk.board) (limit_on desk.board) }
+    ensures too_many { result ≡ Err Stop.TooMany → NeedsMany desk }
 {
-    let Desk {
-        mut board,
-        mut source,
-        mut takers,
-    } = desk;
     let back = Vec::with_capacity(alloc, takers.len())?;
-    let Some(mut taker) = takers.pop() else {
-        unreachable!()
+    let Shared { rt, observer, crew } = shared;
+    let (sender, pieces) = channel(alloc)?;
+    let most_out = most_out(takers.len());
+    let mut staff = Staff {
+        scope,
+        rt,
+        observer,
+        crew,
+        sender,
+        pieces,
+        idle: takers,
+        hands: Vec::new(alloc),
+        most_out,
     };
-    let (lines, extension) = lines_for(alloc, takers.len(), lookers)?;
-    let mut hands = Vec::new(alloc);
-    let ended = match start_all(scope, rt, observer, takers, extension, &mut hands) {
-        Ok(()) => own(rt, &mut board, &mut source, &mut taker, &lines, observer),
-        Err(_) => Err(Stop::Memory),
-    };
-    // Nobody calls any more and nobody reads messages, so the workers end.
-    drop(lines);
+    let ended = own(&mut desk, &mut staff);
+    crew.end(rt);
+    let Staff {
+        scope: _,
+        rt: _,
+        observer: _,
+        crew: _,
+        sender: _,
+        pieces: _,
+        mut idle,
+        hands,
+        most_out: _,
+    } = staff;
     let mut takers = join_all(rt, hands, back);
     ended?;
+    takers.append(&mut idle)?;
+    let Desk {
+        board,
+        source,
+        taker,
+        pace: _,
+    } = desk;
     takers.push(taker)?;
     Ok(EndedDesk {
         board,
@@ -120,32 +136,29 @@ fn run_crew<'s, E, B: Build + Send + Sync + 's, R: Threads + Wait + Sync, O: Obs
 /// The same in a scope of threads: all have ended when it returns. What is left of the run comes out of the scope
 /// through a channel.
 fn run_in_scope<B: Build + Send + Sync, R: Threads + Wait + Sync, O: Observer>(
-    rt: &R,
-    observer: &O,
-    lookers: &Lookers,
+    shared: Shared<'_, R, O>,
     alloc: Global,
     desk: Desk<B>,
+    takers: Vec<JobTaker<JobOf<B>>>,
 ) -> Result<EndedDesk<B>, Stop>
     requires of_build { IsGiven B.tree B.request B.limits desk.board.given }
     requires running { IsNone desk.board.stopped }
-    requires some { 1 ≤ desk.source.takers }
-    requires staffed { IsStaffed desk.source desk.takers.items }
+    requires staffed { IsStaffedBy desk takers.items }
     requires taken { HasTaken desk.board desk.source.given }
-    ensures too_many { result ≡ Err Stop.TooMany →
-        IsTooMany (rules_on desk.board) (request_on desk.board) (limit_on desk.board) }
+    ensures too_many { result ≡ Err Stop.TooMany → NeedsMany desk }
 {
+    let Shared { rt, observer, crew } = shared;
     let (out, ended) = crossbeam_channel::bounded(alloc, 1)?;
     thread::scope(
         thread::scope_env(),
         rt,
         move |scope| -> Result<(), Stop>
             requires { IsGiven B.tree B.request B.limits desk.board.given × IsNone desk.board.stopped ×
-                (1 ≤ desk.source.takers) × IsStaffed desk.source desk.takers.items ×
-                HasTaken desk.board desk.source.given }
-            ensures { result ≡ Err Stop.TooMany →
-                IsTooMany (rules_on desk.board) (request_on desk.board) (limit_on desk.board) }
+                IsStaffedBy desk takers.items × HasTaken desk.board desk.source.given }
+            ensures { result ≡ Err Stop.TooMany → NeedsMany desk }
         {
-            let desk = run_crew(scope, rt, observer, lookers, alloc, desk)?;
+            let shared = Shared { rt, observer, crew };
+            let desk = run_crew(scope, shared, alloc, desk, takers)?;
             hand_out(rt, &out, desk);
             Ok(())
         },
@@ -156,14 +169,7 @@ fn run_in_scope<B: Build + Send + Sync, R: Threads + Wait + Sync, O: Observer>(
     }
 }
 
-/// How many threads are started: none with one worker, as the owner does it all.
-fn threads_for(workers: usize) -> usize
-    ensures { result ≤ workers }
-{
-    if workers == 1 { 0 } else { workers }
-}
-
-/// Runs a build that was opened.
+/// Runs a build that was opened. The caller's thread is one of the workers, so it needs one thread fewer.
 fn run_build<B: Build + Send + Sync, R: Threads + Wait + Sync, O: Observer>(
     rt: &R,
     alloc: Global,
@@ -178,13 +184,23 @@ fn run_build<B: Build + Send + Sync, R: Threads + Wait + Sync, O: Observer>(
     requires few { workers ≤ 64 }
     ensures { IsAnswerTo B.tree B.request B.limits result }
 {
-    let (source, takers) = relay(alloc, threads_for(workers) + 1)?;
+    let (source, mut takers) = relay(alloc, workers)?;
+    let Some(taker) = takers.pop() else {
+        unreachable!()
+    };
     let desk = Desk::<B> {
         board,
         source,
-        takers,
+        taker,
+        pace: Pace::new(),
     };
-    let ended = run_in_scope(rt, observer, &Lookers::new(), alloc, desk)?;
+    let crew = Crew::new((workers - 1) as u8);
+    let shared = Shared {
+        rt,
+        observer,
+        crew: &crew,
+    };
+    let ended = run_in_scope(shared, alloc, desk, takers)?;
     answer_of(rt, alloc, ended, workers)
 }
 

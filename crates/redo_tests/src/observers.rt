@@ -13,9 +13,23 @@ use std::sync::atomic::Ordering::SeqCst;
 use std::test::Fail;
 use std::thread::yield_now;
 
+/// Writes a target whose script is long, so that it is worth a worker.
+fn write_long(bundle: &mut Vec<u8>, head: &[u8]) -> Result<(), AllocError> {
+    bundle.extend_from_slice(head)?;
+    for _ in 0..4096 {
+        bundle.push(b'#')?;
+    }
+    bundle.extend_from_slice(b"\n\n")
+}
+
 /// Two targets without dependencies, and one that asks for both.
-const TWO: &str =
-    "file 7 a.do\necho a\n\nfile 7 b.do\necho b\n\nfile 18 top.do\nredo-ifchange a b\n\nend\n";
+fn two(alloc: Global) -> Result<Vec<u8>, AllocError> {
+    let mut bundle = Vec::new(alloc);
+    write_long(&mut bundle, b"file 4104 a.do\necho a\n")?;
+    write_long(&mut bundle, b"file 4104 b.do\necho b\n")?;
+    bundle.extend_from_slice(b"file 18 top.do\nredo-ifchange a b\n\nend\n")?;
+    Ok(bundle)
+}
 
 /// Holds whoever enters until two have entered, for at most 1,000,000 yields, and counts who waited in vain. The target
 /// `top` isn't held.
@@ -60,7 +74,7 @@ fn both_must_be_inside_a_run(rt: HostRuntime) -> Result<(), Fail> {
         let outcome = run_bundle(
             &rt,
             alloc,
-            &mut Plain::new(TWO.as_bytes()),
+            &mut Plain::new(two(alloc)?.as_slice()),
             &mut Plain::new(Vec::new(alloc)),
             &options,
             &pair,

@@ -1,33 +1,67 @@
 -- What a build by an owner and its workers comes to.
-use Rattle.std.specs.Prelude.{◌≡◌, ℕ, List, [], Result, Err, IfOk, All, length}
+use Rattle.std.specs.Prelude.{◌≡◌, ◌+◌, ◌<◌, ℕ, List, [], Result, Err, IfOk, IsNone, All, length}
+use Rattle.redo_build.specs.Outcomes.{IsTooMany}
 use Rattle.redo_build.specs.Takes.{AreBegun, AreCountedOnce}
+use Rattle.redo_crew.specs.Word.{most_workers}
 use Rattle.redo_core.specs.Results.{IsGiven, IsResultOn, NeedsTooMany}
 use Rattle.redo_core.specs.Taken.{HasTaken}
-use Rattle.redo_core.specs.Views.{BoardView}
+use Rattle.redo_core.specs.Faults.{IsSameBuild}
+use Rattle.redo_core.specs.Views.{BoardView, IsQuietBoard, limit_on, request_on, rules_on}
 use Rattle.redo_core.specs.declared.board.Stop.{Stop}
 use Rattle.redo_core.specs.declared.board.Stop.TheVariants.{TooMany}
 use Rattle.redo_report.specs.declared.report.Report.{Report}
 use Rattle.redo_step.specs.Limits.{LimitsView}
-use Rattle.redo_sync.specs.Relay.{Pair, Shares, Source, Taker}
+use Rattle.redo_sync.specs.Relay.{Pair, RelayId, Shares, Source, Taker}
 use Rattle.redo_tree.specs.Tree.{Tree}
 
 -- the source is of the same relay, with as many takers
 abbrev pub IsSameSource : Source → Source → Type 0
 IsSameSource old new = (new.relay ≡ old.relay) × (new.takers ≡ old.takers)
 
+-- what an owner has: its board, the source of its relay, and the relay of its own taker
+pub record DeskView : Type 0 where
+  pub board : BoardView
+  pub source : Source
+  pub own : RelayId
+
+-- the owner has the board of the same build, and ends of the same relays
+abbrev pub IsSameDesk : DeskView → DeskView → Type 0
+IsSameDesk old new = IsSameBuild old.board new.board × IsSameSource old.source new.source × (new.own ≡ old.own)
+
+-- the board runs, and where it had taken what was given, it has now
+abbrev pub HasKeptUp : DeskView → DeskView → Type 0
+HasKeptUp old new =
+    IsNone new.board.stopped × (HasTaken old.board old.source.given → HasTaken new.board new.source.given)
+
+-- the board has stopped at too many targets, and the build needs as many
+abbrev pub NeedsMany : DeskView → Type 0
+NeedsMany desk = IsTooMany (rules_on desk.board) (request_on desk.board) (limit_on desk.board)
+
+-- so many workers have takers of the relay: those that aren't started, and those that are and promise to hand theirs back
+pub record IsManned (relay : RelayId) (workers : ℕ) (idle : List Taker) (promised : List RelayId) : Type 0 where
+  pub count : length idle + length promised ≡ workers
+  pub idle_own : All (λ t. t.relay ≡ relay) idle
+  pub promised_own : All (λ r. r ≡ relay) promised
+
 -- these are all takers of the source
 abbrev pub IsStaffed : Source → List Taker → Type 0
 IsStaffed source takers = (length takers ≡ source.takers) × All (λ t. t.relay ≡ source.relay) takers
+
+-- the owner's taker and these are all takers of its source
+abbrev pub IsStaffedBy : DeskView → List Taker → Type 0
+IsStaffedBy desk takers =
+    (length takers < most_workers) × (length takers + 1 ≡ desk.source.takers) × (desk.own ≡ desk.source.relay) × All (λ t. t.relay ≡ desk.source.relay) takers
 
 -- what the board had taken is what it has taken now
 abbrev pub HasTakenOn : BoardView → BoardView → Type 0
 HasTakenOn old new = (taken : List Pair) → HasTaken old taken → HasTaken new taken
 
--- what a run has left once all workers are in: the board is of the build, all takers are back, and what the board has
--- taken is what was given
+-- what a run has left once all workers are in: the board is of the build and nothing is left to do on it, all takers are
+-- back, and what the board has taken is what was given
 pub record IsEnded (tree : Tree) (request : List (List ℕ)) (limits : LimitsView) (board : BoardView) (source : Source)
     (takers : List Taker) : Type 0 where
   pub of_build : IsGiven tree request limits board.given
+  pub quiet : IsQuietBoard board
   pub staffed : IsStaffed source takers
   pub taken : HasTaken board source.given
 

@@ -1,4 +1,4 @@
-use Rattle.std.proofs.Common.{rules, ◌≡◌, ◌∙◌, Err, subst}
+use Rattle.std.proofs.Common.{rules, ◌≡◌, ◌∙◌, Err, arith, subst}
 use Rattle.redo_build.specs.Outcomes.{IsTooMany}
 use Rattle.redo_core.specs.Build.{GivenView, rules_for}
 use Rattle.redo_core.specs.declared.board.Stop.TheVariants.{TooMany}
@@ -8,46 +8,26 @@ use Rattle.redo_run.proofs.owner.own.Goals as goal
 abbrev Many : GivenView → Type 0
 Many given = IsTooMany (rules_for given) given.request given.limits.targets
 
-pub returns-in_err-advance_newest-clause-too_many : goal.returns-in_err-advance_newest-clause-too_many
-returns-in_err-advance_newest-clause-too_many g c = λ is.
-    let err : c.advance_newest.result ≡ Err TooMany = search rules in
-    subst Many c.turns.invariant.2 (c.advance_newest.ensures.too_many err)
+pub returns-in_err-turn-clause-too_many : goal.returns-in_err-turn-clause-too_many
+returns-in_err-turn-clause-too_many g c = λ is.
+    let err : c.turn.result ≡ Err TooMany = search rules in subst Many c.turns.invariant.0.0 (c.turn.ensures.too_many err)
 
-pub returns-in_err-receive-clause-too_many : goal.returns-in_err-receive-clause-too_many
-returns-in_err-receive-clause-too_many g c = λ is.
-    let err : c.receive.result ≡ Err TooMany = search rules in
-    subst Many c.turns.invariant.2 (c.receive.ensures.too_many err)
+-- the last turn
+pub returns-then-not-branch-clause-kept_up : goal.returns-then-not-branch-clause-kept_up
+returns-then-not-branch-clause-kept_up g c =
+    let i = c.turns.invariant in let kept = c.in_ok-turn.ensures.kept_up in (kept.0, λ had. kept.1 (i.1.1 had))
 
--- the owner advances a script
-pub turns-preserved-then-is_for_owner : goal.turns-preserved-then-is_for_owner
-turns-preserved-then-is_for_owner g c =
-    let i = c.turns.invariant in let s = c.advance_newest.ensures.source in let b = c.advance_newest.ensures.build in (
-      c.in_ok-advance_newest.ensures.running,
-      (s.0 ∙ i.1.0, s.1 ∙ i.1.1),
-      b ∙ i.2,
-      c.advance_newest.ensures.taker ∙ i.3,
-      λ had. c.in_ok-advance_newest.ensures.taken (i.4 had),
-    )
+pub returns-then-not-branch-clause-manned : goal.returns-then-not-branch-clause-manned
+returns-then-not-branch-clause-manned g c = λ relay count m.
+    c.in_ok-turn.ensures.manned relay count (c.turns.invariant.2 relay count m)
 
--- a job is given
-pub turns-preserved-then-out-lines : goal.turns-preserved-then-out-lines
-turns-preserved-then-out-lines g c =
-    let i = c.turns.invariant in let s = c.call_for_newest.ensures.source in
-    let b = c.call_for_newest.ensures.build in (
-      c.in_ok-call_for_newest.ensures.running,
-      (s.0 ∙ i.1.0, s.1 ∙ i.1.1),
-      b ∙ i.2,
-      i.3,
-      λ had. c.in_ok-call_for_newest.ensures.taken (i.4 had),
-    )
-
--- a piece comes in
+-- each turn but the last
 pub turns-preserved : goal.turns-preserved
 turns-preserved g c =
-    let i = c.turns.invariant in let b = c.receive.ensures.build in (
-      c.in_ok-receive.ensures.running,
-      i.1,
-      b ∙ i.2,
-      i.3,
-      λ had. c.in_ok-receive.ensures.taken _ (i.4 had),
+    let i = c.turns.invariant in let same = c.turn.ensures.same in let kept = c.in_ok-turn.ensures.kept_up in
+    let few = c.turn.ensures.few in let were = i.3 in (
+      (same.0 ∙ i.0.0, (same.1.0 ∙ i.0.1.0, same.1.1 ∙ i.0.1.1), same.2 ∙ i.0.2),
+      (kept.0, λ had. kept.1 (i.1.1 had)),
+      λ relay count m. c.in_ok-turn.ensures.manned relay count (i.2 relay count m),
+      omega (arith, few, were),
     )

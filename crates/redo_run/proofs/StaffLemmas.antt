@@ -1,0 +1,74 @@
+-- The takers of workers: of those that aren't started, of those that are, and of all once they are back.
+use Rattle.std.proofs.Common.{◌≡◌, ◌+◌, ◌<◌, ◌++◌, ◌∷◌, ℕ, List, [], map, length, get_or, ap, sym, ◌∙◌, subst, arith}
+use Rattle.std.specs.Prelude.{All}
+use Rattle.std.proofs.Math.ListN.{get_or-append, get_or-map}
+use Rattle.std.proofs.Math.Seq.{get_or-append_seam}
+use Rattle.std.proofs.lemmas.List.{length-append, length-map}
+use Rattle.std.proofs.lemmas.List.Elements.{All-append, All-cons, All-nil}
+use Rattle.redo_sync.specs.Relay.{RelayId, Source, Taker}
+use Rattle.redo_run.specs.inside.Workers.{IsManned, IsStaffed}
+
+abbrev relay_of : Taker → RelayId
+relay_of t = t.relay
+
+module _ (relay : RelayId) (count : ℕ) where
+  abbrev HasRelay : Taker → Type 0
+  HasRelay t = t.relay ≡ relay
+
+  abbrev IsRelay : RelayId → Type 0
+  IsRelay r = r ≡ relay
+
+  -- a worker is started: it has the taker of one that wasn't
+  pub one_started : (idle : List Taker) (t : Taker) (promised : List RelayId) →
+      IsManned relay count (idle ++ t ∷ []) promised → IsManned relay count idle (promised ++ t.relay ∷ [])
+  one_started idle t promised m =
+      let all = m.count in let a = length-append idle (t ∷ []) in let b = length-append promised (t.relay ∷ []) in
+      let own : t.relay ≡ relay =
+      subst HasRelay (get_or-append_seam idle t [] t) (m.idle_own (length idle) t (omega (arith, a))) in
+      record {
+        count = omega (arith, all, a, b);
+        idle_own = λ k d below. subst HasRelay (get_or-append idle (t ∷ []) d k below) (m.idle_own k d (omega (arith, a, below)));
+        promised_own = All-append IsRelay promised (t.relay ∷ []) m.promised_own (All-cons IsRelay t.relay [] own (All-nil IsRelay));
+      }
+
+  -- before the first is started
+  pub none_started : (idle : List Taker) (promised : List RelayId) → promised ≡ [] → length idle ≡ count → All HasRelay idle → IsManned relay count idle promised
+  none_started idle promised none all own =
+      let P : List RelayId → Type 0 = IsManned relay count idle in
+      subst P (sym none) record { count = omega (arith, all); idle_own = own; promised_own = All-nil IsRelay }
+
+  -- takers that have promised relays have them
+  kept : (back : List Taker) (promised : List RelayId) → map relay_of back ≡ promised → All IsRelay promised → All HasRelay back
+  kept back promised same all k d below =
+      let long : length back ≡ length promised = sym (length-map back relay_of) ∙ ap length same in
+      subst IsRelay (sym (ap (λ l. get_or l k (relay_of d)) same) ∙ get_or-map relay_of back k d)
+      (all k (relay_of d) (subst (λ n. k < n) long below))
+
+  -- those that came back, those that weren't started and the owner's are all takers of the source
+  pub all_back : (back idle : List Taker) (own : Taker) (promised : List RelayId) (source : Source) → map relay_of back ≡ promised →
+      IsManned relay count idle promised → own.relay ≡ relay → source.relay ≡ relay → count + 1 ≡ source.takers →
+      IsStaffed source ((back ++ idle) ++ own ∷ [])
+  all_back back idle own promised source same m e of many =
+      let all = m.count in let a = length-append back idle in let b = length-append (back ++ idle) (own ∷ []) in
+      let c : length back ≡ length promised = sym (length-map back relay_of) ∙ ap length same in
+      let each : All HasRelay ((back ++ idle) ++ own ∷ []) =
+      All-append HasRelay (back ++ idle) (own ∷ []) (All-append HasRelay back idle (kept back promised same m.promised_own) m.idle_own)
+      (All-cons HasRelay own [] e (All-nil HasRelay)) in (
+        omega (arith, all, a, b, c, many),
+        λ k d below. each k d below ∙ sym of,
+      )
+
+-- of takers that a relay was made with, the last and the others
+module _ (relay : RelayId) where
+  abbrev pub IsNew : Taker → Type 0
+  IsNew t = (t.relay ≡ relay) × (t.taken ≡ [])
+
+  pub last_new : (rest : List Taker) (t : Taker) → All IsNew (rest ++ t ∷ []) → t.relay ≡ relay
+  last_new rest t all =
+      let a = length-append rest (t ∷ []) in
+      (subst IsNew (get_or-append_seam rest t [] t) (all (length rest) t (omega (arith, a)))).0
+
+  pub others_new : (rest : List Taker) (t : Taker) → All IsNew (rest ++ t ∷ []) → All (λ u. u.relay ≡ relay) rest
+  others_new rest t all k d below =
+      let a = length-append rest (t ∷ []) in
+      (subst IsNew (get_or-append rest (t ∷ []) d k below) (all k d (omega (arith, a, below)))).0

@@ -1,5 +1,0 @@
-use Rattle.std.proofs.Common.{◌≡◌}
-use Rattle.redo_run.proofs.crew.look.Given as goal
-
-abbrev pub invariant-looks : goal.invariant-looks
-invariant-looks g l = l.taker.relay ≡ l.fn.taker.relay

@@ -1,0 +1,106 @@
+//! Which jobs are worth a worker.
+//!
+//! To hand a job on costs some microseconds, and beside busy processes a worker may come to it much later. So short
+//! scripts stay with the owner. A job is expected to take long if its script, or a file that it asked for, is large, or
+//! if the script that was handed in last has made a large file.
+//!
+//! A script may take long for other reasons, and a run has no clock. But it takes a sleeper some time to wake up. So now
+//! and then, while many jobs wait, one is tried: a sleeper is called for it. If it is back with the piece before the
+//! owner has advanced more than a few jobs itself, then these are long enough, and the next ones are offered. If not,
+//! the owner tries again after twice as many. No report depends on any of it.
+
+use redo_core::work::Work;
+
+/// A job takes long if it reads or makes so many bytes.
+const LONG: usize = 4096;
+
+/// A job is tried while at least so many others are ready.
+const MANY: usize = 8;
+
+/// At most so many jobs may the owner advance during a trial, or the jobs are short.
+const FEW: u32 = 4;
+
+/// After a trial so many jobs are offered.
+const TRUSTED: u32 = 64;
+
+/// So many jobs the owner advances after the first trial that shows that they are short, before it tries again.
+const FIRST_PAUSE: u32 = 16;
+
+/// What the owner knows of how long jobs take.
+#[derive(Clone, Copy, Debug, PartialEq, Eq)]
+pub(crate) struct Pace {
+    /// The script that was handed in last has made a large file.
+    made_long: bool,
+    /// So many jobs more are offered.
+    trusted: u32,
+    /// How many jobs the owner has advanced since it called a sleeper for one, if that one isn't back.
+    trial: Option<u32>,
+    /// How many it advances until the next trial.
+    pause: u32,
+    next_pause: u32,
+}
+
+impl Pace {
+    /// Before the first job.
+    pub fn new() -> Pace {
+        Pace {
+            made_long: false,
+            trusted: 0,
+            trial: None,
+            pause: 0,
+            next_pause: FIRST_PAUSE,
+        }
+    }
+
+    /// Whether a worker is to have a job, while so many others are ready and out.
+    pub fn is_for_worker(&mut self, work: &Work, ready: usize, out: usize) -> bool {
+        if self.made_long || work.reads(LONG) {
+            return true;
+        }
+        if self.trusted > 0 {
+            self.trusted -= 1;
+            return true;
+        }
+        let tries = ready >= MANY && out == 0 && self.pause == 0;
+        if tries {
+            self.trial = Some(0);
+        }
+        tries
+    }
+
+    /// The job that is tried was left to a worker that was awake, or came to nobody: it shows nothing.
+    pub fn forget_trial(&mut self) {
+        if self.trial.is_some() {
+            self.trial = None;
+            self.pause = FIRST_PAUSE;
+        }
+    }
+
+    /// The owner has advanced a job itself.
+    pub fn advanced(&mut self) {
+        self.pause = self.pause.saturating_sub(1);
+        self.trial = self.trial.map(|own| own.saturating_add(1));
+    }
+
+    /// A worker is back with a piece.
+    pub fn came_back(&mut self) {
+        let Some(own) = self.trial.take() else {
+            return;
+        };
+        if own <= FEW {
+            self.trusted = TRUSTED;
+            self.next_pause = FIRST_PAUSE;
+        } else {
+            self.pause = self.next_pause;
+            self.next_pause = self.next_pause.saturating_mul(2);
+        }
+    }
+
+    /// A script was handed in that has made this file, if any.
+    pub fn made(&mut self, file: Option<&[u8]>) {
+        self.made_long = match file {
+            Some(bytes) => bytes.len() >= LONG,
+            None => false,
+        };
+    }
+}

@@ -1,0 +1,86 @@
+//! The workers of a build, started and not.
+
+ghost use Rattle.std.specs.Prelude.{◌≡◌, ◌≤◌, ◌+◌, ◌*◌, length, map, OnOk, ℕ};
+ghost use Rattle.redo_crew.specs.Word.{most_workers, out_for_each, places};
+ghost use Rattle.redo_sync.specs.Relay.{RelayId};
+ghost use Rattle.redo_run.specs.inside.Workers.{IsManned};
+
+use crate::crew::{Advance, Hand, OwnTaker, Shared, work};
+use crate::observer::Observer;
+use crossbeam_channel::{Receiver, Sender};
+use redo_crew::{Crew, Looking, OUT_FOR_EACH, PLACES};
+use redo_sync::{JobTaker, Numbered};
+use std::alloc::{AllocError, Global};
+use std::snapshot::Snapshot;
+use std::sync::Wait;
+use std::thread::{Scope, Threads};
+
+/// The workers of a build. One is started when a job is offered for which too few look: a build whose scripts are all
+/// short starts none.
+#[derive(Drop)]
+pub(crate) struct Staff<'r, 's, E, J: Numbered + Drop, M: Drop, R, O> {
+    pub scope: &'r Scope<'s, E>,
+    pub rt: &'s R,
+    pub observer: &'s O,
+    pub crew: &'s Crew,
+    /// Where workers send their pieces, and where the owner reads them.
+    pub sender: Sender<M>,
+    pub pieces: Receiver<M>,
+    /// The takers of those that aren't started.
+    pub idle: Vec<JobTaker<J>>,
+    /// Those that are.
+    pub hands: Vec<Hand<J>>,
+    /// How many jobs may be out with them at a time. The others wait on the board, where the newest goes first.
+    pub most_out: usize,
+}
+
+/// A channel for pieces: with a place for each job that may be out, so that no sender waits.
+pub(crate) fn channel<M: Drop>(alloc: Global) -> Result<(Sender<M>, Receiver<M>), AllocError> {
+    crossbeam_channel::bounded(alloc, PLACES as usize)
+}
+
+/// How many jobs may be out with so many workers: there is a place for the piece of each.
+pub(crate) fn most_out(workers: usize) -> usize
+    requires { workers ≤ most_workers }
+    ensures each { result ≡ workers * out_for_each }
+    ensures room { result ≤ places }
+{
+    workers * OUT_FOR_EACH as usize
+}
+
+impl<
+    'r,
+    's,
+    E,
+    J: Advance<M, O> + Send + 's,
+    M: Send + Drop + 's,
+    R: Threads + Wait + Sync,
+    O: Observer,
+> Staff<'r, 's, E, J, M, R, O> {
+    /// Starts one more worker, which looks for a job. Fails if there is no memory, or no thread can be started.
+    pub fn start(&mut self, looking: Looking) -> Result<(), AllocError>
+        ensures manned { OnOk result ((relay : RelayId) (count : ℕ) →
+            IsManned relay count self.old.idle.items (map (λ h. h.promise.0.value.relay) self.old.hands.items) →
+            IsManned relay count self.new.idle.items (map (λ h. h.promise.0.value.relay) self.new.hands.items)) }
+        ensures few { length self.new.idle.items + length self.new.hands.items ≤
+            length self.old.idle.items + length self.old.hands.items }
+    {
+        // A worker is hired only while one isn't started.
+        let Some(taker) = self.idle.pop() else {
+            return Ok(());
+        };
+        let pieces = self.sender.clone()?;
+        let shared = Shared {
+            rt: self.rt,
+            observer: self.observer,
+            crew: self.crew,
+        };
+        self.hands.reserve(1)?;
+        let promise = OwnTaker(Snapshot::of(&taker));
+        let hand = self
+            .scope
+            .spawn_with(promise, move || work(shared, looking, taker, pieces))?;
+        self.hands.push_reserved(hand);
+        Ok(())
+    }
+}
