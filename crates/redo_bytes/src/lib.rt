@@ -3,6 +3,9 @@
 //! A build keeps many short texts: target paths, one-line scripts, one-word files. [`Bytes`] stores up to 22 bytes in
 //! itself, so they need no allocation and are copied with it. A longer string is allocated once, and its clones share
 //! it. Depends on the standard library alone.
+//!
+//! - here: [`Bytes`];
+//! - `compare`: equality and order of byte strings, eight bytes at a time.
 #![tactic(auto)]
 
 ghost use Rattle.std.specs.Prelude.{◌≡◌, ◌<◌, [], IfNone, IfOk, IfSome, length, nat_eq};
@@ -10,6 +13,9 @@ ghost use Rattle.std.specs.Cmp.{partial_equiv_from_equiv};
 ghost use Rattle.std.specs.Cmp.Lexicographic.{nat_list_eq_equiv, pointwise};
 ghost use Rattle.redo_bytes.specs.inside.Kept.{IsFit, bytes_of};
 
+mod compare;
+
+pub use compare::{are_equal, order_of};
 use std::alloc::{AllocError, Global};
 use std::fmt;
 use std::marker::Model;
@@ -148,7 +154,7 @@ impl PartialEq for Bytes {
     ghost laws = { partial_equiv_from_equiv nat_list_eq_equiv };
 
     fn eq(&self, other: &Bytes) -> bool {
-        self.as_slice() == other.as_slice()
+        are_equal(self.as_slice(), other.as_slice())
     }
 }
 
