@@ -24,7 +24,7 @@ pub mod laws;
 mod text;
 mod words;
 
-use redo_bytes::Bytes;
+use redo_bytes::{Bytes, are_equal, order_of};
 use std::alloc::{AllocError, AllocFailed, Global};
 use std::cmp::Ordering;
 use std::marker::Model;
@@ -124,6 +124,13 @@ impl Path {
         self.text.as_slice()
     }
 
+    /// Whether the path has this text.
+    pub fn has_text(&self, text: &[u8]) -> bool
+        ensures { result ≡ pointwise nat_eq self.now text.now }
+    {
+        are_equal(self.text(), text)
+    }
+
     /// The last name; empty for the root.
     pub fn name(&self) -> &[u8]
         ensures { result.now ≡ name_of self.now }
@@ -193,7 +200,7 @@ impl PartialEq for Path {
     ghost laws = { partial_equiv_from_equiv nat_list_eq_equiv };
 
     fn eq(&self, other: &Path) -> bool {
-        self.text() == other.text()
+        self.text == other.text
     }
 }
 
@@ -222,7 +229,7 @@ impl Ord for Path {
     ghost matches_eq = { texts_ties };
 
     fn cmp(&self, other: &Path) -> Ordering {
-        self.text().cmp(other.text())
+        order_of(self.text(), other.text())
     }
 }
 
