@@ -123,7 +123,7 @@ fn is_at(paths: &[Path], number: usize, text: &[u8]) -> bool
     ensures { IsTrue result ↔ (slice_get paths.now number ≡ Some text.now) }
 {
     match paths.get(number) {
-        Some(path) => path.text() == text,
+        Some(path) => path.has_text(text),
         None => false,
     }
 }

@@ -9,9 +9,9 @@ returns-in-Some c =
     let paths = c.args.paths.now in
     let path = c.in-Some.path.now in
     let there : slice_get paths c.args.number ≡ Some path = slice_get_read paths (length paths) c.args.number path refl h.3.0 h.1 in
-    let decides = bytes_decides c.text.result.now c.args.text.now in (
-      λ yes. there ∙ ap Some (sym c.text.ensures.text ∙ decides.0 (sym c.eq.ensures ∙ yes)),
-      λ e. c.eq.ensures ∙ decides.1 (c.text.ensures.text ∙ same_Some path c.args.text.now (sym there ∙ e)),
+    let decides = bytes_decides path c.args.text.now in (
+      λ yes. there ∙ ap Some (decides.0 (sym c.has_text.ensures ∙ yes)),
+      λ e. c.has_text.ensures ∙ decides.1 (same_Some path c.args.text.now (sym there ∙ e)),
     )
 
 pub returns-in-None : goal.returns-in-None
