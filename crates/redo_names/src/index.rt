@@ -256,14 +256,14 @@ impl Index {
         Spot::Over
     }
 
-    /// Makes room for one path after these, in a larger row if they fill the old one.
+    /// Makes room for one path after these, in a row of four times as many places if they fill the old one.
     pub(crate) fn make_room(&mut self, paths: &[Path]) -> Result<(), AllocError>
         requires { IsIndexOf self.old paths.now }
         ensures index { IsIndexOf self.new paths.now }
         ensures room { OnOk result (length paths.now < room_of_row (length self.new.places.items)) }
     {
         if paths.len() >= room_of(self.places.len()) {
-            let places = row_for(paths.len() + 1).ok_or(AllocError)?;
+            let places = row_for(paths.len().saturating_mul(4)).ok_or(AllocError)?;
             *self = Index::of(*self.places.allocator(), paths, places)?;
         }
         Ok(())
