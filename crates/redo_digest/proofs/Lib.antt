@@ -1,3 +1,3 @@
-pub mod CapitalLemmas
 pub mod DigestLemmas
+pub mod DigitLemmas
 pub mod SpellingLemmas

@@ -1,6 +1,6 @@
 -- Digests of contents, their spelling, and the states of paths.
-use Rattle.std.specs.Prelude.{◌≡◌, ℕ, List, Option, Some, None, IfSome, if◌then◌else◌, length, option_and_then}
-use Rattle.std.specs.Prelude.{option_map}
+use Rattle.std.specs.Prelude.{◌≡◌, ◌&&◌, ◌||◌, ℕ, Bool, List, Option, Some, None, IfSome, if◌then◌else◌, length, nat_le}
+use Rattle.std.specs.Prelude.{not, option_and_then, option_map}
 use Rattle.std.specs.Result.{result_ok}
 use Rattle.std.specs.Str.{bytes_eq}
 use Rattle.hex.specs.Hex.{IsBytes, decode_sized, encode_lower}
@@ -21,6 +21,10 @@ abbrev pub digest_of : List ℕ → Option (List ℕ)
 digest_of word =
     option_and_then (λ bytes. if bytes_eq (encode_lower bytes) word then Some bytes else None)
     (result_ok (decode_sized word 32))
+
+-- whether a byte is none of the sixteen digits
+abbrev pub is_other : ℕ → Bool
+is_other c = not (nat_le 48 c && nat_le c 57 || nat_le 97 c && nat_le c 102)
 
 -- what stood at a path: a file with this digest, or no file
 abbrev pub State : Type 0

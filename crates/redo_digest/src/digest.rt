@@ -1,11 +1,10 @@
 //! Digests of contents.
 
-ghost use Rattle.std.specs.Char.{is_ascii_uppercase};
 ghost use Rattle.std.specs.List.{list_any};
-ghost use Rattle.std.specs.Prelude.{◌≡◌};
-ghost use Rattle.hex.specs.Hex.{encode_lower};
+ghost use Rattle.std.specs.Prelude.{◌≡◌, ◌<◌, Ok, Some, false, length, not};
+ghost use Rattle.hex.specs.Hex.{decode_sized, encode_lower, hex_digit_value};
 ghost use Rattle.sha2.specs.Sha256.{sha256};
-ghost use Rattle.redo_digest.specs.Digest.{IsDigest, IsState, digest_of};
+ghost use Rattle.redo_digest.specs.Digest.{IsDigest, IsState, digest_of, is_other};
 
 use sha2::{Digest as _, Sha256};
 use std::marker::Model;
@@ -45,11 +44,13 @@ impl Digest {
         ensures value { result ≡ digest_of word.now }
         ensures digest { IsState result }
     {
-        if has_capital(word) {
+        if word.len() != DIGITS {
             return None;
         }
-        let mut bytes = [0; 32];
-        hex::decode_to_slice(word, &mut bytes).ok()?;
+        if has_other(word) {
+            return None;
+        }
+        let bytes = bytes_of(word);
         Some(Digest { bytes })
     }
 
@@ -72,14 +73,48 @@ impl Digest {
     }
 }
 
-/// Whether the word has an upper-case letter.
-fn has_capital(word: &[u8]) -> bool
-    ensures { result ≡ list_any is_ascii_uppercase word.now }
+/// Whether a byte is one of the sixteen digits.
+fn is_digit(byte: u8) -> bool
+    ensures { result ≡ not (is_other byte) }
+{
+    matches!(byte, b'0'..=b'9' | b'a'..=b'f')
+}
+
+/// Whether the word has a byte that is none of the sixteen digits.
+fn has_other(word: &[u8]) -> bool
+    ensures { result ≡ list_any is_other word.now }
 {
     let mut found = false;
     // No early exit, so that a processor can look at many bytes at once.
     for byte in word {
-        found |= byte.is_ascii_uppercase();
+        found |= !is_digit(*byte);
     }
     found
+}
+
+/// The value of a digit.
+fn value_of(digit: u8) -> u8
+    requires { is_other digit ≡ false }
+    ensures value { hex_digit_value digit ≡ Some result }
+    ensures small { result < 16 }
+{
+    if digit < b'a' {
+        digit - b'0'
+    } else {
+        digit - b'a' + 10
+    }
+}
+
+/// The bytes that digits spell. Digits that are known to be some need no test in the loop, so a processor can read many
+/// at once.
+fn bytes_of(word: &[u8]) -> [u8; 32]
+    requires size { length word.now ≡ 64 }
+    requires digits { list_any is_other word.now ≡ false }
+    ensures { decode_sized word.now 32 ≡ Ok result }
+{
+    let mut bytes = [0; 32];
+    'bytes: for at in 0..bytes.len() {
+        bytes[at] = value_of(word[2 * at]) * 16 + value_of(word[2 * at + 1]);
+    }
+    bytes
 }
