@@ -4,39 +4,28 @@ use Rattle.std.proofs.Common.{Option, Some, None, nat_eq, length, arith, inl, in
 use Rattle.std.proofs.lemmas.Bool.{cases_Bool}
 use Rattle.std.proofs.lemmas.List.{map-append}
 use Rattle.std.specs.Cmp.Lexicographic.{nat_list_eq_equiv, pointwise, slice_cmp, texts_ties}
-use Rattle.std.specs.List.{filter}
+use Rattle.std.specs.List.{filter, list_any}
 use Rattle.std.specs.List.Sorted.{IsStrictlySortedBy}
 use Rattle.std.specs.Map.{keys_of, lookup}
 use Rattle.std.specs.Option.{option_or}
 use Rattle.std.specs.Ordering.{is_eq, nat_cmp}
-use Rattle.std.specs.Prelude.{IfSome, bytes_eq, option_map}
-use Rattle.redo_names.specs.Paths.{AreDistinct, IsAmong}
-use Rattle.redo_path.proofs.PartLemmas.{AllByRecursion-append}
+use Rattle.std.specs.Prelude.{◌||◌, bytes_eq, option_map}
+use Rattle.redo_names.specs.Paths.{AreDistinct, IsAmong, is_among}
 use Rattle.redo_tree.specs.declared.entries.Entry.{Entry}
-use Rattle.redo_tree.specs.Tree.{IsKept, IsNoted, IsTree, Node, NotesDefaults, Tree, default_dir, node_at}
+use Rattle.redo_tree.specs.Tree.{IsKept, IsTree, Node, NotesDefaults, Tree, node_at}
 use Rattle.redo_tree.specs.Tree.{is_file_among, node_of, tree_of, with_entries, with_node, without}
-use Rattle.redo_tree.specs.inside.Parting.{AreNoted, nodes_of}
+use Rattle.redo_tree.specs.inside.Parting.{nodes_of}
 use Rattle.redo_tree.proofs.GrowLemmas.{Puts-with, is_path, length-with}
 use Rattle.redo_tree.proofs.KeptLemmas.{none_found, one_sorted}
 use Rattle.redo_tree.proofs.KeyLemmas.{sorted-with}
 use Rattle.redo_tree.proofs.NodeLemmas.{node_of-cond}
-use Rattle.redo_tree.proofs.WithoutLemmas.{IsTree-without, is_here, no_node, node_at-filter, node_at-filter-distinct, passing}
+use Rattle.redo_tree.proofs.WithoutLemmas.{IsTree-without, is_here, no_node, node_at-filter, node_at-filter-distinct, passing, stood}
 
 -- ---- nodes as entries show them
 
 found_nodes : (es : List (List ℕ × Entry)) (q : List ℕ) → option_map node_of (lookup (pointwise nat_eq q) es) ≡ node_at (nodes_of es) q
 found_nodes [] q = refl
 found_nodes (e ∷ es) q = node_of-cond (pointwise nat_eq q e.0) e.1 (lookup (pointwise nat_eq q) es) ∙ (λ i. cond (texts_ties q e.0 i) (Some (node_of e.1)) (found_nodes es q i))
-
-noted_all : (dirs : List (List ℕ)) (t : Tree) → AreNoted dirs t → NotesDefaults dirs t
-noted_all dirs [] h path dir node at e = absurd cc
-noted_all dirs (x ∷ xs) h path dir node at e = elim (is_eq (slice_cmp nat_cmp path x.0)) as (λ b. is_eq (slice_cmp nat_cmp path x.0) ≡ b → cond b (Some x.1) (node_at xs path) ≡ Some node → IsNoted dirs dir) [
-  | true ↦ λ b k.
-      let same : x.1 ≡ node = cc in
-      let lies : default_dir x.0 x.1 ≡ Some dir = (λ i. default_dir (sym (is_here path x.0 b) i) (same i)) ∙ e in
-      subst (λ o. IfSome o (IsNoted dirs)) lies h.0
-  | false ↦ λ b k. noted_all dirs xs h.1 path dir node k e
-] refl at
 
 -- ---- entries with distinct paths make a tree, in whatever order they are kept
 
@@ -92,12 +81,12 @@ counted-with t (e ∷ es) d free =
     omega arith
 
 -- entries with distinct paths, whose tree is one, are kept
-pub IsKept-distinct : (es : List (List ℕ × Entry)) (dirs : List (List ℕ)) → AreDistinct (keys_of (nodes_of es)) → IsTree (tree_of es) → AreNoted dirs (nodes_of es) → IsKept es dirs
+pub IsKept-distinct : (es : List (List ℕ × Entry)) (dirs : List (List ℕ)) → AreDistinct (keys_of (nodes_of es)) → IsTree (tree_of es) → NotesDefaults dirs (tree_of es) → IsKept es dirs
 IsKept-distinct es dirs d is noted = record {
   tree = is;
   counted = let all = counted-with [] es d (λ q m. refl) in omega arith;
   found = λ q. found_nodes es q ∙ sym (found-in es q d);
-  noted = λ path dir node at e. noted_all dirs (nodes_of es) noted path dir node (sym (found-in es path d) ∙ at) e;
+  noted = noted;
 }
 
 among-filter : (p : List ℕ × Node → Bool) (t : Tree) (q : List ℕ) → IsAmong (keys_of (filter p t)) q → IsAmong (keys_of t) q
@@ -122,19 +111,22 @@ without-distinct es kept ps is d k whole =
     (λ q. found-in kept q k ∙ ap (λ t. node_at t q) whole ∙ node_at-filter-distinct stays (nodes_of es) q d
     ∙ ap (passing stays q) (sym (found-in es q d)) ∙ sym (node_at-filter stays (tree_of es) q is.sorted))
 
+-- ---- the directories that are noted
+
+noted-among : (dirs : List (List ℕ)) (dir : List ℕ) → list_any (pointwise nat_eq dir) dirs ≡ is_among dirs dir
+noted-among [] dir = refl
+noted-among (d ∷ ds) dir = λ i. nat_list_eq_equiv.symm dir d i || noted-among ds dir i
+
+-- they are the same where files are taken out
+pub noted-without : (old new : List (List ℕ)) (t kept : Tree) (ps : List (List ℕ)) → IsTree t → kept ≡ without t ps → ((d : List ℕ) → is_among new d ≡ is_among old d) → NotesDefaults old t → NotesDefaults new kept
+noted-without old new t kept ps is whole same noted path dir node at e =
+    noted-among new dir ∙ same dir ∙ sym (noted-among old dir)
+    ∙ noted path dir node (stood t ps path node is (ap (λ k. node_at k path) (sym whole) ∙ at)) e
+
 -- ---- one entry more
 
-all_noted : (old new : List (List ℕ)) (t : Tree) → ((d : List ℕ) → IsNoted old d → IsNoted new d) → AreNoted old t → AreNoted new t
-all_noted old new [] more h = tt
-all_noted old new (e ∷ es) more h = (
-  elim (default_dir e.0 e.1) as (λ o. IfSome o (IsNoted old) → IfSome o (IsNoted new)) [ None ↦ λ k. k | Some d ↦ λ k. more d k ] h.0,
-  all_noted old new es more h.1,
-)
-
-pub noted-next : (old new : List (List ℕ)) (es next : List (List ℕ × Entry)) (path : List ℕ) (entry : Entry) → ((d : List ℕ) → IsNoted old d → IsNoted new d) → IfSome (default_dir path (node_of entry)) (IsNoted new) → next ≡ es ++ (path, entry) ∷ [] → AreNoted old (nodes_of es) → AreNoted new (nodes_of next)
-noted-next old new es next path entry more here put h =
-    subst (AreNoted new) (sym (ap nodes_of put ∙ map-append (λ e. (e.0, node_of e.1)) es ((path, entry) ∷ [])))
-    (AllByRecursion-append (λ e. IfSome (default_dir e.0 e.1) (IsNoted new)) (nodes_of es) ((path, node_of entry) ∷ []) (all_noted old new (nodes_of es) more h) (here, tt))
+pub put-nodes : (es next : List (List ℕ × Entry)) (path : List ℕ) (entry : Entry) → next ≡ es ++ (path, entry) ∷ [] → nodes_of next ≡ nodes_of es ++ (path, node_of entry) ∷ []
+put-nodes es next path entry put = ap nodes_of put ∙ map-append (λ e. (e.0, node_of e.1)) es ((path, entry) ∷ [])
 
 mid-there : (a : Tree) (n : List ℕ × Node) (b : Tree) → IsAmong (keys_of (a ++ n ∷ b)) n.0
 mid-there [] n b = inl refl

@@ -8,7 +8,7 @@ ghost use Rattle.redo_digest.specs.Digest.{IsDigest};
 
 use redo_bytes::Bytes;
 use redo_digest::Digest;
-use std::alloc::AllocError;
+use std::alloc::{AllocError, Global};
 use std::marker::Model;
 
 /// The bytes of a file. A clone shares them, but copies up to 22 bytes, and has their digest if it was kept. In a
@@ -37,6 +37,17 @@ impl Content {
         ensures { IfOk result (λ content. content ≡ bytes.items) }
     {
         let bytes = Bytes::from_vec(bytes)?;
+        Ok(Content {
+            bytes,
+            digest: None,
+        })
+    }
+
+    /// A copy of the bytes.
+    pub fn of_slice(alloc: Global, bytes: &[u8]) -> Result<Content, AllocError>
+        ensures { IfOk result (λ content. content ≡ bytes.now) }
+    {
+        let bytes = Bytes::from_slice(alloc, bytes)?;
         Ok(Content {
             bytes,
             digest: None,

@@ -13,7 +13,7 @@ ghost use Rattle.redo_tree.specs.Tree.{is_default as begins_and_ends, Adds, Allo
 ghost use Rattle.redo_tree.specs.Tree.{tree_of, AreAmong, HasEntry, IsKept, without};
 
 use crate::digests::{keep_digests, keep_digests_by};
-use crate::parting::{Kept, kept_of, set_of};
+use crate::parting::{kept_of, set_of};
 use crate::{Content, FileDigests, TreeFault};
 use redo_names::{PathMap, PathSet};
 use redo_path::Path;
@@ -195,9 +195,10 @@ impl Tree {
         ensures { IfOk result (λ tree. tree ≡ without self.now names.now) }
     {
         self.entries.each_once();
-        let kept = kept_of(alloc, &self.entries, names)?;
-        kept.entries.each_once();
-        let Kept { entries, defaults } = kept;
+        let entries = kept_of(alloc, &self.entries, names)?;
+        entries.each_once();
+        // A directory whose file `default*.do` is taken out stays among these, which makes searches there no less right.
+        let defaults = set_of(alloc, self.defaults.as_slice())?;
         Ok(Tree::of_entries(alloc, entries, defaults))
     }
 
@@ -255,7 +256,26 @@ impl Tree {
         ensures { Adds result self.old self.new (added self.old path.now (File bytes.items)) }
     {
         let content = Content::new(bytes)?;
+        self.add_content(path, content)
+    }
+
+    /// Adds a file with this content, whose parent must be a directory. If it fails, the tree is unchanged.
+    pub fn add_content(&mut self, path: &Path, content: Content) -> Result<(), TreeFault>
+        ensures { Adds result self.old self.new (added self.old path.now (File content)) }
+    {
         self.add(path, Entry::File(content))
+    }
+
+    /// What is at the path with this text, which is some entry's parent. The top directory is in each tree, so it isn't
+    /// looked up.
+    fn kind_of_parent(&self, text: &[u8]) -> Kind
+        ensures { result ≡ kind_of (node_at self.now text.now) }
+    {
+        self.is_tree();
+        if text.is_empty() {
+            return Kind::Dir;
+        }
+        self.kind_by_text(text)
     }
 
     /// Whether an entry may be added at a path. The parent is checked first.
@@ -264,7 +284,7 @@ impl Tree {
         ensures place { Allows result (refusal self.now path.now (node_of entry.now)) }
     {
         if let Some(parent) = path.parent_text() {
-            match self.kind_by_text(parent) {
+            match self.kind_of_parent(parent) {
                 Kind::Dir => {}
                 Kind::File => return Err(TreeFault::IsFile),
                 Kind::Nothing => return Err(TreeFault::NoDirectory),
@@ -343,7 +363,7 @@ fn is_among(path: &Path, entry: &Entry, others: &PathMap<Entry>) -> bool
 }
 
 /// Notes the directory of an entry that is a file `default*.do`.
-pub(crate) fn note_default(
+fn note_default(
     alloc: Global,
     dirs: &mut PathSet,
     path: &Path,
@@ -372,7 +392,8 @@ fn default_dir(alloc: Global, path: &Path, entry: &Entry) -> Result<Option<Path>
 fn is_default(name: &[u8]) -> bool
     ensures { result ≡ begins_and_ends name.now }
 {
-    name.starts_with(b"default") && name.ends_with(b".do")
+    // The first byte tells nearly all names apart.
+    name.first() == Some(&b'd') && name.starts_with(b"default") && name.ends_with(b".do")
 }
 
 // Written by hand so that callers drop a tree with one call, without a walk over its fields.

@@ -4,10 +4,9 @@ ghost use Rattle.std.specs.Prelude.{◌≡◌, ◌++◌, ◌∷◌, [], ℕ, Lis
 ghost use Rattle.std.specs.Map.{lookup};
 ghost use Rattle.redo_names.specs.Paths.{is_among};
 ghost use Rattle.redo_tree.specs.Tree.{is_file_among, node_of, without};
-ghost use Rattle.redo_tree.specs.inside.Parting.{AreNoted, nodes_of};
+ghost use Rattle.redo_tree.specs.inside.Parting.{nodes_of};
 
 use crate::Entry;
-use crate::entries::note_default;
 use redo_names::{PathMap, PathSet};
 use redo_path::Path;
 use std::alloc::{AllocError, Global};
@@ -40,59 +39,30 @@ fn share(entry: &Entry) -> Result<Entry, AllocError>
     }
 }
 
-/// The entries that stay when files are taken out of a tree.
-#[derive(Drop)]
-pub(crate) struct Kept {
-    pub entries: PathMap<Entry>,
-    /// The directories of those among them that are files `default*.do`.
-    pub defaults: PathSet,
+/// Keeps an entry whose path is new.
+fn keep(kept: &mut PathMap<Entry>, path: &Path, entry: &Entry) -> Result<(), AllocError>
+    requires { lookup (bytes_eq path.now) kept.old ≡ None }
+    ensures { OnOk result (nodes_of kept.new ≡ nodes_of kept.old ++ (path.now, node_of entry.now) ∷ []) }
+{
+    kept.insert(path.clone()?, share(entry)?)?;
+    Ok(())
 }
 
-impl Kept {
-    /// No entries, with room for `entries` of them.
-    fn with_capacity(alloc: Global, entries: usize) -> Result<Kept, AllocError>
-        ensures entries { IfOk result (λ kept. nodes_of kept.entries ≡ []) }
-        ensures noted { IfOk result (λ kept. AreNoted kept.defaults []) }
-    {
-        Ok(Kept {
-            entries: PathMap::with_capacity(alloc, entries)?,
-            defaults: PathSet::new(alloc),
-        })
-    }
-
-    /// Keeps an entry whose path is new.
-    fn keep(&mut self, alloc: Global, path: &Path, entry: &Entry) -> Result<(), AllocError>
-        requires new { lookup (bytes_eq path.now) self.old.entries ≡ None }
-        requires noted { AreNoted self.old.defaults (nodes_of self.old.entries) }
-        ensures entries { OnOk result (nodes_of self.new.entries ≡
-            nodes_of self.old.entries ++ (path.now, node_of entry.now) ∷ []) }
-        ensures noted { OnOk result (AreNoted self.new.defaults (nodes_of self.new.entries)) }
-    {
-        let entry = share(entry)?;
-        note_default(alloc, &mut self.defaults, path, &entry)?;
-        self.entries.insert(path.clone()?, entry)?;
-        Ok(())
-    }
-
-    /// Keeps the next entry, unless it is a file at one of these paths.
-    pub(crate) fn pass(
-        &mut self,
-        alloc: Global,
-        names: &PathSet,
-        path: &Path,
-        entry: &Entry,
-    ) -> Result<(), AllocError>
-        requires new { is_file_among names.now (path.now, node_of entry.now) ≡ false →
-            lookup (bytes_eq path.now) self.old.entries ≡ None }
-        requires noted { AreNoted self.old.defaults (nodes_of self.old.entries) }
-        ensures entries { OnOk result (nodes_of self.new.entries ≡
-            nodes_of self.old.entries ++ without ((path.now, node_of entry.now) ∷ []) names.now) }
-        ensures noted { OnOk result (AreNoted self.new.defaults (nodes_of self.new.entries)) }
-    {
-        match entry {
-            Entry::File(_) if is_named(names, path) => Ok(()),
-            _ => self.keep(alloc, path, entry),
-        }
+/// Keeps the next entry, unless it is a file at one of these paths.
+fn pass(
+    kept: &mut PathMap<Entry>,
+    names: &PathSet,
+    path: &Path,
+    entry: &Entry,
+) -> Result<(), AllocError>
+    requires { is_file_among names.now (path.now, node_of entry.now) ≡ false →
+        lookup (bytes_eq path.now) kept.old ≡ None }
+    ensures { OnOk result (nodes_of kept.new ≡
+        nodes_of kept.old ++ without ((path.now, node_of entry.now) ∷ []) names.now) }
+{
+    match entry {
+        Entry::File(_) if is_named(names, path) => Ok(()),
+        _ => keep(kept, path, entry),
     }
 }
 
@@ -101,15 +71,14 @@ pub(crate) fn kept_of(
     alloc: Global,
     entries: &PathMap<Entry>,
     names: &PathSet,
-) -> Result<Kept, AllocError>
-    ensures entries { IfOk result (λ kept. nodes_of kept.entries ≡ without (nodes_of entries.now) names.now) }
-    ensures noted { IfOk result (λ kept. AreNoted kept.defaults (nodes_of kept.entries)) }
+) -> Result<PathMap<Entry>, AllocError>
+    ensures { IfOk result (λ kept. nodes_of kept ≡ without (nodes_of entries.now) names.now) }
 {
     entries.each_once();
-    let mut kept = Kept::with_capacity(alloc, entries.len())?;
+    let mut kept = PathMap::with_capacity(alloc, entries.len())?;
     'entries: for number in 0..entries.len() {
         let (path, entry) = entries.at(number);
-        kept.pass(alloc, names, path, entry)?;
+        pass(&mut kept, names, path, entry)?;
     }
     Ok(kept)
 }
