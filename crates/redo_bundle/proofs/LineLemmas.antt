@@ -154,7 +154,7 @@ size_too_large digits i sum l e h =
     let large : 2 ^ 30 < fold f 0 digits = let g = fold_grows (f (fold f 0 (take i digits)) (get_or digits i 0)) (drop (i + 1) digits) in omega arith in
     no_size (bytes_eq (decimal (fold f 0 digits)) digits) (fold f 0 digits) large
 
-Consumes-front : (left : Option (List ℕ)) (held new front : List ℕ) → held ≡ front ++ new → Consumes (prepend_known held left) (prepend_known new left) front
+pub Consumes-front : (left : Option (List ℕ)) (held new front : List ℕ) → held ≡ front ++ new → Consumes (prepend_known held left) (prepend_known new left) front
 Consumes-front None held new front e = tt
 Consumes-front (Some y) held new front e = ap (λ l. l ++ y) e ∙ append_assoc front new y
 

@@ -18,7 +18,7 @@ use crate::buffer::Held;
 use crate::{BundleFault, ByteIn};
 use itoa::Buffer;
 use redo_path::{Path, PathFault, resolve};
-use redo_tree::{Tree, TreeFault};
+use redo_tree::{Content, Tree, TreeFault};
 use std::alloc::Global;
 
 /// The most bytes in a header line, without its newline.
@@ -107,6 +107,29 @@ fn read_bytes<R: ByteIn>(
     Ok(bytes)
 }
 
+/// Reads a file of `size` bytes. Where all of them are in the buffer, they are copied out of it once.
+fn read_content<R: ByteIn>(
+    alloc: Global,
+    held: &mut Held,
+    reader: &mut R,
+    size: usize,
+) -> Result<Content, BundleFault>
+    requires { R.has_failed reader.old ≡ false }
+    ensures size { IfOk result (λ content. length content ≡ size) }
+    ensures bytes { IfOk result (λ content. Consumes (prepend_known held.old (R.left reader.old))
+        (prepend_known held.new (R.left reader.new)) content) }
+    ensures fault { Refuses result (prepend_known held.old (R.left reader.old)) (size_fault size) }
+    ensures failed { R.has_failed reader.new ≡ is_read result }
+{
+    if size <= held.bytes().len() {
+        let content = Content::of_slice(alloc, &held.bytes()[..size])?;
+        held.skip(size);
+        return Ok(content);
+    }
+    let bytes = read_bytes(alloc, held, reader, size)?;
+    Ok(Content::new(bytes)?)
+}
+
 /// Reads the newline after a file's bytes.
 fn read_newline<R: ByteIn>(held: &mut Held, reader: &mut R, number: u64) -> Result<(), BundleFault>
     requires { R.has_failed reader.old ≡ false }
@@ -132,17 +155,17 @@ fn read_body<R: ByteIn>(
     reader: &mut R,
     number: u64,
     size: usize,
-) -> Result<Vec<u8>, BundleFault>
+) -> Result<Content, BundleFault>
     requires { R.has_failed reader.old ≡ false }
-    ensures size { IfOk result (λ bytes. length bytes.items ≡ size) }
-    ensures bytes { IfOk result (λ bytes. Consumes (prepend_known held.old (R.left reader.old))
-        (prepend_known held.new (R.left reader.new)) (bytes.items ++ 10 ∷ [])) }
+    ensures size { IfOk result (λ content. length content ≡ size) }
+    ensures bytes { IfOk result (λ content. Consumes (prepend_known held.old (R.left reader.old))
+        (prepend_known held.new (R.left reader.new)) (content ++ 10 ∷ [])) }
     ensures fault { Refuses result (prepend_known held.old (R.left reader.old)) (file_fault number size) }
     ensures failed { R.has_failed reader.new ≡ is_read result }
 {
-    let bytes = read_bytes(alloc, held, reader, size)?;
+    let content = read_content(alloc, held, reader, size)?;
     read_newline(held, reader, number)?;
-    Ok(bytes)
+    Ok(content)
 }
 
 /// The size, at most 2^30, that these bytes spell in plain decimal; `None` for anything else.
@@ -182,12 +205,14 @@ fn read_words(words: &[u8]) -> Option<(usize, &[u8])>
 fn read_header(line: &[u8]) -> Option<(Option<usize>, &[u8])>
     ensures { option_map (λ h. (h.0, h.1.now)) result ≡ header_of line.now }
 {
-    if let Some(path) = line.strip_prefix(b"dir ") {
-        return Some((None, path));
+    match line {
+        [b'd', b'i', b'r', b' ', path @ ..] => Some((None, path)),
+        [b'f', b'i', b'l', b'e', b' ', words @ ..] => {
+            let (size, path) = read_words(words)?;
+            Some((Some(size), path))
+        }
+        _ => None,
     }
-    let words = line.strip_prefix(b"file ")?;
-    let (size, path) = read_words(words)?;
-    Some((Some(size), path))
 }
 
 /// The path of a header, which must be written as the path's text.
@@ -256,8 +281,8 @@ fn add_file<R: ByteIn>(
         (body_fault number tree.old (Some size) path.now) }
     ensures failed { R.has_failed reader.new ≡ is_read result }
 {
-    let bytes = read_body(alloc, held, reader, number, size)?;
-    let outcome = tree.add_file(path, bytes);
+    let content = read_body(alloc, held, reader, number, size)?;
+    let outcome = tree.add_content(path, content);
     tell(number, outcome)
 }
 
