@@ -1,6 +1,7 @@
 //! Writing a bundle, entry by entry.
 
-ghost use Rattle.std.specs.Prelude.{◌≡◌, ◌↔◌, ◌++◌, ◌∷◌, [], flat_map, is_err, true, false, IfOk, OnOk, IsErrOf};
+ghost use Rattle.std.specs.Prelude.{◌≡◌, ◌↔◌, ◌≤◌, ◌+◌, ◌++◌, ◌∷◌, [], flat_map, is_err, length, take, true, false};
+ghost use Rattle.std.specs.Prelude.{IfOk, IfSome, OnOk, IsErrOf};
 ghost use Rattle.redo_tree.specs.Tree.{node_of};
 ghost use Rattle.redo_bundle.specs.Bundle.{Writes, HasSmallFiles, IsBundle, bundle_of, spelling};
 ghost use Rattle.redo_bundle.specs.inside.Steps.{is_device, header_bytes};
@@ -9,6 +10,9 @@ use crate::{Broken, ByteOut, WriteFault};
 use redo_path::Path;
 use redo_tree::{Entry, Tree};
 use std::alloc::{AllocError, Global};
+
+/// How many bytes the parts of a line may have to be handed over as one.
+const LINE_BYTES: usize = 256;
 
 /// Writes all of the bytes, in as many calls as the writer needs. A writer that takes none of the remaining bytes has
 /// failed. After a failure it has taken a prefix of the bytes.
@@ -28,8 +32,48 @@ pub fn write_all<W: ByteOut>(writer: &mut W, bytes: &[u8]) -> Result<(), Broken>
     Ok(())
 }
 
-/// Writes several pieces of bytes, one after another. After a failure the writer has taken a prefix of them.
+/// Writes several pieces of bytes, one after another. After a failure the writer has taken a prefix of them. Pieces that
+/// are short together, as those of a line, are handed over as one.
 pub fn write_parts<W: ByteOut>(writer: &mut W, parts: &[&[u8]]) -> Result<(), Broken>
+    requires { W.has_failed writer.old ≡ false }
+    ensures writes { Writes (W.held writer.old) (W.held writer.new) result (flat_map (λ part. part.now) parts.now) }
+    ensures failed { W.has_failed writer.new ≡ is_err result }
+{
+    let mut line = [0; LINE_BYTES];
+    match join(parts, &mut line) {
+        Some(size) => write_all(writer, &line[..size]),
+        None => write_each(writer, parts),
+    }
+}
+
+/// Puts the parts together at the front of a line, and returns how many bytes they are; `None` if they don't fit.
+fn join(parts: &[&[u8]], line: &mut [u8]) -> Option<usize>
+    ensures len { length line.new ≡ length line.old }
+    ensures fits { IfSome result (λ size. size ≤ length line.old) }
+    ensures joined { IfSome result (λ size. take size line.new ≡ flat_map (λ part. part.now) parts.now) }
+{
+    let mut size = 0;
+    for part in parts {
+        if part.len() > line.len() - size {
+            return None;
+        }
+        append(line, size, part);
+        size += part.len();
+    }
+    Some(size)
+}
+
+/// Puts bytes into a line, behind its first `size` ones.
+fn append(line: &mut [u8], size: usize, bytes: &[u8])
+    requires { size + length bytes.now ≤ length line.old }
+    ensures len { length line.new ≡ length line.old }
+    ensures appended { take (size + length bytes.now) line.new ≡ take size line.old ++ bytes.now }
+{
+    line[size..size + bytes.len()].copy_from_slice(bytes);
+}
+
+/// Writes the parts one by one.
+fn write_each<W: ByteOut>(writer: &mut W, parts: &[&[u8]]) -> Result<(), Broken>
     requires { W.has_failed writer.old ≡ false }
     ensures writes { Writes (W.held writer.old) (W.held writer.new) result (flat_map (λ part. part.now) parts.now) }
     ensures failed { W.has_failed writer.new ≡ is_err result }

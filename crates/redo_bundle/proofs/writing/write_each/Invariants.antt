@@ -1,7 +1,7 @@
 use Rattle.std.proofs.Common.{◌≡◌, ◌++◌, List, ℕ, drop, false}
 use Rattle.std.specs.Prelude.{flat_map}
 use Rattle.std.specs.Io.KnownBytes.{Appends}
-use Rattle.redo_bundle.proofs.writing.write_parts.Given as goal
+use Rattle.redo_bundle.proofs.writing.write_each.Given as goal
 
 -- the parts so far were written, and those that are left follow them
 abbrev pub invariant-loop-part : goal.invariant-loop-part

@@ -4,7 +4,7 @@ use Rattle.std.proofs.lemmas.Result.{err_from_is_err_and}
 use Rattle.std.specs.Prelude.{Err}
 use Rattle.std.proofs.KnownBytes.{Appends-trans}
 use Rattle.redo_bundle.proofs.PieceLemmas.{Writes-then, Writes-cut, piece-more}
-use Rattle.redo_bundle.proofs.writing.write_parts.Goals as goal
+use Rattle.redo_bundle.proofs.writing.write_each.Goals as goal
 
 pub loop-part-preserved : goal.loop-part-preserved
 loop-part-preserved g c =
