@@ -157,6 +157,19 @@ impl Item<'_> {
         }
     }
 
+    /// Whether the word may be this name, by its length. A word is compared with many names, and most of them have another
+    /// length.
+    #[inline(always)]
+    #[tactic(auto, using(crate::proofs::SpelledLemmas::other_length))]
+    fn may_be(&self, name: &[u8]) -> bool
+        ensures { result ≡ false → spells (item_of self.now).word name.now ≡ false }
+    {
+        match self {
+            Item::Lent(_, bytes) if bytes.len() != name.len() => false,
+            _ => true,
+        }
+    }
+
     /// Whether the word is exactly the bytes of this name, without a parameter.
     #[inline(always)]
     pub fn spells(&self, name: &[u8]) -> bool
@@ -172,7 +185,7 @@ impl Item<'_> {
     pub fn is_named(&self, name: &[u8]) -> bool
         ensures { result ≡ is_named name.now (item_of self.now) }
     {
-        self.is_plain() && self.spells(name)
+        self.is_plain() && self.may_be(name) && self.spells(name)
     }
 
     /// The word, which owns its bytes.
