@@ -426,6 +426,16 @@ impl<'a> Lexer<'a> {
         }
     }
 
+    /// Makes room for the tokens of a short text.
+    pub fn make_room(&mut self) -> Result<(), ScriptFault>
+        ensures same { OnOk result (reader_of self.new ≡ reader_of self.old) }
+        ensures line { self.new.line ≡ self.old.line }
+        ensures memory { IfErr result (λ fault. fault ≡ no_memory) }
+    {
+        self.tokens.reserve(ROOM)?;
+        Ok(())
+    }
+
     /// Whether the tokens should be taken now.
     pub fn has_many(&self) -> bool {
         self.tokens.len() >= MANY

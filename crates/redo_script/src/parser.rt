@@ -459,12 +459,25 @@ impl<'a> Parser<'a> {
         }
     }
 
+    /// Makes room for the first statements, as many as these tokens may end. Most scripts have no others, and then none
+    /// is moved.
+    fn make_room(&mut self, tokens: &[Token]) -> Result<(), ScriptFault>
+        ensures { Leaves parser_of self.new result (Ok (parser_of self.old)) }
+    {
+        if self.so_far.capacity() == 0 {
+            let ends = tokens.iter().filter(|token| token.is_separator()).count();
+            self.so_far.reserve_exact(ends)?;
+        }
+        Ok(())
+    }
+
     /// Reads these tokens, up to the first with a fault.
     fn tokens(&mut self, tokens: Vec<Token<'a>>) -> Result<(), ScriptFault>
         ensures { (ts : List Symbol) (total : Result ScriptTree ScriptFault) →
             parse_on (parser_of self.old) (map token_of tokens.entry.items ++ ts) ≡ total →
             ParsesOn (parser_of self.new) result ts total }
     {
+        self.make_room(&tokens)?;
         for token in tokens {
             self.token(token)?;
         }

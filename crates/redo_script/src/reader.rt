@@ -80,6 +80,7 @@ fn read_statements(alloc: Global, text: &[u8]) -> Result<Script, ScriptFault>
     ensures { Gives (λ t. script_of t.stmts.items) result (script_by_tokens text.now) }
 {
     let mut lexer = Lexer::new(alloc);
+    lexer.make_room()?;
     let mut statements = Statements::new(alloc);
     let mut left = lexer.between_words(text)?;
     while let [byte, rest @ ..] = left {

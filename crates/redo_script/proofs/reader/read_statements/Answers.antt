@@ -11,16 +11,16 @@ use Rattle.redo_script.proofs.reader.read_statements.Goals as goal
 pub loop-left-init : goal.loop-left-init
 unfolding tokens_of
 loop-left-init c = record {
-  reads = rw (c.in_ok-left.ensures.reads, c.new-lexer.ensures.reader) (first c.new-statements.result c.args.text.now c.new-statements.ensures);
-  line = let a = c.new-lexer.ensures.line in let b = c.in_ok-left.ensures.line in let d = c.in_ok-left.ensures.rest in omega (arith, a, b, d);
+  reads = rw (c.in_ok-left.ensures.reads, c.in_ok-make_room.ensures.same, c.new-lexer.ensures.reader) (first c.new-statements.result c.args.text.now c.new-statements.ensures);
+  line = let a = c.new-lexer.ensures.line in let m = c.in_ok-make_room.ensures.line in let b = c.in_ok-left.ensures.line in let d = c.in_ok-left.ensures.rest in omega (arith, a, m, b, d);
 }
 
 pub returns-in_err-left : goal.returns-in_err-left
 unfolding tokens_of
 returns-in_err-left c =
-    let p = err_from_is_err_and c.from_residual.result c.from_residual.ensures.1 in
-    let reads : Follows c.new-statements.result (read_on (reader_of c.new-lexer.result) c.args.text.now) (script_by_tokens c.args.text.now) = rw c.new-lexer.ensures.reader (first c.new-statements.result c.args.text.now c.new-statements.ensures) in
-    rw (p.1, p.2) (step_fails c.new-statements.result (read_on (reader_of c.new-lexer.result) c.args.text.now) _ (script_by_tokens c.args.text.now) c.in_err-left.ensures.reads reads)
+    let p = err_from_is_err_and c.from_residual-in_err-left.result c.from_residual-in_err-left.ensures.1 in
+    let reads : Follows c.new-statements.result (read_on (reader_of c.make_room.new.self) c.args.text.now) (script_by_tokens c.args.text.now) = rw (c.in_ok-make_room.ensures.same, c.new-lexer.ensures.reader) (first c.new-statements.result c.args.text.now c.new-statements.ensures) in
+    rw (p.1, p.2) (step_fails c.new-statements.result (read_on (reader_of c.make_room.new.self) c.args.text.now) _ (script_by_tokens c.args.text.now) c.in_err-left.ensures.reads reads)
 
 pub loop-left-preserved-in_ok-tokens : goal.loop-left-preserved-in_ok-tokens
 loop-left-preserved-in_ok-tokens c =

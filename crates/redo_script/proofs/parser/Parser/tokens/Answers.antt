@@ -15,7 +15,7 @@ loop-token-preserved c = record {
 
 pub returns-in_err-token : goal.returns-in_err-token
 returns-in_err-token c =
-    let p = err_from_is_err_and c.from_residual.result c.from_residual.ensures.1 in
+    let p = err_from_is_err_and c.from_residual-in_err-token.result c.from_residual-in_err-token.ensures.1 in
     λ ts total h. rw (p.1, p.2) (token_fails (parser_of c.loop-token.self) (token_of c.in-Some.token) (map token_of (into_iter_items c.next.new.self) ++ ts) _ total c.in_err-token.ensures (rw c.in-Some.ensures.steps.0 at (c.loop-token.invariant.reads ts total h)))
 
 pub returns : goal.returns
