@@ -452,10 +452,10 @@ impl<'a> Lexer<'a> {
         Ok(mem::replace(&mut self.tokens, none))
     }
 
-    /// Ends the text.
+    /// Ends the text, and takes the tokens read since the last call of `take_tokens`.
     #[tactic(auto, unfolding(crate::specs::Reading::at_end))]
-    pub fn finish(mut self) -> Result<Vec<Token<'a>>, ScriptFault>
-        ensures { Gives (λ v. map token_of v.items) result (at_end (reader_of self.entry)) }
+    pub fn finish(&mut self) -> Result<Vec<Token<'a>>, ScriptFault>
+        ensures { Gives (λ v. map token_of v.items) result (at_end (reader_of self.old)) }
     {
         let line = self.line;
         match self.mode {
@@ -474,7 +474,7 @@ impl<'a> Lexer<'a> {
                 });
             }
         }
-        Ok(self.tokens)
+        Ok(mem::replace(&mut self.tokens, Vec::new(self.alloc)))
     }
 }
 

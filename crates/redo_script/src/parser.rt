@@ -500,15 +500,15 @@ impl<'a> Parser<'a> {
     }
 
     /// The statements, if no `if` or loop is open.
-    fn script(mut self) -> Result<Script, ScriptFault>
+    fn script(&mut self) -> Result<Script, ScriptFault>
         ensures { Gives (λ s. script_of s.stmts.items) result
-            (unless_open (parser_of self.entry).opens (parser_of self.entry).so_far) }
+            (unless_open (parser_of self.old).opens (parser_of self.old).so_far) }
     {
         match self.opens.pop() {
             Some(open) => Err(open.fault_inside()),
             None => {
                 // A script may be kept for long, and many at a time.
-                let mut stmts = self.so_far;
+                let mut stmts = mem::replace(&mut self.so_far, Vec::new(self.alloc));
                 stmts.shrink_to_fit();
                 Ok(Script { stmts })
             }
@@ -516,9 +516,9 @@ impl<'a> Parser<'a> {
     }
 
     /// Ends the script.
-    fn finish(mut self) -> Result<Script, ScriptFault>
+    fn finish(&mut self) -> Result<Script, ScriptFault>
         ensures { Gives (λ s. script_of s.stmts.items) result
-            (end_by_phase (parser_of self.entry).phase (parser_of self.entry)) }
+            (end_by_phase (parser_of self.old).phase (parser_of self.old)) }
     {
         match self.phase {
             Phase::AtCommand | Phase::BehindFi(_) | Phase::BehindDone(_) => self.script(),
@@ -582,9 +582,9 @@ impl<'a> Statements<'a> {
     }
 
     /// Ends the script.
-    pub fn finish(self) -> Result<Script, ScriptFault>
+    pub fn finish(&mut self) -> Result<Script, ScriptFault>
         ensures { (total : Result ScriptTree ScriptFault) →
-            IsOn self.entry [] total → Gives (λ s. script_of s.stmts.items) result total }
+            IsOn self.old [] total → Gives (λ s. script_of s.stmts.items) result total }
     {
         match self.fault {
             None => self.parser.finish(),

@@ -83,7 +83,7 @@ fn end_at(why: Reason, quote: usize, len: usize) -> usize
 
 /// Ends a text of this length.
 
-fn ended(lexer: Lexer, quote: usize, len: usize) -> Result<Option<Stop>, AllocError>
+fn ended(mut lexer: Lexer, quote: usize, len: usize) -> Result<Option<Stop>, AllocError>
     ensures fault { IfOk result (λ found. Ends (at_end (reader_of lexer.entry)) found) }
     ensures place { IfOk result (λ found. IsAtEnd quote len found) }
 {
