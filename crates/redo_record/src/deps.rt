@@ -57,15 +57,16 @@ impl Model for Many {
 }
 
 impl Many {
-    fn new(alloc: Global) -> Many
-        ensures { result ≡ [] }
+    /// No entries, with room for `capacity` of them. Where they are many, nearly all are of changes.
+    fn with_capacity(alloc: Global, capacity: usize) -> Result<Many, AllocError>
+        ensures { IfOk result (λ many. many ≡ []) }
     {
-        Many {
-            entries: Vec::new(alloc),
-            changed: PathSet::new(alloc),
+        Ok(Many {
+            entries: Vec::with_capacity(alloc, capacity)?,
+            changed: PathSet::with_capacity(alloc, capacity)?,
             created: PathSet::new(alloc),
             always: PathSet::new(alloc),
-        }
+        })
     }
 
     /// The paths of the entries of a kind.
@@ -139,13 +140,17 @@ impl Deps {
         }
     }
 
-    /// Reserves exact room for `additional` more entries, but for at most 16 in all.
+    /// Reserves exact room for `additional` more entries, unless there are more than 16 already.
     pub fn reserve(&mut self, additional: usize) -> Result<(), AllocError>
         ensures { self.new ≡ self.old }
     {
         if let Store::Few(entries) = &mut self.store {
-            let room = FEW.saturating_sub(entries.len());
-            entries.reserve_exact(additional.min(room))?;
+            if additional <= FEW.saturating_sub(entries.len()) {
+                return entries.reserve_exact(additional);
+            }
+            let alloc = *entries.allocator();
+            let many = copied(alloc, entries, entries.len().saturating_add(additional))?;
+            self.store = Store::Many(Box::new(alloc, many)?);
         }
         Ok(())
     }
@@ -249,17 +254,17 @@ fn copied_with(entries: &Vec<Dep>, dep: Dep) -> Result<Many, AllocError>
     requires { AreOnce entries.now.items }
     ensures { IfOk result (λ many. many ≡ with_entry entries.now.items dep.kind dep.path) }
 {
-    let mut many = copied(*entries.allocator(), entries)?;
+    let mut many = copied(*entries.allocator(), entries, 2 * FEW)?;
     many.put(dep)?;
     Ok(many)
 }
 
-/// Copies of the entries.
-fn copied(alloc: Global, entries: &[Dep]) -> Result<Many, AllocError>
+/// Copies of the entries, with room for `capacity` entries.
+fn copied(alloc: Global, entries: &[Dep], capacity: usize) -> Result<Many, AllocError>
     requires { AreOnce entries.now }
     ensures { IfOk result (λ many. many ≡ entries.now) }
 {
-    let mut many = Many::new(alloc);
+    let mut many = Many::with_capacity(alloc, capacity)?;
     for entry in entries {
         many.put(entry.clone()?)?;
     }
