@@ -3,6 +3,7 @@ use Rattle.std.proofs.Common.{◌≡◌, ◌≢◌, ℕ, zero, suc, ◌/◌, ◌
 use Rattle.std.proofs.Common.{List, [], ◌∷◌, ◌++◌, length, take, drop, refl, sym, ap, subst, ◌∙◌, arith, Option, Some, None}
 use Rattle.std.proofs.Common.{take-append-drop, nat_eq}
 use Rattle.std.proofs.lemmas.Grind.{common_steps}
+use Rattle.std.proofs.lemmas.List.{take_all}
 use Rattle.std.proofs.lemmas.List.Folds.{list_any-append}
 use Rattle.std.proofs.lemmas.Slice.Eq.{bytes_eq-Decides}
 use Rattle.std.proofs.Math.Seq.{drop-append_seam, take-append_seam}
@@ -33,6 +34,28 @@ bytes_same xs = (bytes_eq-Decides xs xs).1 refl
 
 pub same_bytes : (xs ys : List ℕ) → bytes_eq xs ys ≡ true → xs ≡ ys
 same_bytes xs ys h = (bytes_eq-Decides xs ys).0 h
+
+pub bytes_differ : (xs ys : List ℕ) → (xs ≡ ys → ⊥) → bytes_eq xs ys ≡ false
+bytes_differ xs ys h =
+    elim (bytes_eq xs ys) as (λ b. bytes_eq xs ys ≡ b → b ≡ false) [
+      | true ↦ λ e. absurd (h (same_bytes xs ys e))
+      | false ↦ λ e. refl
+    ] refl
+
+-- texts that differ at a place
+pub bytes_differ_at : (xs ys : List ℕ) (at : ℕ) → slice_index xs at ≢ slice_index ys at → bytes_eq xs ys ≡ false
+bytes_differ_at xs ys at h = bytes_differ xs ys (λ e. absurd (h (ap (λ l. slice_index l at) e)))
+
+-- texts of one length that are the same up to their end
+pub same_taken : (xs ys : List ℕ) (n : ℕ) → length xs ≤ n → length ys ≤ n → take n xs ≡ take n ys → bytes_eq xs ys ≡ true
+same_taken xs ys n l k h = (bytes_eq-Decides xs ys).1 (sym (take_all n xs l) ∙ h ∙ take_all n ys k)
+
+-- no text starts with a longer one
+pub short_text : (text word : List ℕ) → length text < length word → bytes_eq (take (length word) text) word ≡ false
+short_text text word short =
+    bytes_differ (take (length word) text) word (λ e.
+    let l : length text ≡ length word = ap length (sym (take_all (length word) text (omega arith)) ∙ e) in
+    absurd (omega arith))
 
 -- what followed from a value
 pub then_some : {A B : Type 0} (f : A → Option B) (o : Option A) (y : B) → option_and_then f o ≡ Some y → (x : A) × (o ≡ Some x) × (f x ≡ Some y)
