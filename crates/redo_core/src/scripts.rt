@@ -62,26 +62,21 @@ fn parsed(alloc: Global, text: &[u8]) -> Result<Arc<Parsed>, AllocError>
     Ok(Arc::new(alloc, Parsed::of(alloc, text)?)?)
 }
 
-/// Reads a script. If its name begins with `default` it may make several targets, so what it came to is kept, and the
-/// same text isn't read again.
-pub(crate) fn script(
-    alloc: Global,
-    given: &Given,
-    do_file: &Path,
-    text: &[u8],
-) -> Result<Arc<Parsed>, AllocError>
+/// Reads a script. If the search didn't find it as its first candidate, which has the target's own name, its name begins
+/// with `default` and it may make several targets. So what it came to is kept, and the same text isn't read again.
+fn script(alloc: Global, given: &Given, rule: &Rule, text: &[u8]) -> Result<Arc<Parsed>, AllocError>
     ensures { IfOk result (λ parsed. parsed_of (arc_value parsed) ≡ script_in text.now) }
 {
-    if !do_file.name().starts_with(b"default") {
+    if rule.missing.len() == 0 {
         return parsed(alloc, text);
     }
-    match given.reading(do_file)? {
+    match given.reading(&rule.do_file)? {
         Some(known) if known.read().text.as_slice() == text => known.read().parsed(),
         Some(_) => parsed(alloc, text),
         None => {
             let reading = Reading::of(alloc, text)?;
             let parsed = reading.parsed()?;
-            given.keep(do_file, reading)?;
+            given.keep(&rule.do_file, reading)?;
             Ok(parsed)
         }
     }
@@ -100,6 +95,6 @@ pub(crate) fn begun(
 {
     let tree = Arc::try_clone(given.sources())?;
     let text = tree.file(&rule.do_file).unwrap_or(b"");
-    let parsed = script(alloc, given, &rule.do_file, text)?;
+    let parsed = script(alloc, given, &rule, text)?;
     Job::begin(alloc, tree, target, rule, parsed, given.limits())
 }
