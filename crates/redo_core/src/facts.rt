@@ -64,13 +64,19 @@ impl Facts {
         false
     }
 
-    /// Makes room for `additional` more facts, as far as they are among the first few.
+    /// Makes room for `additional` more facts.
     pub(crate) fn reserve(&mut self, additional: usize) -> Result<(), AllocError>
         ensures known { known_in self.new ≡ known_in self.old }
         ensures asked { self.new.asked ≡ self.old.asked }
     {
         let room = FEW.saturating_sub(self.few.len());
-        self.few.reserve(additional.min(room))
+        self.few.reserve(additional.min(room))?;
+        if additional > room && self.more.is_none() {
+            let alloc = self.allocator();
+            let more = PathMap::with_capacity(alloc, additional - room)?;
+            self.more = Some(Box::new(alloc, more)?);
+        }
+        Ok(())
     }
 
     /// Adds a fact.
