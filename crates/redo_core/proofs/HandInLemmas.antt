@@ -1,6 +1,8 @@
 -- A piece that is handed in leaves the board in the state that the schedule says.
 use Rattle.std.proofs.Common.{slice_get, ◌≡◌, ℕ, ◌<◌, ◌≤◌, List, [], length, Option, Some, None, refl, sym, ap, subst}
 use Rattle.std.proofs.Common.{◌∙◌, arith}
+use Rattle.std.specs.declared.vec.Vec.{Vec}
+use Rattle.std.specs.declared.alloc.Global.{Global}
 use Rattle.redo_build.specs.Outcomes.{outcome_at, IsTooMany}
 use Rattle.redo_build.specs.Schedule.{Entry, Event, State, entry_of, happens, IsOutAt}
 use Rattle.redo_build.specs.Schedule.Event.{Hand_in}
@@ -27,6 +29,10 @@ use Rattle.redo_core.proofs.LookLemmas.{none_due}
 use Rattle.redo_core.proofs.SlotLemmas.{entry_of-slots, paths_of-slots, slice_get-below_some, slice_get-from}
 use Rattle.redo_core.proofs.MakeReadySteps.{slot-of-path}
 use Rattle.redo_core.proofs.TakeLemmas.{distinct-inside, reached-more}
+
+-- what a board keeps doesn't depend on its room for numbers
+pub kept-beside : (b : Inside) (numbers : Vec ℕ Global) → IsKept b → IsKept (record b { newly_ready = numbers })
+kept-beside b numbers k = record { reached = k.reached; table = k.table; watched = k.watched; none_due = k.none_due }
 
 -- what was out is taken in: the table is at rest, or the build needs too many
 module _ (given : GivenView) (t : Table) (at : ℕ) (end : End) (may : MayTakeIn given t at end) where

@@ -31,9 +31,13 @@ impl Table {
     {
         let most = build.given().limits().targets();
         prove!(most <= 65_536);
+        // Most targets have a script of their own, so there are seldom more of them than sources.
+        let likely = build.given().sources().len().min(most as usize);
+        let targets = PathSet::with_capacity(alloc, likely)?;
+        let slots = Vec::with_capacity(alloc, likely)?;
         let mut table = Table {
-            targets: PathSet::new(alloc),
-            slots: Vec::new(alloc),
+            targets,
+            slots,
             ready: VecDeque::new(alloc),
             due: BTreeSet::new(alloc),
             out: 0,
@@ -41,7 +45,7 @@ impl Table {
         let mut newly_ready = Vec::new(alloc);
         let request = build.given().request();
         table.enter_requested(request, build, &mut newly_ready)?;
-        table.enqueue(newly_ready)?;
+        table.enqueue(&mut newly_ready)?;
         Ok(table)
     }
 
@@ -87,12 +91,12 @@ impl Table {
     }
 
     /// Puts the newly ready numbers into the queue, in order of first sight.
-    fn enqueue(&mut self, mut newly_ready: Vec<u32>) -> Result<(), AllocError>
-        ensures { OnOk result (AreEnqueued self.old self.new newly_ready.items) }
+    fn enqueue(&mut self, newly_ready: &mut Vec<u32>) -> Result<(), AllocError>
+        ensures { OnOk result (AreEnqueued self.old self.new newly_ready.old.items) }
     {
         newly_ready.sort_unstable();
         let ready = &mut self.ready;
-        for at in &newly_ready {
+        for at in &*newly_ready {
             ready.push_back(*at)?;
         }
         Ok(())
@@ -137,23 +141,24 @@ impl Table {
         Ok(())
     }
 
-    /// Takes in what a job that was out came to.
-    fn take_in(&mut self, at: usize, end: End, build: &Build) -> Result<(), Stop>
+    /// Takes in what a job that was out came to. The numbers that become ready go through `newly_ready`, whatever that
+    /// holds.
+    fn take_in(
+        &mut self,
+        at: usize,
+        end: End,
+        build: &Build,
+        newly_ready: &mut Vec<u32>,
+    ) -> Result<(), Stop>
         requires { MayTakeIn build.now self.old at end }
         ensures ok { OnOk result (IsTakenIn build.now (state_after build.now Script self.old at) self.new) }
         ensures too_many { result ≡ Err Stop.TooMany →
             build.now.limits.targets < length (state_after build.now Script self.old at).entries }
     {
-        let mut newly_ready = Vec::new(self.allocator());
+        newly_ready.clear();
         match end {
-            End::Ended(fact, _asked) => self.conclude(at, fact, build, &mut newly_ready)?,
-            End::Stopped { begun, paths } => self.suspend(
-                at,
-                begun,
-                paths,
-                build,
-                &mut newly_ready,
-            )?,
+            End::Ended(fact, _asked) => self.conclude(at, fact, build, newly_ready)?,
+            End::Stopped { begun, paths } => self.suspend(at, begun, paths, build, newly_ready)?,
         }
         self.enqueue(newly_ready)?;
         Ok(())
@@ -237,27 +242,31 @@ impl Table {
 
     /// Looks at the check of a target, which is the first by first sight that can go on: the target is kept, or its
     /// check asks for the next path.
-    fn look(&mut self, at: usize, build: &Build) -> Result<(), Stop>
+    fn look(&mut self, at: usize, build: &Build, newly_ready: &mut Vec<u32>) -> Result<(), Stop>
         requires { IsDrawn build.now self.old at }
         ensures ok { OnOk result (IsLookedOnce build.now self.old self.new) }
         ensures too_many { result ≡ Err Stop.TooMany → IsTooMany (rules_for build.now) build.now.request
             build.now.limits.targets }
     {
-        let mut newly_ready = Vec::new(self.allocator());
+        newly_ready.clear();
         let held = self.take_out(at);
         match held.check.next(build.given()) {
             Some(path) => {
                 let path = path.clone()?;
-                self.ask(at, held, path, build, &mut newly_ready)?;
+                self.ask(at, held, path, build, newly_ready)?;
             }
-            None => self.keep(at, held, build, &mut newly_ready)?,
+            None => self.keep(at, held, build, newly_ready)?,
         }
         self.enqueue(newly_ready)?;
         Ok(())
     }
 
     /// Looks at checks until none can go on.
-    pub(crate) fn look_ahead(&mut self, build: &Build) -> Result<(), Stop>
+    pub(crate) fn look_ahead(
+        &mut self,
+        build: &Build,
+        newly_ready: &mut Vec<u32>,
+    ) -> Result<(), Stop>
         requires { IsAtRest build.now self.old }
         ensures ok { OnOk result (IsLookedOn build.now self.old self.new) }
         ensures none_due { OnOk result (self.new.due.keys ≡ []) }
@@ -265,19 +274,25 @@ impl Table {
             build.now.limits.targets }
     {
         while let Some(at) = self.due.pop_first() {
-            self.look(at as usize, build)?;
+            self.look(at as usize, build, newly_ready)?;
         }
         Ok(())
     }
 
     /// Takes in what a job that was out came to, and looks at checks until none can go on.
-    pub(crate) fn move_on(&mut self, at: usize, end: End, build: &Build) -> Result<(), Stop>
+    pub(crate) fn move_on(
+        &mut self,
+        at: usize,
+        end: End,
+        build: &Build,
+        newly_ready: &mut Vec<u32>,
+    ) -> Result<(), Stop>
         requires { MayTakeIn build.now self.old at end }
         ensures ok { OnOk result (IsMovedOn build.now (state_after build.now Script self.old at) self.new) }
         ensures too_many { result ≡ Err Stop.TooMany → IsTooMany (rules_for build.now) build.now.request
             build.now.limits.targets }
     {
-        self.take_in(at, end, build)?;
-        self.look_ahead(build)
+        self.take_in(at, end, build, newly_ready)?;
+        self.look_ahead(build, newly_ready)
     }
 }

@@ -8,13 +8,13 @@ use Rattle.redo_core.proofs.table.Table.open.Goals as goal
 
 pub returns-in_err-enter_requested-clause-too_many : goal.returns-in_err-enter_requested-clause-too_many
 returns-in_err-enter_requested-clause-too_many c = λ is.
-    let made = rw is at c.from_residual.ensures in
+    let made = rw is at c.from_residual-in_err-enter_requested.ensures in
     let given : GivenView = c.args.build.now in
     let r = rules_for given in
     let request = c.request-request.result.now in
-    let of_build : request ≡ given.request = c.request-request.ensures ∙ ap (λ (g : GivenView). g.request) c.given-2.ensures in
+    let of_build : request ≡ given.request = c.request-request.ensures ∙ ap (λ (g : GivenView). g.request) c.given-3.ensures in
     let err = c.in_err-enter_requested.was ∙ ap Err (sym made.1) in
-    let none : slot_entries r (outcome_at r given.limits.targets) c.new.result c.new-2.result.items ≡ [] = rw c.new.ensures refl in
+    let none : slot_entries r (outcome_at r given.limits.targets) c.in_ok-targets.targets c.in_ok-slots.slots.items ≡ [] = rw c.in_ok-targets.ensures refl in
     let N : List Entry → Type 0 = λ xs. given.limits.targets < length (entered r xs (targets_in r request)) in
     let many : N [] = subst N none (c.enter_requested.ensures.too_many err) in
     let S : List Entry → Type 0 = λ xs. given.limits.targets < length xs in
@@ -24,10 +24,10 @@ returns-in_err-enter_requested-clause-too_many c = λ is.
 pub returns-clause-ok : goal.returns-clause-ok
 returns-clause-ok c =
     let given : GivenView = c.args.build.now in
-    let of_build : c.request-request.result.now ≡ given.request = c.request-request.ensures ∙ ap (λ (g : GivenView). g.request) c.given-2.ensures in
+    let of_build : c.request-request.result.now ≡ given.request = c.request-request.ensures ∙ ap (λ (g : GivenView). g.request) c.given-3.ensures in
     let E : List (List ℕ) → Type 0 = λ ps.
-    AreEnteredInto given (record { targets = c.new.result; slots = c.new-2.result; ready = c.new-3.result; due = c.new-4.result; out = 0 })
+    AreEnteredInto given (record { targets = c.in_ok-targets.targets; slots = c.in_ok-slots.slots; ready = c.new.result; due = c.new-2.result; out = 0 })
     c.enter_requested.new.self c.enter_requested.new.newly_ready.items (targets_in (rules_for given) ps) in
-    first-is given (record { targets = c.new.result; slots = c.new-2.result; ready = c.new-3.result; due = c.new-4.result; out = 0 })
-    c.enter_requested.new.self c.enqueue.new.self c.enter_requested.new.newly_ready.items c.new.ensures c.new-2.ensures.items c.new-3.ensures.items
+    first-is given (record { targets = c.in_ok-targets.targets; slots = c.in_ok-slots.slots; ready = c.new.result; due = c.new-2.result; out = 0 })
+    c.enter_requested.new.self c.enqueue.new.self c.enter_requested.new.newly_ready.items c.in_ok-targets.ensures c.in_ok-slots.ensures.items c.new.ensures.items
     (subst E of_build c.in_ok-enter_requested.ensures.ok) c.in_ok-enqueue.ensures
