@@ -11,9 +11,9 @@ use Rattle.redo_tree.specs.Tree.{Node, grown, top}
 use Rattle.redo_dir.specs.declared.faults.LoadFault.{LoadFault}
 use Rattle.redo_dir.specs.declared.faults.LoadFault.TheVariants.{Device, Memory}
 use Rattle.redo_dir.specs.declared.looking.Name.{Name}
-use Rattle.redo_dir.specs.Loaded.{ComesTo, IsUnloaded, entries_of, load_fault, names_of, node_seen}
-use Rattle.redo_dir.specs.inside.Levels.{IsAnswered, IsBetween, IsLooked, IsMark, IsStopped, KeepsPaths, ListsLevel}
-use Rattle.redo_dir.specs.inside.Levels.{Progress, ReceivesName, Refuses, StopsAt, paths_of, with_none_noted, with_none_waiting}
+use Rattle.redo_dir.specs.Loaded.{ComesTo, IsUnloaded, entries_of, load_fault, names_of}
+use Rattle.redo_dir.specs.inside.Levels.{Breaks, IsAnswered, IsBetween, IsLooked, IsMark, IsStopped, KeepsPaths, ListsLevel}
+use Rattle.redo_dir.specs.inside.Levels.{Progress, ReceivesName, Refuses, StopsAt, node_found, paths_of, with_none_noted, with_none_waiting}
 use Rattle.redo_dir.proofs.LevelLemmas.{listed, received, seen_leads}
 use Rattle.redo_dir.proofs.ListingLemmas.{AllZip-append, entries-append, grown-none, grown-on, names-append}
 
@@ -21,6 +21,16 @@ use Rattle.redo_dir.proofs.ListingLemmas.{AllZip-append, entries-append, grown-n
 pub refused_call : (lists : List ℕ → List (Option (List ℕ)) → Type 0) (leads : List ℕ → Option Node → Type 0) (refuses : List ℕ → ErrorKind → Type 0) (path : List ℕ) (kind : ErrorKind) → refuses path kind → IsUnloaded lists leads refuses (load_fault path kind)
 refused_call lists leads refuses path OutOfMemory h = tt
 refused_call lists leads refuses path kind h = inl h
+
+-- a call was refused where its fault is no lack of memory
+refused_at : (leads : List ℕ → Option Node → Type 0) (refuses : List ℕ → ErrorKind → Type 0) (path place : List ℕ) (kind : ErrorKind) → load_fault path kind ≡ Device place kind → IsAnswered leads refuses path (Err kind) → refuses place kind
+refused_at leads refuses path place OutOfMemory e h = apart cc
+refused_at leads refuses path place kind e h = let at : path ≡ place = cc in subst (λ p. refuses p kind) at h
+
+-- a name that the system refused isn't received
+pub breaks_call : (p : Progress) (name : Name) (kind : ErrorKind) (fault : LoadFault) → name.found ≡ Err kind → fault ≡ load_fault name.path kind → Breaks p name fault
+breaks_call p name OutOfMemory fault e is = subst (Breaks p name) (sym is) tt
+breaks_call p name kind fault e is = subst (Breaks p name) (sym is) (inl (e, refl))
 
 -- the name behind some that were noted
 record Split (ns : List (List ℕ × Option (List ℕ))) (front : List Name) (path : List ℕ) : Type 0 where
@@ -98,6 +108,6 @@ stopped lists leads refuses p q Memory h l s = tt
 stopped lists leads refuses p q (Device place kind) h l (names, looks, (front, rest, name, mid, are, f, breaks)) =
     let looked = looked_front leads refuses front rest name (subst (AllByRecursion (IsLooked leads refuses)) are looks.looked) in
     elim breaks [
-      | inl b ↦ inl (subst (λ at. refuses at kind) (sym b.0) (subst (IsAnswered leads refuses name.path) b.1 looked.1))
-      | inr b ↦ clashes lists leads refuses p q mid (node_seen b.0) front rest name place kind h l (sym (ap paths_of are) ∙ looks.paths) looked.0 f (seen_leads leads refuses name b.0 b.1 looked.1) b.2
+      | inl b ↦ inl (refused_at leads refuses name.path place kind b.1 (subst (IsAnswered leads refuses name.path) b.0 looked.1))
+      | inr b ↦ clashes lists leads refuses p q mid (node_found b.0) front rest name place kind h l (sym (ap paths_of are) ∙ looks.paths) looked.0 f (seen_leads leads refuses name b.0 b.1 looked.1) b.2
     ]

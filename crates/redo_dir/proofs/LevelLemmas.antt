@@ -3,17 +3,19 @@ use Rattle.std.proofs.Common.{◌≡◌, ◌^◌, ◌-◌, ◌+◌, ℕ, List, [
 use Rattle.std.proofs.Common.{Option, Some, None, append_assoc, append-nil}
 use Rattle.std.proofs.lemmas.List.{length-map, map-append}
 use Rattle.std.specs.List.{AllByRecursion, AllZip, FoldsTo}
-use Rattle.std.specs.Prelude.{IsUtf8, Ok, count_by, is_none, min}
+use Rattle.std.specs.Prelude.{IfErr, IfOk, IsUtf8, Result, Ok, Err, count_by, is_none, min}
 use Rattle.std.specs.declared.io.ErrorKind.{ErrorKind}
+use Rattle.std.specs.declared.io.ErrorKind.TheVariants.{OutOfMemory}
 use Rattle.redo_path.specs.Names.{child_of}
 use Rattle.redo_path.proofs.ApartLemmas.{apart}
 use Rattle.redo_path.proofs.PartLemmas.{AllByRecursion-append}
+use Rattle.redo_tree.specs.declared.entries.Entry.{Entry}
 use Rattle.redo_tree.specs.Tree.{Node, Directory, File, grown, top}
 use Rattle.redo_dir.specs.declared.looking.Name.{Name}
-use Rattle.redo_dir.specs.Loaded.{ComesTo, IsLoaded, Listing, MayStand, asked, directories, entries_of, names_of, node_seen}
+use Rattle.redo_dir.specs.Loaded.{ComesTo, IsLoaded, Listing, MayStand, asked, directories, entries_of, names_of}
 use Rattle.redo_dir.specs.inside.Levels.{EntersNoted, IsAnswered, IsBetween, IsLooked, IsMark, KeepsPaths, ListsDir}
 use Rattle.redo_dir.specs.inside.Levels.{ListsLevel, Notes, Progress, Receives, ReceivesName, paths_of, with_none_noted, with_none_waiting}
-use Rattle.redo_dir.specs.inside.Levels.{with_noted, with_passed, with_waiting}
+use Rattle.redo_dir.specs.inside.Levels.{node_found, with_noted, with_passed, with_waiting}
 use Rattle.redo_dir.proofs.ListingLemmas.{AllZip-append, directories-append, entries-append, grown-on, grown-one, names-append}
 use Rattle.redo_dir.proofs.ListingLemmas.{nones-append}
 use Rattle.redo_dir.proofs.TextLemmas.{texts_entered, texts_marked}
@@ -177,9 +179,18 @@ received-seen leads p q dir name path (Some node) mark l r = record {
   counts = λ x e. r.counts ∙ e;
 }
 
+-- what was found at a path, or a lack of memory, was answered
+pub answered_found : (leads : List ℕ → Option Node → Type 0) (refuses : List ℕ → ErrorKind → Type 0) (path : List ℕ) (node : Option Node) (found : Result (Option Entry) ErrorKind) → IfOk found (λ e. node_found e ≡ node) → IfErr found (λ kind. kind ≡ OutOfMemory) → leads path node → IsAnswered leads refuses path found
+answered_found leads refuses path node (Ok e) h m l = subst (leads path) (sym h) l
+answered_found leads refuses path node (Err kind) h m l = subst (λ k. IsAnswered leads refuses path (Err k)) (sym m) tt
+
+pub answered_refused : (leads : List ℕ → Option Node → Type 0) (refuses : List ℕ → ErrorKind → Type 0) (path : List ℕ) (kind : ErrorKind) → refuses path kind → IsAnswered leads refuses path (Err kind)
+answered_refused leads refuses path OutOfMemory h = tt
+answered_refused leads refuses path kind h = h
+
 -- the answer of a name that was seen
-pub seen_leads : (leads : List ℕ → Option Node → Type 0) (refuses : List ℕ → ErrorKind → Type 0) (name : Name) (seen : _) → name.seen ≡ Ok seen → IsLooked leads refuses name → leads name.path (node_seen seen)
-seen_leads leads refuses name seen e h = subst (IsAnswered leads refuses name.path) e h
+pub seen_leads : (leads : List ℕ → Option Node → Type 0) (refuses : List ℕ → ErrorKind → Type 0) (name : Name) (found : _) → name.found ≡ Ok found → IsLooked leads refuses name → leads name.path (node_found found)
+seen_leads leads refuses name found e h = subst (IsAnswered leads refuses name.path) e h
 
 pub received : (leads : List ℕ → Option Node → Type 0) (refuses : List ℕ → ErrorKind → Type 0) (ns : List (List ℕ × Option (List ℕ))) (marks : List (Option (List ℕ))) (names : List Name) (p q : Progress) → AllZip IsMark ns marks → paths_of names ≡ entries_of marks → AllByRecursion (IsLooked leads refuses) names → FoldsTo ReceivesName p names q → Received leads marks p q ns
 received leads refuses [] [] [] p q z e l f = received-nothing leads p q f
@@ -193,11 +204,11 @@ received leads refuses ((dir, Some name) ∷ ns) (Some path ∷ marks) [] p q z 
 received leads refuses ((dir, Some text) ∷ ns) (Some path ∷ marks) (name ∷ names) p q z e l f =
     let at : name.path ≡ path = cc in
     let rest : paths_of names ≡ entries_of marks = cc in
-    let seen = f.1.0 in
-    let led = subst (λ x. leads x (node_seen seen)) at (seen_leads leads refuses name seen f.1.1 l.0) in
-    let one = subst (λ x. Receives p f.0 x (node_seen seen)) at f.1.2 in
+    let found = f.1.0 in
+    let led = subst (λ x. leads x (node_found found)) at (seen_leads leads refuses name found f.1.1 l.0) in
+    let one = subst (λ x. Receives p f.0 x (node_found found)) at f.1.2 in
     received-append leads (Some path ∷ []) marks p f.0 q ((dir, Some text) ∷ []) ns
-    (received-seen leads p f.0 dir text path (node_seen seen) z.0 led one)
+    (received-seen leads p f.0 dir text path (node_found found) z.0 led one)
     (received leads refuses ns marks names f.0 q z.1 rest l.1 f.2)
 
 -- before the first level

@@ -17,10 +17,10 @@ use Rattle.redo_path.proofs.PartLemmas.{AllByRecursion-append}
 use Rattle.redo_tree.specs.declared.faults.TreeFault.{TreeFault}
 use Rattle.redo_tree.specs.Tree.{Node, Directory, File, Tree, added, refusal, with_node}
 use Rattle.redo_dir.specs.declared.looking.Name.{Name as Looked}
-use Rattle.redo_dir.specs.Loaded.{HasTextPaths, Listing, asked, entries_of, names_of, node_seen}
+use Rattle.redo_dir.specs.Loaded.{HasTextPaths, Listing, asked, entries_of, names_of}
 use Rattle.redo_dir.specs.Stored.{HasTexts}
 use Rattle.redo_dir.specs.inside.Batches.{MeansText, fault_at}
-use Rattle.redo_dir.specs.inside.Levels.{IsMark, Progress, Receives, ReceivesName, paths_of, with_waiting}
+use Rattle.redo_dir.specs.inside.Levels.{IsMark, Progress, Receives, ReceivesName, node_found, paths_of, with_waiting}
 
 refused_so : (paths : List (List ℕ)) (k : ℕ) (path : List ℕ) (fault : Unwritten) → slice_get paths k ≡ Some path → MeansText {A = Unit {0}} (Err fault) path → AllByRecursion IsUtf8 (take k paths) → HasTexts {A = Unit {0}} (Err (fault_at fault k)) paths
 refused_so paths k path (Device kind) e w h = (path, e, w, h)
@@ -85,5 +85,5 @@ text_received p q path (Some node) t w u r =
 pub texts_entered : (names : List Looked) (p q : Progress) → HasTextPaths p.tree → AllByRecursion IsUtf8 p.waiting → AllByRecursion IsUtf8 (paths_of names) → FoldsTo ReceivesName p names q → HasTextPaths q.tree × AllByRecursion IsUtf8 q.waiting
 texts_entered [] p q t w u f = (subst (λ s. HasTextPaths s.tree) f t, subst (λ s. AllByRecursion IsUtf8 s.waiting) f w)
 texts_entered (name ∷ names) p q t w u f =
-    let one = text_received p f.0 name.path (node_seen f.1.0) t w u.0 f.1.2 in
+    let one = text_received p f.0 name.path (node_found f.1.0) t w u.0 f.1.2 in
     texts_entered names f.0 q one.0 one.1 u.1 f.2

@@ -5,16 +5,16 @@
 ghost use Rattle.std.specs.Prelude.{◌≡◌, [], ◌∷◌, IfErr, IfOk, OnOk, Some, option_map, string_bytes};
 ghost use Rattle.std.specs.List.{FoldsTo};
 ghost use Rattle.redo_tree.specs.Tree.{Directory, File, top};
-ghost use Rattle.redo_dir.specs.Loaded.{HasTextPaths, IsLoaded, IsUnloaded, load_fault, names_in, node_seen};
+ghost use Rattle.redo_dir.specs.Loaded.{HasTextPaths, IsLoaded, IsUnloaded, load_fault, names_in};
 ghost use Rattle.redo_dir.specs.inside.Levels.{Breaks, EntersNoted, IsStopped, ListsDir, ListsLevel, Notes, Receives};
-ghost use Rattle.redo_dir.specs.inside.Levels.{ReceivesName, Refuses, StopsAt, clash_of, progress, with_passed};
+ghost use Rattle.redo_dir.specs.inside.Levels.{ReceivesName, Refuses, StopsAt, clash_of, node_found, progress, with_passed};
 
 use crate::LoadFault;
 use crate::looking::{Name, look_by};
 use crate::places::place_of;
-use crate::work_dir::{Seen, WorkDir};
+use crate::work_dir::WorkDir;
 use redo_path::Path;
-use redo_tree::{Tree, TreeFault};
+use redo_tree::{Content, Entry, Tree, TreeFault};
 use std::alloc::{AllocError, Global};
 use std::io::ErrorKind;
 use std::mem;
@@ -155,25 +155,25 @@ impl Loading {
     }
 
     /// Adds a file.
-    fn add_file(&mut self, path: Path, bytes: Vec<u8>) -> Result<(), LoadFault>
-        ensures some { OnOk result (Receives (progress self.old) (progress self.new) path (Some (File bytes.items))) }
-        ensures refused { IfErr result (Refuses (progress self.old).tree path (Some (File bytes.items))) }
+    fn add_file(&mut self, path: Path, content: Content) -> Result<(), LoadFault>
+        ensures some { OnOk result (Receives (progress self.old) (progress self.new) path (Some (File content))) }
+        ensures refused { IfErr result (Refuses (progress self.old).tree path (Some (File content))) }
     {
-        match self.tree.add_file(&path, bytes) {
+        match self.tree.add_content(&path, content) {
             Ok(()) => Ok(()),
             Err(fault) => Err(clash(path, fault)),
         }
     }
 
-    /// Enters what was seen at a path, or counts it.
-    fn receive(&mut self, path: Path, seen: Seen) -> Result<(), LoadFault>
-        ensures some { OnOk result (Receives (progress self.old) (progress self.new) path (node_seen seen)) }
-        ensures refused { IfErr result (Refuses (progress self.old).tree path (node_seen seen)) }
+    /// Enters what was found at a path, or counts it.
+    fn receive(&mut self, path: Path, found: Option<Entry>) -> Result<(), LoadFault>
+        ensures some { OnOk result (Receives (progress self.old) (progress self.new) path (node_found found)) }
+        ensures refused { IfErr result (Refuses (progress self.old).tree path (node_found found)) }
     {
-        match seen {
-            Seen::Directory => self.add_dir(path),
-            Seen::File(bytes) => self.add_file(path, bytes),
-            Seen::Other => {
+        match found {
+            Some(Entry::Directory) => self.add_dir(path),
+            Some(Entry::File(content)) => self.add_file(path, content),
+            None => {
                 self.pass_over();
                 Ok(())
             }
@@ -181,13 +181,14 @@ impl Loading {
     }
 
     /// Enters a name that was looked at.
+    #[tactic(auto, using(crate::proofs::FailLemmas::breaks_call))]
     fn receive_name(&mut self, name: Name) -> Result<(), LoadFault>
         ensures some { OnOk result (ReceivesName (progress self.old) name (progress self.new)) }
         ensures broken { IfErr result (Breaks (progress self.old) name) }
     {
-        let Name { path, seen } = name;
-        match seen {
-            Ok(seen) => self.receive(path, seen),
+        let Name { path, found } = name;
+        match found {
+            Ok(found) => self.receive(path, found),
             Err(kind) => Err(refused(path, kind)),
         }
     }

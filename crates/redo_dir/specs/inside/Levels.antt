@@ -1,19 +1,19 @@
 -- What was read of a directory so far, while it is read level by level.
 use Rattle.std.specs.Prelude.{◌≡◌, ◌+◌, ◌-◌, ◌^◌, ◌⊎◌, ℕ, List, [], ◌∷◌, ◌++◌, IsUtf8, map, min, Option, Some, None}
-use Rattle.std.specs.Prelude.{count_by, is_none, Result, Ok, Err}
+use Rattle.std.specs.Prelude.{count_by, is_none, option_map, Result, Ok, Err}
 use Rattle.std.specs.List.{AllByRecursion, AllZip, FoldsTo}
 use Rattle.std.specs.declared.io.ErrorKind.{ErrorKind}
-use Rattle.std.specs.declared.io.ErrorKind.TheVariants.{InvalidData}
+use Rattle.std.specs.declared.io.ErrorKind.TheVariants.{InvalidData, OutOfMemory}
 use Rattle.redo_path.specs.Names.{child_of}
 use Rattle.redo_tree.specs.declared.faults.TreeFault.{TreeFault}
 use Rattle.redo_tree.specs.declared.faults.TreeFault.TheVariants as tree
-use Rattle.redo_tree.specs.Tree.{Node, Directory, File, Tree, added, grown, top}
+use Rattle.redo_tree.specs.declared.entries.Entry.{Entry}
+use Rattle.redo_tree.specs.Tree.{Node, Directory, File, Tree, added, grown, node_of, top}
 use Rattle.redo_dir.specs.declared.faults.LoadFault.{LoadFault}
 use Rattle.redo_dir.specs.declared.faults.LoadFault.TheVariants.{Device, Memory}
 use Rattle.redo_dir.specs.declared.loading.Loading.{Loading}
 use Rattle.redo_dir.specs.declared.looking.Name.{Name}
-use Rattle.redo_dir.specs.declared.work_dir.Seen.{Seen}
-use Rattle.redo_dir.specs.Loaded.{ComesTo, HasTextPaths, Listing, MayStand, directories, entries_of, names_of, node_seen}
+use Rattle.redo_dir.specs.Loaded.{ComesTo, HasTextPaths, Listing, MayStand, directories, entries_of, load_fault, names_of}
 
 -- what was read so far: the tree, the directories that are still to be listed, the paths of the names that are still to
 -- be entered, and how many names were passed over
@@ -34,14 +34,19 @@ progress l = record { tree = l.tree; waiting = l.waiting.items; noted = paths_of
 abbrev pub KeepsPaths : List Name → List Name → Type 0
 KeepsPaths old new = paths_of new ≡ paths_of old
 
--- what a path leads to, or an error, was answered
-abbrev pub IsAnswered : (List ℕ → Option Node → Type 0) → (List ℕ → ErrorKind → Type 0) → List ℕ → Result Seen ErrorKind → Type 0
-IsAnswered leads refuses path (Ok seen) = leads path (node_seen seen)
+-- what was found at a path, so far as a tree takes it in
+abbrev pub node_found : Option Entry → Option Node
+node_found found = option_map node_of found
+
+-- what a path leads to, or an error, was answered, unless memory ran out
+abbrev pub IsAnswered : (List ℕ → Option Node → Type 0) → (List ℕ → ErrorKind → Type 0) → List ℕ → Result (Option Entry) ErrorKind → Type 0
+IsAnswered leads refuses path (Ok found) = leads path (node_found found)
+IsAnswered leads refuses path (Err OutOfMemory) = Unit {0}
 IsAnswered leads refuses path (Err kind) = refuses path kind
 
 -- a name was looked at, and answered
 abbrev pub IsLooked : (List ℕ → Option Node → Type 0) → (List ℕ → ErrorKind → Type 0) → Name → Type 0
-IsLooked leads refuses name = IsAnswered leads refuses name.path name.seen
+IsLooked leads refuses name = IsAnswered leads refuses name.path name.found
 
 -- one name more was passed over, or as many as can be counted
 abbrev pub with_passed : Progress → Progress
@@ -104,16 +109,16 @@ Refuses tree path None (Device place kind) = ⊥
 Refuses tree path (Some node) (Device place kind) =
     (kind ≡ InvalidData) × (fault : TreeFault) × (added tree path node ≡ Err fault)
 
--- what was seen at a name was received at its path
+-- what was found at a name was received at its path
 abbrev pub ReceivesName : Progress → Name → Progress → Type 0
-ReceivesName old name new = (seen : Seen) × (name.seen ≡ Ok seen) × Receives old new name.path (node_seen seen)
+ReceivesName old name new = (found : Option Entry) × (name.found ≡ Ok found) × Receives old new name.path (node_found found)
 
 -- a name wasn't received: the system refused it, or the tree
 abbrev pub Breaks : Progress → Name → LoadFault → Type 0
 Breaks p name Memory = Unit {0}
 Breaks p name (Device place kind) =
-    ((place ≡ name.path) × (name.seen ≡ Err kind)) ⊎
-    ((seen : Seen) × (name.seen ≡ Ok seen) × Refuses p.tree name.path (node_seen seen) (Device place kind))
+    ((name.found ≡ Err kind) × (load_fault name.path kind ≡ Device place kind)) ⊎
+    ((found : Option Entry) × (name.found ≡ Ok found) × Refuses p.tree name.path (node_found found) (Device place kind))
 
 -- of some names the first were received, and then one wasn't
 abbrev pub StopsAt : Progress → List Name → LoadFault → Type 0
