@@ -78,6 +78,7 @@ impl<B: Build> Desk<B> {
             Ok(()) => Ok(()),
             Err(HandFault::TooMany) => Err(Stop::TooMany),
             Err(HandFault::Memory) => Err(Stop::Memory),
+            // Each piece is of a work that this board gave, and is handed in once.
             Err(HandFault::Stranger(_piece)) => never(rt),
         }
     }
@@ -178,6 +179,7 @@ fn turn<'s, E, B: Build + Send + Sync + 's, R: Threads + Wait + Sync, O: Observe
     }
     match staff.pieces.recv(staff.rt) {
         Ok(message) => desk.take_in(staff.rt, message)?,
+        // The staff has a sender of its own, so the channel isn't closed.
         Err(_) => never(staff.rt),
     }
     Ok(true)

@@ -5,20 +5,23 @@
 //! if the script that was handed in last has made a large file.
 //!
 //! A script may take long for other reasons, and a run has no clock. But it takes a sleeper some time to wake up. So now
-//! and then, while many jobs wait, one is tried: a sleeper is called for it. If it is back with the piece before the
-//! owner has advanced more than a few jobs itself, then these are long enough, and the next ones are offered. If not,
-//! the owner tries again after twice as many. No report depends on any of it.
+//! and then, while many jobs wait, a few are tried: sleepers are called for them. If one is back with its piece before
+//! the owner has advanced more than a few jobs itself, then these are long enough, and the next ones are offered. If
+//! not, the owner tries again after twice as many. No report depends on any of it.
 
 use redo_core::work::Work;
 
 /// A job takes long if it reads or makes so many bytes.
 const LONG: usize = 4096;
 
-/// A job is tried while at least so many others are ready.
+/// Jobs are tried while at least so many others are ready.
 const MANY: usize = 8;
 
 /// At most so many jobs may the owner advance during a trial, or the jobs are short.
 const FEW: u32 = 4;
+
+/// So many are tried at once, so that a build of long ones begins on several workers.
+const TRIED: u32 = 4;
 
 /// After a trial so many jobs are offered.
 const TRUSTED: u32 = 64;
@@ -33,7 +36,7 @@ pub(crate) struct Pace {
     made_long: bool,
     /// So many jobs more are offered.
     trusted: u32,
-    /// How many jobs the owner has advanced since it called a sleeper for one, if that one isn't back.
+    /// How many jobs the owner has advanced since it called a sleeper for the first that it tries, if none is back.
     trial: Option<u32>,
     /// How many it advances until the next trial.
     pause: u32,
@@ -64,14 +67,16 @@ impl Pace {
         let tries = ready >= MANY && out == 0 && self.pause == 0;
         if tries {
             self.trial = Some(0);
+            self.trusted = TRIED - 1;
         }
         tries
     }
 
-    /// The job that is tried was left to a worker that was awake, or came to nobody: it shows nothing.
+    /// A job that is tried was left to a worker that was awake, or came to nobody: it shows nothing.
     pub fn forget_trial(&mut self) {
         if self.trial.is_some() {
             self.trial = None;
+            self.trusted = 0;
             self.pause = FIRST_PAUSE;
         }
     }
@@ -91,6 +96,7 @@ impl Pace {
             self.trusted = TRUSTED;
             self.next_pause = FIRST_PAUSE;
         } else {
+            self.trusted = 0;
             self.pause = self.next_pause;
             self.next_pause = self.next_pause.saturating_mul(2);
         }

@@ -15,8 +15,8 @@ use std::snapshot::Snapshot;
 use std::sync::Wait;
 use std::thread::{Scope, Threads};
 
-/// The workers of a build. One is started when a job is offered for which too few look: a build whose scripts are all
-/// short starts none.
+/// The workers of a build. One is started when a job is offered for which too few look. So a build of a few short scripts
+/// starts none; one of many starts those to whom a few are offered to try how long such scripts take.
 #[derive(Drop)]
 pub(crate) struct Staff<'r, 's, E, J: Numbered + Drop, M: Drop, R, O> {
     pub scope: &'r Scope<'s, E>,

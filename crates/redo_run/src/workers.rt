@@ -47,7 +47,7 @@ fn is_all_taken<B: Build>(ledger: &Ledger<JobOf<B>>) -> bool
     ledger.left().is_empty()
 }
 
-/// What a run came to, once all workers have ended. No run comes here while jobs are left. At most `threads` threads make the digests that the new book tells of.
+/// What a run came to, once all workers have ended. At most `threads` threads make the digests that the new book tells of.
 fn answer_of<B: Build, R: Threads + Wait + Sync>(
     rt: &R,
     alloc: Global,
@@ -68,6 +68,7 @@ fn answer_of<B: Build, R: Threads + Wait + Sync>(
     }
     let ledger = gather(source, takers)?;
     if !is_all_taken(&ledger) {
+        // A quiet board has each job back that it gave, so each was taken.
         never(rt)
     }
     let report = board.finish()?.with_digests_by(rt, alloc, threads)?;
@@ -165,6 +166,7 @@ fn run_in_scope<B: Build + Send + Sync, R: Threads + Wait + Sync, O: Observer>(
     )?;
     match ended.recv(rt) {
         Ok(desk) => Ok(desk),
+        // The scope has sent it, or has failed and was left above.
         Err(_) => never(rt),
     }
 }
@@ -218,12 +220,12 @@ pub(crate) fn past_of<R: Threads + Sync>(
     Ok(Past::open_by(rt, alloc, threads, tree)?)
 }
 
-/// Builds the requested targets with this many workers, each in a thread of its own. Meanwhile the caller's thread has
-/// the board and hands out the jobs; it advances a script itself if no other can go on. With one worker no thread is
-/// started: the caller does it all. The report is that of the recursive build, in whatever order the workers take jobs,
-/// with the new book among its files. The ledger shows that each job was taken once. A target whose recorded entries
-/// all stand is kept; if keeping is safe, the report agrees with that of the sources alone. All threads have ended when
-/// it returns. `Memory` also means that a thread couldn't be started.
+/// Builds the requested targets with this many workers. The caller's thread is one of them: it has the board, advances
+/// short scripts itself, and offers long ones to the others, each in a thread of its own. With one worker no thread is
+/// started. The report is that of the recursive build, in whatever order the workers take jobs, with the new book among
+/// its files. The ledger shows that each job was taken once. A target whose recorded entries all stand is kept; if
+/// keeping is safe, the report agrees with that of the sources alone. All threads have ended when it returns. `Memory`
+/// also means that a thread couldn't be started.
 ///
 /// The ledger is of jobs of this build by its type, which names the tree, the request and the limits: each job that it
 /// counts held a work that a board of this build gave.
