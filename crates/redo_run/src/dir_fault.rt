@@ -21,7 +21,8 @@ pub enum RunDirFault {
     Book(u64),
     #[error("more targets are needed than the limit allows")]
     TooMany,
-    /// The built file at this place, counted from 0 in path order, could not be stored. Those before it were.
+    /// The file at this place could not be stored, and those before it were. Places are counted from 0 among the files
+    /// that the run stores, in path order; the book is behind the last.
     #[error("the built file at place {0} could not be stored")]
     Store(usize),
     /// The journal could not be written, and so nothing was stored.
