@@ -5,8 +5,8 @@
 //! if the script that was handed in last has made a large file.
 //!
 //! A script may take long for other reasons, and a run has no clock. But it takes a sleeper some time to wake up. So now
-//! and then, while many jobs wait, a few are tried: sleepers are called for them. If one is back with its piece before
-//! the owner has advanced more than a few jobs itself, then these are long enough, and the next ones are offered. If
+//! and then, while many jobs wait, a few are tried: sleepers are called for them. If the last is back with its piece
+//! before the owner has advanced more than two jobs itself, then these are long enough, and the next ones are offered. If
 //! not, the owner tries again after twice as many. No report depends on any of it.
 
 use redo_core::work::Work;
@@ -17,8 +17,8 @@ const LONG: usize = 4096;
 /// Jobs are tried while at least so many others are ready.
 const MANY: usize = 8;
 
-/// At most so many jobs may the owner advance during a trial, or the jobs are short.
-const FEW: u32 = 4;
+/// At most so many jobs may the owner advance, once all that are tried were offered, or the jobs are short.
+const FEW: u32 = 2;
 
 /// So many are tried at once, so that a build of long ones begins on several workers.
 const TRIED: u32 = 4;
@@ -29,6 +29,24 @@ const TRUSTED: u32 = 64;
 /// So many jobs the owner advances after the first trial that shows that they are short, before it tries again.
 const FIRST_PAUSE: u32 = 16;
 
+/// Jobs that are tried.
+#[derive(Clone, Copy, Debug, PartialEq, Eq)]
+struct Trial {
+    /// How many are still to be offered.
+    left: u32,
+    /// How many were offered and aren't back.
+    out: u32,
+    /// How many others the owner has advanced itself since it offered the last.
+    own: u32,
+}
+
+impl Trial {
+    /// Whether those that are back have taken long. They have not if the owner has come to none of its own meanwhile.
+    fn took_long(self) -> bool {
+        0 < self.own && self.own <= FEW
+    }
+}
+
 /// What the owner knows of how long jobs take.
 #[derive(Clone, Copy, Debug, PartialEq, Eq)]
 pub(crate) struct Pace {
@@ -36,8 +54,7 @@ pub(crate) struct Pace {
     made_long: bool,
     /// So many jobs more are offered.
     trusted: u32,
-    /// How many jobs the owner has advanced since it called a sleeper for the first that it tries, if none is back.
-    trial: Option<u32>,
+    trial: Option<Trial>,
     /// How many it advances until the next trial.
     pause: u32,
     next_pause: u32,
@@ -60,23 +77,41 @@ impl Pace {
         if self.made_long || work.reads(LONG) {
             return true;
         }
+        if self.tries_another() {
+            return true;
+        }
         if self.trusted > 0 {
             self.trusted -= 1;
             return true;
         }
         let tries = ready >= MANY && out == 0 && self.pause == 0;
         if tries {
-            self.trial = Some(0);
-            self.trusted = TRIED - 1;
+            self.trial = Some(Trial {
+                left: TRIED - 1,
+                out: 1,
+                own: 0,
+            });
         }
         tries
+    }
+
+    /// Whether the job is one more that is tried.
+    fn tries_another(&mut self) -> bool {
+        match &mut self.trial {
+            Some(trial) if trial.left > 0 => {
+                trial.left -= 1;
+                trial.out = trial.out.saturating_add(1);
+                trial.own = 0;
+                true
+            }
+            _ => false,
+        }
     }
 
     /// A job that is tried was left to a worker that was awake, or came to nobody: it shows nothing.
     pub fn forget_trial(&mut self) {
         if self.trial.is_some() {
             self.trial = None;
-            self.trusted = 0;
             self.pause = FIRST_PAUSE;
         }
     }
@@ -84,19 +119,23 @@ impl Pace {
     /// The owner has advanced a job itself.
     pub fn advanced(&mut self) {
         self.pause = self.pause.saturating_sub(1);
-        self.trial = self.trial.map(|own| own.saturating_add(1));
+        if let Some(trial) = &mut self.trial {
+            trial.own = trial.own.saturating_add(1);
+        }
     }
 
     /// A worker is back with a piece.
     pub fn came_back(&mut self) {
-        let Some(own) = self.trial.take() else {
+        let Some(trial) = self.trial.take() else {
             return;
         };
-        if own <= FEW {
+        let out = trial.out.saturating_sub(1);
+        if out > 0 {
+            self.trial = Some(Trial { out, ..trial });
+        } else if trial.took_long() {
             self.trusted = TRUSTED;
             self.next_pause = FIRST_PAUSE;
         } else {
-            self.trusted = 0;
             self.pause = self.next_pause;
             self.next_pause = self.next_pause.saturating_mul(2);
         }
