@@ -14,6 +14,11 @@ use redo_core::work::Work;
 /// A job takes long if it reads or makes so many bytes.
 const LONG: usize = 4096;
 
+/// While so many jobs in turn are about to read little, only one of eight is looked at: to look costs a search by path.
+const LITTLE: u32 = 16;
+
+const EACH: u32 = 8;
+
 /// Jobs are tried while at least so many others are ready.
 const MANY: usize = 8;
 
@@ -52,6 +57,8 @@ impl Trial {
 pub(crate) struct Pace {
     /// The script that was handed in last has made a large file.
     made_long: bool,
+    /// How many jobs in turn are not known to read much.
+    little: u32,
     /// So many jobs more are offered.
     trusted: u32,
     trial: Option<Trial>,
@@ -65,6 +72,7 @@ impl Pace {
     pub fn new() -> Pace {
         Pace {
             made_long: false,
+            little: 0,
             trusted: 0,
             trial: None,
             pause: 0,
@@ -74,7 +82,7 @@ impl Pace {
 
     /// Whether a worker is to have a job, while so many others are ready and out.
     pub fn is_for_worker(&mut self, work: &Work, ready: usize, out: usize) -> bool {
-        if self.made_long || work.reads(LONG) {
+        if self.made_long || self.reads_much(work) {
             return true;
         }
         if self.tries_another() {
@@ -93,6 +101,14 @@ impl Pace {
             });
         }
         tries
+    }
+
+    /// Whether a job that is looked at is about to read much.
+    fn reads_much(&mut self, work: &Work) -> bool {
+        let is_looked_at = self.little < LITTLE || self.little % EACH == 0;
+        let much = is_looked_at && work.reads(LONG);
+        self.little = if much { 0 } else { self.little.wrapping_add(1) };
+        much
     }
 
     /// Whether the job is one more that is tried.
