@@ -5,9 +5,10 @@
 //! if the script that was handed in last has made a large file.
 //!
 //! A script may take long for other reasons, and a run has no clock. But it takes a sleeper some time to wake up. So now
-//! and then, while many jobs wait, a few are tried: sleepers are called for them. If the last is back with its piece
-//! before the owner has advanced more than two jobs itself, then these are long enough, and the next ones are offered. If
-//! not, the owner tries again after twice as many. No report depends on any of it.
+//! and then, while many jobs wait, one is tried: a sleeper is called for it. If it is back with the piece before the
+//! owner has advanced more than two jobs itself, then these are long enough, and the next ones are offered. If not, the
+//! owner tries again after twice as many. The first time a few are tried at once, so that a build of long ones begins on
+//! several workers. No report depends on any of it.
 
 use redo_core::work::Work;
 
@@ -25,7 +26,7 @@ const MANY: usize = 8;
 /// At most so many jobs may the owner advance, once all that are tried were offered, or the jobs are short.
 const FEW: u32 = 2;
 
-/// So many are tried at once, so that a build of long ones begins on several workers.
+/// So many are tried at the first time. Later it is one at a time: for more than there are workers a trial shows nothing.
 const TRIED: u32 = 4;
 
 /// After a trial so many jobs are offered.
@@ -33,6 +34,9 @@ const TRUSTED: u32 = 64;
 
 /// So many jobs the owner advances after the first trial that shows that they are short, before it tries again.
 const FIRST_PAUSE: u32 = 16;
+
+/// So many after a trial that shows nothing.
+const SHORT_PAUSE: u32 = 4;
 
 /// Jobs that are tried.
 #[derive(Clone, Copy, Debug, PartialEq, Eq)]
@@ -62,6 +66,8 @@ pub(crate) struct Pace {
     /// So many jobs more are offered.
     trusted: u32,
     trial: Option<Trial>,
+    /// How many jobs more the next trial tries at once.
+    more: u32,
     /// How many it advances until the next trial.
     pause: u32,
     next_pause: u32,
@@ -75,6 +81,7 @@ impl Pace {
             little: 0,
             trusted: 0,
             trial: None,
+            more: TRIED - 1,
             pause: 0,
             next_pause: FIRST_PAUSE,
         }
@@ -95,10 +102,11 @@ impl Pace {
         let tries = ready >= MANY && out == 0 && self.pause == 0;
         if tries {
             self.trial = Some(Trial {
-                left: TRIED - 1,
+                left: self.more,
                 out: 1,
                 own: 0,
             });
+            self.more = 0;
         }
         tries
     }
@@ -128,7 +136,7 @@ impl Pace {
     pub fn forget_trial(&mut self) {
         if self.trial.is_some() {
             self.trial = None;
-            self.pause = FIRST_PAUSE;
+            self.pause = SHORT_PAUSE;
         }
     }
 
