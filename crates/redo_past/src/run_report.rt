@@ -23,6 +23,10 @@ use std::alloc::{AllocError, Global};
 use std::marker::Model;
 use std::thread::Threads;
 
+/// Sources are digested side by side if one has so many bytes. A smaller one is digested in less time than it takes to
+/// look it up, and beside busy processes a thread may get its turn late.
+const LARGE: usize = 4096;
+
 /// The report of a run with the new book among its files. The book may be long, so its text is made only as it is
 /// written. In a contract it is the report with that text.
 #[derive(Drop)]
@@ -80,7 +84,7 @@ impl RunReport {
 
     /// The same report, after at most `threads` threads have made the digests of the sources that the new book tells
     /// of. Without this call they are made one by one as the book is written. If the old book has records, most of them
-    /// were made when it was read, so none is made here.
+    /// were made when it was read, so none is made here; nor is one where no source is large.
     pub fn with_digests_by<R: Threads + Sync>(
         self,
         rt: &R,
@@ -90,6 +94,9 @@ impl RunReport {
         ensures { IfOk result (λ report. report ≡ self) }
     {
         if threads <= 1 || !self.past.book().records().is_empty() {
+            return Ok(self);
+        }
+        if !self.past.sources().has_file_of(LARGE) {
             return Ok(self);
         }
         let RunReport {

@@ -4,6 +4,7 @@ mod FileDigestLemmas
 pub mod GrowLemmas
 pub mod KeptLemmas
 pub mod KeyLemmas
+mod LengthLemmas
 pub mod NodeLemmas
 pub mod NotedLemmas
 pub mod PartingLemmas

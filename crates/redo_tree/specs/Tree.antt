@@ -1,5 +1,5 @@
 -- A tree: what is at each path, in the order of the paths' texts.
-use Rattle.std.specs.Prelude.{◌≡◌, ◌&&◌, Bool, true, nat_eq, ℕ, List, [], ◌∷◌, ◌++◌, codes, fold, length}
+use Rattle.std.specs.Prelude.{◌≡◌, ◌≤◌, ◌&&◌, Bool, true, nat_eq, ℕ, List, [], ◌∷◌, ◌++◌, codes, fold, length}
 use Rattle.std.specs.Prelude.{Option, Some, None, Result, Ok, Err, IsSome, option_and_then, option_map, refl}
 use Rattle.std.specs.Prelude.{if◌then◌else◌, filter, is_some, not}
 use Rattle.std.specs.BTreeMap.{insert_entry, is_at}
@@ -53,6 +53,13 @@ bytes_of (File bytes) = Some bytes
 -- the bytes of the file at a path
 abbrev pub file_at : Tree → List ℕ → Option (List ℕ)
 file_at tree path = option_and_then bytes_of (node_at tree path)
+
+-- the tree has a file of at least so many bytes
+pub record HasFileOf (tree : Tree) (least : ℕ) : Type 0 where
+  pub path : List ℕ
+  pub bytes : List ℕ
+  pub there : file_at tree path ≡ Some bytes
+  pub many : least ≤ length bytes
 
 -- no file in the directory has a name of `default`, a suffix and `.do`
 abbrev pub HasNoDefaults : Tree → List ℕ → Type 0

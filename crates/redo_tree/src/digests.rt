@@ -6,8 +6,9 @@ use crate::Entry;
 use std::thread;
 use std::thread::Threads;
 
-/// How many bytes to digest are worth a thread.
-const BYTES_FOR_ONE: usize = 1 << 16;
+/// How many bytes to digest are worth a thread: some milliseconds of work, as beside busy processes a thread may get its
+/// turn that late.
+const BYTES_FOR_ONE: usize = 1 << 18;
 
 /// Whether the entry with this number is named. Numbers past the end aren't.
 pub(crate) fn is_named(named: &[bool], number: usize) -> bool {

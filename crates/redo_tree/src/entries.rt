@@ -10,7 +10,8 @@ ghost use Rattle.redo_path.specs.Names.{IsPath};
 ghost use Rattle.redo_tree.specs.Tree.{Directory, File, top, node_at, kind_of, file_at, node_of, refusal};
 ghost use Rattle.redo_tree.specs.Tree.{added, tree_eq, trees_alike, default_dir as dir_of_default};
 ghost use Rattle.redo_tree.specs.Tree.{is_default as begins_and_ends, Adds, Allows, HasNoDefaults, IsNoted, IsTree};
-ghost use Rattle.redo_tree.specs.Tree.{tree_of, AreAmong, HasEntry, IsKept, without};
+ghost use Rattle.redo_tree.specs.Tree.{tree_of, AreAmong, HasEntry, HasFileOf, IsKept, without};
+ghost use Rattle.redo_tree.specs.inside.Lengths.{is_long};
 
 use crate::digests::{keep_digests, keep_digests_by};
 use crate::parting::{kept_of, set_of};
@@ -61,6 +62,16 @@ impl Model for Tree {
     ghost view = { λ t. tree_of t.entries };
 
     ghost invariant = { λ t. IsKept t.entries t.defaults };
+}
+
+/// Whether an entry is a file of at least `least` bytes.
+fn is_file_of(entry: &Entry, least: usize) -> bool
+    ensures { result ≡ is_long least (node_of entry.now) }
+{
+    match entry {
+        Entry::Directory => false,
+        Entry::File(content) => content.bytes().len() >= least,
+    }
 }
 
 impl Tree {
@@ -153,6 +164,19 @@ impl Tree {
             Some(Entry::File(content)) => Some(content),
             _ => None,
         }
+    }
+
+    /// Whether some file has at least `least` bytes. It looks at each entry once.
+    pub fn has_file_of(&self, least: usize) -> bool
+        ensures { IsTrue result ↔ HasFileOf self.now least }
+    {
+        'entries: for number in 0..self.entries.len() {
+            let (_, entry) = self.entries.at(number);
+            if is_file_of(entry, least) {
+                return true;
+            }
+        }
+        false
     }
 
     /// The digests of the tree's files, for a caller that asks for many.
