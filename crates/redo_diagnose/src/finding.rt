@@ -13,7 +13,7 @@ use crate::diagnosis::{Diagnosed, Diagnosis, Place};
 use crate::ends::of_whole;
 use crate::missing::{names, of_directory, of_no_directory, of_no_rule};
 use crate::said::Said;
-use crate::scripts::{Failed, Found as FoundIn};
+use crate::scripts::{Failed, Remark};
 use redo_path::Path;
 use redo_record::{Outcome, Why};
 use redo_report::{Report, Row};
@@ -89,10 +89,10 @@ struct Built<'a> {
 }
 
 /// Words without a place.
-fn placeless(said: Said) -> FoundIn
+fn placeless(said: Said) -> Remark
     ensures { result.place ≡ None }
 {
-    FoundIn { place: None, said }
+    Remark { place: None, said }
 }
 
 /// Why a row failed, if it did.
@@ -150,7 +150,7 @@ impl Built<'_> {
         rule: Rule,
         text: &[u8],
         why: Why,
-    ) -> Result<FoundIn, AllocError>
+    ) -> Result<Remark, AllocError>
         ensures { IfOk result (λ found. IfSome found.place (IsIn rule.do_file text.now why)) }
     {
         let failed = Failed {
@@ -167,7 +167,7 @@ impl Built<'_> {
     }
 
     /// What is said of a target whose script failed with this reason.
-    fn of_script(&self, alloc: Global, target: &Path, why: Why) -> Result<FoundIn, AllocError>
+    fn of_script(&self, alloc: Global, target: &Path, why: Why) -> Result<Remark, AllocError>
         ensures { IfOk result (λ found. IfSome found.place (IsInSource (file_at self.now.sources.now) why)) }
     {
         let Found::Rule(rule) = find(alloc, self.sources, target)? else {
@@ -180,7 +180,7 @@ impl Built<'_> {
     }
 
     /// What is said of a target without a script. The place is that of the word by which a script asks for it.
-    fn of_no_script(&self, alloc: Global, failure: &Failure<'_>) -> Result<FoundIn, AllocError>
+    fn of_no_script(&self, alloc: Global, failure: &Failure<'_>) -> Result<Remark, AllocError>
         ensures { IfOk result (λ found. IfSome found.place (MarksIn (file_at self.now.sources.now))) }
     {
         let target = failure.target;
@@ -190,11 +190,11 @@ impl Built<'_> {
             _ => of_directory(alloc)?,
         };
         let place = self.asked_at(alloc, target)?;
-        Ok(FoundIn { place, said })
+        Ok(Remark { place, said })
     }
 
     /// What is said of a failure.
-    fn found(&self, alloc: Global, failure: &Failure<'_>) -> Result<FoundIn, AllocError>
+    fn found(&self, alloc: Global, failure: &Failure<'_>) -> Result<Remark, AllocError>
         ensures { IfOk result (λ found. IfSome found.place (IsInSource (file_at self.now.sources.now) failure.now.why)) }
     {
         match failure.why {
@@ -208,7 +208,7 @@ impl Built<'_> {
         ensures told { IfOk result (λ d. told_of d ≡ failure_of failure.now) }
         ensures marks { IfOk result (MarksSource (file_at self.now.sources.now)) }
     {
-        let FoundIn { place, said } = self.found(alloc, failure)?;
+        let Remark { place, said } = self.found(alloc, failure)?;
         let Said { message, help, .. } = said;
         Ok(Diagnosis {
             target: failure.target.clone()?,

@@ -30,7 +30,7 @@ pub(crate) struct Failed<'a> {
 
 /// What is said of a script, and where in its text.
 #[derive(Drop)]
-pub(crate) struct Found {
+pub(crate) struct Remark {
     pub(crate) place: Option<Place>,
     pub(crate) said: Said,
 }
@@ -130,7 +130,7 @@ impl Failed<'_> {
     }
 
     /// What is wrong with a text that can't be read.
-    pub(crate) fn fault(&self, alloc: Global, fault: &ScriptFault) -> Result<Found, AllocError>
+    pub(crate) fn fault(&self, alloc: Global, fault: &ScriptFault) -> Result<Remark, AllocError>
         ensures { IfOk result (λ found. IfSome found.place
             (IsIn self.now.rule.do_file self.now.text.now (Why.Script fault.now))) }
     {
@@ -144,7 +144,7 @@ impl Failed<'_> {
                 .max(found.span.start.saturating_add(said.along)),
         };
         let place = self.place(alloc, fault.line, Some(span))?;
-        Ok(Found { place, said })
+        Ok(Remark { place, said })
     }
     /// Where the script ends with this reason.
     fn end(
@@ -183,7 +183,7 @@ impl Failed<'_> {
         answers: &Answered<'_>,
         why: Why,
         end: &EndPlace,
-    ) -> Result<Found, AllocError>
+    ) -> Result<Remark, AllocError>
         ensures { IfOk result (λ found. IfSome found.place (IsIn self.now.rule.do_file self.now.text.now why)) }
     {
         let words = self.words(alloc, end)?;
@@ -197,7 +197,7 @@ impl Failed<'_> {
         };
         let said = of_end(alloc, self.sources, answers, why, &blamed)?;
         let place = self.place_of_end(alloc, why, operand, shown_of(&words, why))?;
-        Ok(Found { place, said })
+        Ok(Remark { place, said })
     }
 
     /// The place of an operand, or of its command if it is in a later line than the reason names.
@@ -224,7 +224,7 @@ impl Failed<'_> {
         alloc: Global,
         answers: &Answered<'_>,
         why: Why,
-    ) -> Result<Found, AllocError>
+    ) -> Result<Remark, AllocError>
         ensures { IfOk result (λ found. IfSome found.place (IsIn self.now.rule.do_file self.now.text.now why)) }
     {
         match self.end(alloc, answers, why)? {
@@ -234,13 +234,13 @@ impl Failed<'_> {
     }
 
     /// What is wrong with a script of which no command is to blame: both outputs are written by no single one.
-    fn whole(&self, alloc: Global, why: Why) -> Result<Found, AllocError>
+    fn whole(&self, alloc: Global, why: Why) -> Result<Remark, AllocError>
         ensures { IfOk result (λ found. IfSome found.place (IsIn self.now.rule.do_file self.now.text.now why)) }
     {
         let line = line_named(why).unwrap_or(1);
         let place = self.place(alloc, line, Some(Span { start: 0, end: 0 }))?;
         let said = of_whole(alloc, why)?;
-        Ok(Found { place, said })
+        Ok(Remark { place, said })
     }
 
     /// The place of the operand that a script waits for, which ended with this reason.

@@ -18,7 +18,7 @@ use std::alloc::{AllocError, Global};
 use std::collections::BTreeMap;
 
 /// Records by the paths of their targets.
-type Found<'a> = BTreeMap<&'a Path, &'a BookRecord>;
+type RecordsByPath<'a> = BTreeMap<&'a Path, &'a BookRecord>;
 
 /// Whether the file at a record's target is as the record says.
 fn is_as_said(tree: &Tree, made: &BookRecord) -> bool
@@ -31,7 +31,7 @@ fn is_as_said(tree: &Tree, made: &BookRecord) -> bool
 fn put_said<'a>(
     tree: &Tree,
     records: &'a [BookRecord],
-    found: &mut Found<'a>,
+    found: &mut RecordsByPath<'a>,
 ) -> Result<(), AllocError>
     requires book { IsBook (map record_of records.now) }
     requires found { AreFound (map (λ e. (e.0.now, record_of e.1.now)) found.old.entries) }
