@@ -17,8 +17,9 @@ use Rattle.redo_record.specs.Paths.{IsAmong}
 use Rattle.redo_build.specs.Rules.{Ask, Rules, AreLawful, asked_under, operands}
 use Rattle.redo_build.specs.Outcomes.{outcome_at}
 use Rattle.redo_build.specs.Schedule.{only}
-use Rattle.redo_core.specs.Build.{GivenView, rules_for}
 use Rattle.redo_build.specs.inside.Turns.{IsPiece, progress_at_turn}
+use Rattle.redo_rules.specs.Build.{GivenView, rules_for}
+use Rattle.redo_rules.proofs.Public.{lawful_for}
 use Rattle.redo_core.specs.inside.Works.{IsWorkWith, IsJobOf, IsStopped, all_asked, job_deps, told_in, waited_by}
 use Rattle.redo_core.specs.inside.Decided.{IsDecided}
 use Rattle.redo_build.specs.Lacking.{lacking_under}
@@ -32,7 +33,6 @@ use Rattle.redo_build.proofs.DepthLemmas.{cases_Option}
 use Rattle.redo_build.proofs.HandoverLemmas.{piece-begun, piece-fact}
 use Rattle.redo_core.proofs.AllAskedLemmas.{asked-first}
 use Rattle.redo_core.proofs.JobLemmas.{job_progress}
-use Rattle.redo_core.proofs.LawfulTreeLemmas.{lawful_for}
 use Rattle.redo_record.specs.Entries.{with_all}
 use Rattle.redo_core.proofs.StopLemmas.{MoreAnswers, keeps-itself, stopped-lacks}
 use Rattle.redo_build.proofs.TurnLemmas.{only-among, only-some}

@@ -13,7 +13,7 @@ use Rattle.redo_step.specs.Limits.{LimitsView}
 use Rattle.redo_which.specs.declared.Rule.{Rule as FoundRule}
 use Rattle.redo_which.specs.Rule.{Found, Rule, found_of}
 use Rattle.redo_which.specs.Views.{arguments_view}
-use Rattle.redo_core.specs.Build.{GivenView}
+use Rattle.redo_rules.specs.Build.{GivenView}
 use Rattle.redo_core.specs.Views.{WorkView}
 use Rattle.redo_core.specs.inside.Scripts.{IsBegunJob, IsScriptOf, script_deps, script_known, script_target, script_turn}
 use Rattle.redo_core.specs.inside.Works.{IsUnreadWork, IsWorkWith, found_as, known_in}

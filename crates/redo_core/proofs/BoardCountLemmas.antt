@@ -2,12 +2,12 @@
 use Rattle.std.proofs.Common.{◌≡◌, ℕ, ◌+◌, ◌<◌, ◌≤◌, ◌∙◌, false, List, length, is_some, sym, ap, arith, subst}
 use Rattle.redo_build.specs.Schedule.{State, happens, IsOutAt}
 use Rattle.redo_build.specs.Schedule.Event.{Take, Hand_in}
+use Rattle.redo_rules.proofs.Public.{lawful_for}
 use Rattle.redo_core.specs.inside.Slots.{rules_inside, state_of, IsKept}
 use Rattle.redo_build.specs.TakesLeft.{takes_left}
 use Rattle.redo_core.specs.Views.{after, jobs_out, BoardView, WorkView, IsWorkTaken}
 use Rattle.redo_core.specs.declared.board.Board.TheInside.{Inside}
 use Rattle.redo_build.proofs.CountLemmas.{take-out, take-at, take-left, hand_in-out, hand_in-left}
-use Rattle.redo_core.proofs.LawfulTreeLemmas.{lawful_for}
 use Rattle.redo_build.proofs.QueueLemmas.{slice_get-among}
 use Rattle.redo_build.specs.Looking.{looked}
 use Rattle.redo_build.proofs.SoundLemmas.{IsSound, happens-sound}

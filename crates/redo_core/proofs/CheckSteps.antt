@@ -40,8 +40,8 @@ use Rattle.redo_past.specs.Past.{intact_record}
 use Rattle.redo_skip.specs.Checks.{asking, asks, falls, has_state, lacks, shown, standing, stands, stands_if, told}
 use Rattle.redo_skip.specs.NewBook.{check_by}
 use Rattle.redo_skip.specs.Sources.{Sources}
-use Rattle.redo_core.specs.Build.{GivenView, checks_for, last_run_of, rules_for, sources_for}
-use Rattle.redo_core.specs.inside.Worlds.{World, progress_in, world_of}
+use Rattle.redo_rules.specs.Build.{GivenView, checks_for, last_run_of, rules_for, sources_for}
+use Rattle.redo_rules.specs.inside.Worlds.{World, progress_in, world_of}
 use Rattle.redo_core.specs.declared.check.Check.{Check}
 use Rattle.redo_core.specs.inside.Checking.{FallsBehind, HaveStood, IsBegunBehind, IsCheckedBy, IsDueCheck, IsInCheck}
 use Rattle.redo_core.specs.inside.Checking.{IsWaitingCheck, IsWalkedTo, StandAlone, asked_by, entries_in, entries_of_record}

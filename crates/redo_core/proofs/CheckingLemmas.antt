@@ -28,7 +28,7 @@ use Rattle.std.specs.Str.{bytes_eq}
 use Rattle.redo_book.specs.Book.{same_entry}
 use Rattle.redo_skip.specs.Sources.{Sources}
 use Rattle.redo_tree.specs.Tree.{file_at}
-use Rattle.redo_core.specs.Build.{GivenView, checks_for, last_run_of, rules_for, sources_for}
+use Rattle.redo_rules.specs.Build.{GivenView, checks_for, last_run_of, rules_for, sources_for}
 use Rattle.redo_core.specs.declared.check.Check.{Check}
 use Rattle.redo_core.specs.inside.Checking.{HaveStood, IsBegunBehind, IsDueCheck, IsInCheck, IsWaitingCheck}
 use Rattle.redo_core.specs.inside.Checking.{TellsAlike, asked_by, asks_next, entries_in}

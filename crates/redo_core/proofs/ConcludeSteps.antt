@@ -4,7 +4,7 @@ use Rattle.std.proofs.Common.{◌∙◌, arith}
 use Rattle.redo_build.specs.Outcomes.{outcome_at}
 use Rattle.redo_build.specs.Schedule.{Entry, put}
 use Rattle.redo_build.specs.inside.Standing.{AreStanding}
-use Rattle.redo_core.specs.Build.{GivenView, rules_for}
+use Rattle.redo_rules.specs.Build.{GivenView, rules_for}
 use Rattle.redo_core.specs.Views.{FactView}
 use Rattle.redo_core.specs.inside.Slots.{IsDecidedAt, IsDecidedStage, IsConcludedAt, IsPlace, IsStandingTable, IsTableOf}
 use Rattle.redo_core.specs.inside.Slots.{AllWatched, AreLookedAt, MayConclude, concluded_entry, is_stage_out, path_at, slot_entry}

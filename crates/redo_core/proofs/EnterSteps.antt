@@ -6,7 +6,7 @@ use Rattle.std.proofs.lemmas.Bool.{cases_Bool, both_ways}
 use Rattle.redo_record.specs.Paths.{IsAmong, is_among}
 use Rattle.redo_build.specs.Rules.{Ask, Rules, Extends, operands}
 use Rattle.redo_build.specs.Outcomes.{outcome_at}
-use Rattle.redo_core.specs.Build.{GivenView, rules_for}
+use Rattle.redo_rules.specs.Build.{GivenView, rules_for}
 use Rattle.redo_build.specs.Schedule.{Entry, only, outcomes_of, paths_of, entered, new_entry, nothing_known}
 use Rattle.std.specs.Ordering.{nat_cmp}
 use Rattle.std.specs.BTreeSet.{insert_key}

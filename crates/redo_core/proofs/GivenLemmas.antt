@@ -1,12 +1,12 @@
 -- What a build is given: one value for each tree, request and limits.
 use Rattle.std.proofs.Common.{◌≡◌, ℕ, List, refl, sym, subst}
-use Rattle.redo_core.specs.Build.{GivenView}
 use Rattle.redo_core.specs.Faults.{opening_fault_of}
-use Rattle.redo_core.specs.Results.{IsGiven}
 use Rattle.redo_core.specs.declared.board.Stop.{Stop}
 use Rattle.redo_core.specs.declared.board.Stop.TheVariants as stops
 use Rattle.redo_core.specs.declared.opening.OpenFault.TheVariants as faults
 use Rattle.redo_past.specs.Past.{IsPast, PastView}
+use Rattle.redo_rules.specs.Build.{GivenView}
+use Rattle.redo_rules.specs.Results.{IsGiven}
 use Rattle.redo_step.specs.Limits.{LimitsView}
 use Rattle.redo_tree.specs.Tree.{Tree}
 

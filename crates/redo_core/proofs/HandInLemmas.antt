@@ -8,6 +8,8 @@ use Rattle.redo_build.specs.Schedule.{Entry, Event, State, entry_of, happens, Is
 use Rattle.redo_build.specs.Schedule.Event.{Hand_in}
 use Rattle.redo_build.specs.Schedule.Phase.{Script}
 use Rattle.redo_build.specs.Looking.{IsLookedOut, looked}
+use Rattle.redo_rules.specs.Build.{GivenView, rules_for}
+use Rattle.redo_rules.proofs.Public.{lawful_for}
 use Rattle.redo_core.specs.Views.{BoardView, IsReached, PieceView, rules_on}
 use Rattle.redo_core.specs.Faults.{fault_of, IsSameBuild, RefusedRunning}
 use Rattle.redo_core.specs.declared.board.Stop.{Stop}
@@ -15,11 +17,9 @@ use Rattle.redo_core.specs.declared.board.Stop.TheVariants.{TooMany, Memory}
 use Rattle.redo_core.specs.inside.Ends.{IsEndAt}
 use Rattle.redo_core.specs.inside.Slots.{rules_inside, state_of, path_at, slot_entry, is_stage_out, IsKept, IsOutSlotAt}
 use Rattle.redo_core.specs.inside.Slots.{MayTakeIn, IsAtRest, IsLookedOn, IsMovedOn, IsTakenIn, state_after, table_state}
-use Rattle.redo_core.specs.Build.{GivenView, rules_for}
 use Rattle.redo_record.specs.Paths.{AreDistinct}
 use Rattle.redo_build.proofs.SoundLemmas.{IsSound, happens-sound}
 use Rattle.redo_build.proofs.QuietLemmas.{is_part}
-use Rattle.redo_core.proofs.LawfulTreeLemmas.{lawful_for}
 use Rattle.redo_core.proofs.LookedLemmas.{reached-sound}
 use Rattle.redo_core.specs.declared.board.Board.TheInside.{Inside}
 use Rattle.redo_core.specs.declared.table.Table.{Table}

@@ -5,7 +5,7 @@ use Rattle.std.proofs.lemmas.Bool.{cases_lt}
 use Rattle.redo_record.specs.declared.deps.Dep.{Dep}
 use Rattle.redo_build.specs.Rules.{Rules}
 use Rattle.redo_build.specs.Outcomes.{outcome_at}
-use Rattle.redo_core.specs.Build.{GivenView, rules_for}
+use Rattle.redo_rules.specs.Build.{GivenView, rules_for}
 use Rattle.redo_build.specs.Schedule.{Entry, outcomes_of}
 use Rattle.redo_build.specs.inside.Standing.{AreStanding}
 use Rattle.redo_core.specs.inside.Slots.{rounds_of, table_entries, slot_entry, stage_deps, stage_outcome, is_stage_due, is_stage_ready}

@@ -6,6 +6,7 @@ use Rattle.redo_record.specs.Paths.{is_among}
 use Rattle.redo_build.specs.Rules.{Rules, AreLawful, operands}
 use Rattle.redo_build.specs.Outcomes.{outcome_at}
 use Rattle.redo_build.specs.Schedule.{Entry, outcomes_of, only}
+use Rattle.redo_rules.specs.Build.{GivenView}
 use Rattle.redo_core.specs.inside.Slots.{AllAnswered}
 use Rattle.redo_build.specs.inside.Standing.{AreStanding, decided_count}
 use Rattle.redo_core.specs.inside.Scripts.{IsScriptOf, script_target, script_turn, script_deps, script_known}
@@ -15,7 +16,6 @@ use Rattle.redo_core.specs.declared.work.Script.TheVariants.{Unread, Begun}
 use Rattle.redo_build.proofs.DepthLemmas.{cases_Option, deeper, operand-target}
 use Rattle.redo_build.proofs.PathLemmas.{is_among-true}
 use Rattle.redo_build.proofs.StandingLemmas.{outcomes_of-deep}
-use Rattle.redo_core.specs.Build.{GivenView}
 
 pub script-holds : (given : GivenView) (s : Script) → IsScriptOf given s →
     HoldsOutcomes (record { given = given; target = script_target s; turn = script_turn s; deps = script_deps s; known = script_known s })

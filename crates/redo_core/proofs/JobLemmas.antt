@@ -10,11 +10,11 @@ use Rattle.redo_record.proofs.Public.{entered_operand, operand_entered, search_e
 use Rattle.redo_record.specs.Entries.{is_entered}
 use Rattle.redo_record.specs.Paths.{IsAmong}
 use Rattle.redo_build.specs.Rules.{Ask, operands}
-use Rattle.redo_core.specs.Build.{GivenView, rules_for, sources_for}
-use Rattle.redo_core.specs.inside.Worlds.{IsFit}
+use Rattle.redo_rules.specs.Build.{GivenView, rules_for, sources_for}
+use Rattle.redo_rules.specs.inside.Worlds.{IsFit}
+use Rattle.redo_rules.proofs.Public.{fit_found, lawful_for}
 use Rattle.redo_core.specs.inside.Works.{IsJobOf, job_deps}
 use Rattle.redo_build.proofs.DepthLemmas.{operand-target}
-use Rattle.redo_core.proofs.LawfulTreeLemmas.{fit_found, lawful_for}
 
 module _ (given : GivenView) (job : JobView) (is_job : IsJobOf given job) where
   -- the record of the search waits for the .do file alone, which is a source

@@ -1,16 +1,8 @@
 pub mod GivenLemmas
 pub mod BoardCountLemmas
 pub mod PlaceLemmas
-pub mod LawfulTreeLemmas
 pub mod CheckingLemmas
-pub mod AlikeTreeLemmas
-pub mod GoodTreeLemmas
-pub mod WholeBookLemmas
-pub mod TrueBookLemmas
-pub mod LeftBookLemmas
-pub mod TreeSourceExamples
 pub mod JobLemmas
-pub mod Examples
 pub mod SlotLemmas
 pub mod TableLemmas
 pub mod NumberLemmas

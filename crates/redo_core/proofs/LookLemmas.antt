@@ -25,7 +25,8 @@ use Rattle.redo_record.specs.declared.outcome.Outcome.{Outcome}
 use Rattle.redo_build.proofs.PathLemmas.{is_among-true}
 use Rattle.redo_build.proofs.SeenLemmas.{outcomes_of-at}
 use Rattle.redo_build.proofs.SoundLemmas.{is_able_to_go_on-parts, lacks_none-from, lacks_none-true}
-use Rattle.redo_core.specs.Build.{GivenView, rules_for}
+use Rattle.redo_rules.specs.Build.{GivenView, rules_for}
+use Rattle.redo_rules.proofs.Public.{lawful_for}
 use Rattle.redo_core.specs.declared.table.Slot.{Slot}
 use Rattle.redo_core.specs.declared.table.Stage.{Stage}
 use Rattle.redo_core.specs.declared.table.Stage.TheVariants.{Due, Checking, Waiting, Ready, Out, Decided}
@@ -33,7 +34,6 @@ use Rattle.redo_core.specs.declared.table.Table.{Table}
 use Rattle.redo_core.specs.inside.Slots.{Fits, IsAtRest, IsDrawnFrom, IsPlace, is_stage_due, is_stage_out, is_stage_ready}
 use Rattle.redo_core.specs.inside.Slots.{is_stage_waiting, path_at, rounds_of, slot_entries, slot_entry, stage_deps}
 use Rattle.redo_core.specs.inside.Slots.{IsLookedOn, IsLookedOnce, stage_outcome, table_state}
-use Rattle.redo_core.proofs.LawfulTreeLemmas.{lawful_for}
 use Rattle.redo_core.proofs.LookedLemmas.{reached-sound}
 use Rattle.redo_core.proofs.NewlyReadyLemmas.{distinct-place, due-begins}
 use Rattle.redo_core.proofs.SlotLemmas.{entry_of-slots, paths_of-slots, slice_get-below_some, slice_get-from}

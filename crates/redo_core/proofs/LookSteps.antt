@@ -27,7 +27,8 @@ use Rattle.redo_build.proofs.SoundLemmas.{IsSound, happens-sound, is_able_to_go_
 use Rattle.redo_build.proofs.StandingLemmas.{outcomes_of-deep}
 use Rattle.redo_build.proofs.TurnBoundLemmas.{turn-below}
 use Rattle.redo_build.proofs.TurnLemmas.{Extends-trans'}
-use Rattle.redo_core.specs.Build.{GivenView, rules_for}
+use Rattle.redo_rules.specs.Build.{GivenView, rules_for}
+use Rattle.redo_rules.proofs.Public.{lawful_for}
 use Rattle.redo_core.specs.Views.{IsReached}
 use Rattle.redo_core.specs.inside.Slots.{AllWatched, Fits, IsAtRest, IsDrawnFrom, IsDueThere, IsDueWith, IsOutThere, IsPlace, IsTable}
 use Rattle.redo_core.specs.inside.Slots.{IsTableOf, MayLook, entries_from, is_stage_due, is_stage_out, is_stage_ready, is_stage_waiting}
@@ -40,7 +41,6 @@ use Rattle.redo_core.specs.declared.table.Stage.{Stage}
 use Rattle.redo_core.specs.declared.table.Stage.TheVariants.{Due, Checking, Waiting, Ready, Out, Decided}
 use Rattle.redo_core.specs.declared.table.Table.{Table}
 use Rattle.redo_core.proofs.DueSteps.{due-drawn}
-use Rattle.redo_core.proofs.LawfulTreeLemmas.{lawful_for}
 use Rattle.redo_core.proofs.NewlyReadyLemmas.{distinct-place, due-begins, map-among, slot-of-entry, among-map}
 use Rattle.redo_core.proofs.SlotLemmas.{deps_deep, entry_of-slots, length-filter_le, paths_of-slots, slice_get-below_some, slice_get-from}
 use Rattle.redo_core.proofs.SlotLemmas.{slot_entries-set}

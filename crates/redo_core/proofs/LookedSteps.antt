@@ -21,7 +21,8 @@ use Rattle.redo_build.proofs.SeenLemmas.{entry_of-entered_old, outcomes_of-at, o
 use Rattle.redo_build.proofs.TurnLemmas.{only-Extends, only-among, Extends-trans'}
 use Rattle.redo_skip.specs.Checks.{built, shown}
 use Rattle.redo_tree.specs.Tree.{file_at}
-use Rattle.redo_core.specs.Build.{GivenView, rules_for}
+use Rattle.redo_rules.specs.Build.{GivenView, rules_for}
+use Rattle.redo_rules.proofs.Public.{lawful_for}
 use Rattle.redo_core.specs.Views.{FactView}
 use Rattle.redo_core.specs.inside.Checking.{IsWaitingCheck, asks_next, entries_in}
 use Rattle.redo_core.specs.inside.Decided.{IsDecided}
@@ -34,7 +35,6 @@ use Rattle.redo_core.specs.declared.table.Stage.{Stage}
 use Rattle.redo_core.specs.declared.table.Table.{Table}
 use Rattle.redo_core.proofs.CheckingLemmas.{due-asks, due-kept, due-waits, waiting-moves}
 use Rattle.redo_core.proofs.EnterAllLemmas.{entered-seen, operands-append}
-use Rattle.redo_core.proofs.LawfulTreeLemmas.{lawful_for}
 use Rattle.redo_core.proofs.PutSteps.{asked-table, asked-watched, put-entries}
 use Rattle.redo_core.proofs.SlotLemmas.{paths_of-slots, slice_get-below_some}
 use Rattle.redo_core.proofs.TakeInLemmas.{all-entered}

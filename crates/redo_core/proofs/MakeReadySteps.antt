@@ -9,8 +9,9 @@ use Rattle.redo_step.specs.JobView.{JobView}
 use Rattle.redo_record.specs.Paths.{AreDistinct, IsAmong, is_among}
 use Rattle.redo_build.specs.Rules.{Ask, Rules, operands}
 use Rattle.redo_build.specs.Outcomes.{outcome_at}
-use Rattle.redo_core.specs.Build.{GivenView, rules_for}
 use Rattle.redo_build.specs.Schedule.{Entry, outcome_of, outcomes_of, entry_of, only}
+use Rattle.redo_rules.specs.Build.{GivenView, rules_for}
+use Rattle.redo_rules.proofs.Public.{lawful_for}
 use Rattle.redo_core.specs.inside.Works.{all_asked, job_deps, told_in, waited_by, IsWorkWith}
 use Rattle.redo_core.specs.inside.Checking.{IsBegunBehind, TellsAlike}
 use Rattle.redo_build.specs.inside.Turns.{IsWork}
@@ -29,7 +30,6 @@ use Rattle.redo_core.specs.declared.table.Table.{Table}
 use Rattle.redo_core.specs.declared.table.Stage.TheVariants.{Due, Checking, Waiting, Ready, Out, Decided}
 use Rattle.redo_build.proofs.PathLemmas.{is_among-true}
 use Rattle.redo_build.proofs.DepthLemmas.{cases_Option, operand-target}
-use Rattle.redo_core.proofs.LawfulTreeLemmas.{lawful_for}
 use Rattle.redo_core.proofs.JobLemmas.{asked_of_job, asked_by_job}
 use Rattle.redo_build.proofs.TurnLemmas.{only-among}
 use Rattle.redo_core.proofs.SlotLemmas.{entry_of-slots, slice_get-below_some}

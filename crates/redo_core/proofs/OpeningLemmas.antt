@@ -7,9 +7,10 @@ use Rattle.std.proofs.lemmas.List.Elements.{filter-append}
 use Rattle.redo_record.specs.Paths.{IsAmong, is_among, with_new}
 use Rattle.redo_build.specs.Rules.{Rules}
 use Rattle.redo_build.specs.Outcomes.{IsTooMany}
-use Rattle.redo_core.specs.Build.{GivenView, rules_for}
 use Rattle.redo_build.specs.Schedule.{Entry, State, paths_of, entered, enqueued, opening, out_count}
 use Rattle.redo_build.specs.inside.Standing.{AreStanding}
+use Rattle.redo_rules.specs.Build.{GivenView, rules_for}
+use Rattle.redo_rules.proofs.Public.{lawful_for}
 use Rattle.redo_core.specs.declared.board.Board.TheInside.{Inside}
 use Rattle.redo_build.proofs.QuietLemmas.{is_part}
 use Rattle.redo_build.specs.Looking.{IsLookedOut, looked}
@@ -23,7 +24,6 @@ use Rattle.redo_core.proofs.LookedLemmas.{looked-left, looked-longer}
 use Rattle.redo_core.specs.declared.table.Table.{Table}
 use Rattle.redo_build.proofs.PathLemmas.{is_among-true, with_new-second}
 use Rattle.redo_build.proofs.SeenLemmas.{paths_of-entered, entered-longer}
-use Rattle.redo_core.proofs.LawfulTreeLemmas.{lawful_for}
 use Rattle.redo_build.proofs.SoundLemmas.{IsSound, opening-sound}
 use Rattle.redo_core.proofs.EnterAllLemmas.{entered-append, entered-seen, path-take}
 use Rattle.redo_core.proofs.EnqueueLemmas.{enqueued-table, enqueued-watched, enqueued-state}

@@ -6,8 +6,9 @@ use Rattle.std.proofs.lemmas.Bool.{cases_Bool, both_ways}
 use Rattle.redo_record.specs.Paths.{AreDistinct}
 use Rattle.redo_build.specs.Rules.{Ask, Rules, Extends}
 use Rattle.redo_build.specs.Outcomes.{outcome_at}
-use Rattle.redo_core.specs.Build.{GivenView, rules_for}
 use Rattle.redo_build.specs.Schedule.{outcomes_of, put}
+use Rattle.redo_rules.specs.Build.{GivenView, rules_for}
+use Rattle.redo_rules.proofs.Public.{lawful_for}
 use Rattle.redo_core.specs.Views.{FactView}
 use Rattle.redo_core.specs.inside.Slots.{rounds_of, table_entries, entries_from, slot_entry, stage_deps, stage_outcome, path_at}
 use Rattle.redo_core.specs.inside.Slots.{is_stage_out, is_stage_due, is_stage_ready, is_stage_waiting, Fits, AllWatched, IsPlace}
@@ -30,7 +31,6 @@ use Rattle.redo_core.proofs.TableLemmas.{Fits-more, get-set_cases, get-set_other
 use Rattle.redo_core.proofs.TableLemmas.{IsWatched-set, cases_place}
 use Rattle.redo_core.proofs.TableSteps.{queue-same}
 use Rattle.redo_core.proofs.DueSteps.{due-same}
-use Rattle.redo_core.proofs.LawfulTreeLemmas.{lawful_for}
 
 count-back : (xs : List Slot) (at : ℕ) (old new : Slot) → slice_get xs at ≡ Some old → is_stage_out old.stage ≡ true → is_stage_out new.stage ≡ false →
     length (filter (λ slot. is_stage_out slot.stage) (slice_set xs at new)) + 1 ≡ length (filter (λ slot. is_stage_out slot.stage) xs)

@@ -10,7 +10,7 @@ use Rattle.redo_tree.specs.Tree.{file_at}
 use Rattle.redo_record.specs.declared.deps.Dep.{Dep}
 use Rattle.redo_record.specs.declared.outcome.Outcome.{Outcome}
 use Rattle.redo_record.specs.declared.outcome.Outcome.TheVariants.{Built, Cyclic, Source as Is_source}
-use Rattle.redo_core.specs.Build.{GivenView, rules_for}
+use Rattle.redo_rules.specs.Build.{GivenView, rules_for}
 use Rattle.redo_build.specs.Outcomes.{outcome_at, needed_at, final_outcome, record_of}
 use Rattle.redo_record.specs.Paths.{IsAmong, AreDistinct}
 use Rattle.redo_core.specs.inside.Reported.{reported_paths, placed, sources_among, row_files, row_begun}

@@ -17,7 +17,8 @@ use Rattle.redo_build.specs.inside.Turns.{IsWork}
 use Rattle.redo_build.proofs.DepthLemmas.{cases_Option}
 use Rattle.redo_build.proofs.HandoverLemmas.{taken-deep}
 use Rattle.redo_build.proofs.TurnLemmas.{only-among}
-use Rattle.redo_core.specs.Build.{GivenView, rules_for}
+use Rattle.redo_rules.specs.Build.{GivenView, rules_for}
+use Rattle.redo_rules.proofs.Public.{lawful_for}
 use Rattle.redo_core.specs.Views.{FactView, WorkView}
 use Rattle.redo_core.specs.inside.Checking.{IsBegunBehind, IsDueCheck, IsWaitingCheck}
 use Rattle.redo_record.specs.declared.outcome.Outcome.{Outcome}
@@ -41,7 +42,6 @@ use Rattle.redo_core.specs.declared.table.Stage.{Stage}
 use Rattle.redo_core.specs.declared.table.Stage.TheVariants.{Due, Checking, Waiting, Ready, Out, Decided}
 use Rattle.redo_core.specs.declared.table.Table.{Table}
 use Rattle.redo_core.proofs.CheckingLemmas.{behind-moves, number-within, waiting-asked}
-use Rattle.redo_core.proofs.LawfulTreeLemmas.{lawful_for}
 use Rattle.redo_core.proofs.SlotLemmas.{entry_of-slots, slice_get-below_some}
 use Rattle.redo_core.proofs.NumberLemmas.{numbered-still}
 use Rattle.redo_core.proofs.TableLemmas.{answered-alike, only-alike, get-set_cases, get-set_same, set-twice, IsWatched-set}

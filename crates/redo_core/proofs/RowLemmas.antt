@@ -19,10 +19,10 @@ use Rattle.std.specs.declared.cmp.Ordering.TheVariants.{Less}
 use Rattle.redo_record.specs.declared.outcome.Outcome.{Outcome}
 use Rattle.redo_record.specs.declared.outcome.Outcome.TheVariants.{Source, Built, Failed, Cyclic}
 use Rattle.redo_record.specs.Paths.{IsAmong}
-use Rattle.redo_core.specs.Build.{GivenView}
 use Rattle.redo_core.specs.declared.table.Table.{Table}
 use Rattle.redo_core.specs.inside.Reported.{AreRowsOf, IsRowOf, file_of, placed, row_files, row_begun}
 use Rattle.redo_report.specs.declared.report.Row.{Row}
+use Rattle.redo_rules.specs.Build.{GivenView}
 use Rattle.redo_core.proofs.OrderLemmas.{IsBefore, AreSorted, placed-from, placed-second, placed-sorted, sorted-unique}
 
 module _ {X : Type 0} where

@@ -1,7 +1,7 @@
 -- Looking at several numbers again, one after the other.
 use Rattle.std.proofs.Common.{◌≡◌, ℕ, zero, suc, ◌+◌, ◌<◌, List, [], ◌∷◌, ◌++◌, length, drop, slice_get, slice_index_or}
 use Rattle.std.proofs.Common.{Some, refl, subst, ◌∙◌, arith}
-use Rattle.redo_core.specs.Build.{GivenView, rules_for}
+use Rattle.redo_rules.specs.Build.{GivenView, rules_for}
 use Rattle.redo_core.specs.inside.Slots.{AllWatched, IsPlace, IsLookedAt, AreLookedAtBelow}
 use Rattle.redo_core.specs.declared.table.Table.{Table}
 use Rattle.redo_core.proofs.TableLemmas.{slice_get-place}

@@ -15,7 +15,8 @@ use Rattle.redo_which.specs.Rule.{found_of}
 use Rattle.redo_build.specs.Outcomes.{outcome_at, record_of}
 use Rattle.redo_build.specs.Rules.{AreLawful, Ask, Extends, Rules, asked_under, operands}
 use Rattle.redo_build.proofs.DepthLemmas.{cases_Option, deeper, operand-target, outcome_at-step}
-use Rattle.redo_core.specs.Build.{GivenView, rules_for, sources_for}
+use Rattle.redo_rules.specs.Build.{GivenView, rules_for, sources_for}
+use Rattle.redo_rules.proofs.Public.{lawful_for, plain_lawful}
 use Rattle.redo_core.specs.inside.Checking.{TellsAlike}
 use Rattle.redo_core.specs.inside.Decided.{IsDecided}
 use Rattle.redo_core.specs.inside.Reported.{IsBegunAs, IsShown}
@@ -27,7 +28,6 @@ use Rattle.redo_core.specs.declared.table.Stage.{Stage}
 use Rattle.redo_core.specs.declared.table.Stage.TheVariants.{Due, Checking, Waiting, Ready, Out, Decided}
 use Rattle.redo_core.proofs.CheckingLemmas.{waiting-shows}
 use Rattle.redo_core.proofs.AllAskedLemmas.{asked-cases, told-alike}
-use Rattle.redo_core.proofs.LawfulTreeLemmas.{lawful_for, plain_lawful}
 
 later_deps : (job : JobView) → 0 < job.turn → record_so_far job ≡ job_deps job
 later_deps job h = (elim (job.turn) as (λ (n : ℕ). 0 < n → record_so_far job ≡ elim n [ zero ↦ [] | suc k ↦ record_so_far job ]) [

@@ -13,6 +13,7 @@ use Rattle.redo_build.proofs.DepthLemmas.{deeper}
 use Rattle.redo_build.proofs.TurnLemmas.{deps_at_turn-more, Extends-trans'}
 use Rattle.redo_build.proofs.StandingLemmas.{outcomes_of-deep}
 use Rattle.redo_build.specs.Schedule.{Entry, paths_of, entry_of, only, outcomes_of, State, put, sent_out, taken, happens}
+use Rattle.redo_rules.specs.Build.{GivenView}
 use Rattle.redo_core.specs.inside.Slots.{rounds_of, slot_entries, stage_outcome, is_stage_out, is_stage_ready, Fits, AllAnswered}
 use Rattle.redo_core.specs.inside.Slots.{decided_slots, is_stage_decided, entries_from, slot_entry, stage_deps, path_at, state_from, IsParked}
 use Rattle.redo_core.specs.declared.table.Slot.{Slot}
@@ -28,7 +29,6 @@ use Rattle.redo_build.proofs.SoundLemmas.{IsSound}
 use Rattle.redo_record.specs.declared.deps.Dep.{Dep}
 use Rattle.redo_record.specs.declared.outcome.Outcome.{Outcome}
 use Rattle.std.proofs.lemmas.Slice.Eq.{bytes_eq-Decides}
-use Rattle.redo_core.specs.Build.{GivenView}
 
 -- as many entries are out as slots
 pub out_count-slots : (r : Rules) (a : Ask) (ps : List (List ℕ)) (slots : List Slot) → length slots ≡ length ps →

@@ -9,6 +9,8 @@ use Rattle.redo_build.proofs.SeenLemmas.{entry_of-put_other}
 use Rattle.redo_record.specs.declared.deps.Dep.{Dep}
 use Rattle.redo_build.specs.Outcomes.{outcome_at}
 use Rattle.redo_build.specs.Schedule.{only, outcome_of, outcomes_of}
+use Rattle.redo_rules.proofs.Public.{lawful_for}
+use Rattle.redo_rules.specs.Build.{GivenView, rules_for}
 use Rattle.redo_core.specs.inside.Slots.{rounds_of, entries_from, slot_entry, stage_deps, stage_outcome, path_at, is_stage_waiting}
 use Rattle.redo_core.specs.inside.Slots.{Fits, AllAnswered, AllFit, AllWatched, AllWatchersBelow, IsWatched, IsPlace}
 use Rattle.redo_core.specs.inside.Works.{all_asked, told_in, waited_by}
@@ -22,8 +24,6 @@ use Rattle.redo_core.proofs.SlotLemmas.{entry_of-slots, slot_entries-set}
 use Rattle.std.proofs.lemmas.Slice.Eq.{bytes_eq-Decides}
 use Rattle.redo_build.proofs.PathLemmas.{filter-from, is_among-true}
 use Rattle.redo_core.proofs.CheckingLemmas.{due-moves, waiting-moves}
-use Rattle.redo_core.proofs.LawfulTreeLemmas.{lawful_for}
-use Rattle.redo_core.specs.Build.{GivenView, rules_for}
 
 pub slice_get-place : (xs : List ℕ) (i k : ℕ) → slice_get xs i ≡ Some k → IsPlace xs k
 slice_get-place [] i k h = cc

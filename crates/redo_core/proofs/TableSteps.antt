@@ -7,8 +7,9 @@ use Rattle.std.proofs.lemmas.Bool.{cases_Bool, both_ways}
 use Rattle.redo_record.specs.Paths.{IsAmong, AreDistinct}
 use Rattle.redo_build.specs.Rules.{Ask, Rules, AreLawful, Extends, operands}
 use Rattle.redo_build.specs.Outcomes.{outcome_at}
-use Rattle.redo_core.specs.Build.{GivenView, rules_for}
 use Rattle.redo_build.specs.Schedule.{Entry, known_to, only, outcome_of, outcomes_of, entry_of}
+use Rattle.redo_rules.specs.Build.{GivenView, rules_for}
+use Rattle.redo_rules.proofs.Public.{lawful_for}
 use Rattle.redo_core.specs.inside.Slots.{rounds_of, table_entries, entries_from, slot_entries, slot_entry, stage_deps}
 use Rattle.redo_core.specs.inside.Slots.{stage_outcome, path_at, is_stage_due, is_stage_out, is_stage_ready}
 use Rattle.redo_core.specs.inside.Slots.{is_stage_waiting}
@@ -27,7 +28,6 @@ use Rattle.redo_build.proofs.PathLemmas.{filter-from}
 use Rattle.redo_build.proofs.QueueLemmas.{filter-keeps, slice_get-among}
 use Rattle.redo_core.proofs.NumberLemmas.{numbers-number, numbers-path, numbered-set, among-place}
 use Rattle.redo_build.proofs.DepthLemmas.{cases_Option}
-use Rattle.redo_core.proofs.LawfulTreeLemmas.{lawful_for}
 use Rattle.redo_core.proofs.AllAskedLemmas.{asked-cases, asked-second, first-alike, told-alike}
 use Rattle.redo_core.proofs.DueSteps.{due-same}
 use Rattle.redo_core.proofs.TableLemmas.{fits-set, place-slice_get, place-append, place-left, place-right}

@@ -13,13 +13,14 @@ use Rattle.redo_record.specs.Paths.{IsAmong, AreDistinct, is_among}
 use Rattle.redo_record.proofs.Public.{entered_operand, one_entered, operand_entered, operand_target, sources_alone}
 use Rattle.redo_build.specs.Rules.{Ask, Rules, AreLawful, Extends, operands}
 use Rattle.redo_build.specs.Outcomes.{outcome_at}
-use Rattle.redo_core.specs.Build.{GivenView, rules_for, sources_for}
 use Rattle.redo_build.specs.Schedule.{Entry, State, outcomes_of, paths_of, entry_of, entered, put, only, advanced}
 use Rattle.redo_build.specs.Schedule.{moved_on, enqueued, IsOutAt}
 use Rattle.redo_build.specs.Schedule.Event.{Hand_in}
 use Rattle.redo_build.specs.Schedule.Phase.{Script}
 use Rattle.redo_build.specs.inside.Standing.{decided_count, rounds, AreStanding}
 use Rattle.redo_build.specs.inside.Turns.{CameTo, IsBegunAt, begins_at, deps_at_turn}
+use Rattle.redo_rules.specs.Build.{GivenView, rules_for, sources_for}
+use Rattle.redo_rules.proofs.Public.{lawful_for}
 use Rattle.redo_core.specs.Views.{FactView}
 use Rattle.redo_core.specs.inside.Works.{all_asked, job_deps, told_in, waited_by, IsStopped}
 use Rattle.redo_core.specs.inside.Checking.{IsBegunBehind}
@@ -41,7 +42,6 @@ use Rattle.redo_core.specs.declared.work.End.TheVariants.{Ended, Stopped}
 use Rattle.redo_build.proofs.PathLemmas.{is_among-true, with_new-second, with_new-distinct}
 use Rattle.redo_build.proofs.DepthLemmas.{cases_Option, ended_stays, operand-target, deeper}
 use Rattle.redo_build.proofs.SeenLemmas.{decided_count-length, outcomes_of-at, outcomes_of-entry, paths_of-entered, entry_of-entered_old}
-use Rattle.redo_core.proofs.LawfulTreeLemmas.{lawful_for}
 use Rattle.redo_core.proofs.JobLemmas.{found_sources}
 use Rattle.redo_build.proofs.TurnLemmas.{asked-more, only-some, only-Extends, deps_at_turn-more, Extends-trans'}
 use Rattle.redo_build.proofs.TurnBoundLemmas.{turn-below}

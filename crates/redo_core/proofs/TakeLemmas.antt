@@ -5,6 +5,8 @@ use Rattle.std.proofs.Common.{is_some, slice_get, slice_set, slice_index_or, rem
 use Rattle.std.proofs.lemmas.Bool.{cases_Bool}
 use Rattle.redo_build.specs.Rules.{Rules, operands, AreLawful, Ask}
 use Rattle.redo_record.specs.Paths.{IsAmong, AreDistinct}
+use Rattle.redo_rules.specs.Build.{rules_for}
+use Rattle.redo_rules.proofs.Public.{lawful_for}
 use Rattle.redo_core.proofs.NumberLemmas.{numbered-set}
 use Rattle.redo_build.proofs.QueueLemmas.{remove-gone, slice_get-among}
 use Rattle.std.specs.declared.collections.VecDeque.{VecDeque}
@@ -17,7 +19,6 @@ use Rattle.redo_core.specs.inside.Slots.{AreDue, IsQueue, IsTable, AllWatched, i
 use Rattle.redo_build.specs.Outcomes.{outcome_at}
 use Rattle.redo_core.proofs.TableLemmas.{slice_get-place, place-slice_get, remove-place, remove-place_cases}
 use Rattle.redo_core.proofs.TableLemmas.{get-set_cases, fits-set, outcomes-more, watchers-set, watched-set}
-use Rattle.redo_core.specs.Build.{rules_for}
 use Rattle.redo_core.specs.Views.{jobs_out, ready_count, rules_on, told_by, BoardView, WorkView, IsReached, IsWorkTaken}
 use Rattle.redo_core.specs.inside.Works.{HoldsOutcomes}
 use Rattle.redo_core.specs.declared.board.Board.TheInside.{Inside}
@@ -25,7 +26,6 @@ use Rattle.redo_core.specs.declared.table.Slot.{Slot}
 use Rattle.redo_core.specs.declared.table.Stage.TheVariants.{Ready, Out}
 use Rattle.redo_core.specs.declared.work.Work.{Work}
 use Rattle.redo_core.proofs.HoldingLemmas.{same-answers}
-use Rattle.redo_core.proofs.LawfulTreeLemmas.{lawful_for}
 use Rattle.redo_core.proofs.LookLemmas.{none_due}
 use Rattle.redo_core.proofs.LookedLemmas.{reached-sound}
 use Rattle.redo_build.specs.Looking.{NoneDue}

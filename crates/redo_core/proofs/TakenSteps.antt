@@ -11,13 +11,13 @@ use Rattle.redo_build.specs.Takes.{takes, place_of, AreBegun, AreCountedOnce, Ar
 use Rattle.redo_build.specs.Theorems.{ShowsBuild}
 use Rattle.redo_report.specs.Reports.{IsReport}
 use Rattle.redo_report.specs.declared.report.Report.{Report}
+use Rattle.redo_rules.specs.Build.{GivenView}
+use Rattle.redo_rules.proofs.Public.{lawful_for}
 use Rattle.redo_core.specs.Taken.{HasTaken}
 use Rattle.redo_core.specs.Views.{BoardView, WorkView, IsFirstBoard, IsHandedIn, IsLookedAhead, IsQuietBoard, IsWorkTaken}
 use Rattle.redo_core.specs.Views.{after, opened, ready_count, rules_on}
-use Rattle.redo_core.specs.Build.{GivenView}
 use Rattle.redo_build.specs.Looking.{NoneDue}
 use Rattle.redo_build.proofs.SeenLemmas.{entry_of-path}
-use Rattle.redo_core.proofs.LawfulTreeLemmas.{lawful_for}
 use Rattle.redo_build.proofs.BegunLemmas.{begun-seen}
 use Rattle.redo_build.proofs.CountedLemmas.{once-counted}
 use Rattle.redo_build.proofs.LookingLemmas.{looks-lead}

@@ -1,7 +1,4 @@
-pub mod Build
 pub mod Views
 pub mod Faults
 pub mod Taken
-pub mod Results
-pub mod TreeSources
 pub mod inside

@@ -4,13 +4,16 @@ use Rattle.std.specs.Prelude.{bytes_eq, count_by}
 use Rattle.std.specs.Map.{lookup}
 use Rattle.redo_record.specs.Progress.{Progress}
 use Rattle.redo_build.specs.Rules.{Ask, Rules, operands}
-use Rattle.redo_core.specs.Build.{GivenView, rules_for}
 use Rattle.redo_build.specs.Schedule.{Entry, State, Event, AllOpen, entry_of, outcomes_of, only, opening, run, happens}
 use Rattle.redo_build.specs.Schedule.{out_count}
 use Rattle.redo_build.specs.Schedule.Event.{Hand_in}
 use Rattle.redo_build.specs.Looking.{IsLookedOut}
 use Rattle.redo_record.specs.declared.deps.Dep.{Dep}
 use Rattle.redo_record.specs.declared.outcome.Outcome.{Outcome}
+use Rattle.redo_step.specs.Limits.{LimitsView}
+use Rattle.redo_tree.specs.Tree.{Tree}
+use Rattle.redo_rules.specs.Build.{GivenView, rules_for}
+use Rattle.redo_rules.specs.Results.{IsGiven}
 use Rattle.redo_core.specs.declared.board.Stop.{Stop}
 
 -- a decided target of a build with its outcome, its record and whether its script was begun
@@ -92,6 +95,11 @@ pub record IsLookedAhead (first board : BoardView) : Type 0 where
 -- the board of a build that is given this, before the first take
 abbrev pub IsFirstBoard : GivenView → BoardView → Type 0
 IsFirstBoard given board = IsLookedAhead (opened given) board
+
+-- the board of the build of this tree, this request and these limits, before the first take
+pub record IsOpened (tree : Tree) (request : List (List ℕ)) (limits : LimitsView) (b : BoardView) : Type 0 where
+  pub given : IsGiven tree request limits b.given
+  pub is : IsFirstBoard b.given b
 
 -- the board after an event
 abbrev pub after : BoardView → Event → BoardView

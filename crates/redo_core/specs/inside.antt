@@ -5,4 +5,3 @@ pub mod Reported
 pub mod Scripts
 pub mod Slots
 pub mod Works
-pub mod Worlds

@@ -5,9 +5,9 @@
 ghost use Rattle.std.specs.Prelude.{◌≡◌, ◌↔◌, ◌<◌, ◌≤◌, ◌+◌, ◌*◌, IsTrue, IsNone, IfOk, IfErr, OnOk, OnErr, length};
 ghost use Rattle.std.specs.Prelude.{Err, Some, None, ℕ};
 ghost use Rattle.std.specs.Arc.{arc_value};
+ghost use Rattle.redo_rules.specs.Results.{IsGiven, IsRefused, IsResult, NeedsTooMany};
 ghost use Rattle.redo_core.specs.Views.{ready_count, jobs_out, seen_count, decided_count, after, rules_on, request_on, limit_on, IsQuietBoard};
-ghost use Rattle.redo_core.specs.Views.{Belongs, IsHandedIn, IsWorkTaken};
-ghost use Rattle.redo_core.specs.Results.{IsGiven, IsOpened, IsRefused, IsResult, NeedsTooMany};
+ghost use Rattle.redo_core.specs.Views.{Belongs, IsHandedIn, IsOpened, IsWorkTaken};
 ghost use Rattle.redo_build.specs.Outcomes.{IsTooMany};
 ghost use Rattle.redo_build.specs.Schedule.{Event, IsOutAt, IsOpen};
 ghost use Rattle.redo_build.specs.Schedule.Event.{Take, Hand_in};

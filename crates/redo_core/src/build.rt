@@ -43,7 +43,7 @@ pub(crate) struct Build {
 impl Model for Build {
     ghost use Rattle.std.specs.Prelude.{◌≡◌, length};
     ghost use Rattle.std.specs.Arc.{arc_value};
-    ghost use Rattle.redo_core.specs.Build.{GivenView};
+    ghost use Rattle.redo_rules.specs.Build.{GivenView};
 
     ghost Value = { GivenView };
 

@@ -12,7 +12,7 @@ ghost use Rattle.redo_build.specs.Schedule.{nothing_known};
 ghost use Rattle.redo_skip.specs.Checks.{has_state as is_of_state, shown as shown_as, standing};
 ghost use Rattle.redo_skip.specs.Checks.{stands_if as stood_if, told};
 ghost use Rattle.redo_tree.specs.Tree.{file_at};
-ghost use Rattle.redo_core.specs.Build.{checks_for, is_free as is_free_in, rules_for, sources_for};
+ghost use Rattle.redo_rules.specs.Build.{checks_for, is_free as is_free_in, rules_for, sources_for};
 ghost use Rattle.redo_core.specs.inside.Checking.{FallsBehind, IsBegunBehind, IsCheckedBy, IsDueCheck, IsInCheck};
 ghost use Rattle.redo_core.specs.inside.Checking.{IsWaitingCheck, IsWalkedTo, asks_next, entries_in, seen_entries};
 ghost use Rattle.redo_core.specs.inside.Checking.{standing_of, state_of_entry};

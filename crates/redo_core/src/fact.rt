@@ -1,7 +1,7 @@
 //! Decided targets, each with what became of it.
 ghost use Rattle.std.specs.Prelude.{◌≡◌, IsTrue, true};
 ghost use Rattle.std.specs.Arc.{arc_value};
-ghost use Rattle.redo_core.specs.Build.{rules_for};
+ghost use Rattle.redo_rules.specs.Build.{rules_for};
 ghost use Rattle.redo_core.specs.inside.Decided.{IsDecided};
 
 use crate::given::Given;

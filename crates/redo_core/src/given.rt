@@ -2,8 +2,8 @@
 ghost use Rattle.std.specs.Prelude.{◌≡◌, ◌↔◌, List, ℕ, IfOk, IsTrue, not};
 ghost use Rattle.redo_names.specs.Paths.{is_among};
 ghost use Rattle.std.specs.Arc.{arc_value};
-ghost use Rattle.redo_core.specs.Build.{rules_for};
-ghost use Rattle.redo_core.specs.Results.{IsGiven};
+ghost use Rattle.redo_rules.specs.Build.{rules_for};
+ghost use Rattle.redo_rules.specs.Results.{IsGiven};
 
 use crate::same::{are_same_paths, is_same_tree};
 use crate::scripts::Reading;
@@ -33,7 +33,7 @@ pub(crate) struct Given {
 
 impl Model for Given {
     ghost use Rattle.std.specs.Arc.{arc_value};
-    ghost use Rattle.redo_core.specs.Build.{GivenView};
+    ghost use Rattle.redo_rules.specs.Build.{GivenView};
 
     ghost Value = { GivenView };
 

@@ -1,6 +1,6 @@
 //! What the opening and a hand-in do to the table.
 ghost use Rattle.std.specs.Prelude.{◌≡◌, ◌<◌, ℕ, [], length, IfOk, OnOk, Err};
-ghost use Rattle.redo_core.specs.Build.{rules_for};
+ghost use Rattle.redo_rules.specs.Build.{rules_for};
 ghost use Rattle.redo_core.specs.inside.Slots.{IsPlace, AreNumbers, IsTableOf, IsStandingTable, AreEnteredInto};
 ghost use Rattle.redo_core.specs.inside.Slots.{AreTooMany, AreLookedAt, AreEnqueued, MayTakeIn, IsPutBackThere};
 ghost use Rattle.redo_core.specs.inside.Slots.{IsTakenIn, IsFirstTable, targets_in, table_entries, state_after};

@@ -2,7 +2,7 @@
 ghost use Rattle.std.specs.Prelude.{◌≡◌, ℕ, List, ◌↔◌, ◌<◌, ◌≤◌, ◌+◌, ◌++◌, ◌∷◌, [], OnOk, IfOk, IfSome};
 ghost use Rattle.std.specs.Prelude.{IfNone, MatchOption, length, slice_get, Some, None};
 ghost use Rattle.redo_record.specs.Paths.{IsAmong, AreDistinct};
-ghost use Rattle.redo_core.specs.Build.{rules_for};
+ghost use Rattle.redo_rules.specs.Build.{rules_for};
 ghost use Rattle.redo_core.specs.inside.Slots.{IsPlace, IsDecidedNumber, GainsOne, IsLackingAt};
 ghost use Rattle.redo_core.specs.inside.Slots.{AreDecidedFrom, is_stage_decided, is_stage_ready, is_stage_out};
 ghost use Rattle.redo_core.specs.inside.Slots.{IsOutSlotAt, IsWaitingThere, IsHeldAt, IsTableOf, IsStandingTable};

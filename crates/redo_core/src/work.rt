@@ -3,7 +3,7 @@ ghost use Rattle.std.specs.Prelude.{◌≡◌, ◌↔◌, [], Some, None, MatchO
 ghost use Rattle.std.specs.Arc.{arc_value};
 ghost use Rattle.redo_build.specs.Lacking.{lacking_under};
 ghost use Rattle.redo_record.specs.Answers.{file_in};
-ghost use Rattle.redo_core.specs.Build.{rules_for};
+ghost use Rattle.redo_rules.specs.Build.{rules_for};
 ghost use Rattle.redo_core.specs.Views.{told_by};
 ghost use Rattle.redo_core.specs.inside.Works.{IsUnreadWork, IsWorkWith, HoldsOutcomes, all_asked, found_as, known_in};
 ghost use Rattle.redo_core.specs.inside.Works.{told_in};

@@ -20,8 +20,8 @@ use Rattle.redo_past.specs.Past.{PastView}
 use Rattle.redo_past.proofs.LoopLemmas.{made-more}
 use Rattle.redo_skip.specs.Checks.{standing}
 use Rattle.redo_skip.specs.NewBook.{LastRun}
-use Rattle.redo_core.specs.Build.{GivenView, last_run_of, rules_for, sources_by}
-use Rattle.redo_core.specs.Results.{IsResult}
+use Rattle.redo_rules.specs.Build.{GivenView, last_run_of, rules_for, sources_by}
+use Rattle.redo_rules.specs.Results.{IsResult}
 use Rattle.redo_why.specs.Reasons.{Reason, Requested, Altered, first_by, first_fallen, reason_fallen, reason_recorded}
 use Rattle.redo_why_trees.specs.TreeWhy.{TellsOf, reason_for}
 use Rattle.redo_explain.specs.Explained.{AreReasons, IsExplained}

@@ -1,3 +1,4 @@
 pub mod AlteredLemmas
+pub mod AmongLemmas
 pub mod BegunLemmas
 pub mod RowLemmas

@@ -4,7 +4,7 @@ use Rattle.std.specs.List.{AllByRecursion}
 use Rattle.redo_which.specs.Rule.{found_of}
 use Rattle.redo_build.specs.Outcomes.{outcome_at}
 use Rattle.redo_report.specs.declared.report.Report.{Report}
-use Rattle.redo_core.specs.Build.{GivenView, rules_for}
+use Rattle.redo_rules.specs.Build.{GivenView, rules_for}
 use Rattle.redo_why.specs.Reasons.{Reason}
 use Rattle.redo_why_trees.specs.TreeWhy.{reason_for}
 use Rattle.redo_explain.specs.Words.{reason_line}

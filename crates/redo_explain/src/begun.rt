@@ -3,9 +3,9 @@
 ghost use Rattle.std.specs.Prelude.{◌≡◌, IfOk, List, map, option_map, ℕ};
 ghost use Rattle.redo_book.specs.Book.{record_at, record_of};
 ghost use Rattle.redo_book.specs.Intact.{is_intact as stands_as_left};
-ghost use Rattle.redo_core.specs.Build.{GivenView, last_run_of};
-ghost use Rattle.redo_core.specs.Results.{IsGiven, IsResult};
 ghost use Rattle.redo_names.specs.Paths.{is_among};
+ghost use Rattle.redo_rules.specs.Build.{GivenView, last_run_of};
+ghost use Rattle.redo_rules.specs.Results.{IsGiven, IsResult};
 ghost use Rattle.redo_step.specs.Limits.{LimitsView};
 ghost use Rattle.redo_tree.specs.Tree.{file_at};
 ghost use Rattle.redo_why.specs.Reasons.{reason_of, reason_recorded};

@@ -3,7 +3,7 @@
 ghost use Rattle.std.specs.Prelude.{◌≡◌, IfOk, Some, option_copied};
 ghost use Rattle.redo_book.specs.declared.book.BookEntry.TheVariants.{Change};
 ghost use Rattle.redo_skip.specs.Checks.{has_state as is_of_state, standing, stands_if, told};
-ghost use Rattle.redo_core.specs.Build.{is_free as is_free_in};
+ghost use Rattle.redo_rules.specs.Build.{is_free as is_free_in};
 ghost use Rattle.redo_why.specs.Reasons.{first_fallen as first_to_fall};
 ghost use Rattle.redo_explain.specs.inside.Told.{AreRows, sources_in, told_by};
 

@@ -1,8 +1,8 @@
 //! Why each script was begun, in words.
 
 ghost use Rattle.std.specs.Prelude.{◌≡◌, ◌++◌, IfOk, OnOk, flat_map, map};
-ghost use Rattle.redo_core.specs.Build.{GivenView};
-ghost use Rattle.redo_core.specs.Results.{IsGiven, IsResult};
+ghost use Rattle.redo_rules.specs.Build.{GivenView};
+ghost use Rattle.redo_rules.specs.Results.{IsGiven, IsResult};
 ghost use Rattle.redo_step.specs.Limits.{LimitsView};
 ghost use Rattle.redo_which.specs.Rule.{found_of};
 ghost use Rattle.redo_which.specs.Views.{found_view};

@@ -12,8 +12,8 @@ use Rattle.redo_tree.specs.Tree.{Tree}
 use Rattle.redo_which.specs.Rule.{found_of}
 use Rattle.redo_past.specs.Past.{PastView}
 use Rattle.redo_step.specs.Limits.{LimitsView}
-use Rattle.redo_core.specs.Build.{GivenView}
-use Rattle.redo_core.specs.Results.{IsGiven, IsResult}
+use Rattle.redo_rules.specs.Build.{GivenView}
+use Rattle.redo_rules.specs.Results.{IsGiven, IsResult}
 use Rattle.redo_why.specs.Reasons.{Reason}
 use Rattle.redo_explain.specs.Explained.{AreReasons}
 use Rattle.redo_json.specs.Members.{Known, number_member, outcome_word, rings_member, row_tokens}

@@ -21,7 +21,7 @@ use Rattle.redo_skip.specs.NewBook.{LastRun, check_by, checks_of, is_valid}
 use Rattle.redo_skip.proofs.NewBookLemmas.{are-checks}
 use Rattle.redo_past.specs.Past.{PastView, intact_record}
 use Rattle.redo_step.specs.Limits.{LimitsView}
-use Rattle.redo_core.specs.Build.{GivenView, checks_for, is_free, last_run_of, sources_for}
+use Rattle.redo_rules.specs.Build.{GivenView, checks_for, is_free, last_run_of, sources_for}
 use Rattle.redo_why.proofs.ListedLemmas.{check-altered, check-intact}
 use Rattle.redo_why.proofs.ReasonLemmas.{found-target}
 use Rattle.redo_why.specs.Verdicts.{Verdicts, Drops, Unsure, holds_if, mark, mark_checked}

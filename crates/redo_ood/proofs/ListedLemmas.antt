@@ -10,7 +10,7 @@ use Rattle.redo_book.specs.Book.{Record}
 use Rattle.redo_book.specs.Intact.{is_intact}
 use Rattle.redo_skip.specs.Sources.{Sources}
 use Rattle.redo_skip.specs.Checks.{Check, Checks}
-use Rattle.redo_core.specs.Build.{GivenView, checks_for, last_run_of, sources_for}
+use Rattle.redo_rules.specs.Build.{GivenView, checks_for, last_run_of, sources_for}
 use Rattle.redo_why.specs.OutOfDate as why
 use Rattle.redo_why.specs.OutOfDate.{drop_by, entry_path, first_drop, first_unsure, unsure_by, word_by}
 use Rattle.redo_why.specs.Reasons.{Altered}

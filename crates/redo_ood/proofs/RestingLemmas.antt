@@ -13,7 +13,7 @@ use Rattle.redo_book.specs.declared.book.BookEntry.{BookEntry}
 use Rattle.redo_book.specs.declared.book.BookEntry.TheVariants.{Change, Create, Always}
 use Rattle.redo_book.specs.Book.{record_at}
 use Rattle.redo_build.proofs.DepthLemmas.{cases_Option}
-use Rattle.redo_core.specs.Build.{GivenView}
+use Rattle.redo_rules.specs.Build.{GivenView}
 use Rattle.redo_ood.specs.Listing.{RestsOn, Itself, Through, changed}
 use Rattle.redo_ood.specs.inside.Resting.{AreFound, IsGrown, changes_in, changes_of}
 

@@ -17,7 +17,7 @@ use Rattle.redo_why.specs.Verdicts.{Verdicts, Mark, Holds, Drops, Unsure, Waits,
 use Rattle.redo_why.specs.OutOfDate.{Word, Stale, Maybe, Ring, Lost, entry_path, first_drop, first_unsure, word_by}
 use Rattle.redo_why.specs.Runs.{verdict_with}
 use Rattle.redo_past.specs.Past.{PastView}
-use Rattle.redo_core.specs.Build.{GivenView, checks_for, last_run_of, sources_for}
+use Rattle.redo_rules.specs.Build.{GivenView, checks_for, last_run_of, sources_for}
 use Rattle.redo_step.specs.Limits.{LimitsView}
 use Rattle.redo_list.specs.Lists.{ListedView}
 use Rattle.redo_list.specs.declared.listed.State.{State}

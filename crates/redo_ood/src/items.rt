@@ -6,7 +6,7 @@ ghost use Rattle.redo_tree.specs.Tree.{file_at};
 ghost use Rattle.redo_which.specs.Candidates.{is_do_file};
 ghost use Rattle.redo_which.specs.Rule.{found_of, is_rule};
 ghost use Rattle.redo_book.specs.declared.book.BookEntry.TheVariants.{Change};
-ghost use Rattle.redo_core.specs.Build.{is_free as is_free_in};
+ghost use Rattle.redo_rules.specs.Build.{is_free as is_free_in};
 ghost use Rattle.redo_ood.specs.inside.Items.{item_if};
 ghost use Rattle.redo_ood.specs.inside.Rows.{AreItems, AreRows, InRun, IsItem};
 

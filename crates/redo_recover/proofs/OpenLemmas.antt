@@ -7,8 +7,8 @@ use Rattle.redo_which.specs.Candidates.{book_path, journal_path}
 use Rattle.redo_book.specs.Book.{IsText, Record}
 use Rattle.redo_report.specs.declared.report.Report.{Report}
 use Rattle.redo_past.specs.Past.{PastView}
-use Rattle.redo_core.specs.Build.{GivenView}
-use Rattle.redo_core.specs.Results.{IsResult}
+use Rattle.redo_rules.specs.Build.{GivenView}
+use Rattle.redo_rules.specs.Results.{IsResult}
 use Rattle.redo_mend.specs.Mended.{IsPassedOver, IsRecoveredTree}
 use Rattle.redo_mend.specs.Recovered.{IsRecovered}
 use Rattle.redo_mend.proofs.OneLemmas.{OneBook, mended-once, one-book-of}

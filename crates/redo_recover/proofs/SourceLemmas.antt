@@ -29,8 +29,8 @@ use Rattle.redo_past.proofs.CarryLemmas.{found-item, rule-absent}
 use Rattle.redo_past.proofs.ItemLemmas.{IsItem, contained-item, item-contained, item-kept, item-mapped, kept-item, mapped-item}
 use Rattle.redo_past.proofs.OrderLemmas.{same_path}
 use Rattle.redo_past.proofs.PastLemmas.{past_book}
-use Rattle.redo_core.specs.Build.{GivenView, rules_for}
-use Rattle.redo_core.specs.Results.{IsResult}
+use Rattle.redo_rules.specs.Build.{GivenView, rules_for}
+use Rattle.redo_rules.specs.Results.{IsResult}
 use Rattle.redo_dir.specs.Own.{is_own}
 use Rattle.redo_mend.specs.Recovered.{said_at}
 use Rattle.redo_mend.proofs.SaidLemmas.{found-here, is_as_said, key, recovered-is, recovered-some, said-found, said-is, said-same, same-said}

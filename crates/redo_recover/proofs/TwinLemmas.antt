@@ -15,8 +15,8 @@ use Rattle.redo_report.specs.declared.report.Report.{Report}
 use Rattle.redo_past.specs.Past.{IsPast, PastView, has_digest, is_generated, set_aside}
 use Rattle.redo_past.proofs.OrderLemmas.{same_path}
 use Rattle.redo_past.proofs.PastLemmas.{past_book}
-use Rattle.redo_core.specs.Build.{GivenView}
-use Rattle.redo_core.specs.Results.{IsResult}
+use Rattle.redo_rules.specs.Build.{GivenView}
+use Rattle.redo_rules.specs.Results.{IsResult}
 use Rattle.redo_dir.specs.Own.{is_own}
 use Rattle.redo_mend.proofs.MendLemmas.{no-dir}
 use Rattle.redo_mend.proofs.OneLemmas.{OneBook, one-book-of}

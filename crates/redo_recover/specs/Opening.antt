@@ -5,8 +5,8 @@ use Rattle.redo_which.specs.Candidates.{book_path, journal_path}
 use Rattle.redo_book.specs.Book.{Record}
 use Rattle.redo_past.specs.Past.{IsPast, PastView}
 use Rattle.redo_report.specs.declared.report.Report.{Report}
-use Rattle.redo_core.specs.Build.{GivenView}
-use Rattle.redo_core.specs.Results.{IsResult}
+use Rattle.redo_rules.specs.Build.{GivenView}
+use Rattle.redo_rules.specs.Results.{IsResult}
 use Rattle.redo_mend.specs.Mended.{MendsTo}
 use Rattle.redo_dir.specs.Own.{is_own}
 use Rattle.redo_mend.specs.Recovered.{said_at}

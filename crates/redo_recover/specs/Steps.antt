@@ -8,8 +8,8 @@ use Rattle.redo_dir.specs.Storing.{steps_to_clear}
 use Rattle.redo_which.specs.Candidates.{book_path, journal_path}
 use Rattle.redo_book.specs.Book.{IsText, Record}
 use Rattle.redo_report.specs.declared.report.Report.{Report}
-use Rattle.redo_core.specs.Build.{GivenView}
-use Rattle.redo_core.specs.Results.{IsResult}
+use Rattle.redo_rules.specs.Build.{GivenView}
+use Rattle.redo_rules.specs.Results.{IsResult}
 use Rattle.redo_dir.specs.Own.{is_own, is_temporary}
 use Rattle.redo_mend.specs.Mended.{IsRecoveredTree, MendsTo, book_to_put, own_files}
 use Rattle.redo_recover.specs.Broken.{IsBrokenOff, IsLeftAt, MayStore, journal_of}

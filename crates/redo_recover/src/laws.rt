@@ -9,9 +9,9 @@ ghost use Rattle.redo_book.specs.Book.{IsBook, IsText, Record, record_at};
 ghost use Rattle.redo_skip.specs.NewBook.{AreTrue};
 ghost use Rattle.redo_past.specs.Past.{IsPast, PastView};
 ghost use Rattle.redo_report.specs.declared.report.Report.{Report};
-ghost use Rattle.redo_core.specs.Build.{GivenView};
-ghost use Rattle.redo_core.specs.Results.{IsResult};
-ghost use Rattle.redo_core.specs.TreeSources.{AreTrueOfTrees, HasHonestBook, IsTrueOfTrees};
+ghost use Rattle.redo_rules.specs.Build.{GivenView};
+ghost use Rattle.redo_rules.specs.Results.{IsResult};
+ghost use Rattle.redo_rules.specs.TreeSources.{AreTrueOfTrees, HasHonestBook, IsTrueOfTrees};
 ghost use Rattle.redo_dir.specs.Stored.{Journals, Step, puts_in};
 ghost use Rattle.redo_dir.specs.Storing.{steps_to_store};
 ghost use Rattle.redo_dir.specs.Own.{is_own, is_temporary};
@@ -23,8 +23,8 @@ ghost use Rattle.redo_recover.specs.Opening.{AreTwins, Opens, StayTwins};
 ghost use Rattle.redo_recover.specs.Steps.{IsFinished, IsFound, IsOfOthers, IsStage, IsToStore, MayHold, clearing};
 
 use redo_book::laws::{a_book_has_no_fault, a_text_has_one_book, each_text_is_a_book_or_refused};
-use redo_core::laws::books_are_true;
 use redo_past::laws::a_tree_has_one_past;
+use redo_rules::laws::books_are_true;
 
 /// Each record of a recovered book is one of the two books; so they are true where those of both were.
 pub fn recovered_books_are_true()

@@ -4,8 +4,8 @@ use Rattle.std.specs.Prelude.{All}
 use Rattle.redo_tree.specs.Tree.{IsTree, Tree}
 use Rattle.redo_report.specs.declared.report.Report.{Report}
 use Rattle.redo_past.specs.Past.{IsPast, PastView}
-use Rattle.redo_core.specs.Results.{IsResultOn}
-use Rattle.redo_core.specs.TreeSources.{IsTrueOfTrees}
+use Rattle.redo_rules.specs.Results.{IsResultOn}
+use Rattle.redo_rules.specs.TreeSources.{IsTrueOfTrees}
 use Rattle.redo_run.specs.Skipping.{IsSoundOn}
 use Rattle.redo_step.specs.Limits.{LimitsView}
 use Rattle.redo_recover.proofs.BreakLemmas.{OnePast}

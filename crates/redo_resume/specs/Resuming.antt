@@ -2,9 +2,9 @@
 use Rattle.std.specs.Prelude.{ℕ, List, All}
 use Rattle.redo_tree.specs.Tree.{Tree}
 use Rattle.redo_report.specs.declared.report.Report.{Report}
-use Rattle.redo_core.specs.Build.{GivenView}
-use Rattle.redo_core.specs.Results.{IsGiven, IsResult, IsResultOn}
-use Rattle.redo_core.specs.TreeSources.{IsTrueOfTrees}
+use Rattle.redo_rules.specs.Build.{GivenView}
+use Rattle.redo_rules.specs.Results.{IsGiven, IsResult, IsResultOn}
+use Rattle.redo_rules.specs.TreeSources.{IsTrueOfTrees}
 use Rattle.redo_run.specs.Skipping.{Agrees, KeepsSafely}
 use Rattle.redo_step.specs.Limits.{LimitsView}
 

@@ -2,7 +2,7 @@
 use Rattle.std.proofs.Common.{◌≡◌, ℕ, zero, suc, ◌+◌, ◌<◌, ◌≤◌, Bool, true, false, List, [], ◌∷◌, Some, None}
 use Rattle.std.proofs.Common.{Option, drop, length, refl, sym, ap, subst, arith}
 use Rattle.std.specs.Prelude.{IsNone, MatchOption, slice_index_or}
-use Rattle.redo_core.specs.Build.{GivenView, rules_for}
+use Rattle.redo_rules.specs.Build.{GivenView, rules_for}
 use Rattle.redo_build.specs.Rules.{Rules}
 use Rattle.redo_core.specs.Views.{BoardView, WorkView, IsFirstBoard}
 use Rattle.redo_run.specs.inside.Driving.{IsPicked}

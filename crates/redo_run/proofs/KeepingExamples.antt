@@ -22,8 +22,8 @@ use Rattle.redo_step.specs.Statements.{meaning, run}
 use Rattle.redo_step.specs.Setting.{setting_by}
 use Rattle.redo_skip.specs.Sources.{Sources}
 use Rattle.redo_skip.specs.Truth.{AreApart, IsWitness}
-use Rattle.redo_core.specs.Build.{GivenView, plain_rules_for, sources_for}
-use Rattle.redo_core.specs.TreeSources.{IsTrueOfTrees, IsUnconfused}
+use Rattle.redo_rules.specs.Build.{GivenView, plain_rules_for, sources_for}
+use Rattle.redo_rules.specs.TreeSources.{IsTrueOfTrees, IsUnconfused}
 use Rattle.redo_run.specs.Skipping.{KeepsSafely}
 
 abbrev line : List ℕ → List ℕ

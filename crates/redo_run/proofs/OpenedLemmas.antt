@@ -2,13 +2,13 @@
 use Rattle.std.proofs.Common.{◌≡◌, ℕ, List, Option, refl, sym, subst, ◌∙◌}
 use Rattle.std.specs.Prelude.{IsNone}
 use Rattle.redo_build.specs.Outcomes.{IsTooMany}
-use Rattle.redo_core.specs.Build.{GivenView}
-use Rattle.redo_core.specs.Results.{IsGiven, IsOpened, IsResult, IsResultOn, NeedsTooMany}
-use Rattle.redo_core.specs.Views.{BoardView, IsFirstBoard, limit_on, request_on, rules_on}
+use Rattle.redo_core.specs.Views.{BoardView, IsFirstBoard, IsOpened, limit_on, request_on, rules_on}
 use Rattle.redo_core.specs.declared.board.Stop.{Stop}
 use Rattle.redo_core.specs.declared.board.Stop.TheVariants as stops
 use Rattle.redo_past.specs.Past.{IsPast, PastView}
 use Rattle.redo_report.specs.declared.report.Report.{Report}
+use Rattle.redo_rules.specs.Build.{GivenView}
+use Rattle.redo_rules.specs.Results.{IsGiven, IsResult, IsResultOn, NeedsTooMany}
 use Rattle.redo_run.specs.RunFaults.{of_stop}
 use Rattle.redo_run.specs.declared.run_fault.RunFault.TheVariants.{Book, TooMany}
 use Rattle.redo_step.specs.Limits.{LimitsView}

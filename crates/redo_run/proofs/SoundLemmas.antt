@@ -31,9 +31,9 @@ use Rattle.redo_past.proofs.PastLemmas.{all-sources}
 use Rattle.redo_report.specs.Reports.{AreAscending, IsReport, deps_of, row_paths}
 use Rattle.redo_report.specs.declared.report.Report.{Report}
 use Rattle.redo_report.specs.declared.report.Row.{Row}
-use Rattle.redo_core.specs.Build.{GivenView, checks_for, plain_rules_for, rules_for, sources_for}
-use Rattle.redo_core.specs.Results.{IsGiven, IsResult, IsResultOn, NeedsTooMany}
-use Rattle.redo_core.specs.TreeSources.{HasHonestBook, IsTrueOfTrees}
+use Rattle.redo_rules.specs.Build.{GivenView, checks_for, plain_rules_for, rules_for, sources_for}
+use Rattle.redo_rules.specs.Results.{IsGiven, IsResult, IsResultOn, NeedsTooMany}
+use Rattle.redo_rules.specs.TreeSources.{HasHonestBook, IsTrueOfTrees}
 use Rattle.redo_run.proofs.OpenedLemmas.{OnePast, one_given}
 use Rattle.redo_run.specs.Skipping.{Agrees, IsSoundFor, KeepsSafely, but_book, told_by_row}
 

@@ -4,7 +4,7 @@ use Rattle.std.proofs.Common.{option_map, true, sym, subst, refl}
 use Rattle.std.specs.Prelude.{IfSome, IsSome, Err, Result}
 use Rattle.std.specs.Arc.{arc_value}
 use Rattle.std.specs.Io.KnownBytes.{Appends}
-use Rattle.redo_core.specs.Results.{IsGiven, IsRefused, IsResultOn, NeedsTooMany}
+use Rattle.redo_rules.specs.Results.{IsGiven, IsRefused, IsResultOn, NeedsTooMany}
 use Rattle.redo_report.specs.ReportText.{report_text}
 use Rattle.redo_report.specs.declared.report.Report.{Report}
 use Rattle.redo_bundle.specs.Bundle.{IsBundle, Writes}

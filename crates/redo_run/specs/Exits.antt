@@ -6,7 +6,7 @@ use Rattle.std.specs.Ordering.{nat_cmp, is_eq}
 use Rattle.redo_build.specs.Outcomes.{final_outcome}
 use Rattle.redo_record.specs.Paths.{IsAmong}
 use Rattle.redo_build.specs.Rules.{Rules}
-use Rattle.redo_core.specs.Build.{GivenView, rules_for}
+use Rattle.redo_rules.specs.Build.{GivenView, rules_for}
 use Rattle.redo_report.specs.declared.report.Row.{Row}
 use Rattle.redo_run.specs.declared.exit.Exit.{Exit}
 use Rattle.redo_run.specs.declared.exit.Exit.TheVariants.{Good}

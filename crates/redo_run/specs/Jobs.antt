@@ -1,7 +1,7 @@
 -- Whose job a job is.
 use Rattle.std.specs.Prelude.{◌≡◌, ℕ, List}
-use Rattle.redo_core.specs.Build.{GivenView}
-use Rattle.redo_core.specs.Results.{IsGiven}
+use Rattle.redo_rules.specs.Build.{GivenView}
+use Rattle.redo_rules.specs.Results.{IsGiven}
 use Rattle.redo_step.specs.Limits.{LimitsView}
 use Rattle.redo_tree.specs.Tree.{Tree}
 

@@ -2,8 +2,8 @@
 -- The board's own looks, at the opening and after each piece, are no part of it.
 use Rattle.std.specs.Prelude.{◌≡◌, ℕ, ◌+◌, List, [], ◌∷◌, ◌++◌, Option, None, MatchOption, slice_get, remove, map}
 use Rattle.std.specs.Prelude.{option_map}
-use Rattle.redo_core.specs.Build.{GivenView, rules_for}
-use Rattle.redo_core.specs.Results.{IsGiven}
+use Rattle.redo_rules.specs.Build.{GivenView, rules_for}
+use Rattle.redo_rules.specs.Results.{IsGiven}
 use Rattle.redo_build.specs.Looking.{IsLookedOut}
 use Rattle.redo_build.specs.Rules.{Rules}
 use Rattle.redo_build.specs.Schedule.{State, entry_of, happens, handed_in, opening}

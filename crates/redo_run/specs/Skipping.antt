@@ -2,14 +2,14 @@
 use Rattle.std.specs.Prelude.{◌≡◌, ◌≤◌, ℕ, List, All, bytes_eq, filter, length, map, not}
 use Rattle.std.specs.Arc.{arc_value}
 use Rattle.redo_build.specs.Outcomes.{needed_at}
-use Rattle.redo_core.specs.Build.{GivenView, plain_rules_for}
-use Rattle.redo_core.specs.Results.{IsGiven, IsResult, IsResultOn}
-use Rattle.redo_core.specs.TreeSources.{HasHonestBook, IsTrueOfTrees}
 use Rattle.redo_record.specs.Paths.{IsAmong}
 use Rattle.redo_record.specs.declared.deps.Dep.{Dep}
 use Rattle.redo_record.specs.declared.outcome.Outcome.{Outcome}
 use Rattle.redo_report.specs.declared.report.Report.{Report}
 use Rattle.redo_report.specs.declared.report.Row.{Row}
+use Rattle.redo_rules.specs.Build.{GivenView, plain_rules_for}
+use Rattle.redo_rules.specs.Results.{IsGiven, IsResult, IsResultOn}
+use Rattle.redo_rules.specs.TreeSources.{HasHonestBook, IsTrueOfTrees}
 use Rattle.redo_skip.specs.Truth.{NoneCyclic}
 use Rattle.redo_step.specs.Limits.{LimitsView}
 use Rattle.redo_tree.specs.Tree.{Tree}

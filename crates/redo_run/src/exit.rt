@@ -2,8 +2,8 @@
 
 ghost use Rattle.std.specs.Prelude.{◌≡◌, [], IfOk};
 ghost use Rattle.std.specs.List.{list_any};
-ghost use Rattle.redo_core.specs.Build.{GivenView};
-ghost use Rattle.redo_core.specs.Results.{IsResult};
+ghost use Rattle.redo_rules.specs.Build.{GivenView};
+ghost use Rattle.redo_rules.specs.Results.{IsResult};
 ghost use Rattle.redo_core.specs.inside.Reported.{placed};
 ghost use Rattle.redo_run.specs.Exits.{IsExitOf, fails, is_made};
 

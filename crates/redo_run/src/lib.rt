@@ -1,13 +1,14 @@
 //! Whole runs, from the bytes of a bundle, or a directory, to the bytes of the report, by one thread or by many.
 //!
-//! [`run_bundle`] reads a bundle to its end, builds the requested targets with as many workers as the options say, and
-//! writes the report; [`whichdo_bundle`] writes where the rule of a target is looked for. [`run_dir`] and
+//! [`run_bundle`] reads a bundle to its end, builds the requested targets with as many workers as the options say,
+//! and writes the report; [`whichdo_bundle`] writes where the rule of a target is looked for. [`run_dir`] and
 //! [`whichdo_dir`] do the same for a directory; `run_dir` stores into it the files that it doesn't have yet as they
-//! came out, and [`preview_dir`] stores nothing. [`build_many`] is the build alone, with the ledger of its jobs, and [`build_one`] the same in one thread,
-//! without a relay. The crate stands on `redo_build` for what a build is, on `redo_skip` for when it is safe to keep
-//! targets, on `redo_core` for the board, on `redo_sync` for the relay through which jobs go to workers, on
-//! `redo_crew` for who looks for one and who sleeps, on `crossbeam_channel` for their way back, on `redo_report` for the report and its text, on `redo_tree`, `redo_bundle`
-//! and `redo_dir` for trees and where they come from, and on `redo_which` for the search.
+//! came out, and [`preview_dir`] stores nothing. [`build_many`] is the build alone, with the ledger of its jobs, and
+//! [`build_one`] the same in one thread, without a relay. The crate stands on `redo_build` for what a build is, on
+//! `redo_rules` for that of a tree, on `redo_skip` for when it is safe to keep targets, on `redo_core` for the board,
+//! on `redo_sync` for the relay through which jobs go to workers, on `redo_crew` for who looks for one and who
+//! sleeps, on `crossbeam_channel` for their way back, on `redo_report` for the report and its text, on `redo_tree`,
+//! `redo_bundle` and `redo_dir` for trees and where they come from, and on `redo_which` for the search.
 //!
 //! - `one`: a build by one thread; `workers`: by many, or by one through a relay; `owner`: what the thread with the
 //!   board does; `crew`: what the workers do; `desk`: what the owner has before a run and after it; `staff`: the

@@ -1,7 +1,7 @@
 //! A build by one thread.
 
 ghost use Rattle.std.specs.Prelude.{◌≡◌, ◌<◌, Err, IfOk, IsNone, OnOk, ℕ};
-ghost use Rattle.redo_core.specs.Results.{IsRefused, IsResultOn, NeedsTooMany};
+ghost use Rattle.redo_rules.specs.Results.{IsRefused, IsResultOn, NeedsTooMany};
 ghost use Rattle.redo_core.specs.Faults.{IsSameBuild};
 ghost use Rattle.redo_build.specs.Outcomes.{IsTooMany};
 ghost use Rattle.redo_build.specs.TakesLeft.{takes_left};

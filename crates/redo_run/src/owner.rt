@@ -1,8 +1,8 @@
 //! The owner of the board: it advances short scripts itself, offers long ones to workers, and hands in what comes back.
 
 ghost use Rattle.std.specs.Prelude.{◌≡◌, ◌<◌, ◌≤◌, ◌+◌, Err, IfOk, IsNone, OnOk, false, length, map, ℕ};
-ghost use Rattle.redo_core.specs.Results.{IsGiven};
 ghost use Rattle.redo_core.specs.Views.{IsQuietBoard, ready_count};
+ghost use Rattle.redo_rules.specs.Results.{IsGiven};
 ghost use Rattle.redo_sync.specs.Relay.{RelayId};
 ghost use Rattle.redo_run.specs.inside.Workers.{HasKeptUp, IsManned, IsSameDesk, NeedsMany};
 

@@ -4,7 +4,7 @@
 //! happens next, by an index.
 
 ghost use Rattle.std.specs.Prelude.{◌≡◌, Err, IfOk, IsNone, MatchBool, None, OnOk, Some, length, ℕ};
-ghost use Rattle.redo_core.specs.Results.{IsRefused, NeedsTooMany};
+ghost use Rattle.redo_rules.specs.Results.{IsRefused, NeedsTooMany};
 ghost use Rattle.redo_core.specs.Faults.{IsSameBuild};
 ghost use Rattle.redo_build.specs.Outcomes.{IsTooMany};
 ghost use Rattle.redo_core.specs.Views.{limit_on, request_on, rules_on};
@@ -14,10 +14,11 @@ ghost use Rattle.redo_run.specs.inside.Driving.{AreOut, HasCome, IsPicked};
 use crate::RunFault;
 use redo_build::laws::looks_leave_jobs;
 use redo_core::board::{Board, HandFault, Stop};
-use redo_core::laws::{books_over_trees_are_lawful, what_was_taken};
+use redo_core::laws::what_was_taken;
 use redo_core::work::Work;
 use redo_past::Past;
 use redo_path::Path;
+use redo_rules::laws::books_over_trees_are_lawful;
 use redo_step::Limits;
 use redo_tree::Tree;
 use std::alloc::Global;

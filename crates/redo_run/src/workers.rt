@@ -8,9 +8,9 @@
 ghost use Rattle.std.specs.Prelude.{◌≡◌, ◌≤◌, Err, [], IfOk, IsNone, IsTrue, ℕ};
 ghost use Rattle.redo_build.specs.Outcomes.{IsTooMany};
 ghost use Rattle.redo_build.specs.Takes.{AreBegun, AreCountedOnce};
-ghost use Rattle.redo_core.specs.Results.{IsGiven, IsRefused, IsResultOn, NeedsTooMany};
 ghost use Rattle.redo_core.specs.Taken.{HasTaken};
 ghost use Rattle.redo_core.specs.Views.{limit_on, request_on, rules_on};
+ghost use Rattle.redo_rules.specs.Results.{IsGiven, IsRefused, IsResultOn, NeedsTooMany};
 ghost use Rattle.redo_sync.specs.Relay.{SharesOut, taken_by};
 ghost use Rattle.redo_run.specs.Skipping.{IsSoundOn, IsUnsafeOn};
 ghost use Rattle.redo_run.specs.inside.Workers.{IsAnswerTo, IsStaffedBy, NeedsMany};

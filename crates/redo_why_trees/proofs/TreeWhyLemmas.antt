@@ -20,11 +20,9 @@ use Rattle.redo_why.specs.Runs.{Needs}
 use Rattle.redo_why.proofs.ReasonLemmas.{begun-reason}
 use Rattle.redo_why.proofs.RunLemmas.{unlisted-kept, stale-begun, ring-cyclic}
 use Rattle.redo_why.proofs.ScheduleLemmas.{reason-told}
-use Rattle.redo_core.specs.Build.{GivenView, last_run_of, plain_rules_for, rules_for, sources_by, sources_for}
-use Rattle.redo_core.specs.TreeSources.{HasHonestBook, IsTrueOfTrees, IsUnconfused}
-use Rattle.redo_core.proofs.AlikeTreeLemmas.{trees-alike}
-use Rattle.redo_core.proofs.GoodTreeLemmas.{trees-good}
-use Rattle.redo_core.proofs.LawfulTreeLemmas.{rules_lawful}
+use Rattle.redo_rules.specs.Build.{GivenView, last_run_of, plain_rules_for, rules_for, sources_by, sources_for}
+use Rattle.redo_rules.specs.TreeSources.{HasHonestBook, IsTrueOfTrees, IsUnconfused}
+use Rattle.redo_rules.proofs.Public.{rules_lawful, trees-alike, trees-good}
 use Rattle.redo_why_trees.specs.TreeWhy.{IsNeededFor, TellsOf, listed_for, reason_for}
 
 module _ (given : GivenView) where

@@ -6,8 +6,8 @@ use Rattle.redo_build.specs.Outcomes.{needed_at}
 use Rattle.redo_report.specs.declared.report.Report.{Report}
 use Rattle.redo_why.specs.Reasons.{Reason, reason_of}
 use Rattle.redo_why.specs.OutOfDate.{IsLeftAlone, Word, listed}
-use Rattle.redo_core.specs.Build.{GivenView, last_run_of, plain_rules_for, rules_for, sources_for}
-use Rattle.redo_core.specs.TreeSources.{HasHonestBook}
+use Rattle.redo_rules.specs.Build.{GivenView, last_run_of, plain_rules_for, rules_for, sources_for}
+use Rattle.redo_rules.specs.TreeSources.{HasHonestBook}
 
 -- an ask tells the outcomes of a report's rows
 abbrev pub TellsOf : Report → Ask → Type 0

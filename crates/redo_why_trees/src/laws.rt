@@ -8,7 +8,7 @@ ghost use Rattle.redo_report.specs.Reports.{IsReport};
 ghost use Rattle.redo_report.specs.declared.report.Report.{Report};
 ghost use Rattle.redo_why.specs.Reasons.{Reason};
 ghost use Rattle.redo_why.specs.OutOfDate.{Stale, Ring};
-ghost use Rattle.redo_core.specs.Build.{GivenView, rules_for};
+ghost use Rattle.redo_rules.specs.Build.{GivenView, rules_for};
 ghost use Rattle.redo_why_trees.specs.TreeWhy.{IsNeededFor, TellsOf, listed_for, reason_for};
 
 /// By the outcomes that a report tells, each script that it says was begun has a reason, the same as by the outcomes of

@@ -14,7 +14,7 @@ use Rattle.redo_build.specs.Schedule.{nothing_known}
 use Rattle.redo_skip.specs.Checks.{Standing, asking, asks, falls, is_asked, lacks, shown, standing, stands}
 use Rattle.redo_skip.specs.NewBook.{check_by}
 use Rattle.redo_skip.specs.Sources.{Sources}
-use Rattle.redo_core.specs.Build.{GivenView, rules_for, sources_for, checks_for, last_run_of}
+use Rattle.redo_rules.specs.Build.{GivenView, rules_for, sources_for, checks_for, last_run_of}
 use Rattle.redo_core.specs.declared.check.Check.{Check}
 use Rattle.redo_core.specs.declared.check.Alone.{Alone}
 use Rattle.redo_core.specs.declared.check.Alone.TheVariants.{Stands, Asks, Falls}

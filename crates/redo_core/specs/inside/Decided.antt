@@ -3,7 +3,7 @@ use Rattle.std.specs.Prelude.{ℕ, Bool, List}
 use Rattle.redo_record.specs.declared.deps.Dep.{Dep}
 use Rattle.redo_record.specs.declared.outcome.Outcome.{Outcome}
 use Rattle.redo_build.specs.inside.Turns.{IsFact}
-use Rattle.redo_core.specs.Build.{GivenView, rules_for}
+use Rattle.redo_rules.specs.Build.{GivenView, rules_for}
 
 -- by the build, the target comes to this outcome and this record, and its script is begun or not
 abbrev pub IsDecided : GivenView → List ℕ → Outcome → List Dep → Bool → Type 0

@@ -3,7 +3,7 @@ use Rattle.std.specs.Prelude.{◌≡◌, ℕ, List, Some, None}
 use Rattle.redo_step.specs.JobView.{record_so_far}
 use Rattle.redo_record.specs.Entries.{with_all}
 use Rattle.redo_record.specs.Progress.{Progress}
-use Rattle.redo_core.specs.Build.{GivenView, rules_for}
+use Rattle.redo_rules.specs.Build.{GivenView, rules_for}
 use Rattle.redo_build.specs.inside.Turns.{IsPiece}
 use Rattle.redo_core.specs.inside.Works.{IsStopped, waited_by}
 use Rattle.redo_core.specs.declared.work.End.{End}

@@ -14,7 +14,7 @@ use Rattle.redo_record.specs.declared.outcome.Outcome.TheVariants.{Source, Built
 use Rattle.redo_record.specs.Paths.{IsAmong}
 use Rattle.redo_report.specs.declared.report.Report.{Report}
 use Rattle.redo_report.specs.declared.report.Row.{Row}
-use Rattle.redo_core.specs.Build.{GivenView}
+use Rattle.redo_rules.specs.Build.{GivenView}
 use Rattle.redo_core.specs.inside.Checking.{seen_entries}
 use Rattle.redo_core.specs.inside.Decided.{IsDecided}
 use Rattle.redo_core.specs.declared.table.Slot.{Slot}

@@ -4,11 +4,11 @@ use Rattle.redo_record.specs.declared.outcome.Outcome.{Outcome}
 use Rattle.redo_which.specs.Rule.{Found}
 use Rattle.redo_step.specs.JobView.{JobView}
 use Rattle.redo_record.specs.declared.deps.Dep.{Dep}
+use Rattle.redo_rules.specs.Build.{GivenView}
 use Rattle.redo_core.specs.inside.Works.{IsUnreadWork, IsWorkWith, all_asked, found_as, job_deps, known_in}
 use Rattle.redo_core.specs.declared.facts.Facts.{Facts}
 use Rattle.redo_core.specs.declared.work.Script.{Script}
 use Rattle.redo_core.specs.declared.work.Script.TheVariants.{Unread, Begun}
-use Rattle.redo_core.specs.Build.{GivenView}
 
 abbrev pub script_target : Script → List ℕ
 script_target (Unread unread) = unread.value.target

@@ -18,7 +18,7 @@ use Rattle.redo_build.specs.Rules.{Ask, Rules, operands}
 use Rattle.redo_build.specs.Outcomes.{outcome_at}
 use Rattle.redo_build.specs.Schedule.{only}
 use Rattle.redo_build.specs.inside.Turns.{IsWork, deps_at_turn}
-use Rattle.redo_core.specs.Build.{GivenView, rules_for, sources_for}
+use Rattle.redo_rules.specs.Build.{GivenView, rules_for, sources_for}
 use Rattle.redo_core.specs.Views.{FactView, WorkView, told_by}
 use Rattle.redo_core.specs.declared.facts.Facts.{Facts}
 use Rattle.redo_core.specs.declared.work.Begun.{Begun}

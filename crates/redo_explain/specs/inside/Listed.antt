@@ -2,7 +2,7 @@
 use Rattle.std.specs.Prelude.{ℕ, List, Option, filter_map, option_map}
 use Rattle.redo_report.specs.declared.report.Row.{Row}
 use Rattle.redo_past.specs.Past.{PastView}
-use Rattle.redo_core.specs.Build.{last_run_of}
+use Rattle.redo_rules.specs.Build.{last_run_of}
 use Rattle.redo_why.specs.Reasons.{Reason, reason_of}
 use Rattle.redo_explain.specs.inside.Told.{sources_in, told_by}
 

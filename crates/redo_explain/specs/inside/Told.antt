@@ -7,7 +7,7 @@ use Rattle.redo_build.specs.Rules.{Ask}
 use Rattle.redo_past.specs.NewBook.{row_at}
 use Rattle.redo_past.specs.Past.{PastView}
 use Rattle.redo_skip.specs.Sources.{Sources}
-use Rattle.redo_core.specs.Build.{sources_by}
+use Rattle.redo_rules.specs.Build.{sources_by}
 
 -- the rows are in path order, each path once
 abbrev pub AreRows : List Row → Type 0

@@ -4,7 +4,7 @@ use Rattle.redo_names.specs.Paths.{IsAmong}
 use Rattle.redo_which.specs.Rule.{found_of, is_rule}
 use Rattle.redo_book.specs.Book.{Record, record_at}
 use Rattle.redo_past.specs.Past.{PastView}
-use Rattle.redo_core.specs.Build.{GivenView}
+use Rattle.redo_rules.specs.Build.{GivenView}
 use Rattle.redo_ood.specs.Listing.{RestsOn, changed}
 
 -- a list of paths that has grown by these: those that were there keep their numbers

@@ -8,7 +8,7 @@ use Rattle.redo_skip.specs.Sources.{Sources}
 use Rattle.redo_why.specs.Verdicts.{Verdict, Keeps, Begins, Either, Verdicts, Mark, Holds, Drops, Unsure}
 use Rattle.redo_why.specs.Verdicts.{mark, mark_checked}
 use Rattle.redo_past.specs.Past.{PastView}
-use Rattle.redo_core.specs.Build.{checks_for, sources_for}
+use Rattle.redo_rules.specs.Build.{checks_for, sources_for}
 use Rattle.redo_step.specs.Limits.{LimitsView}
 use Rattle.redo_ood.specs.Listing.{run_over}
 use Rattle.redo_ood.specs.declared.verdicts.Item.{Item}

@@ -3,7 +3,7 @@ use Rattle.std.specs.Prelude.{◌≡◌, ◌+◌, ◌<◌, ℕ, List, [], Result
 use Rattle.redo_build.specs.Outcomes.{IsTooMany}
 use Rattle.redo_build.specs.Takes.{AreBegun, AreCountedOnce}
 use Rattle.redo_crew.specs.Word.{most_workers}
-use Rattle.redo_core.specs.Results.{IsGiven, IsResultOn, NeedsTooMany}
+use Rattle.redo_rules.specs.Results.{IsGiven, IsResultOn, NeedsTooMany}
 use Rattle.redo_core.specs.Taken.{HasTaken}
 use Rattle.redo_core.specs.Faults.{IsSameBuild}
 use Rattle.redo_core.specs.Views.{BoardView, IsQuietBoard, limit_on, request_on, rules_on}

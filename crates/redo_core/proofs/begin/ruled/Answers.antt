@@ -2,7 +2,7 @@ use Rattle.std.proofs.Common.{◌≡◌, [], Option, sym, ap, subst, ◌∙◌}
 use Rattle.std.specs.Prelude.{IfSome, IfNone}
 use Rattle.redo_build.specs.Rules.{Ask}
 use Rattle.redo_build.specs.Schedule.{nothing_known}
-use Rattle.redo_core.specs.Build.{GivenView, rules_for}
+use Rattle.redo_rules.specs.Build.{GivenView, rules_for}
 use Rattle.redo_core.specs.Views.{WorkView}
 use Rattle.redo_core.specs.inside.Checking.{IsBegunBehind, IsDueCheck}
 use Rattle.redo_core.specs.inside.Slots.{IsDueWith}

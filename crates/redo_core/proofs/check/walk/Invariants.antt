@@ -1,5 +1,5 @@
 use Rattle.std.proofs.Common.{◌≤◌}
-use Rattle.redo_core.specs.Build.{sources_for}
+use Rattle.redo_rules.specs.Build.{sources_for}
 use Rattle.redo_core.specs.inside.Checking.{StandAlone}
 use Rattle.redo_core.proofs.check.walk.Given as goal
 

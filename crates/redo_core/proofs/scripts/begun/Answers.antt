@@ -3,9 +3,9 @@ use Rattle.std.specs.Prelude.{unwrap_or}
 use Rattle.std.specs.Arc.{arc_value}
 use Rattle.redo_tree.specs.Tree.{file_at}
 use Rattle.redo_script.specs.Texts.{script_in}
+use Rattle.redo_rules.specs.Build.{GivenView}
 use Rattle.redo_core.proofs.BegunLemmas.{begun-is, unwrap-copied}
 use Rattle.redo_core.proofs.scripts.begun.Goals as goal
-use Rattle.redo_core.specs.Build.{GivenView}
 
 pub returns : goal.returns
 returns c =

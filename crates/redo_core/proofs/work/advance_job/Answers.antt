@@ -1,8 +1,8 @@
 use Rattle.std.proofs.Common.{◌≡◌, true, refl, sym, ap, subst, ◌∙◌}
 use Rattle.std.specs.Arc.{arc_value}
 use Rattle.redo_record.specs.declared.outcome.Outcome.{Outcome}
+use Rattle.redo_rules.specs.Build.{rules_for}
 use Rattle.redo_core.specs.Views.{FactView}
-use Rattle.redo_core.specs.Build.{rules_for}
 use Rattle.redo_core.specs.inside.Works.{told_in}
 use Rattle.redo_core.specs.inside.Decided.{IsDecided}
 use Rattle.redo_core.specs.inside.Ends.{IsEndAt, end_progress}

@@ -1,5 +1,5 @@
 use Rattle.std.proofs.Common.{◌≡◌, ◌∙◌, is_some, rules}
-use Rattle.redo_core.proofs.CheckSteps.{number-tells}
+use Rattle.redo_explain.proofs.AmongLemmas.{number-tells}
 use Rattle.redo_explain.proofs.begun.has.Goals as goal
 
 pub returns : goal.returns

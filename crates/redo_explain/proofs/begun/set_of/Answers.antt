@@ -1,6 +1,6 @@
 use Rattle.std.proofs.Common.{◌∙◌, ap, arith}
 use Rattle.redo_names.specs.Paths.{is_among, with_path}
-use Rattle.redo_core.proofs.CheckSteps.{set-more}
+use Rattle.redo_explain.proofs.AmongLemmas.{set-more}
 use Rattle.redo_explain.proofs.begun.set_of.Goals as goal
 
 pub loop-path-preserved : goal.loop-path-preserved

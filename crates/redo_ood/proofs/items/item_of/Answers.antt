@@ -1,5 +1,5 @@
 use Rattle.std.proofs.Common.{subst, sym}
-use Rattle.redo_core.specs.Build.{checks_for, sources_for}
+use Rattle.redo_rules.specs.Build.{checks_for, sources_for}
 use Rattle.redo_ood.specs.Listing.{run_over}
 use Rattle.redo_ood.specs.inside.Rows.{IsItem}
 use Rattle.redo_ood.proofs.items.item_of.Goals as goal

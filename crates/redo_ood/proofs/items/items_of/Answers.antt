@@ -1,5 +1,5 @@
 use Rattle.std.proofs.Common.{◌≡◌, ◌++◌, ◌∷◌, [], rules, subst, sym, take}
-use Rattle.redo_core.specs.Build.{checks_for, sources_for}
+use Rattle.redo_rules.specs.Build.{checks_for, sources_for}
 use Rattle.redo_ood.specs.Listing.{run_over}
 use Rattle.redo_ood.specs.inside.Rows.{AreItems}
 use Rattle.redo_ood.proofs.ItemLemmas.{items-more}

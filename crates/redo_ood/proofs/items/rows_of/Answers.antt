@@ -1,6 +1,6 @@
 use Rattle.std.proofs.Common.{◌≡◌, ◌++◌, ◌∷◌, [], map, rules, subst, sym, take}
 use Rattle.redo_book.specs.Book.{record_of}
-use Rattle.redo_core.specs.Build.{checks_for, sources_for}
+use Rattle.redo_rules.specs.Build.{checks_for, sources_for}
 use Rattle.redo_ood.specs.Listing.{run_over}
 use Rattle.redo_ood.specs.inside.Rows.{AreItems, AreRows}
 use Rattle.redo_ood.proofs.ItemLemmas.{rows-more}

@@ -1,5 +1,5 @@
 use Rattle.std.proofs.Common.{◌≡◌, ◌∙◌, map, subst, sym}
-use Rattle.redo_core.specs.Build.{checks_for, sources_for}
+use Rattle.redo_rules.specs.Build.{checks_for, sources_for}
 use Rattle.redo_step.specs.Limits.{LimitsView}
 use Rattle.redo_past.proofs.LoopLemmas.{if-so}
 use Rattle.redo_ood.specs.Listing.{IsList, run_over}

@@ -1,6 +1,6 @@
 use Rattle.std.proofs.Common.{inl, inr}
-use Rattle.redo_core.specs.TreeSources.{IsTrueOfTrees}
 use Rattle.redo_mend.proofs.SaidLemmas.{all-recovered, from-both}
+use Rattle.redo_rules.specs.TreeSources.{IsTrueOfTrees}
 use Rattle.redo_recover.proofs.laws.recovered_books_are_true.Goals as goal
 
 pub returns-clause-from : goal.returns-clause-from

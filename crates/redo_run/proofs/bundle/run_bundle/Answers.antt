@@ -1,6 +1,6 @@
 use Rattle.std.proofs.Common.{◌≡◌, ℕ, Err, List, rules, sym, ap, subst, ◌∙◌}
 use Rattle.std.proofs.lemmas.Result.{err_from_is_err_and}
-use Rattle.redo_core.specs.Results.{IsRefused, IsResultOn, NeedsTooMany}
+use Rattle.redo_rules.specs.Results.{IsRefused, IsResultOn, NeedsTooMany}
 use Rattle.redo_run.specs.Runs.{request_of}
 use Rattle.redo_run.specs.Skipping.{IsSoundOn, IsUnsafeOn}
 use Rattle.redo_run.specs.declared.bundle.BundleRun.{BundleRun}

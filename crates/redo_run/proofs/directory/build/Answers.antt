@@ -1,6 +1,6 @@
 use Rattle.std.proofs.Common.{◌≡◌, ℕ, List, sym, ap, subst, ◌∙◌}
-use Rattle.redo_core.specs.Results.{IsResult, IsResultOn}
 use Rattle.redo_report.specs.declared.report.Report.{Report}
+use Rattle.redo_rules.specs.Results.{IsResult, IsResultOn}
 use Rattle.redo_run.specs.Runs.{request_of}
 use Rattle.redo_run.specs.Skipping.{IsSoundOn}
 use Rattle.redo_tree.specs.Tree.{Tree}

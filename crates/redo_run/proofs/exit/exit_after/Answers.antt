@@ -1,9 +1,9 @@
 use Rattle.std.proofs.Common.{◌≡◌, List, ℕ, [], sym, ap, subst, ◌∙◌}
 use Rattle.std.specs.List.{list_any}
-use Rattle.redo_core.specs.Build.{GivenView, rules_for}
-use Rattle.redo_core.specs.Results.{IsResult}
 use Rattle.redo_core.specs.inside.Reported.{placed}
 use Rattle.redo_report.specs.declared.report.Row.{Row}
+use Rattle.redo_rules.specs.Build.{GivenView, rules_for}
+use Rattle.redo_rules.specs.Results.{IsResult}
 use Rattle.redo_run.specs.Exits.{fails}
 use Rattle.redo_run.proofs.ExitLemmas.{exit-failed, exit-good}
 use Rattle.redo_run.proofs.exit.exit_after.Goals as goal

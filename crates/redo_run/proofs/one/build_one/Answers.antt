@@ -1,6 +1,6 @@
 use Rattle.std.proofs.Common.{rules, Err, ap, refl, sym, subst, ◌∙◌}
-use Rattle.redo_core.specs.Results.{IsResult, NeedsTooMany}
 use Rattle.redo_report.specs.declared.report.Report.{Report}
+use Rattle.redo_rules.specs.Results.{IsResult, NeedsTooMany}
 use Rattle.redo_tree.specs.Tree.{Tree}
 use Rattle.redo_run.proofs.OpenedLemmas.{never_book, result_of, runs, stopped_at_limit, too_many_of}
 use Rattle.redo_run.proofs.one.build_one.Goals as goal

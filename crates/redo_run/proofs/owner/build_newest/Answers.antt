@@ -4,8 +4,8 @@ use denote.Param.Send.{arg_send, param_send}
 use Rattle.std.proofs.Common.{◌≡◌, ◌∙◌, sym, subst}
 use Rattle.std.proofs.lemmas.Result.{on_ok_weaker}
 use Rattle.redo_build.specs.Outcomes.{IsTooMany}
-use Rattle.redo_core.specs.Build.{GivenView, rules_for}
-use Rattle.redo_core.specs.Results.{IsGiven}
+use Rattle.redo_rules.specs.Build.{GivenView, rules_for}
+use Rattle.redo_rules.specs.Results.{IsGiven}
 use Rattle.redo_run.specs.inside.Workers.{DeskView, HasKeptUp, NeedsMany}
 use Rattle.redo_run.proofs.CrossingLemmas.{job_of_send, message_send}
 use Rattle.redo_run.proofs.owner.build_newest.Lts.{arg-4-1, arg-4-2}

@@ -1,7 +1,7 @@
 use Rattle.std.proofs.Common.{rules, ◌≡◌, ◌∙◌, Err, arith, subst}
 use Rattle.redo_build.specs.Outcomes.{IsTooMany}
-use Rattle.redo_core.specs.Build.{GivenView, rules_for}
 use Rattle.redo_core.specs.declared.board.Stop.TheVariants.{TooMany}
+use Rattle.redo_rules.specs.Build.{GivenView, rules_for}
 use Rattle.redo_run.proofs.owner.own.Goals as goal
 
 -- too many targets of the board are too many of its build

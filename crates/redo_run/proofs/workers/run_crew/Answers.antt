@@ -1,7 +1,7 @@
 use Rattle.std.proofs.Common.{◌≡◌, ◌∙◌, ◌++◌, ◌∷◌, [], List, ap, length, map, refl, subst, sym}
-use Rattle.redo_core.specs.Results.{IsGiven}
 use Rattle.redo_core.specs.Taken.{HasTaken}
 use Rattle.redo_core.specs.Views.{IsQuietBoard}
+use Rattle.redo_rules.specs.Results.{IsGiven}
 use Rattle.redo_sync.specs.Relay.{Taker}
 use Rattle.redo_run.specs.inside.Workers.{DeskView, IsStaffed}
 use Rattle.redo_run.proofs.StaffLemmas.{all_back, none_started}

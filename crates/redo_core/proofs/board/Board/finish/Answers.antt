@@ -1,11 +1,11 @@
 use Rattle.std.proofs.Common.{◌≡◌, sym, ap, subst, ◌∙◌}
-use Rattle.redo_core.specs.Build.{GivenView}
 use Rattle.redo_core.specs.inside.Reported.{AllTold, IsReportOf}
-use Rattle.redo_core.specs.Results.{IsResult}
 use Rattle.redo_core.specs.Views.{BoardView, request_on, limit_on, rules_on}
 use Rattle.redo_past.specs.NewBook.{IsResultOf}
 use Rattle.redo_past.specs.Past.{PastView}
 use Rattle.redo_report.specs.Reports.{IsReport}
+use Rattle.redo_rules.specs.Build.{GivenView}
+use Rattle.redo_rules.specs.Results.{IsResult}
 use Rattle.redo_core.proofs.ReportedLemmas.{if_ok-more, quiet-inside, report-view, settled-inside, told-inside}
 use Rattle.redo_core.proofs.board.Board.finish.Goals as goal
 use Rattle.redo_core.proofs.board.Board.finish.Goals.{In_ok-report}

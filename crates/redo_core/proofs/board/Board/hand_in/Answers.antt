@@ -1,6 +1,7 @@
 use Rattle.std.proofs.Common.{rules, ◌≡◌, ◌≤◌, ℕ, List, Option, Some, None, Ok, Err, IsNone, MatchOption, length, refl}
 use Rattle.std.proofs.Common.{sym, ap, subst, ◌∙◌}
 use Rattle.redo_build.specs.Schedule.{IsOutAt}
+use Rattle.redo_rules.specs.Build.{GivenView}
 use Rattle.redo_core.specs.inside.Ends.{IsEndAt}
 use Rattle.redo_core.specs.Faults.{fault_of, Refused, RefusedRunning}
 use Rattle.redo_core.specs.inside.Slots.{IsKept, IsOutSlotAt, state_of}
@@ -16,7 +17,6 @@ use Rattle.redo_core.proofs.HandInLemmas.{kept-beside, moved-kept, moved-looked,
 use Rattle.redo_core.proofs.HandInLemmas.{none-stopped, refused-after}
 use Rattle.redo_core.proofs.board.Board.hand_in.Goals as goal
 use Rattle.redo_core.proofs.board.Board.hand_in.Goals.{In_default, In-Some-out_at}
-use Rattle.redo_core.specs.Build.{GivenView}
 
 on : (c : In_default) → c.self.inside.stopped ≡ None
 on c = none-stopped c.self.inside.stopped c.in_default.not-Some

@@ -1,6 +1,6 @@
 use Rattle.std.proofs.Common.{◌↔◌, IsTrue, ap, subst, ◌∙◌}
-use Rattle.redo_core.specs.Build.{GivenView}
-use Rattle.redo_core.specs.Results.{IsGiven}
+use Rattle.redo_rules.specs.Build.{GivenView}
+use Rattle.redo_rules.specs.Results.{IsGiven}
 use Rattle.redo_core.specs.Views.{BoardView}
 use Rattle.redo_core.proofs.board.Board.is_for.Goals as goal
 

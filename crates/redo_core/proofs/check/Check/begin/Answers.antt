@@ -1,7 +1,7 @@
 use Rattle.std.proofs.Common.{subst}
 use Rattle.std.specs.Prelude.{IfNone, IfSome}
 use Rattle.redo_book.specs.Book.{record_of}
-use Rattle.redo_core.specs.Build.{sources_for}
+use Rattle.redo_rules.specs.Build.{sources_for}
 use Rattle.redo_core.specs.inside.Checking.{FallsBehind, IsInCheck, IsWalkedTo}
 use Rattle.redo_core.proofs.CheckSteps.{begin-due, begin-falls, begin-none, in-check}
 use Rattle.std.proofs.lemmas.Option.{slice_get_within}

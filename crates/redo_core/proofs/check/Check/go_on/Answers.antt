@@ -1,7 +1,7 @@
 use Rattle.std.proofs.Common.{◌+◌, ◌≡◌, ◌∙◌, Some, true, false, ap, slice_get, sym, subst}
 use Rattle.std.specs.Prelude.{IfNone, IfSome, option_and_then}
 use Rattle.redo_skip.specs.Checks.{has_state, told}
-use Rattle.redo_core.specs.Build.{sources_for}
+use Rattle.redo_rules.specs.Build.{sources_for}
 use Rattle.redo_core.specs.inside.Checking.{FallsBehind, IsWalkedTo, entries_in, entries_of_record, state_of_entry}
 use Rattle.redo_core.proofs.CheckSteps.{go-due, go-fallen, go-later}
 use Rattle.redo_core.proofs.check.Check.go_on.Goals as goal

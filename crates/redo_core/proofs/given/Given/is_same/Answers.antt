@@ -1,6 +1,6 @@
 use Rattle.std.proofs.Common.{◌≡◌, ◌↔◌, ℕ, List, IsTrue, refl, sym, subst, ◌∙◌}
-use Rattle.redo_core.specs.Build.{GivenView}
-use Rattle.redo_core.specs.Results.{IsGiven}
+use Rattle.redo_rules.specs.Build.{GivenView}
+use Rattle.redo_rules.specs.Results.{IsGiven}
 use Rattle.redo_core.proofs.GivenLemmas.{given-same}
 use Rattle.redo_tree.specs.Tree.{Tree}
 use Rattle.redo_core.proofs.given.Given.is_same.Goals as goal

@@ -4,7 +4,7 @@ use Rattle.redo_record.specs.Entries.{with_entry}
 use Rattle.redo_build.specs.Schedule.{Entry}
 use Rattle.redo_build.specs.Schedule.Phase.{Check}
 use Rattle.redo_build.specs.inside.Standing.{AreStanding}
-use Rattle.redo_core.specs.Build.{rules_for}
+use Rattle.redo_rules.specs.Build.{rules_for}
 use Rattle.redo_core.specs.inside.Slots.{IsPutBackThere, IsTableOf, state_after}
 use Rattle.redo_core.specs.declared.check.Check.{Check as CheckSoFar}
 use Rattle.redo_core.specs.declared.table.InCheck.{InCheck}

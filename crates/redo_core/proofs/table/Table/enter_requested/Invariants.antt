@@ -1,7 +1,7 @@
 use Rattle.std.proofs.Common.{take}
+use Rattle.redo_rules.specs.Build.{rules_for}
 use Rattle.redo_core.specs.inside.Slots.{AreEnteredInto, targets_in}
 use Rattle.redo_core.proofs.table.Table.enter_requested.Given as goal
-use Rattle.redo_core.specs.Build.{rules_for}
 
 abbrev pub invariant-loop-path : goal.invariant-loop-path
 invariant-loop-path l = AreEnteredInto l.build l.initial.self l.self l.newly_ready.items (targets_in (rules_for l.build) (take l.path-index l.request))

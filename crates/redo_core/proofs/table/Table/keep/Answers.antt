@@ -4,9 +4,9 @@ use Rattle.std.specs.Arc.{arc_value}
 use Rattle.redo_record.specs.declared.deps.Dep.{Dep}
 use Rattle.redo_record.specs.declared.outcome.Outcome.{Outcome}
 use Rattle.redo_record.specs.declared.outcome.Outcome.TheVariants.{Built}
+use Rattle.redo_rules.specs.Build.{GivenView}
 use Rattle.redo_skip.specs.Checks.{shown}
 use Rattle.redo_tree.specs.Tree.{file_at}
-use Rattle.redo_core.specs.Build.{GivenView}
 use Rattle.redo_core.specs.Views.{FactView}
 use Rattle.redo_core.specs.inside.Checking.{IsInCheck, entries_in}
 use Rattle.redo_core.specs.inside.Decided.{IsDecided}

@@ -1,4 +1,4 @@
-use Rattle.redo_core.specs.Build.{rules_for}
+use Rattle.redo_rules.specs.Build.{rules_for}
 use Rattle.redo_build.specs.TakesLeft.{takes_left}
 use Rattle.redo_core.specs.inside.Slots.{IsLookedOn, table_state}
 use Rattle.redo_core.proofs.table.Table.look_ahead.Given as goal

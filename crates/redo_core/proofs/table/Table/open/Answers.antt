@@ -1,5 +1,5 @@
 use Rattle.std.proofs.Common.{◌≡◌, ◌<◌, List, [], ℕ, Err, length, refl, sym, ap, subst, ◌∙◌}
-use Rattle.redo_core.specs.Build.{GivenView, rules_for}
+use Rattle.redo_rules.specs.Build.{GivenView, rules_for}
 use Rattle.redo_build.specs.Outcomes.{outcome_at}
 use Rattle.redo_build.specs.Schedule.{Entry, entered, opening}
 use Rattle.redo_core.specs.inside.Slots.{AreEnteredInto, slot_entries, targets_in}

@@ -1,7 +1,7 @@
 use Rattle.std.proofs.Common.{List, sym, subst, arith}
 use Rattle.redo_build.specs.Schedule.{Entry}
 use Rattle.redo_build.specs.inside.Standing.{AreStanding}
-use Rattle.redo_core.specs.Build.{rules_for}
+use Rattle.redo_rules.specs.Build.{rules_for}
 use Rattle.redo_core.proofs.SettleAllLemmas.{place-index, looked-more}
 use Rattle.redo_core.proofs.table.Table.settle_all.Goals as goal
 

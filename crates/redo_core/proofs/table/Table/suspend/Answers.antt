@@ -1,5 +1,5 @@
 use Rattle.std.proofs.Common.{rules, ◌≡◌, ◌<◌, ℕ, List, [], ◌∷◌, Err, length, inl, refl, sym, ap, subst, ◌∙◌}
-use Rattle.redo_core.specs.Build.{GivenView, rules_for}
+use Rattle.redo_rules.specs.Build.{GivenView, rules_for}
 use Rattle.redo_core.specs.inside.Works.{waited_by}
 use Rattle.redo_core.specs.declared.work.End.TheVariants.{Stopped}
 use Rattle.redo_build.specs.Schedule.{Entry, entered}

@@ -3,7 +3,7 @@ use Rattle.std.specs.Prelude.{◌↔◌}
 use Rattle.std.specs.Arc.{arc_value}
 use Rattle.redo_record.specs.declared.outcome.Outcome.{Outcome}
 use Rattle.redo_build.specs.Lacking.{lacking_under}
-use Rattle.redo_core.specs.Build.{GivenView, rules_for}
+use Rattle.redo_rules.specs.Build.{GivenView, rules_for}
 use Rattle.redo_core.specs.Views.{told_by}
 use Rattle.redo_core.proofs.BegunLemmas.{begun-shows, unread-shows, unread-work}
 use Rattle.redo_core.proofs.work.Work.advance.Goals as goal

@@ -1,6 +1,6 @@
 use Rattle.std.proofs.Common.{◌≡◌, sym, subst}
 use Rattle.std.specs.Prelude.{OnOk}
-use Rattle.redo_core.specs.Results.{IsGiven}
+use Rattle.redo_rules.specs.Results.{IsGiven}
 use Rattle.redo_run.specs.inside.Workers.{DeskView, HasKeptUp, NeedsMany}
 use Rattle.redo_run.proofs.desk.Desk.advance_claimed.Goals as goal
 

@@ -2,9 +2,9 @@ use Rattle.std.proofs.Common.{◌≡◌, ◌∙◌, ◌-◌, ◌<◌, ◌++◌, 
 use Rattle.std.specs.Prelude.{IsNone, OnOk}
 use Rattle.std.specs.declared.alloc.AllocError.{AllocError}
 use Rattle.redo_build.specs.Schedule.Event.{Take}
-use Rattle.redo_core.specs.Results.{IsGiven}
 use Rattle.redo_core.specs.Taken.{HasTaken}
 use Rattle.redo_core.specs.Views.{BoardView, WorkView, after, ready_count}
+use Rattle.redo_rules.specs.Results.{IsGiven}
 use Rattle.redo_sync.specs.Relay.{Pair, Source}
 use Rattle.redo_run.specs.declared.desk.Desk.TheInside.{Inside}
 use Rattle.redo_run.specs.inside.Workers.{DeskView, HasKeptUp}

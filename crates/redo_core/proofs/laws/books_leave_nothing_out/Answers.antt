@@ -1,5 +1,0 @@
-use Rattle.redo_core.proofs.WholeBookLemmas.{report-whole}
-use Rattle.redo_core.proofs.laws.books_leave_nothing_out.Goals as goal
-
-pub returns : goal.returns
-returns c = λ given report is_tree is. report-whole given is_tree given.request given.limits.targets report is

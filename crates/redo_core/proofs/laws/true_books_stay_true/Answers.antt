@@ -1,5 +1,0 @@
-use Rattle.redo_core.proofs.TrueBookLemmas.{stays-true}
-use Rattle.redo_core.proofs.laws.true_books_stay_true.Goals as goal
-
-pub returns : goal.returns
-returns c = λ given few true_book. stays-true given few true_book

@@ -1,0 +1,9 @@
+pub mod LawfulTreeLemmas
+pub mod AlikeTreeLemmas
+pub mod GoodTreeLemmas
+pub mod WholeBookLemmas
+pub mod TrueBookLemmas
+pub mod LeftBookLemmas
+pub mod TreeSourceExamples
+pub mod Examples
+pub mod Public

@@ -1,0 +1,4 @@
+pub mod Build
+pub mod Results
+pub mod TreeSources
+pub mod inside
