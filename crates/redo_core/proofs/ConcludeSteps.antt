@@ -36,11 +36,11 @@ concluded-shows given fact p old new h looks turn =
 module _ (given : GivenView) (t u : Table) (at : ℕ) (fact : FactView) (pending : List ℕ) (may : MayConclude given t at fact) (d : IsDecidedAt t u at fact pending) where
   pub concluded-entries : table_entries (rules_for given) given.limits.targets u ≡
       put (table_entries (rules_for given) given.limits.targets t) (concluded_entry given (path_at t.targets at) d.old fact)
-  concluded-entries = put-entries given t u [] may.table may.distinct at d.old d.new d.put_back
+  concluded-entries = put-entries given t u may.table may.distinct at d.old d.new d.put_back
       ∙ ap (put (table_entries (rules_for given) given.limits.targets t)) (concluded-shows given fact (path_at t.targets at) d.old d.new d.stage d.looks d.turn)
 
-  pub concluded-table : IsTableOf given u []
-  concluded-table = decided-table given t u [] may.table may.distinct at fact pending d may.of_build.0 may.of_build.1
+  pub concluded-table : IsTableOf given u
+  concluded-table = decided-table given t u may.table may.distinct at fact pending d may.of_build.0 may.of_build.1
 
   pub concluded-standing : IsStandingTable given u
   concluded-standing =
@@ -54,10 +54,10 @@ module _ (given : GivenView) (t u : Table) (at : ℕ) (fact : FactView) (pending
       omega (arith, len, may.table.watchers_below at k d.old d.put_back.there (subst L d.pending_is m))
 
   -- and what watched it is looked at
-  pub concluded-looked : (v : Table) (newly_ready : List ℕ) → IsTableOf given v newly_ready → AreLookedAt given u v pending → IsConcludedAt given t v at fact newly_ready
-  concluded-looked v newly_ready table looked =
+  pub concluded-looked : (v : Table) → IsTableOf given v → AreLookedAt given u v pending → IsConcludedAt given t v at fact
+  concluded-looked v table looked =
       let W : List ℕ → Type 0 = λ xs. AllWatched (rules_for given) given.limits.targets u.targets u.slots.items xs in
-      let watched = decided-watched given t u [] may.table may.distinct at fact pending d may.of_build.0 may.of_build.1 may.watched in
+      let watched = decided-watched given t u may.table may.distinct at fact pending d may.of_build.0 may.of_build.1 may.watched in
       record {
         table = table;
         slot = d.old;

@@ -36,9 +36,9 @@ queue-enqueued slots ready newly_ready sorted to from queue = record {
   once = tt;
 }
 
-module _ (given : GivenView) (request : List (List ℕ)) (t u : Table) (newly_ready : List ℕ) (table : IsTableOf given t newly_ready)
+module _ (given : GivenView) (request : List (List ℕ)) (t u : Table) (table : IsTableOf given t)
     (standing : AreStanding (rules_for given) request (table_entries (rules_for given) given.limits.targets t))
-    (watched : AllWatched (rules_for given) given.limits.targets t.targets t.slots.items []) (w : AreEnqueued t u newly_ready) where
+    (watched : AllWatched (rules_for given) given.limits.targets t.targets t.slots.items []) (w : AreEnqueued t u) where
   abbrev r : Rules
   r = rules_for given
 
@@ -47,7 +47,7 @@ module _ (given : GivenView) (request : List (List ℕ)) (t u : Table) (newly_re
       let P : List (List ℕ) → Type 0 = AreDistinct in
       subst P (paths_of-slots r (outcome_at r given.limits.targets) t.targets t.slots.items table.one_each) standing.distinct
 
-  pub enqueued-table : IsTableOf given u []
+  pub enqueued-table : IsTableOf given u
   enqueued-table =
       let raw : IsTable r given t.targets t.slots.items (t.ready.items ++ w.sorted) t.due.keys t.out [] = record {
         one_each = table.one_each;
@@ -56,19 +56,20 @@ module _ (given : GivenView) (request : List (List ℕ)) (t u : Table) (newly_re
         out_counted = table.out_counted;
         fits = table.fits;
         numbered = table.numbered;
-        queue = queue-enqueued t.slots.items t.ready.items newly_ready w.sorted (shuffled-to newly_ready w.sorted w.shuffled) (shuffled-from newly_ready w.sorted w.shuffled) table.queue;
+        queue = queue-enqueued t.slots.items t.ready.items t.newly_ready.items w.sorted (shuffled-to t.newly_ready.items w.sorted w.shuffled)
+            (shuffled-from t.newly_ready.items w.sorted w.shuffled) table.queue;
         due_listed = table.due_listed;
         watchers_below = table.watchers_below;
       } in
-      rw (w.rest.0, w.rest.1, w.rest.2, w.rest.3, w.queue) raw
+      rw (w.rest.0, w.rest.1, w.rest.2, w.rest.3, w.queue, w.none_newly_ready) raw
 
   pub enqueued-watched : AllWatched (rules_for given) given.limits.targets u.targets u.slots.items []
   enqueued-watched = rw (w.rest.0, w.rest.1) watched
 
   pub enqueued-state : table_state (rules_for given) given.limits.targets u ≡ enqueued (rules_for given) (table_state (rules_for given) given.limits.targets t)
   enqueued-state =
-      let paths = newly_ready-paths given t newly_ready w.sorted table distinct watched (sorted-ascend w.sorted w.ordered (shuffled-once newly_ready w.sorted w.shuffled table.queue.once))
-      (shuffled-from newly_ready w.sorted w.shuffled) (shuffled-to newly_ready w.sorted w.shuffled) in
+      let paths = newly_ready-paths given t w.sorted table distinct watched (sorted-ascend w.sorted w.ordered (shuffled-once t.newly_ready.items w.sorted w.shuffled table.queue.once))
+      (shuffled-from t.newly_ready.items w.sorted w.shuffled) (shuffled-to t.newly_ready.items w.sorted w.shuffled) in
       let S : List (List ℕ) → State = λ qs. record { entries = table_entries r given.limits.targets t; ready = qs } in
       let first : table_state r given.limits.targets u ≡ S (map (path_at t.targets) (t.ready.items ++ w.sorted)) = rw (w.rest.0, w.rest.1, w.queue) refl in
       first ∙ ap S (map-append (path_at t.targets) t.ready.items w.sorted ∙ ap (λ qs. map (path_at t.targets) t.ready.items ++ qs) (sym paths))
@@ -80,9 +81,9 @@ map-same f g (x ∷ xs) h =
     ap (λ y. y ∷ map f xs) (h x (inl refl)) ∙ ap (λ ys. g x ∷ ys) rest
 
 -- the numbers left are looked at
-pub looked-put : (given : GivenView) (after : State) (t u v : Table) (newly_ready newly_ready' pending : List ℕ) →
-    IsPutBackThere given after t u newly_ready pending → IsTableOf given v newly_ready' → AreLookedAt given u v pending → IsPutBackThere given after t v newly_ready' []
-looked-put given after t u v newly_ready newly_ready' pending put table looked =
+pub looked-put : (given : GivenView) (after : State) (t u v : Table) (pending : List ℕ) →
+    IsPutBackThere given after t u pending → IsTableOf given v → AreLookedAt given u v pending → IsPutBackThere given after t v []
+looked-put given after t u v pending put table looked =
     let P : List ℕ → Type 0 = λ xs. AllWatched (rules_for given) given.limits.targets u.targets u.slots.items xs in
     record {
       table = table;
@@ -98,11 +99,11 @@ pub looked-one : (given : GivenView) (t u : Table) (at : ℕ) → IsLookedAt giv
 looked-one given t u at one = record { entries = one.entries; rest = one.rest; slots = one.slots; watched = one.watched }
 
 -- all the steps together, where the state enqueues what may run among these entries
-pub taken-in : (given : GivenView) (request : List (List ℕ)) (after : State) (es : List Entry) (t u v : Table) (newly_ready table_ready : List ℕ) →
-    IsTableOf given t table_ready → AreStanding (rules_for given) request after.entries →
+pub taken-in : (given : GivenView) (request : List (List ℕ)) (after : State) (es : List Entry) (t u v : Table) →
+    IsTableOf given t → AreStanding (rules_for given) request after.entries →
     after ≡ enqueued (rules_for given) (record { entries = es; ready = map (path_at t.targets) t.ready.items }) → after.entries ≡ es →
-    IsPutBackThere given after t u newly_ready [] → AreEnqueued u v newly_ready → IsTakenIn given after v
-taken-in given request after es t u v newly_ready table_ready table stands is same put released' =
+    IsPutBackThere given after t u [] → AreEnqueued u v → IsTakenIn given after v
+taken-in given request after es t u v table stands is same put released' =
     let r = rules_for given in
     let S : List Entry → Type 0 = AreStanding r request in
     let standing = subst S (sym put.entries) stands in
@@ -115,7 +116,8 @@ taken-in given request after es t u v newly_ready table_ready table stands is sa
     let before : table_state r given.limits.targets u ≡ T es (map (path_at t.targets) t.ready.items) =
     ap (λ xs. T xs (map (path_at u.targets) u.ready.items)) (put.entries ∙ same) ∙ ap (T es) names in
     record {
-      table = enqueued-table given request u v newly_ready put.table standing put.watched released';
-      watched = enqueued-watched given request u v newly_ready put.table standing put.watched released';
-      state = enqueued-state given request u v newly_ready put.table standing put.watched released' ∙ ap (enqueued r) before ∙ sym is;
+      table = enqueued-table given request u v put.table standing put.watched released';
+      none_newly_ready = released'.none_newly_ready;
+      watched = enqueued-watched given request u v put.table standing put.watched released';
+      state = enqueued-state given request u v put.table standing put.watched released' ∙ ap (enqueued r) before ∙ sym is;
     }

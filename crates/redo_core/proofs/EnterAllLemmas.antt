@@ -62,9 +62,9 @@ module _ (given : GivenView) where
   r = rules_for given
 
   -- some paths, and then others
-  pub enter-more : (t u v : Table) (newly_ready newly_ready' : List ℕ) (ps qs : List (List ℕ)) → AreEnteredInto given t u newly_ready ps → AreEnteredInto given u v newly_ready' qs →
-      AreEnteredInto given t v newly_ready' (ps ++ qs)
-  enter-more t u v newly_ready newly_ready' ps qs one two = record {
+  pub enter-more : (t u v : Table) (ps qs : List (List ℕ)) → AreEnteredInto given t u ps → AreEnteredInto given u v qs →
+      AreEnteredInto given t v (ps ++ qs)
+  enter-more t u v ps qs one two = record {
     table = two.table;
     entries = two.entries ∙ ap (λ es. entered (rules_for given) es qs) one.entries ∙ sym (entered-append (rules_for given) (table_entries (rules_for given) given.limits.targets t) ps qs);
     rest = (two.rest.0 ∙ one.rest.0, two.rest.1 ∙ one.rest.1);

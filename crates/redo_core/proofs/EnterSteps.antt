@@ -169,8 +169,8 @@ slots-length r a [] (slot ∷ slots) h = absurd (omega arith)
 slots-length r a (p ∷ ps) [] h = refl
 slots-length r a (p ∷ ps) (slot ∷ slots) h = ap suc (slots-length r a ps slots (omega arith))
 
-module _ (given : GivenView) (t u : Table) (newly_ready newly_ready' : List ℕ) (p : List ℕ) (table : IsTableOf given t newly_ready)
-    (room : length t.slots.items < given.limits.targets) (out : IsAmong t.targets p → ⊥) (w : IsPushed given t u newly_ready newly_ready' p) where
+module _ (given : GivenView) (t u : Table) (p : List ℕ) (table : IsTableOf given t)
+    (room : length t.slots.items < given.limits.targets) (out : IsAmong t.targets p → ⊥) (w : IsPushed given t u p) where
   abbrev r : Rules
   r = rules_for given
 
@@ -241,7 +241,7 @@ module _ (given : GivenView) (t u : Table) (newly_ready newly_ready' : List ℕ)
 
   table-push : IsTable (rules_for given) given (t.targets ++ p ∷ []) (t.slots.items ++ w.new ∷ []) t.ready.items
       (cond (is_stage_due w.new.stage) (insert_key nat_cmp t.due.keys (length t.slots.items)) t.due.keys) t.out
-      (newly_ready ++ cond (is_stage_ready w.new.stage) (length t.slots.items ∷ []) [])
+      (t.newly_ready.items ++ cond (is_stage_ready w.new.stage) (length t.slots.items ∷ []) [])
   table-push =
       let len : length (t.slots.items ++ w.new ∷ []) ≡ length t.slots.items + 1 = length-append t.slots.items (w.new ∷ []) in
       let keys : length (t.targets ++ p ∷ []) ≡ length t.targets + 1 = length-append t.targets (p ∷ []) in
@@ -252,7 +252,7 @@ module _ (given : GivenView) (t u : Table) (newly_ready newly_ready' : List ℕ)
         out_counted = table.out_counted ∙ sym (count-push t.slots.items w.new (begun-inside given p w.new.stage w.begun).0);
         fits = fits-push;
         numbered = numbered-push;
-        queue = queue-push t.slots.items t.ready.items newly_ready w.new table.queue;
+        queue = queue-push t.slots.items t.ready.items t.newly_ready.items w.new table.queue;
         due_listed = due-push t.slots.items t.due.keys w.new table.due_listed;
         watchers_below = below-push;
       }
@@ -280,7 +280,7 @@ module _ (given : GivenView) (t u : Table) (newly_ready newly_ready' : List ℕ)
         ]
   ]
 
-  pub entered-new : IsEnteredInto given t u newly_ready' p
+  pub entered-new : IsEnteredInto given t u p
   entered-new = record {
     table = rw (w.keys, w.slots, w.rest.0, w.rest.1, w.newly_ready_is, w.due_is) table-push;
     entries = rw (w.keys, w.slots) pushed;
@@ -297,9 +297,9 @@ module _ (given : GivenView) (t u : Table) (newly_ready newly_ready' : List ℕ)
       rw w.keys (subst P (sym (end ∙ table.one_each)) (get-push_end t.targets p))
 
 -- a path that is there already
-pub entered-old : (given : GivenView) (t : Table) (newly_ready : List ℕ) (p : List ℕ) → IsTableOf given t newly_ready → IsAmong t.targets p →
-    IsEnteredInto given t t newly_ready p
-entered-old given t newly_ready p table m = record {
+pub entered-old : (given : GivenView) (t : Table) (p : List ℕ) → IsTableOf given t → IsAmong t.targets p →
+    IsEnteredInto given t t p
+entered-old given t p table m = record {
   table = table;
   entries =
       let P : List (List ℕ) → Type 0 = λ xs. is_among xs p ≡ true in
@@ -312,9 +312,9 @@ entered-old given t newly_ready p table m = record {
   watched = λ pending all. all;
 }
 
-pub full : (given : GivenView) (t : Table) (newly_ready : List ℕ) (p : List ℕ) → IsTableOf given t newly_ready → (IsAmong t.targets p → ⊥) →
+pub full : (given : GivenView) (t : Table) (p : List ℕ) → IsTableOf given t → (IsAmong t.targets p → ⊥) →
     given.limits.targets ≤ length t.slots.items → IsFull (rules_for given) given.limits.targets (table_entries (rules_for given) given.limits.targets t) p
-full given t newly_ready p table out h =
+full given t p table out h =
     let a = outcome_at (rules_for given) given.limits.targets in
     let es = table_entries (rules_for given) given.limits.targets t in
     let P : List (List ℕ) → Type 0 = λ xs. is_among xs p ≡ false in
@@ -327,9 +327,9 @@ full given t newly_ready p table out h =
     ))
 
 -- what was entered is within the limit
-pub entered-room : (given : GivenView) (t u : Table) (newly_ready : List ℕ) (p : List ℕ) → IsEnteredInto given t u newly_ready p →
+pub entered-room : (given : GivenView) (t u : Table) (p : List ℕ) → IsEnteredInto given t u p →
     IsFull (rules_for given) given.limits.targets (table_entries (rules_for given) given.limits.targets t) p → ⊥
-entered-room given t u newly_ready p entered many =
+entered-room given t u p entered many =
     let r = rules_for given in
     omega (
       arith,
@@ -340,9 +340,9 @@ entered-room given t u newly_ready p entered many =
     )
 
 -- where a slot is free, one more path is within the limit
-pub room-left : (given : GivenView) (t : Table) (newly_ready : List ℕ) (p : List ℕ) → IsTableOf given t newly_ready → length t.slots.items < given.limits.targets →
+pub room-left : (given : GivenView) (t : Table) (p : List ℕ) → IsTableOf given t → length t.slots.items < given.limits.targets →
     IsFull (rules_for given) given.limits.targets (table_entries (rules_for given) given.limits.targets t) p → ⊥
-room-left given t newly_ready p table room many =
+room-left given t p table room many =
     let r = rules_for given in
     let es = table_entries (rules_for given) given.limits.targets t in
     let len = slots-length r (outcome_at r given.limits.targets) t.targets t.slots.items table.one_each in

@@ -1,8 +1,6 @@
 -- A piece that is handed in leaves the board in the state that the schedule says.
 use Rattle.std.proofs.Common.{slice_get, ◌≡◌, ℕ, ◌<◌, ◌≤◌, List, [], length, Option, Some, None, refl, sym, ap, subst}
 use Rattle.std.proofs.Common.{◌∙◌, arith}
-use Rattle.std.specs.declared.vec.Vec.{Vec}
-use Rattle.std.specs.declared.alloc.Global.{Global}
 use Rattle.redo_build.specs.Outcomes.{outcome_at, IsTooMany}
 use Rattle.redo_build.specs.Schedule.{Entry, Event, State, entry_of, happens, IsOutAt}
 use Rattle.redo_build.specs.Schedule.Event.{Hand_in}
@@ -30,17 +28,13 @@ use Rattle.redo_core.proofs.SlotLemmas.{entry_of-slots, paths_of-slots, slice_ge
 use Rattle.redo_core.proofs.MakeReadySteps.{slot-of-path}
 use Rattle.redo_core.proofs.TakeLemmas.{distinct-inside, reached-more}
 
--- what a board keeps doesn't depend on its room for numbers
-pub kept-beside : (b : Inside) (numbers : Vec ℕ Global) → IsKept b → IsKept (record b { newly_ready = numbers })
-kept-beside b numbers k = record { reached = k.reached; table = k.table; watched = k.watched; none_due = k.none_due }
-
 -- what was out is taken in: the table is at rest, or the build needs too many
 module _ (given : GivenView) (t : Table) (at : ℕ) (end : End) (may : MayTakeIn given t at end) where
   abbrev before : State
   before = table_state (rules_for given) given.limits.targets t
 
   before-sound : IsSound (rules_for given) given.request before
-  before-sound = reached-sound (rules_for given) (lawful_for given) given.request before may.reached
+  before-sound = reached-sound (rules_for given) (lawful_for given) given.request before may.at_rest.reached
 
   abbrev out-slot : Entry
   out-slot = slot_entry (rules_for given) (outcome_at (rules_for given) given.limits.targets) (path_at t.targets at) may.slot
@@ -50,8 +44,8 @@ module _ (given : GivenView) (t : Table) (at : ℕ) (end : End) (may : MayTakeIn
       let r = rules_for given in
       let a = outcome_at r given.limits.targets in
       let D : List (List ℕ) → Type 0 = AreDistinct in
-      let distinct = subst D (paths_of-slots r a t.targets t.slots.items may.table.one_each) before-sound.standing.distinct in
-      let found = slice_get-from t.targets at (omega (arith, may.table.one_each, slice_get-below_some t.slots.items at may.slot may.there)) in
+      let distinct = subst D (paths_of-slots r a t.targets t.slots.items may.at_rest.table.one_each) before-sound.standing.distinct in
+      let found = slice_get-from t.targets at (omega (arith, may.at_rest.table.one_each, slice_get-below_some t.slots.items at may.slot may.there)) in
       let is : path_at t.targets at ≡ found.0 = rw found.1 refl in
       record {
         entry = out-slot;
@@ -65,8 +59,9 @@ module _ (given : GivenView) (t : Table) (at : ℕ) (end : End) (may : MayTakeIn
       let P : State → Type 0 = IsReached (rules_for given) given.request in
       record {
         reached = subst P (sym taken.state) (reached-more (rules_for given) given.request before
-            (Hand_in (path_at t.targets at) may.slot.turn) may.reached was-out);
+            (Hand_in (path_at t.targets at) may.slot.turn) may.at_rest.reached was-out);
         table = taken.table;
+        none_newly_ready = taken.none_newly_ready;
         watched = taken.watched;
       }
 
@@ -107,9 +102,7 @@ module _ (b : Inside) (kept : IsKept b) (target : List ℕ) (turn at : ℕ) (o :
       let P : List ℕ → Type 0 = λ p. IsEndAt b.build p o.slot.turn end in
       let Q : ℕ → Type 0 = λ n. IsEndAt b.build target n end in
       record {
-        reached = kept.reached;
-        table = kept.table;
-        watched = kept.watched;
+        at_rest = kept.at_rest;
         slot = o.slot;
         there = o.there;
         is_out = o.is_out;
@@ -125,12 +118,7 @@ module _ (b : Inside) (kept : IsKept b) (target : List ℕ) (turn at : ℕ) (o :
   moved-state u moved = moved.state ∙ ap (looked (rules_inside b) moved.looks) after-is
 
   pub moved-kept : (u : Table) → IsMovedOn b.build (state_after b.build Script b.table at) u → IsKept (record b { table = u })
-  moved-kept u moved = record {
-    reached = moved.at_rest.reached;
-    table = moved.at_rest.table;
-    watched = moved.at_rest.watched;
-    none_due = moved.none_due;
-  }
+  moved-kept u moved = record { at_rest = moved.at_rest; none_due = moved.none_due }
 
   -- the board is behind the piece, with nothing more to look at
   pub moved-looked : (u : Table) → IsMovedOn b.build (state_after b.build Script b.table at) u →

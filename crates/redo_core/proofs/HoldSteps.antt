@@ -22,9 +22,9 @@ use Rattle.redo_core.proofs.NumberLemmas.{numbers-path}
 use Rattle.redo_core.proofs.TableLemmas.{cases_place, get-set_same, get-set_other, watched-set, IsWatched-set}
 use Rattle.redo_core.proofs.DueSteps.{due-same}
 use Rattle.redo_core.proofs.TableSteps.{number-decided, parked_numbered, decided-known, entries-same, table-same}
-use Rattle.redo_core.proofs.TableSteps.{lacking-asked, lacking-open, queue-same, watch-table, watch-looked}
+use Rattle.redo_core.proofs.TableSteps.{lacking-asked, lacking-open, moved-on, queue-same, watch-table, watch-looked}
 
-module _ (given : GivenView) (t : Table) (newly_ready : List ℕ) (table : IsTableOf given t newly_ready) (standing : IsStandingTable given t)
+module _ (given : GivenView) (t : Table) (table : IsTableOf given t) (standing : IsStandingTable given t)
     (at : ℕ) (slot : Slot) (parked : Parked) (there : slice_get t.slots.items at ≡ Some slot) (is : slot.stage ≡ Waiting parked)
     (v : Table) (i place : ℕ) (h : IsHeldAt t v at i) (l : IsLackingAt t parked.operands.items parked.held i place) where
   abbrev r : Rules
@@ -77,7 +77,7 @@ module _ (given : GivenView) (t : Table) (newly_ready : List ℕ) (table : IsTab
       ap (E slot.looks slot.turn) (deps-same (path_at t.targets at)) ∙ sym two
 
   numbers : AreNumbers t.targets parked.operands.items (waited_by (rules_for given) parked.begun.value)
-  numbers = parked_numbered given t newly_ready table standing at slot parked there is
+  numbers = parked_numbered given t table standing at slot parked there is
 
   held-numbered : IsNumbered (rules_for given) t.targets h.new.stage
   unfolding held
@@ -100,7 +100,7 @@ module _ (given : GivenView) (t : Table) (newly_ready : List ℕ) (table : IsTab
           | inl before ↦ w.answered k q before get none
           | inr after' ↦
               let number = numbers-path t.targets parked.operands.items (waited_by r parked.begun.value) k q numbers get in
-              decided-known given t newly_ready table standing q (number-decided t q number.0 number.2 (l.before k number.0 after' below number.1)) none
+              decided-known given t table standing q (number-decided t q number.0 number.2 (l.before k number.0 after' below number.1)) none
         ];
         told = w.told;
         behind = w.behind;
@@ -109,20 +109,20 @@ module _ (given : GivenView) (t : Table) (newly_ready : List ℕ) (table : IsTab
         goes_on = w.goes_on;
       }))
 
-  pub held-table : IsTableOf given v newly_ready
+  pub held-table : IsTableOf given v
   held-table =
       let list = ap (λ (y : Rattle.std.specs.declared.vec.Vec.Vec ℕ Rattle.std.proofs.Common.Global). y.items) (h.watchers ∙ ap (λ (y : Slot). y.watchers) same-slot) in
       let ready : is_stage_ready h.new.stage ≡ is_stage_ready slot.stage = ap is_stage_ready held-is ∙ sym (ap is_stage_ready is) in
       let due : is_stage_due h.new.stage ≡ is_stage_due slot.stage = ap is_stage_due held-is ∙ sym (ap is_stage_due is) in
-      let raw = table-same given t newly_ready table standing at slot h.new there old-open new-open same-entry newly_ready t.due.keys
-      (queue-same t.slots.items t.ready.items newly_ready at slot h.new there table.queue ready)
+      let raw = table-same given t table standing at slot h.new there old-open new-open same-entry t.newly_ready.items t.due.keys
+      (queue-same t.slots.items t.ready.items t.newly_ready.items at slot h.new there table.queue ready)
       (due-same t.slots.items t.due.keys at slot h.new there table.due_listed due)
       (λ k m. let L : List ℕ → Type 0 = λ xs. IsPlace xs k in table.watchers_below at k slot there (subst L list m)) held-fits held-numbered in
-      let S : List Slot → Type 0 = λ xs. IsTable r given t.targets xs t.ready.items t.due.keys t.out newly_ready in
-      rw (h.rest.0, h.rest.1, h.rest.2, h.rest.3) (subst S (sym h.slots) raw)
+      let S : List Slot → Type 0 = λ xs. IsTable r given t.targets xs t.ready.items t.due.keys t.out t.newly_ready.items in
+      moved-on given t table standing v h.rest (subst S (sym h.slots) raw)
 
   pub held-entries : table_entries (rules_for given) given.limits.targets v ≡ table_entries (rules_for given) given.limits.targets t
-  held-entries = rw (h.rest.0, h.slots) (entries-same given t newly_ready table standing at slot h.new there old-open new-open same-entry)
+  held-entries = rw (h.rest.0, h.slots) (entries-same given t table standing at slot h.new there old-open new-open same-entry)
 
   pub held-standing : IsStandingTable given v
   held-standing = let S : List Entry → Type 0 = AreStanding r standing.0 in (standing.0, subst S (sym held-entries) standing.1)
@@ -166,15 +166,15 @@ module _ (given : GivenView) (t : Table) (newly_ready : List ℕ) (table : IsTab
   ]
 
   module _ (u : Table) (w : IsWatchAdded v u at place) where
-    pub held-watch-table : IsTableOf given u newly_ready
-    held-watch-table = watch-table given v newly_ready held-table held-standing at h.new held-there u place w
-        (lacking-open given v newly_ready held-table held-standing at h.new held held-there held-is u place i i w held-lacks)
+    pub held-watch-table : IsTableOf given u
+    held-watch-table = watch-table given v held-table held-standing at h.new held-there u place w
+        (lacking-open given v held-table held-standing at h.new held held-there held-is u place i i w held-lacks)
 
     pub held-watch-looked : IsLookedAt given t u at
     held-watch-looked =
-        let looked = watch-looked given v newly_ready held-table held-standing at h.new held-there u place w
-        (lacking-open given v newly_ready held-table held-standing at h.new held held-there held-is u place i i w held-lacks)
-        (lacking-asked given v newly_ready held-table held-standing at h.new held held-there held-is u place i i w held-lacks) in
+        let looked = watch-looked given v held-table held-standing at h.new held-there u place w
+        (lacking-open given v held-table held-standing at h.new held held-there held-is u place i i w held-lacks)
+        (lacking-asked given v held-table held-standing at h.new held held-there held-is u place i i w held-lacks) in
         record {
           entries = looked.entries ∙ held-entries;
           rest = (looked.rest.0 ∙ h.rest.0, looked.rest.1 ∙ h.rest.1, looked.rest.2 ∙ h.rest.2);

@@ -325,12 +325,13 @@ looked-less given whole drawn u at is_drawn once =
 
 -- a table that has nothing more listed as due is at rest as it was
 pub rest-same : (given : GivenView) (t u : Table) → IsAtRest given t → u.targets ≡ t.targets → u.slots ≡ t.slots →
-    u.ready ≡ t.ready → u.out ≡ t.out → u.due.keys ≡ t.due.keys → IsAtRest given u
-rest-same given t u rest targets slots ready out due =
+    u.ready ≡ t.ready → u.out ≡ t.out → u.newly_ready ≡ t.newly_ready → u.due.keys ≡ t.due.keys → IsAtRest given u
+rest-same given t u rest targets slots ready out newly_ready due =
     let items : u.slots.items ≡ t.slots.items = ap (λ (v : Vec Slot Global). v.items) slots in
     let queue : u.ready.items ≡ t.ready.items = ap (λ (v : VecDeque ℕ Global). v.items) ready in
     record {
       reached = rw (targets, items, queue) rest.reached;
-      table = rw (targets, items, queue, due, out) rest.table;
+      table = rw (targets, items, queue, due, out, newly_ready) rest.table;
+      none_newly_ready = rw newly_ready rest.none_newly_ready;
       watched = rw (targets, items) rest.watched;
     }

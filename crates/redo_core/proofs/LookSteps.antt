@@ -193,7 +193,7 @@ module _ (given : GivenView) (w : Table) (rest : IsAtRest given w) where
           | inl ready ↦ elim (rest.table.queue.ready_in i slot found.2 ready) [
             | inl queued ↦ absurd (both_ways _ parts.3 (is_among-from s.ready e.path
                 (IsAmong-same s.ready (path_at w.targets i) e.path (here ∙ sym path) (map-among (path_at w.targets) w.ready.items i queued))))
-            | inr none ↦ absurd none
+            | inr new ↦ absurd (let P : List ℕ → Type 0 = λ xs. IsPlace xs i in subst P rest.none_newly_ready new)
           ]
           | inr is ↦ rest.table.due_listed.due_in i slot found.2 is
         ]
@@ -366,7 +366,7 @@ module _ (given : GivenView) (u : Table) (at : ℕ) (held : Box InCheck Global) 
       outcomes_of (table_entries (rules_for given) given.limits.targets may.whole) q
   kept-outcomes q = outcomes-kept rl lawful lim w.targets w.slots.items at p old new distinct look-key there (new-open ∙ sym old-open) q
 
-  pub look-table : IsTableOf given u []
+  pub look-table : IsTableOf given u
   look-table =
       let len = length-set w.slots.items at new in
       let more : Extends rl (outcomes_of ew) (outcomes_of (entries_from rl lim w.targets (slice_set w.slots.items at new))) = λ q o source h. kept-outcomes q ∙ h in
@@ -375,19 +375,19 @@ module _ (given : GivenView) (u : Table) (at : ℕ) (held : Box InCheck Global) 
       let undue : is_stage_due new.stage ≡ false = rw may.taken.is refl in
       let N : Stage → Type 0 = λ st. Rattle.redo_core.specs.inside.Slots.IsNumbered rl w.targets st in
       let F : Stage → Type 0 = λ st. Fits rl (outcomes_of (entries_from rl lim w.targets (slice_set w.slots.items at new))) given p new.turn st in
-      let raw : IsTable rl given w.targets (slice_set w.slots.items at new) w.ready.items may.drawn.due.keys u.out [] = record {
+      let raw : IsTable rl given w.targets (slice_set w.slots.items at new) w.ready.items may.drawn.due.keys u.out w.newly_ready.items = record {
         one_each = len ∙ rest.table.one_each;
         within_limit = omega (arith, len, rest.table.within_limit);
         few = rest.table.few;
         out_counted = omega (arith, rest.table.out_counted, may.taken.out, may.is_drawn.rest.3, count-set w.slots.items at old new there (rw may.taken.was refl) new-out);
         fits = fits-set rl lawful lim w.targets w.slots.items at p old new distinct look-key there given refl more rest.table.fits (subst F (sym may.taken.is) tt);
         numbered = Rattle.redo_core.proofs.NumberLemmas.numbered-set rl w.targets w.slots.items at new (subst N (sym may.taken.is) tt) rest.table.numbered;
-        queue = queue-same w.slots.items w.ready.items [] at old new there rest.table.queue unready;
+        queue = queue-same w.slots.items w.ready.items w.newly_ready.items at old new there rest.table.queue unready;
         due_listed = due-drawn w.slots.items w.due.keys at old new there rest.table.due_listed may.drawn.due.keys may.is_drawn.due once undue;
         watchers_below = watchers-set w.slots.items at old new there (λ k m. rest.table.watchers_below at k old there (rw same_list at m)) rest.table.watchers_below;
       } in
-      let S : List Slot → Type 0 = λ xs. IsTable rl given w.targets xs w.ready.items may.drawn.due.keys u.out [] in
-      rw (look-targets, look-ready, may.taken.rest.2) (subst S (sym look-slots) raw)
+      let S : List Slot → Type 0 = λ xs. IsTable rl given w.targets xs w.ready.items may.drawn.due.keys u.out w.newly_ready.items in
+      rw (look-targets, look-ready, may.taken.rest.2, may.taken.rest.3 ∙ may.is_drawn.rest.4) (subst S (sym look-slots) raw)
 
   pub look-watched : AllWatched (rules_for given) given.limits.targets u.targets u.slots.items []
   look-watched =

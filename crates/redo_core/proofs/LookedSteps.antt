@@ -172,8 +172,8 @@ module _ (given : GivenView) (u : Table) (at : ℕ) (held : Box InCheck Global) 
                 subst R (sym (look-path given u at held may)) (subst Q (sym same) (subst S (sym kept-after) (look-sound given u at held may).standing));
           }
 
-      pub kept-put : (v : Table) (newly_ready : List ℕ) → IsConcludedAt given u v at fact newly_ready → IsPutBackThere given (state_after given In_check u at) u v newly_ready []
-      kept-put v newly_ready c =
+      pub kept-put : (v : Table) → IsConcludedAt given u v at fact → IsPutBackThere given (state_after given In_check u at) u v []
+      kept-put v c =
           let both : Some c.slot ≡ Some may.taken.new = sym c.there ∙ look-there given u at held may in
           let same : c.slot ≡ may.taken.new = cc in
           record {
@@ -232,7 +232,7 @@ module _ (given : GivenView) (u : Table) (at : ℕ) (held : Box InCheck Global) 
     asked-still : (x : List ℕ) → IsAmong (operands (rules_for given) held.value.check.asked) x → IsAmong (operands (rules_for given) (with_entry held.value.check.asked kinds.Change q)) x
     asked-still x m = entry-keeps r asked (record { kind = kinds.Change; path = q }) x m
 
-    module _ (v : Table) (newly_ready : List ℕ) (place : ℕ) (a : AreEnteredInto given u v newly_ready (q ∷ [])) (number : slice_get v.targets place ≡ Some q) where
+    module _ (v : Table) (place : ℕ) (a : AreEnteredInto given u v (q ∷ [])) (number : slice_get v.targets place ≡ Some q) where
       pub asked-out : IsOutThere v at
       asked-out =
           let out = look-out given u at held may in
@@ -313,7 +313,7 @@ module _ (given : GivenView) (u : Table) (at : ℕ) (held : Box InCheck Global) 
 
         asked-moved : table_entries (rules_for given) given.limits.targets w ≡ (state_after given In_check u at).entries
         asked-moved =
-            let put-in = put-entries given v w newly_ready a.table asked-distinct at d.old d.new d.put_back in
+            let put-in = put-entries given v w a.table asked-distinct at d.old d.new d.put_back in
             let M : List ℕ → ℕ → ℕ → List Dep → Entry = λ x k n ds. record { path = x; looks = k; turn = n; deps = ds; outcome = None; is_out = false } in
             let T : Stage → Entry = λ st. record { path = path_at v.targets at; looks = d.new.looks; turn = d.new.turn; deps = stage_deps r al (path_at v.targets at) (rounds_of d.new) st; outcome = stage_outcome st; is_out = is_stage_out st } in
             let deps : held'.value.check.asked ≡ more = ap (λ (h : InCheck). h.check.asked) is in
@@ -322,11 +322,11 @@ module _ (given : GivenView) (u : Table) (at : ℕ) (held : Box InCheck Global) 
             ∙ ap (λ n. M p (may.taken.old.looks + 1) n held'.value.check.asked) turn-same ∙ ap (M p (may.taken.old.looks + 1) may.taken.old.turn) deps in
             put-in ∙ ap (put (table_entries r lim v)) entry' ∙ ap (λ xs. put xs (M p (may.taken.old.looks + 1) may.taken.old.turn more)) a.entries ∙ asked-after
 
-        pub asked-put : IsPutBackThere given (state_after given In_check u at) u w newly_ready (at ∷ [])
+        pub asked-put : IsPutBackThere given (state_after given In_check u at) u w (at ∷ [])
         asked-put =
             let len = ap length d.put_back.slots ∙ Rattle.std.proofs.Common.length-set v.slots.items at d.new in
             record {
-              table = asked-table given v w newly_ready a.table asked-distinct at (record { held = held'; path = q; at = place }) d checking number;
+              table = asked-table given v w a.table asked-distinct at (record { held = held'; path = q; at = place }) d checking number;
               entries = asked-moved;
               ready = d.put_back.rest.1 ∙ a.rest.0;
               keys_kept = λ k x h. rw d.put_back.rest.0 (a.keys_kept k x h);
@@ -334,5 +334,5 @@ module _ (given : GivenView) (u : Table) (at : ℕ) (held : Box InCheck Global) 
                 | inl here ↦ omega (arith, here, len, slice_get-below_some v.slots.items at d.old d.put_back.there)
                 | inr none ↦ absurd none
               ];
-              watched = asked-watched given v w newly_ready a.table asked-distinct at (record { held = held'; path = q; at = place }) d checking number (a.watched [] (look-watched given u at held may));
+              watched = asked-watched given v w a.table asked-distinct at (record { held = held'; path = q; at = place }) d checking number (a.watched [] (look-watched given u at held may));
             }

@@ -78,9 +78,9 @@ due-begins given p a c due = elim (cases_Option (asks_next given c)) [
   | inr some ↦ (due-asks given p a c some.0 due some.1).1
 ]
 
-module _ (given : GivenView) (t : Table) (newly_ready sorted : List ℕ) (table : IsTableOf given t newly_ready) (distinct : AreDistinct t.targets)
+module _ (given : GivenView) (t : Table) (sorted : List ℕ) (table : IsTableOf given t) (distinct : AreDistinct t.targets)
     (watched : AllWatched (rules_for given) given.limits.targets t.targets t.slots.items [])
-    (ascends : AscendFrom 0 sorted) (in' : (k : ℕ) → IsPlace sorted k → IsPlace newly_ready k) (out : (k : ℕ) → IsPlace newly_ready k → IsPlace sorted k) where
+    (ascends : AscendFrom 0 sorted) (in' : (k : ℕ) → IsPlace sorted k → IsPlace t.newly_ready.items k) (out : (k : ℕ) → IsPlace t.newly_ready.items k → IsPlace sorted k) where
   abbrev r : Rules
   r = rules_for given
 
@@ -96,7 +96,7 @@ module _ (given : GivenView) (t : Table) (newly_ready sorted : List ℕ) (table 
       let is : path_at t.targets k ≡ found.0 = rw found.1 refl in
       found.1 ∙ ap Some (sym is)
 
-  make_ready-there : (i : ℕ) (e : Entry) → slice_get s.entries i ≡ Some e → IsPlace newly_ready i → may_run (rules_for given) s e ≡ true
+  make_ready-there : (i : ℕ) (e : Entry) → slice_get s.entries i ≡ Some e → IsPlace t.newly_ready.items i → may_run (rules_for given) s e ≡ true
   make_ready-there i e h m =
       let found = slot-of-entry r a t.targets t.slots.items i e h in
       let slot = found.0 in
@@ -116,7 +116,7 @@ module _ (given : GivenView) (t : Table) (newly_ready sorted : List ℕ) (table 
             let at = among-map (path_at t.targets) t.ready.items e.path (is_among-true s.ready e.path yes') in
             let same : at.0 ≡ i = distinct-place t.targets at.0 i p distinct
             (key-at at.0 (table.queue.ready_below at.0 at.1) ∙ ap Some (at.2 ∙ path)) found.3 in
-            table.queue.apart at.0 at.1 (let Q : ℕ → Type 0 = IsPlace newly_ready in subst Q (sym same) m))
+            table.queue.apart at.0 at.1 (let Q : ℕ → Type 0 = IsPlace t.newly_ready.items in subst Q (sym same) m))
         | inr f ↦ f
       ] in
       let here : path_at t.targets i ≡ e.path = (let same : path_at t.targets i ≡ p = rw found.3 refl in same) ∙ sym path in
@@ -126,7 +126,7 @@ module _ (given : GivenView) (t : Table) (newly_ready sorted : List ℕ) (table 
       let begun : r.begins e.path (known_to r s.entries e) ≡ true = subst C (sym deps) (subst A here job.4) in
       and_from _ _ (and_from _ _ (and_from _ _ (and_from _ _ (let o : is_none e.outcome ≡ true = rw outcome refl in o) all) (not_from_false _ inside)) (not_from_false _ away)) begun
 
-  make_ready-alone : (i : ℕ) (e : Entry) → slice_get s.entries i ≡ Some e → may_run (rules_for given) s e ≡ true → IsPlace newly_ready i
+  make_ready-alone : (i : ℕ) (e : Entry) → slice_get s.entries i ≡ Some e → may_run (rules_for given) s e ≡ true → IsPlace t.newly_ready.items i
   make_ready-alone i e h free =
       let found = slot-of-entry r a t.targets t.slots.items i e h in
       let slot = found.0 in

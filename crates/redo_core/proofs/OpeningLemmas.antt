@@ -68,8 +68,8 @@ pub opening-entries : (given : GivenView) (request : List (List ℕ)) → (openi
 opening-entries given request = entered-new (rules_for given) [] [] (targets_in (rules_for given) request)
 
 pub empty-table : (given : GivenView) (t : Table) → t.targets ≡ [] → t.slots.items ≡ [] → t.ready.items ≡ [] → t.due.keys ≡ [] → t.out ≡ 0 →
-    given.limits.targets ≤ 65536 → IsTableOf given t []
-empty-table given t keys slots ready due out few = rw (keys, slots, ready, due, out) (record {
+    t.newly_ready.items ≡ [] → given.limits.targets ≤ 65536 → IsTableOf given t
+empty-table given t keys slots ready due out newly_ready few = rw (keys, slots, ready, due, out, newly_ready) (record {
   one_each = refl;
   within_limit = omega arith;
   few = few;
@@ -101,9 +101,9 @@ empty-watched given t keys slots = rw (keys, slots) (λ k x g h. absurd (nothing
     nothing : (k : ℕ) (x : Rattle.redo_core.specs.declared.table.Slot.Slot) → slice_get {X = Rattle.redo_core.specs.declared.table.Slot.Slot} [] k ≡ Some x → ⊥
     nothing k x g = cc
 
-pub first-is : (given : GivenView) (t u v : Table) (newly_ready : List ℕ) → t.targets ≡ [] → t.slots.items ≡ [] → t.ready.items ≡ [] →
-    AreEnteredInto given t u newly_ready (targets_in (rules_for given) given.request) → AreEnqueued u v newly_ready → IsFirstTable given v
-first-is given t u v newly_ready keys slots ready a w =
+pub first-is : (given : GivenView) (t u v : Table) → t.targets ≡ [] → t.slots.items ≡ [] → t.ready.items ≡ [] →
+    AreEnteredInto given t u (targets_in (rules_for given) given.request) → AreEnqueued u v → IsFirstTable given v
+first-is given t u v keys slots ready a w =
     let r = rules_for given in
     let request = given.request in
     let none : table_entries r given.limits.targets t ≡ [] = rw keys refl in
@@ -114,9 +114,10 @@ first-is given t u v newly_ready keys slots ready a w =
     let T : List Entry → List (List ℕ) → State = λ xs ps. record { entries = xs; ready = ps } in
     let before : table_state r given.limits.targets u ≡ T (opening r request).entries [] = (let numbers : table_state r given.limits.targets u ≡ T (table_entries r given.limits.targets u) [] = rw (a.rest.0, ready) refl in numbers ∙ ap (λ xs. T xs []) entries) in
     record {
-      table = enqueued-table given request u v newly_ready a.table standing watched w;
-      watched = enqueued-watched given request u v newly_ready a.table standing watched w;
-      state = enqueued-state given request u v newly_ready a.table standing watched w ∙ ap (enqueued r) before;
+      table = enqueued-table given request u v a.table standing watched w;
+      none_newly_ready = w.none_newly_ready;
+      watched = enqueued-watched given request u v a.table standing watched w;
+      state = enqueued-state given request u v a.table standing watched w ∙ ap (enqueued r) before;
     }
 
 -- the first table is at rest
@@ -124,18 +125,14 @@ pub first-at_rest : (given : GivenView) (t : Table) → IsFirstTable given t →
 first-at_rest given t first = record {
   reached = record { events = []; all_open = tt; ends = first.state };
   table = first.table;
+  none_newly_ready = first.none_newly_ready;
   watched = first.watched;
 }
 
 -- what a board has come to that was opened and has looked ahead
 module _ (b : Inside) (t : Table) (first : IsFirstTable b.build t) (ahead : IsLookedOn b.build t b.table) (none : b.table.due.keys ≡ []) where
   pub opened-kept : IsKept b
-  opened-kept = record {
-    reached = ahead.at_rest.reached;
-    table = ahead.at_rest.table;
-    watched = ahead.at_rest.watched;
-    none_due = none;
-  }
+  opened-kept = record { at_rest = ahead.at_rest; none_due = none }
 
   pub opened-state : state_of b ≡ looked (rules_inside b) ahead.looks (opening (rules_inside b) b.build.request)
   opened-state = ahead.state ∙ ap (looked (rules_inside b) ahead.looks) first.state

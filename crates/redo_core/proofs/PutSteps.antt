@@ -43,7 +43,7 @@ count-back (x ∷ xs) (Rattle.std.proofs.Common.suc at) old new h was now =
     let rest = count-back xs at old new h was now in
     elim (cases_Bool (is_stage_out x.stage)) [ inl t ↦ rw t (omega (arith, rest)) | inr f ↦ rw f rest ]
 
-module _ (given : GivenView) (t u : Table) (newly_ready : List ℕ) (table : IsTableOf given t newly_ready) (distinct : AreDistinct t.targets)
+module _ (given : GivenView) (t u : Table) (table : IsTableOf given t) (distinct : AreDistinct t.targets)
     (at : ℕ) (old new : Slot) (w : IsPutBack t u at old new) where
   abbrev r : Rules
   r = rules_for given
@@ -64,11 +64,11 @@ module _ (given : GivenView) (t u : Table) (newly_ready : List ℕ) (table : IsT
 
   pub put-table : is_stage_out new.stage ≡ false → is_stage_ready new.stage ≡ false → is_stage_due new.stage ≡ false → ((k : ℕ) → IsPlace new.watchers.items k → k < length t.slots.items) →
       ((a : Ask) → Extends (rules_for given) (outcomes_of (table_entries (rules_for given) given.limits.targets t)) a →
-      Fits (rules_for given) a given (path_at t.targets at) new.turn new.stage) → IsNumbered (rules_for given) t.targets new.stage → IsTableOf given u newly_ready
+      Fits (rules_for given) a given (path_at t.targets at) new.turn new.stage) → IsNumbered (rules_for given) t.targets new.stage → IsTableOf given u
   put-table in' still undue below fit numbers =
       let len = length-set t.slots.items at new in
       let count = count-back t.slots.items at old new w.there (rw w.was refl) in' in
-      let raw : IsTable r given t.targets (slice_set t.slots.items at new) t.ready.items t.due.keys u.out newly_ready = record {
+      let raw : IsTable r given t.targets (slice_set t.slots.items at new) t.ready.items t.due.keys u.out t.newly_ready.items = record {
         one_each = len ∙ table.one_each;
         within_limit = omega (arith, len, table.within_limit);
         few = table.few;
@@ -78,12 +78,12 @@ module _ (given : GivenView) (t u : Table) (newly_ready : List ℕ) (table : IsT
             table.fits (fit (outcomes_of (entries_from r given.limits.targets t.targets (slice_set t.slots.items at new)))
             (outcomes-more r (lawful_for given) given.limits.targets t.targets t.slots.items at (path_at t.targets at) old new distinct put_path w.there old_open));
         numbered = numbered-set r t.targets t.slots.items at new numbers table.numbered;
-        queue = queue-same t.slots.items t.ready.items newly_ready at old new w.there table.queue (still ∙ sym (rw w.was refl));
+        queue = queue-same t.slots.items t.ready.items t.newly_ready.items at old new w.there table.queue (still ∙ sym (rw w.was refl));
         due_listed = due-same t.slots.items t.due.keys at old new w.there table.due_listed (undue ∙ sym (rw w.was refl));
         watchers_below = watchers-set t.slots.items at old new w.there below table.watchers_below;
       } in
-      let S : List Slot → Type 0 = λ xs. IsTable r given t.targets xs t.ready.items t.due.keys u.out newly_ready in
-      rw (w.rest.0, w.rest.1, w.rest.2) (subst S (sym w.slots) raw)
+      let S : List Slot → Type 0 = λ xs. IsTable r given t.targets xs t.ready.items t.due.keys u.out t.newly_ready.items in
+      rw (w.rest.0, w.rest.1, w.rest.2, w.rest.3) (subst S (sym w.slots) raw)
 
 decided-stage : (fact : FactView) (given : GivenView) (p : List ℕ) (turn : ℕ) (stage : Stage) → IsDecidedStage fact stage →
     (fact.given ≡ given) → (fact.target ≡ p) →
@@ -130,14 +130,14 @@ parked-numbers begun numbers r ps (Ready work) h are = absurd h
 parked-numbers begun numbers r ps Out h are = absurd h
 parked-numbers begun numbers r ps (Decided held) h are = absurd h
 
-module _ (given : GivenView) (t u : Table) (newly_ready : List ℕ) (table : IsTableOf given t newly_ready) (distinct : AreDistinct t.targets) (at : ℕ) where
+module _ (given : GivenView) (t u : Table) (table : IsTableOf given t) (distinct : AreDistinct t.targets) (at : ℕ) where
   -- a target that is decided
   module _ (fact : FactView) (pending : List ℕ) (d : IsDecidedAt t u at fact pending)
       (one : fact.given ≡ given) (two : fact.target ≡ path_at t.targets at) where
-    pub decided-table : IsTableOf given u newly_ready
+    pub decided-table : IsTableOf given u
     decided-table =
         let h = decided-stage fact given (path_at t.targets at) d.new.turn d.new.stage d.stage one two in
-        put-table given t u newly_ready table distinct at d.old d.new d.put_back h.0 h.1 h.2
+        put-table given t u table distinct at d.old d.new d.put_back h.0 h.1 h.2
         (λ k m. absurd (let P : List ℕ → Type 0 = λ xs. IsPlace xs k in subst P d.watchers m)) (λ a more. h.4 a) (numbered-still (rules_for given) t.targets d.new.stage h.3)
 
     decided-raw : AllWatched (rules_for given) given.limits.targets t.targets t.slots.items [] →
@@ -179,10 +179,10 @@ module _ (given : GivenView) (t u : Table) (newly_ready : List ℕ) (table : IsT
     same_list : d.new.watchers.items ≡ d.old.watchers.items
     same_list = ap (λ (y : Rattle.std.specs.declared.vec.Vec.Vec ℕ Rattle.std.proofs.Common.Global). y.items) d.watchers
 
-    pub parked-table : IsTableOf given u newly_ready
+    pub parked-table : IsTableOf given u
     parked-table =
         let h = parked-stage begun numbers given (outcomes_of (table_entries (rules_for given) given.limits.targets t)) (path_at t.targets at) d.new.turn d.new.stage d.stage waits in
-        put-table given t u newly_ready table distinct at d.old d.new d.put_back h.0 h.1 h.2
+        put-table given t u table distinct at d.old d.new d.put_back h.0 h.1 h.2
         (λ k m. table.watchers_below at k d.old d.put_back.there (rw same_list at m)) h.4
         (parked-numbers begun numbers (rules_for given) t.targets d.new.stage d.stage are)
 
@@ -213,11 +213,11 @@ module _ (given : GivenView) (t u : Table) (newly_ready : List ℕ) (table : IsT
     asked_open : stage_outcome d.new.stage ≡ None
     asked_open = rw d.stage refl
 
-    pub asked-table : IsTableOf given u newly_ready
+    pub asked-table : IsTableOf given u
     asked-table =
         let a = outcomes_of (table_entries (rules_for given) given.limits.targets t) in
         let N : Stage → Type 0 = λ st. IsNumbered (rules_for given) t.targets st in
-        put-table given t u newly_ready table distinct at d.old d.new d.put_back (rw d.stage refl) (rw d.stage refl) (rw d.stage refl)
+        put-table given t u table distinct at d.old d.new d.put_back (rw d.stage refl) (rw d.stage refl) (rw d.stage refl)
         (λ k m. table.watchers_below at k d.old d.put_back.there (rw kept_list at m))
         (λ b more.
         let F : Stage → Type 0 = λ st. Fits (rules_for given) b given (path_at t.targets at) d.new.turn st in

@@ -56,7 +56,7 @@ slot-outcome r a ps slots k p slot distinct path there = ap outcome_of (entry_of
 module _ (given : GivenView) (t : Table) (s : State)
     (entries : s.entries ≡ entries_from (rules_for given) given.limits.targets t.targets t.slots.items)
     (shows : ShowsBuild (rules_for given) given.request given.limits.targets s)
-    (table : IsTableOf given t []) (watched : AllWatched (rules_for given) given.limits.targets t.targets t.slots.items [])
+    (table : IsTableOf given t) (watched : AllWatched (rules_for given) given.limits.targets t.targets t.slots.items [])
     (distinct : AreDistinct t.targets)
     (targets : (p : List ℕ) → IsAmong t.targets p → is_some (file_at given.past.sources p) ≡ false) where
   abbrev r : Rules
@@ -284,23 +284,23 @@ out-counted (x ∷ slots) (suc k) slot there out none = elim (cases_Bool (is_sta
 module _ (b : Inside) (kept : IsKept b) (quiet : IsQuiet (state_of b)) where
   pub settled-inside : AllSettled b.table
   settled-inside k slot there = settled-stage slot.stage
-      (λ ready. elim (kept.table.queue.ready_in k slot there ready) [
+      (λ ready. elim (kept.at_rest.table.queue.ready_in k slot there ready) [
         | inl placed ↦ none-placed (path_at b.table.targets) b.table.ready.items k quiet.0 placed
-        | inr none ↦ none
+        | inr new ↦ let P : List ℕ → Type 0 = λ xs. IsPlace xs k in subst P kept.at_rest.none_newly_ready new
       ])
-      (λ due. let P : List ℕ → Type 0 = λ xs. IsPlace xs k in subst P kept.none_due (kept.table.due_listed.due_in k slot there due))
+      (λ due. let P : List ℕ → Type 0 = λ xs. IsPlace xs k in subst P kept.none_due (kept.at_rest.table.due_listed.due_in k slot there due))
       (λ out. out-counted b.table.slots.items k slot there out
-      (sym (out_count-slots (rules_inside b) (outcome_at (rules_inside b) b.build.limits.targets) b.table.targets b.table.slots.items kept.table.one_each) ∙ quiet.1))
+      (sym (out_count-slots (rules_inside b) (outcome_at (rules_inside b) b.build.limits.targets) b.table.targets b.table.slots.items kept.at_rest.table.one_each) ∙ quiet.1))
 
   target-keys : (p : List ℕ) → IsAmong b.table.targets p → is_some (file_at b.build.past.sources p) ≡ false
   target-keys p m =
       let P : List (List ℕ) → Type 0 = λ ps. IsAmong ps p in
       (sound-inside b kept).standing.targets p
-      (subst P (sym (paths_of-slots (rules_inside b) (outcome_at (rules_inside b) b.build.limits.targets) b.table.targets b.table.slots.items kept.table.one_each)) m)
+      (subst P (sym (paths_of-slots (rules_inside b) (outcome_at (rules_inside b) b.build.limits.targets) b.table.targets b.table.slots.items kept.at_rest.table.one_each)) m)
 
   pub report-inside : (report : Report) → IsReportOf b.build b.table report → IsReport (rules_inside b) b.build.request b.build.limits.targets report
   report-inside report made = is-report b.build b.table (state_of b) refl (shows-inside b kept quiet)
-      kept.table kept.watched (distinct-inside b kept) target-keys report made
+      kept.at_rest.table kept.at_rest.watched (distinct-inside b kept) target-keys report made
 
 no_paths : (ps : List (List ℕ)) → length ps ≡ 0 → ps ≡ []
 no_paths [] h = refl
@@ -343,4 +343,4 @@ told-stage r a given p turn (Decided fact) fits = tt
 -- the checks of a board's table that wait are of records in its book
 pub told-inside : (b : Inside) → IsKept b → AllTold b.build b.table
 told-inside b kept k slot there =
-    told-stage (rules_inside b) (outcomes_of (state_of b).entries) b.build (path_at b.table.targets k) slot.turn slot.stage (kept.table.fits k slot there)
+    told-stage (rules_inside b) (outcomes_of (state_of b).entries) b.build (path_at b.table.targets k) slot.turn slot.stage (kept.at_rest.table.fits k slot there)

@@ -289,7 +289,7 @@ ready-stage (Decided fact) h = cc
 module _ (given : GivenView) (t : Table) (at : ℕ) (slot : Slot) (awaiting : Awaiting) (there : slice_get t.slots.items at ≡ Some slot) (was : slot.stage ≡ Checking awaiting)
     (gone : Slot) (looks : gone.looks ≡ slot.looks) (turn : gone.turn ≡ slot.turn) (watchers : gone.watchers ≡ slot.watchers)
     (mid : Table) (slots : mid.slots.items ≡ slice_set t.slots.items at gone) (rest : (mid.targets ≡ t.targets) × (mid.ready ≡ t.ready) × (mid.out ≡ t.out))
-    (found : Slot) (again : slice_get mid.slots.items at ≡ Some found) (newly_ready newly_ready' : List ℕ) where
+    (found : Slot) (again : slice_get mid.slots.items at ≡ Some found) where
   abbrev put-back : Stage → Slot
   put-back stage = record { looks = found.looks; turn = found.turn; watchers = found.watchers; stage = stage }
 
@@ -307,11 +307,11 @@ module _ (given : GivenView) (t : Table) (at : ℕ) (slot : Slot) (awaiting : Aw
 
   pub due-again : (stage : Stage) (held : Box InCheck Global) → stage ≡ Due held →
       IsDueWith (rules_for given) (outcomes_of (table_entries (rules_for given) given.limits.targets t)) given (path_at t.targets at) slot.turn held.value →
-      held.value.check.asked ≡ awaiting.held.value.check.asked → mid.due.keys ≡ insert_key nat_cmp t.due.keys at → newly_ready' ≡ newly_ready →
-      IsResumedAt given t (record mid { slots = with_item mid.slots at (record { looks = found.looks; turn = found.turn; watchers = found.watchers; stage = stage }) }) at newly_ready newly_ready'
+      held.value.check.asked ≡ awaiting.held.value.check.asked → mid.due.keys ≡ insert_key nat_cmp t.due.keys at → mid.newly_ready.items ≡ t.newly_ready.items →
+      IsResumedAt given t (record mid { slots = with_item mid.slots at (record { looks = found.looks; turn = found.turn; watchers = found.watchers; stage = stage }) }) at
   due-again stage held is fits asked due same =
       let F : ℕ → Type 0 = λ n. IsDueWith (rules_for given) (outcomes_of (table_entries (rules_for given) given.limits.targets t)) given (path_at t.targets at) n held.value in
-      let P : Stage → Type 0 = λ s. IsResumedAt given t (record mid { slots = with_item mid.slots at (put-back s) }) at newly_ready newly_ready' in
+      let P : Stage → Type 0 = λ s. IsResumedAt given t (record mid { slots = with_item mid.slots at (put-back s) }) at in
       subst P (sym is) (record {
         old = slot;
         new = put-back (Due held);
@@ -327,17 +327,17 @@ module _ (given : GivenView) (t : Table) (at : ℕ) (slot : Slot) (awaiting : Aw
         slots = back-slots (put-back (Due held));
         rest = rest;
         due_is = due;
-        newly_ready_is = same ∙ sym (append-nil newly_ready);
+        newly_ready_is = same ∙ sym (append-nil t.newly_ready.items);
       })
 
   pub ready-now : (stage : Stage) (work : Work) → stage ≡ Ready work →
       IsParked given (path_at t.targets at) slot.turn work × AllAnswered (rules_for given) (outcomes_of (table_entries (rules_for given) given.limits.targets t)) work.deps ×
       ((rules_for given).begins (path_at t.targets at) (only (operands (rules_for given) work.deps) (outcomes_of (table_entries (rules_for given) given.limits.targets t))) ≡ true) →
-      work.deps ≡ awaiting.held.value.check.asked → mid.due.keys ≡ t.due.keys → newly_ready' ≡ newly_ready ++ at ∷ [] →
-      IsResumedAt given t (record mid { slots = with_item mid.slots at (record { looks = found.looks; turn = found.turn; watchers = found.watchers; stage = stage }) }) at newly_ready newly_ready'
+      work.deps ≡ awaiting.held.value.check.asked → mid.due.keys ≡ t.due.keys → mid.newly_ready.items ≡ t.newly_ready.items ++ at ∷ [] →
+      IsResumedAt given t (record mid { slots = with_item mid.slots at (record { looks = found.looks; turn = found.turn; watchers = found.watchers; stage = stage }) }) at
   ready-now stage work is fits asked due more =
       let F : ℕ → Type 0 = λ n. IsParked given (path_at t.targets at) n work in
-      let P : Stage → Type 0 = λ s. IsResumedAt given t (record mid { slots = with_item mid.slots at (put-back s) }) at newly_ready newly_ready' in
+      let P : Stage → Type 0 = λ s. IsResumedAt given t (record mid { slots = with_item mid.slots at (put-back s) }) at in
       subst P (sym is) (record {
         old = slot;
         new = put-back (Ready work);
@@ -357,7 +357,7 @@ module _ (given : GivenView) (t : Table) (at : ℕ) (slot : Slot) (awaiting : Aw
       })
 
 -- a check that waits
-module _ (given : GivenView) (t : Table) (newly_ready : List ℕ) (table : IsTableOf given t newly_ready) (standing : IsStandingTable given t)
+module _ (given : GivenView) (t : Table) (table : IsTableOf given t) (standing : IsStandingTable given t)
     (at : ℕ) (slot : Slot) (awaiting : Awaiting) (there : slice_get t.slots.items at ≡ Some slot) (is : slot.stage ≡ Checking awaiting) where
   awaiting-numbered : slice_get t.targets awaiting.at ≡ Some awaiting.path
   awaiting-numbered = let P : Stage → Type 0 = IsNumbered (rules_for given) t.targets in subst P is (table.numbered at slot there)
@@ -372,8 +372,8 @@ module _ (given : GivenView) (t : Table) (newly_ready : List ℕ) (table : IsTab
     record {
       there = there;
       was = is;
-      distinct = distinct_keys given t newly_ready table standing;
-      path = path_there given t newly_ready table standing at slot there;
+      distinct = distinct_keys given t table standing;
+      path = path_there given t table standing at slot there;
       number = awaiting-numbered;
       decided = decided;
       fits = table.fits;
@@ -413,8 +413,8 @@ still-stage Out w c = refl
 still-stage (Decided fact) w c = refl
 
 -- the table after that
-module _ (given : GivenView) (t : Table) (newly_ready : List ℕ) (table : IsTableOf given t newly_ready) (standing : IsStandingTable given t)
-    (at : ℕ) (u : Table) (newly_ready' : List ℕ) (f : IsResumedAt given t u at newly_ready newly_ready') where
+module _ (given : GivenView) (t : Table) (table : IsTableOf given t) (standing : IsStandingTable given t)
+    (at : ℕ) (u : Table) (f : IsResumedAt given t u at) where
   was_open : stage_outcome f.old.stage ≡ None
   was_open = rw f.was refl
 
@@ -442,7 +442,7 @@ module _ (given : GivenView) (t : Table) (newly_ready : List ℕ) (table : IsTab
   same_watchers : f.new.watchers.items ≡ f.old.watchers.items
   same_watchers = ap (λ (y : Rattle.std.specs.declared.vec.Vec.Vec ℕ Rattle.std.proofs.Common.Global). y.items) f.watchers
 
-  queue : IsQueue (slice_set t.slots.items at f.new) t.ready.items newly_ready'
+  queue : IsQueue (slice_set t.slots.items at f.new) t.ready.items u.newly_ready.items
   queue =
       let Q : List ℕ → Type 0 = IsQueue (slice_set t.slots.items at f.new) t.ready.items in
       elim f.is_open [
@@ -450,12 +450,12 @@ module _ (given : GivenView) (t : Table) (newly_ready : List ℕ) (table : IsTab
             let unready = (due-stage f.new.stage due).0 in
             let none : cond (is_stage_ready f.new.stage) (at ∷ []) [] ≡ [] = rw unready refl in
             let same : is_stage_ready f.new.stage ≡ is_stage_ready f.old.stage = unready ∙ sym (ap is_stage_ready f.was) in
-            subst Q (sym (f.newly_ready_is ∙ ap (λ xs. newly_ready ++ xs) none ∙ append-nil newly_ready))
-            (queue-same t.slots.items t.ready.items newly_ready at f.old f.new f.there table.queue same)
+            subst Q (sym (f.newly_ready_is ∙ ap (λ xs. t.newly_ready.items ++ xs) none ∙ append-nil t.newly_ready.items))
+            (queue-same t.slots.items t.ready.items t.newly_ready.items at f.old f.new f.there table.queue same)
         | inr ready ↦
             let one : cond (is_stage_ready f.new.stage) (at ∷ []) [] ≡ at ∷ [] = rw ready refl in
-            subst Q (sym (f.newly_ready_is ∙ ap (λ xs. newly_ready ++ xs) one))
-            (queue-newly_ready t.slots.items t.ready.items newly_ready at f.old f.new f.there table.queue (ap is_stage_ready f.was) ready)
+            subst Q (sym (f.newly_ready_is ∙ ap (λ xs. t.newly_ready.items ++ xs) one))
+            (queue-newly_ready t.slots.items t.ready.items t.newly_ready.items at f.old f.new f.there table.queue (ap is_stage_ready f.was) ready)
       ]
 
   listed : AreDue (slice_set t.slots.items at f.new) u.due.keys
@@ -471,13 +471,13 @@ module _ (given : GivenView) (t : Table) (newly_ready : List ℕ) (table : IsTab
             subst D (sym (f.due_is ∙ same)) (due-same t.slots.items t.due.keys at f.old f.new f.there table.due_listed (undue ∙ sym (ap is_stage_due f.was)))
       ]
 
-  pub resumed-table : IsTableOf given u newly_ready'
+  pub resumed-table : IsTableOf given u
   resumed-table =
       let r = rules_for given in
-      let new = table-same given t newly_ready table standing at f.old f.new f.there was_open inside.2 same_entry newly_ready' u.due.keys queue listed
+      let new = table-same given t table standing at f.old f.new f.there was_open inside.2 same_entry u.newly_ready.items u.due.keys queue listed
       (λ k m. table.watchers_below at k f.old f.there (rw same_watchers at m)) f.fits (numbered-still r t.targets f.new.stage inside.0) in
-      let S : List Slot → Type 0 = λ xs. IsTable r given t.targets xs t.ready.items u.due.keys t.out newly_ready' in
-      moved given t newly_ready table standing u f.rest.0 f.rest.1 f.rest.2 newly_ready' (subst S (sym f.slots) new)
+      let S : List Slot → Type 0 = λ xs. IsTable r given t.targets xs t.ready.items u.due.keys t.out u.newly_ready.items in
+      moved given t table standing u f.rest.0 f.rest.1 f.rest.2 (subst S (sym f.slots) new)
 
   resumed-watched : (pending : List ℕ) → AllWatched (rules_for given) given.limits.targets t.targets t.slots.items (at ∷ pending) →
       AllWatched (rules_for given) given.limits.targets t.targets (slice_set t.slots.items at f.new) pending
@@ -493,7 +493,7 @@ module _ (given : GivenView) (t : Table) (newly_ready : List ℕ) (table : IsTab
 
   pub resumed-looked : IsLookedAt given t u at
   resumed-looked = record {
-    entries = rw (f.rest.0, f.slots) (entries-same given t newly_ready table standing at f.old f.new f.there was_open inside.2 same_entry);
+    entries = rw (f.rest.0, f.slots) (entries-same given t table standing at f.old f.new f.there was_open inside.2 same_entry);
     rest = f.rest;
     slots = ap length f.slots ∙ length-set t.slots.items at f.new;
     watched = λ pending all. rw (f.rest.0, f.slots) (resumed-watched pending all);

@@ -162,7 +162,7 @@ pub number-decided : (t : Table) (q : List ℕ) (n : ℕ) → slice_get t.target
 number-decided t q n path d = record { at = n; slot = d.0; path = path; there = d.1; decided = d.2 }
 
 -- the table before a step
-module _ (given : GivenView) (t : Table) (newly_ready : List ℕ) (table : IsTableOf given t newly_ready) (standing : IsStandingTable given t) where
+module _ (given : GivenView) (t : Table) (table : IsTableOf given t) (standing : IsStandingTable given t) where
   abbrev r : Rules
   r = rules_for given
 
@@ -337,13 +337,13 @@ module _ (given : GivenView) (t : Table) (newly_ready : List ℕ) (table : IsTab
     ];
   }
 
-  pub moved : (u : Table) → u.targets ≡ t.targets → u.ready ≡ t.ready → u.out ≡ t.out → (newly_ready' : List ℕ) →
-      IsTable (rules_for given) given t.targets u.slots.items t.ready.items u.due.keys t.out newly_ready' → IsTableOf given u newly_ready'
-  moved u a b c newly_ready' h = rw (a, b, c) h
+  pub moved : (u : Table) → u.targets ≡ t.targets → u.ready ≡ t.ready → u.out ≡ t.out →
+      IsTable (rules_for given) given t.targets u.slots.items t.ready.items u.due.keys t.out u.newly_ready.items → IsTableOf given u
+  moved u a b c h = rw (a, b, c) h
 
-  moved-on : (u : Table) → (u.targets ≡ t.targets) × (u.ready ≡ t.ready) × (u.out ≡ t.out) × (u.due ≡ t.due) → (newly_ready' : List ℕ) →
-      IsTable (rules_for given) given t.targets u.slots.items t.ready.items t.due.keys t.out newly_ready' → IsTableOf given u newly_ready'
-  moved-on u same newly_ready' h = rw (same.0, same.1, same.2, same.3) h
+  pub moved-on : (u : Table) → (u.targets ≡ t.targets) × (u.ready ≡ t.ready) × (u.out ≡ t.out) × (u.due ≡ t.due) × (u.newly_ready ≡ t.newly_ready) →
+      IsTable (rules_for given) given t.targets u.slots.items t.ready.items t.due.keys t.out t.newly_ready.items → IsTableOf given u
+  moved-on u same h = rw (same.0, same.1, same.2, same.3, same.4) h
 
   -- a slot is replaced by one that stands for the same entry
   module _ (at : ℕ) (old new : Slot) (there : slice_get t.slots.items at ≡ Some old) (open' : stage_outcome old.stage ≡ None) (still : stage_outcome new.stage ≡ None)
@@ -400,13 +400,13 @@ module _ (given : GivenView) (t : Table) (newly_ready : List ℕ) (table : IsTab
       watch_numbered : IsNumbered (rules_for given) t.targets w.new.stage
       watch_numbered = rw w.stage (table.numbered place w.other w.there)
 
-      pub watch-table : IsTableOf given u newly_ready
+      pub watch-table : IsTableOf given u
       watch-table =
-          let new = table-same place w.other w.new w.there other_open new_open same_entry newly_ready t.due.keys
-          (queue-same t.slots.items t.ready.items newly_ready place w.other w.new w.there table.queue (ap is_stage_ready w.stage))
+          let new = table-same place w.other w.new w.there other_open new_open same_entry t.newly_ready.items t.due.keys
+          (queue-same t.slots.items t.ready.items t.newly_ready.items place w.other w.new w.there table.queue (ap is_stage_ready w.stage))
           (due-same t.slots.items t.due.keys place w.other w.new w.there table.due_listed (ap is_stage_due w.stage)) watch_below watch_fits watch_numbered in
-          let S : List Slot → Type 0 = λ xs. IsTable r given t.targets xs t.ready.items t.due.keys t.out newly_ready in
-          moved-on u w.rest newly_ready (subst S (sym w.slots) new)
+          let S : List Slot → Type 0 = λ xs. IsTable r given t.targets xs t.ready.items t.due.keys t.out t.newly_ready.items in
+          moved-on u w.rest (subst S (sym w.slots) new)
 
       old-slot : (k : ℕ) (x : Slot) → slice_get (slice_set t.slots.items place w.new) k ≡ Some x →
           (y : Slot) × (slice_get t.slots.items k ≡ Some y) × (x.stage ≡ y.stage) × (rounds_of x ≡ rounds_of y)
@@ -535,15 +535,15 @@ module _ (given : GivenView) (t : Table) (newly_ready : List ℕ) (table : IsTab
           let both = subst A (sym deps_parked) (parked_answered at slot parked there is all_held, parked_begins at slot parked there is) in
           subst P (sym f.is) (parts, both.0, both.1)
 
-      pub newly_ready-table : IsTableOf given u (newly_ready ++ at ∷ [])
+      pub newly_ready-table : IsTableOf given u
       newly_ready-table =
           let due : is_stage_due f.new.stage ≡ is_stage_due slot.stage = ap is_stage_due f.is ∙ sym (ap is_stage_due is) in
-          let new = table-same at slot f.new there slot_open newly_ready_open newly_ready_entry (newly_ready ++ at ∷ []) t.due.keys
-          (queue-newly_ready t.slots.items t.ready.items newly_ready at slot f.new there table.queue (rw is refl) (rw f.is refl))
+          let new = table-same at slot f.new there slot_open newly_ready_open newly_ready_entry (t.newly_ready.items ++ at ∷ []) t.due.keys
+          (queue-newly_ready t.slots.items t.ready.items t.newly_ready.items at slot f.new there table.queue (rw is refl) (rw f.is refl))
           (due-same t.slots.items t.due.keys at slot f.new there table.due_listed due)
           (λ k m. table.watchers_below at k slot there (rw same_watchers at m)) newly_ready_fits (rw f.is tt) in
-          let S : List Slot → Type 0 = λ xs. IsTable r given t.targets xs t.ready.items t.due.keys t.out (newly_ready ++ at ∷ []) in
-          moved-on u f.rest (newly_ready ++ at ∷ []) (subst S (sym f.slots) new)
+          let S : List Slot → Type 0 = λ xs. IsTable r given t.targets xs t.ready.items t.due.keys t.out (t.newly_ready.items ++ at ∷ []) in
+          rw (f.rest.0, f.rest.1, f.rest.2, f.rest.3, f.newly_ready_is) (subst S (sym f.slots) new)
 
       newly_ready-watched : (pending : List ℕ) → AllWatched (rules_for given) given.limits.targets t.targets t.slots.items (at ∷ pending) →
           AllWatched (rules_for given) given.limits.targets t.targets (slice_set t.slots.items at f.new) pending

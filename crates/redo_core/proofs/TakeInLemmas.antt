@@ -126,16 +126,16 @@ module _ (given : GivenView) (t : Table) (at : ℕ) (end : End) (may : MayTakeIn
   sound : IsSound (rules_for given) given.request (table_state (rules_for given) given.limits.targets t)
   sound =
       let P : State → Type 0 = IsSound r given.request in
-      subst P (sym may.reached.ends) (run-sound r lawful given.request _ may.reached.events (opening-sound r lawful given.request) may.reached.all_open)
+      subst P (sym may.at_rest.reached.ends) (run-sound r lawful given.request _ may.at_rest.reached.events (opening-sound r lawful given.request) may.at_rest.reached.all_open)
 
   pub keys_distinct : AreDistinct t.targets
   keys_distinct =
       let P : List (List ℕ) → Type 0 = AreDistinct in
-      subst P (paths_of-slots r (outcome_at r given.limits.targets) t.targets t.slots.items may.table.one_each) sound.standing.distinct
+      subst P (paths_of-slots r (outcome_at r given.limits.targets) t.targets t.slots.items may.at_rest.table.one_each) sound.standing.distinct
 
   pub key-there : slice_get t.targets at ≡ Some (path_at t.targets at)
   key-there =
-      let found = slice_get-from t.targets at (omega (arith, may.table.one_each, slice_get-below_some t.slots.items at may.slot may.there)) in
+      let found = slice_get-from t.targets at (omega (arith, may.at_rest.table.one_each, slice_get-below_some t.slots.items at may.slot may.there)) in
       let is : path_at t.targets at ≡ found.0 = rw found.1 refl in
       found.1 ∙ ap Some (sym is)
 
@@ -184,20 +184,20 @@ module _ (given : GivenView) (t : Table) (at : ℕ) (end : End) (may : MayTakeIn
   pub out-there : IsOutThere t at
   out-there =
       let below = turn-below r lawful given.request es sound.standing target e entry-there e-open e-fed in
-      let paths = ap length (paths_of-slots r (outcome_at r given.limits.targets) t.targets t.slots.items may.table.one_each) in (
-        omega (arith, may.table.out_counted, count-some t.slots.items at may.slot may.there e-out),
-        (may.slot, may.there, may.is_out, omega (arith, below, paths, may.table.one_each, may.table.within_limit, may.table.few)),
+      let paths = ap length (paths_of-slots r (outcome_at r given.limits.targets) t.targets t.slots.items may.at_rest.table.one_each) in (
+        omega (arith, may.at_rest.table.out_counted, count-some t.slots.items at may.slot may.there e-out),
+        (may.slot, may.there, may.is_out, omega (arith, below, paths, may.at_rest.table.one_each, may.at_rest.table.within_limit, may.at_rest.table.few)),
       )
 
   -- what is decided is the build's at the limit
   deep-limit : Extends (rules_for given) (outcomes_of (table_entries (rules_for given) given.limits.targets t)) (outcome_at (rules_for given) given.limits.targets)
   deep-limit =
-      let paths = ap length (paths_of-slots r (outcome_at r given.limits.targets) t.targets t.slots.items may.table.one_each) in
+      let paths = ap length (paths_of-slots r (outcome_at r given.limits.targets) t.targets t.slots.items may.at_rest.table.one_each) in
       Extends-trans' r (outcomes_of es) (outcome_at r (decided_count es)) (outcome_at r given.limits.targets) (outcomes_of-deep r lawful given.request es sound.standing)
-      (deeper r lawful (decided_count es) given.limits.targets (omega (arith, decided_count-length es, paths, may.table.one_each, may.table.within_limit)))
+      (deeper r lawful (decided_count es) given.limits.targets (omega (arith, decided_count-length es, paths, may.at_rest.table.one_each, may.at_rest.table.within_limit)))
 
   pub small : at < 65536
-  small = omega (arith, slice_get-below_some t.slots.items at may.slot may.there, may.table.within_limit, may.table.few)
+  small = omega (arith, slice_get-below_some t.slots.items at may.slot may.there, may.at_rest.table.within_limit, may.at_rest.table.few)
 
   -- a script that ended asked for what is decided alone
   module _ (fact : FactView) (asked : List Dep) (ended : end ≡ Ended fact asked) where
@@ -239,8 +239,8 @@ module _ (given : GivenView) (t : Table) (at : ℕ) (end : End) (may : MayTakeIn
         let P : End → Type 0 = λ x. Rattle.redo_core.specs.inside.Ends.IsEndOf given may.is_end.is_piece.depth may.is_end.is_piece.looks target may.slot.turn x in
         let S : List Entry → Type 0 = AreStanding r given.request in
         record {
-          table = may.table;
-          watched = may.watched;
+          table = may.at_rest.table;
+          watched = may.at_rest.watched;
           distinct = keys_distinct;
           is_out = out-there;
           of_build = subst P ended may.is_end.is_end;
@@ -252,8 +252,8 @@ module _ (given : GivenView) (t : Table) (at : ℕ) (end : End) (may : MayTakeIn
               subst Q (sym same) (subst S (sym concluded-after) after-sound.standing);
         }
 
-    pub concluded-put : (u : Table) (newly_ready : List ℕ) → IsConcludedAt given t u at fact newly_ready → IsPutBackThere given (state_after given Script t at) t u newly_ready []
-    concluded-put u newly_ready c =
+    pub concluded-put : (u : Table) → IsConcludedAt given t u at fact → IsPutBackThere given (state_after given Script t at) t u []
+    concluded-put u c =
         let both : Some c.slot ≡ Some may.slot = sym c.there ∙ may.there in
         let same : c.slot ≡ may.slot = cc in
         record {
@@ -386,7 +386,7 @@ module _ (given : GivenView) (t : Table) (at : ℕ) (end : End) (may : MayTakeIn
         length-put [] x = refl
         length-put (y ∷ xs) x = elim (cases_Bool (Rattle.std.proofs.Common.bytes_eq y.path x.path)) [ inl t' ↦ rw t' refl | inr f ↦ rw f (ap suc (length-put xs x)) ]
 
-    module _ (v : Table) (newly_ready : List ℕ) (a : AreEnteredInto given t v newly_ready (waited_by (rules_for given) begun.value)) where
+    module _ (v : Table) (a : AreEnteredInto given t v (waited_by (rules_for given) begun.value)) where
       there-still : slice_get v.slots.items at ≡ Some may.slot
       there-still = a.slots_kept at may.slot may.there
 
@@ -465,7 +465,7 @@ module _ (given : GivenView) (t : Table) (at : ℕ) (end : End) (may : MayTakeIn
         parked-moved : table_entries (rules_for given) given.limits.targets u ≡ moved
         unfolding moved
         parked-moved =
-            let put-in = put-entries given v u newly_ready a.table wider-distinct at d.old d.new d.put_back in
+            let put-in = put-entries given v u a.table wider-distinct at d.old d.new d.put_back in
             let shows = parked-shows r (outcome_at r given.limits.targets) begun numbers (path_at v.targets at) d.new d.stage in
             let M : List ℕ → ℕ → ℕ → List Dep → Entry = λ p k n ds. record { path = p; looks = k; turn = n; deps = ds; outcome = None; is_out = false } in
             let asked = all_asked begun.value.job begun.value.facts in
@@ -475,11 +475,11 @@ module _ (given : GivenView) (t : Table) (at : ℕ) (end : End) (may : MayTakeIn
             let last : M target may.slot.looks (may.slot.turn + 1) (end_progress end).deps ≡ moved_on Script e (end_progress end) = subst N (sym stopped) refl in
             put-in ∙ ap (put (table_entries r given.limits.targets v)) (entry' ∙ last) ∙ ap (λ xs. put xs (moved_on Script e (end_progress end))) wider-entries
 
-        pub parked-put : IsPutBackThere given (state_after given Script t at) t u newly_ready (at ∷ [])
+        pub parked-put : IsPutBackThere given (state_after given Script t at) t u (at ∷ [])
         parked-put =
             let len = ap length d.put_back.slots ∙ Rattle.std.proofs.Common.length-set v.slots.items at d.new in
             record {
-              table = parked-table given v u newly_ready a.table wider-distinct at begun numbers d waits are;
+              table = parked-table given v u a.table wider-distinct at begun numbers d waits are;
               entries = parked-moved ∙ sym after-entries;
               ready = d.put_back.rest.1 ∙ a.rest.0;
               keys_kept = λ k p h. rw d.put_back.rest.0 (a.keys_kept k p h);
@@ -487,5 +487,5 @@ module _ (given : GivenView) (t : Table) (at : ℕ) (end : End) (may : MayTakeIn
                 | inl here ↦ omega (arith, here, len, slice_get-below_some v.slots.items at may.slot there-still)
                 | inr none ↦ absurd none
               ];
-              watched = parked-watched given v u newly_ready a.table wider-distinct at begun numbers d waits are (a.watched [] may.watched);
+              watched = parked-watched given v u a.table wider-distinct at begun numbers d waits are (a.watched [] may.at_rest.watched);
             }

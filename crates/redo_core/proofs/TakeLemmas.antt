@@ -37,7 +37,7 @@ use Rattle.redo_core.proofs.SlotLemmas.{map-remove, slice_get-from, slice_get-it
 use Rattle.redo_core.proofs.SlotLemmas.{state_taken, paths_of-slots, length-filter_le}
 
 pub sound-inside : (b : Inside) → IsKept b → IsSound (rules_inside b) b.build.request (state_of b)
-sound-inside b kept = reached-sound (rules_inside b) (lawful_for b.build) b.build.request (state_of b) kept.reached
+sound-inside b kept = reached-sound (rules_inside b) (lawful_for b.build) b.build.request (state_of b) kept.at_rest.reached
 
 abbrev lawful_inside : (b : Inside) → AreLawful (rules_inside b)
 lawful_inside b = lawful_for b.build
@@ -45,15 +45,15 @@ lawful_inside b = lawful_for b.build
 pub distinct-inside : (b : Inside) → IsKept b → AreDistinct b.table.targets
 distinct-inside b kept =
     let P : List (List ℕ) → Type 0 = AreDistinct in
-    subst P (paths_of-slots (rules_inside b) (outcome_at (rules_inside b) b.build.limits.targets) b.table.targets b.table.slots.items kept.table.one_each) (sound-inside b kept).standing.distinct
+    subst P (paths_of-slots (rules_inside b) (outcome_at (rules_inside b) b.build.limits.targets) b.table.targets b.table.slots.items kept.at_rest.table.one_each) (sound-inside b kept).standing.distinct
 
 pub fits_one_more : (b : Inside) → IsKept b → b.table.out ≤ 65536
-fits_one_more b kept = omega (arith, kept.table.out_counted, length-filter_le (λ slot. is_stage_out slot.stage) b.table.slots.items, kept.table.within_limit, kept.table.few)
+fits_one_more b kept = omega (arith, kept.at_rest.table.out_counted, length-filter_le (λ slot. is_stage_out slot.stage) b.table.slots.items, kept.at_rest.table.within_limit, kept.at_rest.table.few)
 
 module _ (b : Inside) (kept : IsKept b) (which at : ℕ) (slot : Slot)
     (first : slice_get b.table.ready.items which ≡ Some at) (there : slice_get b.table.slots.items at ≡ Some slot) where
   here : at < length b.table.targets
-  here = omega (arith, kept.table.queue.ready_below at (slice_get-place b.table.ready.items which at first), kept.table.one_each)
+  here = omega (arith, kept.at_rest.table.queue.ready_below at (slice_get-place b.table.ready.items which at first), kept.at_rest.table.one_each)
 
   pub found_path : (p : List ℕ) × (slice_get b.table.targets at ≡ Some p)
   found_path = slice_get-from b.table.targets at here
@@ -63,12 +63,12 @@ module _ (b : Inside) (kept : IsKept b) (which at : ℕ) (slot : Slot)
   found_job =
       let first' = slice_get-place b.table.ready.items which at first in
       let job = ready-job (rules_inside b) (outcomes_of (state_of b).entries) b.build (path_at b.table.targets at) slot.turn slot.stage
-      (kept.table.fits at slot there) (kept.table.queue.ready_is at slot (inl first') there) in
+      (kept.at_rest.table.fits at slot there) (kept.at_rest.table.queue.ready_is at slot (inl first') there) in
       (job.0, job.1, job.2, job.3)
 
   pub taken_state : state_from (rules_inside b) b.build.limits.targets b.table.targets (slice_set b.table.slots.items at (record slot { stage = Out })) (remove b.table.ready.items which) ≡
       happens (rules_inside b) (state_of b) (Take which)
-  taken_state = state_taken (rules_inside b) (lawful_inside b) b.build.limits.targets b.build.request b.table.targets b.table.slots.items b.table.ready.items (sound-inside b kept) kept.table.one_each kept.table.within_limit
+  taken_state = state_taken (rules_inside b) (lawful_inside b) b.build.limits.targets b.build.request b.table.targets b.table.slots.items b.table.ready.items (sound-inside b kept) kept.at_rest.table.one_each kept.at_rest.table.within_limit
       which at found_path.0 slot found_job.0 first found_path.1 there found_job.1
 
   pub work_taken : (view : BoardView) → (view.given ≡ b.build) → (view.state ≡ state_of b) →
@@ -91,7 +91,7 @@ module _ (b : Inside) (kept : IsKept b) (which at : ℕ) (slot : Slot)
             let R : State → Type 0 = λ s. entry_of s.entries work.target ≡ Some e in
             let S : List ℕ → Type 0 = λ x. entry_of (state_of b).entries x ≡ Some e in
             let now = subst S target (subst R state h) in
-            let known = entry (rules_inside b) (lawful_inside b) b.build.limits.targets b.build.request b.table.targets b.table.slots.items b.table.ready.items (sound-inside b kept) kept.table.one_each kept.table.within_limit
+            let known = entry (rules_inside b) (lawful_inside b) b.build.limits.targets b.build.request b.table.targets b.table.slots.items b.table.ready.items (sound-inside b kept) kept.at_rest.table.one_each kept.at_rest.table.within_limit
             which at path.0 slot work first path.1 there is in
             let e_is : slot_entry (rules_inside b) (outcome_at (rules_inside b) b.build.limits.targets) path.0 slot ≡ e = let both = sym known ∙ now in cc in (
               parked.2 ∙ ap (λ (x : Entry). x.turn) e_is,
@@ -166,29 +166,34 @@ module _ (b : Inside) (kept : IsKept b) (which at : ℕ) (slot : Slot)
       (slice_get-among (map (path_at b.table.targets) (remove b.table.ready.items which)) k path
       (slice_get-map (path_at b.table.targets) (remove b.table.ready.items which) k at h)))
 
-  queue-taken : IsQueue (slice_set b.table.slots.items at (record slot { stage = Out })) (remove b.table.ready.items which) []
+  queue-taken : IsQueue (slice_set b.table.slots.items at (record slot { stage = Out })) (remove b.table.ready.items which) b.table.newly_ready.items
   queue-taken =
       let len = length-set b.table.slots.items at (record slot { stage = Out }) in
       let gone' : IsPlace (remove b.table.ready.items which) at → ⊥ = λ m. let found = place-slice_get _ at m in gone found.0 found.1 in
       record {
-        ready_below = λ k m. omega (arith, kept.table.queue.ready_below k (remove-place b.table.ready.items which k m), len);
-        newly_ready_below = λ k m. absurd m;
+        ready_below = λ k m. omega (arith, kept.at_rest.table.queue.ready_below k (remove-place b.table.ready.items which k m), len);
+        newly_ready_below = λ k m. omega (arith, kept.at_rest.table.queue.newly_ready_below k m, len);
         ready_is = λ k x m g. elim m [
           | inl old ↦ elim (get-set_cases b.table.slots.items at k (record slot { stage = Out }) x g) [
             | inl here ↦ absurd (let P : ℕ → Type 0 = IsPlace (remove b.table.ready.items which) in gone' (subst P here.0 old))
-            | inr before ↦ kept.table.queue.ready_is k x (inl (remove-place b.table.ready.items which k old)) before.1
+            | inr before ↦ kept.at_rest.table.queue.ready_is k x (inl (remove-place b.table.ready.items which k old)) before.1
           ]
-          | inr none ↦ absurd none
+          | inr new ↦ elim (get-set_cases b.table.slots.items at k (record slot { stage = Out }) x g) [
+            | inl here ↦ absurd (
+                let P : ℕ → Type 0 = IsPlace b.table.newly_ready.items in
+                kept.at_rest.table.queue.apart at (slice_get-place b.table.ready.items which at first) (subst P here.0 new))
+            | inr before ↦ kept.at_rest.table.queue.ready_is k x (inr new) before.1
+          ]
         ];
         ready_in = λ k x g t. elim (get-set_cases b.table.slots.items at k (record slot { stage = Out }) x g) [
           | inl here ↦ absurd (let is = ap (λ (y : Slot). is_stage_ready y.stage) here.1 ∙ t in cc)
-          | inr before ↦ elim (kept.table.queue.ready_in k x before.1 t) [
+          | inr before ↦ elim (kept.at_rest.table.queue.ready_in k x before.1 t) [
             | inl old ↦ inl (elim (remove-place_cases b.table.ready.items which at k first old) [ inl same ↦ absurd (before.0 (sym same)) | inr rest ↦ rest ])
-            | inr none ↦ absurd none
+            | inr new ↦ inr new
           ]
         ];
-        apart = λ k m n. n;
-        once = tt;
+        apart = λ k m new. kept.at_rest.table.queue.apart k (remove-place b.table.ready.items which k m) new;
+        once = kept.at_rest.table.queue.once;
       }
 
   -- nothing is due, and what goes out isn't
@@ -203,12 +208,12 @@ module _ (b : Inside) (kept : IsKept b) (which at : ℕ) (slot : Slot)
           | inl here ↦ absurd (let is = ap (λ (y : Slot). is_stage_due y.stage) here.1 ∙ t in cc)
           | inr before ↦
               let P : List ℕ → Type 0 = λ ks. IsPlace ks k in
-              absurd (subst P kept.none_due (kept.table.due_listed.due_in k x before.1 t))
+              absurd (subst P kept.none_due (kept.at_rest.table.due_listed.due_in k x before.1 t))
         ];
       })
 
   pub kept-taken : (slots : Vec Slot Global) (ready : VecDeque ℕ Global) → slots.items ≡ slice_set b.table.slots.items at (record slot { stage = Out }) → ready.items ≡ remove b.table.ready.items which →
-      IsKept (record b { table = record { targets = b.table.targets; slots = slots; ready = ready; due = b.table.due; out = b.table.out + 1 } })
+      IsKept (record b { table = record { targets = b.table.targets; slots = slots; ready = ready; due = b.table.due; out = b.table.out + 1; newly_ready = b.table.newly_ready } })
   kept-taken slots ready is_slots is_ready =
       let r = rules_inside b in
       let new : Slot = record slot { stage = Out } in
@@ -219,30 +224,33 @@ module _ (b : Inside) (kept : IsKept b) (which at : ℕ) (slot : Slot)
       ap (λ x. state_from r b.build.limits.targets b.table.targets x ready.items) is_slots ∙
       ap (state_from r b.build.limits.targets b.table.targets (slice_set b.table.slots.items at (record slot { stage = Out }))) is_ready ∙
       taken_state b kept which at slot first there in
-      let more = reached-more r b.build.request (state_of b) (Take which) kept.reached
+      let more = reached-more r b.build.request (state_of b) (Take which) kept.at_rest.reached
       (omega (arith, below, length-map (path_at b.table.targets) b.table.ready.items)) in
       let P : State → Type 0 = IsReached r b.build.request in
       let len = length-set b.table.slots.items at new in
       let open_stage : (stage_outcome slot.stage ≡ None) × (is_stage_out slot.stage ≡ false) = (rw job.1 refl, rw job.1 refl) in
-      let S : List Slot → Type 0 = λ xs. IsTable r b.build b.table.targets xs ready.items b.table.due.keys (b.table.out + 1) [] in
-      let Q : List ℕ → Type 0 = λ xs. IsTable r b.build b.table.targets slots' xs b.table.due.keys (b.table.out + 1) [] in
+      let S : List Slot → Type 0 = λ xs. IsTable r b.build b.table.targets xs ready.items b.table.due.keys (b.table.out + 1) b.table.newly_ready.items in
+      let Q : List ℕ → Type 0 = λ xs. IsTable r b.build b.table.targets slots' xs b.table.due.keys (b.table.out + 1) b.table.newly_ready.items in
       let W : List Slot → Type 0 = λ xs. AllWatched r b.build.limits.targets b.table.targets xs [] in
       record {
-        reached = subst P (sym state) more;
-        table = subst S (sym is_slots) (subst Q (sym is_ready) (record {
-          one_each = len ∙ kept.table.one_each;
-          within_limit = omega (arith, len, kept.table.within_limit);
-          few = kept.table.few;
-          out_counted = ap (λ n. n + 1) kept.table.out_counted ∙ sym (count-set b.table.slots.items at slot new there open_stage.1 refl);
-          fits = fits-set r (lawful_inside b) b.build.limits.targets b.table.targets b.table.slots.items at path.0 slot new (distinct-inside b kept) path.1 there
-              b.build refl
-              (outcomes-more r (lawful_inside b) b.build.limits.targets b.table.targets b.table.slots.items at path.0 slot new (distinct-inside b kept) path.1 there open_stage.0) kept.table.fits tt;
-          numbered = numbered-set r b.table.targets b.table.slots.items at new tt kept.table.numbered;
-          queue = queue-taken;
-          due_listed = due-taken;
-          watchers_below = watchers-set b.table.slots.items at slot new there (λ k m. kept.table.watchers_below at k slot there m) kept.table.watchers_below;
-        }));
-        watched = subst W (sym is_slots) (watched-set b.table.slots.items at slot new there r b.build.limits.targets b.table.targets [] refl (λ k m. m) (λ t. absurd (let is : false ≡ true = t in cc)) (λ k x other. kept.watched k x));
+        at_rest = record {
+          reached = subst P (sym state) more;
+          table = subst S (sym is_slots) (subst Q (sym is_ready) (record {
+            one_each = len ∙ kept.at_rest.table.one_each;
+            within_limit = omega (arith, len, kept.at_rest.table.within_limit);
+            few = kept.at_rest.table.few;
+            out_counted = ap (λ n. n + 1) kept.at_rest.table.out_counted ∙ sym (count-set b.table.slots.items at slot new there open_stage.1 refl);
+            fits = fits-set r (lawful_inside b) b.build.limits.targets b.table.targets b.table.slots.items at path.0 slot new (distinct-inside b kept) path.1 there
+                b.build refl
+                (outcomes-more r (lawful_inside b) b.build.limits.targets b.table.targets b.table.slots.items at path.0 slot new (distinct-inside b kept) path.1 there open_stage.0) kept.at_rest.table.fits tt;
+            numbered = numbered-set r b.table.targets b.table.slots.items at new tt kept.at_rest.table.numbered;
+            queue = queue-taken;
+            due_listed = due-taken;
+            watchers_below = watchers-set b.table.slots.items at slot new there (λ k m. kept.at_rest.table.watchers_below at k slot there m) kept.at_rest.table.watchers_below;
+          }));
+          watched = subst W (sym is_slots) (watched-set b.table.slots.items at slot new there r b.build.limits.targets b.table.targets [] refl (λ k m. m) (λ t. absurd (let is : false ≡ true = t in cc)) (λ k x other. kept.at_rest.watched k x));
+          none_newly_ready = kept.at_rest.none_newly_ready;
+        };
         none_due = kept.none_due;
       }
 
@@ -273,7 +281,7 @@ turn_small b kept which at slot first there work is =
     let path = found_path b kept which at slot first there in
     let job = found_job b kept which at slot first there in
     let same : job.0 ≡ work = let both : Ready job.0 ≡ Ready work = sym job.1 ∙ is in cc in
-    let known = entry r (lawful_inside b) b.build.limits.targets b.build.request b.table.targets b.table.slots.items b.table.ready.items sound kept.table.one_each kept.table.within_limit
+    let known = entry r (lawful_inside b) b.build.limits.targets b.build.request b.table.targets b.table.slots.items b.table.ready.items sound kept.at_rest.table.one_each kept.at_rest.table.within_limit
     which at path.0 slot work first path.1 there is in
     let at_path : path_at b.table.targets at ≡ path.0 = rw path.1 refl in
     let spot : slice_get (state_of b).ready which ≡ Some path.0 =
@@ -283,8 +291,8 @@ turn_small b kept which at slot first there work is =
     let below = turn-below r (lawful_for b.build) b.build.request (state_of b).entries sound.standing path.0 fed.0 fed.1 fed.2 fed.3 in
     let turn = ap (λ (x : Entry). x.turn) entry_is in
     let work_turn = ap (λ (w : WorkView). w.turn) same in
-    let paths = ap length (paths_of-slots r (outcome_at (rules_inside b) b.build.limits.targets) b.table.targets b.table.slots.items kept.table.one_each) in
-    omega (arith, below, turn, work_turn, job.2.2, paths, kept.table.one_each, kept.table.within_limit)
+    let paths = ap length (paths_of-slots r (outcome_at (rules_inside b) b.build.limits.targets) b.table.targets b.table.slots.items kept.at_rest.table.one_each) in
+    omega (arith, below, turn, work_turn, job.2.2, paths, kept.at_rest.table.one_each, kept.at_rest.table.within_limit)
 
 -- what a running board keeps is a part of its build
 pub part-inside : (b : Inside) → IsKept b → IsPartOfBuild (rules_inside b) b.build.request b.build.limits.targets (state_of b)
@@ -298,12 +306,12 @@ slots-length r a (p ∷ ps) (slot ∷ slots) h = ap suc (slots-length r a ps slo
 
 -- a running board has no more entries than the limit allows
 pub length-entries : (b : Inside) → IsKept b → length (state_of b).entries ≤ b.build.limits.targets
-length-entries b kept = omega (arith, kept.table.within_limit, slots-length (rules_inside b) (outcome_at (rules_inside b) b.build.limits.targets) b.table.targets b.table.slots.items kept.table.one_each)
+length-entries b kept = omega (arith, kept.at_rest.table.within_limit, slots-length (rules_inside b) (outcome_at (rules_inside b) b.build.limits.targets) b.table.targets b.table.slots.items kept.at_rest.table.one_each)
 
 -- between two calls no check can go on
 pub none_due-inside : (b : Inside) → IsKept b → NoneDue (rules_inside b) (state_of b)
 none_due-inside b kept =
-    none_due b.build b.table (record { reached = kept.reached; table = kept.table; watched = kept.watched }) kept.none_due
+    none_due b.build b.table kept.at_rest kept.none_due
 
 -- a quiet board shows the build
 pub shows-inside : (b : Inside) → IsKept b → IsQuiet (state_of b) → ShowsBuild (rules_inside b) b.build.request b.build.limits.targets (state_of b)

@@ -69,8 +69,6 @@ pub struct Board {
     build: Build,
     table: Table,
     stopped: Option<Stop>,
-    /// Room for the numbers that become ready in a hand-in, used by each in turn.
-    newly_ready: Vec<u32>,
 }
 
 impl Model for Board {
@@ -154,14 +152,12 @@ impl Board {
         let given = Given::new(alloc, past, request, limits)?;
         let build = Build::new(alloc, given)?;
         let mut table = Table::open(alloc, &build)?;
-        let mut newly_ready = Vec::new(alloc);
-        table.look_ahead(&build, &mut newly_ready)?;
+        table.look_ahead(&build)?;
         Ok(Board {
             alloc,
             build,
             table,
             stopped: None,
-            newly_ready,
         })
     }
 
@@ -231,10 +227,7 @@ impl Board {
         let Some(at) = self.table.out_at(piece.number(), piece.target(), turn) else {
             return Err(HandFault::Stranger(piece));
         };
-        match self
-            .table
-            .move_on(at, piece.into_end(), &self.build, &mut self.newly_ready)
-        {
+        match self.table.move_on(at, piece.into_end(), &self.build) {
             Ok(()) => Ok(()),
             Err(stop) => {
                 self.stopped = Some(stop);

@@ -41,23 +41,18 @@ impl Table {
             ready: VecDeque::new(alloc),
             due: BTreeSet::new(alloc),
             out: 0,
+            newly_ready: Vec::new(alloc),
         };
-        let mut newly_ready = Vec::new(alloc);
         let request = build.given().request();
-        table.enter_requested(request, build, &mut newly_ready)?;
-        table.enqueue(&mut newly_ready)?;
+        table.enter_requested(request, build)?;
+        table.enqueue()?;
         Ok(table)
     }
 
     /// Enters the paths that are new, and returns the numbers of all.
-    fn enter_all(
-        &mut self,
-        paths: &[Path],
-        build: &Build,
-        newly_ready: &mut Vec<u32>,
-    ) -> Result<Vec<u32>, Stop>
-        requires table { IsTableOf build.now self.old newly_ready.old.items }
-        ensures ok { OnOk result (AreEnteredInto build.now self.old self.new newly_ready.new.items paths.now) }
+    fn enter_all(&mut self, paths: &[Path], build: &Build) -> Result<Vec<u32>, Stop>
+        requires table { IsTableOf build.now self.old }
+        ensures ok { OnOk result (AreEnteredInto build.now self.old self.new paths.now) }
         ensures numbers { IfOk result (λ ns. AreNumbers self.new.targets ns.items paths.now) }
         ensures too_many { result ≡ Err Stop.TooMany →
             AreTooMany (rules_for build.now) build.now.limits.targets
@@ -65,58 +60,47 @@ impl Table {
     {
         let mut numbers = Vec::with_capacity(self.allocator(), paths.len())?;
         for path in paths {
-            let at = self.enter(path, build, newly_ready)?;
+            let at = self.enter(path, build)?;
             numbers.push(at)?;
         }
         Ok(numbers)
     }
 
     /// Looks again at some numbers.
-    fn settle_all(
-        &mut self,
-        pending: &[u32],
-        build: &Build,
-        newly_ready: &mut Vec<u32>,
-    ) -> Result<(), AllocError>
+    fn settle_all(&mut self, pending: &[u32], build: &Build) -> Result<(), AllocError>
         requires within { (k : ℕ) → IsPlace pending.now k → k < length self.old.slots.items }
-        requires table { IsTableOf build.now self.old newly_ready.old.items }
+        requires table { IsTableOf build.now self.old }
         requires standing { IsStandingTable build.now self.old }
-        ensures table { OnOk result (IsTableOf build.now self.new newly_ready.new.items) }
+        ensures table { OnOk result (IsTableOf build.now self.new) }
         ensures looked { OnOk result (AreLookedAt build.now self.old self.new pending.now) }
     {
         for at in pending {
-            self.settle(*at, build, newly_ready)?;
+            self.settle(*at, build)?;
         }
         Ok(())
     }
 
-    /// Puts the newly ready numbers into the queue, in order of first sight.
-    fn enqueue(&mut self, newly_ready: &mut Vec<u32>) -> Result<(), AllocError>
-        ensures { OnOk result (AreEnqueued self.old self.new newly_ready.old.items) }
+    /// Moves the newly ready numbers behind the queue, in order of first sight.
+    fn enqueue(&mut self) -> Result<(), AllocError>
+        ensures { OnOk result (AreEnqueued self.old self.new) }
     {
-        newly_ready.sort_unstable();
+        self.newly_ready.sort_unstable();
         let ready = &mut self.ready;
-        for at in &*newly_ready {
+        for at in &self.newly_ready {
             ready.push_back(*at)?;
         }
+        self.newly_ready.clear();
         Ok(())
     }
 
     /// Decides a target that was out by its fact, and looks again at what watches it.
-    fn conclude(
-        &mut self,
-        at: usize,
-        fact: Fact,
-        build: &Build,
-        newly_ready: &mut Vec<u32>,
-    ) -> Result<(), AllocError>
-        requires may { MayConclude build.now self.old at fact }
-        requires none_newly_ready { newly_ready.old.items ≡ [] }
-        ensures { OnOk result (IsConcludedAt build.now self.old self.new at fact newly_ready.new.items) }
+    fn conclude(&mut self, at: usize, fact: Fact, build: &Build) -> Result<(), AllocError>
+        requires { MayConclude build.now self.old at fact }
+        ensures { OnOk result (IsConcludedAt build.now self.old self.new at fact) }
     {
         let known = build.publish(at, fact)?;
         let watchers = self.decide(at, known);
-        self.settle_all(&watchers, build, newly_ready)
+        self.settle_all(&watchers, build)
     }
 
     /// Enters the paths that a stopped job waits for, parks the job, and looks at it.
@@ -126,54 +110,39 @@ impl Table {
         begun: Box<Begun>,
         paths: Vec<Path>,
         build: &Build,
-        newly_ready: &mut Vec<u32>,
     ) -> Result<(), Stop>
-        requires may { MayTakeIn build.now self.old at (End.Stopped begun paths) }
-        requires none_newly_ready { newly_ready.old.items ≡ [] }
-        ensures ok { OnOk result (IsPutBackThere build.now (state_after build.now Script self.old at) self.old self.new
-            newly_ready.new.items []) }
+        requires { MayTakeIn build.now self.old at (End.Stopped begun paths) }
+        ensures ok { OnOk result (
+            IsPutBackThere build.now (state_after build.now Script self.old at) self.old self.new []) }
         ensures too_many { result ≡ Err Stop.TooMany →
             build.now.limits.targets < length (state_after build.now Script self.old at).entries }
     {
-        let operands = self.enter_all(&paths, build, newly_ready)?;
+        let operands = self.enter_all(&paths, build)?;
         self.park(at, begun, operands);
-        self.settle(at as u32, build, newly_ready)?;
+        self.settle(at as u32, build)?;
         Ok(())
     }
 
-    /// Takes in what a job that was out came to. The numbers that become ready go through `newly_ready`, whatever that
-    /// holds.
-    fn take_in(
-        &mut self,
-        at: usize,
-        end: End,
-        build: &Build,
-        newly_ready: &mut Vec<u32>,
-    ) -> Result<(), Stop>
+    /// Takes in what a job that was out came to.
+    fn take_in(&mut self, at: usize, end: End, build: &Build) -> Result<(), Stop>
         requires { MayTakeIn build.now self.old at end }
         ensures ok { OnOk result (IsTakenIn build.now (state_after build.now Script self.old at) self.new) }
         ensures too_many { result ≡ Err Stop.TooMany →
             build.now.limits.targets < length (state_after build.now Script self.old at).entries }
     {
-        newly_ready.clear();
         match end {
-            End::Ended(fact, _asked) => self.conclude(at, fact, build, newly_ready)?,
-            End::Stopped { begun, paths } => self.suspend(at, begun, paths, build, newly_ready)?,
+            End::Ended(fact, _asked) => self.conclude(at, fact, build)?,
+            End::Stopped { begun, paths } => self.suspend(at, begun, paths, build)?,
         }
-        self.enqueue(newly_ready)?;
+        self.enqueue()?;
         Ok(())
     }
 
     /// Enters the requested paths that aren't sources.
-    fn enter_requested(
-        &mut self,
-        request: &[Path],
-        build: &Build,
-        newly_ready: &mut Vec<u32>,
-    ) -> Result<(), Stop>
-        requires table { IsTableOf build.now self.old newly_ready.old.items }
-        ensures ok { OnOk result (AreEnteredInto build.now self.old self.new newly_ready.new.items
-            (targets_in (rules_for build.now) request.now)) }
+    fn enter_requested(&mut self, request: &[Path], build: &Build) -> Result<(), Stop>
+        requires table { IsTableOf build.now self.old }
+        ensures ok { OnOk result (
+            AreEnteredInto build.now self.old self.new (targets_in (rules_for build.now) request.now)) }
         ensures too_many { result ≡ Err Stop.TooMany →
             AreTooMany (rules_for build.now) build.now.limits.targets
             (table_entries (rules_for build.now) build.now.limits.targets self.old)
@@ -181,32 +150,25 @@ impl Table {
     {
         for path in request {
             if build.given().is_target(path) {
-                self.enter(path, build, newly_ready)?;
+                self.enter(path, build)?;
             }
         }
         Ok(())
     }
 
     /// Keeps a target whose recorded entries all stand.
-    fn keep(
-        &mut self,
-        at: usize,
-        held: Box<InCheck>,
-        build: &Build,
-        newly_ready: &mut Vec<u32>,
-    ) -> Result<(), AllocError>
+    fn keep(&mut self, at: usize, held: Box<InCheck>, build: &Build) -> Result<(), AllocError>
         requires may { MayLook build.now self.old at held }
         requires stands { asks_next build.now held.value.check ≡ None }
-        requires none_newly_ready { newly_ready.old.items ≡ [] }
-        ensures { OnOk result (IsPutBackThere build.now (state_after build.now Check self.old at) self.old self.new
-            newly_ready.new.items []) }
+        ensures { OnOk result (
+            IsPutBackThere build.now (state_after build.now Check self.old at) self.old self.new []) }
     {
         let alloc = self.allocator();
         let (outcome, deps) = held.check.kept(alloc, build.given())?;
         let own = build.share()?;
         let target = self.targets.at(at).clone()?;
         let fact = Fact::of(own, target, outcome, Arc::new(alloc, deps)?, false);
-        self.conclude(at, fact, build, newly_ready)
+        self.conclude(at, fact, build)
     }
 
     /// Enters the next path that a check asks for, lets the check wait for it, and looks at the target.
@@ -216,17 +178,15 @@ impl Table {
         mut held: Box<InCheck>,
         path: Path,
         build: &Build,
-        newly_ready: &mut Vec<u32>,
     ) -> Result<(), Stop>
         requires may { MayLook build.now self.old at held }
         requires asks { asks_next build.now held.value.check ≡ Some path }
-        requires none_newly_ready { newly_ready.old.items ≡ [] }
-        ensures ok { OnOk result (IsPutBackThere build.now (state_after build.now Check self.old at) self.old self.new
-            newly_ready.new.items []) }
+        ensures ok { OnOk result (
+            IsPutBackThere build.now (state_after build.now Check self.old at) self.old self.new []) }
         ensures too_many { result ≡ Err Stop.TooMany →
             build.now.limits.targets < length (state_after build.now Check self.old at).entries }
     {
-        let place = self.enter(&path, build, newly_ready)?;
+        let place = self.enter(&path, build)?;
         held.check.ask(&path)?;
         self.await_answer(
             at,
@@ -236,37 +196,32 @@ impl Table {
                 at: place,
             },
         );
-        self.settle(at as u32, build, newly_ready)?;
+        self.settle(at as u32, build)?;
         Ok(())
     }
 
     /// Looks at the check of a target, which is the first by first sight that can go on: the target is kept, or its
     /// check asks for the next path.
-    fn look(&mut self, at: usize, build: &Build, newly_ready: &mut Vec<u32>) -> Result<(), Stop>
+    fn look(&mut self, at: usize, build: &Build) -> Result<(), Stop>
         requires { IsDrawn build.now self.old at }
         ensures ok { OnOk result (IsLookedOnce build.now self.old self.new) }
         ensures too_many { result ≡ Err Stop.TooMany → IsTooMany (rules_for build.now) build.now.request
             build.now.limits.targets }
     {
-        newly_ready.clear();
         let held = self.take_out(at);
         match held.check.next(build.given()) {
             Some(path) => {
                 let path = path.clone()?;
-                self.ask(at, held, path, build, newly_ready)?;
+                self.ask(at, held, path, build)?;
             }
-            None => self.keep(at, held, build, newly_ready)?,
+            None => self.keep(at, held, build)?,
         }
-        self.enqueue(newly_ready)?;
+        self.enqueue()?;
         Ok(())
     }
 
     /// Looks at checks until none can go on.
-    pub(crate) fn look_ahead(
-        &mut self,
-        build: &Build,
-        newly_ready: &mut Vec<u32>,
-    ) -> Result<(), Stop>
+    pub(crate) fn look_ahead(&mut self, build: &Build) -> Result<(), Stop>
         requires { IsAtRest build.now self.old }
         ensures ok { OnOk result (IsLookedOn build.now self.old self.new) }
         ensures none_due { OnOk result (self.new.due.keys ≡ []) }
@@ -274,25 +229,19 @@ impl Table {
             build.now.limits.targets }
     {
         while let Some(at) = self.due.pop_first() {
-            self.look(at as usize, build, newly_ready)?;
+            self.look(at as usize, build)?;
         }
         Ok(())
     }
 
     /// Takes in what a job that was out came to, and looks at checks until none can go on.
-    pub(crate) fn move_on(
-        &mut self,
-        at: usize,
-        end: End,
-        build: &Build,
-        newly_ready: &mut Vec<u32>,
-    ) -> Result<(), Stop>
+    pub(crate) fn move_on(&mut self, at: usize, end: End, build: &Build) -> Result<(), Stop>
         requires { MayTakeIn build.now self.old at end }
         ensures ok { OnOk result (IsMovedOn build.now (state_after build.now Script self.old at) self.new) }
         ensures too_many { result ≡ Err Stop.TooMany → IsTooMany (rules_for build.now) build.now.request
             build.now.limits.targets }
     {
-        self.take_in(at, end, build, newly_ready)?;
-        self.look_ahead(build, newly_ready)
+        self.take_in(at, end, build)?;
+        self.look_ahead(build)
     }
 }

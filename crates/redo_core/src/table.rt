@@ -86,6 +86,9 @@ pub struct Table {
     pub ready: VecDeque<u32>,
     pub due: BTreeSet<u32>,
     pub out: usize,
+    /// The numbers that have become ready in the running event and aren't in the queue yet. There are none between
+    /// events; the room stays.
+    pub newly_ready: Vec<u32>,
 }
 
 impl Slot {
@@ -223,13 +226,13 @@ impl Table {
     }
 
     /// Turns a parked job that has all its answers into a work.
-    fn make_ready(&mut self, at: usize, build: &Build) -> Result<(), AllocError>
+    fn make_ready(&mut self, at: u32, build: &Build) -> Result<(), AllocError>
         requires one_each { length self.old.slots.items ≡ length self.old.targets }
         requires fed { IsFed build.now self.old at }
         ensures { OnOk result (IsMadeReadyAt build.now self.old self.new at) }
     {
         let own = build.share()?;
-        let slot = &mut self.slots[at];
+        let slot = &mut self.slots[at as usize];
         let stage = mem::replace(&mut slot.stage, Stage::Out);
         let Stage::Waiting(parked) = stage else {
             unreachable!()
@@ -240,21 +243,17 @@ impl Table {
             held: _,
         } = parked;
         self.gain(&operands, &mut begun.facts)?;
-        let slot = &mut self.slots[at];
+        self.newly_ready.push(at)?;
+        let slot = &mut self.slots[at as usize];
         slot.stage = Stage::Ready(Work::of(own, begun));
         Ok(())
     }
 
     /// Gives a check the answer that it waited for: it can go on, or an entry falls and its target is ready.
-    fn resume(
-        &mut self,
-        at: u32,
-        build: &Build,
-        newly_ready: &mut Vec<u32>,
-    ) -> Result<(), AllocError>
+    fn resume(&mut self, at: u32, build: &Build) -> Result<(), AllocError>
         requires one_each { length self.old.slots.items ≡ length self.old.targets }
         requires answered { IsAnswered build.now self.old at }
-        ensures { OnOk result (IsResumedAt build.now self.old self.new at newly_ready.old.items newly_ready.new.items) }
+        ensures { OnOk result (IsResumedAt build.now self.old self.new at) }
     {
         let stage = mem::replace(&mut self.slots[at as usize].stage, Stage::Out);
         let Stage::Checking(awaiting) = stage else {
@@ -277,7 +276,7 @@ impl Table {
             Stage::Due(held)
         } else {
             let target = self.targets.at(at as usize).clone()?;
-            newly_ready.push(at)?;
+            self.newly_ready.push(at)?;
             Stage::Ready(fallen(self.allocator(), target, held, build)?)
         };
         self.slots[at as usize].stage = stage;
@@ -299,16 +298,11 @@ impl Table {
 
     /// Looks again at a target. If its script waits, it becomes ready, or watches the next path that it lacks. If its
     /// check waits, the check goes on or falls if it has its answer, or watches the path.
-    pub(crate) fn settle(
-        &mut self,
-        at: u32,
-        build: &Build,
-        newly_ready: &mut Vec<u32>,
-    ) -> Result<(), AllocError>
+    pub(crate) fn settle(&mut self, at: u32, build: &Build) -> Result<(), AllocError>
         requires within { at < length self.old.slots.items }
-        requires table { IsTableOf build.now self.old newly_ready.old.items }
+        requires table { IsTableOf build.now self.old }
         requires standing { IsStandingTable build.now self.old }
-        ensures table { OnOk result (IsTableOf build.now self.new newly_ready.new.items) }
+        ensures table { OnOk result (IsTableOf build.now self.new) }
         ensures looked { OnOk result (IsLookedAt build.now self.old self.new at) }
     {
         match &self.slots[at as usize].stage {
@@ -317,15 +311,12 @@ impl Table {
                     self.hold(at as usize, held);
                     self.watch(at, place)
                 }
-                None => {
-                    newly_ready.push(at)?;
-                    self.make_ready(at as usize, build)
-                }
+                None => self.make_ready(at, build),
             },
             Stage::Checking(awaiting) => {
                 let place = awaiting.at as usize;
                 if self.slots[place].is_decided() {
-                    return self.resume(at, build, newly_ready);
+                    return self.resume(at, build);
                 }
                 self.watch(at, place)
             }
@@ -334,14 +325,9 @@ impl Table {
     }
 
     /// Enters a path if it is new, and returns its number.
-    pub(crate) fn enter(
-        &mut self,
-        path: &Path,
-        build: &Build,
-        newly_ready: &mut Vec<u32>,
-    ) -> Result<u32, Stop>
-        requires table { IsTableOf build.now self.old newly_ready.old.items }
-        ensures ok { OnOk result (IsEnteredInto build.now self.old self.new newly_ready.new.items path.now) }
+    pub(crate) fn enter(&mut self, path: &Path, build: &Build) -> Result<u32, Stop>
+        requires table { IsTableOf build.now self.old }
+        ensures ok { OnOk result (IsEnteredInto build.now self.old self.new path.now) }
         ensures number { IfOk result (λ at. slice_get self.new.targets at ≡ Some path.now) }
         ensures too_many { result ≡ Err Stop.TooMany ↔
             IsFull (rules_for build.now) build.now.limits.targets
@@ -354,29 +340,23 @@ impl Table {
             return Err(Stop::TooMany);
         }
         let at = self.slots.len() as u32;
-        match self.enter_new(path, build, newly_ready) {
+        match self.enter_new(path, build) {
             Ok(()) => Ok(at),
             Err(_) => Err(Stop::Memory),
         }
     }
 
     /// Enters a path that is new.
-    fn enter_new(
-        &mut self,
-        path: &Path,
-        build: &Build,
-        newly_ready: &mut Vec<u32>,
-    ) -> Result<(), AllocError>
+    fn enter_new(&mut self, path: &Path, build: &Build) -> Result<(), AllocError>
         requires new { IsAmong self.old.targets path.now → ⊥ }
         requires room { length self.old.slots.items < build.now.limits.targets }
-        requires table { IsTableOf build.now self.old newly_ready.old.items }
-        ensures { OnOk result (IsPushed build.now self.old self.new newly_ready.old.items newly_ready.new.items
-            path.now) }
+        requires table { IsTableOf build.now self.old }
+        ensures { OnOk result (IsPushed build.now self.old self.new path.now) }
     {
         let alloc = self.allocator();
         let stage = begin(alloc, path, build, self.slots.len())?;
         if stage.is_ready() {
-            newly_ready.push(self.slots.len() as u32)?;
+            self.newly_ready.push(self.slots.len() as u32)?;
         }
         if stage.is_due() {
             self.due.insert(self.slots.len() as u32)?;

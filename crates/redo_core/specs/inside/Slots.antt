@@ -270,7 +270,7 @@ abbrev pub AllWatchersBelow : List Slot → Type 0
 AllWatchersBelow slots =
     (i k : ℕ) (slot : Slot) → slice_get slots i ≡ Some slot → IsPlace slot.watchers.items k → k < length slots
 
--- the invariant of a table, with the newly ready numbers
+-- the invariant of a table
 pub record IsTable (r : Rules) (given : GivenView) (ps : List (List ℕ)) (slots : List Slot) (ready due : List ℕ)
     (out : ℕ) (newly_ready : List ℕ) : Type 0 where
   pub one_each : length slots ≡ length ps
@@ -283,21 +283,20 @@ pub record IsTable (r : Rules) (given : GivenView) (ps : List (List ℕ)) (slots
   pub due_listed : AreDue slots due
   pub watchers_below : AllWatchersBelow slots
 
-abbrev pub IsTableOf : GivenView → Table → List ℕ → Type 0
-IsTableOf given t newly_ready =
-    IsTable (rules_for given) given t.targets t.slots.items t.ready.items t.due.keys t.out newly_ready
+abbrev pub IsTableOf : GivenView → Table → Type 0
+IsTableOf given t =
+    IsTable (rules_for given) given t.targets t.slots.items t.ready.items t.due.keys t.out t.newly_ready.items
 
 -- the table of a state that is reached, with nothing left to do but to look at what is due
 pub record IsAtRest (given : GivenView) (t : Table) : Type 0 where
   pub reached : IsReached (rules_for given) given.request (table_state (rules_for given) given.limits.targets t)
-  pub table : IsTableOf given t []
+  pub table : IsTableOf given t
+  pub none_newly_ready : t.newly_ready.items ≡ []
   pub watched : AllWatched (rules_for given) given.limits.targets t.targets t.slots.items []
 
--- what a board keeps: a state that is reached, and a table with nothing left to do
+-- what a board keeps: a table at rest, with nothing to look at
 pub record IsKept (b : Inside) : Type 0 where
-  pub reached : IsReached (rules_inside b) b.build.request (state_of b)
-  pub table : IsTableOf b.build b.table []
-  pub watched : AllWatched (rules_inside b) b.build.limits.targets b.table.targets b.table.slots.items []
+  pub at_rest : IsAtRest b.build b.table
   pub none_due : b.table.due.keys ≡ []
 
 -- a running board keeps what it shows; one that has stopped at the limit is of a build that needs too many targets
@@ -395,7 +394,8 @@ pub record IsHeldAt (t u : Table) (at held : ℕ) : Type 0 where
   pub turn : new.turn ≡ old.turn
   pub watchers : new.watchers ≡ old.watchers
   pub slots : u.slots.items ≡ slice_set t.slots.items at new
-  pub rest : (u.targets ≡ t.targets) × (u.ready ≡ t.ready) × (u.out ≡ t.out) × (u.due ≡ t.due)
+  pub rest : (u.targets ≡ t.targets) × (u.ready ≡ t.ready) × (u.out ≡ t.out) × (u.due ≡ t.due) ×
+      (u.newly_ready ≡ t.newly_ready)
 
 -- one slot has one more watcher
 pub record IsWatchAdded (t u : Table) (at place : ℕ) : Type 0 where
@@ -407,7 +407,8 @@ pub record IsWatchAdded (t u : Table) (at place : ℕ) : Type 0 where
   pub stage : new.stage ≡ other.stage
   pub listed : new.watchers.items ≡ other.watchers.items ++ at ∷ []
   pub slots : u.slots.items ≡ slice_set t.slots.items place new
-  pub rest : (u.targets ≡ t.targets) × (u.ready ≡ t.ready) × (u.out ≡ t.out) × (u.due ≡ t.due)
+  pub rest : (u.targets ≡ t.targets) × (u.ready ≡ t.ready) × (u.out ≡ t.out) × (u.due ≡ t.due) ×
+      (u.newly_ready ≡ t.newly_ready)
 
 -- one parked job is ready now
 pub record IsMadeReadyAt (given : GivenView) (t u : Table) (at : ℕ) : Type 0 where
@@ -425,10 +426,11 @@ pub record IsMadeReadyAt (given : GivenView) (t u : Table) (at : ℕ) : Type 0 w
       (work.turn ≡ parked.begun.value.job.turn) ×
       (work.deps ≡ all_asked parked.begun.value.job parked.begun.value.facts)
   pub slots : u.slots.items ≡ slice_set t.slots.items at new
+  pub newly_ready_is : u.newly_ready.items ≡ t.newly_ready.items ++ at ∷ []
   pub rest : (u.targets ≡ t.targets) × (u.ready ≡ t.ready) × (u.out ≡ t.out) × (u.due ≡ t.due)
 
 -- the check of a slot has the answer that it waited for: it can go on, or its target is ready
-pub record IsResumedAt (given : GivenView) (t u : Table) (at : ℕ) (newly_ready newly_ready' : List ℕ) : Type 0 where
+pub record IsResumedAt (given : GivenView) (t u : Table) (at : ℕ) : Type 0 where
   pub old : Slot
   pub new : Slot
   pub awaiting : Awaiting
@@ -445,7 +447,7 @@ pub record IsResumedAt (given : GivenView) (t u : Table) (at : ℕ) (newly_ready
   pub slots : u.slots.items ≡ slice_set t.slots.items at new
   pub rest : (u.targets ≡ t.targets) × (u.ready ≡ t.ready) × (u.out ≡ t.out)
   pub due_is : u.due.keys ≡ (if is_stage_due new.stage then insert_key nat_cmp t.due.keys at else t.due.keys)
-  pub newly_ready_is : newly_ready' ≡ newly_ready ++ (if is_stage_ready new.stage then at ∷ [] else [])
+  pub newly_ready_is : u.newly_ready.items ≡ t.newly_ready.items ++ (if is_stage_ready new.stage then at ∷ [] else [])
 
 -- a check goes on or falls with the answer of a decided target
 pub record GoesOnWith (given : GivenView) (t : Table) (place : ℕ) (old new : Check) (stands : Bool) : Type 0 where
@@ -522,7 +524,7 @@ IsBegun given p (Decided fact) =
     (((rules_for given).progress p nothing_known).outcome ≡ Some fact.value.outcome)
 
 -- a new path has a slot behind the others
-pub record IsPushed (given : GivenView) (t u : Table) (newly_ready newly_ready' : List ℕ) (p : List ℕ) : Type 0 where
+pub record IsPushed (given : GivenView) (t u : Table) (p : List ℕ) : Type 0 where
   pub new : Slot
   pub begun : IsBegun given p new.stage
   pub looks : new.looks ≡ 0
@@ -530,15 +532,15 @@ pub record IsPushed (given : GivenView) (t u : Table) (newly_ready newly_ready' 
   pub watchers : new.watchers.items ≡ []
   pub keys : u.targets ≡ t.targets ++ p ∷ []
   pub slots : u.slots.items ≡ t.slots.items ++ new ∷ []
-  pub newly_ready_is : newly_ready' ≡ newly_ready ++ (if is_stage_ready new.stage then length t.slots.items ∷ []
-      else [])
+  pub newly_ready_is : u.newly_ready.items ≡ t.newly_ready.items ++
+      (if is_stage_ready new.stage then length t.slots.items ∷ [] else [])
   pub due_is : u.due.keys ≡ (if is_stage_due new.stage then insert_key nat_cmp t.due.keys (length t.slots.items)
       else t.due.keys)
   pub rest : (u.ready ≡ t.ready) × (u.out ≡ t.out)
 
 -- the table shows the entries with these paths entered
-pub record AreEnteredInto (given : GivenView) (t u : Table) (newly_ready : List ℕ) (ps : List (List ℕ)) : Type 0 where
-  pub table : IsTableOf given u newly_ready
+pub record AreEnteredInto (given : GivenView) (t u : Table) (ps : List (List ℕ)) : Type 0 where
+  pub table : IsTableOf given u
   pub entries : table_entries (rules_for given) given.limits.targets u ≡
       entered (rules_for given) (table_entries (rules_for given) given.limits.targets t) ps
   pub rest : (u.ready ≡ t.ready) × (u.out ≡ t.out)
@@ -548,8 +550,8 @@ pub record AreEnteredInto (given : GivenView) (t u : Table) (newly_ready : List 
       AllWatched (rules_for given) given.limits.targets t.targets t.slots.items pending →
       AllWatched (rules_for given) given.limits.targets u.targets u.slots.items pending
 
-abbrev pub IsEnteredInto : GivenView → Table → Table → List ℕ → List ℕ → Type 0
-IsEnteredInto given t u newly_ready p = AreEnteredInto given t u newly_ready (p ∷ [])
+abbrev pub IsEnteredInto : GivenView → Table → Table → List ℕ → Type 0
+IsEnteredInto given t u p = AreEnteredInto given t u (p ∷ [])
 
 -- entering the paths exceeds the limit
 abbrev pub AreTooMany : Rules → ℕ → List Entry → List (List ℕ) → Type 0
@@ -572,11 +574,12 @@ abbrev pub AreLookedAt : GivenView → Table → Table → List ℕ → Type 0
 AreLookedAt given t u pending = AreLookedAtBelow given t u pending []
 
 -- the newly ready numbers are in the queue, in ascending order
-pub record AreEnqueued (t u : Table) (newly_ready : List ℕ) : Type 0 where
+pub record AreEnqueued (t u : Table) : Type 0 where
   pub sorted : List ℕ
   pub ordered : IsSorted nat_cmp sorted
-  pub shuffled : IsPermutation newly_ready sorted
+  pub shuffled : IsPermutation t.newly_ready.items sorted
   pub queue : u.ready.items ≡ t.ready.items ++ sorted
+  pub none_newly_ready : u.newly_ready.items ≡ []
   pub rest : (u.targets ≡ t.targets) × (u.slots ≡ t.slots) × (u.out ≡ t.out) × (u.due ≡ t.due)
 
 -- the stage holds this fact
@@ -603,7 +606,7 @@ pub record IsPutBack (t u : Table) (at : ℕ) (old new : Slot) : Type 0 where
   pub was : old.stage ≡ Out
   pub slots : u.slots.items ≡ slice_set t.slots.items at new
   pub out : u.out + 1 ≡ t.out
-  pub rest : (u.targets ≡ t.targets) × (u.ready ≡ t.ready) × (u.due ≡ t.due)
+  pub rest : (u.targets ≡ t.targets) × (u.ready ≡ t.ready) × (u.due ≡ t.due) × (u.newly_ready ≡ t.newly_ready)
 
 -- a target is decided: its watchers are to be looked at
 pub record IsDecidedAt (t u : Table) (at : ℕ) (fact : FactView) (pending : List ℕ) : Type 0 where
@@ -648,12 +651,9 @@ state_after given phase t at =
     handed_in (rules_for given) phase (table_state (rules_for given) given.limits.targets t)
     (entry_of (table_entries (rules_for given) given.limits.targets t) (path_at t.targets at))
 
--- the table is that of a reached state, with nothing left to do, and the end is that of the job that is out at the
--- number
+-- the table is at rest, and the end is that of the job that is out at the number
 pub record MayTakeIn (given : GivenView) (t : Table) (at : ℕ) (end : End) : Type 0 where
-  pub reached : IsReached (rules_for given) given.request (table_state (rules_for given) given.limits.targets t)
-  pub table : IsTableOf given t []
-  pub watched : AllWatched (rules_for given) given.limits.targets t.targets t.slots.items []
+  pub at_rest : IsAtRest given t
   pub slot : Slot
   pub there : slice_get t.slots.items at ≡ Some slot
   pub is_out : slot.stage ≡ Out
@@ -672,7 +672,7 @@ concluded_entry given p slot fact = record {
 
 -- the target at the number is out; with this fact of it, the invariant of the schedule holds of the entries
 pub record MayConclude (given : GivenView) (t : Table) (at : ℕ) (fact : FactView) : Type 0 where
-  pub table : IsTableOf given t []
+  pub table : IsTableOf given t
   pub watched : AllWatched (rules_for given) given.limits.targets t.targets t.slots.items []
   pub distinct : AreDistinct t.targets
   pub is_out : IsOutThere t at
@@ -684,9 +684,8 @@ pub record MayConclude (given : GivenView) (t : Table) (at : ℕ) (fact : FactVi
       (concluded_entry given (path_at t.targets at) slot fact))
 
 -- the target is decided by the fact, and what watched it was looked at
-pub record IsConcludedAt (given : GivenView) (t u : Table) (at : ℕ) (fact : FactView) (newly_ready : List ℕ)
-    : Type 0 where
-  pub table : IsTableOf given u newly_ready
+pub record IsConcludedAt (given : GivenView) (t u : Table) (at : ℕ) (fact : FactView) : Type 0 where
+  pub table : IsTableOf given u
   pub slot : Slot
   pub there : slice_get t.slots.items at ≡ Some slot
   pub entries : table_entries (rules_for given) given.limits.targets u ≡
@@ -696,10 +695,9 @@ pub record IsConcludedAt (given : GivenView) (t u : Table) (at : ℕ) (fact : Fa
   pub targets : u.targets ≡ t.targets
   pub watched : AllWatched (rules_for given) given.limits.targets u.targets u.slots.items []
 
--- the table shows the entries of this state, with these numbers newly ready and those to be looked at
-pub record IsPutBackThere (given : GivenView) (after : State) (t u : Table) (newly_ready pending : List ℕ)
-    : Type 0 where
-  pub table : IsTableOf given u newly_ready
+-- the table shows the entries of this state, with these numbers to be looked at
+pub record IsPutBackThere (given : GivenView) (after : State) (t u : Table) (pending : List ℕ) : Type 0 where
+  pub table : IsTableOf given u
   pub entries : table_entries (rules_for given) given.limits.targets u ≡ after.entries
   pub ready : u.ready ≡ t.ready
   pub keys_kept : (k : ℕ) (p : List ℕ) → slice_get t.targets k ≡ Some p → slice_get u.targets k ≡ Some p
@@ -708,7 +706,8 @@ pub record IsPutBackThere (given : GivenView) (after : State) (t u : Table) (new
 
 -- the table shows this state, with nothing left to do but to look
 pub record IsTakenIn (given : GivenView) (after : State) (u : Table) : Type 0 where
-  pub table : IsTableOf given u []
+  pub table : IsTableOf given u
+  pub none_newly_ready : u.newly_ready.items ≡ []
   pub watched : AllWatched (rules_for given) given.limits.targets u.targets u.slots.items []
   pub state : table_state (rules_for given) given.limits.targets u ≡ after
 
@@ -717,7 +716,8 @@ pub record IsDrawnFrom (given : GivenView) (whole t : Table) (at : ℕ) : Type 0
   pub at_rest : IsAtRest given whole
   pub due : whole.due.keys ≡ at ∷ t.due.keys
   pub least : (k : ℕ) → IsPlace t.due.keys k → at < k
-  pub rest : (t.targets ≡ whole.targets) × (t.slots ≡ whole.slots) × (t.ready ≡ whole.ready) × (t.out ≡ whole.out)
+  pub rest : (t.targets ≡ whole.targets) × (t.slots ≡ whole.slots) × (t.ready ≡ whole.ready) × (t.out ≡ whole.out) ×
+      (t.newly_ready ≡ whole.newly_ready)
 
 abbrev pub IsDrawn : GivenView → Table → ℕ → Type 0
 IsDrawn given t at = (whole : Table) × IsDrawnFrom given whole t at
@@ -745,7 +745,7 @@ pub record IsTakenOut (t u : Table) (at : ℕ) (held : Box InCheck Global) : Typ
   pub watchers : new.watchers ≡ old.watchers
   pub slots : u.slots.items ≡ slice_set t.slots.items at new
   pub out : u.out ≡ t.out + 1
-  pub rest : (u.targets ≡ t.targets) × (u.ready ≡ t.ready) × (u.due ≡ t.due)
+  pub rest : (u.targets ≡ t.targets) × (u.ready ≡ t.ready) × (u.due ≡ t.due) × (u.newly_ready ≡ t.newly_ready)
 
 -- the table is one from which a check is taken out for a look, and the check is due
 pub record MayLook (given : GivenView) (t : Table) (at : ℕ) (held : Box InCheck Global) : Type 0 where
@@ -785,8 +785,6 @@ pub record IsOutSlotAt (t : Table) (target : List ℕ) (turn at : ℕ) : Type 0 
 abbrev pub targets_in : Rules → List (List ℕ) → List (List ℕ)
 targets_in r paths = filter (λ p. not (r.is_source p)) paths
 
--- the table shows the opening, with nothing left to do
-pub record IsFirstTable (given : GivenView) (t : Table) : Type 0 where
-  pub table : IsTableOf given t []
-  pub watched : AllWatched (rules_for given) given.limits.targets t.targets t.slots.items []
-  pub state : table_state (rules_for given) given.limits.targets t ≡ opening (rules_for given) given.request
+-- the table shows the opening, with nothing left to do but to look
+abbrev pub IsFirstTable : GivenView → Table → Type 0
+IsFirstTable given t = IsTakenIn given (opening (rules_for given) given.request) t

@@ -10,4 +10,4 @@ returns-else-is_some c =
     let on : is_some b.stopped ≡ false = sym c.is_some.ensures ∙ c.if-is_some.false in
     let kept = c.self.invariant.kept (IsNone-from b.stopped on) in
     rw (← c.self.view_is) (rw on (c.decided.ensures ∙
-    sym (decided_count-slots (rules_inside b) (outcome_at (rules_inside b) b.build.limits.targets) b.table.targets b.table.slots.items kept.table.one_each)))
+    sym (decided_count-slots (rules_inside b) (outcome_at (rules_inside b) b.build.limits.targets) b.table.targets b.table.slots.items kept.at_rest.table.one_each)))

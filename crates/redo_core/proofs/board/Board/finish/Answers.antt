@@ -18,7 +18,7 @@ report_of-requires-clause-settled c =
 pub report_of-requires-clause-one_each : goal.report_of-requires-clause-one_each
 report_of-requires-clause-one_each c =
     let quiet = quiet-inside c.self.inside c.args.self c.self.view_is c.requires in
-    (c.self.invariant.kept quiet.0).table.one_each
+    (c.self.invariant.kept quiet.0).at_rest.table.one_each
 
 pub report_of-requires-clause-told : goal.report_of-requires-clause-told
 report_of-requires-clause-told c =

@@ -13,7 +13,7 @@ use Rattle.redo_core.specs.declared.board.HandFault.TheVariants.{Stranger}
 use Rattle.redo_core.proofs.SlotLemmas.{IsNone-from}
 use Rattle.redo_core.proofs.TakeLemmas.{view_of, distinct-inside, part-inside, length-entries}
 use Rattle.redo_core.proofs.BoardCountLemmas.{one_fewer, left_no_more}
-use Rattle.redo_core.proofs.HandInLemmas.{kept-beside, moved-kept, moved-looked, moved-state, open-out, may-take, stranger}
+use Rattle.redo_core.proofs.HandInLemmas.{moved-kept, moved-looked, moved-state, open-out, may-take, stranger}
 use Rattle.redo_core.proofs.HandInLemmas.{none-stopped, refused-after}
 use Rattle.redo_core.proofs.board.Board.hand_in.Goals as goal
 use Rattle.redo_core.proofs.board.Board.hand_in.Goals.{In_default, In-Some-out_at}
@@ -62,7 +62,7 @@ invariant_of-self c =
     let d = (goal.at-invariant_of-self c).In_default in
     let e = (goal.at-invariant_of-self c).In-Some-out_at in
     record {
-      kept = λ _. kept-beside _ c.move_on.new.newly_ready (moved-kept c.self.inside (kept d) c.args.piece.target c.args.piece.turn c.in-Some-out_at.at (slot e) c.move_on.new.self c.in-Ok.ensures.ok);
+      kept = λ _. moved-kept c.self.inside (kept d) c.args.piece.target c.args.piece.turn c.in-Some-out_at.at (slot e) c.move_on.new.self c.in-Ok.ensures.ok;
       too_many = c.self.invariant.too_many;
     }
 

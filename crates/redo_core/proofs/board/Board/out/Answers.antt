@@ -9,5 +9,5 @@ returns-else-is_some c =
     let b = c.self.inside in
     let on : is_some b.stopped ≡ false = sym c.is_some.ensures ∙ c.if-is_some.false in
     let kept = c.self.invariant.kept (IsNone-from b.stopped on) in
-    rw (← c.self.view_is) (rw on (kept.table.out_counted ∙
-    sym (out_count-slots (rules_inside b) (outcome_at (rules_inside b) b.build.limits.targets) b.table.targets b.table.slots.items kept.table.one_each)))
+    rw (← c.self.view_is) (rw on (kept.at_rest.table.out_counted ∙
+    sym (out_count-slots (rules_inside b) (outcome_at (rules_inside b) b.build.limits.targets) b.table.targets b.table.slots.items kept.at_rest.table.one_each)))

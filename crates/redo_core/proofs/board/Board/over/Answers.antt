@@ -10,7 +10,7 @@ use Rattle.redo_core.proofs.board.Board.over.Goals as goal
 use Rattle.redo_core.proofs.board.Board.over.Goals.{In_ok-look_ahead, In_ok-build}
 
 opened-board : (c : In_ok-look_ahead) → Inside
-opened-board c = record { alloc = c.args.alloc; build = c.in_ok-build.build; table = c.look_ahead.new.self; stopped = None; newly_ready = c.look_ahead.new.newly_ready }
+opened-board c = record { alloc = c.args.alloc; build = c.in_ok-build.build; table = c.look_ahead.new.self; stopped = None }
 
 kept : (c : In_ok-look_ahead) → IsKept (opened-board c)
 unfolding opened-board

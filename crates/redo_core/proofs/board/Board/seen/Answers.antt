@@ -11,4 +11,4 @@ returns-else-is_some c =
     let kept = c.self.invariant.kept (IsNone-from b.stopped on) in
     let many : c.len.result ≡ length b.table.slots.items = search rules in
     rw (← c.self.view_is) (rw on (many ∙
-    sym (length-slots (rules_inside b) (outcome_at (rules_inside b) b.build.limits.targets) b.table.targets b.table.slots.items kept.table.one_each)))
+    sym (length-slots (rules_inside b) (outcome_at (rules_inside b) b.build.limits.targets) b.table.targets b.table.slots.items kept.at_rest.table.one_each)))

@@ -26,7 +26,7 @@ overflow_add-self c =
 
 there : (c : After-replace-stage) → slice_get c.self.inside.table.slots.items c.in-Some.at ≡ Some c.index_mut-slot.result.now
 there c = slice_get-item c.self.inside.table.slots.items c.in-Some.at c.index_mut-slot.result.now
-    ((kept c).table.queue.ready_below c.in-Some.at (slice_get-place _ c.args.which c.in-Some.at (first c))) c.index_mut-slot.ensures.value
+    ((kept c).at_rest.table.queue.ready_below c.in-Some.at (slice_get-place _ c.args.which c.in-Some.at (first c))) c.index_mut-slot.ensures.value
 
 pub unreachable-requires-in_default-stage : goal.unreachable-requires-in_default-stage
 unreachable-requires-in_default-stage c =
@@ -82,7 +82,7 @@ index_mut-slot-requires c =
     let b = c.self.inside in
     let count' : c.args.which < cond (is_some b.stopped) 0 (length (map (path_at b.table.targets) b.table.ready.items)) = rw (← c.self.view_is) at c.requires in
     let kept' = c.self.invariant.kept (running b.stopped _ c.args.which count') in
-    let fact : c.in-Some.at < length b.table.slots.items = kept'.table.queue.ready_below c.in-Some.at
+    let fact : c.in-Some.at < length b.table.slots.items = kept'.at_rest.table.queue.ready_below c.in-Some.at
     (slice_get-place b.table.ready.items c.args.which c.in-Some.at (first_item b c.args.which c.in-Some.at count' c.in-Some.ensures.value)) in
     search rules
 

@@ -5,7 +5,7 @@ use Rattle.redo_build.specs.Schedule.{Entry}
 use Rattle.redo_build.specs.Schedule.Phase.{Check}
 use Rattle.redo_build.specs.inside.Standing.{AreStanding}
 use Rattle.redo_rules.specs.Build.{rules_for}
-use Rattle.redo_core.specs.inside.Slots.{IsPutBackThere, IsTableOf, state_after}
+use Rattle.redo_core.specs.inside.Slots.{IsPutBackThere, state_after}
 use Rattle.redo_core.specs.declared.check.Check.{Check as CheckSoFar}
 use Rattle.redo_core.specs.declared.table.InCheck.{InCheck}
 use Rattle.redo_core.proofs.EnqueueLemmas.{looked-one, looked-put}
@@ -16,11 +16,7 @@ use Rattle.redo_core.proofs.table.Table.ask.Goals.{After-await_answer}
 
 pub enter-requires : goal.enter-requires
 enter-requires c =
-    let P : List ℕ → Type 0 = λ xs. IsTableOf c.args.build.now c.args.self.now xs in
-    record {
-      table = subst P (sym c.requires.none_newly_ready)
-          (look-table c.args.build.now c.args.self.now c.args.at c.args.held c.requires.may);
-    }
+    record { table = look-table c.args.build.now c.args.self.now c.args.at c.args.held c.requires.may }
 
 pub returns-in_err-place-clause-too_many : goal.returns-in_err-place-clause-too_many
 returns-in_err-place-clause-too_many c = λ is.
@@ -32,16 +28,16 @@ returns-in_err-place-clause-too_many c = λ is.
 pub await_answer-requires : goal.await_answer-requires
 await_answer-requires c =
     asked-out c.args.build.now c.args.self.now c.args.at c.args.held c.requires.may c.args.path c.requires.asks
-    c.enter.new.self c.enter.new.newly_ready.items c.in_ok-place.place c.in_ok-place.ensures.ok c.in_ok-place.ensures.number
+    c.enter.new.self c.in_ok-place.place c.in_ok-place.ensures.ok c.in_ok-place.ensures.number
 
 -- the table once the check waits, with its own number to be looked at
 put : (c : After-await_answer) → IsPutBackThere c.args.build.now (state_after c.args.build.now Check c.args.self.now c.args.at) c.args.self.now
-    c.await_answer.new.self c.enter.new.newly_ready.items (c.args.at ∷ [])
+    c.await_answer.new.self (c.args.at ∷ [])
 put c =
     let is = ap (λ (k : CheckSoFar). record c.deref_mut.result.now { check = k }) c.in_ok-ask.ensures
     ∙ ap (λ (h : InCheck). record h { check = record h.check { asked = with_entry h.check.asked kinds.Change c.args.path } }) c.deref_mut.ensures.value in
     asked-put c.args.build.now c.args.self.now c.args.at c.args.held c.requires.may c.args.path c.requires.asks
-    c.enter.new.self c.enter.new.newly_ready.items c.in_ok-place.place c.in_ok-place.ensures.ok c.in_ok-place.ensures.number
+    c.enter.new.self c.in_ok-place.place c.in_ok-place.ensures.ok c.in_ok-place.ensures.number
     c.await_answer.new.self _ is c.await_answer.ensures
 
 pub settle-requires-clause-within : goal.settle-requires-clause-within
@@ -60,5 +56,5 @@ pub returns-clause-ok : goal.returns-clause-ok
 returns-clause-ok c =
     let d = (goal.at-returns-clause-ok c).After-await_answer in
     let given = c.args.build.now in
-    looked-put given (state_after given Check c.args.self.now c.args.at) c.args.self.now c.await_answer.new.self c.settle.new.self _ c.settle.new.newly_ready.items _ (put d)
+    looked-put given (state_after given Check c.args.self.now c.args.at) c.args.self.now c.await_answer.new.self c.settle.new.self _ (put d)
     c.in_ok-settle.ensures.table (looked-one given c.await_answer.new.self c.settle.new.self c.args.at c.in_ok-settle.ensures.looked)

@@ -18,7 +18,7 @@ returns c =
         was = ap (λ (y : Slot). y.stage) same ∙ c.requires.1.2;
         slots = refl;
         out = omega (arith, c.requires.0);
-        rest = (refl, refl, refl);
+        rest = (refl, refl, refl, refl);
       };
       stage = refl;
       looks = refl;

@@ -20,37 +20,36 @@ decided c =
 -- a number of the table is one that the limit allows
 pub publish-requires : goal.publish-requires
 publish-requires c =
-    let may = c.requires.may in
+    let may = c.requires in
     let out = may.is_out.1 in
     omega (arith, may.table.within_limit, slice_get-below_some c.args.self.now.slots.items c.args.at out.0 out.1)
 
 pub decide-watchers-requires : goal.decide-watchers-requires
-decide-watchers-requires c = c.requires.may.is_out
+decide-watchers-requires c = c.requires.is_out
 
 pub settle_all-requires-clause-table : goal.settle_all-requires-clause-table
 settle_all-requires-clause-table c =
     let d = (goal.at-settle_all-requires-clause-table c).After-decide-watchers in
-    let P : List ℕ → Type 0 = IsTableOf c.args.build.now c.decide-watchers.new.self in
-    subst P (sym c.requires.none_newly_ready) (concluded-table c.args.build.now c.args.self.now c.decide-watchers.new.self c.args.at c.args.fact _ c.requires.may (decided d))
+    concluded-table c.args.build.now c.args.self.now c.decide-watchers.new.self c.args.at c.args.fact _ c.requires (decided d)
 
 pub settle_all-requires-clause-standing : goal.settle_all-requires-clause-standing
 settle_all-requires-clause-standing c =
     let d = (goal.at-settle_all-requires-clause-standing c).After-decide-watchers in
-    concluded-standing c.args.build.now c.args.self.now c.decide-watchers.new.self c.args.at c.args.fact _ c.requires.may (decided d)
+    concluded-standing c.args.build.now c.args.self.now c.decide-watchers.new.self c.args.at c.args.fact _ c.requires (decided d)
 
 pub settle_all-requires-clause-within : goal.settle_all-requires-clause-within
 settle_all-requires-clause-within c =
     let d = (goal.at-settle_all-requires-clause-within c).After-decide-watchers in
     let P : List ℕ → Type 0 = λ xs. (k : ℕ) → Rattle.redo_core.specs.inside.Slots.IsPlace xs k → Rattle.std.proofs.Common.◌<◌ k (Rattle.std.proofs.Common.length c.decide-watchers.new.self.slots.items) in
-    subst P (sym c.deref.ensures.value) (concluded-within c.args.build.now c.args.self.now c.decide-watchers.new.self c.args.at c.args.fact _ c.requires.may (decided d))
+    subst P (sym c.deref.ensures.value) (concluded-within c.args.build.now c.args.self.now c.decide-watchers.new.self c.args.at c.args.fact _ c.requires (decided d))
 
 pub returns : goal.returns
 returns c =
     let d = (goal.at-returns c).After-decide-watchers in
     let given = c.args.build.now in
     let P : List ℕ → Type 0 = AreLookedAt given c.decide-watchers.new.self c.settle_all.new.self in
-    on_ok_of c.settle_all.result (λ _. IsTableOf given c.settle_all.new.self c.settle_all.new.newly_ready.items) (λ _. P c.deref.result.now)
-    (IsConcludedAt given c.args.self.now c.settle_all.new.self c.args.at c.args.fact c.settle_all.new.newly_ready.items)
-    (λ _ table looked. concluded-looked given c.args.self.now c.decide-watchers.new.self c.args.at c.args.fact _ c.requires.may (decided d)
-    c.settle_all.new.self _ table (subst P c.deref.ensures.value looked))
+    on_ok_of c.settle_all.result (λ _. IsTableOf given c.settle_all.new.self) (λ _. P c.deref.result.now)
+    (IsConcludedAt given c.args.self.now c.settle_all.new.self c.args.at c.args.fact)
+    (λ _ table looked. concluded-looked given c.args.self.now c.decide-watchers.new.self c.args.at c.args.fact _ c.requires (decided d)
+    c.settle_all.new.self table (subst P c.deref.ensures.value looked))
     c.settle_all.ensures.table c.settle_all.ensures.looked

@@ -23,12 +23,12 @@ loop-path-preserved c =
     let p = c.path-item.result in
     let get = slice_get-item c.args.paths.now i p c.loop-path-test.true c.path-item.is in
     let so_far = take i c.args.paths.now in
-    let P : List (List ℕ) → Type 0 = λ ps. AreEnteredInto given c.args.self.now c.enter.new.self c.enter.new.newly_ready.items ps ×
+    let P : List (List ℕ) → Type 0 = λ ps. AreEnteredInto given c.args.self.now c.enter.new.self ps ×
     AreNumbers c.enter.new.self.targets c.push.new.self.items ps in
     let kept = numbers-kept c.loop-path.self.targets c.enter.new.self.targets c.in_ok-at.ensures.ok.keys_kept c.loop-path.numbers.items so_far c.loop-path.invariant.1 in
     let N : List ℕ → Type 0 = λ ns. AreNumbers c.enter.new.self.targets ns (so_far ++ p ∷ []) in
     subst P (sym (path-take c.args.paths.now i p get)) (
-      enter-more given c.args.self.now c.loop-path.self c.enter.new.self c.loop-path.newly_ready.items c.enter.new.newly_ready.items
+      enter-more given c.args.self.now c.loop-path.self c.enter.new.self
           so_far (p ∷ []) c.loop-path.invariant.0 c.in_ok-at.ensures.ok,
       subst N (sym c.in_ok-push.ensures.items) (numbers-push c.enter.new.self.targets c.loop-path.numbers.items so_far c.in_ok-at.at p kept c.in_ok-at.ensures.number),
     )

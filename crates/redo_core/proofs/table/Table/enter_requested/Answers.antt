@@ -25,16 +25,16 @@ loop-path-preserved c =
     let i = c.loop-path.path-index in
     let get = slice_get-item c.args.request.now i c.path-item.result c.loop-path-test.true c.path-item.is in
     let more = targets-more (rules_for given) c.args.request.now i c.path-item.result get in
-    let P : List (List ℕ) → Type 0 = λ ps. AreEnteredInto given c.args.self.now c.if-is_target.self c.if-is_target.newly_ready.items ps in
+    let P : List (List ℕ) → Type 0 = λ ps. AreEnteredInto given c.args.self.now c.if-is_target.self ps in
     let here = ap (λ (g : GivenView). not ((rules_for g).is_source c.path-item.result)) (sym c.given.ensures) in
     elim c.if-is_target.branch [
       | then-is_target+in_ok-enter w ↦
           let one = one-target (rules_for given) c.path-item.result (here ∙ sym w.if-is_target.ensures) in
           subst P (sym (more ∙ ap (λ xs. targets_in (rules_for given) (take i c.args.request.now) ++ xs) one))
-          (rw (w.self-is, w.newly_ready-is) (enter-more given c.args.self.now c.loop-path.self w.enter.new.self c.loop-path.newly_ready.items w.enter.new.newly_ready.items
+          (rw w.self-is (enter-more given c.args.self.now c.loop-path.self w.enter.new.self
           (targets_in (rules_for given) (take i c.args.request.now)) (c.path-item.result ∷ []) c.loop-path.invariant w.in_ok-enter.ensures.ok))
       | else-is_target w ↦
           let none = no-target (rules_for given) c.path-item.result (here ∙ sym w.if-is_target.ensures) in
           subst P (sym (more ∙ ap (λ xs. targets_in (rules_for given) (take i c.args.request.now) ++ xs) none ∙ append-nil (targets_in (rules_for given) (take i c.args.request.now))))
-          (rw (w.self-is, w.newly_ready-is) c.loop-path.invariant)
+          (rw w.self-is c.loop-path.invariant)
     ]

@@ -23,7 +23,7 @@ returns-in-Waiting c =
       turn = refl;
       watchers = refl;
       slots = refl;
-      rest = (refl, refl, refl, refl);
+      rest = (refl, refl, refl, refl, refl);
     }
 
 pub returns-in_default : goal.returns-in_default

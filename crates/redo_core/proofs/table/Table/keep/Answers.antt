@@ -57,9 +57,9 @@ of-fact-requires c =
     let D : List Dep → Type 0 = λ ds. IsDecided given p (Built (file_at given.past.tree p)) ds false in
     subst A (sym c.in_ok-own.ensures) (subst B (sym (path c)) (subst C (sym (outcome c)) (subst D (sym (deps c)) kept)))
 
-pub conclude-requires-clause-may : goal.conclude-requires-clause-may
-conclude-requires-clause-may c =
-    let d = (goal.at-conclude-requires-clause-may c).In_ok-new in
+pub conclude-requires : goal.conclude-requires
+conclude-requires c =
+    let d = (goal.at-conclude-requires c).In_ok-new in
     kept-may c.args.build.now c.args.self.now c.args.at c.args.held c.requires.may c.requires.stands c.of-fact.result
     (ap (λ (f : FactView). f.given) c.of-fact.ensures ∙ c.in_ok-own.ensures) (ap (λ (f : FactView). f.target) c.of-fact.ensures ∙ path d)
     (ap (λ (f : FactView). f.outcome) c.of-fact.ensures ∙ outcome d)
@@ -70,5 +70,5 @@ returns c =
     on_ok-more c.conclude.result
     (kept-put c.args.build.now c.args.self.now c.args.at c.args.held c.requires.may c.requires.stands c.of-fact.result
     (ap (λ (f : FactView). f.given) c.of-fact.ensures ∙ c.in_ok-own.ensures) (ap (λ (f : FactView). f.target) c.of-fact.ensures ∙ path d)
-    (ap (λ (f : FactView). f.outcome) c.of-fact.ensures ∙ outcome d) c.conclude.new.self c.conclude.new.newly_ready.items)
+    (ap (λ (f : FactView). f.outcome) c.of-fact.ensures ∙ outcome d) c.conclude.new.self)
     c.conclude.ensures

@@ -44,15 +44,15 @@ returns-clause-ok c =
     let u = c.take_out-held.new.self in
     let at = c.args.at in
     let held = c.take_out-held.result in
-    let put : IsPutBackThere given (state_after given Check u at) u c.match-next.self c.match-next.newly_ready.items [] =
+    let put : IsPutBackThere given (state_after given Check u at) u c.match-next.self [] =
     elim c.match-next.branch [
-      | in-Some+in_ok-path-in-Some+in_ok-ask-in-Some w ↦ rw (w.self-is, w.newly_ready-is) w.in_ok-ask-in-Some.ensures.ok
-      | in-None+in_ok-keep-in-None w ↦ rw (w.self-is, w.newly_ready-is) w.in_ok-keep-in-None.ensures
+      | in-Some+in_ok-path-in-Some+in_ok-ask-in-Some w ↦ rw w.self-is w.in_ok-ask-in-Some.ensures.ok
+      | in-None+in_ok-keep-in-None w ↦ rw w.self-is w.in_ok-keep-in-None.ensures
     ] in
-    let taken = taken-in given given.request (state_after given Check u at) (look-moved given u at held (may d)) u c.match-next.self c.enqueue.new.self c.match-next.newly_ready.items []
+    let taken = taken-in given given.request (state_after given Check u at) (look-moved given u at held (may d)) u c.match-next.self c.enqueue.new.self
     (look-table given u at held (may d)) (look-sound given u at held (may d)).standing (look-after given u at held (may d)) (look-after_entries given u at held (may d)) put c.in_ok-enqueue.ensures in
     let R : State → Type 0 = IsReached (rules_for given) given.request in
     record {
-      at_rest = record { reached = subst R (sym taken.state) (look-reached given u at held (may d)); table = taken.table; watched = taken.watched };
+      at_rest = record { reached = subst R (sym taken.state) (look-reached given u at held (may d)); table = taken.table; none_newly_ready = taken.none_newly_ready; watched = taken.watched };
       state = taken.state ∙ look-is given u at held (may d) ∙ ap (looked_once (rules_for given)) (sym (drawn-state given c.requires.0 c.args.self.now at c.requires.1));
     }

@@ -13,7 +13,7 @@ look-requires c = (
     at_rest = c.loop-at.invariant.at_rest;
     due = c.in-Some.ensures.removal;
     least = less-all c.in-Some.at c.pop_first.new.self.keys c.in-Some.ensures.all_above;
-    rest = (refl, refl, refl, refl);
+    rest = (refl, refl, refl, refl, refl);
   },
 )
 
@@ -23,7 +23,7 @@ loop-at-smaller c =
       at_rest = c.loop-at.invariant.at_rest;
       due = c.in-Some.ensures.removal;
       least = less-all c.in-Some.at c.pop_first.new.self.keys c.in-Some.ensures.all_above;
-      rest = (refl, refl, refl, refl);
+      rest = (refl, refl, refl, refl, refl);
     } in
     looked-less c.args.build.now c.loop-at.self _ c.look.new.self c.in-Some.at drawn c.in_ok-look.ensures.ok
 
@@ -33,14 +33,14 @@ loop-at-preserved c =
       at_rest = c.loop-at.invariant.at_rest;
       due = c.in-Some.ensures.removal;
       least = less-all c.in-Some.at c.pop_first.new.self.keys c.in-Some.ensures.all_above;
-      rest = (refl, refl, refl, refl);
+      rest = (refl, refl, refl, refl, refl);
     } in
     looked-more c.args.build.now c.args.self.now c.loop-at.self _ c.look.new.self c.in-Some.at c.loop-at.invariant
     drawn c.in_ok-look.ensures.ok
 
 pub returns-clause-ok : goal.returns-clause-ok
 returns-clause-ok c = record {
-  at_rest = rest-same c.args.build.now c.loop-at.self _ c.loop-at.invariant.at_rest refl refl refl refl (search rules);
+  at_rest = rest-same c.args.build.now c.loop-at.self _ c.loop-at.invariant.at_rest refl refl refl refl refl (search rules);
   looks = c.loop-at.invariant.looks;
   state = c.loop-at.invariant.state;
 }

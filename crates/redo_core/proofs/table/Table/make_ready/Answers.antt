@@ -84,5 +84,6 @@ returns c =
             ap (λ (b : Begun). all_asked b.job b.facts) c.deref_mut.ensures.value,
       );
       slots = set-twice t.slots.items c.args.at (gone d) _;
+      newly_ready_is = c.in_ok-push.ensures.items;
       rest = (refl, refl, refl, refl);
     }

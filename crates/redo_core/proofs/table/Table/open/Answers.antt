@@ -26,8 +26,8 @@ returns-clause-ok c =
     let given : GivenView = c.args.build.now in
     let of_build : c.request-request.result.now ≡ given.request = c.request-request.ensures ∙ ap (λ (g : GivenView). g.request) c.given-3.ensures in
     let E : List (List ℕ) → Type 0 = λ ps.
-    AreEnteredInto given (record { targets = c.in_ok-targets.targets; slots = c.in_ok-slots.slots; ready = c.new.result; due = c.new-2.result; out = 0 })
-    c.enter_requested.new.self c.enter_requested.new.newly_ready.items (targets_in (rules_for given) ps) in
-    first-is given (record { targets = c.in_ok-targets.targets; slots = c.in_ok-slots.slots; ready = c.new.result; due = c.new-2.result; out = 0 })
-    c.enter_requested.new.self c.enqueue.new.self c.enter_requested.new.newly_ready.items c.in_ok-targets.ensures c.in_ok-slots.ensures.items c.new.ensures.items
+    AreEnteredInto given (record { targets = c.in_ok-targets.targets; slots = c.in_ok-slots.slots; ready = c.new.result; due = c.new-2.result; out = 0; newly_ready = c.new-3.result })
+    c.enter_requested.new.self (targets_in (rules_for given) ps) in
+    first-is given (record { targets = c.in_ok-targets.targets; slots = c.in_ok-slots.slots; ready = c.new.result; due = c.new-2.result; out = 0; newly_ready = c.new-3.result })
+    c.enter_requested.new.self c.enqueue.new.self c.in_ok-targets.ensures c.in_ok-slots.ensures.items c.new.ensures.items
     (subst E of_build c.in_ok-enter_requested.ensures.ok) c.in_ok-enqueue.ensures

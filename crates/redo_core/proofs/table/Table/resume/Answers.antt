@@ -1,8 +1,6 @@
 use Rattle.std.proofs.Common.{ℕ, List, ◌≡◌, ◌<◌, refl, sym, ap, subst, ◌∙◌, slice_set, length, Some, length-set, arith, rules}
 use Rattle.std.specs.Box.{with_value}
 use Rattle.std.specs.Vec.{with_item}
-use Rattle.std.specs.declared.alloc.Global.{Global}
-use Rattle.std.specs.declared.vec.Vec.{Vec}
 use Rattle.redo_core.specs.Views.{WorkView}
 use Rattle.redo_core.specs.inside.Slots.{GainsOne, GoesOnWith, IsAnsweredAs, IsFallen, path_at}
 use Rattle.redo_core.specs.declared.table.InCheck.{InCheck}
@@ -105,10 +103,10 @@ returns c =
           let again = slice_get-item mid.slots.items c.args.at c.index_mut-2.result.now (within mid.slots.items slots) c.index_mut-2.ensures.value in
           due-again given t c.args.at slot awaiting answered.there answered.was (gone d) refl refl refl mid slots
           (ap (λ (x : Table). x.targets) w.self-is, ap (λ (x : Table). x.ready) w.self-is, ap (λ (x : Table). x.out) w.self-is)
-          c.index_mut-2.result.now again c.args.newly_ready.now.items c.if-stands.newly_ready.items stage (with_value awaiting.held held) w.stage-is
+          c.index_mut-2.result.now again stage (with_value awaiting.held held) w.stage-is
           (held-due given t c.args.at slot awaiting answered (left d) (gone d) c.replace-stage.ensures.after refl
           c.gain_one.new.facts gains c.goes_on.new.check c.in_ok-stands.stands goes held rule refl refl w.if-stands.true)
-          asked (ap (λ (x : Table). x.due.keys) w.self-is ∙ w.in_ok-insert.ensures.keys) (ap (λ (x : Vec ℕ Global). x.items) w.newly_ready-is)
+          asked (ap (λ (x : Table). x.due.keys) w.self-is ∙ w.in_ok-insert.ensures.keys) (ap (λ (x : Table). x.newly_ready.items) w.self-is)
       | else-stands+in_ok-target+in_ok-push+in_ok-fallen w ↦
           let slots : mid.slots.items ≡ slice_set t.slots.items c.args.at (gone d) = ap (λ (x : Table). x.slots.items) w.self-is in
           let again = slice_get-item mid.slots.items c.args.at c.index_mut-2.result.now (within mid.slots.items slots) c.index_mut-2.ensures.value in
@@ -119,9 +117,9 @@ returns c =
           let deps = ap (λ (x : WorkView). x.deps) is in
           ready-now given t c.args.at slot awaiting answered.there answered.was (gone d) refl refl refl mid slots
           (ap (λ (x : Table). x.targets) w.self-is, ap (λ (x : Table). x.ready) w.self-is, ap (λ (x : Table). x.out) w.self-is)
-          c.index_mut-2.result.now again c.args.newly_ready.now.items c.if-stands.newly_ready.items stage work w.stage-is
+          c.index_mut-2.result.now again stage work w.stage-is
           (held-ready given t c.args.at slot awaiting answered (left d) (gone d) c.replace-stage.ensures.after refl
           c.gain_one.new.facts gains c.goes_on.new.check c.in_ok-stands.stands goes held rule refl refl w.if-stands.false
           work (ap (λ (x : WorkView). x.given) is) (ap (λ (x : WorkView). x.target) is ∙ w.in_ok-target.ensures.cases ∙ path) (ap (λ (x : WorkView). x.turn) is) deps)
-          (deps ∙ asked) (ap (λ (x : Table). x.due.keys) w.self-is) (ap (λ (x : Vec ℕ Global). x.items) w.newly_ready-is ∙ w.in_ok-push.ensures.items)
+          (deps ∙ asked) (ap (λ (x : Table). x.due.keys) w.self-is) (ap (λ (x : Table). x.newly_ready.items) w.self-is ∙ w.in_ok-push.ensures.items)
     ]

@@ -15,7 +15,7 @@ pub next_lacking-requires : goal.next_lacking-requires
 next_lacking-requires c =
     let P : List ℕ → Type 0 = λ ns. (k : ℕ) → IsPlace ns k → k < length c.args.self.now.slots.items in
     record {
-      seen = subst P (sym c.deref.ensures.value) (parked_seen c.args.build.now c.args.self.now c.args.newly_ready.now.items c.requires.table c.requires.standing
+      seen = subst P (sym c.deref.ensures.value) (parked_seen c.args.build.now c.args.self.now c.requires.table c.requires.standing
           c.args.at c.index.result.now c.in-Waiting.parked (there c) c.in-Waiting.is);
     }
 
@@ -44,36 +44,35 @@ pub returns-in-Some-clause-table : goal.returns-in-Some-clause-table
 returns-in-Some-clause-table c =
     let d = (goal.at-returns-in-Some-clause-table c).After-deref in
     let e = (goal.at-returns-in-Some-clause-table c).In-Some in
-    on_ok_weaker c.watch.result (λ w. held-watch-table c.args.build.now c.args.self.now c.args.newly_ready.now.items c.requires.table c.requires.standing
+    on_ok_weaker c.watch.result (λ w. held-watch-table c.args.build.now c.args.self.now c.requires.table c.requires.standing
     c.args.at c.index.result.now c.in-Waiting.parked (there d) c.in-Waiting.is c.hold.new.self c.in-Some.held c.in-Some.place c.hold.ensures (found e) c.watch.new.self w) c.watch.ensures
 
 pub returns-in-Some-clause-looked : goal.returns-in-Some-clause-looked
 returns-in-Some-clause-looked c =
     let d = (goal.at-returns-in-Some-clause-looked c).After-deref in
     let e = (goal.at-returns-in-Some-clause-looked c).In-Some in
-    on_ok_weaker c.watch.result (λ w. held-watch-looked c.args.build.now c.args.self.now c.args.newly_ready.now.items c.requires.table c.requires.standing
+    on_ok_weaker c.watch.result (λ w. held-watch-looked c.args.build.now c.args.self.now c.requires.table c.requires.standing
     c.args.at c.index.result.now c.in-Waiting.parked (there d) c.in-Waiting.is c.hold.new.self c.in-Some.held c.in-Some.place c.hold.ensures (found e) c.watch.new.self w) c.watch.ensures
 
 pub make_ready-requires-clause-fed : goal.make_ready-requires-clause-fed
 make_ready-requires-clause-fed c =
     let d = (goal.at-make_ready-requires-clause-fed c).After-deref in
     let e = (goal.at-make_ready-requires-clause-fed c).In-None in
-    parked_fed c.args.build.now c.args.self.now c.args.newly_ready.now.items c.requires.table c.requires.standing
+    parked_fed c.args.build.now c.args.self.now c.requires.table c.requires.standing
     c.args.at c.index.result.now c.in-Waiting.parked (there d) c.in-Waiting.is (rest e)
 
-pub returns-in_ok-push-in-None-clause-table : goal.returns-in_ok-push-in-None-clause-table
-returns-in_ok-push-in-None-clause-table c =
-    let d = (goal.at-returns-in_ok-push-in-None-clause-table c).After-deref in
-    let e = (goal.at-returns-in_ok-push-in-None-clause-table c).In-None in
-    rw c.in_ok-push-in-None.ensures.items (
-    on_ok_weaker c.make_ready.result (λ f. newly_ready-table c.args.build.now c.args.self.now c.args.newly_ready.now.items c.requires.table c.requires.standing
-    c.args.at c.index.result.now c.in-Waiting.parked (there d) c.in-Waiting.is c.make_ready.new.self f (rest e)) c.make_ready.ensures)
+pub returns-in-None-clause-table : goal.returns-in-None-clause-table
+returns-in-None-clause-table c =
+    let d = (goal.at-returns-in-None-clause-table c).After-deref in
+    let e = (goal.at-returns-in-None-clause-table c).In-None in
+    on_ok_weaker c.make_ready.result (λ f. newly_ready-table c.args.build.now c.args.self.now c.requires.table c.requires.standing
+    c.args.at c.index.result.now c.in-Waiting.parked (there d) c.in-Waiting.is c.make_ready.new.self f (rest e)) c.make_ready.ensures
 
-pub returns-in_ok-push-in-None-clause-looked : goal.returns-in_ok-push-in-None-clause-looked
-returns-in_ok-push-in-None-clause-looked c =
-    let d = (goal.at-returns-in_ok-push-in-None-clause-looked c).After-deref in
-    let e = (goal.at-returns-in_ok-push-in-None-clause-looked c).In-None in
-    on_ok_weaker c.make_ready.result (λ f. newly_ready-looked c.args.build.now c.args.self.now c.args.newly_ready.now.items c.requires.table c.requires.standing
+pub returns-in-None-clause-looked : goal.returns-in-None-clause-looked
+returns-in-None-clause-looked c =
+    let d = (goal.at-returns-in-None-clause-looked c).After-deref in
+    let e = (goal.at-returns-in-None-clause-looked c).In-None in
+    on_ok_weaker c.make_ready.result (λ f. newly_ready-looked c.args.build.now c.args.self.now c.requires.table c.requires.standing
     c.args.at c.index.result.now c.in-Waiting.parked (there d) c.in-Waiting.is c.make_ready.new.self f (rest e)) c.make_ready.ensures
 
 -- A check
@@ -84,27 +83,27 @@ resume-requires-clause-answered c =
     let slot = c.index.result.now in
     let place = c.in-Checking.awaiting.at in
     let own = slice_get-item t.slots.items c.args.at slot c.requires.within c.index.ensures in
-    let within = awaiting-seen c.args.build.now t c.args.newly_ready.now.items c.requires.table c.requires.standing c.args.at slot c.in-Checking.awaiting own c.in-Checking.is in
+    let within = awaiting-seen c.args.build.now t c.requires.table c.requires.standing c.args.at slot c.in-Checking.awaiting own c.in-Checking.is in
     let other = slice_get-item t.slots.items place c.index-in-Checking.result.now within c.index-in-Checking.ensures in
-    awaiting-answered c.args.build.now t c.args.newly_ready.now.items c.requires.table c.requires.standing c.args.at slot c.in-Checking.awaiting own c.in-Checking.is
+    awaiting-answered c.args.build.now t c.requires.table c.requires.standing c.args.at slot c.in-Checking.awaiting own c.in-Checking.is
     (c.index-in-Checking.result.now, other, sym c.if-is_decided.ensures)
 
 pub returns-then-is_decided-clause-table : goal.returns-then-is_decided-clause-table
 returns-then-is_decided-clause-table c =
-    on_ok_weaker c.resume.result (λ f. resumed-table c.args.build.now c.args.self.now c.args.newly_ready.now.items c.requires.table c.requires.standing
-    c.args.at c.resume.new.self c.resume.new.newly_ready.items f) c.resume.ensures
+    on_ok_weaker c.resume.result (λ f. resumed-table c.args.build.now c.args.self.now c.requires.table c.requires.standing
+    c.args.at c.resume.new.self f) c.resume.ensures
 
 pub returns-then-is_decided-clause-looked : goal.returns-then-is_decided-clause-looked
 returns-then-is_decided-clause-looked c =
-    on_ok_weaker c.resume.result (λ f. resumed-looked c.args.build.now c.args.self.now c.args.newly_ready.now.items c.requires.table c.requires.standing
-    c.args.at c.resume.new.self c.resume.new.newly_ready.items f) c.resume.ensures
+    on_ok_weaker c.resume.result (λ f. resumed-looked c.args.build.now c.args.self.now c.requires.table c.requires.standing
+    c.args.at c.resume.new.self f) c.resume.ensures
 
 pub watch-requires-in-Checking : goal.watch-requires-in-Checking
 watch-requires-in-Checking c =
     let t = c.args.self.now in
     let slot = c.index.result.now in
     let own = slice_get-item t.slots.items c.args.at slot c.requires.within c.index.ensures in
-    awaiting-seen c.args.build.now t c.args.newly_ready.now.items c.requires.table c.requires.standing c.args.at slot c.in-Checking.awaiting own c.in-Checking.is
+    awaiting-seen c.args.build.now t c.requires.table c.requires.standing c.args.at slot c.in-Checking.awaiting own c.in-Checking.is
 
 pub returns-else-is_decided-clause-table : goal.returns-else-is_decided-clause-table
 returns-else-is_decided-clause-table c =
@@ -112,9 +111,9 @@ returns-else-is_decided-clause-table c =
     let slot = c.index.result.now in
     let place = c.in-Checking.awaiting.at in
     let own = slice_get-item t.slots.items c.args.at slot c.requires.within c.index.ensures in
-    let within = awaiting-seen c.args.build.now t c.args.newly_ready.now.items c.requires.table c.requires.standing c.args.at slot c.in-Checking.awaiting own c.in-Checking.is in
+    let within = awaiting-seen c.args.build.now t c.requires.table c.requires.standing c.args.at slot c.in-Checking.awaiting own c.in-Checking.is in
     let other = slice_get-item t.slots.items place c.index-in-Checking.result.now within c.index-in-Checking.ensures in
-    on_ok_weaker c.watch-in-Checking.result (λ w. watch-table c.args.build.now t c.args.newly_ready.now.items c.requires.table c.requires.standing
+    on_ok_weaker c.watch-in-Checking.result (λ w. watch-table c.args.build.now t c.requires.table c.requires.standing
     c.args.at slot own c.watch-in-Checking.new.self place w (undecided-open t place c.index-in-Checking.result.now w.other other w.there (sym c.if-is_decided.ensures)))
     c.watch-in-Checking.ensures
 
@@ -124,11 +123,11 @@ returns-else-is_decided-clause-looked c =
     let slot = c.index.result.now in
     let place = c.in-Checking.awaiting.at in
     let own = slice_get-item t.slots.items c.args.at slot c.requires.within c.index.ensures in
-    let within = awaiting-seen c.args.build.now t c.args.newly_ready.now.items c.requires.table c.requires.standing c.args.at slot c.in-Checking.awaiting own c.in-Checking.is in
+    let within = awaiting-seen c.args.build.now t c.requires.table c.requires.standing c.args.at slot c.in-Checking.awaiting own c.in-Checking.is in
     let other = slice_get-item t.slots.items place c.index-in-Checking.result.now within c.index-in-Checking.ensures in
-    on_ok_weaker c.watch-in-Checking.result (λ w. watch-looked c.args.build.now t c.args.newly_ready.now.items c.requires.table c.requires.standing
+    on_ok_weaker c.watch-in-Checking.result (λ w. watch-looked c.args.build.now t c.requires.table c.requires.standing
     c.args.at slot own c.watch-in-Checking.new.self place w (undecided-open t place c.index-in-Checking.result.now w.other other w.there (sym c.if-is_decided.ensures))
-    (awaiting-asked c.args.build.now t c.args.newly_ready.now.items c.requires.table c.requires.standing c.args.at slot c.in-Checking.awaiting own c.in-Checking.is))
+    (awaiting-asked c.args.build.now t c.requires.table c.requires.standing c.args.at slot c.in-Checking.awaiting own c.in-Checking.is))
     c.watch-in-Checking.ensures
 
 pub returns-in_default : goal.returns-in_default
@@ -137,6 +136,6 @@ returns-in_default c =
     let own = slice_get-item c.args.self.now.slots.items c.args.at slot c.requires.within c.index.ensures in
     record {
       table = c.requires.table;
-      looked = looked-skip c.args.build.now c.args.self.now c.args.newly_ready.now.items c.requires.table c.requires.standing
+      looked = looked-skip c.args.build.now c.args.self.now c.requires.table c.requires.standing
           c.args.at slot own (still-stage slot.stage c.in_default.not-Waiting c.in_default.not-Checking);
     }

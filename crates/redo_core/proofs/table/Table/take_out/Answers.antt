@@ -18,5 +18,5 @@ returns c =
       watchers = refl;
       slots = refl;
       out = refl;
-      rest = (refl, refl, refl);
+      rest = (refl, refl, refl, refl);
     }

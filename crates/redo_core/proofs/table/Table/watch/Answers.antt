@@ -12,5 +12,5 @@ returns c = record {
   stage = refl;
   listed = c.in_ok-push.ensures.items;
   slots = refl;
-  rest = (refl, refl, refl, refl);
+  rest = (refl, refl, refl, refl, refl);
 }
