@@ -1,7 +1,7 @@
 -- A job that is begun is a work.
-use Rattle.std.proofs.Common.{◌≡◌, ℕ, List, [], Option, Some, None, refl, sym, ap, subst, ◌∙◌, arith, Bor, Global}
+use Rattle.std.proofs.Common.{◌≡◌, ℕ, List, [], refl, sym, ap, subst, ◌∙◌, arith, Global}
 use Rattle.redo_record.specs.declared.outcome.Outcome.{Outcome}
-use Rattle.std.specs.Prelude.{Box, unwrap_or, option_copied, IfOk, Result, Ok, Err}
+use Rattle.std.specs.Prelude.{Box, unwrap_or, IfOk, Result, Ok, Err}
 use Rattle.redo_tree.specs.Tree.{Tree, file_at}
 use Rattle.redo_script.specs.Texts.{script_in}
 use Rattle.redo_step.specs.declared.parsed.Parsed.{Parsed}
@@ -59,10 +59,6 @@ begun-is given own limits target rule parsed (Ok job) same bounds found script i
       is_work = begun-work given target rule parsed found script fits';
     })
 begun-is given own limits target rule parsed (Err e) same bounds found script is fits = tt
-
-pub unwrap-copied : (o : Option (Bor (List ℕ))) (d : Bor (List ℕ)) → (unwrap_or o d).now ≡ unwrap_or (option_copied o) d.now
-unwrap-copied None d = refl
-unwrap-copied (Some b) d = refl
 
 -- What is advanced of a work is what the work shows
 

@@ -2,8 +2,8 @@
 use Rattle.std.proofs.Common.{◌≡◌, ℕ, zero, suc, ◌<◌, List, [], true, false, refl, subst, inl, inr, arith}
 use Rattle.std.specs.Prelude.{is_some}
 use Rattle.std.proofs.lemmas.Bool.{both_ways}
-use Rattle.redo_tree.specs.Tree.{file_at}
-use Rattle.redo_which.specs.Rule.{Found, Rule}
+use Rattle.redo_tree.specs.Tree.{Tree, file_at}
+use Rattle.redo_which.specs.Rule.{Arguments, Found, Rule, found_of}
 use Rattle.redo_record.specs.declared.deps.DepKind.TheVariants.{Change}
 use Rattle.redo_step.specs.JobView.{JobView, found_deps, record_so_far, progress_of}
 use Rattle.redo_record.proofs.Public.{entered_operand, operand_entered, search_enters, whole_cases, whole_second}
@@ -16,14 +16,20 @@ use Rattle.redo_rules.proofs.Public.{fit_found, lawful_for}
 use Rattle.redo_core.specs.inside.Works.{IsJobOf, job_deps}
 use Rattle.redo_build.proofs.DepthLemmas.{operand-target}
 
+-- the .do file that the search finds is a file
+pub found_file : (tree : Tree) (target do_file : List ℕ) (missing : List (List ℕ)) (arguments : Arguments) →
+    found_of tree target ≡ Rule do_file missing arguments → is_some (file_at tree do_file) ≡ true
+found_file tree target do_file missing arguments found =
+    let P : Found → Type 0 = IsFit tree in
+    let fit : IsFit tree (Rule do_file missing arguments) = subst P found (fit_found tree target) in fit
+
 module _ (given : GivenView) (job : JobView) (is_job : IsJobOf given job) where
   -- the record of the search waits for the .do file alone, which is a source
   pub found_sources : (q : List ℕ) → is_entered (found_deps job) Change q ≡ true → is_some (file_at given.past.sources q) ≡ true
   found_sources q h =
-      let P : Found → Type 0 = IsFit given.past.sources in
-      let fit : IsFit given.past.sources (Rule job.do_file job.missing job.arguments) = subst P is_job.found (fit_found given.past.sources job.target) in
       let S : List ℕ → Type 0 = λ p. is_some (file_at given.past.sources p) ≡ true in
-      subst S (search_enters job.missing job.do_file q h) fit
+      subst S (search_enters job.missing job.do_file q h)
+      (found_file given.past.sources job.target job.do_file job.missing job.arguments is_job.found)
 
   -- what the record so far waits for, the script declared
   recorded_own : (q : List ℕ) → IsAmong (operands (rules_for given) (record_so_far job)) q → IsAmong (operands (rules_for given) job.state.entries) q

@@ -1,9 +1,8 @@
 //! The reading of a target's script.
-ghost use Rattle.std.specs.Prelude.{◌≡◌, [], IfOk, unwrap_or};
+ghost use Rattle.std.specs.Prelude.{◌≡◌, IfOk};
 ghost use Rattle.std.specs.Arc.{arc_value};
 ghost use Rattle.redo_script.specs.Texts.{script_in};
 ghost use Rattle.redo_step.specs.Parsed.{parsed_of};
-ghost use Rattle.redo_tree.specs.Tree.{file_at};
 ghost use Rattle.redo_which.specs.Rule.{Rule as IsRule, found_of};
 ghost use Rattle.redo_which.specs.Views.{arguments_view};
 ghost use Rattle.redo_core.specs.inside.Scripts.{IsBegunJob};
@@ -94,7 +93,9 @@ pub(crate) fn begun(
     ensures { IfOk result (IsBegunJob (arc_value given.now) target) }
 {
     let tree = Arc::try_clone(given.sources())?;
-    let text = tree.file(&rule.do_file).unwrap_or(b"");
+    let Some(text) = tree.file(&rule.do_file) else {
+        unreachable!()
+    };
     let parsed = script(alloc, given, &rule, text)?;
     Job::begin(alloc, tree, target, rule, parsed, given.limits())
 }
