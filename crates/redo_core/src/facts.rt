@@ -55,7 +55,7 @@ impl Facts {
             let fact = known.read();
             let is_large = match fact.outcome() {
                 Outcome::Source => has_file_of(sources, fact.target(), least),
-                outcome => outcome.file().unwrap_or(b"").len() >= least,
+                outcome => outcome.file().is_some_and(|bytes| bytes.len() >= least),
             };
             if is_large {
                 return true;
@@ -105,10 +105,7 @@ impl Facts {
 
 /// Whether a tree has a file of at least `least` bytes at a path.
 pub(crate) fn has_file_of(tree: &Tree, path: &Path, least: usize) -> bool {
-    match tree.file(path) {
-        Some(bytes) => bytes.len() >= least,
-        None => false,
-    }
+    tree.file(path).is_some_and(|bytes| bytes.len() >= least)
 }
 
 /// What some facts tell of a path.
