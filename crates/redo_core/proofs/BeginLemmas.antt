@@ -63,7 +63,7 @@ pub unruled-outcome : (given : GivenView) (p : List ℕ) (o : Outcome) (deps : L
     ((rules_for given).progress p nothing_known).outcome ≡ Some o
 unruled-outcome given p o deps none is = ap (λ (x : Progress). x.outcome) (unruled-progress given p nothing_known none ∙ is)
 
--- What is begun has a rule
+-- Where the search finds a rule
 
 pub ruled : (given : GivenView) (p : List ℕ) (rule : FoundRule) → found_of given.past.sources p ≡ found_as rule → (rules_for given).has_rule p ≡ true
 ruled given p rule found = rw found refl

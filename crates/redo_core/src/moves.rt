@@ -1,4 +1,4 @@
-//! What the opening and a hand-in do to the table.
+//! What the opening, a hand-in and looks do to the table.
 ghost use Rattle.std.specs.Prelude.{◌≡◌, ◌<◌, ℕ, [], length, IfOk, OnOk, Err};
 ghost use Rattle.redo_rules.specs.Build.{rules_for};
 ghost use Rattle.redo_core.specs.inside.Slots.{IsPlace, AreNumbers, IsTableOf, IsStandingTable, AreEnteredInto};
