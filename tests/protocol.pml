@@ -1,5 +1,5 @@
 /* The owner of a board and its workers: how they share out jobs, sleep, are called, and come to their end. It follows
- * owner.rt, staff.rt, crew.rt and workers.rt of redo_run, crew.rt and counts.rt of redo_crew, and the event count of
+ * owner.rt, pool.rt, crew.rt and workers.rt of redo_run, crew.rt and counts.rt of redo_crew, and the event count of
  * crossbeam_utils step by step. tests/protocol lists the runs.
  *
  *   N        workers beside the owner, one fewer than `-j` says

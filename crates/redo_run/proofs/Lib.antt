@@ -5,9 +5,9 @@ pub mod ExitLemmas
 pub mod KeepingExamples
 pub mod LedgerLemmas
 pub mod OpenedLemmas
+pub mod PoolLemmas
 pub mod RefusalLemmas
 pub mod SoundLemmas
-pub mod StaffLemmas
 pub mod StaysOutLemmas
 pub mod StoringLemmas
 pub mod ToldLemmas

@@ -29,7 +29,7 @@ impl<J: Numbered + Drop> Promise<JobTaker<J>> for OwnTaker<J> {
 }
 
 /// A worker that was started.
-pub(crate) type Hand<J> = PromisedHandle<JobTaker<J>, OwnTaker<J>>;
+pub(crate) type WorkerHandle<J> = PromisedHandle<JobTaker<J>, OwnTaker<J>>;
 
 /// What the threads of a run share. It outlives them.
 #[derive(Drop)]
@@ -80,15 +80,15 @@ pub(crate) fn work<J: Advance<M, O>, M: Drop, R: Wait, O: Observer>(
 /// Waits for all workers to end, and returns their takers in `takers`, which has room for them.
 pub(crate) fn join_all<J: Numbered + Drop, R: Threads>(
     rt: &R,
-    hands: Vec<Hand<J>>,
+    handles: Vec<WorkerHandle<J>>,
     mut takers: Vec<JobTaker<J>>,
 ) -> Vec<JobTaker<J>>
     requires none { takers.items ≡ [] }
-    requires room { length hands.items ≤ vec_capacity takers }
-    ensures { map (λ t. t.relay) result.items ≡ map (λ h. h.promise.0.value.relay) hands.items }
+    requires room { length handles.items ≤ vec_capacity takers }
+    ensures { map (λ t. t.relay) result.items ≡ map (λ h. h.promise.0.value.relay) handles.items }
 {
-    'hands: for hand in hands {
-        takers.push_reserved(hand.join(rt));
+    'handles: for handle in handles {
+        takers.push_reserved(handle.join(rt));
     }
     takers
 }

@@ -11,9 +11,9 @@
 //! `redo_bundle` and `redo_dir` for trees and where they come from, and on `redo_which` for the search.
 //!
 //! - `one`: a build by one thread; `workers`: by many, or by one through a relay; `owner`: what the thread with the
-//!   board does; `crew`: what the workers do; `desk`: what the owner has before a run and after it; `staff`: the
-//!   workers, started and not; `pace`: which jobs are worth one; `of_build`: what they send each other; `observer`: who is told of each job; `picks`: a
-//!   build in a given order;
+//!   board has and does; `crew`: what the workers do; `pool`: the workers, started and not; `pace`: which jobs are worth
+//!   one; `of_build`: what they send each other; `ended`: what is left once they have ended; `observer`: who is told of
+//!   each job; `picks`: a build in a given order;
 //! - `run_fault`: why a build has no report; `exit`: whether every requested path is a source or built;
 //! - `laws`: laws of runs, as contracts of functions that do nothing;
 //! - `bundle`: the two calls over bundles; `options` and `fault`: what they take and refuse; `directory` and
@@ -24,9 +24,9 @@ mod bundle;
 mod candidates;
 mod cause;
 mod crew;
-mod desk;
 mod dir_fault;
 mod directory;
+mod ended;
 mod exit;
 mod fault;
 pub mod laws;
@@ -37,9 +37,9 @@ mod options;
 mod owner;
 mod pace;
 mod picks;
+mod pool;
 mod request;
 mod run_fault;
-mod staff;
 mod storing;
 mod workers;
 

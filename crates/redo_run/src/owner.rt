@@ -4,23 +4,42 @@ ghost use Rattle.std.specs.Prelude.{◌≡◌, ◌<◌, ◌≤◌, ◌+◌, Err,
 ghost use Rattle.redo_core.specs.Views.{IsQuietBoard, ready_count};
 ghost use Rattle.redo_rules.specs.Results.{IsGiven};
 ghost use Rattle.redo_sync.specs.Relay.{RelayId};
-ghost use Rattle.redo_run.specs.inside.Workers.{HasKeptUp, IsManned, IsSameDesk, NeedsMany};
+ghost use Rattle.redo_run.specs.inside.Workers.{HasKeptUp, IsManned, IsSameOwner, NeedsMany};
 
 use crate::crew::{Advance, claimed};
-use crate::desk::Desk;
 use crate::observer::Observer;
 use crate::of_build::{Build, JobOf, Message, PieceOf};
-use crate::staff::Staff;
-use redo_core::board::{HandFault, Stop};
+use crate::pace::Pace;
+use crate::pool::Pool;
+use redo_core::board::{Board, HandFault, Stop};
 use redo_core::laws::what_was_taken;
 use redo_crew::Offer;
 use redo_past::laws::a_tree_has_one_past;
+use redo_sync::{JobSource, JobTaker};
 use std::alloc::AllocError;
+use std::marker::Model;
 use std::sync::Wait;
 use std::thread::Threads;
 
+/// What the owner has: the board of a build, the end of its relay that gives jobs, and a taker of its own.
+#[derive(Drop)]
+pub(crate) struct Owner<B: Build> {
+    pub board: Board,
+    pub source: JobSource<JobOf<B>>,
+    pub taker: JobTaker<JobOf<B>>,
+    pub pace: Pace,
+}
+
+impl<B: Build> Model for Owner<B> {
+    ghost use Rattle.redo_run.specs.inside.Workers.{OwnerView};
+
+    ghost Value = { OwnerView };
+
+    ghost view = { λ o. record { board = o.board; source = o.source; own = o.taker.relay } };
+}
+
 /// The workers of a build.
-pub(crate) type StaffOf<'r, 's, E, B, R, O> = Staff<'r, 's, E, JobOf<B>, Message<B>, R, O>;
+pub(crate) type PoolOf<'r, 's, E, B, R, O> = Pool<'r, 's, E, JobOf<B>, Message<B>, R, O>;
 
 /// Doesn't return. No run comes here, though the types of what comes out of a queue don't say so.
 pub(crate) fn never<R: Wait>(rt: &R) -> ! {
@@ -34,7 +53,7 @@ fn may_offer(ready: usize, out: usize, most_out: usize) -> bool {
     out < most_out && (ready > 0 || out > 0)
 }
 
-impl<B: Build> Desk<B> {
+impl<B: Build> Owner<B> {
     /// Takes the target that became ready last, tells the observer, and gives its job to the relay. So what was just asked
     /// for is built before more is asked for, and few scripts are under way at a time. Returns whether it is to be offered
     /// to a worker.
@@ -46,7 +65,7 @@ impl<B: Build> Desk<B> {
         requires ready { 0 < ready_count self.old.board }
         requires of_build { IsGiven B.tree B.request B.limits self.old.board.given }
         requires running { IsNone self.old.board.stopped }
-        ensures same { IsSameDesk self.old self.new }
+        ensures same { IsSameOwner self.old self.new }
         ensures kept_up { OnOk result (HasKeptUp self.old self.new) }
     {
         what_was_taken();
@@ -67,7 +86,7 @@ impl<B: Build> Desk<B> {
     fn hand_in<R: Wait>(&mut self, rt: &R, piece: PieceOf<B>) -> Result<(), Stop>
         requires of_build { IsGiven B.tree B.request B.limits self.old.board.given }
         requires running { IsNone self.old.board.stopped }
-        ensures same { IsSameDesk self.old self.new }
+        ensures same { IsSameOwner self.old self.new }
         ensures kept_up { OnOk result (HasKeptUp self.old self.new) }
         ensures too_many { result ≡ Err Stop.TooMany → NeedsMany self.old }
     {
@@ -87,7 +106,7 @@ impl<B: Build> Desk<B> {
     fn advance_claimed<R: Wait, O: Observer>(&mut self, rt: &R, observer: &O) -> Result<(), Stop>
         requires of_build { IsGiven B.tree B.request B.limits self.old.board.given }
         requires running { IsNone self.old.board.stopped }
-        ensures same { IsSameDesk self.old self.new }
+        ensures same { IsSameOwner self.old self.new }
         ensures kept_up { OnOk result (HasKeptUp self.old self.new) }
         ensures too_many { result ≡ Err Stop.TooMany → NeedsMany self.old }
     {
@@ -100,7 +119,7 @@ impl<B: Build> Desk<B> {
     fn take_in<R: Wait>(&mut self, rt: &R, message: Message<B>) -> Result<(), Stop>
         requires of_build { IsGiven B.tree B.request B.limits self.old.board.given }
         requires running { IsNone self.old.board.stopped }
-        ensures same { IsSameDesk self.old self.new }
+        ensures same { IsSameOwner self.old self.new }
         ensures kept_up { OnOk result (HasKeptUp self.old self.new) }
         ensures too_many { result ≡ Err Stop.TooMany → NeedsMany self.old }
     {
@@ -111,99 +130,99 @@ impl<B: Build> Desk<B> {
 
 /// Builds the newest target a part further: gives its job, and offers it to workers or advances it.
 fn build_newest<'s, E, B: Build + Send + Sync + 's, R: Threads + Wait + Sync, O: Observer>(
-    desk: &mut Desk<B>,
-    staff: &mut StaffOf<'_, 's, E, B, R, O>,
+    owner: &mut Owner<B>,
+    pool: &mut PoolOf<'_, 's, E, B, R, O>,
 ) -> Result<(), Stop>
-    requires ready { 0 < ready_count desk.old.board }
-    requires of_build { IsGiven B.tree B.request B.limits desk.old.board.given }
-    requires running { IsNone desk.old.board.stopped }
-    ensures same { IsSameDesk desk.old desk.new }
-    ensures kept_up { OnOk result (HasKeptUp desk.old desk.new) }
-    ensures too_many { result ≡ Err Stop.TooMany → NeedsMany desk.old }
+    requires ready { 0 < ready_count owner.old.board }
+    requires of_build { IsGiven B.tree B.request B.limits owner.old.board.given }
+    requires running { IsNone owner.old.board.stopped }
+    ensures same { IsSameOwner owner.old owner.new }
+    ensures kept_up { OnOk result (HasKeptUp owner.old owner.new) }
+    ensures too_many { result ≡ Err Stop.TooMany → NeedsMany owner.old }
     ensures manned { OnOk result ((relay : RelayId) (count : ℕ) →
-        IsManned relay count staff.old.idle.items (map (λ h. h.promise.0.value.relay) staff.old.hands.items) →
-        IsManned relay count staff.new.idle.items (map (λ h. h.promise.0.value.relay) staff.new.hands.items)) }
-    ensures few { length staff.new.idle.items + length staff.new.hands.items ≤
-        length staff.old.idle.items + length staff.old.hands.items }
+        IsManned relay count pool.old.idle.items (map (λ h. h.promise.0.value.relay) pool.old.handles.items) →
+        IsManned relay count pool.new.idle.items (map (λ h. h.promise.0.value.relay) pool.new.handles.items)) }
+    ensures few { length pool.new.idle.items + length pool.new.handles.items ≤
+        length pool.old.idle.items + length pool.old.handles.items }
 {
-    let is_for_worker = desk.give_newest(staff.observer, staff.most_out)?;
+    let is_for_worker = owner.give_newest(pool.observer, pool.most_out)?;
     if is_for_worker {
-        match staff.crew.offer(staff.rt) {
+        match pool.crew.offer(pool.rt) {
             Offer::Called => return Ok(()),
-            Offer::Hire(looking) => return Ok(staff.start(looking)?),
+            Offer::Hire(looking) => return Ok(pool.start(looking)?),
             Offer::Spared => {
-                desk.pace.forget_trial();
+                owner.pace.forget_trial();
                 return Ok(());
             }
-            Offer::Full => desk.pace.forget_trial(),
+            Offer::Full => owner.pace.forget_trial(),
         }
     }
-    desk.advance_claimed(staff.rt, staff.observer)
+    owner.advance_claimed(pool.rt, pool.observer)
 }
 
 /// Takes one turn: hands in a piece that has come, builds a ready target further, advances a job that no worker has come
 /// to yet, or waits for a piece. Returns false where nothing is ready or out.
 fn turn<'s, E, B: Build + Send + Sync + 's, R: Threads + Wait + Sync, O: Observer>(
-    desk: &mut Desk<B>,
-    staff: &mut StaffOf<'_, 's, E, B, R, O>,
+    owner: &mut Owner<B>,
+    pool: &mut PoolOf<'_, 's, E, B, R, O>,
 ) -> Result<bool, Stop>
-    requires of_build { IsGiven B.tree B.request B.limits desk.old.board.given }
-    requires running { IsNone desk.old.board.stopped }
-    ensures same { IsSameDesk desk.old desk.new }
-    ensures kept_up { OnOk result (HasKeptUp desk.old desk.new) }
-    ensures ended { IfOk result (λ more. more ≡ false → IsQuietBoard desk.new.board) }
-    ensures too_many { result ≡ Err Stop.TooMany → NeedsMany desk.old }
+    requires of_build { IsGiven B.tree B.request B.limits owner.old.board.given }
+    requires running { IsNone owner.old.board.stopped }
+    ensures same { IsSameOwner owner.old owner.new }
+    ensures kept_up { OnOk result (HasKeptUp owner.old owner.new) }
+    ensures ended { IfOk result (λ more. more ≡ false → IsQuietBoard owner.new.board) }
+    ensures too_many { result ≡ Err Stop.TooMany → NeedsMany owner.old }
     ensures manned { OnOk result ((relay : RelayId) (count : ℕ) →
-        IsManned relay count staff.old.idle.items (map (λ h. h.promise.0.value.relay) staff.old.hands.items) →
-        IsManned relay count staff.new.idle.items (map (λ h. h.promise.0.value.relay) staff.new.hands.items)) }
-    ensures few { length staff.new.idle.items + length staff.new.hands.items ≤
-        length staff.old.idle.items + length staff.old.hands.items }
+        IsManned relay count pool.old.idle.items (map (λ h. h.promise.0.value.relay) pool.old.handles.items) →
+        IsManned relay count pool.new.idle.items (map (λ h. h.promise.0.value.relay) pool.new.handles.items)) }
+    ensures few { length pool.new.idle.items + length pool.new.handles.items ≤
+        length pool.old.idle.items + length pool.old.handles.items }
 {
-    if desk.board.out() > 0
-        && let Ok(message) = staff.pieces.try_recv(staff.rt)
+    if owner.board.out() > 0
+        && let Ok(message) = pool.pieces.try_recv(pool.rt)
     {
-        desk.take_in(staff.rt, message)?;
+        owner.take_in(pool.rt, message)?;
         return Ok(true);
     }
-    if desk.board.ready() > 0 {
-        build_newest(desk, staff)?;
+    if owner.board.ready() > 0 {
+        build_newest(owner, pool)?;
         return Ok(true);
     }
-    if staff.crew.claim(staff.rt) {
-        desk.pace.forget_trial();
-        desk.advance_claimed(staff.rt, staff.observer)?;
+    if pool.crew.claim(pool.rt) {
+        owner.pace.forget_trial();
+        owner.advance_claimed(pool.rt, pool.observer)?;
         return Ok(true);
     }
-    if desk.board.out() == 0 {
+    if owner.board.out() == 0 {
         return Ok(false);
     }
-    match staff.pieces.recv(staff.rt) {
-        Ok(message) => desk.take_in(staff.rt, message)?,
-        // The staff has a sender of its own, so the channel isn't closed.
-        Err(_) => never(staff.rt),
+    match pool.pieces.recv(pool.rt) {
+        Ok(message) => owner.take_in(pool.rt, message)?,
+        // The pool has a sender of its own, so the channel isn't closed.
+        Err(_) => never(pool.rt),
     }
     Ok(true)
 }
 
 /// Takes turns until nothing is ready or out.
 pub(crate) fn own<'s, E, B: Build + Send + Sync + 's, R: Threads + Wait + Sync, O: Observer>(
-    desk: &mut Desk<B>,
-    staff: &mut StaffOf<'_, 's, E, B, R, O>,
+    owner: &mut Owner<B>,
+    pool: &mut PoolOf<'_, 's, E, B, R, O>,
 ) -> Result<(), Stop>
-    requires of_build { IsGiven B.tree B.request B.limits desk.old.board.given }
-    requires running { IsNone desk.old.board.stopped }
-    ensures same { IsSameDesk desk.old desk.new }
-    ensures kept_up { OnOk result (HasKeptUp desk.old desk.new) }
-    ensures quiet { OnOk result (IsQuietBoard desk.new.board) }
-    ensures too_many { result ≡ Err Stop.TooMany → NeedsMany desk.old }
+    requires of_build { IsGiven B.tree B.request B.limits owner.old.board.given }
+    requires running { IsNone owner.old.board.stopped }
+    ensures same { IsSameOwner owner.old owner.new }
+    ensures kept_up { OnOk result (HasKeptUp owner.old owner.new) }
+    ensures quiet { OnOk result (IsQuietBoard owner.new.board) }
+    ensures too_many { result ≡ Err Stop.TooMany → NeedsMany owner.old }
     ensures manned { OnOk result ((relay : RelayId) (count : ℕ) →
-        IsManned relay count staff.old.idle.items (map (λ h. h.promise.0.value.relay) staff.old.hands.items) →
-        IsManned relay count staff.new.idle.items (map (λ h. h.promise.0.value.relay) staff.new.hands.items)) }
-    ensures few { length staff.new.idle.items + length staff.new.hands.items ≤
-        length staff.old.idle.items + length staff.old.hands.items }
+        IsManned relay count pool.old.idle.items (map (λ h. h.promise.0.value.relay) pool.old.handles.items) →
+        IsManned relay count pool.new.idle.items (map (λ h. h.promise.0.value.relay) pool.new.handles.items)) }
+    ensures few { length pool.new.idle.items + length pool.new.handles.items ≤
+        length pool.old.idle.items + length pool.old.handles.items }
 {
-    'turns: for _ in staff.rt.forever() {
-        if !turn(desk, staff)? {
+    'turns: for _ in pool.rt.forever() {
+        if !turn(owner, pool)? {
             return Ok(());
         }
     }

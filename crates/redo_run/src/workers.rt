@@ -13,17 +13,17 @@ ghost use Rattle.redo_core.specs.Views.{limit_on, request_on, rules_on};
 ghost use Rattle.redo_rules.specs.Results.{IsGiven, IsRefused, IsResultOn, NeedsTooMany};
 ghost use Rattle.redo_sync.specs.Relay.{SharesOut, taken_by};
 ghost use Rattle.redo_run.specs.Skipping.{IsSoundOn, IsUnsafeOn};
-ghost use Rattle.redo_run.specs.inside.Workers.{IsAnswerTo, IsStaffedBy, NeedsMany};
+ghost use Rattle.redo_run.specs.inside.Workers.{AreOtherTakers, IsAnswerTo, NeedsMany};
 
 use crate::crew::{Shared, join_all};
-use crate::desk::{Desk, EndedDesk, hand_out};
+use crate::ended::{EndedBuild, hand_out};
 use crate::laws::keeping_is_sound;
 use crate::observer::Observer;
 use crate::of_build::{Build, JobOf};
-use crate::owner::{never, own};
+use crate::owner::{Owner, never, own};
 use crate::pace::Pace;
+use crate::pool::{Pool, channel, most_out};
 use crate::run_fault::RunFault;
-use crate::staff::{Staff, channel, most_out};
 use redo_build::laws::counts_tell;
 use redo_core::board::{Board, Stop};
 use redo_core::laws::what_was_taken;
@@ -51,18 +51,18 @@ fn is_all_taken<B: Build>(ledger: &Ledger<JobOf<B>>) -> bool
 fn answer_of<B: Build, R: Threads + Wait + Sync>(
     rt: &R,
     alloc: Global,
-    desk: EndedDesk<B>,
+    ended: EndedBuild<B>,
     threads: usize,
 ) -> Result<(RunReport, Ledger<JobOf<B>>), Stop>
     ensures { IsAnswerTo B.tree B.request B.limits result }
 {
     what_was_taken();
     counts_tell();
-    let EndedDesk {
+    let EndedBuild {
         board,
         source,
         takers,
-    } = desk;
+    } = ended;
     if !board.quiet() {
         unreachable!()
     }
@@ -80,20 +80,20 @@ fn run_crew<'s, E, B: Build + Send + Sync + 's, R: Threads + Wait + Sync, O: Obs
     scope: &Scope<'s, E>,
     shared: Shared<'s, R, O>,
     alloc: Global,
-    mut desk: Desk<B>,
+    mut owner: Owner<B>,
     takers: Vec<JobTaker<JobOf<B>>>,
-) -> Result<EndedDesk<B>, Stop>
-    requires of_build { IsGiven B.tree B.request B.limits desk.board.given }
-    requires running { IsNone desk.board.stopped }
-    requires staffed { IsStaffedBy desk takers.items }
-    requires taken { HasTaken desk.board desk.source.given }
-    ensures too_many { result ≡ Err Stop.TooMany → NeedsMany desk }
+) -> Result<EndedBuild<B>, Stop>
+    requires of_build { IsGiven B.tree B.request B.limits owner.board.given }
+    requires running { IsNone owner.board.stopped }
+    requires complete { AreOtherTakers owner takers.items }
+    requires taken { HasTaken owner.board owner.source.given }
+    ensures too_many { result ≡ Err Stop.TooMany → NeedsMany owner }
 {
     let back = Vec::with_capacity(alloc, takers.len())?;
     let Shared { rt, observer, crew } = shared;
     let (sender, pieces) = channel(alloc)?;
     let most_out = most_out(takers.len());
-    let mut staff = Staff {
+    let mut pool = Pool {
         scope,
         rt,
         observer,
@@ -101,12 +101,12 @@ fn run_crew<'s, E, B: Build + Send + Sync + 's, R: Threads + Wait + Sync, O: Obs
         sender,
         pieces,
         idle: takers,
-        hands: Vec::new(alloc),
+        handles: Vec::new(alloc),
         most_out,
     };
-    let ended = own(&mut desk, &mut staff);
+    let ended = own(&mut owner, &mut pool);
     crew.end(rt);
-    let Staff {
+    let Pool {
         scope: _,
         rt: _,
         observer: _,
@@ -114,20 +114,20 @@ fn run_crew<'s, E, B: Build + Send + Sync + 's, R: Threads + Wait + Sync, O: Obs
         sender: _,
         pieces: _,
         mut idle,
-        hands,
+        handles,
         most_out: _,
-    } = staff;
-    let mut takers = join_all(rt, hands, back);
+    } = pool;
+    let mut takers = join_all(rt, handles, back);
     ended?;
     takers.append(&mut idle)?;
-    let Desk {
+    let Owner {
         board,
         source,
         taker,
         pace: _,
-    } = desk;
+    } = owner;
     takers.push(taker)?;
-    Ok(EndedDesk {
+    Ok(EndedBuild {
         board,
         source,
         takers,
@@ -139,33 +139,33 @@ fn run_crew<'s, E, B: Build + Send + Sync + 's, R: Threads + Wait + Sync, O: Obs
 fn run_in_scope<B: Build + Send + Sync, R: Threads + Wait + Sync, O: Observer>(
     shared: Shared<'_, R, O>,
     alloc: Global,
-    desk: Desk<B>,
+    owner: Owner<B>,
     takers: Vec<JobTaker<JobOf<B>>>,
-) -> Result<EndedDesk<B>, Stop>
-    requires of_build { IsGiven B.tree B.request B.limits desk.board.given }
-    requires running { IsNone desk.board.stopped }
-    requires staffed { IsStaffedBy desk takers.items }
-    requires taken { HasTaken desk.board desk.source.given }
-    ensures too_many { result ≡ Err Stop.TooMany → NeedsMany desk }
+) -> Result<EndedBuild<B>, Stop>
+    requires of_build { IsGiven B.tree B.request B.limits owner.board.given }
+    requires running { IsNone owner.board.stopped }
+    requires complete { AreOtherTakers owner takers.items }
+    requires taken { HasTaken owner.board owner.source.given }
+    ensures too_many { result ≡ Err Stop.TooMany → NeedsMany owner }
 {
     let Shared { rt, observer, crew } = shared;
-    let (out, ended) = crossbeam_channel::bounded(alloc, 1)?;
+    let (out, left) = crossbeam_channel::bounded(alloc, 1)?;
     thread::scope(
         thread::scope_env(),
         rt,
         move |scope| -> Result<(), Stop>
-            requires { IsGiven B.tree B.request B.limits desk.board.given × IsNone desk.board.stopped ×
-                IsStaffedBy desk takers.items × HasTaken desk.board desk.source.given }
-            ensures { result ≡ Err Stop.TooMany → NeedsMany desk }
+            requires { IsGiven B.tree B.request B.limits owner.board.given × IsNone owner.board.stopped ×
+                AreOtherTakers owner takers.items × HasTaken owner.board owner.source.given }
+            ensures { result ≡ Err Stop.TooMany → NeedsMany owner }
         {
             let shared = Shared { rt, observer, crew };
-            let desk = run_crew(scope, shared, alloc, desk, takers)?;
-            hand_out(rt, &out, desk);
+            let ended = run_crew(scope, shared, alloc, owner, takers)?;
+            hand_out(rt, &out, ended);
             Ok(())
         },
     )?;
-    match ended.recv(rt) {
-        Ok(desk) => Ok(desk),
+    match left.recv(rt) {
+        Ok(ended) => Ok(ended),
         // The scope has sent it, or has failed and was left above.
         Err(_) => never(rt),
     }
@@ -190,7 +190,7 @@ fn run_build<B: Build + Send + Sync, R: Threads + Wait + Sync, O: Observer>(
     let Some(taker) = takers.pop() else {
         unreachable!()
     };
-    let desk = Desk::<B> {
+    let owner = Owner::<B> {
         board,
         source,
         taker,
@@ -202,7 +202,7 @@ fn run_build<B: Build + Send + Sync, R: Threads + Wait + Sync, O: Observer>(
         observer,
         crew: &crew,
     };
-    let ended = run_in_scope(shared, alloc, desk, takers)?;
+    let ended = run_in_scope(shared, alloc, owner, takers)?;
     answer_of(rt, alloc, ended, workers)
 }
 

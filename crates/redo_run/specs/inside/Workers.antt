@@ -19,23 +19,23 @@ abbrev pub IsSameSource : Source → Source → Type 0
 IsSameSource old new = (new.relay ≡ old.relay) × (new.takers ≡ old.takers)
 
 -- what an owner has: its board, the source of its relay, and the relay of its own taker
-pub record DeskView : Type 0 where
+pub record OwnerView : Type 0 where
   pub board : BoardView
   pub source : Source
   pub own : RelayId
 
 -- the owner has the board of the same build, and ends of the same relays
-abbrev pub IsSameDesk : DeskView → DeskView → Type 0
-IsSameDesk old new = IsSameBuild old.board new.board × IsSameSource old.source new.source × (new.own ≡ old.own)
+abbrev pub IsSameOwner : OwnerView → OwnerView → Type 0
+IsSameOwner old new = IsSameBuild old.board new.board × IsSameSource old.source new.source × (new.own ≡ old.own)
 
 -- the board runs, and where it had taken what was given, it has now
-abbrev pub HasKeptUp : DeskView → DeskView → Type 0
+abbrev pub HasKeptUp : OwnerView → OwnerView → Type 0
 HasKeptUp old new =
     IsNone new.board.stopped × (HasTaken old.board old.source.given → HasTaken new.board new.source.given)
 
 -- the board has stopped at too many targets, and the build needs as many
-abbrev pub NeedsMany : DeskView → Type 0
-NeedsMany desk = IsTooMany (rules_on desk.board) (request_on desk.board) (limit_on desk.board)
+abbrev pub NeedsMany : OwnerView → Type 0
+NeedsMany owner = IsTooMany (rules_on owner.board) (request_on owner.board) (limit_on owner.board)
 
 -- so many workers have takers of the relay: those that aren't started, and those that are and promise to hand theirs back
 pub record IsManned (relay : RelayId) (workers : ℕ) (idle : List Taker) (promised : List RelayId) : Type 0 where
@@ -44,13 +44,13 @@ pub record IsManned (relay : RelayId) (workers : ℕ) (idle : List Taker) (promi
   pub promised_own : All (λ r. r ≡ relay) promised
 
 -- these are all takers of the source
-abbrev pub IsStaffed : Source → List Taker → Type 0
-IsStaffed source takers = (length takers ≡ source.takers) × All (λ t. t.relay ≡ source.relay) takers
+abbrev pub AreAllTakers : Source → List Taker → Type 0
+AreAllTakers source takers = (length takers ≡ source.takers) × All (λ t. t.relay ≡ source.relay) takers
 
 -- the owner's taker and these are all takers of its source
-abbrev pub IsStaffedBy : DeskView → List Taker → Type 0
-IsStaffedBy desk takers =
-    (length takers < most_workers) × (length takers + 1 ≡ desk.source.takers) × (desk.own ≡ desk.source.relay) × All (λ t. t.relay ≡ desk.source.relay) takers
+abbrev pub AreOtherTakers : OwnerView → List Taker → Type 0
+AreOtherTakers owner takers =
+    (length takers < most_workers) × (length takers + 1 ≡ owner.source.takers) × (owner.own ≡ owner.source.relay) × All (λ t. t.relay ≡ owner.source.relay) takers
 
 -- what the board had taken is what it has taken now
 abbrev pub HasTakenOn : BoardView → BoardView → Type 0
@@ -62,7 +62,7 @@ pub record IsEnded (tree : Tree) (request : List (List ℕ)) (limits : LimitsVie
     (takers : List Taker) : Type 0 where
   pub of_build : IsGiven tree request limits board.given
   pub quiet : IsQuietBoard board
-  pub staffed : IsStaffed source takers
+  pub complete : AreAllTakers source takers
   pub taken : HasTaken board source.given
 
 -- a report is that of the build with the new book, its ledger shows each job taken once and those of its begun scripts,

@@ -2,7 +2,7 @@ use Rattle.std.proofs.Common.{◌≡◌, ◌≤◌, map, length, vec_capacity}
 use Rattle.redo_run.proofs.crew.join_all.Given as goal
 
 -- each worker that was joined gave its taker back, and there is room for the others
-abbrev pub invariant-hands : goal.invariant-hands
-invariant-hands g l =
+abbrev pub invariant-handles : goal.invariant-handles
+invariant-handles g l =
     (map (λ t. t.relay) l.takers.items ≡ map (λ h. h.promise.0.value.relay) l.yielded) × (length l.takers.items ≡ length l.yielded)
-    × (length l.fn.hands.items ≤ vec_capacity l.takers)
+    × (length l.fn.handles.items ≤ vec_capacity l.takers)

@@ -6,7 +6,7 @@ use Rattle.std.proofs.lemmas.Result.{on_ok_weaker}
 use Rattle.redo_build.specs.Outcomes.{IsTooMany}
 use Rattle.redo_rules.specs.Build.{GivenView, rules_for}
 use Rattle.redo_rules.specs.Results.{IsGiven}
-use Rattle.redo_run.specs.inside.Workers.{DeskView, HasKeptUp, NeedsMany}
+use Rattle.redo_run.specs.inside.Workers.{OwnerView, HasKeptUp, NeedsMany}
 use Rattle.redo_run.proofs.CrossingLemmas.{job_of_send, message_send}
 use Rattle.redo_run.proofs.owner.build_newest.Lts.{arg-4-1, arg-4-2}
 use Rattle.redo_run.proofs.owner.build_newest.Goals as goal
@@ -31,10 +31,10 @@ Many given = IsTooMany (rules_for given) given.request given.limits.targets
 -- the board is still of that build
 pub advance_claimed-requires-clause-of_build : goal.advance_claimed-requires-clause-of_build
 advance_claimed-requires-clause-of_build g c κs within =
-    let of : DeskView → Type 0 = λ d. IsGiven g.B.Build.tree g.B.Build.request g.B.Build.limits d.board.given in
-    let same : c.if-is_for_worker.desk ≡ c.give_newest.new.self = elim c.if-is_for_worker.branch [
-      | then-is_for_worker+in-Full w ↦ w.desk-is ∙ c.desk.view_is
-      | else-is_for_worker w ↦ w.desk-is
+    let of : OwnerView → Type 0 = λ d. IsGiven g.B.Build.tree g.B.Build.request g.B.Build.limits d.board.given in
+    let same : c.if-is_for_worker.owner ≡ c.give_newest.new.self = elim c.if-is_for_worker.branch [
+      | then-is_for_worker+in-Full w ↦ w.owner-is ∙ c.owner.view_is
+      | else-is_for_worker w ↦ w.owner-is
     ] in
     subst of (sym same)
     (subst (IsGiven g.B.Build.tree g.B.Build.request g.B.Build.limits) (sym c.give_newest.ensures.same.0) c.requires.of_build)
@@ -42,18 +42,18 @@ advance_claimed-requires-clause-of_build g c κs within =
 -- the owner's own job is handed in behind the one that was given
 pub returns-clause-kept_up : goal.returns-clause-kept_up
 returns-clause-kept_up g c =
-    let same : c.if-is_for_worker.desk ≡ c.give_newest.new.self = elim c.if-is_for_worker.branch [
-      | then-is_for_worker+in-Full w ↦ w.desk-is ∙ c.desk.view_is
-      | else-is_for_worker w ↦ w.desk-is
+    let same : c.if-is_for_worker.owner ≡ c.give_newest.new.self = elim c.if-is_for_worker.branch [
+      | then-is_for_worker+in-Full w ↦ w.owner-is ∙ c.owner.view_is
+      | else-is_for_worker w ↦ w.owner-is
     ] in
-    let first : HasKeptUp c.args.desk.now c.if-is_for_worker.desk =
-    subst (HasKeptUp c.args.desk.now) (sym same) c.in_ok-is_for_worker.ensures.kept_up in
+    let first : HasKeptUp c.args.owner.now c.if-is_for_worker.owner =
+    subst (HasKeptUp c.args.owner.now) (sym same) c.in_ok-is_for_worker.ensures.kept_up in
     on_ok_weaker c.advance_claimed.result (λ kept. (kept.0, λ had. kept.1 (first.1 had))) c.advance_claimed.ensures.kept_up
 
 pub returns-clause-too_many : goal.returns-clause-too_many
 returns-clause-too_many g c = λ is.
-    let same : c.if-is_for_worker.desk ≡ c.give_newest.new.self = elim c.if-is_for_worker.branch [
-      | then-is_for_worker+in-Full w ↦ w.desk-is ∙ c.desk.view_is
-      | else-is_for_worker w ↦ w.desk-is
+    let same : c.if-is_for_worker.owner ≡ c.give_newest.new.self = elim c.if-is_for_worker.branch [
+      | then-is_for_worker+in-Full w ↦ w.owner-is ∙ c.owner.view_is
+      | else-is_for_worker w ↦ w.owner-is
     ] in
     subst Many c.give_newest.ensures.same.0 (subst NeedsMany same (c.advance_claimed.ensures.too_many is))

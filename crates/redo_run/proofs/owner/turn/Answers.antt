@@ -1,15 +1,15 @@
 use Rattle.std.proofs.Common.{rules, ◌≡◌, Err, subst}
 use Rattle.redo_core.specs.declared.board.Stop.TheVariants.{TooMany}
-use Rattle.redo_run.specs.inside.Workers.{DeskView, HasKeptUp, NeedsMany}
+use Rattle.redo_run.specs.inside.Workers.{OwnerView, HasKeptUp, NeedsMany}
 use Rattle.redo_run.proofs.owner.turn.Goals as goal
 
 -- a job that no worker has come to is advanced
 pub returns-then-claim-clause-kept_up : goal.returns-then-claim-clause-kept_up
 returns-then-claim-clause-kept_up g c =
-    let P : DeskView → Type 0 = λ d. HasKeptUp d c.advance_claimed.new.self in
-    subst P c.desk-2.view_is c.in_ok-advance_claimed.ensures.kept_up
+    let P : OwnerView → Type 0 = λ d. HasKeptUp d c.advance_claimed.new.self in
+    subst P c.owner-2.view_is c.in_ok-advance_claimed.ensures.kept_up
 
 pub returns-in_err-advance_claimed-clause-too_many : goal.returns-in_err-advance_claimed-clause-too_many
 returns-in_err-advance_claimed-clause-too_many g c = λ is.
     let err : c.advance_claimed.result ≡ Err TooMany = search rules in
-    subst NeedsMany c.desk-2.view_is (c.advance_claimed.ensures.too_many err)
+    subst NeedsMany c.owner-2.view_is (c.advance_claimed.ensures.too_many err)

@@ -15,8 +15,8 @@ returns-in_err-ledger g c = without_memory _ _ _ _ (search rules)
 -- what the takers took is what the board had taken
 pub returns : goal.returns
 returns g c =
-    let b = c.desk.inside.board in let given = c.desk.inside.source.given in let result = c.in_ok-report.report in
-    let ended = c.desk.invariant in
+    let b = c.ended.inside.board in let given = c.ended.inside.source.given in let result = c.in_ok-report.report in
+    let ended = c.ended.invariant in
     let ledger = c.in_ok-ledger.ledger in
     let none : (ledger.left ≡ []) × SharesOut ledger.given ledger.taken [] = search rules in
     let Q : List Pair → Type 0 = λ l. SharesOut l ledger.taken [] in

@@ -6,7 +6,7 @@ use Rattle.std.proofs.Math.Seq.{get_or-append_seam}
 use Rattle.std.proofs.lemmas.List.{length-append, length-map}
 use Rattle.std.proofs.lemmas.List.Elements.{All-append, All-cons, All-nil}
 use Rattle.redo_sync.specs.Relay.{RelayId, Source, Taker}
-use Rattle.redo_run.specs.inside.Workers.{IsManned, IsStaffed}
+use Rattle.redo_run.specs.inside.Workers.{IsManned, AreAllTakers}
 
 abbrev relay_of : Taker → RelayId
 relay_of t = t.relay
@@ -47,7 +47,7 @@ module _ (relay : RelayId) (count : ℕ) where
   -- those that came back, those that weren't started and the owner's are all takers of the source
   pub all_back : (back idle : List Taker) (own : Taker) (promised : List RelayId) (source : Source) → map relay_of back ≡ promised →
       IsManned relay count idle promised → own.relay ≡ relay → source.relay ≡ relay → count + 1 ≡ source.takers →
-      IsStaffed source ((back ++ idle) ++ own ∷ [])
+      AreAllTakers source ((back ++ idle) ++ own ∷ [])
   all_back back idle own promised source same m e of many =
       let all = m.count in let a = length-append back idle in let b = length-append (back ++ idle) (own ∷ []) in
       let c : length back ≡ length promised = sym (length-map back relay_of) ∙ ap length same in

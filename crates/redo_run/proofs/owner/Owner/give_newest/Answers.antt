@@ -6,17 +6,17 @@ use Rattle.redo_core.specs.Taken.{HasTaken}
 use Rattle.redo_core.specs.Views.{BoardView, WorkView, after, ready_count}
 use Rattle.redo_rules.specs.Results.{IsGiven}
 use Rattle.redo_sync.specs.Relay.{Pair, Source}
-use Rattle.redo_run.specs.declared.desk.Desk.TheInside.{Inside}
-use Rattle.redo_run.specs.inside.Workers.{DeskView, HasKeptUp}
+use Rattle.redo_run.specs.declared.owner.Owner.TheInside.{Inside}
+use Rattle.redo_run.specs.inside.Workers.{OwnerView, HasKeptUp}
 use Rattle.redo_run.proofs.OpenedLemmas.{one_given}
-use Rattle.redo_run.proofs.desk.Desk.give_newest.Goals as goal
-use Rattle.redo_run.proofs.desk.Desk.give_newest.Goals.{then-may_offer, else-may_offer}
-use Rattle.redo_run.proofs.desk.Desk.give_newest.Goals.{in-Ok, in-Err+in-Unread-1, in-Err+in-Begun-1}
+use Rattle.redo_run.proofs.owner.Owner.give_newest.Goals as goal
+use Rattle.redo_run.proofs.owner.Owner.give_newest.Goals.{then-may_offer, else-may_offer}
+use Rattle.redo_run.proofs.owner.Owner.give_newest.Goals.{in-Ok, in-Err+in-Unread-1, in-Err+in-Begun-1}
 
 -- the work is of the build that the type names
 pub new-requires : goal.new-requires
 new-requires g c = λ other is.
-    let Of : DeskView → Type 0 = λ d. IsGiven g.B.Build.tree g.B.Build.request g.B.Build.limits d.board.given in
+    let Of : OwnerView → Type 0 = λ d. IsGiven g.B.Build.tree g.B.Build.request g.B.Build.limits d.board.given in
     let mine : IsGiven g.B.Build.tree g.B.Build.request g.B.Build.limits c.self.inside.board.given =
     subst Of (sym c.self.view_is) c.requires.of_build in
     c.in_ok-work.ensures.work.given ∙ one_given c.a_tree_has_one_past.ensures _ _ _ _ other mine is
@@ -25,8 +25,8 @@ new-requires g c = λ other is.
 pub returns-clause-kept_up : goal.returns-clause-kept_up
 returns-clause-kept_up g c =
     let b = c.self.inside.board in let given = c.self.inside.source.given in let work = c.in_ok-work.work in
-    let old : DeskView = record { board = b; source = c.self.inside.source; own = c.self.inside.taker.relay } in
-    let new : DeskView =
+    let old : OwnerView = record { board = b; source = c.self.inside.source; own = c.self.inside.taker.relay } in
+    let new : OwnerView =
     record {
       board = c.if-may_offer.self-inside.board;
       source = c.give.new.self;
@@ -41,14 +41,14 @@ returns-clause-kept_up g c =
       | else-may_offer w ↦ ap (λ (i : Inside g.row.B.Denot g.B.Build). i.source) w.self-inside-is
     ] in
     let next : c.if-may_offer.self-inside.board ≡ after b (Take (c.ready.result - 1)) = boards ∙ c.in_ok-work.ensures.ok in
-    let Runs : DeskView → Type 0 = λ d. IsNone d.board.stopped in
+    let Runs : OwnerView → Type 0 = λ d. IsNone d.board.stopped in
     let runs : IsNone b.stopped = subst Runs (sym c.self.view_is) c.requires.running in
-    let Ready : DeskView → Type 0 = λ d. 0 < ready_count d.board in
+    let Ready : OwnerView → Type 0 = λ d. 0 < ready_count d.board in
     let ready : 0 < ready_count b = subst Ready (sym c.self.view_is) c.requires.ready in
     let there : c.ready.result - 1 < ready_count b = omega (arith, c.ready.ensures, ready) in
     let pairs : WorkView → List Pair = λ w. given ++ (w.target, w.turn) ∷ [] in
     let behind : Source → List Pair = λ s. s.given ++ (c.new.result.work.target, c.new.result.work.turn) ∷ [] in
-    let P : DeskView → Type 0 = λ d. OnOk c.match-give.result (HasKeptUp d new) in
+    let P : OwnerView → Type 0 = λ d. OnOk c.match-give.result (HasKeptUp d new) in
     let Q : Result Bool AllocError → Type 0 = λ r. OnOk r (HasKeptUp old new) in
     let S : BoardView → Type 0 = λ v. IsNone v.stopped in
     let V : BoardView → Type 0 = λ v. HasTaken v (pairs work) in

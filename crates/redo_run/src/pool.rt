@@ -5,7 +5,7 @@ ghost use Rattle.redo_crew.specs.Word.{most_workers, out_for_each, places};
 ghost use Rattle.redo_sync.specs.Relay.{RelayId};
 ghost use Rattle.redo_run.specs.inside.Workers.{IsManned};
 
-use crate::crew::{Advance, Hand, OwnTaker, Shared, work};
+use crate::crew::{Advance, OwnTaker, Shared, WorkerHandle, work};
 use crate::observer::Observer;
 use crossbeam_channel::{Receiver, Sender};
 use redo_crew::{Crew, Looking, OUT_FOR_EACH, PLACES};
@@ -18,7 +18,7 @@ use std::thread::{Scope, Threads};
 /// The workers of a build. One is started when a job is offered for which too few look. So a build of a few short scripts
 /// starts none; one of many starts those to whom a few are offered to try how long such scripts take.
 #[derive(Drop)]
-pub(crate) struct Staff<'r, 's, E, J: Numbered + Drop, M: Drop, R, O> {
+pub(crate) struct Pool<'r, 's, E, J: Numbered + Drop, M: Drop, R, O> {
     pub scope: &'r Scope<'s, E>,
     pub rt: &'s R,
     pub observer: &'s O,
@@ -29,7 +29,7 @@ pub(crate) struct Staff<'r, 's, E, J: Numbered + Drop, M: Drop, R, O> {
     /// The takers of those that aren't started.
     pub idle: Vec<JobTaker<J>>,
     /// Those that are.
-    pub hands: Vec<Hand<J>>,
+    pub handles: Vec<WorkerHandle<J>>,
     /// How many jobs may be out with them at a time. The others wait on the board, where the newest goes first.
     pub most_out: usize,
 }
@@ -56,14 +56,14 @@ impl<
     M: Send + Drop + 's,
     R: Threads + Wait + Sync,
     O: Observer,
-> Staff<'r, 's, E, J, M, R, O> {
+> Pool<'r, 's, E, J, M, R, O> {
     /// Starts one more worker, which looks for a job. Fails if there is no memory, or no thread can be started.
     pub fn start(&mut self, looking: Looking) -> Result<(), AllocError>
         ensures manned { OnOk result ((relay : RelayId) (count : ℕ) →
-            IsManned relay count self.old.idle.items (map (λ h. h.promise.0.value.relay) self.old.hands.items) →
-            IsManned relay count self.new.idle.items (map (λ h. h.promise.0.value.relay) self.new.hands.items)) }
-        ensures few { length self.new.idle.items + length self.new.hands.items ≤
-            length self.old.idle.items + length self.old.hands.items }
+            IsManned relay count self.old.idle.items (map (λ h. h.promise.0.value.relay) self.old.handles.items) →
+            IsManned relay count self.new.idle.items (map (λ h. h.promise.0.value.relay) self.new.handles.items)) }
+        ensures few { length self.new.idle.items + length self.new.handles.items ≤
+            length self.old.idle.items + length self.old.handles.items }
     {
         // A worker is hired only while one isn't started.
         let Some(taker) = self.idle.pop() else {
@@ -75,12 +75,12 @@ impl<
             observer: self.observer,
             crew: self.crew,
         };
-        self.hands.reserve(1)?;
+        self.handles.reserve(1)?;
         let promise = OwnTaker(Snapshot::of(&taker));
-        let hand = self
+        let handle = self
             .scope
             .spawn_with(promise, move || work(shared, looking, taker, pieces))?;
-        self.hands.push_reserved(hand);
+        self.handles.push_reserved(handle);
         Ok(())
     }
 }
