@@ -7,7 +7,7 @@ ghost use Rattle.std.specs.Io.KnownBytes.{Consumes, IsAtEnd, prepend_known};
 ghost use Rattle.std.specs.List.{position_or_len};
 ghost use Rattle.std.specs.Option.{option_or};
 ghost use Rattle.redo_path.specs.Names.{IsBelowRoot};
-ghost use Rattle.redo_tree.specs.Tree.{Directory, added};
+ghost use Rattle.redo_tree.specs.Tree.{Directory, added, top};
 ghost use Rattle.redo_bundle.specs.Bundle.{HasSmallFiles, Reads, ReadsEach, ShowsHeader, is_newline, is_space, size_of, header_of};
 ghost use Rattle.redo_bundle.specs.Bundle.{path_fault, tree_fault, body_fault, entry_fault, fault_at};
 ghost use Rattle.redo_bundle.specs.inside.Steps.{is_read, Finds, Refuses, Shows, IsLine, AddsFile, AddsEntry};
@@ -19,7 +19,7 @@ use crate::{BundleFault, ByteIn};
 use itoa::Buffer;
 use redo_path::{Path, PathFault, resolve};
 use redo_tree::{Content, Tree, TreeFault};
-use std::alloc::Global;
+use std::alloc::{AllocError, Global};
 
 /// The most bytes in a header line, without its newline.
 const LONGEST_LINE: usize = 1100;
@@ -246,121 +246,138 @@ fn tell(number: u64, outcome: Result<(), TreeFault>) -> Result<(), BundleFault>
     }
 }
 
-/// Adds the directory that a header names.
-fn read_directory(
+/// A bundle as far as it was read: the bytes that came and aren't used yet, and the tree of the entries so far.
+#[derive(Drop)]
+struct BundleParser {
     alloc: Global,
-    number: u64,
-    tree: &mut Tree,
-    word: &[u8],
-) -> Result<(), BundleFault>
-    ensures place { OnOk result (IsBelowRoot word.now) }
-    ensures adds { OnOk result (added tree.old word.now Directory ≡ Ok tree.new) }
-    ensures fault { Finds result (option_or (path_fault number word.now)
-        (tree_fault number tree.old word.now Directory)) }
-    ensures quiet { is_read result ≡ false }
-{
-    let path = read_path(alloc, number, word)?;
-    let outcome = tree.add_dir(&path);
-    tell(number, outcome)
+    held: Held,
+    tree: Tree,
 }
 
-/// Reads the bytes of a file and adds it at a path.
-fn add_file<R: ByteIn>(
-    alloc: Global,
-    held: &mut Held,
-    reader: &mut R,
-    number: u64,
-    tree: &mut Tree,
-    size: usize,
-    path: &Path,
-) -> Result<(), BundleFault>
-    requires { R.has_failed reader.old ≡ false }
-    ensures adds { OnOk result (AddsFile tree.old tree.new path.now size
-        (prepend_known held.old (R.left reader.old)) (prepend_known held.new (R.left reader.new))) }
-    ensures fault { Refuses result (prepend_known held.old (R.left reader.old))
-        (body_fault number tree.old (Some size) path.now) }
-    ensures failed { R.has_failed reader.new ≡ is_read result }
-{
-    let content = read_body(alloc, held, reader, number, size)?;
-    let outcome = tree.add_content(path, content);
-    tell(number, outcome)
-}
-
-/// Reads the file that a header names, and adds it.
-fn read_file<R: ByteIn>(
-    alloc: Global,
-    held: &mut Held,
-    reader: &mut R,
-    number: u64,
-    tree: &mut Tree,
-    size: usize,
-    word: &[u8],
-) -> Result<(), BundleFault>
-    requires { R.has_failed reader.old ≡ false }
-    ensures place { OnOk result (IsBelowRoot word.now) }
-    ensures adds { OnOk result (AddsFile tree.old tree.new word.now size
-        (prepend_known held.old (R.left reader.old)) (prepend_known held.new (R.left reader.new))) }
-    ensures fault { Refuses result (prepend_known held.old (R.left reader.old))
-        (λ text. option_or (path_fault number word.now) (body_fault number tree.old (Some size) word.now text)) }
-    ensures failed { R.has_failed reader.new ≡ is_read result }
-{
-    let path = read_path(alloc, number, word)?;
-    add_file(alloc, held, reader, number, tree, size, &path)
-}
-
-/// Reads what follows a header line and adds the entry to the tree.
-fn read_entry<R: ByteIn>(
-    alloc: Global,
-    held: &mut Held,
-    reader: &mut R,
-    number: u64,
-    tree: &mut Tree,
-    line: &[u8],
-) -> Result<(), BundleFault>
-    requires { R.has_failed reader.old ≡ false }
-    ensures adds { OnOk result (AddsEntry tree.old tree.new line.now (prepend_known held.old (R.left reader.old))
-        (prepend_known held.new (R.left reader.new))) }
-    ensures fault { Refuses result (prepend_known held.old (R.left reader.old)) (entry_fault number tree.old line.now) }
-    ensures failed { R.has_failed reader.new ≡ is_read result }
-{
-    match read_header(line) {
-        None => Err(BundleFault::Line(number)),
-        Some((None, word)) => read_directory(alloc, number, tree, word),
-        Some((Some(size), word)) => read_file(alloc, held, reader, number, tree, size, word),
+impl BundleParser {
+    /// A parser before the first entry.
+    fn new(alloc: Global) -> Result<BundleParser, AllocError>
+        ensures held { IfOk result (λ parser. parser.held ≡ []) }
+        ensures tree { IfOk result (λ parser. parser.tree ≡ top) }
+    {
+        Ok(BundleParser {
+            alloc,
+            held: Held::new(alloc)?,
+            tree: Tree::new(alloc)?,
+        })
     }
-}
 
-/// Reads one more entry or the end, and returns whether it was an entry. The line goes into `line`.
-fn read_next<R: ByteIn>(
-    alloc: Global,
-    held: &mut Held,
-    reader: &mut R,
-    number: u64,
-    tree: &mut Tree,
-    line: &mut Vec<u8>,
-) -> Result<bool, BundleFault>
-    requires works { R.has_failed reader.old ≡ false }
-    requires more { number < 2 ^ 64 - 1 }
-    ensures entry { result ≡ Ok true →
-        AddsNext tree.old tree.new (prepend_known held.old (R.left reader.old))
-        (prepend_known held.new (R.left reader.new)) }
-    ensures end { result ≡ Ok false →
-        (tree.new ≡ tree.old) ×
-        Consumes (prepend_known held.old (R.left reader.old)) (prepend_known held.new (R.left reader.new))
-        (codes "end\n") × (held.new ≡ []) × IsAtEnd (R.left reader.new) }
-    ensures fault { Refuses result (prepend_known held.old (R.left reader.old)) (fault_at number tree.old) }
-    ensures header { Shows result (prepend_known held.old (R.left reader.old)) line.new.items }
-    ensures failed { R.has_failed reader.new ≡ is_read result }
-{
-    read_line(held, reader, number, line)?;
-    if line.as_slice() == b"end".as_slice() {
-        if held.fill(reader)? {
-            return Err(BundleFault::Line(number + 1));
+    /// The number of the next header. It is the tree's size, as the tree counts the top directory.
+    fn number(&self) -> u64
+        ensures number { result ≡ length self.now.tree }
+        ensures small { result < 2 ^ 63 }
+    {
+        self.tree.len() as u64
+    }
+
+    /// Adds the directory that a header names.
+    fn read_directory(&mut self, word: &[u8]) -> Result<(), BundleFault>
+        ensures place { OnOk result (IsBelowRoot word.now) }
+        ensures adds { OnOk result (added self.old.tree word.now Directory ≡ Ok self.new.tree) }
+        ensures fault { Finds result (option_or (path_fault (length self.old.tree) word.now)
+            (tree_fault (length self.old.tree) self.old.tree word.now Directory)) }
+        ensures quiet { is_read result ≡ false }
+        ensures held { self.new.held ≡ self.old.held }
+    {
+        let number = self.number();
+        let path = read_path(self.alloc, number, word)?;
+        let outcome = self.tree.add_dir(&path);
+        tell(number, outcome)
+    }
+
+    /// Reads the bytes of a file and adds it at a path.
+    fn add_file<R: ByteIn>(
+        &mut self,
+        reader: &mut R,
+        size: usize,
+        path: &Path,
+    ) -> Result<(), BundleFault>
+        requires { R.has_failed reader.old ≡ false }
+        ensures adds { OnOk result (AddsFile self.old.tree self.new.tree path.now size
+            (prepend_known self.old.held (R.left reader.old)) (prepend_known self.new.held (R.left reader.new))) }
+        ensures fault { Refuses result (prepend_known self.old.held (R.left reader.old))
+            (body_fault (length self.old.tree) self.old.tree (Some size) path.now) }
+        ensures failed { R.has_failed reader.new ≡ is_read result }
+    {
+        let number = self.number();
+        let content = read_body(self.alloc, &mut self.held, reader, number, size)?;
+        let outcome = self.tree.add_content(path, content);
+        tell(number, outcome)
+    }
+
+    /// Reads the file that a header names, and adds it.
+    fn read_file<R: ByteIn>(
+        &mut self,
+        reader: &mut R,
+        size: usize,
+        word: &[u8],
+    ) -> Result<(), BundleFault>
+        requires { R.has_failed reader.old ≡ false }
+        ensures place { OnOk result (IsBelowRoot word.now) }
+        ensures adds { OnOk result (AddsFile self.old.tree self.new.tree word.now size
+            (prepend_known self.old.held (R.left reader.old)) (prepend_known self.new.held (R.left reader.new))) }
+        ensures fault { Refuses result (prepend_known self.old.held (R.left reader.old))
+            (λ text. option_or (path_fault (length self.old.tree) word.now)
+            (body_fault (length self.old.tree) self.old.tree (Some size) word.now text)) }
+        ensures failed { R.has_failed reader.new ≡ is_read result }
+    {
+        let path = read_path(self.alloc, self.number(), word)?;
+        self.add_file(reader, size, &path)
+    }
+
+    /// Reads what follows a header line and adds the entry to the tree.
+    fn read_entry<R: ByteIn>(&mut self, reader: &mut R, line: &[u8]) -> Result<(), BundleFault>
+        requires { R.has_failed reader.old ≡ false }
+        ensures adds { OnOk result (AddsEntry self.old.tree self.new.tree line.now
+            (prepend_known self.old.held (R.left reader.old)) (prepend_known self.new.held (R.left reader.new))) }
+        ensures fault { Refuses result (prepend_known self.old.held (R.left reader.old))
+            (entry_fault (length self.old.tree) self.old.tree line.now) }
+        ensures failed { R.has_failed reader.new ≡ is_read result }
+    {
+        match read_header(line) {
+            None => Err(BundleFault::Line(self.number())),
+            Some((None, word)) => self.read_directory(word),
+            Some((Some(size), word)) => self.read_file(reader, size, word),
         }
-        return Ok(false);
     }
-    read_entry(alloc, held, reader, number, tree, line)?;
-    Ok(true)
+
+    /// Reads one more entry or the end, and returns whether it was an entry. The line goes into `line`.
+    fn read_next<R: ByteIn>(
+        &mut self,
+        reader: &mut R,
+        line: &mut Vec<u8>,
+    ) -> Result<bool, BundleFault>
+        requires { R.has_failed reader.old ≡ false }
+        ensures entry { result ≡ Ok true →
+            AddsNext self.old.tree self.new.tree (prepend_known self.old.held (R.left reader.old))
+            (prepend_known self.new.held (R.left reader.new)) }
+        ensures end { result ≡ Ok false →
+            (self.new.tree ≡ self.old.tree) ×
+            Consumes (prepend_known self.old.held (R.left reader.old))
+            (prepend_known self.new.held (R.left reader.new)) (codes "end\n") ×
+            (self.new.held ≡ []) × IsAtEnd (R.left reader.new) }
+        ensures fault { Refuses result (prepend_known self.old.held (R.left reader.old))
+            (fault_at (length self.old.tree) self.old.tree) }
+        ensures header { Shows result (prepend_known self.old.held (R.left reader.old)) line.new.items }
+        ensures small { length self.old.tree < 2 ^ 63 }
+        ensures failed { R.has_failed reader.new ≡ is_read result }
+    {
+        let number = self.number();
+        read_line(&mut self.held, reader, number, line)?;
+        if line.as_slice() == b"end".as_slice() {
+            if self.held.fill(reader)? {
+                return Err(BundleFault::Line(number + 1));
+            }
+            return Ok(false);
+        }
+        self.read_entry(reader, line)?;
+        Ok(true)
+    }
 }
 
 /// Reads a bundle to the end of the input, in pieces of 64 KiB. A file's bytes are copied once, out of the piece, and
@@ -400,13 +417,7 @@ pub fn read_bundle_by_line<R: ByteIn>(
     ensures small { IfOk result HasSmallFiles }
     ensures read { IsErrOf result BundleFault.Read ↔ (R.has_failed reader.new ≡ true) }
 {
-    let mut held = Held::new(alloc)?;
-    let mut tree = Tree::new(alloc)?;
-    loop {
-        // The tree counts the top directory, so its size is the number of the next header.
-        let number = tree.len() as u64;
-        if !read_next(alloc, &mut held, reader, number, &mut tree, line)? {
-            return Ok(tree);
-        }
-    }
+    let mut parser = BundleParser::new(alloc)?;
+    while parser.read_next(reader, line)? {}
+    Ok(parser.tree)
 }
