@@ -14,30 +14,30 @@ use crate::ends::AtFault;
 use crate::halt::{Ending, Halt};
 use crate::operands::{Operand, Role};
 use crate::scene::Scene;
+use crate::shell::Shell;
 use crate::shown::shown_value;
 use redo_bytes::Bytes;
 use redo_record::{Deps, Why};
 use redo_script::Word;
 use std::alloc::AllocError;
 
-impl Scene<'_> {
+impl<A: Answers> Shell<'_, '_, A> {
     /// The first of these operands that brings about this end by itself.
-    pub(crate) fn at_fault<A: Answers>(
+    pub(crate) fn at_fault(
         &self,
-        answers: &A,
         line: u64,
         declared: &Deps,
         operands: &[Operand],
         end: Ending,
     ) -> Result<Option<AtFault>, AllocError>
-        ensures { IfOk result (Blames (scene_setting self.now) (A.ask answers.now) line declared.now (end_of end)
-            (seen operands.now)) }
+        ensures { IfOk result (Blames (scene_setting self.now.scene) (A.ask self.now.answers.now) line declared.now
+            (end_of end) (seen operands.now)) }
     {
         for (index, operand) in operands.iter().enumerate() {
-            if self.brings(answers, line, declared, operand, end)? {
+            if self.brings(line, declared, operand, end)? {
                 return Ok(Some(AtFault {
                     operand: index,
-                    value: self.shown(operand.word)?,
+                    value: self.scene.shown(operand.word)?,
                 }));
             }
         }
@@ -45,19 +45,18 @@ impl Scene<'_> {
     }
 
     /// Whether an operand brings about this end by itself.
-    fn brings<A: Answers>(
+    fn brings(
         &self,
-        answers: &A,
         line: u64,
         declared: &Deps,
         operand: &Operand,
         end: Ending,
     ) -> Result<bool, AllocError>
         ensures { IfOk result (λ found. IsTrue found ↔
-            Brings (scene_setting self.now) (A.ask answers.now) line declared.now (end_of end)
+            Brings (scene_setting self.now.scene) (A.ask self.now.answers.now) line declared.now (end_of end)
             (operand_of operand.now)) }
     {
-        match self.check(answers, line, declared, operand) {
+        match self.check(line, declared, operand) {
             Err(Halt::Ended(own)) => Ok(own == end),
             Err(Halt::Memory) => Err(AllocError),
             Ok(()) | Err(Halt::Lacks(_) | Halt::Waits(_, _)) => Ok(false),
@@ -65,67 +64,57 @@ impl Scene<'_> {
     }
 
     /// What an operand comes to by itself.
-    fn check<A: Answers>(
-        &self,
-        answers: &A,
-        line: u64,
-        declared: &Deps,
-        operand: &Operand,
-    ) -> Result<(), Halt>
+    fn check(&self, line: u64, declared: &Deps, operand: &Operand) -> Result<(), Halt>
         ensures { IsMeant (given_by (λ _. tt) result)
-            (operand_check (scene_setting self.now) (A.ask answers.now) line declared.now (operand_of operand.now)) }
+            (operand_check (scene_setting self.now.scene) (A.ask self.now.answers.now) line declared.now
+            (operand_of operand.now)) }
     {
-        let text = self.text(line, operand.word)?;
-        self.check_value(answers, line, declared, operand.role, text.bytes())
+        let text = self.scene.text(line, operand.word)?;
+        self.check_value(line, declared, operand.role, text.bytes())
     }
 
     /// What a value comes to by itself.
-    fn check_value<A: Answers>(
-        &self,
-        answers: &A,
-        line: u64,
-        declared: &Deps,
-        role: Role,
-        text: &[u8],
-    ) -> Result<(), Halt>
+    fn check_value(&self, line: u64, declared: &Deps, role: Role, text: &[u8]) -> Result<(), Halt>
         ensures { IsMeant (given_by (λ _. tt) result)
-            (value_check (scene_setting self.now) (A.ask answers.now) line declared.now role text.now) }
+            (value_check (scene_setting self.now.scene) (A.ask self.now.answers.now) line declared.now role text.now) }
     {
         match role {
             Role::Text => Ok(()),
             Role::Format => Err(Halt::fault(Why::Format(line))),
-            Role::Shown => match self.file(answers, line, declared, text)? {
+            Role::Shown => match self.file(line, declared, text)? {
                 Some(_) => Ok(()),
                 None => Err(Halt::exit(1)),
             },
             Role::Tested => {
-                self.file(answers, line, declared, text)?;
+                self.file(line, declared, text)?;
                 Ok(())
             }
-            Role::Changed => self.check_made(answers, line, text),
+            Role::Changed => self.check_made(line, text),
             Role::Created => {
-                let path = self.path(line, text)?;
-                self.check_free(line, &[path])
+                let path = self.scene.path(line, text)?;
+                self.scene.check_free(line, &[path])
             }
-            Role::Goal => self.check_goal(line, text),
+            Role::Goal => self.scene.check_goal(line, text),
         }
     }
 
     /// Refuses a path that failed (`Depends`).
-    fn check_made<A: Answers>(&self, answers: &A, line: u64, text: &[u8]) -> Result<(), Halt>
+    fn check_made(&self, line: u64, text: &[u8]) -> Result<(), Halt>
         ensures { IsMeant (given_by (λ _. tt) result)
-            (made_check (scene_setting self.now) (A.ask answers.now) line text.now) }
+            (made_check (scene_setting self.now.scene) (A.ask self.now.answers.now) line text.now) }
     {
-        let path = self.path(line, text)?;
-        if self.source(&path).is_some() {
+        let path = self.scene.path(line, text)?;
+        if self.scene.source(&path).is_some() {
             return Ok(());
         }
-        match answers.answer(&path) {
+        match self.answers.answer(&path) {
             Some(outcome) if outcome.has_failed() => Err(Halt::fault(Why::Depends(line))),
             _ => Ok(()),
         }
     }
+}
 
+impl Scene<'_> {
     /// Refuses a redirection to the target (`Direct`), or to any path but that of `$3` (`Elsewhere`).
     fn check_goal(&self, line: u64, text: &[u8]) -> Result<(), Halt>
         ensures { IsMeant (given_by (λ _. tt) result)

@@ -17,6 +17,7 @@ use crate::halt::Ending;
 use crate::limits::Limits;
 use crate::machine::Effects;
 use crate::scene::Scene;
+use crate::shell::Shell;
 use crate::walk::{Walked, walk};
 use redo_bytes::Bytes;
 use redo_path::Path;
@@ -61,19 +62,21 @@ pub struct Given<'a> {
 }
 
 impl<'a> Given<'a> {
-    /// What the script's commands see.
+    /// What the script's commands go by, with these answers.
     #[tactic(auto, unfolding(crate::specs::Setting::setting_by))]
-    fn scene(&self, alloc: Global) -> Scene<'a>
-        ensures { scene_setting result ≡ given_setting self.now }
+    fn shell<'b, A: Answers>(&self, alloc: Global, answers: &'b A) -> Shell<'a, 'b, A>
+        ensures setting { scene_setting result.scene ≡ given_setting self.now }
+        ensures answers { result.answers.now ≡ answers.now }
     {
-        Scene {
+        let scene = Scene {
             alloc,
             tree: self.tree,
             target: self.target,
             args: self.args,
             limit: self.limits.file_bytes() as usize,
             bound: Vec::new(alloc),
-        }
+        };
+        Shell { scene, answers }
     }
 }
 
@@ -94,7 +97,8 @@ pub fn find_end<A: Answers>(
         third: None,
         deps: Deps::new(alloc),
     };
-    match walk(&given.scene(alloc), answers, &mut effects, &script.stmts)? {
+    let shell = given.shell(alloc, answers);
+    match walk(&shell, &mut effects, &script.stmts)? {
         Walked::Ended(place) => Ok(Some(place)),
         Walked::Past | Walked::Stopped => Ok(None),
     }

@@ -7,26 +7,25 @@ ghost use Rattle.redo_step.specs.inside.Scene.{scene_setting};
 
 use crate::answers::Answers;
 use crate::halt::Halt;
-use crate::scene::Scene;
+use crate::shell::Shell;
 use redo_path::Path;
 use redo_record::{Dep, DepKind, Deps, Why};
 
-impl Scene<'_> {
+impl<A: Answers> Shell<'_, '_, A> {
     /// The file at a path that the script has declared. Any other path is the fault `Undeclared`.
-    pub(crate) fn file<'s, A: Answers>(
-        &'s self,
-        answers: &'s A,
+    pub(crate) fn file(
+        &self,
         line: u64,
         declared: &Deps,
         text: &[u8],
-    ) -> Result<Option<&'s [u8]>, Halt>
+    ) -> Result<Option<&[u8]>, Halt>
         ensures file { IsMeant (given_by option_copied result)
-            (file_of (scene_setting self.now) (A.ask answers.now) declared.now line text.now) }
+            (file_of (scene_setting self.now.scene) (A.ask self.now.answers.now) declared.now line text.now) }
         ensures keeps { kept_by result ≡ None }
     {
         let change = Dep {
             kind: DepKind::Change,
-            path: self.path(line, text)?,
+            path: self.scene.path(line, text)?,
         };
         let is_changed = declared.contains(&change);
         let create = Dep {
@@ -36,26 +35,23 @@ impl Scene<'_> {
         if !is_changed && !declared.contains(&create) {
             return Err(Halt::fault(Why::Undeclared(line)));
         }
-        match self.source(&create.path) {
+        match self.scene.source(&create.path) {
             Some(bytes) => Ok(Some(bytes)),
-            None if is_changed => self.answered(answers, &create.path),
+            None if is_changed => self.answered(&create.path),
             None => Ok(None),
         }
     }
 
     /// The file at a path that redo-ifchange declared and that isn't a source.
-    fn answered<'s, A: Answers>(
-        &self,
-        answers: &'s A,
-        path: &Path,
-    ) -> Result<Option<&'s [u8]>, Halt>
-        ensures file { IsMeant (given_by option_copied result) (answered_file path.now (A.ask answers.now path.now)) }
+    fn answered(&self, path: &Path) -> Result<Option<&[u8]>, Halt>
+        ensures file { IsMeant (given_by option_copied result) (answered_file path.now
+            (A.ask self.now.answers.now path.now)) }
         ensures keeps { kept_by result ≡ None }
     {
-        match answers.answer(path) {
+        match self.answers.answer(path) {
             Some(outcome) => Ok(outcome.file()),
             None => {
-                let mut paths = Vec::new(self.alloc);
+                let mut paths = Vec::new(self.scene.alloc);
                 paths.push(path.clone()?)?;
                 Err(Halt::Lacks(paths))
             }

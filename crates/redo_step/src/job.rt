@@ -25,6 +25,7 @@ use crate::machine::{Effects, RunEnd, resume};
 use crate::parsed::Parsed;
 use crate::place::Place;
 use crate::scene::Scene;
+use crate::shell::Shell;
 use crate::wait::Waiting;
 use redo_path::Path;
 use redo_record::{Deps, Outcome, Record, Why};
@@ -47,19 +48,21 @@ struct Task {
 }
 
 impl Task {
-    /// What the script's commands see.
+    /// What the script's commands go by, with these answers.
     #[tactic(auto, unfolding(crate::specs::Setting::setting_by))]
-    fn scene(&self) -> Scene<'_>
-        ensures { scene_setting result ≡ task_setting self.now }
+    fn shell<'s, 'a, A: Answers>(&'s self, answers: &'a A) -> Shell<'s, 'a, A>
+        ensures setting { scene_setting result.scene ≡ task_setting self.now }
+        ensures answers { result.answers.now ≡ answers.now }
     {
-        Scene {
+        let scene = Scene {
             alloc: self.alloc,
             tree: &self.tree,
             target: &self.target,
             args: &self.rule.args,
             limit: self.limits.file_bytes() as usize,
             bound: Vec::new(self.alloc),
-        }
+        };
+        Shell { scene, answers }
     }
 
     /// Runs the rest of the script from a place on. `kept` is the redo-ifchange that waited there.
@@ -77,7 +80,7 @@ impl Task {
             (left_at place.now (task_setting self.now) (script_of stmts.now)) (all_of (task_setting self.now) finish)
             (state_of effects.old) progress (state_of effects.new)) }
     {
-        resume(&self.scene(), answers, effects, stmts, place, kept)
+        resume(&self.shell(answers), effects, stmts, place, kept)
     }
 }
 

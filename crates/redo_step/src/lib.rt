@@ -7,8 +7,8 @@
 //!
 //! - What a script is given: `limits`, `parsed` and `refusal`, `answers`.
 //! - A job and how it goes on: `job`, `machine`, `place`, `halt`.
-//! - Commands, one idea each: `scene` (what they see), `scope` (the names that loops bind), `text`, `value` and
-//!   `words`, `files`, `printf`, `sink` and `writing`, `declaring`, `commands`.
+//! - Commands, one idea each: `shell` (what they go by), `scene` (what they see besides answers), `scope` (the names
+//!   that loops bind), `text`, `value` and `words`, `files`, `printf`, `sink` and `writing`, `declaring`, `commands`.
 //! - Where a script ended, and by which operand: `ends`, `walk`, `operands`, `blame` and `shown`.
 //! - Laws over what scripts mean: `laws`.
 #![tactic(auto)]
@@ -31,6 +31,7 @@ mod printf;
 mod refusal;
 mod scene;
 mod scope;
+mod shell;
 mod shown;
 mod sink;
 mod text;

@@ -16,6 +16,7 @@ use crate::halt::{Ending, Halt};
 use crate::place::{Branch, Place};
 use crate::scene::Scene;
 use crate::scope::Values;
+use crate::shell::Shell;
 use crate::wait::Waiting;
 use redo_bytes::Bytes;
 use redo_path::Path;
@@ -65,18 +66,17 @@ impl Turns<'_> {
 /// Runs these statements from index `first` on.
 #[cycle(running)]
 fn run_from<A: Answers>(
-    scene: &Scene,
-    answers: &A,
+    shell: &Shell<A>,
     effects: &mut Effects,
     stmts: &[Stmt],
     first: usize,
 ) -> Result<RunEnd, AllocError>
-    ensures { IfOk result (λ progress. Comes (scene_setting scene.now) (A.ask answers.now) (script_of stmts.now)
-        (all_of (scene_setting scene.now) (skip first (script_of stmts.now))) (all_of (scene_setting scene.now) finish)
-        (state_of effects.old) progress (state_of effects.new)) }
+    ensures { IfOk result (λ progress. Comes (scene_setting shell.now.scene) (A.ask shell.now.answers.now)
+        (script_of stmts.now) (all_of (scene_setting shell.now.scene) (skip first (script_of stmts.now)))
+        (all_of (scene_setting shell.now.scene) finish) (state_of effects.old) progress (state_of effects.new)) }
 {
     for index in first..stmts.len() {
-        match run_stmt(scene, answers, effects, &stmts[index], index)? {
+        match run_stmt(shell, effects, &stmts[index], index)? {
             RunEnd::Finished => {}
             progress => return Ok(progress),
         }
@@ -87,34 +87,33 @@ fn run_from<A: Answers>(
 /// Runs one statement, which has this index among those around it.
 #[cycle(running)]
 fn run_stmt<A: Answers>(
-    scene: &Scene,
-    answers: &A,
+    shell: &Shell<A>,
     effects: &mut Effects,
     stmt: &Stmt,
     index: usize,
 ) -> Result<RunEnd, AllocError>
-    ensures { IfOk result (λ progress. IsPassed (scene_setting scene.now) (A.ask answers.now) stmt.now index
-        (state_of effects.old) progress (state_of effects.new)) }
+    ensures { IfOk result (λ progress. IsPassed (scene_setting shell.now.scene)
+        (A.ask shell.now.answers.now) stmt.now index (state_of effects.old) progress (state_of effects.new)) }
 {
     match stmt {
-        Stmt::Simple(line, command) => match scene.command(answers, *line, command, effects) {
+        Stmt::Simple(line, command) => match shell.command(*line, command, effects) {
             Ok(()) => Ok(RunEnd::Finished),
             Err(stop) => stop_before(stop, index),
         },
         Stmt::If(line, condition, first, second) => {
-            match scene.condition(answers, *line, condition, effects) {
+            match shell.condition(*line, condition, effects) {
                 Ok(true) => {
-                    let progress = run_from(scene, answers, effects, first, 0)?;
-                    within(scene.alloc, progress, index, Branch::First)
+                    let progress = run_from(shell, effects, first, 0)?;
+                    within(shell.scene.alloc, progress, index, Branch::First)
                 }
                 Ok(false) => {
-                    let progress = run_from(scene, answers, effects, second, 0)?;
-                    within(scene.alloc, progress, index, Branch::Second)
+                    let progress = run_from(shell, effects, second, 0)?;
+                    within(shell.scene.alloc, progress, index, Branch::Second)
                 }
                 Err(stop) => stop_before(stop, index),
             }
         }
-        Stmt::Loop(line, name, words, body) => match scene.values(*line, words) {
+        Stmt::Loop(line, name, words, body) => match shell.scene.values(*line, words) {
             Ok(values) => {
                 let turns = Turns {
                     name,
@@ -122,7 +121,7 @@ fn run_stmt<A: Answers>(
                     body,
                     index,
                 };
-                run_turns(scene, answers, effects, &turns, 0)
+                run_turns(shell, effects, &turns, 0)
             }
             Err(stop) => stop_before(stop, index),
         },
@@ -132,20 +131,22 @@ fn run_stmt<A: Answers>(
 /// Runs the turns of a loop from `first` on.
 #[cycle(running)]
 fn run_turns<A: Answers>(
-    scene: &Scene,
-    answers: &A,
+    shell: &Shell<A>,
     effects: &mut Effects,
     turns: &Turns,
     first: usize,
 ) -> Result<RunEnd, AllocError>
-    ensures { IfOk result (λ progress. AreRun (scene_setting scene.now) (A.ask answers.now) turns.now first
-        (state_of effects.old) progress (state_of effects.new)) }
+    ensures { IfOk result (λ progress. AreRun (scene_setting shell.now.scene)
+        (A.ask shell.now.answers.now) turns.now first (state_of effects.old) progress (state_of effects.new)) }
 {
     for turn in first..turns.values.as_slice().len() {
-        let inner = turns.scene(scene, turn)?;
-        match run_from(&inner, answers, effects, turns.body, 0)? {
+        let inner = Shell {
+            scene: turns.scene(&shell.scene, turn)?,
+            answers: shell.answers,
+        };
+        match run_from(&inner, effects, turns.body, 0)? {
             RunEnd::Finished => {}
-            progress => return in_turn(scene.alloc, progress, turns, turn),
+            progress => return in_turn(shell.scene.alloc, progress, turns, turn),
         }
     }
     Ok(RunEnd::Finished)
@@ -153,74 +154,71 @@ fn run_turns<A: Answers>(
 
 /// Runs the turns of a loop from `first` on, and then the statements behind the loop.
 fn run_behind<A: Answers>(
-    scene: &Scene,
-    answers: &A,
+    shell: &Shell<A>,
     effects: &mut Effects,
     stmts: &[Stmt],
     turns: &Turns,
     first: usize,
 ) -> Result<RunEnd, AllocError>
     requires { HasTurns stmts.now turns.now.index turns.now }
-    ensures { IfOk result (λ progress. Comes (scene_setting scene.now) (A.ask answers.now) (script_of stmts.now)
-        (and_then (turns_from (scene_setting scene.now) turns.now first)
-        (all_of (scene_setting scene.now) (skip (turns.now.index + 1) (script_of stmts.now))))
-        (all_of (scene_setting scene.now) finish) (state_of effects.old) progress (state_of effects.new)) }
+    ensures { IfOk result (λ progress. Comes (scene_setting shell.now.scene) (A.ask shell.now.answers.now)
+        (script_of stmts.now) (and_then (turns_from (scene_setting shell.now.scene) turns.now first)
+        (all_of (scene_setting shell.now.scene) (skip (turns.now.index + 1) (script_of stmts.now))))
+        (all_of (scene_setting shell.now.scene) finish) (state_of effects.old) progress (state_of effects.new)) }
 {
-    match run_turns(scene, answers, effects, turns, first)? {
-        RunEnd::Finished => run_from(scene, answers, effects, stmts, turns.index + 1),
+    match run_turns(shell, effects, turns, first)? {
+        RunEnd::Finished => run_from(shell, effects, stmts, turns.index + 1),
         progress => Ok(progress),
     }
 }
 
 /// Runs these statements from index `first` on. A redo-ifchange that waited there isn't begun again.
 fn resume_before<A: Answers>(
-    scene: &Scene,
-    answers: &A,
+    shell: &Shell<A>,
     effects: &mut Effects,
     stmts: &[Stmt],
     first: usize,
     kept: Option<Waiting>,
 ) -> Result<RunEnd, AllocError>
-    requires { IsKept (record { setting = scene_setting scene.now; script = skip first (script_of stmts.now) })
+    requires { IsKept (record { setting = scene_setting shell.now.scene; script = skip first (script_of stmts.now) })
         (state_of effects.old) kept }
-    ensures { IfOk result (λ progress. Comes (scene_setting scene.now) (A.ask answers.now) (script_of stmts.now)
-        (all_of (scene_setting scene.now) (skip first (script_of stmts.now))) (all_of (scene_setting scene.now) finish)
-        (state_of effects.old) progress (state_of effects.new)) }
+    ensures { IfOk result (λ progress. Comes (scene_setting shell.now.scene) (A.ask shell.now.answers.now)
+        (script_of stmts.now) (all_of (scene_setting shell.now.scene) (skip first (script_of stmts.now)))
+        (all_of (scene_setting shell.now.scene) finish) (state_of effects.old) progress (state_of effects.new)) }
 {
     let Some(waiting) = kept else {
-        return run_from(scene, answers, effects, stmts, first);
+        return run_from(shell, effects, stmts, first);
     };
-    match waiting.go_on(scene.alloc, answers) {
-        Ok(()) => run_from(scene, answers, effects, stmts, first + 1),
+    match waiting.go_on(shell.scene.alloc, shell.answers) {
+        Ok(()) => run_from(shell, effects, stmts, first + 1),
         Err(stop) => stop_before(stop, first),
     }
 }
 
 /// Runs the rest of these statements from a place on. A redo-ifchange that waited there isn't begun again.
 pub(crate) fn resume<A: Answers>(
-    scene: &Scene,
-    answers: &A,
+    shell: &Shell<A>,
     effects: &mut Effects,
     stmts: &[Stmt],
     place: &Place,
     kept: Option<Waiting>,
 ) -> Result<RunEnd, AllocError>
-    requires { IsKept (stands_at place.now (scene_setting scene.now) (script_of stmts.now)) (state_of effects.old)
+    requires { IsKept (stands_at place.now (scene_setting shell.now.scene) (script_of stmts.now)) (state_of effects.old)
         kept }
-    ensures { IfOk result (λ progress. Comes (scene_setting scene.now) (A.ask answers.now) (script_of stmts.now)
-        (left_at place.now (scene_setting scene.now) (script_of stmts.now)) (all_of (scene_setting scene.now) finish)
-        (state_of effects.old) progress (state_of effects.new)) }
+    ensures { IfOk result (λ progress. Comes (scene_setting shell.now.scene) (A.ask shell.now.answers.now)
+        (script_of stmts.now) (left_at place.now (scene_setting shell.now.scene) (script_of stmts.now))
+        (all_of (scene_setting shell.now.scene) finish) (state_of effects.old) progress (state_of effects.new)) }
 {
     match place {
-        Place::Before(first) => resume_before(scene, answers, effects, stmts, *first, kept),
+        Place::Before(first) => resume_before(shell, effects, stmts, *first, kept),
         Place::Within(index, branch, inner) => {
             // Nothing is left at a place inside a statement that isn't an `if`.
             let Some(part) = branch_at(stmts, *index, *branch) else {
                 return Ok(RunEnd::Finished);
             };
-            let progress = resume(scene, answers, effects, part, inner, kept)?;
-            match within(scene.alloc, progress, *index, *branch)? {
-                RunEnd::Finished => run_from(scene, answers, effects, stmts, *index + 1),
+            let progress = resume(shell, effects, part, inner, kept)?;
+            match within(shell.scene.alloc, progress, *index, *branch)? {
+                RunEnd::Finished => run_from(shell, effects, stmts, *index + 1),
                 progress => Ok(progress),
             }
         }
@@ -229,10 +227,13 @@ pub(crate) fn resume<A: Answers>(
             let Some(turns) = turns_at(stmts, *index, values, *turn) else {
                 return Ok(RunEnd::Finished);
             };
-            let here = turns.scene(scene, *turn)?;
-            let progress = resume(&here, answers, effects, turns.body, inner, kept)?;
-            match in_turn(scene.alloc, progress, &turns, *turn)? {
-                RunEnd::Finished => run_behind(scene, answers, effects, stmts, &turns, *turn + 1),
+            let here = Shell {
+                scene: turns.scene(&shell.scene, *turn)?,
+                answers: shell.answers,
+            };
+            let progress = resume(&here, effects, turns.body, inner, kept)?;
+            match in_turn(shell.scene.alloc, progress, &turns, *turn)? {
+                RunEnd::Finished => run_behind(shell, effects, stmts, &turns, *turn + 1),
                 progress => Ok(progress),
             }
         }

@@ -14,8 +14,8 @@ use crate::ends::EndPlace;
 use crate::halt::Halt;
 use crate::machine::Effects;
 use crate::operands::{Operand, Role, all_as, command_operands, condition_operands};
-use crate::scene::Scene;
 use crate::scope::Values;
+use crate::shell::Shell;
 use redo_bytes::Bytes;
 use redo_record::Deps;
 use redo_script::Stmt;
@@ -42,16 +42,15 @@ struct Round<'a> {
 /// Runs these statements.
 #[cycle(walking)]
 pub(crate) fn walk<A: Answers>(
-    scene: &Scene,
-    answers: &A,
+    shell: &Shell<A>,
     effects: &mut Effects,
     stmts: &[Stmt],
 ) -> Result<Walked, AllocError>
-    ensures { IfOk result (λ walked. Walks (scene_setting scene.now) (A.ask answers.now) (script_of stmts.now)
-        (state_of effects.old) walked (state_of effects.new)) }
+    ensures { IfOk result (λ walked. Walks (scene_setting shell.now.scene) (A.ask shell.now.answers.now)
+        (script_of stmts.now) (state_of effects.old) walked (state_of effects.new)) }
 {
     for (index, stmt) in stmts.iter().enumerate() {
-        match walk_stmt(scene, answers, effects, stmt)? {
+        match walk_stmt(shell, effects, stmt)? {
             Walked::Past => {}
             walked => return further(walked, size_of(&stmts[..index])?),
         }
@@ -62,47 +61,46 @@ pub(crate) fn walk<A: Answers>(
 /// Runs one statement.
 #[cycle(walking)]
 fn walk_stmt<A: Answers>(
-    scene: &Scene,
-    answers: &A,
+    shell: &Shell<A>,
     effects: &mut Effects,
     stmt: &Stmt,
 ) -> Result<Walked, AllocError>
-    ensures { IfOk result (λ walked. Passes (scene_setting scene.now) (A.ask answers.now) stmt.now
+    ensures { IfOk result (λ walked. Passes (scene_setting shell.now.scene) (A.ask shell.now.answers.now) stmt.now
         (state_of effects.old) walked (state_of effects.new)) }
 {
     match stmt {
-        Stmt::Simple(line, command) => match scene.command(answers, *line, command, effects) {
+        Stmt::Simple(line, command) => match shell.command(*line, command, effects) {
             Ok(()) => Ok(Walked::Past),
             Err(halt) => {
-                let operands = command_operands(scene.alloc, command)?;
-                halted(scene, answers, *line, &effects.deps, halt, &operands)
+                let operands = command_operands(shell.scene.alloc, command)?;
+                halted(shell, *line, &effects.deps, halt, &operands)
             }
         },
         Stmt::If(line, condition, first, second) => {
-            match scene.condition(answers, *line, condition, effects) {
-                Ok(true) => further(walk(scene, answers, effects, first)?, 1),
+            match shell.condition(*line, condition, effects) {
+                Ok(true) => further(walk(shell, effects, first)?, 1),
                 Ok(false) => {
-                    let walked = walk(scene, answers, effects, second)?;
+                    let walked = walk(shell, effects, second)?;
                     further(further(walked, size_of(first)?)?, 1)
                 }
                 Err(halt) => {
-                    let operands = condition_operands(scene.alloc, condition)?;
-                    halted(scene, answers, *line, &effects.deps, halt, &operands)
+                    let operands = condition_operands(shell.scene.alloc, condition)?;
+                    halted(shell, *line, &effects.deps, halt, &operands)
                 }
             }
         }
-        Stmt::Loop(line, name, words, body) => match scene.values(*line, words) {
+        Stmt::Loop(line, name, words, body) => match shell.scene.values(*line, words) {
             Ok(values) => {
                 let round = Round {
                     name,
                     values: &values,
                     body,
                 };
-                further(walk_turns(scene, answers, effects, &round)?, 1)
+                further(walk_turns(shell, effects, &round)?, 1)
             }
             Err(halt) => {
-                let operands = all_as(scene.alloc, Role::Text, words)?;
-                halted(scene, answers, *line, &effects.deps, halt, &operands)
+                let operands = all_as(shell.scene.alloc, Role::Text, words)?;
+                halted(shell, *line, &effects.deps, halt, &operands)
             }
         },
     }
@@ -111,17 +109,19 @@ fn walk_stmt<A: Answers>(
 /// Runs the turns of a loop.
 #[cycle(walking)]
 fn walk_turns<A: Answers>(
-    scene: &Scene,
-    answers: &A,
+    shell: &Shell<A>,
     effects: &mut Effects,
     round: &Round,
 ) -> Result<Walked, AllocError>
-    ensures { IfOk result (λ walked. WalksTurns (scene_setting scene.now) (A.ask answers.now) round.now
+    ensures { IfOk result (λ walked. WalksTurns (scene_setting shell.now.scene) (A.ask shell.now.answers.now) round.now
         (state_of effects.old) walked (state_of effects.new)) }
 {
     for value in round.values.as_slice() {
-        let turn = scene.with_value(round.name, value)?;
-        match walk(&turn, answers, effects, round.body)? {
+        let turn = Shell {
+            scene: shell.scene.with_value(round.name, value)?,
+            answers: shell.answers,
+        };
+        match walk(&turn, effects, round.body)? {
             Walked::Past => {}
             walked => return Ok(walked),
         }
@@ -131,19 +131,18 @@ fn walk_turns<A: Answers>(
 
 /// What a statement came to whose act halted, given its operands.
 fn halted<A: Answers>(
-    scene: &Scene,
-    answers: &A,
+    shell: &Shell<A>,
     line: u64,
     declared: &Deps,
     halt: Halt,
     operands: &[Operand],
 ) -> Result<Walked, AllocError>
-    ensures { IfOk result (λ walked. IsHalted (scene_setting scene.now) (A.ask answers.now) line declared.now
-        (seen operands.now) halt walked) }
+    ensures { IfOk result (λ walked. IsHalted (scene_setting shell.now.scene)
+        (A.ask shell.now.answers.now) line declared.now (seen operands.now) halt walked) }
 {
     match halt {
         Halt::Ended(end) => {
-            let fault = scene.at_fault(answers, line, declared, operands, end)?;
+            let fault = shell.at_fault(line, declared, operands, end)?;
             Ok(Walked::Ended(EndPlace {
                 statement: 0,
                 fault,

@@ -15,6 +15,7 @@ use crate::halt::Halt;
 use crate::machine::Effects;
 use crate::printf::printf;
 use crate::scene::Scene;
+use crate::shell::Shell;
 use crate::sink::Sink;
 use crate::text::Text;
 use redo_record::{Deps, Why};
@@ -90,42 +91,30 @@ impl Scene<'_> {
         }
         Ok(Some(redirection.appends))
     }
+}
 
+impl<A: Answers> Shell<'_, '_, A> {
     /// Adds the files that these texts name.
-    fn cat<A: Answers>(
-        &self,
-        answers: &A,
-        line: u64,
-        texts: &[Text],
-        declared: &Deps,
-        sink: &mut Sink,
-    ) -> Result<(), Halt>
+    fn cat(&self, line: u64, texts: &[Text], declared: &Deps, sink: &mut Sink) -> Result<(), Halt>
         ensures fills { Fills result
-            (contents_of (scene_setting self.now) (A.ask answers.now) declared.now line texts.now)
+            (contents_of (scene_setting self.now.scene) (A.ask self.now.answers.now) declared.now line texts.now)
             sink.old sink.new }
         ensures keeps { kept_by result ≡ None }
     {
         for text in texts {
-            self.cat_one(answers, line, text.bytes(), declared, sink)?;
+            self.cat_one(line, text.bytes(), declared, sink)?;
         }
         Ok(())
     }
 
     /// Adds the file that a text names.
-    fn cat_one<A: Answers>(
-        &self,
-        answers: &A,
-        line: u64,
-        text: &[u8],
-        declared: &Deps,
-        sink: &mut Sink,
-    ) -> Result<(), Halt>
+    fn cat_one(&self, line: u64, text: &[u8], declared: &Deps, sink: &mut Sink) -> Result<(), Halt>
         ensures fills { Fills result
-            (content_of (scene_setting self.now) (A.ask answers.now) declared.now line text.now)
+            (content_of (scene_setting self.now.scene) (A.ask self.now.answers.now) declared.now line text.now)
             sink.old sink.new }
         ensures keeps { kept_by result ≡ None }
     {
-        match self.file(answers, line, declared, text)? {
+        match self.file(line, declared, text)? {
             Some(bytes) => {
                 sink.add(bytes)?;
                 Ok(())
@@ -135,16 +124,16 @@ impl Scene<'_> {
     }
 
     /// Adds what a command writes.
-    fn fill<A: Answers>(
+    fn fill(
         &self,
-        answers: &A,
         line: u64,
         writing: &Writing,
         declared: &Deps,
         sink: &mut Sink,
     ) -> Result<(), Halt>
         ensures fills { Fills result
-            (bytes_of (scene_setting self.now) (A.ask answers.now) declared.now line (writing_of writing.now))
+            (bytes_of (scene_setting self.now.scene) (A.ask self.now.answers.now) declared.now line
+            (writing_of writing.now))
             sink.old sink.new }
         ensures keeps { kept_by result ≡ None }
     {
@@ -153,29 +142,34 @@ impl Scene<'_> {
                 echo(texts, sink)?;
                 Ok(())
             }
-            Writing::Printf(format, texts) => printf(self.alloc, line, format.bytes(), texts, sink),
-            Writing::Cat(texts) => self.cat(answers, line, texts, declared, sink),
+            Writing::Printf(format, texts) => printf(
+                self.scene.alloc,
+                line,
+                format.bytes(),
+                texts,
+                sink,
+            ),
+            Writing::Cat(texts) => self.cat(line, texts, declared, sink),
         }
     }
 
     /// Appends what a command writes. If the command stops, the bytes are as before.
-    fn append<A: Answers>(
+    fn append(
         &self,
-        answers: &A,
         line: u64,
         writing: &Writing,
         declared: &Deps,
         bytes: Vec<u8>,
     ) -> (Vec<u8>, Result<(), Halt>)
         ensures appends { IsMeant (given_by (λ _. result.0.items) result.1)
-            (appended (scene_setting self.now) (A.ask answers.now) declared.now line (writing_of writing.now)
-            bytes.items) }
+            (appended (scene_setting self.now.scene) (A.ask self.now.answers.now) declared.now line
+            (writing_of writing.now) bytes.items) }
         ensures spares { IfErr result.1 (λ stop. OnSome (end_by stop) (result.0.items ≡ bytes.items)) }
         ensures keeps { kept_by result.1 ≡ None }
     {
         let length = bytes.len();
-        let mut sink = Sink::new(bytes, self.limit());
-        let end = self.fill(answers, line, writing, declared, &mut sink);
+        let mut sink = Sink::new(bytes, self.scene.limit());
+        let end = self.fill(line, writing, declared, &mut sink);
         let Sink {
             mut bytes,
             is_over,
@@ -192,47 +186,40 @@ impl Scene<'_> {
     }
 
     /// Writes to standard output.
-    fn write_output<A: Answers>(
-        &self,
-        answers: &A,
-        line: u64,
-        writing: &Writing,
-        effects: &mut Effects,
-    ) -> Result<(), Halt>
+    fn write_output(&self, line: u64, writing: &Writing, effects: &mut Effects) -> Result<(), Halt>
         ensures run { IsMeant (run_by result (state_of effects.new))
-            (put_bytes (scene_setting self.now) (A.ask answers.now) line (writing_of writing.now) None
+            (put_bytes (scene_setting self.now.scene) (A.ask self.now.answers.now) line (writing_of writing.now) None
             (state_of effects.old)) }
         ensures keeps { kept_by result ≡ None }
     {
-        let bytes = mem::replace(&mut effects.output, Vec::new(self.alloc));
-        let (bytes, end) = self.append(answers, line, writing, &effects.deps, bytes);
+        let bytes = mem::replace(&mut effects.output, Vec::new(self.scene.alloc));
+        let (bytes, end) = self.append(line, writing, &effects.deps, bytes);
         effects.output = bytes;
         end
     }
 
     /// Writes to `$3`.
-    fn write_third<A: Answers>(
+    fn write_third(
         &self,
-        answers: &A,
         line: u64,
         writing: &Writing,
         appends: bool,
         effects: &mut Effects,
     ) -> Result<(), Halt>
         ensures run { IsMeant (run_by result (state_of effects.new))
-            (put_bytes (scene_setting self.now) (A.ask answers.now) line (writing_of writing.now) (Some appends)
-            (state_of effects.old)) }
+            (put_bytes (scene_setting self.now.scene) (A.ask self.now.answers.now) line (writing_of writing.now)
+            (Some appends) (state_of effects.old)) }
         ensures keeps { kept_by result ≡ None }
     {
         if appends {
             if let Some(bytes) = effects.third.take() {
-                let (bytes, end) = self.append(answers, line, writing, &effects.deps, bytes);
+                let (bytes, end) = self.append(line, writing, &effects.deps, bytes);
                 effects.third = Some(bytes);
                 return end;
             }
         }
-        let bytes = Vec::new(self.alloc);
-        let (bytes, end) = self.append(answers, line, writing, &effects.deps, bytes);
+        let bytes = Vec::new(self.scene.alloc);
+        let (bytes, end) = self.append(line, writing, &effects.deps, bytes);
         if end.is_ok() {
             effects.third = Some(bytes);
         }
@@ -240,9 +227,8 @@ impl Scene<'_> {
     }
 
     /// Runs a command that writes.
-    pub(crate) fn write<A: Answers>(
+    pub(crate) fn write(
         &self,
-        answers: &A,
         line: u64,
         writer: &Writer,
         redirection: &Option<Redirection>,
@@ -250,15 +236,15 @@ impl Scene<'_> {
     ) -> Result<(), Halt>
         ensures run { IsMeant (run_by result (state_of effects.new))
             (with_state
-            (written (scene_setting self.now) (A.ask answers.now) line (writer_of writer.now)
+            (written (scene_setting self.now.scene) (A.ask self.now.answers.now) line (writer_of writer.now)
             (option_map redirection_of redirection.now) (state_of effects.old))
             (state_of effects.old)) }
         ensures keeps { kept_by result ≡ None }
     {
-        let writing = self.writing(line, writer)?;
-        match self.goal(line, redirection)? {
-            None => self.write_output(answers, line, &writing, effects),
-            Some(appends) => self.write_third(answers, line, &writing, appends, effects),
+        let writing = self.scene.writing(line, writer)?;
+        match self.scene.goal(line, redirection)? {
+            None => self.write_output(line, &writing, effects),
+            Some(appends) => self.write_third(line, &writing, appends, effects),
         }
     }
 }

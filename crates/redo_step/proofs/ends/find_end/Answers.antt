@@ -4,5 +4,5 @@ use Rattle.redo_step.proofs.ends.find_end.Goals as goal
 
 pub returns-clause-none : goal.returns-clause-none
 returns-clause-none g c =
-    let walked = rw (c.scene.ensures, c.deref.ensures.value) at c.in_ok-place.ensures in
+    let walked = rw (c.shell-shell.ensures.setting, c.shell-shell.ensures.answers, c.deref.ensures.value) at c.in_ok-place.ensures in
     no_end _ _ _ _ _ c.in_ok-place.field-0 (search rules) c.in-Past.is walked

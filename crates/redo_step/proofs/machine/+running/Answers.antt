@@ -59,9 +59,9 @@ run_stmt-returns-in-Err-values g t c =
 
 pub run_turns-returns-in_default : goal.run_turns-returns-in_default
 run_turns-returns-in_default g t c =
-    if_ok_map c.in_turn.result (λ outer w. turn_stopped _ _ c.args.turns.now c.args.first c.loop-turn.turn _ _ _ _ c.in_ok-progress.progress outer c.in_ok-inner.ensures c.loop-turn.invariant c.in_default.not-Finished c.in_ok-progress.ensures w) c.in_turn.ensures
+    if_ok_map c.in_turn.result (λ outer w. turn_stopped _ _ c.args.turns.now c.args.first c.loop-turn.turn _ _ _ _ c.in_ok-progress.progress outer c.in_ok-scene.ensures c.loop-turn.invariant c.in_default.not-Finished c.in_ok-progress.ensures w) c.in_turn.ensures
 
 pub run_turns-loop-turn-preserved : goal.run_turns-loop-turn-preserved
 run_turns-loop-turn-preserved g t c =
     let ran = rw c.in-Finished.is at c.in_ok-progress.ensures in
-    turn_finished _ _ c.args.turns.now c.args.first c.loop-turn.turn _ _ _ _ c.in_ok-inner.ensures c.loop-turn.invariant ran
+    turn_finished _ _ c.args.turns.now c.args.first c.loop-turn.turn _ _ _ _ c.in_ok-scene.ensures c.loop-turn.invariant ran

@@ -10,7 +10,7 @@ use Rattle.redo_step.proofs.machine.+running.Given as goal
 
 abbrev pub invariant-run_from-loop-index : goal.invariant-run_from-loop-index
 invariant-run_from-loop-index g l =
-    Reaches (scene_setting l.scene) (g.A.Answers.ask l.answers) (all_of (scene_setting l.scene) (skip l.first (script_of l.stmts))) (state_of l.initial.effects) (all_of (scene_setting l.scene) (skip l.index (script_of l.stmts))) (state_of l.effects)
+    Reaches (scene_setting l.shell.scene) (g.A.Answers.ask l.shell.answers.now) (all_of (scene_setting l.shell.scene) (skip l.first (script_of l.stmts))) (state_of l.initial.effects) (all_of (scene_setting l.shell.scene) (skip l.index (script_of l.stmts))) (state_of l.effects)
 
 abbrev pub decreases-run_from : goal.decreases-run_from
 decreases-run_from g l = 3 * weight (script_of l.stmts.now) + 1
@@ -20,7 +20,7 @@ decreases-run_stmt g l = 3 * weight (before l.stmt.now finish)
 
 abbrev pub invariant-run_turns-loop-turn : goal.invariant-run_turns-loop-turn
 invariant-run_turns-loop-turn g l =
-    Reaches (scene_setting l.scene) (g.A.Answers.ask l.answers) (turns_from (scene_setting l.scene) l.turns l.first) (state_of l.initial.effects) (turns_from (scene_setting l.scene) l.turns l.turn) (state_of l.effects)
+    Reaches (scene_setting l.shell.scene) (g.A.Answers.ask l.shell.answers.now) (turns_from (scene_setting l.shell.scene) l.turns l.first) (state_of l.initial.effects) (turns_from (scene_setting l.shell.scene) l.turns l.turn) (state_of l.effects)
 
 abbrev pub decreases-run_turns : goal.decreases-run_turns
 decreases-run_turns g l = 3 * weight (script_of l.turns.now.body.now) + 2

@@ -16,5 +16,5 @@ returns-in-Err g c =
 pub overflow_add-first : goal.overflow_add-first
 overflow_add-first g c =
     let first = rw c.in-Some.is at c.requires in
-    let less = kept_within _ (g.A.Answers.ask c.args.answers.now) c.args.stmts.now _ c.args.first c.in-Some.waiting first in
+    let less = kept_within _ (g.A.Answers.ask c.args.shell.now.answers.now) c.args.stmts.now _ c.args.first c.in-Some.waiting first in
     search rules

@@ -13,7 +13,7 @@ use Rattle.redo_step.proofs.WalkLemmas.{turn_goes, turn_ends, further_twice}
 use Rattle.redo_step.proofs.walk.+walking.Goals as goal
 
 pub walk-loop-index-init : goal.walk-loop-index-init
-walk-loop-index-init g t c = past_none (scene_setting c.args.scene.now) (g.A.Answers.ask c.args.answers.now) c.args.stmts.now (state_of c.args.effects.now)
+walk-loop-index-init g t c = past_none (scene_setting c.args.shell.now.scene) (g.A.Answers.ask c.args.shell.now.answers.now) c.args.stmts.now (state_of c.args.effects.now)
 
 pub walk-walk_stmt-requires : goal.walk-walk_stmt-requires
 walk-walk_stmt-requires g t c κs within =
@@ -72,10 +72,10 @@ pub walk_turns-returns-in_default : goal.walk_turns-returns-in_default
 walk_turns-returns-in_default g t c =
     let is = rw c.as_slice-value-items.ensures at c.value-item.is in
     let less = rw c.as_slice-value-items.ensures at c.loop-value-test.true in
-    turn_ends _ _ c.args.round.now c.loop-value.value-index c.value-item.result _ _ _ _ c.in_ok-walked.walked less is c.in_ok-turn.ensures c.loop-value.invariant c.in_default.not-Past c.in_ok-walked.ensures
+    turn_ends _ _ c.args.round.now c.loop-value.value-index c.value-item.result _ _ _ _ c.in_ok-walked.walked less is c.in_ok-with_value.ensures c.loop-value.invariant c.in_default.not-Past c.in_ok-walked.ensures
 
 pub walk_turns-loop-value-preserved : goal.walk_turns-loop-value-preserved
 walk_turns-loop-value-preserved g t c =
     let is = rw c.as_slice-value-items.ensures at c.value-item.is in
     let less = rw c.as_slice-value-items.ensures at c.loop-value-test.true in
-    turn_goes _ _ c.args.round.now c.loop-value.value-index c.value-item.result _ _ _ _ less is c.in_ok-turn.ensures c.loop-value.invariant (rw c.in-Past.is at c.in_ok-walked.ensures)
+    turn_goes _ _ c.args.round.now c.loop-value.value-index c.value-item.result _ _ _ _ less is c.in_ok-with_value.ensures c.loop-value.invariant (rw c.in-Past.is at c.in_ok-walked.ensures)

@@ -19,7 +19,7 @@ abbrev pub decreases-walk_turns : goal.decreases-walk_turns
 decreases-walk_turns g l = 3 * weight (script_of l.round.now.body.now) + 2
 
 abbrev pub invariant-walk-loop-index : goal.invariant-walk-loop-index
-invariant-walk-loop-index g l = IsPast (scene_setting l.scene) (g.A.Answers.ask l.answers) l.stmts l.index (state_of l.initial.effects) (state_of l.effects)
+invariant-walk-loop-index g l = IsPast (scene_setting l.shell.scene) (g.A.Answers.ask l.shell.answers.now) l.stmts l.index (state_of l.initial.effects) (state_of l.effects)
 
 abbrev pub invariant-walk_turns-loop-value : goal.invariant-walk_turns-loop-value
-invariant-walk_turns-loop-value g l = round_turns (scene_setting l.scene) (g.A.Answers.ask l.answers) l.round (take l.value-index l.round.values.now) (state_of l.initial.effects) ≡ goes (state_of l.effects)
+invariant-walk_turns-loop-value g l = round_turns (scene_setting l.shell.scene) (g.A.Answers.ask l.shell.answers.now) l.round (take l.value-index l.round.values.now) (state_of l.initial.effects) ≡ goes (state_of l.effects)

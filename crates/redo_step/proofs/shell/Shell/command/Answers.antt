@@ -1,7 +1,7 @@
 use Rattle.std.proofs.lemmas.Result.{err_from_is_err_and}
 use Rattle.redo_step.specs.inside.Machine.{state_of}
 use Rattle.redo_step.proofs.WriteLemmas.{stops_status, status_true, status_false}
-use Rattle.redo_step.proofs.scene.Scene.command.Goals as goal
+use Rattle.redo_step.proofs.shell.Shell.command.Goals as goal
 
 pub returns-in_err-tested-in-Test-clause-run : goal.returns-in_err-tested-in-Test-clause-run
 returns-in_err-tested-in-Test-clause-run g c =
