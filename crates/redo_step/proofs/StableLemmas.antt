@@ -1,5 +1,5 @@
 -- What is known under an ask stays so under one that keeps its answers.
-use Rattle.std.proofs.Common.{◌≡◌, ℕ, Bool, true, false, ◌&&◌, cond, not, Option, Some, None, Result, Ok, Err, List, []}
+use Rattle.std.proofs.Common.{◌≡◌, ℕ, Bool, true, false, ◌&&◌, cond, Option, Some, None, Result, Ok, Err, List, []}
 use Rattle.std.proofs.Common.{◌∷◌, ◌++◌, refl, subst}
 use Rattle.std.specs.List.{filter}
 use Rattle.std.specs.Prelude.{is_some, is_none}

@@ -1,5 +1,5 @@
 -- What redo-ifchange, redo-ifcreate and redo-always declare, and when they stop or fail.
-use Rattle.std.specs.Prelude.{ℕ, Bool, false, ◌&&◌, ◌||◌, not, List, [], ◌∷◌, ◌++◌, Option, Some, None, is_some}
+use Rattle.std.specs.Prelude.{ℕ, Bool, false, ◌&&◌, ◌||◌, List, [], ◌∷◌, Option, Some, None, is_some}
 use Rattle.std.specs.Prelude.{is_none, Result, Ok, Err, if◌then◌else◌}
 use Rattle.redo_script.specs.Syntax.{Word}
 use Rattle.redo_record.specs.declared.deps.DepKind.{DepKind}

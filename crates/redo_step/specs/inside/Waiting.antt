@@ -1,5 +1,5 @@
 -- What a redo-ifchange waits for, once it is known which of its operands are sources.
-use Rattle.std.specs.Prelude.{ℕ, Bool, false, ◌&&◌, ◌||◌, not, is_none, List, [], ◌∷◌, ◌++◌, if◌then◌else◌}
+use Rattle.std.specs.Prelude.{ℕ, Bool, false, ◌||◌, is_none, List, [], ◌∷◌, if◌then◌else◌}
 use Rattle.std.specs.List.{filter}
 use Rattle.redo_record.specs.declared.outcome.Why.TheVariants as why
 use Rattle.redo_record.specs.Paths.{Path, with_new}
