@@ -37,9 +37,8 @@ pub(crate) fn begin(
         ),
     };
     let target = path.clone()?;
-    let own = build.share()?;
     let deps = Arc::new(alloc, deps)?;
-    let fact = Fact::of(own, target, outcome, deps, false);
+    let fact = Fact::of(build.given(), target, outcome, deps, false);
     Ok(Stage::Decided(build.publish(number, fact)?))
 }
 

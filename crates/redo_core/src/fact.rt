@@ -8,13 +8,15 @@ use crate::given::Given;
 use redo_path::Path;
 use redo_record::{Outcome, Record};
 use std::marker::Model;
+use std::snapshot::Snapshot;
 use std::sync::Arc;
 
 /// A decided target with its outcome, its record and whether its script was begun. Every value of this type is true of
 /// its build.
 #[derive(Drop)]
 pub struct Fact {
-    given: Arc<Given>,
+    /// What its build is given, for contracts alone.
+    given: Snapshot<Given>,
     target: Path,
     outcome: Outcome,
     deps: Arc<Record>,
@@ -30,28 +32,28 @@ impl Model for Fact {
     ghost use Rattle.redo_core.specs.inside.Decided.{IsDecided};
 
     ghost view = { λ f. record {
-      given = arc_value f.given;
+      given = f.given.value;
       target = f.target;
       outcome = f.outcome;
       deps = arc_value f.deps;
       begun = f.begun;
     } };
 
-    ghost invariant = { λ f. IsDecided (arc_value f.given) f.target f.outcome (arc_value f.deps) f.begun };
+    ghost invariant = { λ f. IsDecided f.given.value f.target f.outcome (arc_value f.deps) f.begun };
 }
 
 impl Fact {
     /// A target that was decided so.
     pub(crate) fn of(
-        given: Arc<Given>,
+        given: &Given,
         target: Path,
         outcome: Outcome,
         deps: Arc<Record>,
         begun: bool,
     ) -> Fact
-        requires { IsDecided (arc_value given) target outcome (arc_value deps) begun }
+        requires { IsDecided given.now target outcome (arc_value deps) begun }
         ensures { result ≡ record {
-          given = arc_value given;
+          given = given.now;
           target = target;
           outcome = outcome;
           deps = arc_value deps;
@@ -59,7 +61,7 @@ impl Fact {
         } }
     {
         Fact {
-            given,
+            given: Snapshot::of(given),
             target,
             outcome,
             deps,

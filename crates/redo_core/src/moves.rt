@@ -165,9 +165,9 @@ impl Table {
     {
         let alloc = self.allocator();
         let (outcome, deps) = held.check.kept(alloc, build.given())?;
-        let own = build.share()?;
         let target = self.targets.at(at).clone()?;
-        let fact = Fact::of(own, target, outcome, Arc::new(alloc, deps)?, false);
+        let deps = Arc::new(alloc, deps)?;
+        let fact = Fact::of(build.given(), target, outcome, deps, false);
         self.conclude(at, fact, build)
     }
 

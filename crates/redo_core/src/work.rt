@@ -260,13 +260,12 @@ fn advance_job(given: Arc<Given>, number: u32, job: Job, facts: Facts) -> Result
     let target = job.target().clone()?;
     let end = match job.advance(&facts)? {
         Step::Ended(done) => {
-            let own = Arc::try_clone(&given)?;
             let path = target.clone()?;
             let deps = Arc::new(alloc, done.deps)?;
             let mut outcome = done.outcome;
             // Made here, the digest is made beside other scripts.
             outcome.keep_digest();
-            let fact = Fact::of(own, path, outcome, deps, true);
+            let fact = Fact::of(&given, path, outcome, deps, true);
             End::Ended(fact, facts.into_asked())
         }
         Step::Asks { job, paths } => {

@@ -5,7 +5,7 @@ use Rattle.redo_core.proofs.begin.begin.Goals as goal
 
 pub of-fact-requires : goal.of-fact-requires
 of-fact-requires c =
-    unruled-fact (arc_value c.in_ok-own.own) c.in_ok-target.target c.match-branch-2.outcome.0 (arc_value c.in_ok-deps.deps)
+    unruled-fact c.given-2.result.now c.in_ok-target.target c.match-branch-2.outcome.0 (arc_value c.in_ok-deps.deps)
     (search rules) (search rules)
 
 pub returns : goal.returns

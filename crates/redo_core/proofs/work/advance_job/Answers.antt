@@ -10,7 +10,7 @@ use Rattle.redo_core.specs.declared.work.End.{End}
 use Rattle.redo_core.proofs.AdvanceLemmas.{work-fits, fact-parts, stopped-end, ended-end, ended-progress, asks-progress}
 use Rattle.redo_core.proofs.AdvanceLemmas.{end-lacks}
 use Rattle.redo_core.proofs.work.advance_job.Goals as goal
-use Rattle.redo_core.proofs.work.advance_job.Goals.{in-Ended+in_ok-own-in-Ended+in_ok-path-in-Ended+in_ok-deps-in-Ended}
+use Rattle.redo_core.proofs.work.advance_job.Goals.{in-Ended+in_ok-path-in-Ended+in_ok-deps-in-Ended}
 use Rattle.redo_core.proofs.work.advance_job.Goals.{in-Asks+in_ok-begun-in-Asks}
 
 pub advance-requires-clause-fits : goal.advance-requires-clause-fits
@@ -19,12 +19,12 @@ advance-requires-clause-fits c = work-fits (arc_value c.args.given) c.args.job c
 pub of-fact-requires : goal.of-fact-requires
 of-fact-requires c =
     let deps = arc_value c.in_ok-deps-in-Ended.deps in
-    let F : Outcome → Type 0 = λ o. IsDecided (arc_value c.in_ok-own-in-Ended.own) c.in_ok-path-in-Ended.path o deps true in
+    let F : Outcome → Type 0 = λ o. IsDecided c.deref-in-Ended.result.now c.in_ok-path-in-Ended.path o deps true in
     subst F (sym c.keep_digest.ensures)
     (fact-parts (arc_value c.args.given) c.args.job c.args.facts c.requires
     c.in-Ended.done (rw c.in-Ended.is at c.in_ok-done.ensures)
-    (arc_value c.in_ok-own-in-Ended.own) c.in_ok-path-in-Ended.path (arc_value c.in_ok-deps-in-Ended.deps)
-    c.in_ok-own-in-Ended.ensures (c.in_ok-path-in-Ended.ensures.cases ∙ c.in_ok-target.ensures.cases ∙ c.target.ensures) c.in_ok-deps-in-Ended.ensures.ok)
+    c.deref-in-Ended.result.now c.in_ok-path-in-Ended.path (arc_value c.in_ok-deps-in-Ended.deps)
+    c.deref-in-Ended.ensures (c.in_ok-path-in-Ended.ensures.cases ∙ c.in_ok-target.ensures.cases ∙ c.target.ensures) c.in_ok-deps-in-Ended.ensures.ok)
 
 pub invariant_of-result : goal.invariant_of-result
 invariant_of-result c =
@@ -33,14 +33,14 @@ invariant_of-result c =
     let facts = c.args.facts in
     let P : End → Type 0 = λ end. IsEndAt given job.target job.turn end in
     rw (c.in_ok-target.ensures.cases, c.target.ensures, c.turn-turn.ensures) (elim c.match-branch-3.branch [
-      | in-Ended+in_ok-own-in-Ended+in_ok-path-in-Ended+in_ok-deps-in-Ended w ↦
+      | in-Ended+in_ok-path-in-Ended+in_ok-deps-in-Ended w ↦
           let path = w.in_ok-path-in-Ended.ensures.cases ∙ c.in_ok-target.ensures.cases ∙ c.target.ensures in
           subst P (sym w.end-is) (ended-end given job facts c.requires w.in-Ended.done (rw w.in-Ended.is at c.in_ok-done.ensures)
           w.of-fact.result w.into_asked.result
           (ap (λ (f : FactView). f.outcome) w.of-fact.ensures ∙ w.keep_digest.ensures)
           (ap (λ (f : FactView). f.deps) w.of-fact.ensures ∙ w.in_ok-deps-in-Ended.ensures.ok)
           w.into_asked.ensures
-          (ap (λ (f : FactView). f.given) w.of-fact.ensures ∙ w.in_ok-own-in-Ended.ensures)
+          (ap (λ (f : FactView). f.given) w.of-fact.ensures ∙ w.deref-in-Ended.ensures)
           (ap (λ (f : FactView). f.target) w.of-fact.ensures ∙ path))
       | in-Asks+in_ok-begun-in-Asks w ↦ subst P (sym w.end-is) (stopped-end given job facts c.requires w.in-Asks.job w.in-Asks.paths.items (rw w.in-Asks.is at c.in_ok-done.ensures) w.more_answers.ensures w.in_ok-begun-in-Asks.begun w.in-Asks.paths w.in_ok-begun-in-Asks.ensures.ok refl)
     ])
@@ -52,7 +52,7 @@ returns-clause-progress c =
     let facts = c.args.facts in
     let P : End → Type 0 = λ end. end_progress end ≡ (rules_for given).progress job.target (told_in facts) in
     elim c.match-branch-3.branch [
-      | in-Ended+in_ok-own-in-Ended+in_ok-path-in-Ended+in_ok-deps-in-Ended w ↦
+      | in-Ended+in_ok-path-in-Ended+in_ok-deps-in-Ended w ↦
           subst P (sym w.end-is) (ended-progress given job facts c.requires w.in-Ended.done (rw w.in-Ended.is at c.in_ok-done.ensures)
           w.of-fact.result w.into_asked.result
           (ap (λ (f : FactView). f.outcome) w.of-fact.ensures ∙ w.keep_digest.ensures)
