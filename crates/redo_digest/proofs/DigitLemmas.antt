@@ -39,13 +39,17 @@ code_of v = if nat_le 10 v then v + 87 else v + 48
 code_is : (c v : ℕ) → hex_digit_value c ≡ Some v → is_other c ≡ false → c ≡ code_of v
 code_is c v h small = grind (arith)
 
+-- the digit of a value, by its code
+pub digit_code : (v : ℕ) → v < 16 → slice_index lower_digits v ≡ code_of v
+digit_code v lt = code_is _ v (IsDigits-lower_digits v lt) (digit_is_one v lt)
+
 value_small : (c v : ℕ) → hex_digit_value c ≡ Some v → v < 16
 value_small c v h = grind (arith)
 
 digit_again : (c v : ℕ) → hex_digit_value c ≡ Some v → is_other c ≡ false → slice_index lower_digits v ≡ c
 digit_again c v h small =
     let lt = value_small c v h in
-    code_is _ v (IsDigits-lower_digits v lt) (digit_is_one v lt) ∙ sym (code_is c v h small)
+    digit_code v lt ∙ sym (code_is c v h small)
 
 bind_ok : {A B : Type 0} (r : Result A FromHexError) (f : A → Result B FromHexError) (y : B) → (r >>= f) ≡ Ok y → (x : A) × (r ≡ Ok x) × (f x ≡ Ok y)
 bind_ok (Ok x) f y h = (x, refl, h)

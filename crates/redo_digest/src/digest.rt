@@ -1,8 +1,8 @@
 //! Digests of contents.
 
 ghost use Rattle.std.specs.List.{list_any};
-ghost use Rattle.std.specs.Prelude.{◌≡◌, ◌<◌, Ok, Some, false, length, not};
-ghost use Rattle.hex.specs.Hex.{decode_sized, encode_lower, hex_digit_value};
+ghost use Rattle.std.specs.Prelude.{◌≡◌, ◌<◌, Ok, Some, false, length, not, slice_index};
+ghost use Rattle.hex.specs.Hex.{decode_sized, encode_lower, hex_digit_value, lower_digits};
 ghost use Rattle.sha2.specs.Sha256.{sha256};
 ghost use Rattle.redo_digest.specs.Digest.{IsDigest, IsState, digest_of, is_other};
 
@@ -58,9 +58,7 @@ impl Digest {
     pub fn digits(&self) -> [u8; DIGITS]
         ensures { result ≡ encode_lower self.now }
     {
-        let mut digits = [0; DIGITS];
-        let _fits = hex::encode_to_slice(&self.bytes, &mut digits);
-        digits
+        digits_of(&self.bytes)
     }
 
     /// The 32 bytes.
@@ -71,6 +69,32 @@ impl Digest {
         let bytes = self.bytes.as_slice();
         bytes
     }
+}
+
+/// The digit of a value.
+fn digit_of(value: u8) -> u8
+    requires { value < 16 }
+    ensures { result ≡ slice_index lower_digits value }
+{
+    if value < 10 {
+        b'0' + value
+    } else {
+        b'a' - 10 + value
+    }
+}
+
+/// The digits that spell some bytes. They are computed, as `hex` looks each up in a table, which a processor can't do for
+/// many at once; a book has two digests for each target and more.
+fn digits_of(bytes: &[u8; 32]) -> [u8; DIGITS]
+    ensures { result ≡ encode_lower bytes.now }
+{
+    let mut digits = [0; DIGITS];
+    'bytes: for at in 0..bytes.len() {
+        let byte = bytes[at];
+        digits[2 * at] = digit_of(byte / 16);
+        digits[2 * at + 1] = digit_of(byte % 16);
+    }
+    digits
 }
 
 /// Whether a byte is one of the sixteen digits.
