@@ -1,3 +1,5 @@
 pub mod DigestLemmas
 pub mod DigitLemmas
+pub mod LaneLemmas
+pub mod PaddingLemmas
 pub mod SpellingLemmas

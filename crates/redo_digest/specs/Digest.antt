@@ -1,6 +1,6 @@
 -- Digests of contents, their spelling, and the states of paths.
-use Rattle.std.specs.Prelude.{◌≡◌, ◌&&◌, ◌||◌, ℕ, Bool, List, Option, Some, None, IfSome, if◌then◌else◌, length, nat_le}
-use Rattle.std.specs.Prelude.{not, option_and_then, option_map}
+use Rattle.std.specs.Prelude.{◌≡◌, ◌+◌, ◌/◌, ◌&&◌, ◌||◌, ℕ, Bool, List, Option, Some, None, IfSome, [], ◌∷◌, if◌then◌else◌, length, nat_le}
+use Rattle.std.specs.Prelude.{not, option_and_then, option_map, slice_index_or}
 use Rattle.std.specs.Result.{result_ok}
 use Rattle.std.specs.Str.{bytes_eq}
 use Rattle.hex.specs.Hex.{IsBytes, decode_sized, encode_lower}
@@ -25,6 +25,14 @@ digest_of word =
 -- whether a byte is none of the sixteen digits
 abbrev pub is_other : ℕ → Bool
 is_other c = not (nat_le 48 c && nat_le c 57 || nat_le 97 c && nat_le c 102)
+
+-- how many blocks of 64 bytes a content of this length has with its padding
+abbrev pub blocks_for : ℕ → ℕ
+blocks_for n = (n + 72) / 64
+
+-- one of four contents
+abbrev pub one_of : List ℕ → List ℕ → List ℕ → List ℕ → ℕ → List ℕ
+one_of a b c d j = slice_index_or (a ∷ b ∷ c ∷ d ∷ []) j []
 
 -- what stood at a path: a file with this digest, or no file
 abbrev pub State : Type 0

@@ -11,9 +11,10 @@ bytes-preserved c =
     let i = c.bytes.at in
     let high = c.digit_of.result in
     let low = c.digit_of-in-bytes.result in
-    let size : length digits ≡ 64 = c.bytes.invariant.0 in
-    (length-set (slice_set digits (2 * i) high) (2 * i + 1) low ∙ length-set digits (2 * i) high ∙ size,
-    encode_step lower_digits bytes digits i high low (omega arith) (omega arith) c.digit_of.ensures c.digit_of-in-bytes.ensures c.bytes.invariant.1)
+    let size : length digits ≡ 64 = c.bytes.invariant.0 in (
+      length-set (slice_set digits (2 * i) high) (2 * i + 1) low ∙ length-set digits (2 * i) high ∙ size,
+      encode_step lower_digits bytes digits i high low (omega arith) (omega arith) c.digit_of.ensures c.digit_of-in-bytes.ensures c.bytes.invariant.1,
+    )
 
 pub returns : goal.returns
 returns c = encode_done lower_digits c.args.bytes.now c.bytes.digits c.bytes.at (omega arith) (omega arith) c.bytes.invariant.1
