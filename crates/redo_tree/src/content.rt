@@ -72,6 +72,19 @@ impl Content {
         }
     }
 
+    /// Whether the digest was kept.
+    pub fn has_digest(&self) -> bool {
+        self.digest.is_some()
+    }
+
+    /// Keeps a digest that was made of the bytes beside others.
+    pub fn put_digest(&mut self, digest: Digest)
+        requires { digest ≡ sha256 self.old }
+        ensures { self.new ≡ self.old }
+    {
+        self.digest = Some(digest);
+    }
+
     /// Makes the digest and keeps it, so that later calls of [`Content::digest`] read no byte. The same goes for clones
     /// made from then on.
     pub fn keep_digest(&mut self)

@@ -1,8 +1,11 @@
 //! Making the digests of named files and keeping them.
 
-ghost use Rattle.std.specs.Prelude.{◌≡◌, ◌<◌, ℕ, length, slice_index_or};
+ghost use Rattle.std.specs.Prelude.{◌≡◌, ◌<◌, ℕ, List, Some, length, slice_get, slice_index_or};
+ghost use Rattle.sha2.specs.Sha256.{sha256};
+ghost use Rattle.redo_tree.specs.declared.entries.Entry.TheVariants.{File};
 
 use crate::Entry;
+use redo_digest::{Digest, Fours, Next};
 use std::thread;
 use std::thread::Threads;
 
@@ -28,10 +31,95 @@ pub(crate) fn keep_digest(entry: &mut Entry)
     }
 }
 
+/// The bytes of the entry with this number; none if it is no file.
+fn bytes_at(entries: &[Entry], number: usize) -> &[u8]
+    ensures { (content : List ℕ) → slice_get entries.now number ≡ Some (File content) → result.now ≡ content }
+{
+    match entries.get(number) {
+        Some(Entry::File(content)) => content.bytes(),
+        _ => b"",
+    }
+}
+
+/// Keeps a digest that was made of a file.
+fn put_digest(entry: &mut Entry, digest: Digest)
+    requires { (content : List ℕ) → entry.old ≡ File content → digest ≡ sha256 content }
+    ensures { entry.new ≡ entry.old }
+{
+    match entry {
+        Entry::Directory => {}
+        Entry::File(content) => content.put_digest(digest),
+    }
+}
+
+/// Keeps the digest of the entry with this number, if that is a file.
+fn put(entries: &mut [Entry], number: usize, digest: Digest)
+    requires { (content : List ℕ) → slice_get entries.old number ≡ Some (File content) → digest ≡ sha256 content }
+    ensures { entries.new ≡ entries.old }
+{
+    if number < entries.len() {
+        put_digest(&mut entries[number], digest);
+    }
+}
+
+/// Makes the digests of the entries with these numbers and keeps them.
+fn keep_four(entries: &mut [Entry], numbers: [usize; 4])
+    ensures { entries.new ≡ entries.old }
+{
+    let [a, b, c, d] = numbers;
+    let [first, second, third, fourth] = Digest::of_four(
+        bytes_at(entries, a),
+        bytes_at(entries, b),
+        bytes_at(entries, c),
+        bytes_at(entries, d),
+    );
+    put(entries, a, first);
+    put(entries, b, second);
+    put(entries, c, third);
+    put(entries, d, fourth);
+}
+
+/// The same, if there are four to be digested now.
+fn keep_next(entries: &mut [Entry], next: Next)
+    ensures { entries.new ≡ entries.old }
+{
+    match next {
+        Next::Four(numbers) => keep_four(entries, numbers),
+        Next::Alone | Next::Waits => {}
+    }
+}
+
+/// What is to be digested after an entry, which has no digest yet if it is a file.
+fn next_after(fours: &mut Fours, entry: &Entry, number: usize) -> Next {
+    match entry {
+        Entry::File(content) if !content.has_digest() => {
+            fours.add(number, content.bytes().len())
+        }
+        _ => Next::Waits,
+    }
+}
+
+/// Makes the digests of the named files that are short, four at a time, and keeps them.
+fn keep_short_digests(entries: &mut [Entry], named: &[bool])
+    ensures { entries.new ≡ entries.old }
+{
+    let mut fours = Fours::new();
+    'entries: for number in 0..entries.len() {
+        if is_named(named, number) {
+            let next = next_after(&mut fours, &entries[number], number);
+            keep_next(entries, next);
+        }
+    }
+    let [one, two] = fours.rest();
+    keep_next(entries, one);
+    keep_next(entries, two);
+}
+
 /// Makes the digests of the named files and keeps them.
 pub(crate) fn keep_digests(entries: &mut [Entry], named: &[bool])
     ensures { entries.new ≡ entries.old }
 {
+    keep_short_digests(entries, named);
     'entries: for number in 0..entries.len() {
         if is_named(named, number) {
             keep_digest(&mut entries[number]);
@@ -39,11 +127,11 @@ pub(crate) fn keep_digests(entries: &mut [Entry], named: &[bool])
     }
 }
 
-/// About how many bytes SHA-256 processes for an entry: at least one block of 64 for a file.
+/// About how many bytes SHA-256 processes for an entry: at least one block of 64 for a file without a digest.
 fn bytes_to_read(entry: &Entry) -> usize {
     match entry {
-        Entry::Directory => 0,
-        Entry::File(content) => content.bytes().len().saturating_add(64),
+        Entry::File(content) if !content.has_digest() => content.bytes().len().saturating_add(64),
+        _ => 0,
     }
 }
 
@@ -78,7 +166,8 @@ fn keep_digests_in<R: Threads + Sync>(rt: &R, threads: usize, entries: &mut [Ent
     );
 }
 
-/// The same on at most `threads` threads, as many as the bytes to read are worth.
+/// The same on at most `threads` threads, as many as the bytes to read are worth. The caller's thread digests what is
+/// short, four at a time, so that it doesn't wait for a thread that comes to its part late, beside busy processes.
 pub(crate) fn keep_digests_by<R: Threads + Sync>(
     rt: &R,
     threads: usize,
@@ -87,6 +176,7 @@ pub(crate) fn keep_digests_by<R: Threads + Sync>(
 )
     ensures { entries.new ≡ entries.old }
 {
+    keep_short_digests(entries, named);
     let threads = threads_for(entries, named, threads);
     keep_digests_in(rt, threads, entries, named);
 }
