@@ -90,7 +90,7 @@ fn keep_next(entries: &mut [Entry], next: Next)
 }
 
 /// What is to be digested after an entry, which has no digest yet if it is a file.
-fn next_after(fours: &mut Fours, entry: &Entry, number: usize) -> Next {
+pub(crate) fn next_after(fours: &mut Fours, entry: &Entry, number: usize) -> Next {
     match entry {
         Entry::File(content) if !content.has_digest() => {
             fours.add(number, content.bytes().len())

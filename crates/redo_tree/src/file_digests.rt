@@ -1,13 +1,16 @@
 //! The digests of a tree's files, each made when it is first asked for.
 
-ghost use Rattle.std.specs.Prelude.{◌≡◌, IfOk};
+ghost use Rattle.std.specs.Prelude.{◌≡◌, ℕ, List, IfOk, Some, slice_get};
+ghost use Rattle.sha2.specs.Sha256.{sha256};
 ghost use Rattle.redo_digest.specs.Digest.{IsState, state_of};
 ghost use Rattle.redo_tree.specs.Tree.{file_at, tree_of};
-ghost use Rattle.redo_tree.specs.inside.Digests.{FindsNodes};
+ghost use Rattle.redo_tree.specs.declared.entries.Entry.TheVariants.{File};
+ghost use Rattle.redo_tree.specs.inside.Digests.{AreMade, FindsNodes};
 
 use crate::Entry;
-use redo_digest::Digest;
+use crate::digests::{is_named, next_after};
 use redo_digest::laws::a_content_has_a_digest;
+use redo_digest::{Digest, Fours, Next};
 use redo_names::PathMap;
 use redo_path::Path;
 use std::alloc::{AllocError, Global};
@@ -47,6 +50,13 @@ impl<'a> FileDigests<'a> {
         Ok(FileDigests { entries, made })
     }
 
+    /// Makes the digests of the named files that are short, those of the numbers at which `named` is true, four at a time.
+    pub fn prepare(&mut self, named: &[bool])
+        ensures { self.new ≡ self.old }
+    {
+        make_short(self.entries, &mut self.made, named);
+    }
+
     /// The state of a path: the digest of the file there, or `None` if there is no file.
     pub fn state_at(&mut self, path: &Path) -> Option<Digest>
         ensures value { result ≡ state_of (file_at self.old path.now) }
@@ -65,4 +75,79 @@ impl<'a> FileDigests<'a> {
         self.made[number] = Some(digest);
         Some(digest)
     }
+}
+
+/// The bytes of the entry with this number; none if it is no file.
+fn bytes_at(entries: &PathMap<Entry>, number: usize) -> &[u8]
+    ensures { (path content : List ℕ) → slice_get entries.now number ≡ Some (path, File content) →
+        result.now ≡ content }
+{
+    if number >= entries.len() {
+        return b"";
+    }
+    match entries.at(number) {
+        (_, Entry::File(content)) => content.bytes(),
+        (_, Entry::Directory) => b"",
+    }
+}
+
+/// Notes a digest that was made of the entry with this number, if that is a file.
+fn put(entries: &PathMap<Entry>, made: &mut [Option<Digest>], number: usize, digest: Digest)
+    requires made { AreMade entries.now made.old }
+    requires digest { (path content : List ℕ) → slice_get entries.now number ≡ Some (path, File content) →
+        digest ≡ sha256 content }
+    ensures { AreMade entries.now made.new }
+{
+    if number >= made.len() {
+        return;
+    }
+    if let (_, Entry::File(_)) = entries.at(number) {
+        made[number] = Some(digest);
+    }
+}
+
+/// Makes the digests of the entries with these numbers.
+fn make_four(entries: &PathMap<Entry>, made: &mut [Option<Digest>], numbers: [usize; 4])
+    requires { AreMade entries.now made.old }
+    ensures { AreMade entries.now made.new }
+{
+    let [a, b, c, d] = numbers;
+    let [first, second, third, fourth] = Digest::of_four(
+        bytes_at(entries, a),
+        bytes_at(entries, b),
+        bytes_at(entries, c),
+        bytes_at(entries, d),
+    );
+    put(entries, made, a, first);
+    put(entries, made, b, second);
+    put(entries, made, c, third);
+    put(entries, made, d, fourth);
+}
+
+/// The same, if there are four to be digested now.
+fn make_next(entries: &PathMap<Entry>, made: &mut [Option<Digest>], next: Next)
+    requires { AreMade entries.now made.old }
+    ensures { AreMade entries.now made.new }
+{
+    match next {
+        Next::Four(numbers) => make_four(entries, made, numbers),
+        Next::Alone | Next::Waits => {}
+    }
+}
+
+/// Makes the digests of the named files that are short.
+fn make_short(entries: &PathMap<Entry>, made: &mut [Option<Digest>], named: &[bool])
+    requires { AreMade entries.now made.old }
+    ensures { AreMade entries.now made.new }
+{
+    let mut fours = Fours::new();
+    'entries: for number in 0..entries.len() {
+        if is_named(named, number) {
+            let next = next_after(&mut fours, entries.at(number).1, number);
+            make_next(entries, made, next);
+        }
+    }
+    let [one, two] = fours.rest();
+    make_next(entries, made, one);
+    make_next(entries, made, two);
 }
