@@ -13,7 +13,7 @@ use crate::said::Said;
 use redo_path::Path;
 use redo_record::Why;
 use redo_script::{Reason, ScriptFault, Span, parse, place_of_fault, statement_words};
-use redo_step::{EndPlace, Ending, Given, Limits, find_end};
+use redo_step::{EndPlace, Ending, Limits, ScriptInputs, find_end};
 use redo_tree::Tree;
 use redo_which::Rule;
 use std::alloc::{AllocError, Global};
@@ -158,13 +158,13 @@ impl Failed<'_> {
             Err(fault) if fault.why == Reason::Memory => return Err(AllocError),
             Err(_) => return Ok(None),
         };
-        let given = Given {
+        let inputs = ScriptInputs {
             tree: self.sources,
             target: self.target,
             args: &self.rule.args,
             limits: self.limits,
         };
-        match find_end(alloc, &given, &script, answers)? {
+        match find_end(alloc, &inputs, &script, answers)? {
             Some(place) if is_reason(&place.end, why) => Ok(Some(place)),
             _ => Ok(None),
         }

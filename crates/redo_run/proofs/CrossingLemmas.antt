@@ -22,9 +22,9 @@ use Rattle.redo_script.proofs.ast.Condition.TheSendSync as condition
 use Rattle.redo_script.proofs.fault.ScriptFault.TheSendSync as fault
 use Rattle.redo_step.proofs.limits.Limits.TheSendSync as limits
 use Rattle.redo_step.proofs.machine.Effects.TheSendSync as effects
-use Rattle.redo_step.proofs.place.Place.TheLaws.TheKnot as place
+use Rattle.redo_step.proofs.place.StopPlace.TheLaws.TheKnot as place
 use Rattle.redo_step.proofs.scope.Values.TheSendSync as values
-use Rattle.redo_step.proofs.wait.Waiting.TheSendSync as wait
+use Rattle.redo_step.proofs.wait.WaitingChange.TheSendSync as wait
 use Rattle.redo_record.proofs.deps.Deps.TheSendSync as deps
 use Rattle.redo_record.proofs.outcome.Outcome.TheSendSync as outcome
 use Rattle.redo_record.proofs.record.Record.TheSendSync as records
@@ -32,8 +32,8 @@ use Rattle.redo_sync.proofs.cells.Cells.TheSendSync as cells
 use Rattle.redo_sync.proofs.cells.Known.TheSendSync as known
 use Rattle.redo_script.specs.contracts.ast.Script as Script
 use Rattle.redo_step.specs.contracts.parsed.Parsed as Parsed
-use Rattle.redo_step.specs.contracts.place.Place as Place
-use Rattle.redo_step.specs.contracts.job.Task as Task
+use Rattle.redo_step.specs.contracts.place.StopPlace as StopPlace
+use Rattle.redo_step.specs.contracts.job.JobInputs as JobInputs
 use Rattle.redo_step.specs.contracts.job.Job as Job
 use Rattle.redo_core.specs.contracts.scripts.Reading as Reading
 use Rattle.redo_core.specs.contracts.given.Given as Given
@@ -82,14 +82,14 @@ fact_sync = search (given_send, given_sync, path.the_sync, outcome.the_field_syn
 pub facts_send : IsSend (Facts.the_field).row
 facts_send = search (fact_send, fact_sync, known.the_send, maps.the_send, deps.the_send, sendable, heap.crosses) depth 20
 
-pub task_send : IsSend (Task.the_field).row
-task_send = search (parsed_send, parsed_sync, tree.the_send, tree.the_sync, path.the_send, rule.the_field_send, limits.the_send, sendable, heap.crosses) depth 20
+pub inputs_send : IsSend (JobInputs.the_field).row
+inputs_send = search (parsed_send, parsed_sync, tree.the_send, tree.the_sync, path.the_send, rule.the_field_send, limits.the_send, sendable, heap.crosses) depth 20
 
-pub place_send : IsSend (Place.the_field).row
-place_send = search (values.the_send, place.send-Place, sendable, heap.crosses) depth 20
+pub place_send : IsSend (StopPlace.the_field).row
+place_send = search (values.the_send, place.send-StopPlace, sendable, heap.crosses) depth 20
 
 pub job_send : IsSend (Job.the_field).row
-job_send = search (task_send, place_send, wait.the_field_send, effects.the_field_send, sendable, heap.crosses) depth 20
+job_send = search (inputs_send, place_send, wait.the_field_send, effects.the_field_send, sendable, heap.crosses) depth 20
 
 pub unread_send : IsSend (Unread.the_field).row
 unread_send = search (facts_send, path.the_send, rule.the_field_send, sendable, heap.crosses) depth 20

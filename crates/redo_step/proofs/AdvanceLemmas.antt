@@ -7,9 +7,9 @@ use Rattle.redo_record.specs.declared.outcome.Outcome.{Outcome}
 use Rattle.redo_step.specs.declared.job.Step.{Step}
 use Rattle.redo_step.specs.declared.job.Step.TheVariants as steps
 use Rattle.redo_step.specs.declared.parsed.Parsed.TheVariants.{Read, Refused}
-use Rattle.redo_step.specs.declared.refusal.Refusal.{Refusal}
+use Rattle.redo_step.specs.declared.syntax_fault.SyntaxFault.{SyntaxFault}
 use Rattle.redo_script.specs.declared.fault.ScriptFault.{ScriptFault}
-use Rattle.redo_step.specs.declared.place.Place.{Place, Before}
+use Rattle.redo_step.specs.declared.place.StopPlace.{StopPlace, Before}
 use Rattle.redo_record.specs.Paths.{Path}
 use Rattle.redo_step.specs.Parsed.{parsed_of}
 use Rattle.redo_step.specs.Place.{Rest, all_of, skip, left_at}
@@ -84,7 +84,7 @@ module _ (ask : Ask) (job : JobView) (tree : ScriptTree) (fit : IsFit job ask) (
       let all = all_goes (job_setting job) ask (script_of tree.stmts.items) (left_at job.place (job_setting job) (script_of tree.stmts.items)) job.state fits t r in
       ends_as (goes t) step all d
 
-  pub asks : (place : Place) (t : State) (turn : ℕ) (paths : List Path) → turn ≡ job.turn + 1 → Reaches (job_setting job) ask (left_at job.place (job_setting job) (script_of tree.stmts.items)) job.state (left_at place (job_setting job) (script_of tree.stmts.items)) t → left_at place (job_setting job) (script_of tree.stmts.items) ask t ≡ ends (stopped paths) t → AsksFor ask job (with_rest job place t turn) paths
+  pub asks : (place : StopPlace) (t : State) (turn : ℕ) (paths : List Path) → turn ≡ job.turn + 1 → Reaches (job_setting job) ask (left_at job.place (job_setting job) (script_of tree.stmts.items)) job.state (left_at place (job_setting job) (script_of tree.stmts.items)) t → left_at place (job_setting job) (script_of tree.stmts.items) ask t ≡ ends (stopped paths) t → AsksFor ask job (with_rest job place t turn) paths
   asks place t turn paths later r stops =
       let all = all_stops (job_setting job) ask (script_of tree.stmts.items) (left_at job.place (job_setting job) (script_of tree.stmts.items)) job.state fits paths (left_at place (job_setting job) (script_of tree.stmts.items)) t r stops in
       record {
@@ -98,7 +98,7 @@ module _ (ask : Ask) (job : JobView) (tree : ScriptTree) (fit : IsFit job ask) (
         progress = by_meaning (ends (stopped paths) t) all;
       }
 
-pub refused : (ask : Ask) (job : JobView) (refusal : Refusal) (step : Step) → job.parsed ≡ Refused refusal → IsRefused (found_deps job) refusal.fault step → Advances ask job step
+pub refused : (ask : Ask) (job : JobView) (refusal : SyntaxFault) (step : Step) → job.parsed ≡ Refused refusal → IsRefused (found_deps job) refusal.fault step → Advances ask job step
 refused ask job refusal (steps.Ended done) is h = ap (λ p. by_script (job_setting job) (found_deps job) (parsed_of p) ask) is ∙ sym h
 refused ask job refusal (steps.Asks later paths) is h = absurd h
 

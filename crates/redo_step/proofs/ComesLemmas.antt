@@ -15,8 +15,8 @@ use Rattle.redo_script.specs.Syntax.{Script, finish, simple, choice, loop, Word,
 use Rattle.redo_script.specs.View.{before, script_of, command_of, condition_of, words_of}
 use Rattle.redo_step.specs.declared.place.Branch.{Branch}
 use Rattle.redo_step.specs.declared.place.Branch.TheVariants.{First, Second}
-use Rattle.redo_step.specs.declared.place.Place.{Place, Before, Within', InTurn'}
-use Rattle.redo_step.specs.declared.place.Place.TheVariants as places
+use Rattle.redo_step.specs.declared.place.StopPlace.{StopPlace, Before, Within', InTurn'}
+use Rattle.redo_step.specs.declared.place.StopPlace.TheVariants as places
 use Rattle.redo_step.specs.declared.halt.Halt.{Halt}
 use Rattle.redo_step.specs.declared.halt.Halt.TheVariants as stops
 use Rattle.redo_step.specs.declared.machine.RunEnd.{RunEnd}
@@ -150,7 +150,7 @@ module _ (setting : Setting) (ask : Ask) where
   inside_choice First left line c a b rest = refl
   inside_choice Second left line c a b rest = refl
 
-  left_within : (index : ℕ) (branch : Branch) (q : _) (place : Place) (whole : Script) (line : ℕ) (c : Condition) (a b rest : Script) → skip index whole ≡ choice line c a b rest → left_at (Within' index branch q place) setting whole ≡ and_then (left_at place setting (picked branch a b)) (all_of setting rest)
+  left_within : (index : ℕ) (branch : Branch) (q : _) (place : StopPlace) (whole : Script) (line : ℕ) (c : Condition) (a b rest : Script) → skip index whole ≡ choice line c a b rest → left_at (Within' index branch q place) setting whole ≡ and_then (left_at place setting (picked branch a b)) (all_of setting rest)
   unfolding left_at
   left_within index branch q place whole line c a b rest at = ap (inside branch (left_at place) setting) at ∙ inside_choice branch (left_at place) line c a b rest
 
@@ -158,7 +158,7 @@ module _ (setting : Setting) (ask : Ask) where
   branch_choice First line c a b rest = refl
   branch_choice Second line c a b rest = refl
 
-  stands_within : (index : ℕ) (branch : Branch) (q : _) (place : Place) (whole : Script) (line : ℕ) (c : Condition) (a b rest : Script) → skip index whole ≡ choice line c a b rest → stands_at (Within' index branch q place) setting whole ≡ stands_at place setting (picked branch a b)
+  stands_within : (index : ℕ) (branch : Branch) (q : _) (place : StopPlace) (whole : Script) (line : ℕ) (c : Condition) (a b rest : Script) → skip index whole ≡ choice line c a b rest → stands_at (Within' index branch q place) setting whole ≡ stands_at place setting (picked branch a b)
   unfolding stands_at
   stands_within index branch q place whole line c a b rest at = ap (λ y. stands_at place setting (branch_of branch y)) at ∙ ap (stands_at place setting) (branch_choice branch line c a b rest)
 
@@ -191,12 +191,12 @@ module _ (setting : Setting) (ask : Ask) where
 
   -- turns
 
-  left_in_turn : (index : ℕ) (values : List (List ℕ)) (turn : ℕ) (q : _) (place : Place) (whole : Script) (line : ℕ) (name : List ℕ) (ws : List Word) (body rest : Script) (value : List ℕ) (others : List (List ℕ)) → skip index whole ≡ loop line name ws body rest → drop turn values ≡ value ∷ others →
+  left_in_turn : (index : ℕ) (values : List (List ℕ)) (turn : ℕ) (q : _) (place : StopPlace) (whole : Script) (line : ℕ) (name : List ℕ) (ws : List Word) (body rest : Script) (value : List ℕ) (others : List (List ℕ)) → skip index whole ≡ loop line name ws body rest → drop turn values ≡ value ∷ others →
       left_at (InTurn' index values turn q place) setting whole ≡ and_then (and_then (left_at place (with_value setting name value) body) (turns_of setting name body others)) (all_of setting rest)
   unfolding left_at
   left_in_turn index values turn q place whole line name ws body rest value others at d = ap (λ y. in_turn y (left_at place) setting (skip index whole)) d ∙ ap (in_turn (value ∷ others) (left_at place) setting) at
 
-  stands_in_turn : (index : ℕ) (values : List (List ℕ)) (turn : ℕ) (q : _) (place : Place) (whole : Script) (line : ℕ) (name : List ℕ) (ws : List Word) (body rest : Script) (value : List ℕ) (others : List (List ℕ)) → skip index whole ≡ loop line name ws body rest → drop turn values ≡ value ∷ others →
+  stands_in_turn : (index : ℕ) (values : List (List ℕ)) (turn : ℕ) (q : _) (place : StopPlace) (whole : Script) (line : ℕ) (name : List ℕ) (ws : List Word) (body rest : Script) (value : List ℕ) (others : List (List ℕ)) → skip index whole ≡ loop line name ws body rest → drop turn values ≡ value ∷ others →
       stands_at (InTurn' index values turn q place) setting whole ≡ stands_at place (with_value setting name value) body
   unfolding stands_at
   stands_in_turn index values turn q place whole line name ws body rest value others at d =
@@ -393,42 +393,42 @@ no_turn_if xs index x line c a b values turn lt at is = record {
 
 -- Places
 
-left_before : (place : Place) (setting : Setting) (n : ℕ) (script : Script) → place ≡ Before n → all_of setting (skip n script) ≡ left_at place setting script
+left_before : (place : StopPlace) (setting : Setting) (n : ℕ) (script : Script) → place ≡ Before n → all_of setting (skip n script) ≡ left_at place setting script
 unfolding left_at
 left_before place setting n script is = rw is refl
 
-left_inside : (place : Place) (setting : Setting) (n : ℕ) (branch : Branch) (inner : Box Place Global) (script : Script) → place ≡ places.Within n branch inner → left_at place setting script ≡ inside branch (left_at inner.value) setting (skip n script)
+left_inside : (place : StopPlace) (setting : Setting) (n : ℕ) (branch : Branch) (inner : Box StopPlace Global) (script : Script) → place ≡ places.Within n branch inner → left_at place setting script ≡ inside branch (left_at inner.value) setting (skip n script)
 unfolding left_at
 left_inside place setting n branch inner script is = rw is refl
 
-left_in : (place : Place) (setting : Setting) (n : ℕ) (values : List (List ℕ)) (turn : ℕ) (inner : Box Place Global) (script : Script) → place ≡ places.InTurn n values turn inner → left_at place setting script ≡ in_turn (drop turn values) (left_at inner.value) setting (skip n script)
+left_in : (place : StopPlace) (setting : Setting) (n : ℕ) (values : List (List ℕ)) (turn : ℕ) (inner : Box StopPlace Global) (script : Script) → place ≡ places.InTurn n values turn inner → left_at place setting script ≡ in_turn (drop turn values) (left_at inner.value) setting (skip n script)
 unfolding left_at
 left_in place setting n values turn inner script is = rw is refl
 
-module _ (setting : Setting) (ask : Ask) (whole : List Stmt) (place : Place) (s : State) where
+module _ (setting : Setting) (ask : Ask) (whole : List Stmt) (place : StopPlace) (s : State) where
   pub comes_before : (n : ℕ) (t : State) (p : RunEnd) → place ≡ Before n → Comes setting ask (script_of whole) (all_of setting (skip n (script_of whole))) (all_of setting finish) s p t → Comes setting ask (script_of whole) (left_at place setting (script_of whole)) (all_of setting finish) s p t
   comes_before n t p is h = subst (λ (y : Rest). Comes setting ask (script_of whole) y (all_of setting finish) s p t) (left_before place setting n (script_of whole) is) h
 
-  pub nothing_left : (n : ℕ) (branch : Branch) (inner : Box Place Global) → place ≡ places.Within n branch inner → HasNoBranch whole n → Reaches setting ask (left_at place setting (script_of whole)) s (all_of setting finish) s
+  pub nothing_left : (n : ℕ) (branch : Branch) (inner : Box StopPlace Global) → place ≡ places.Within n branch inner → HasNoBranch whole n → Reaches setting ask (left_at place setting (script_of whole)) s (all_of setting finish) s
   nothing_left n branch inner is none =
       subst (λ (y : Rest). Reaches setting ask y s (all_of setting finish) s) (sym (left_inside place setting n branch inner (script_of whole) is ∙ none.nothing branch (left_at inner.value) setting)) (Reaches-refl setting ask (all_of setting finish) s)
 
   -- what is left in a branch was run
-  pub part_comes : (n : ℕ) (branch : Branch) (inner : Box Place Global) (part : List Stmt) (here : Place) (t : State) (p outer : RunEnd) → place ≡ places.Within n branch inner → HasBranch whole n branch part → here ≡ inner.value → Comes setting ask (script_of part) (left_at here setting (script_of part)) (all_of setting finish) s p t → IsWithin p n branch outer → Comes setting ask (script_of whole) (left_at place setting (script_of whole)) (all_of setting (skip (n + 1) (script_of whole))) s outer t
+  pub part_comes : (n : ℕ) (branch : Branch) (inner : Box StopPlace Global) (part : List Stmt) (here : StopPlace) (t : State) (p outer : RunEnd) → place ≡ places.Within n branch inner → HasBranch whole n branch part → here ≡ inner.value → Comes setting ask (script_of part) (left_at here setting (script_of part)) (all_of setting finish) s p t → IsWithin p n branch outer → Comes setting ask (script_of whole) (left_at place setting (script_of whole)) (all_of setting (skip (n + 1) (script_of whole))) s outer t
   part_comes n branch inner part here t p outer is has e h w =
       let rest = skip (n + 1) (script_of whole) in
       let left = left_at inner.value setting (picked branch has.first has.second) in
-      let h' : Comes setting ask (picked branch has.first has.second) left (all_of setting finish) s p t = subst (λ (y : Script). Comes setting ask y (left_at inner.value setting y) (all_of setting finish) s p t) has.part_is (subst (λ (q : Place). Comes setting ask (script_of part) (left_at q setting (script_of part)) (all_of setting finish) s p t) e h) in
+      let h' : Comes setting ask (picked branch has.first has.second) left (all_of setting finish) s p t = subst (λ (y : Script). Comes setting ask y (left_at inner.value setting y) (all_of setting finish) s p t) has.part_is (subst (λ (q : StopPlace). Comes setting ask (script_of part) (left_at q setting (script_of part)) (all_of setting finish) s p t) e h) in
       let out = comes_within setting ask (script_of whole) n branch has.line has.condition has.first has.second rest left s t p outer has.here h' w in
       let same : left_at place setting (script_of whole) ≡ and_then left (all_of setting rest) = left_inside place setting n branch inner (script_of whole) is ∙ ap (inside branch (left_at inner.value) setting) has.here ∙ inside_choice setting ask branch (left_at inner.value) has.line has.condition has.first has.second rest in
       subst (λ (y : Rest). Comes setting ask (script_of whole) y (all_of setting rest) s outer t) (sym same) out
 
-  pub no_turn : (n : ℕ) (values : List (List ℕ)) (turn : ℕ) (inner : Box Place Global) → place ≡ places.InTurn n values turn inner → HasNoTurn whole n values turn → Reaches setting ask (left_at place setting (script_of whole)) s (all_of setting finish) s
+  pub no_turn : (n : ℕ) (values : List (List ℕ)) (turn : ℕ) (inner : Box StopPlace Global) → place ≡ places.InTurn n values turn inner → HasNoTurn whole n values turn → Reaches setting ask (left_at place setting (script_of whole)) s (all_of setting finish) s
   no_turn n values turn inner is none =
       subst (λ (y : Rest). Reaches setting ask y s (all_of setting finish) s) (sym (left_in place setting n values turn inner (script_of whole) is ∙ none.nothing (left_at inner.value) setting)) (Reaches-refl setting ask (all_of setting finish) s)
 
   -- what is left in a turn was run
-  pub turn_comes_on : (n : ℕ) (values : List (List ℕ)) (turn : ℕ) (inner : Box Place Global) (turns : Turns) (here : Place) (within : Setting) (t : State) (p outer : RunEnd) → place ≡ places.InTurn n values turn inner → HasTurns whole n turns → turns.values.now ≡ values → IsTurn setting turns turn within → here ≡ inner.value →
+  pub turn_comes_on : (n : ℕ) (values : List (List ℕ)) (turn : ℕ) (inner : Box StopPlace Global) (turns : Turns) (here : StopPlace) (within : Setting) (t : State) (p outer : RunEnd) → place ≡ places.InTurn n values turn inner → HasTurns whole n turns → turns.values.now ≡ values → IsTurn setting turns turn within → here ≡ inner.value →
       Comes within ask (script_of turns.body.now) (left_at here within (script_of turns.body.now)) (all_of within finish) s p t → IsInTurn p turns.index turns.values.now turn outer →
       Comes setting ask (script_of whole) (left_at place setting (script_of whole)) (and_then (turns_from setting turns (turn + 1)) (all_of setting (skip (turns.index + 1) (script_of whole)))) s outer t
   turn_comes_on n values turn inner turns here within t p outer is has v tn e h w =
@@ -438,7 +438,7 @@ module _ (setting : Setting) (ask : Ask) (whole : List Stmt) (place : Place) (s 
       let left = left_at inner.value wv body in
       let more = turns_from setting turns (turn + 1) in
       let d : drop turn values ≡ tn.value ∷ drop (turn + 1) turns.values.now = ap (drop turn) (sym v) ∙ tn.here in
-      let h1 : Comes within ask body (left_at inner.value within body) (all_of within finish) s p t = subst (λ (q : Place). Comes within ask body (left_at q within body) (all_of within finish) s p t) e h in
+      let h1 : Comes within ask body (left_at inner.value within body) (all_of within finish) s p t = subst (λ (q : StopPlace). Comes within ask body (left_at q within body) (all_of within finish) s p t) e h in
       let h2 : Comes wv ask body left (all_of wv finish) s p t = subst (λ (i : Setting). Comes i ask body (left_at inner.value i body) (all_of i finish) s p t) tn.binds h1 in
       let w' : IsInTurn p n turns.values.now turn outer = rw (← has.same_index) w in
       let out = comes_in_turn setting ask (script_of whole) n turns.values.now turn has.line turns.name.now has.words body rest tn.value (drop (turn + 1) turns.values.now) left s t p outer has.here tn.here h2 w' in

@@ -8,11 +8,11 @@ use Rattle.redo_script.specs.Syntax.{Script, Command, finish, simple}
 use Rattle.redo_script.specs.View.{script_of}
 use Rattle.redo_script.specs.declared.fault.ScriptFault.{ScriptFault}
 use Rattle.redo_step.specs.declared.place.Branch.{Branch}
-use Rattle.redo_step.specs.declared.place.Place.{Place, Before, Within', InTurn'}
-use Rattle.redo_step.specs.declared.place.Place.TheVariants as places
+use Rattle.redo_step.specs.declared.place.StopPlace.{StopPlace, Before, Within', InTurn'}
+use Rattle.redo_step.specs.declared.place.StopPlace.TheVariants as places
 use Rattle.redo_step.specs.declared.machine.RunEnd.{RunEnd}
 use Rattle.redo_step.specs.declared.halt.Halt.{Halt}
-use Rattle.redo_step.specs.declared.wait.Waiting.{Waiting}
+use Rattle.redo_step.specs.declared.wait.WaitingChange.{WaitingChange}
 use Rattle.redo_step.specs.Setting.{Setting}
 use Rattle.redo_step.specs.Runs.{State, goes}
 use Rattle.redo_record.specs.Answers.{Ask}
@@ -41,47 +41,47 @@ within_here [] n rest line c h = absurd (let bad : finish ≡ simple line c rest
 within_here (x ∷ xs) zero rest line c h = omega arith
 within_here (x ∷ xs) (suc n) rest line c h = let r = within_here xs n rest line c (sym (ap (skip n) (behind-before x (script_of xs))) ∙ h) in omega arith
 
-pub stands_first : (place : Place) (n : ℕ) (setting : Setting) (script : Script) → place ≡ Before n → stands_at place setting script ≡ record { setting = setting; script = skip n script }
+pub stands_first : (place : StopPlace) (n : ℕ) (setting : Setting) (script : Script) → place ≡ Before n → stands_at place setting script ≡ record { setting = setting; script = skip n script }
 unfolding stands_at
 stands_first place n setting script is = rw is refl
 
-stands_inside : (place : Place) (setting : Setting) (n : ℕ) (branch : Branch) (inner : Box Place Global) (script : Script) → place ≡ places.Within n branch inner → stands_at place setting script ≡ stands_at inner.value setting (branch_of branch (skip n script))
+stands_inside : (place : StopPlace) (setting : Setting) (n : ℕ) (branch : Branch) (inner : Box StopPlace Global) (script : Script) → place ≡ places.Within n branch inner → stands_at place setting script ≡ stands_at inner.value setting (branch_of branch (skip n script))
 unfolding stands_at
 stands_inside place setting n branch inner script is = rw is refl
 
-stands_in_turn : (place : Place) (setting : Setting) (n : ℕ) (values : List (List ℕ)) (turn : ℕ) (inner : Box Place Global) (script : Script) → place ≡ places.InTurn n values turn inner →
+stands_in_turn : (place : StopPlace) (setting : Setting) (n : ℕ) (values : List (List ℕ)) (turn : ℕ) (inner : Box StopPlace Global) (script : Script) → place ≡ places.InTurn n values turn inner →
     stands_at place setting script ≡ (let here = body_in (drop turn values) setting (skip n script) in stands_at inner.value here.setting here.script)
 unfolding stands_at
 stands_in_turn place setting n values turn inner script is = rw is refl
 
 -- how many branches and turns a place lies in
-abbrev pub depth : Place → ℕ
+abbrev pub depth : StopPlace → ℕ
 depth (Before n) = 0
 depth (Within' n branch p place) = suc (depth place)
 depth (InTurn' n values turn p place) = suc (depth place)
 
-pub depth_inside : (place here : Place) (n : ℕ) (branch : Branch) (inner : Box Place Global) → place ≡ places.Within n branch inner → here ≡ inner.value → depth here < depth place
+pub depth_inside : (place here : StopPlace) (n : ℕ) (branch : Branch) (inner : Box StopPlace Global) → place ≡ places.Within n branch inner → here ≡ inner.value → depth here < depth place
 depth_inside place here n branch inner is e = rw (is, e) (omega arith)
 
-pub depth_in_turn : (place here : Place) (n : ℕ) (values : List (List ℕ)) (turn : ℕ) (inner : Box Place Global) → place ≡ places.InTurn n values turn inner → here ≡ inner.value → depth here < depth place
+pub depth_in_turn : (place here : StopPlace) (n : ℕ) (values : List (List ℕ)) (turn : ℕ) (inner : Box StopPlace Global) → place ≡ places.InTurn n values turn inner → here ≡ inner.value → depth here < depth place
 depth_in_turn place here n values turn inner is e = rw (is, e) (omega arith)
 
 module _ (setting : Setting) (ask : Ask) (whole : List Stmt) (s : State) where
   -- what is kept for a branch
-  pub kept_inside : (place : Place) (n : ℕ) (branch : Branch) (inner : Box Place Global) (part : List Stmt) (here : Place) (kept : Option Waiting) → place ≡ places.Within n branch inner → HasBranch whole n branch part → here ≡ inner.value → IsKept (stands_at place setting (script_of whole)) s kept → IsKept (stands_at here setting (script_of part)) s kept
+  pub kept_inside : (place : StopPlace) (n : ℕ) (branch : Branch) (inner : Box StopPlace Global) (part : List Stmt) (here : StopPlace) (kept : Option WaitingChange) → place ≡ places.Within n branch inner → HasBranch whole n branch part → here ≡ inner.value → IsKept (stands_at place setting (script_of whole)) s kept → IsKept (stands_at here setting (script_of part)) s kept
   kept_inside place n branch inner part here kept is has e k =
       let same : stands_at place setting (script_of whole) ≡ stands_at here setting (script_of part) =
       stands_inside place setting n branch inner (script_of whole) is ∙ ap (λ y. stands_at inner.value setting (branch_of branch y)) has.here ∙ ap (stands_at inner.value setting) (branch_choice setting ask branch has.line has.condition has.first has.second (skip (n + 1) (script_of whole)) ∙ sym has.part_is) ∙ ap (λ q. stands_at q setting (script_of part)) (sym e) in
       subst (λ (y : Standing). IsKept y s kept) same k
 
   -- what is kept for a turn
-  pub kept_in_turn : (place : Place) (n : ℕ) (values : List (List ℕ)) (turn : ℕ) (inner : Box Place Global) (turns : Turns) (here : Place) (within : Setting) (kept : Option Waiting) → place ≡ places.InTurn n values turn inner → HasTurns whole n turns → turns.values.now ≡ values → IsTurn setting turns turn within → here ≡ inner.value → IsKept (stands_at place setting (script_of whole)) s kept → IsKept (stands_at here within (script_of turns.body.now)) s kept
+  pub kept_in_turn : (place : StopPlace) (n : ℕ) (values : List (List ℕ)) (turn : ℕ) (inner : Box StopPlace Global) (turns : Turns) (here : StopPlace) (within : Setting) (kept : Option WaitingChange) → place ≡ places.InTurn n values turn inner → HasTurns whole n turns → turns.values.now ≡ values → IsTurn setting turns turn within → here ≡ inner.value → IsKept (stands_at place setting (script_of whole)) s kept → IsKept (stands_at here within (script_of turns.body.now)) s kept
   kept_in_turn place n values turn inner turns here within kept is has v t e k =
       let d : drop turn values ≡ t.value ∷ drop (turn + 1) turns.values.now = ap (drop turn) (sym v) ∙ t.here in
       let same : stands_at place setting (script_of whole) ≡ stands_at here within (script_of turns.body.now) = rw (e, t.binds) (stands_in_turn place setting n values turn inner (script_of whole) is ∙ rw (d, has.here) refl) in
       subst (λ (y : Standing). IsKept y s kept) same k
 
-  module _ (n : ℕ) (w : Waiting) (first : IsFirst setting (skip n (script_of whole)) s w) where
+  module _ (n : ℕ) (w : WaitingChange) (first : IsFirst setting (skip n (script_of whole)) s w) where
     pub kept_within : n < length whole
     kept_within = within_here whole n first.rest first.line first.command first.here
 
@@ -105,5 +105,5 @@ module _ (setting : Setting) (ask : Ask) (whole : List Stmt) (s : State) where
 ok_same : (x : Result Script ScriptFault) (a b : Script) → x ≡ Ok a → x ≡ Ok b → a ≡ b
 ok_same x a b e f = cc
 
-pub same_kept : (setting : Setting) (place : Place) (s : State) (kept : Option Waiting) (x : Result Script ScriptFault) (a b : Script) → x ≡ Ok a → x ≡ Ok b → IsKept (stands_at place setting a) s kept → IsKept (stands_at place setting b) s kept
+pub same_kept : (setting : Setting) (place : StopPlace) (s : State) (kept : Option WaitingChange) (x : Result Script ScriptFault) (a b : Script) → x ≡ Ok a → x ≡ Ok b → IsKept (stands_at place setting a) s kept → IsKept (stands_at place setting b) s kept
 same_kept setting place s kept x a b e f k = subst (λ (y : Script). IsKept (stands_at place setting y) s kept) (ok_same x a b e f) k

@@ -9,7 +9,7 @@ use Rattle.redo_step.specs.declared.halt.Halt.{Halt}
 use Rattle.redo_record.specs.Paths.{Path, with_new, with_path}
 use Rattle.redo_script.specs.Syntax.{Word, Command, change}
 use Rattle.redo_step.specs.declared.halt.Halt.TheVariants as stops
-use Rattle.redo_step.specs.declared.wait.Waiting.{Waiting}
+use Rattle.redo_step.specs.declared.wait.WaitingChange.{WaitingChange}
 use Rattle.redo_step.specs.inside.Machine.{kept_by, run_by, IsMeant}
 use Rattle.redo_step.specs.inside.Kept.{HasOperands}
 use Rattle.redo_record.proofs.EntryLemmas.{with_entries-again}
@@ -22,7 +22,7 @@ use Rattle.redo_record.specs.Answers.{Ask, is_failure}
 use Rattle.redo_step.specs.inside.Waiting.{targets_in, unanswered, any_failure, waited_on}
 
 -- what stops for want of answers keeps this wait
-abbrev pub KeptOnStop : {X : Type 0} → Waiting → Result X Halt → Type 0
+abbrev pub KeptOnStop : {X : Type 0} → WaitingChange → Result X Halt → Type 0
 KeptOnStop w result = (s : State) (ps : List Path) → run_by result s ≡ Some (ends (stopped ps) s) → kept_by result ≡ Some w
 
 module _ (setting : Setting) (ask : Ask) where
@@ -53,7 +53,7 @@ module _ (setting : Setting) (ask : Ask) where
   changed_is line meant ps targets s t m g d = rw (m, g, d) (waited_is line ps (declaring s kinds.Change ps))
 
   -- what was waited for is kept
-  pub keeps_waiting : {X : Type 0} (line : ℕ) (c : Command) (w : Waiting) (result : Result X Halt) (t : State) → HasOperands setting line c t w → KeptOnStop w result → IfSome (kept_by result) (HasOperands setting line c t)
+  pub keeps_waiting : {X : Type 0} (line : ℕ) (c : Command) (w : WaitingChange) (result : Result X Halt) (t : State) → HasOperands setting line c t w → KeptOnStop w result → IfSome (kept_by result) (HasOperands setting line c t)
   keeps_waiting line c w (Err (stops.Waits ps v)) t has h = let same : v ≡ w = cc (h t ps.items refl) in rw same has
   keeps_waiting line c w result t has h = tt
 
@@ -63,12 +63,12 @@ module _ (setting : Setting) (ask : Ask) where
   pub changed_runs : {X : Type 0} (line : ℕ) (words : List Word) (ps targets : List Path) (s t : State) (result : Result X Halt) → operands_of setting line words ≡ Ok ps → targets ≡ targets_in setting ps → t ≡ declaring s kinds.Change ps → IsMeant (run_by result t) (waited_on ask line targets (unanswered ask [] targets) t) → IsMeant (run_by result t) (changed setting ask line (operands_of setting line words) s)
   changed_runs line words ps targets s t result m g d h = rw (changed_is line (operands_of setting line words) ps targets s t m g d) h
 
-  pub changed_keeps : {X : Type 0} (line : ℕ) (words : List Word) (ps : List Path) (w : Waiting) (s t : State) (result : Result X Halt) → operands_of setting line words ≡ Ok ps → w.line ≡ line → w.targets.items ≡ targets_in setting ps → t ≡ declaring s kinds.Change ps → KeptOnStop w result → IfSome (kept_by result) (HasOperands setting line (change words) t)
+  pub changed_keeps : {X : Type 0} (line : ℕ) (words : List Word) (ps : List Path) (w : WaitingChange) (s t : State) (result : Result X Halt) → operands_of setting line words ≡ Ok ps → w.line ≡ line → w.targets.items ≡ targets_in setting ps → t ≡ declaring s kinds.Change ps → KeptOnStop w result → IfSome (kept_by result) (HasOperands setting line (change words) t)
   changed_keeps line words ps w s t result m l g d h =
       keeps_waiting line (change words) w result t (record { words = words; operands = ps; same_line = l; same_command = refl; names = m; waits_for = g; declared = again s t ps d }) h
 
   -- a redo-ifchange that waited, when it goes on
-  pub first_is : (line : ℕ) (c : Command) (w : Waiting) (s : State) → HasOperands setting line c s w → command_run setting ask line c s ≡ waited_on ask w.line w.targets.items (unanswered ask [] w.targets.items) s
+  pub first_is : (line : ℕ) (c : Command) (w : WaitingChange) (s : State) → HasOperands setting line c s w → command_run setting ask line c s ≡ waited_on ask w.line w.targets.items (unanswered ask [] w.targets.items) s
   first_is line c w s has = rw (has.same_command, has.same_line) (changed_is line (operands_of setting line has.words) has.operands w.targets.items s s has.names has.waits_for (sym has.declared))
 
 -- Gathering what has no answer

@@ -5,7 +5,7 @@ use Rattle.redo_tree.specs.Tree.{Tree}
 use Rattle.redo_which.specs.declared.Rule.{Rule}
 use Rattle.redo_which.specs.Views.{arguments_view}
 use Rattle.redo_step.specs.declared.parsed.Parsed.{Parsed}
-use Rattle.redo_step.specs.declared.place.Place.{Place, Before}
+use Rattle.redo_step.specs.declared.place.StopPlace.{StopPlace, Before}
 use Rattle.redo_step.specs.declared.job.Done.{Done}
 use Rattle.redo_step.specs.declared.job.Step.{Step}
 use Rattle.redo_step.specs.declared.job.Step.TheVariants as steps
@@ -33,7 +33,7 @@ begun tree target rule parsed limits = record {
 }
 
 -- the same job, further on
-abbrev pub with_rest : JobView → Place → State → ℕ → JobView
+abbrev pub with_rest : JobView → StopPlace → State → ℕ → JobView
 with_rest job place state turn = record job { place = place; state = state; turn = turn }
 
 -- The script has ended: the target's outcome and its record are those of the whole script.

@@ -6,7 +6,7 @@ use Rattle.redo_tree.specs.Tree.{Tree}
 use Rattle.redo_which.specs.Rule.{Arguments}
 use Rattle.redo_record.specs.declared.deps.Dep.{Dep}
 use Rattle.redo_step.specs.declared.parsed.Parsed.{Parsed}
-use Rattle.redo_step.specs.declared.place.Place.{Place}
+use Rattle.redo_step.specs.declared.place.StopPlace.{StopPlace}
 use Rattle.redo_record.specs.Paths.{Path}
 use Rattle.redo_step.specs.Setting.{Setting, setting_of}
 use Rattle.redo_step.specs.Runs.{State}
@@ -28,7 +28,7 @@ pub record JobView : Type 0 where
   pub arguments : Arguments
   pub limits : LimitsView
   pub parsed : Parsed
-  pub place : Place
+  pub place : StopPlace
   pub state : State
   pub turn : ℕ
 
@@ -49,7 +49,7 @@ abbrev pub progress_of : JobView → Ask → Progress
 progress_of job ask = by_script (job_setting job) (found_deps job) (whole_of job) ask
 
 -- What is left of a script fits if the run of the whole script comes to it.
-abbrev pub FitsWhole : Setting → Ask → Result Script ScriptFault → Place → State → Type 0
+abbrev pub FitsWhole : Setting → Ask → Result Script ScriptFault → StopPlace → State → Type 0
 FitsWhole setting ask (Err fault) place state = Unit {0}
 FitsWhole setting ask (Ok script) place state = Fits setting ask script (left_at place setting script) state
 

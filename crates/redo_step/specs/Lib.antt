@@ -19,5 +19,5 @@ pub mod JobView
 pub mod Job
 pub mod Operands
 pub mod Ends
-pub mod Given
+pub mod Inputs
 pub mod inside

@@ -17,7 +17,7 @@ use crate::halt::Halt;
 use crate::machine::Effects;
 use crate::scene::Scene;
 use crate::shell::Shell;
-use crate::wait::Waiting;
+use crate::wait::WaitingChange;
 use redo_path::Path;
 use redo_record::{Dep, DepKind, Deps};
 use redo_script::{Command, Condition, Test, Word};
@@ -67,7 +67,7 @@ impl<A: Answers> Shell<'_, '_, A> {
         let paths = self.scene.operands(line, words)?;
         declare(&mut effects.deps, DepKind::Change, &paths)?;
         let targets = self.scene.targets(paths);
-        Waiting { line, targets }.go_on(self.scene.alloc, self.answers)
+        WaitingChange { line, targets }.go_on(self.scene.alloc, self.answers)
     }
 
     /// Whether the condition of test(1) holds.

@@ -7,7 +7,7 @@
 ghost use Rattle.std.specs.Prelude.{◌≡◌, IfOk, IfSome, IfNone};
 ghost use Rattle.redo_script.specs.View.{script_of};
 ghost use Rattle.redo_step.specs.Ends.{EndsAt, HasNoEnd};
-ghost use Rattle.redo_step.specs.Given.{given_setting};
+ghost use Rattle.redo_step.specs.Inputs.{inputs_setting};
 ghost use Rattle.redo_step.specs.Runs.{start};
 ghost use Rattle.redo_step.specs.Statements.{meaning};
 ghost use Rattle.redo_step.specs.inside.Scene.{scene_setting};
@@ -54,18 +54,18 @@ pub struct EndPlace {
 /// What a target's script is given, besides answers: the tree, the target, the rule's arguments and the limits.
 #[derive(Clone, Copy)]
 #[derive(Drop)]
-pub struct Given<'a> {
+pub struct ScriptInputs<'a> {
     pub tree: &'a Tree,
     pub target: &'a Path,
     pub args: &'a Args,
     pub limits: Limits,
 }
 
-impl<'a> Given<'a> {
+impl<'a> ScriptInputs<'a> {
     /// What the script's commands go by, with these answers.
     #[tactic(auto, unfolding(crate::specs::Setting::setting_by))]
     fn shell<'b, A: Answers>(&self, alloc: Global, answers: &'b A) -> Shell<'a, 'b, A>
-        ensures setting { scene_setting result.scene ≡ given_setting self.now }
+        ensures setting { scene_setting result.scene ≡ inputs_setting self.now }
         ensures answers { result.answers.now ≡ answers.now }
     {
         let scene = Scene {
@@ -83,21 +83,21 @@ impl<'a> Given<'a> {
 /// Where a script ends with these answers. `None` if it comes to its end, or lacks an answer.
 pub fn find_end<A: Answers>(
     alloc: Global,
-    given: &Given,
+    inputs: &ScriptInputs,
     script: &Script,
     answers: &A,
 ) -> Result<Option<EndPlace>, AllocError>
     ensures found { IfOk result (λ found. IfSome found
-        (EndsAt (given_setting given.now) (A.ask answers.now) (script_of script.now.stmts.items) start)) }
+        (EndsAt (inputs_setting inputs.now) (A.ask answers.now) (script_of script.now.stmts.items) start)) }
     ensures none { IfOk result (λ found. IfNone found
-        (HasNoEnd (meaning (given_setting given.now) (A.ask answers.now) (script_of script.now.stmts.items)))) }
+        (HasNoEnd (meaning (inputs_setting inputs.now) (A.ask answers.now) (script_of script.now.stmts.items)))) }
 {
     let mut effects = Effects {
         output: Vec::new(alloc),
         third: None,
         deps: Deps::new(alloc),
     };
-    let shell = given.shell(alloc, answers);
+    let shell = inputs.shell(alloc, answers);
     match walk(&shell, &mut effects, &script.stmts)? {
         Walked::Ended(place) => Ok(Some(place)),
         Walked::Past | Walked::Stopped => Ok(None),

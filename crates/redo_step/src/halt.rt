@@ -2,7 +2,7 @@
 
 ghost use Rattle.std.specs.Prelude.{◌≡◌};
 
-use crate::wait::Waiting;
+use crate::wait::WaitingChange;
 use redo_path::Path;
 use redo_record::Why;
 use std::alloc::{AllocError, AllocFailed};
@@ -22,7 +22,7 @@ pub(crate) enum Halt {
     /// These paths have no answer yet.
     Lacks(Vec<Path>),
     /// These have none either, and a redo-ifchange waits for them.
-    Waits(Vec<Path>, Waiting),
+    Waits(Vec<Path>, WaitingChange),
     Memory,
 }
 

@@ -16,17 +16,17 @@ ghost use Rattle.redo_step.specs.inside.Machine.{state_of, end_of, Comes};
 ghost use Rattle.redo_step.specs.Job.{begun, Advances};
 ghost use Rattle.redo_step.specs.inside.Endings.{IsRefused, IsEnded, after_end, by_both};
 ghost use Rattle.redo_step.specs.JobView.{IsFit, record_so_far};
-ghost use Rattle.redo_step.specs.inside.Scene.{scene_setting, task_setting};
+ghost use Rattle.redo_step.specs.inside.Scene.{scene_setting, job_inputs_setting};
 
 use crate::answers::Answers;
 use crate::halt::Ending;
 use crate::limits::Limits;
 use crate::machine::{Effects, RunEnd, resume};
 use crate::parsed::Parsed;
-use crate::place::Place;
+use crate::place::StopPlace;
 use crate::scene::Scene;
 use crate::shell::Shell;
-use crate::wait::Waiting;
+use crate::wait::WaitingChange;
 use redo_path::Path;
 use redo_record::{Deps, Outcome, Record, Why};
 use redo_script::{ScriptFault, Stmt};
@@ -36,9 +36,9 @@ use std::alloc::{AllocError, Global};
 use std::marker::Model;
 use std::sync::Arc;
 
-/// A target, and what its script is given.
+/// What a job is given for good: a target, its rule and script, and what the script's commands see.
 #[derive(Drop)]
-struct Task {
+struct JobInputs {
     alloc: Global,
     tree: Arc<Tree>,
     target: Path,
@@ -47,11 +47,11 @@ struct Task {
     limits: Limits,
 }
 
-impl Task {
+impl JobInputs {
     /// What the script's commands go by, with these answers.
     #[tactic(auto, unfolding(crate::specs::Setting::setting_by))]
     fn shell<'s, 'a, A: Answers>(&'s self, answers: &'a A) -> Shell<'s, 'a, A>
-        ensures setting { scene_setting result.scene ≡ task_setting self.now }
+        ensures setting { scene_setting result.scene ≡ job_inputs_setting self.now }
         ensures answers { result.answers.now ≡ answers.now }
     {
         let scene = Scene {
@@ -71,36 +71,36 @@ impl Task {
         answers: &A,
         effects: &mut Effects,
         stmts: &[Stmt],
-        place: &Place,
-        kept: Option<Waiting>,
+        place: &StopPlace,
+        kept: Option<WaitingChange>,
     ) -> Result<RunEnd, AllocError>
-        requires { IsKept (stands_at place.now (task_setting self.now) (script_of stmts.now)) (state_of effects.old)
-            kept }
-        ensures { IfOk result (λ progress. Comes (task_setting self.now) (A.ask answers.now) (script_of stmts.now)
-            (left_at place.now (task_setting self.now) (script_of stmts.now)) (all_of (task_setting self.now) finish)
-            (state_of effects.old) progress (state_of effects.new)) }
+        requires { IsKept (stands_at place.now (job_inputs_setting self.now) (script_of stmts.now))
+            (state_of effects.old) kept }
+        ensures { IfOk result (λ progress. Comes (job_inputs_setting self.now) (A.ask answers.now) (script_of stmts.now)
+            (left_at place.now (job_inputs_setting self.now) (script_of stmts.now))
+            (all_of (job_inputs_setting self.now) finish) (state_of effects.old) progress (state_of effects.new)) }
     {
         resume(&self.shell(answers), effects, stmts, place, kept)
     }
 }
 
-/// How far a script has come.
+/// A job's inputs, and how far its script has come.
 #[derive(Drop)]
-struct Course {
-    task: Task,
-    place: Place,
+struct JobState {
+    inputs: JobInputs,
+    place: StopPlace,
     effects: Effects,
     turn: u64,
     /// The redo-ifchange that waits at the place. Contracts don't see it; the invariant of [`Job`] ties it to the
     /// statement at the place.
-    kept: Option<Waiting>,
+    kept: Option<WaitingChange>,
 }
 
 /// A target's script, the place where it stopped, and what it has done. Boxed, as a job is large and is moved at each
 /// stop.
 #[derive(Drop)]
 pub struct Job {
-    course: Box<Course>,
+    state: Box<JobState>,
 }
 
 impl Model for Job {
@@ -109,32 +109,33 @@ impl Model for Job {
     ghost use Rattle.redo_step.specs.inside.Machine.{state_of};
     ghost use Rattle.redo_step.specs.JobView.{JobView};
     ghost use Rattle.redo_script.specs.contracts.ast.Stmt as stmts;
-    ghost use Rattle.redo_step.specs.contracts.place.Place as places;
+    ghost use Rattle.redo_step.specs.contracts.place.StopPlace as places;
     ghost use Rattle.std.specs.Coded.{codes};
 
     ghost Value = { JobView };
 
     ghost coded = { Prim.hlevel (codes, stmts.the_row.coded, places.the_row.coded) };
 
-    ghost view = { λ j. let c = j.course.value in record {
-      tree = arc_value c.task.tree;
-      target = c.task.target;
-      do_file = c.task.rule.do_file;
-      missing = c.task.rule.missing;
-      arguments = arguments_view c.task.rule.args;
-      limits = c.task.limits;
-      parsed = arc_value c.task.parsed;
-      place = c.place;
-      state = state_of c.effects;
-      turn = c.turn;
+    ghost view = { λ j. let s = j.state.value in record {
+      tree = arc_value s.inputs.tree;
+      target = s.inputs.target;
+      do_file = s.inputs.rule.do_file;
+      missing = s.inputs.rule.missing;
+      arguments = arguments_view s.inputs.rule.args;
+      limits = s.inputs.limits;
+      parsed = arc_value s.inputs.parsed;
+      place = s.place;
+      state = state_of s.effects;
+      turn = s.turn;
     } };
 
     ghost use Rattle.redo_step.specs.Parsed.{parsed_of};
-    ghost use Rattle.redo_step.specs.inside.Scene.{task_setting};
+    ghost use Rattle.redo_step.specs.inside.Scene.{job_inputs_setting};
     ghost use Rattle.redo_step.specs.inside.Kept.{IsKeptIn};
 
-    ghost invariant = { λ j. let c = j.course.value in
-        IsKeptIn (task_setting c.task) (parsed_of (arc_value c.task.parsed)) c.place (state_of c.effects) c.kept };
+    ghost invariant = { λ j. let s = j.state.value in
+        IsKeptIn (job_inputs_setting s.inputs) (parsed_of (arc_value s.inputs.parsed)) s.place (state_of s.effects)
+        s.kept };
 }
 
 /// The outcome of a target whose script has ended, and its record.
@@ -166,7 +167,7 @@ impl Job {
         ensures job { IfOk result (λ job. job ≡ begun (arc_value tree) target rule (arc_value parsed) limits) }
         ensures fits { IfOk result (λ job. (ask : AskOf) → IsFit job ask) }
     {
-        let task = Task {
+        let inputs = JobInputs {
             alloc,
             tree,
             target,
@@ -179,44 +180,48 @@ impl Job {
             third: None,
             deps: Deps::new(alloc),
         };
-        let course = Course {
-            task,
-            place: Place::Before(0),
+        let state = JobState {
+            inputs,
+            place: StopPlace::Before(0),
             effects,
             turn: 0,
             kept: None,
         };
-        let course = Box::new(alloc, course)?;
-        Ok(Job { course })
+        let state = Box::new(alloc, state)?;
+        Ok(Job { state })
     }
 
     /// The target that the script makes.
     pub fn target(&self) -> &Path
         ensures { result.now ≡ self.now.target }
     {
-        &self.course.task.target
+        &self.state.inputs.target
     }
 
     /// How often the script has stopped.
     pub fn turn(&self) -> u64
         ensures { result ≡ self.now.turn }
     {
-        self.course.turn
+        self.state.turn
     }
 
     /// What the script itself has declared so far.
     pub fn declared(&self) -> &Deps
         ensures { result.now ≡ self.now.state.entries }
     {
-        &self.course.effects.deps
+        &self.state.effects.deps
     }
 
     /// The target's record so far: the entries of the search, then those that the script declared.
     pub fn record(&self) -> Result<Record, AllocError>
         ensures { IfOk result (λ deps. deps ≡ record_so_far self.now) }
     {
-        let Course { task, effects, .. } = &*self.course;
-        Record::so_far(task.alloc, &task.rule, &effects.deps)
+        let JobState {
+            inputs,
+            effects,
+            ..
+        } = &*self.state;
+        Record::so_far(inputs.alloc, &inputs.rule, &effects.deps)
     }
 
     /// Runs until the script ends, or until redo-ifchange(1) lacks an answer. The answers have to fit the job: any fit
@@ -227,30 +232,30 @@ impl Job {
         requires turn { self.turn + 1 < 2 ^ 64 }
         ensures { IfOk result (Advances (A.ask answers.now) self) }
     {
-        let Job { mut course } = self;
-        let Course {
-            task,
+        let Job { mut state } = self;
+        let JobState {
+            inputs,
             place,
             effects,
             kept,
             ..
-        } = &mut *course;
-        let script = match &*task.parsed {
+        } = &mut *state;
+        let script = match &*inputs.parsed {
             Parsed::Read(script) => script,
             Parsed::Refused(refusal) => {
                 let fault = refusal.fault;
-                return refused(course, fault);
+                return refused(state, fault);
             }
         };
-        match task.resume(answers, effects, &script.stmts, place, kept.take())? {
-            RunEnd::Finished => ended(course, Ending::Exited(0)),
-            RunEnd::Ended(ending) => ended(course, ending),
+        match inputs.resume(answers, effects, &script.stmts, place, kept.take())? {
+            RunEnd::Finished => ended(state, Ending::Exited(0)),
+            RunEnd::Ended(ending) => ended(state, ending),
             RunEnd::Stopped(paths, place, kept) => {
-                let here = &mut *course;
+                let here = &mut *state;
                 here.place = place;
                 here.kept = kept;
                 here.turn += 1;
-                let job = Job { course };
+                let job = Job { state };
                 Ok(Step::Asks { job, paths })
             }
         }
@@ -258,11 +263,11 @@ impl Job {
 }
 
 /// The step of a job whose script can't be read.
-fn refused(course: Box<Course>, fault: ScriptFault) -> Result<Step, AllocError>
+fn refused(state: Box<JobState>, fault: ScriptFault) -> Result<Step, AllocError>
     ensures { IfOk result (λ step.
-        IsRefused (search_deps course.value.task.rule.missing course.value.task.rule.do_file) fault step) }
+        IsRefused (search_deps state.value.inputs.rule.missing state.value.inputs.rule.do_file) fault step) }
 {
-    let Task { alloc, rule, .. } = Box::into_inner(course).task;
+    let JobInputs { alloc, rule, .. } = Box::into_inner(state).inputs;
     Ok(Step::Ended(Done {
         outcome: Outcome::Failed(Why::Script(fault)),
         deps: Record::of_script(alloc, rule, Deps::new(alloc))?,
@@ -270,13 +275,17 @@ fn refused(course: Box<Course>, fault: ScriptFault) -> Result<Step, AllocError>
 }
 
 /// The step of a job whose script has ended.
-fn ended(course: Box<Course>, ending: Ending) -> Result<Step, AllocError>
+fn ended(state: Box<JobState>, ending: Ending) -> Result<Step, AllocError>
     ensures { IfOk result (λ step.
-        IsEnded (search_deps course.value.task.rule.missing course.value.task.rule.do_file)
-        (ends (end_of ending) (state_of course.value.effects)) step) }
+        IsEnded (search_deps state.value.inputs.rule.missing state.value.inputs.rule.do_file)
+        (ends (end_of ending) (state_of state.value.effects)) step) }
 {
-    let Course { task, effects, .. } = Box::into_inner(course);
-    let Task { alloc, rule, .. } = task;
+    let JobState {
+        inputs,
+        effects,
+        ..
+    } = Box::into_inner(state);
+    let JobInputs { alloc, rule, .. } = inputs;
     let Effects {
         output,
         third,

@@ -5,7 +5,7 @@
 //! It stands on redo_path for the paths that words name, on redo_tree for sources, on redo_which for a target's rule
 //! and arguments, on redo_script for the reader, and on redo_record for what a script declares and how it ends.
 //!
-//! - What a script is given: `limits`, `parsed` and `refusal`, `answers`.
+//! - What a script is given: `limits`, `parsed` and `syntax_fault`, `answers`.
 //! - A job and how it goes on: `job`, `machine`, `place`, `halt`.
 //! - Commands, one idea each: `shell` (what they go by), `scene` (what they see besides answers), `scope` (the names
 //!   that loops bind), `text`, `value` and `words`, `files`, `printf`, `sink` and `writing`, `declaring`, `commands`.
@@ -28,12 +28,12 @@ mod operands;
 mod parsed;
 mod place;
 mod printf;
-mod refusal;
 mod scene;
 mod scope;
 mod shell;
 mod shown;
 mod sink;
+mod syntax_fault;
 mod text;
 mod value;
 mod wait;
@@ -42,7 +42,7 @@ mod words;
 mod writing;
 
 pub use answers::Answers;
-pub use ends::{AtFault, EndPlace, Given, find_end};
+pub use ends::{AtFault, EndPlace, ScriptInputs, find_end};
 pub use halt::Ending;
 pub use job::{Done, Job, Step};
 pub use laws::{
@@ -51,4 +51,4 @@ pub use laws::{
 };
 pub use limits::Limits;
 pub use parsed::Parsed;
-pub use refusal::Refusal;
+pub use syntax_fault::SyntaxFault;

@@ -13,11 +13,11 @@ ghost use Rattle.redo_step.specs.inside.Scene.{scene_setting};
 
 use crate::answers::Answers;
 use crate::halt::{Ending, Halt};
-use crate::place::{Branch, Place};
+use crate::place::{Branch, StopPlace};
 use crate::scene::Scene;
 use crate::scope::Values;
 use crate::shell::Shell;
-use crate::wait::Waiting;
+use crate::wait::WaitingChange;
 use redo_bytes::Bytes;
 use redo_path::Path;
 use redo_record::Deps;
@@ -40,7 +40,7 @@ pub(crate) enum RunEnd {
     Ended(Ending),
     /// Stopped at a place of the list, as these paths lack answers; with the redo-ifchange that waits there, if one
     /// does.
-    Stopped(Vec<Path>, Place, Option<Waiting>),
+    Stopped(Vec<Path>, StopPlace, Option<WaitingChange>),
 }
 
 /// A loop, with the values of its words.
@@ -178,7 +178,7 @@ fn resume_before<A: Answers>(
     effects: &mut Effects,
     stmts: &[Stmt],
     first: usize,
-    kept: Option<Waiting>,
+    kept: Option<WaitingChange>,
 ) -> Result<RunEnd, AllocError>
     requires { IsKept (record { setting = scene_setting shell.now.scene; script = skip first (script_of stmts.now) })
         (state_of effects.old) kept }
@@ -200,8 +200,8 @@ pub(crate) fn resume<A: Answers>(
     shell: &Shell<A>,
     effects: &mut Effects,
     stmts: &[Stmt],
-    place: &Place,
-    kept: Option<Waiting>,
+    place: &StopPlace,
+    kept: Option<WaitingChange>,
 ) -> Result<RunEnd, AllocError>
     requires { IsKept (stands_at place.now (scene_setting shell.now.scene) (script_of stmts.now)) (state_of effects.old)
         kept }
@@ -210,8 +210,8 @@ pub(crate) fn resume<A: Answers>(
         (all_of (scene_setting shell.now.scene) finish) (state_of effects.old) progress (state_of effects.new)) }
 {
     match place {
-        Place::Before(first) => resume_before(shell, effects, stmts, *first, kept),
-        Place::Within(index, branch, inner) => {
+        StopPlace::Before(first) => resume_before(shell, effects, stmts, *first, kept),
+        StopPlace::Within(index, branch, inner) => {
             // Nothing is left at a place inside a statement that isn't an `if`.
             let Some(part) = branch_at(stmts, *index, *branch) else {
                 return Ok(RunEnd::Finished);
@@ -222,7 +222,7 @@ pub(crate) fn resume<A: Answers>(
                 progress => Ok(progress),
             }
         }
-        Place::InTurn(index, values, turn, inner) => {
+        StopPlace::InTurn(index, values, turn, inner) => {
             // Nor is anything in a turn of a statement that isn't a loop, or in a turn without a value.
             let Some(turns) = turns_at(stmts, *index, values, *turn) else {
                 return Ok(RunEnd::Finished);
@@ -288,7 +288,7 @@ fn turns_at<'a>(
 fn stop_before(stop: Halt, index: usize) -> Result<RunEnd, AllocError>
     ensures { IfOk result (IsStopBefore stop index) }
 {
-    let here = Place::Before(index);
+    let here = StopPlace::Before(index);
     match stop {
         Halt::Ended(ending) => Ok(RunEnd::Ended(ending)),
         Halt::Lacks(paths) => Ok(RunEnd::Stopped(paths, here, None)),
@@ -309,7 +309,7 @@ fn within(
     match progress {
         RunEnd::Stopped(paths, place, kept) => {
             let place = Box::new(alloc, place)?;
-            Ok(RunEnd::Stopped(paths, Place::Within(index, branch, place), kept))
+            Ok(RunEnd::Stopped(paths, StopPlace::Within(index, branch, place), kept))
         }
         other => Ok(other),
     }
@@ -328,7 +328,11 @@ fn in_turn(
         RunEnd::Stopped(paths, place, kept) => {
             let place = Box::new(alloc, place)?;
             let values = turns.values.clone()?;
-            Ok(RunEnd::Stopped(paths, Place::InTurn(turns.index, values, turn, place), kept))
+            Ok(RunEnd::Stopped(
+                paths,
+                StopPlace::InTurn(turns.index, values, turn, place),
+                kept,
+            ))
         }
         other => Ok(other),
     }

@@ -4,7 +4,7 @@ ghost use Rattle.std.specs.Prelude.{◌≡◌, IfOk};
 ghost use Rattle.redo_script.specs.Texts.{script_in};
 ghost use Rattle.redo_step.specs.Parsed.{parsed_of};
 
-use crate::refusal::Refusal;
+use crate::syntax_fault::SyntaxFault;
 use redo_script::{Reason, Script, ScriptFault, parse};
 use std::alloc::{AllocError, Global};
 
@@ -12,7 +12,7 @@ use std::alloc::{AllocError, Global};
 #[derive(Debug, Drop)]
 pub enum Parsed {
     Read(Script),
-    Refused(Refusal),
+    Refused(SyntaxFault),
 }
 
 impl Parsed {
@@ -28,7 +28,7 @@ impl Parsed {
                     ..
                 },
             ) => Err(AllocError),
-            Err(fault) => Ok(Parsed::Refused(Refusal { fault })),
+            Err(fault) => Ok(Parsed::Refused(SyntaxFault { fault })),
         }
     }
 }

@@ -12,8 +12,8 @@ pub(crate) enum Branch {
 /// A place among statements: before the statement at this index, at a place within a branch of it, or at a place within
 /// this turn of it if it is a loop, whose words have these values.
 #[derive(Debug, Drop)]
-pub(crate) enum Place {
+pub(crate) enum StopPlace {
     Before(usize),
-    Within(usize, Branch, Box<Place>),
-    InTurn(usize, Values, usize, Box<Place>),
+    Within(usize, Branch, Box<StopPlace>),
+    InTurn(usize, Values, usize, Box<StopPlace>),
 }

@@ -17,14 +17,14 @@ use redo_path::Path;
 use redo_record::Why;
 use std::alloc::{AllocError, Global};
 
-/// A redo-ifchange: its line, and its operands that aren't sources.
+/// A redo-ifchange that waits: its line, and its operands that aren't sources.
 #[derive(Debug, Drop)]
-pub(crate) struct Waiting {
+pub(crate) struct WaitingChange {
     pub(crate) line: u64,
     pub(crate) targets: Vec<Path>,
 }
 
-impl Waiting {
+impl WaitingChange {
     /// Goes on if all the targets have answers and none has failed. Else it waits, or fails with `Depends`.
     pub(crate) fn go_on<A: Answers>(self, alloc: Global, answers: &A) -> Result<(), Halt>
         ensures run { (s : State) →

@@ -3,8 +3,8 @@ use Rattle.std.specs.Prelude.{◌≡◌, ℕ, List, Option, None, Some, Result, 
 use Rattle.redo_script.specs.Syntax.{Word, Command, change, Script, simple}
 use Rattle.redo_script.specs.declared.fault.ScriptFault.{ScriptFault}
 use Rattle.redo_record.specs.declared.deps.DepKind.TheVariants as kinds
-use Rattle.redo_step.specs.declared.place.Place.{Place}
-use Rattle.redo_step.specs.declared.wait.Waiting.{Waiting}
+use Rattle.redo_step.specs.declared.place.StopPlace.{StopPlace}
+use Rattle.redo_step.specs.declared.wait.WaitingChange.{WaitingChange}
 use Rattle.redo_record.specs.Paths.{Path}
 use Rattle.redo_step.specs.Setting.{Setting}
 use Rattle.redo_step.specs.Runs.{State}
@@ -14,7 +14,7 @@ use Rattle.redo_step.specs.inside.Stands.{Standing, stands_at}
 use Rattle.redo_step.specs.inside.Waiting.{targets_in}
 
 -- This waits for the operands that the command's words name, and they are declared.
-pub record HasOperands (setting : Setting) (line : ℕ) (command : Command) (state : State) (waiting : Waiting) :
+pub record HasOperands (setting : Setting) (line : ℕ) (command : Command) (state : State) (waiting : WaitingChange) :
     Type 0 where
   pub words : List Word
   pub operands : List Path
@@ -25,7 +25,7 @@ pub record HasOperands (setting : Setting) (line : ℕ) (command : Command) (sta
   pub declared : declaring state kinds.Change operands ≡ state
 
 -- the redo-ifchange is the first of these statements
-pub record IsFirst (setting : Setting) (script : Script) (state : State) (waiting : Waiting) : Type 0 where
+pub record IsFirst (setting : Setting) (script : Script) (state : State) (waiting : WaitingChange) : Type 0 where
   pub line : ℕ
   pub command : Command
   pub rest : Script
@@ -33,11 +33,11 @@ pub record IsFirst (setting : Setting) (script : Script) (state : State) (waitin
   pub has : HasOperands setting line command state waiting
 
 -- the redo-ifchange that is kept, if any, is the first of these statements
-abbrev pub IsKept : Standing → State → Option Waiting → Type 0
+abbrev pub IsKept : Standing → State → Option WaitingChange → Type 0
 IsKept here state None = Unit {0}
 IsKept here state (Some waiting) = IsFirst here.setting here.script state waiting
 
 -- the redo-ifchange that is kept, if any, is the statement at this place of the script
-abbrev pub IsKeptIn : Setting → Result Script ScriptFault → Place → State → Option Waiting → Type 0
+abbrev pub IsKeptIn : Setting → Result Script ScriptFault → StopPlace → State → Option WaitingChange → Type 0
 IsKeptIn setting whole place state kept =
     (script : Script) → whole ≡ Ok script → IsKept (stands_at place setting script) state kept

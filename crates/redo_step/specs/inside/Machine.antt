@@ -5,7 +5,7 @@ use Rattle.redo_script.specs.Syntax.{Script, Word, Condition, finish, choice, lo
 use Rattle.redo_step.specs.declared.machine.Effects.{Effects}
 use Rattle.redo_step.specs.declared.halt.Halt.{Halt}
 use Rattle.redo_step.specs.declared.halt.Halt.TheVariants as stops
-use Rattle.redo_step.specs.declared.wait.Waiting.{Waiting}
+use Rattle.redo_step.specs.declared.wait.WaitingChange.{WaitingChange}
 use Rattle.redo_step.specs.declared.machine.RunEnd.{RunEnd}
 use Rattle.redo_step.specs.declared.machine.RunEnd.TheVariants as progress
 use Rattle.redo_step.specs.declared.machine.Turns.{Turns}
@@ -15,7 +15,7 @@ use Rattle.redo_step.specs.Runs.{State, End, stopped, Run, goes, ends}
 use Rattle.redo_record.specs.Answers.{Ask}
 use Rattle.redo_step.specs.declared.place.Branch.{Branch}
 use Rattle.redo_step.specs.declared.place.Branch.TheVariants.{First, Second}
-use Rattle.redo_step.specs.declared.place.Place.{Before, Within', InTurn'}
+use Rattle.redo_step.specs.declared.place.StopPlace.{Before, Within', InTurn'}
 use Rattle.redo_script.specs.declared.ast.Stmt.{Stmt}
 use Rattle.redo_script.specs.View.{before, script_of}
 use Rattle.redo_step.specs.Place.{Rest, all_of, and_then, turns_of, skip, inside, in_turn, left_at}
@@ -35,7 +35,7 @@ end_by (stops.Waits ps w) = Some (stopped ps.items)
 end_by stops.Memory = None
 
 -- the redo-ifchange that a command keeps, if it waits
-abbrev pub kept_by : {X : Type 0} → Result X Halt → Option Waiting
+abbrev pub kept_by : {X : Type 0} → Result X Halt → Option WaitingChange
 kept_by (Err (stops.Waits ps w)) = Some w
 kept_by result = None
 

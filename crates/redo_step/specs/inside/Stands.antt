@@ -3,7 +3,7 @@ use Rattle.std.specs.Prelude.{ℕ, List, [], ◌∷◌, drop}
 use Rattle.redo_script.specs.Syntax.{Script, finish, simple, choice, loop}
 use Rattle.redo_step.specs.declared.place.Branch.{Branch}
 use Rattle.redo_step.specs.declared.place.Branch.TheVariants.{First, Second}
-use Rattle.redo_step.specs.declared.place.Place.{Place, Before, Within', InTurn'}
+use Rattle.redo_step.specs.declared.place.StopPlace.{StopPlace, Before, Within', InTurn'}
 use Rattle.redo_step.specs.Place.{skip}
 use Rattle.redo_step.specs.Setting.{Setting, with_value}
 
@@ -30,7 +30,7 @@ body_in (value ∷ values) setting (loop line name ws body rest) =
     record { setting = with_value setting name value; script = body }
 
 -- from a place on to the end of the statements round it
-unfoldable pub stands_at : Place → Setting → Script → Standing
+unfoldable pub stands_at : StopPlace → Setting → Script → Standing
 stands_at (Before n) setting script = record { setting = setting; script = skip n script }
 stands_at (Within' n branch p place) setting script = stands_at place setting (branch_of branch (skip n script))
 stands_at (InTurn' n values turn p place) setting script =

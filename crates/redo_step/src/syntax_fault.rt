@@ -7,7 +7,7 @@ use redo_script::ScriptFault;
 
 /// The fault of a text. Lack of memory says nothing about a text, so it isn't one.
 #[derive(Debug, Drop)]
-pub struct Refusal {
+pub struct SyntaxFault {
     pub fault: ScriptFault,
     ghost of_text: { fault.why ≡ Memory → ⊥ },
 }
