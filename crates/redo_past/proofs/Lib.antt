@@ -11,4 +11,5 @@ pub mod NotedLemmas
 pub mod OrderLemmas
 pub mod PastLemmas
 pub mod RowLemmas
+pub mod SameRowsLemmas
 pub mod WholeLemmas

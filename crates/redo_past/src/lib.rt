@@ -12,8 +12,8 @@
 //!   `states`: the state of each path when a run ends;
 //! - `items`: what the records of the new book are made of, in order; `carrying`: those that are carried; `records`:
 //!   the lines of each; `sizes`: how many bytes they have; `new_book`: the whole text;
-//! - `run_report`: a run's report with the new book, which is written piece by piece; `books`: the place of the book
-//!   among the files;
+//! - `row_digests`: the digests of what was built; `run_report`: a run's report with the new book, which is written
+//!   piece by piece; `books`: the place of the book among the files;
 //! - [`laws`]: a tree has one past, and a run leaves one book.
 #![tactic(auto)]
 
@@ -26,6 +26,7 @@ mod named;
 mod new_book;
 mod past;
 mod records;
+mod row_digests;
 mod rows;
 mod run_report;
 mod sizes;

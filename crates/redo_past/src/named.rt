@@ -70,3 +70,42 @@ pub(crate) fn named_after(
     }
     Ok(named)
 }
+
+/// A source of so many bytes is long: its digest alone is worth some of a thread's time.
+pub(crate) const LONG: usize = 4_096;
+
+/// The size of a source, if it is long.
+fn long_size(tree: &Tree, path: &Path) -> usize {
+    match tree.file(path) {
+        Some(bytes) if bytes.len() >= LONG => bytes.len(),
+        _ => 0,
+    }
+}
+
+/// How many bytes the long sources have that a row's target depends on, if the new book has a record of it.
+fn long_bytes_of(tree: &Tree, row: &Row) -> usize {
+    if !has_record(row) {
+        return 0;
+    }
+    let parts = row.deps.parts();
+    let mut size = match parts.do_file {
+        Some(do_file) => long_size(tree, do_file),
+        None => 0,
+    };
+    for dep in parts.own {
+        if dep.kind == DepKind::Change {
+            size = size.saturating_add(long_size(tree, &dep.path));
+        }
+    }
+    size
+}
+
+/// How many bytes the long sources have that the new book will have digests of. One that several targets depend on counts
+/// for each.
+pub(crate) fn long_bytes(tree: &Tree, rows: &[Row]) -> usize {
+    let mut size = 0usize;
+    for row in rows {
+        size = size.saturating_add(long_bytes_of(tree, row));
+    }
+    size
+}

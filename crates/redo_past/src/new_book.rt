@@ -9,6 +9,7 @@ ghost use Rattle.redo_past.specs.inside.Books.{states_after};
 
 use crate::Past;
 use crate::items::{Item, items_of};
+use crate::named::named_after;
 use crate::records::write_items;
 use crate::rows::Rows;
 use crate::sizes::items_size;
@@ -46,7 +47,13 @@ pub(crate) fn parts_of<'a>(
 {
     let items = items_of(alloc, past, &rows)?;
     let sources = past.sources();
-    let states = States::new(alloc, sources, rows)?;
+    let in_order = rows.in_order();
+    let mut states = States::new(alloc, sources, rows)?;
+    // If the old book has records, most digests were made when it was read.
+    if past.book().records().is_empty() {
+        let named = named_after(alloc, sources, in_order)?;
+        states.prepare(&named);
+    }
     Ok((states, items))
 }
 

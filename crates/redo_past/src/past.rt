@@ -18,6 +18,7 @@ use crate::PastFault;
 use crate::books::put_file;
 use crate::named::named_by;
 use crate::new_book::text_size;
+use crate::row_digests::with_row_digests;
 use crate::rows::{Rows, numbers_of};
 use crate::run_report::RunReport;
 use redo_book::{Book, BookRecord, read_book};
@@ -275,8 +276,18 @@ impl Past {
         }
     }
 
-    /// The report of a run with the new book among its files.
+    /// The report of a run with the new book among its files. The digests of short files that were built are made here,
+    /// four at a time, unless they were made before.
     pub fn with_book(&self, alloc: Global, report: Report) -> Result<RunReport, AllocError>
+        requires rows { AreAscending (row_paths report) }
+        requires files { AreAscending (map (λ file. file.0) report.files.items) }
+        ensures { IfOk result (λ whole. IsResultOf self.now report whole) }
+    {
+        self.with_book_of_rows(alloc, with_row_digests(report))
+    }
+
+    /// The same, with the digests that there are.
+    fn with_book_of_rows(&self, alloc: Global, report: Report) -> Result<RunReport, AllocError>
         requires rows { AreAscending (row_paths report) }
         requires files { AreAscending (map (λ file. file.0) report.files.items) }
         ensures { IfOk result (λ whole. IsResultOf self.now report whole) }

@@ -9,7 +9,7 @@ ghost use Rattle.redo_past.specs.inside.Books.{IsRunReport, record_in, with_book
 
 use crate::Past;
 use crate::items::Item;
-use crate::named::named_after;
+use crate::named::{LONG, long_bytes, named_after};
 use crate::new_book::{new_text, parts_of, write_text};
 use crate::past::book_path;
 use crate::rows::Rows;
@@ -23,9 +23,8 @@ use std::alloc::{AllocError, Global};
 use std::marker::Model;
 use std::thread::Threads;
 
-/// Sources are digested side by side if one has so many bytes. A smaller one is digested in less time than it takes to
-/// look it up, and beside busy processes a thread may get its turn late.
-const LARGE: usize = 4096;
+/// From so many bytes on, in long sources, digests are worth threads.
+const WORTH_THREADS: usize = 1 << 17;
 
 /// The report of a run with the new book among its files. The book may be long, so its text is made only as it is
 /// written. In a contract it is the report with that text.
@@ -83,8 +82,8 @@ impl RunReport {
     }
 
     /// The same report, after at most `threads` threads have made the digests of the sources that the new book tells
-    /// of. Without this call they are made one by one as the book is written. If the old book has records, most of them
-    /// were made when it was read, so none is made here; nor is one where no source is large.
+    /// of, if many of these are long. Without this call they are made as the book is written. If the old book has
+    /// records, most of them were made when it was read, so none is made here.
     pub fn with_digests_by<R: Threads + Sync>(
         self,
         rt: &R,
@@ -96,7 +95,8 @@ impl RunReport {
         if threads <= 1 || !self.past.book().records().is_empty() {
             return Ok(self);
         }
-        if !self.past.sources().has_file_of(LARGE) {
+        let sources = self.past.sources();
+        if !sources.has_file_of(LONG) || long_bytes(sources, &self.report.rows) < WORTH_THREADS {
             return Ok(self);
         }
         let RunReport {

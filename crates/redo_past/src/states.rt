@@ -98,6 +98,13 @@ impl<'a> States<'a> {
         Ok(States { sources, rows })
     }
 
+    /// Makes the digests of the named sources that are short, four at a time.
+    pub(crate) fn prepare(&mut self, named: &[bool])
+        ensures { self.new ≡ self.old }
+    {
+        self.sources.prepare(named);
+    }
+
     /// The state of a path.
     pub(crate) fn state_at(&mut self, path: &Path) -> Option<Digest>
         ensures value { result ≡ state_after self.old.sources self.old.rows path.now }
