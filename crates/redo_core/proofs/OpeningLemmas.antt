@@ -17,7 +17,7 @@ use Rattle.redo_build.specs.Looking.{IsLookedOut, looked}
 use Rattle.redo_build.specs.TakesLeft.{takes_left}
 use Rattle.redo_build.proofs.CountLemmas.{opening-left, opening-out}
 use Rattle.redo_build.proofs.StillLemmas.{looked-count}
-use Rattle.redo_core.specs.inside.Slots.{IsAtRest, IsKept, table_entries, table_state, targets_in, IsTableOf, AllWatched}
+use Rattle.redo_core.specs.inside.Slots.{IsAtRest, IsKept, table_entries, table_state, targets_in, AllWatched}
 use Rattle.redo_core.specs.inside.Slots.{AreEnteredInto, AreEnqueued, IsFirstTable, IsLookedOn, rules_inside, state_of}
 use Rattle.redo_core.proofs.LookLemmas.{none_due}
 use Rattle.redo_core.proofs.LookedLemmas.{looked-left, looked-longer}
@@ -66,34 +66,6 @@ entered-new r es ps (q ∷ qs) =
 -- the entries of the opening
 pub opening-entries : (given : GivenView) (request : List (List ℕ)) → (opening (rules_for given) request).entries ≡ entered (rules_for given) [] (targets_in (rules_for given) request)
 opening-entries given request = entered-new (rules_for given) [] [] (targets_in (rules_for given) request)
-
-pub empty-table : (given : GivenView) (t : Table) → t.targets ≡ [] → t.slots.items ≡ [] → t.ready.items ≡ [] → t.due.keys ≡ [] → t.out ≡ 0 →
-    t.newly_ready.items ≡ [] → given.limits.targets ≤ 65536 → IsTableOf given t
-empty-table given t keys slots ready due out newly_ready few = rw (keys, slots, ready, due, out, newly_ready) (record {
-  one_each = refl;
-  within_limit = omega arith;
-  few = few;
-  out_counted = refl;
-  fits = λ k x g. absurd (nothing k x g);
-  numbered = λ k x g. absurd (nothing k x g);
-  queue = record {
-    ready_below = λ k m. absurd m;
-    newly_ready_below = λ k m. absurd m;
-    ready_is = λ k x m g. absurd (nothing k x g);
-    ready_in = λ k x g h. absurd (nothing k x g);
-    apart = λ k m n. n;
-    once = tt;
-  };
-  due_listed = record {
-    below = λ k m. absurd m;
-    due_is = λ k x m g. absurd (nothing k x g);
-    due_in = λ k x g h. absurd (nothing k x g);
-  };
-  watchers_below = λ i k x g m. absurd (nothing i x g);
-})
-  where
-    nothing : (k : ℕ) (x : Rattle.redo_core.specs.declared.table.Slot.Slot) → slice_get {X = Rattle.redo_core.specs.declared.table.Slot.Slot} [] k ≡ Some x → ⊥
-    nothing k x g = cc
 
 pub empty-watched : (given : GivenView) (t : Table) → t.targets ≡ [] → t.slots.items ≡ [] → AllWatched (rules_for given) given.limits.targets t.targets t.slots.items []
 empty-watched given t keys slots = rw (keys, slots) (λ k x g h. absurd (nothing k x g))
