@@ -11,12 +11,16 @@ use redo_names::PathSet;
 use redo_past::Past;
 use redo_past::laws::a_tree_has_one_past;
 use redo_path::Path;
+use redo_record::Outcome;
 use redo_step::Limits;
 use redo_sync::{Cells, Known};
 use redo_tree::Tree;
 use std::alloc::{AllocError, Global};
 use std::marker::Model;
 use std::sync::Arc;
+
+/// The most bytes of a file of two blocks of SHA-256, with its padding.
+const SHORT: usize = 119;
 
 /// What a build is given: what it takes over from the last run, its request and its limits. Its board shares them with
 /// all works, pieces and facts.
@@ -87,6 +91,18 @@ impl Given {
         match Cells::publish(&self.readings, number, reading) {
             Ok(_known) => Ok(()),
             Err((_reading, error)) => Err(error),
+        }
+    }
+
+    /// Whether the digest of an outcome is made at once. That of a short file is made after the build, four at a time.
+    /// Where there are records, checks may ask for it many times.
+    pub(crate) fn digests_at_once(&self, outcome: &Outcome) -> bool {
+        if !self.past.book().records().is_empty() {
+            return true;
+        }
+        match outcome.file() {
+            Some(bytes) => bytes.len() > SHORT,
+            None => false,
         }
     }
 

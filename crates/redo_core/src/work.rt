@@ -14,7 +14,7 @@ use crate::facts::{Facts, has_file_of};
 use crate::given::Given;
 use crate::scripts::begun;
 use redo_path::Path;
-use redo_record::Deps;
+use redo_record::{Deps, Outcome};
 use redo_step::{Job, Step, more_answers};
 use redo_which::Rule;
 use std::alloc::{AllocError, Global};
@@ -245,6 +245,15 @@ impl Work {
     }
 }
 
+/// Makes the digest of an outcome and keeps it, if it is to be made at once. Made here, it is made beside other scripts.
+fn keep_digest(given: &Given, outcome: &mut Outcome)
+    ensures { outcome.new ≡ outcome.old }
+{
+    if given.digests_at_once(outcome) {
+        outcome.keep_digest();
+    }
+}
+
 /// Advances a job with the facts of all that it asked for.
 fn advance_job(given: Arc<Given>, number: u32, job: Job, facts: Facts) -> Result<Piece, AllocError>
     requires { IsWorkWith (arc_value given) job facts }
@@ -263,8 +272,7 @@ fn advance_job(given: Arc<Given>, number: u32, job: Job, facts: Facts) -> Result
             let path = target.clone()?;
             let deps = Arc::new(alloc, done.deps)?;
             let mut outcome = done.outcome;
-            // Made here, the digest is made beside other scripts.
-            outcome.keep_digest();
+            keep_digest(&given, &mut outcome);
             let fact = Fact::of(&given, path, outcome, deps, true);
             End::Ended(fact, facts.into_asked())
         }
