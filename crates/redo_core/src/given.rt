@@ -19,8 +19,8 @@ use std::alloc::{AllocError, Global};
 use std::marker::Model;
 use std::sync::Arc;
 
-/// The most bytes of a file of two blocks of SHA-256, with its padding.
-const SHORT: usize = 119;
+/// The most bytes of a file of four blocks of SHA-256, with its padding.
+const SHORT: usize = 247;
 
 /// What a build is given: what it takes over from the last run, its request and its limits. Its board shares them with
 /// all works, pieces and facts.

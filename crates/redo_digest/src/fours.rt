@@ -1,6 +1,6 @@
 //! Which contents are digested side by side.
 
-use crate::four::blocks_of;
+use crate::four::{MOST_BLOCKS, blocks_of};
 
 /// Four contents may be digested side by side, one must be digested alone, or waits for others like it.
 #[derive(Clone, Copy, Debug, PartialEq, Eq)]
@@ -48,33 +48,33 @@ impl Alike {
 }
 
 /// Finds contents that can be digested side by side, among contents that are told by their numbers and lengths. Those of
-/// up to two blocks wait for others like them. What it finds decides on time alone: [`crate::Digest::of_four`] takes any.
+/// up to four blocks wait for others like them. What it finds decides on time alone: [`crate::Digest::of_four`] takes
+/// any.
 #[derive(Clone, Copy, Debug, PartialEq, Eq)]
 pub struct Fours {
-    one: Alike,
-    two: Alike,
+    /// Those of one block, of two, and so on.
+    waiting: [Alike; MOST_BLOCKS],
 }
 
 impl Fours {
     /// No content waits.
     pub fn new() -> Fours {
         Fours {
-            one: Alike::new(),
-            two: Alike::new(),
+            waiting: [Alike::new(); MOST_BLOCKS],
         }
     }
 
     /// Takes in the content of this number and length, and tells what is to be digested now.
     pub fn add(&mut self, number: usize, length: usize) -> Next {
         match blocks_of(length) {
-            1 => self.one.add(number),
-            2 => self.two.add(number),
+            blocks @ 1..=MOST_BLOCKS => self.waiting[blocks - 1].add(number),
             _ => Next::Alone,
         }
     }
 
     /// What still waits when all contents were added. Fewer than four are filled up by numbers that were digested, or by 0.
-    pub fn rest(&self) -> [Next; 2] {
-        [self.one.rest(), self.two.rest()]
+    pub fn rest(&self) -> [Next; MOST_BLOCKS] {
+        let [one, two, three, four] = &self.waiting;
+        [one.rest(), two.rest(), three.rest(), four.rest()]
     }
 }

@@ -88,9 +88,11 @@ fn keep_short_digests(rows: &mut [Row])
         let next = next_after(&mut fours, &rows[number], number);
         keep_next(rows, next);
     }
-    let [one, two] = fours.rest();
+    let [one, two, three, four] = fours.rest();
     keep_next(rows, one);
     keep_next(rows, two);
+    keep_next(rows, three);
+    keep_next(rows, four);
 }
 
 /// The same report, whose rows have the digests of their short files.

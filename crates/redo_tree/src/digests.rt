@@ -110,9 +110,11 @@ fn keep_short_digests(entries: &mut [Entry], named: &[bool])
             keep_next(entries, next);
         }
     }
-    let [one, two] = fours.rest();
+    let [one, two, three, four] = fours.rest();
     keep_next(entries, one);
     keep_next(entries, two);
+    keep_next(entries, three);
+    keep_next(entries, four);
 }
 
 /// Makes the digests of the named files and keeps them.

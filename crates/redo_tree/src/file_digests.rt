@@ -147,7 +147,9 @@ fn make_short(entries: &PathMap<Entry>, made: &mut [Option<Digest>], named: &[bo
             make_next(entries, made, next);
         }
     }
-    let [one, two] = fours.rest();
+    let [one, two, three, four] = fours.rest();
     make_next(entries, made, one);
     make_next(entries, made, two);
+    make_next(entries, made, three);
+    make_next(entries, made, four);
 }
