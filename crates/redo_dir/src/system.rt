@@ -65,12 +65,17 @@ impl Drafted for SystemDraft {
     ghost named = { λ d. string_bytes d.name };
 }
 
-/// The bytes of a file, which had `size` of them when it was looked at.
+/// The bytes of a file, which had `size` of them when it was looked at. What it has grown by since isn't read.
 fn read_file<R: Files>(rt: &R, alloc: Global, place: &PathBuf, size: u64) -> io::Result<Vec<u8>> {
     let mut file = fs::open(rt, place.as_path())?;
-    // With one byte more, the end is found without another growth.
-    let mut bytes = Vec::with_capacity(alloc, (size as usize).saturating_add(1))?;
-    file.read_to_end(&mut bytes)?;
+    let mut bytes = Vec::with_capacity(alloc, size as usize)?;
+    if size == 0 {
+        // Some file systems know no sizes, and say 0.
+        file.read_to_end(&mut bytes)?;
+    } else {
+        // With a limit the system isn't asked once more whether the file has ended.
+        file.take(size).read_to_end(&mut bytes)?;
+    }
     Ok(bytes)
 }
 
