@@ -206,9 +206,9 @@ module _ (given : GivenView) (job : JobView) (facts : Facts) (work : IsWorkWith 
     still_set = ap job_setting asks.same
 
     -- it waits for the paths that it names
-    paths-are : MoreAnswers → paths ≡ waited_by (rules_for given) (record { job = later; facts = facts })
+    paths-are : (loops : Bool) → MoreAnswers → paths ≡ waited_by (rules_for given) (record { job = later; facts = facts; loops_long = loops })
     unfolding setting_by
-    paths-are law =
+    paths-are loops law =
         let known = told_in facts in
         let S : Tree → Type 0 = λ tree. paths ≡ filter (λ q. is_none (file_at tree q) && is_none (known q)) (changes later.state.entries) in
         let own : S job.tree = stopped-lacks law (job_setting job) known asks.script paths later.state asks.lacks in
@@ -230,18 +230,20 @@ module _ (given : GivenView) (job : JobView) (facts : Facts) (work : IsWorkWith 
         }
 
     -- it is the end of a piece that stopped
-    pub stopped-end : MoreAnswers → (begun : Box Begun Global) (lacks : Vec (List ℕ) Global) → begun.value ≡ record { job = later; facts = facts } → lacks.items ≡ paths →
+    pub stopped-end : MoreAnswers → (loops : Bool) (begun : Box Begun Global) (lacks : Vec (List ℕ) Global) →
+        begun.value ≡ record { job = later; facts = facts; loops_long = loops } → lacks.items ≡ paths →
         IsEndAt given job.target job.turn (Stopped begun lacks)
     unfolding advanced-piece
-    stopped-end law begun lacks is same =
+    stopped-end law loops begun lacks is same =
         record {
           is_piece = rw is (advanced-piece (record { outcome = None; deps = record_so_far later }) asks.progress);
-          is_end = (rw is advanced-stopped, same ∙ rw is (paths-are law));
+          is_end = (rw is advanced-stopped, same ∙ rw is (paths-are loops law));
         }
 
-    pub asks-progress : (begun : Box Begun Global) (lacks : Vec (List ℕ) Global) → begun.value ≡ record { job = later; facts = facts } →
+    pub asks-progress : (loops : Bool) (begun : Box Begun Global) (lacks : Vec (List ℕ) Global) →
+        begun.value ≡ record { job = later; facts = facts; loops_long = loops } →
         end_progress (Stopped begun lacks) ≡ (rules_for given).progress job.target (told_in facts)
-    asks-progress begun lacks is = rw is (work-progress (record { outcome = None; deps = record_so_far later }) asks.progress)
+    asks-progress loops begun lacks is = rw is (work-progress (record { outcome = None; deps = record_so_far later }) asks.progress)
 
   -- what the piece says has an outcome exactly where the work lacks nothing
   pub end-lacks : (end : End) → end_progress end ≡ (rules_for given).progress job.target (told_in facts) →

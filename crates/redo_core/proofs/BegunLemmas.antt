@@ -1,7 +1,7 @@
 -- A job that is begun is a work.
 use Rattle.std.proofs.Common.{◌≡◌, ℕ, List, [], refl, sym, ap, subst, ◌∙◌, arith, Global}
 use Rattle.redo_record.specs.declared.outcome.Outcome.{Outcome}
-use Rattle.std.specs.Prelude.{Box, unwrap_or, IfOk, Result, Ok, Err}
+use Rattle.std.specs.Prelude.{Box, unwrap_or}
 use Rattle.redo_tree.specs.Tree.{Tree, file_at}
 use Rattle.redo_script.specs.Texts.{script_in}
 use Rattle.redo_step.specs.declared.parsed.Parsed.{Parsed}
@@ -41,12 +41,11 @@ begun-work given target rule parsed is_found script fits found facts unread = re
 }
 
 -- a job that was begun on a shared tree is one of the tree
-pub begun-is : {E : Type 0} (given : GivenView) (own : Tree) (limits : LimitsView) (target : List ℕ) (rule : FoundRule) (parsed : Parsed) (result : Result JobView E) →
+pub begun-is : (given : GivenView) (own : Tree) (limits : LimitsView) (target : List ℕ) (rule : FoundRule) (parsed : Parsed) (job : JobView) →
     own ≡ given.past.sources → limits ≡ given.limits → found_of given.past.sources target ≡ Rule rule.do_file rule.missing (arguments_view rule.args) →
     parsed_of parsed ≡ script_in (unwrap_or (file_at given.past.sources rule.do_file) []) →
-    IfOk result (λ job. job ≡ begun own target rule parsed limits) → IfOk result (λ job. (ask : Answers) → IsFit job ask) →
-    IfOk result (IsBegunJob given target)
-begun-is given own limits target rule parsed (Ok job) same bounds found script is fits =
+    job ≡ begun own target rule parsed limits → ((ask : Answers) → IsFit job ask) → IsBegunJob given target job
+begun-is given own limits target rule parsed job same bounds found script is fits =
     let J : Tree → LimitsView → JobView = λ t l. begun t target rule parsed l in
     let at : job ≡ J given.past.sources given.limits = is ∙ ap (λ t. J t limits) same ∙ ap (J given.past.sources) bounds in
     let F : JobView → Type 0 = λ j. (ask : Answers) → IsFit j ask in
@@ -58,7 +57,6 @@ begun-is given own limits target rule parsed (Ok job) same bounds found script i
       none_recorded = refl;
       is_work = begun-work given target rule parsed found script fits';
     })
-begun-is given own limits target rule parsed (Err e) same bounds found script is fits = tt
 
 -- What is advanced of a work is what the work shows
 

@@ -81,21 +81,51 @@ fn script(alloc: Global, given: &Given, rule: &Rule, text: &[u8]) -> Result<Arc<
     }
 }
 
-/// Reads the script of a target and makes its job. The .do file that the search found is a file of the tree.
+/// What a loop begins with.
+const LOOP: &[u8] = b"for ";
+
+/// Loops are looked for in scripts of at least so many bytes, and in the first bytes of long ones.
+const LEAST: usize = 64;
+
+const FRONT: usize = 1_024;
+
+/// So many bytes in the turns of loops take long.
+const LONG: usize = 1 << 18;
+
+/// Whether loops may make a script take long. A loop has fewer turns than the text has bytes, and each turn goes over
+/// less than the text. So a text of 512 bytes with one loop may take long, or one of 64 bytes with two.
+pub(crate) fn may_loop_long(text: &[u8]) -> bool {
+    if text.len() < LEAST {
+        return false;
+    }
+    let front = &text[..text.len().min(FRONT)];
+    let mut bytes = front.len();
+    for word in front.windows(LOOP.len()) {
+        if word == LOOP {
+            bytes = bytes.saturating_mul(front.len());
+        }
+    }
+    bytes >= LONG
+}
+
+/// Reads the script of a target and makes its job, and says whether loops may make it take long. The .do file that the
+/// search found is a file of the tree.
 pub(crate) fn begun(
     alloc: Global,
     given: &Arc<Given>,
     target: Path,
     rule: Rule,
-) -> Result<Job, AllocError>
+) -> Result<(Job, bool), AllocError>
     requires { found_of (arc_value given.now).past.sources target ≡
         IsRule rule.do_file rule.missing (arguments_view rule.args) }
-    ensures { IfOk result (IsBegunJob (arc_value given.now) target) }
+    ensures { IfOk result (λ begun. IsBegunJob (arc_value given.now) target begun.0) }
 {
     let tree = Arc::try_clone(given.sources())?;
     let Some(text) = tree.file(&rule.do_file) else {
         unreachable!()
     };
+    let loops_long = may_loop_long(text);
     let parsed = script(alloc, given, &rule, text)?;
-    Job::begin(alloc, tree, target, rule, parsed, given.limits())
+    let job = Job::begin(alloc, tree, target, rule, parsed, given.limits())?;
+    Ok((job, loops_long))
 }

@@ -12,7 +12,7 @@ ghost use Rattle.redo_core.specs.inside.Ends.{IsEndAt};
 use crate::fact::Fact;
 use crate::facts::{Facts, has_file_of};
 use crate::given::Given;
-use crate::scripts::begun;
+use crate::scripts::{begun, may_loop_long};
 use redo_path::Path;
 use redo_record::{Deps, Outcome};
 use redo_step::{Job, Step, more_answers};
@@ -52,6 +52,8 @@ pub(crate) struct Unread {
 pub(crate) struct Begun {
     pub(crate) job: Job,
     pub(crate) facts: Facts,
+    /// Whether loops may make it take long.
+    loops_long: bool,
 }
 
 impl Model for Work {
@@ -211,6 +213,18 @@ impl Work {
         }
     }
 
+    /// Whether loops may make the script take long, by the length of its text and the loops in it. No report depends on
+    /// it.
+    pub fn loops_long(&self) -> bool {
+        match &self.script {
+            Script::Unread(unread) => {
+                let text = self.given.sources().file(&unread.rule.do_file);
+                text.is_some_and(|text| may_loop_long(text))
+            }
+            Script::Begun(begun) => begun.loops_long,
+        }
+    }
+
     /// Advances the script as far as the outcomes of the work allow: to its end, or to the first redo-ifchange(1) that
     /// lacks an answer. Without memory the work is lost.
     pub fn advance(self) -> Result<Piece, AllocError>
@@ -234,12 +248,16 @@ impl Work {
                     rule,
                     facts,
                 } = Box::into_inner(unread);
-                let job = begun(alloc, &given, target, rule)?;
-                advance_job(given, number, job, facts)
+                let (job, loops_long) = begun(alloc, &given, target, rule)?;
+                advance_job(given, number, job, facts, loops_long)
             }
             Script::Begun(begun) => {
-                let Begun { job, facts } = Box::into_inner(begun);
-                advance_job(given, number, job, facts)
+                let Begun {
+                    job,
+                    facts,
+                    loops_long,
+                } = Box::into_inner(begun);
+                advance_job(given, number, job, facts, loops_long)
             }
         }
     }
@@ -255,7 +273,13 @@ fn keep_digest(given: &Given, outcome: &mut Outcome)
 }
 
 /// Advances a job with the facts of all that it asked for.
-fn advance_job(given: Arc<Given>, number: u32, job: Job, facts: Facts) -> Result<Piece, AllocError>
+fn advance_job(
+    given: Arc<Given>,
+    number: u32,
+    job: Job,
+    facts: Facts,
+    loops_long: bool,
+) -> Result<Piece, AllocError>
     requires { IsWorkWith (arc_value given) job facts }
     ensures place { IfOk result (λ p. (p.given ≡ arc_value given) × (p.target ≡ job.target) ×
         (p.turn ≡ job.turn)) }
@@ -279,7 +303,14 @@ fn advance_job(given: Arc<Given>, number: u32, job: Job, facts: Facts) -> Result
         Step::Asks { job, paths } => {
             // By this law the paths are those that the declared entries lack.
             more_answers();
-            let begun = Box::new(alloc, Begun { job, facts })?;
+            let begun = Box::new(
+                alloc,
+                Begun {
+                    job,
+                    facts,
+                    loops_long,
+                },
+            )?;
             End::Stopped { begun, paths }
         }
     };

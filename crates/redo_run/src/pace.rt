@@ -4,18 +4,19 @@
 //! scripts stay with the owner. A job is expected to take long if its script, or a file that it asked for, is large, or
 //! if the script that was handed in last has made a large file.
 //!
-//! A script may take long for other reasons, and a run has no clock. But it takes a sleeper some time to wake up. So now
-//! and then, while many jobs wait, one is tried: a sleeper is called for it. If it is back with the piece before the
-//! owner has advanced more than two jobs itself, then these are long enough, and the next ones are offered. If not, the
-//! owner tries again after twice as many. The first time a few are tried at once, so that a build of long ones begins on
-//! several workers. No report depends on any of it.
+//! A script that reads little can take long only by its loops. How long a loop takes its text doesn't say, and a run has
+//! no clock. But it takes a sleeper some time to wake up. So now and then, while many jobs wait, one with loops is tried:
+//! a sleeper is called for it. If it is back with the piece before the owner has advanced more than two jobs itself, then
+//! these are long enough, and the next ones with loops are offered. If not, the owner tries again after twice as many.
+//! The first time a few are tried at once, so that a build of long ones begins on several workers. No report depends on
+//! any of it.
 
 use redo_core::work::Work;
 
 /// A job takes long if it reads or makes so many bytes.
 const LONG: usize = 4096;
 
-/// While so many jobs in turn are about to read little, only one of eight is looked at: to look costs a search by path.
+/// Once so many jobs in turn were short, only one of eight is looked at: to look costs a search by path.
 const LITTLE: u32 = 16;
 
 const EACH: u32 = 8;
@@ -61,7 +62,7 @@ impl Trial {
 pub(crate) struct Pace {
     /// The script that was handed in last has made a large file.
     made_long: bool,
-    /// How many jobs in turn are not known to read much.
+    /// How many jobs in turn are not known to read much or to have loops.
     little: u32,
     /// So many jobs more are offered.
     trusted: u32,
@@ -89,9 +90,32 @@ impl Pace {
 
     /// Whether a worker is to have a job, while so many others are ready and out.
     pub fn is_for_worker(&mut self, work: &Work, ready: usize, out: usize) -> bool {
-        if self.made_long || self.reads_much(work) {
+        if self.made_long {
             return true;
         }
+        if !self.looks() {
+            return false;
+        }
+        if work.reads(LONG) {
+            self.little = 0;
+            return true;
+        }
+        if !work.loops_long() {
+            return false;
+        }
+        self.little = 0;
+        self.is_offered(ready, out)
+    }
+
+    /// Whether the next job is looked at.
+    fn looks(&mut self) -> bool {
+        let looks = self.little < LITTLE || self.little % EACH == 0;
+        self.little = self.little.wrapping_add(1);
+        looks
+    }
+
+    /// Whether a job with loops is offered: it is tried, or those before took long.
+    fn is_offered(&mut self, ready: usize, out: usize) -> bool {
         if self.tries_another() {
             return true;
         }
@@ -109,14 +133,6 @@ impl Pace {
             self.more = 0;
         }
         tries
-    }
-
-    /// Whether a job that is looked at is about to read much.
-    fn reads_much(&mut self, work: &Work) -> bool {
-        let is_looked_at = self.little < LITTLE || self.little % EACH == 0;
-        let much = is_looked_at && work.reads(LONG);
-        self.little = if much { 0 } else { self.little.wrapping_add(1) };
-        much
     }
 
     /// Whether the job is one more that is tried.

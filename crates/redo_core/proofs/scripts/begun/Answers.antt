@@ -23,5 +23,5 @@ returns c =
     let same : arc_value c.in_ok-tree.tree ≡ given.past.sources = c.in_ok-tree.ensures ∙ c.sources.ensures ∙ ap (λ (g : GivenView). g.past.sources) c.deref.ensures in
     let bounds : c.limits.result ≡ given.limits = c.limits.ensures ∙ ap (λ (g : GivenView). g.limits) c.deref-4.ensures in
     let file : Some c.in-Some.text.now ≡ file_at given.past.sources c.args.rule.do_file = c.in-Some.ensures ∙ ap (λ t. file_at t c.args.rule.do_file) (c.deref-2.ensures ∙ same) in
-    begun-is given (arc_value c.in_ok-tree.tree) c.limits.result c.args.target c.args.rule (arc_value c.in_ok-parsed.parsed) c.begin.result
-    same bounds c.requires (c.in_ok-parsed.ensures ∙ ap (λ o. script_in (unwrap_or o [])) file) c.begin.ensures.job c.begin.ensures.fits
+    begun-is given (arc_value c.in_ok-tree.tree) c.limits.result c.args.target c.args.rule (arc_value c.in_ok-parsed.parsed) c.in_ok-job.job
+    same bounds c.requires (c.in_ok-parsed.ensures ∙ ap (λ o. script_in (unwrap_or o [])) file) c.in_ok-job.ensures.job c.in_ok-job.ensures.fits

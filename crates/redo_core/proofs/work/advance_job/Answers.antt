@@ -42,7 +42,7 @@ invariant_of-result c =
           w.into_asked.ensures
           (ap (λ (f : FactView). f.given) w.of-fact.ensures ∙ w.deref-in-Ended.ensures)
           (ap (λ (f : FactView). f.target) w.of-fact.ensures ∙ path))
-      | in-Asks+in_ok-begun-in-Asks w ↦ subst P (sym w.end-is) (stopped-end given job facts c.requires w.in-Asks.job w.in-Asks.paths.items (rw w.in-Asks.is at c.in_ok-done.ensures) w.more_answers.ensures w.in_ok-begun-in-Asks.begun w.in-Asks.paths w.in_ok-begun-in-Asks.ensures.ok refl)
+      | in-Asks+in_ok-begun-in-Asks w ↦ subst P (sym w.end-is) (stopped-end given job facts c.requires w.in-Asks.job w.in-Asks.paths.items (rw w.in-Asks.is at c.in_ok-done.ensures) w.more_answers.ensures c.args.loops_long w.in_ok-begun-in-Asks.begun w.in-Asks.paths w.in_ok-begun-in-Asks.ensures.ok refl)
     ])
 
 pub returns-clause-progress : goal.returns-clause-progress
@@ -58,7 +58,7 @@ returns-clause-progress c =
           (ap (λ (f : FactView). f.outcome) w.of-fact.ensures ∙ w.keep_digest.ensures)
           (ap (λ (f : FactView). f.deps) w.of-fact.ensures ∙ w.in_ok-deps-in-Ended.ensures.ok)
           w.into_asked.ensures)
-      | in-Asks+in_ok-begun-in-Asks w ↦ subst P (sym w.end-is) (asks-progress given job facts c.requires w.in-Asks.job w.in-Asks.paths.items (rw w.in-Asks.is at c.in_ok-done.ensures) w.in_ok-begun-in-Asks.begun w.in-Asks.paths w.in_ok-begun-in-Asks.ensures.ok)
+      | in-Asks+in_ok-begun-in-Asks w ↦ subst P (sym w.end-is) (asks-progress given job facts c.requires w.in-Asks.job w.in-Asks.paths.items (rw w.in-Asks.is at c.in_ok-done.ensures) c.args.loops_long w.in_ok-begun-in-Asks.begun w.in-Asks.paths w.in_ok-begun-in-Asks.ensures.ok)
     ]
 
 pub returns-clause-ended : goal.returns-clause-ended
