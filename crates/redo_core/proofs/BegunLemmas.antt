@@ -18,8 +18,8 @@ use Rattle.redo_core.specs.Views.{WorkView}
 use Rattle.redo_core.specs.inside.Scripts.{IsBegunJob, IsScriptOf, script_deps, script_known, script_target, script_turn}
 use Rattle.redo_core.specs.inside.Works.{IsUnreadWork, IsWorkWith, found_as, known_in}
 use Rattle.redo_core.specs.declared.work.Begun.{Begun as BegunScript}
-use Rattle.redo_core.specs.declared.work.Script.{Script}
-use Rattle.redo_core.specs.declared.work.Script.TheVariants.{Begun, Unread}
+use Rattle.redo_core.specs.declared.work.ScriptStage.{ScriptStage}
+use Rattle.redo_core.specs.declared.work.ScriptStage.TheVariants.{Begun, Unread}
 use Rattle.redo_core.specs.declared.work.Unread.{Unread as UnreadScript}
 use Rattle.redo_core.specs.declared.facts.Facts.{Facts}
 
@@ -68,7 +68,7 @@ unread-work given unread is own same job begun =
     begun.is_work (found_as own.rule) own.facts (subst P (sym same) is)
 
 -- a work as its script shows it
-abbrev pub work_of : GivenView → Script → WorkView
+abbrev pub work_of : GivenView → ScriptStage → WorkView
 work_of given script = record {
   given = given;
   target = script_target script;
@@ -77,13 +77,13 @@ work_of given script = record {
   known = script_known script;
 }
 
-module _ (given : GivenView) (script : Script) (view : WorkView) (is : work_of given script ≡ view)
+module _ (given : GivenView) (script : ScriptStage) (view : WorkView) (is : work_of given script ≡ view)
     (Q : GivenView → List ℕ → List (List ℕ × Outcome) → Type 0) where
   pub unread-shows : (unread : Box UnreadScript Global) → script ≡ Unread unread → (own : UnreadScript) → own ≡ unread.value →
       (job : JobView) → job.target ≡ own.target → Q given job.target (known_in own.facts) → Q view.given view.target view.known
   unread-shows unread at own same job target h =
       let V : WorkView → Type 0 = λ w. Q w.given w.target w.known in
-      let S : Script → Type 0 = λ s. Q given (script_target s) (script_known s) in
+      let S : ScriptStage → Type 0 = λ s. Q given (script_target s) (script_known s) in
       let U : UnreadScript → Type 0 = λ u. Q given u.target (known_in u.facts) in
       let T : List ℕ → Type 0 = λ x. Q given x (known_in own.facts) in
       subst V is (subst S (sym at) (subst U same (subst T target h)))
@@ -92,6 +92,6 @@ module _ (given : GivenView) (script : Script) (view : WorkView) (is : work_of g
       Q given own.job.target (known_in own.facts) → Q view.given view.target view.known
   begun-shows begun at own same h =
       let V : WorkView → Type 0 = λ w. Q w.given w.target w.known in
-      let S : Script → Type 0 = λ s. Q given (script_target s) (script_known s) in
+      let S : ScriptStage → Type 0 = λ s. Q given (script_target s) (script_known s) in
       let B : BegunScript → Type 0 = λ b. Q given b.job.target (known_in b.facts) in
       subst V is (subst S (sym at) (subst B same h))

@@ -11,13 +11,13 @@ use Rattle.redo_core.specs.inside.Slots.{AllAnswered}
 use Rattle.redo_build.specs.inside.Standing.{AreStanding, decided_count}
 use Rattle.redo_core.specs.inside.Scripts.{IsScriptOf, script_target, script_turn, script_deps, script_known}
 use Rattle.redo_core.specs.inside.Works.{HoldsOutcomes}
-use Rattle.redo_core.specs.declared.work.Script.{Script}
-use Rattle.redo_core.specs.declared.work.Script.TheVariants.{Unread, Begun}
+use Rattle.redo_core.specs.declared.work.ScriptStage.{ScriptStage}
+use Rattle.redo_core.specs.declared.work.ScriptStage.TheVariants.{Unread, Begun}
 use Rattle.redo_build.proofs.DepthLemmas.{cases_Option, deeper, operand-target}
 use Rattle.redo_build.proofs.PathLemmas.{is_among-true}
 use Rattle.redo_build.proofs.StandingLemmas.{outcomes_of-deep}
 
-pub script-holds : (given : GivenView) (s : Script) → IsScriptOf given s →
+pub script-holds : (given : GivenView) (s : ScriptStage) → IsScriptOf given s →
     HoldsOutcomes (record { given = given; target = script_target s; turn = script_turn s; deps = script_deps s; known = script_known s })
 script-holds given (Unread unread) work = record { depth = work.is_work.depth; fed = work.is_work.fed; exact = work.exact }
 script-holds given (Begun begun) work = record { depth = work.is_work.depth; fed = work.is_work.fed; exact = work.exact }

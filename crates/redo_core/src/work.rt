@@ -28,13 +28,13 @@ pub struct Work {
     given: Arc<Given>,
     /// The number of the target in the table of the board that gave the work.
     number: u32,
-    script: Script,
+    script: ScriptStage,
 }
 
 /// A target's script: not read yet, or begun. Both are boxed, so that a target takes little room on the board, and a
 /// job is handed on without being moved.
 #[derive(Drop)]
-pub(crate) enum Script {
+pub(crate) enum ScriptStage {
     Unread(Box<Unread>),
     Begun(Box<Begun>),
 }
@@ -142,7 +142,7 @@ impl Work {
         Ok(Work {
             given,
             number: 0,
-            script: Script::Unread(unread),
+            script: ScriptStage::Unread(unread),
         })
     }
 
@@ -161,7 +161,7 @@ impl Work {
         Work {
             given,
             number: 0,
-            script: Script::Begun(begun),
+            script: ScriptStage::Begun(begun),
         }
     }
 
@@ -187,8 +187,8 @@ impl Work {
         ensures { result.now ≡ self.now.target }
     {
         match &self.script {
-            Script::Unread(unread) => &unread.target,
-            Script::Begun(begun) => begun.job.target(),
+            ScriptStage::Unread(unread) => &unread.target,
+            ScriptStage::Begun(begun) => begun.job.target(),
         }
     }
 
@@ -197,8 +197,8 @@ impl Work {
         ensures { result ≡ self.now.turn }
     {
         match &self.script {
-            Script::Unread(_) => 0,
-            Script::Begun(begun) => begun.job.turn(),
+            ScriptStage::Unread(_) => 0,
+            ScriptStage::Begun(begun) => begun.job.turn(),
         }
     }
 
@@ -208,8 +208,8 @@ impl Work {
     pub fn reads(&self, least: usize) -> bool {
         let sources = self.given.sources();
         match &self.script {
-            Script::Unread(unread) => has_file_of(sources, &unread.rule.do_file, least),
-            Script::Begun(begun) => begun.facts.has_file_of(sources, least),
+            ScriptStage::Unread(unread) => has_file_of(sources, &unread.rule.do_file, least),
+            ScriptStage::Begun(begun) => begun.facts.has_file_of(sources, least),
         }
     }
 
@@ -217,11 +217,11 @@ impl Work {
     /// it.
     pub fn loops_long(&self) -> bool {
         match &self.script {
-            Script::Unread(unread) => {
+            ScriptStage::Unread(unread) => {
                 let text = self.given.sources().file(&unread.rule.do_file);
                 text.is_some_and(|text| may_loop_long(text))
             }
-            Script::Begun(begun) => begun.loops_long,
+            ScriptStage::Begun(begun) => begun.loops_long,
         }
     }
 
@@ -241,7 +241,7 @@ impl Work {
             script,
         } = self;
         match script {
-            Script::Unread(unread) => {
+            ScriptStage::Unread(unread) => {
                 let alloc = *Box::allocator(&unread);
                 let Unread {
                     target,
@@ -251,7 +251,7 @@ impl Work {
                 let (job, loops_long) = begun(alloc, &given, target, rule)?;
                 advance_job(given, number, job, facts, loops_long)
             }
-            Script::Begun(begun) => {
+            ScriptStage::Begun(begun) => {
                 let Begun {
                     job,
                     facts,

@@ -41,7 +41,7 @@ use Rattle.redo_core.specs.contracts.fact.Fact as Fact
 use Rattle.redo_core.specs.contracts.facts.Facts as Facts
 use Rattle.redo_core.specs.contracts.work.Unread as Unread
 use Rattle.redo_core.specs.contracts.work.Begun as Begun
-use Rattle.redo_core.specs.contracts.work.Script as WorkScript
+use Rattle.redo_core.specs.contracts.work.ScriptStage as ScriptStage
 use Rattle.redo_core.specs.contracts.work.Work as Work
 use Rattle.redo_core.specs.contracts.work.End as End
 use Rattle.redo_core.specs.contracts.work.Piece as Piece
@@ -97,11 +97,11 @@ unread_send = search (facts_send, path.the_send, rule.the_field_send, sendable, 
 pub begun_send : IsSend (Begun.the_field).row
 begun_send = search (job_send, facts_send, sendable, heap.crosses) depth 20
 
-pub work_script_send : IsSend (WorkScript.the_field).row
-work_script_send = search (unread_send, begun_send, sendable, heap.crosses) depth 20
+pub stage_send : IsSend (ScriptStage.the_field).row
+stage_send = search (unread_send, begun_send, sendable, heap.crosses) depth 20
 
 pub work_send : IsSend (Work.the_field).row
-work_send = search (work_script_send, given_send, given_sync, sendable, heap.crosses) depth 20
+work_send = search (stage_send, given_send, given_sync, sendable, heap.crosses) depth 20
 
 pub end_send : IsSend (End.the_field).row
 end_send = search (fact_send, deps.the_send, begun_send, path.the_send, sendable, heap.crosses) depth 20
