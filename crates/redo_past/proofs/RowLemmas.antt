@@ -1,15 +1,19 @@
 -- The row of a path, among rows in path order.
-use Rattle.std.proofs.Common.{◌≡◌, ℕ, zero, suc, ◌<◌, ◌≤◌, true, false, List, [], ◌∷◌, refl, sym, ap, subst, ◌∙◌, inl, inr}
-use Rattle.std.proofs.Common.{Bool, Some, None, cond, length, map, arith, option_and_then, slice_get, slice_index_or, take}
+use Rattle.std.proofs.Common.{◌≡◌, ℕ, zero, suc, ◌<◌, ◌≤◌, ◌+◌, true, false, List, [], ◌∷◌, ◌++◌, refl, sym, ap, subst, ◌∙◌}
+use Rattle.std.proofs.Common.{Some, None, inl, inr, length, map, arith, option_and_then, slice_get, slice_index_or, take}
 use Rattle.std.proofs.lemmas.Bool.{cases_Bool}
+use Rattle.std.proofs.lemmas.List.{map_more}
 use Rattle.std.proofs.lemmas.Map.Text.{is_eq-slice_cmp}
+use Rattle.std.proofs.lemmas.Slice.Eq.{bytes_eq-Decides}
 use Rattle.std.specs.Cmp.Lexicographic.{nat_list_cmp_total, slice_cmp}
 use Rattle.std.specs.List.{AllByRecursion}
 use Rattle.std.specs.List.Sorted.{IsNonDecreasingBy, IsStrictlySortedBy}
 use Rattle.std.specs.Ordering.{is_eq, nat_cmp, ordering_index, ordering_reverse}
-use Rattle.std.specs.Prelude.{find, Option}
+use Rattle.std.specs.Prelude.{find, MatchOption, Option}
 use Rattle.std.specs.Str.{bytes_eq}
 use Rattle.std.specs.declared.cmp.Ordering.TheVariants.{Less, Equal, Greater}
+use Rattle.redo_path.proofs.ApartLemmas.{apart}
+use Rattle.redo_names.specs.Paths.{IsAmong, is_among, with_path}
 use Rattle.redo_past.proofs.OrderLemmas.{order, other_path, same_order, same_path}
 
 -- what stands behind compares no less
@@ -57,23 +61,40 @@ module _ {X : Type 0} (key : X → List ℕ) where
       let less : order (key x) t ≡ Less = subst (λ u. order (key x) u ≡ Less) same (at-all (key x) xs n d h.0 (omega arith)) in
       rw (other_path (key x) t less) (was-found xs t n d h.1 e (omega arith))
 
-  -- one item more is found by its path, and the others by theirs
-  pub found-more : (xs : List X) (i : ℕ) (x : X) (t : List ℕ) → IsStrictlySortedBy (slice_cmp nat_cmp) (map key xs) → i < length xs → x ≡ slice_index_or xs i x → found-at (take (suc i) xs) t ≡ cond (bytes_eq (key x) t) (Some x) (found-at (take i xs) t)
+  -- the path of an item is none of those before it
+  new-path : (xs : List X) (i : ℕ) (d : X) → IsStrictlySortedBy (slice_cmp nat_cmp) (map key xs) → i < length xs → is_among (map key (take i xs)) (key (slice_index_or xs i d)) ≡ false
   unfolding IsStrictlySortedBy
-  found-more [] i x t h below is = absurd (omega (arith, below))
-  found-more (y ∷ ys) zero x t h below is = ap (λ z. cond (bytes_eq (key z) t) (Some z) None) (sym is)
-  found-more (y ∷ ys) (suc i) x t h below is =
-      ap (cond (bytes_eq (key y) t) (Some y)) (found-more ys i x t h.1 (omega (arith, below)) is) ∙ (elim (cases_Bool (bytes_eq (key y) t)) [
-        | inl here ↦
-            let less : order (key y) (key x) ≡ Less = subst (λ z. order (key y) (key z) ≡ Less) (sym is) (at-all (key y) ys i x h.0 (omega (arith, below))) in
-            let behind : order t (key x) ≡ Less = subst (λ p. order p (key x) ≡ Less) (same_path (key y) t here) less in
-            let greater : order (key x) t ≡ Greater = nat_list_cmp_total.antisymm (key x) t ∙ ap ordering_reverse behind in
-            let other : bytes_eq (key x) t ≡ false = sym (is_eq-slice_cmp (key x) t) ∙ ap is_eq greater in
-            rw here (rw other refl)
-        | inr there ↦ rw there refl
-      ])
+  new-path [] i d h l = absurd (omega (arith, l))
+  new-path (x ∷ xs) zero d h l = refl
+  new-path (x ∷ xs) (suc i) d h l =
+      rw (other_path (key x) (key (slice_index_or xs i d)) (at-all (key x) xs i d h.0 (omega (arith, l)))) (new-path xs i d h.1 (omega (arith, l)))
 
--- numbers of items in a map with one more: what was found before is found, and that item
-pub put-more : {X : Type 0} (all : List X) (i : ℕ) (x : X) (found new : Option ℕ) (b c : Bool) (old whole : Option X) → slice_get all i ≡ Some x → new ≡ cond b (Some i) found → b ≡ c → option_and_then (slice_get all) found ≡ old → whole ≡ cond c (Some x) old → option_and_then (slice_get all) new ≡ whole
-put-more all i x found new true c old whole here is same was more = ap (option_and_then (slice_get all)) is ∙ here ∙ sym (more ∙ ap (λ d. cond d (Some x) old) (sym same))
-put-more all i x found new false c old whole here is same was more = ap (option_and_then (slice_get all)) is ∙ was ∙ sym (more ∙ ap (λ d. cond d (Some x) old) (sym same))
+  -- so it is put behind them
+  pub path-put : (xs : List X) (i : ℕ) (x : X) → IsStrictlySortedBy (slice_cmp nat_cmp) (map key xs) → i < length xs → x ≡ slice_index_or xs i x → with_path (map key (take i xs)) (key x) ≡ map key (take (i + 1) xs)
+  path-put xs i x h l is =
+      let new : is_among (map key (take i xs)) (key x) ≡ false = subst (λ y. is_among (map key (take i xs)) (key y) ≡ false) (sym is) (new-path xs i x h l) in
+      let put : with_path (map key (take i xs)) (key x) ≡ map key (take i xs) ++ key x ∷ [] = rw new refl in
+      put ∙ ap (λ y. map key (take i xs) ++ key y ∷ []) is ∙ sym (map_more key xs i x l)
+
+  none-found : (xs : List X) (t : List ℕ) → (IsAmong (map key xs) t → ⊥) → found-at xs t ≡ None
+  none-found [] t h = refl
+  none-found (x ∷ xs) t h = elim (cases_Bool (bytes_eq (key x) t)) [
+    | inl here ↦ absurd (h (inl (same_path (key x) t here)))
+    | inr other ↦ rw other (none-found xs t (λ m. h (inr m)))
+  ]
+
+  before-at : (v : List ℕ) (xs : List X) (n : ℕ) (t : List ℕ) → AllByRecursion (λ w. order v w ≡ Less) (map key xs) → slice_get (map key xs) n ≡ Some t → order v t ≡ Less
+  before-at v [] n t h e = apart cc
+  before-at v (x ∷ xs) zero t h e = let same : key x ≡ t = cc in subst (λ w. order v w ≡ Less) same h.0
+  before-at v (x ∷ xs) (suc n) t h e = before-at v xs n t h.1 e
+
+  pub found-there : (xs : List X) (t : List ℕ) (n : ℕ) → IsStrictlySortedBy (slice_cmp nat_cmp) (map key xs) → slice_get (map key xs) n ≡ Some t → slice_get xs n ≡ found-at xs t
+  unfolding IsStrictlySortedBy
+  found-there [] t n h e = apart cc
+  found-there (x ∷ xs) t zero h e = let same : key x ≡ t = cc in rw ((bytes_eq-Decides (key x) t).1 same) refl
+  found-there (x ∷ xs) t (suc n) h e = rw (other_path (key x) t (before-at (key x) xs n t h.0 e)) (found-there xs t n h.1 e)
+
+  -- the number of a path among theirs is that of the item, and where it has none there is no item
+  pub number-finds : (xs : List X) (t : List ℕ) (number : Option ℕ) → IsStrictlySortedBy (slice_cmp nat_cmp) (map key xs) → MatchOption number (IsAmong (map key xs) t → ⊥) (λ n. slice_get (map key xs) n ≡ Some t) → option_and_then (slice_get xs) number ≡ found-at xs t
+  number-finds xs t None h none = sym (none-found xs t none)
+  number-finds xs t (Some n) h there = found-there xs t n h there

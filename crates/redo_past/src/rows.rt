@@ -4,29 +4,29 @@ ghost use Rattle.std.specs.Prelude.{◌≡◌, IfOk, option_copied};
 ghost use Rattle.redo_past.specs.NewBook.{row_at};
 ghost use Rattle.redo_past.specs.inside.Books.{AreRows, FindsRows};
 
-use redo_names::PathMap;
+use redo_names::PathSet;
 use redo_path::Path;
 use redo_report::Row;
 use std::alloc::{AllocError, Global};
 use std::marker::Model;
 
-/// The index of each of these rows, by its path. The rows are in path order.
-pub(crate) fn numbers_of(alloc: Global, rows: &[Row]) -> Result<PathMap<usize>, AllocError>
+/// The paths of these rows, each with the index of its row as its number. The rows are in path order.
+pub(crate) fn numbers_of(alloc: Global, rows: &[Row]) -> Result<PathSet, AllocError>
     requires { AreRows rows.now }
     ensures { IfOk result (λ numbers. FindsRows numbers rows.now) }
 {
-    let mut numbers = PathMap::with_capacity(alloc, rows.len())?;
-    for at in 0..rows.len() {
-        numbers.insert(rows[at].path.clone()?, at)?;
+    let mut numbers = PathSet::with_capacity(alloc, rows.len())?;
+    for row in rows {
+        numbers.insert(row.path.clone()?)?;
     }
     Ok(numbers)
 }
 
-/// The rows of a report, with a map that finds each by its path. In a contract it is the list of them.
+/// The rows of a report, with the set of their paths, which finds each. In a contract it is the list of rows.
 #[derive(Drop)]
 pub(crate) struct Rows<'a> {
     in_order: &'a [Row],
-    numbers: &'a PathMap<usize>,
+    numbers: &'a PathSet,
 }
 
 impl<'a> Model for Rows<'a> {
@@ -42,8 +42,8 @@ impl<'a> Model for Rows<'a> {
 }
 
 impl<'a> Rows<'a> {
-    /// These rows, which are in path order, with their indices.
-    pub(crate) fn new(in_order: &'a [Row], numbers: &'a PathMap<usize>) -> Rows<'a>
+    /// These rows, which are in path order, with their paths.
+    pub(crate) fn new(in_order: &'a [Row], numbers: &'a PathSet) -> Rows<'a>
         requires order { AreRows in_order.now }
         requires numbers { FindsRows numbers.now in_order.now }
         ensures { result ≡ in_order.now }
@@ -63,8 +63,8 @@ impl<'a> Rows<'a> {
     pub(crate) fn find(&self, path: &Path) -> Option<&'a Row>
         ensures { option_copied result ≡ row_at self.now path.now }
     {
-        match self.numbers.get(path) {
-            Some(number) => self.in_order.get(*number),
+        match self.numbers.number_of(path) {
+            Some(number) => Some(&self.in_order[number]),
             None => None,
         }
     }

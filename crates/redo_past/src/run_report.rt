@@ -15,7 +15,7 @@ use crate::past::book_path;
 use crate::rows::Rows;
 use crate::states::States;
 use redo_bundle::{Broken, ByteOut, WriteFault, write_all};
-use redo_names::PathMap;
+use redo_names::PathSet;
 use redo_report::{Report, Row, write_end, write_file_head, write_files, write_head};
 use redo_tree::Content;
 use redo_which::BOOK;
@@ -33,8 +33,8 @@ pub struct RunReport {
     past: Past,
     /// The report, with an empty file in place of the book.
     report: Report,
-    /// The indices of its rows, by their paths.
-    numbers: PathMap<usize>,
+    /// The paths of its rows, each with the index of its row as its number.
+    numbers: PathSet,
     /// The index of the book among the files.
     at: usize,
     /// How many bytes the text of the book has.
@@ -53,12 +53,12 @@ impl Model for RunReport {
 }
 
 impl RunReport {
-    /// The report of a run over a past. `numbers` has the indices of the rows by their paths; `at` is the index of the
-    /// new book among the files, and `size` is how many bytes its text has.
+    /// The report of a run over a past. `numbers` has the paths of the rows, each with the index of its row as its
+    /// number; `at` is the index of the new book among the files, and `size` is how many bytes its text has.
     pub(crate) fn new(
         past: Past,
         report: Report,
-        numbers: PathMap<usize>,
+        numbers: PathSet,
         at: usize,
         size: usize,
     ) -> RunReport

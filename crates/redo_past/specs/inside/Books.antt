@@ -1,11 +1,9 @@
 -- What the new book is made of.
 use Rattle.std.specs.Prelude.{◌≡◌, ◌≢◌, ◌<◌, Bool, true, false, not, ◌&&◌, List, [], ◌∷◌, ◌++◌, ℕ, Option, Some, None}
-use Rattle.std.specs.Prelude.{if◌then◌else◌, filter, filter_map, is_some, length, map, option_and_then, slice_get}
+use Rattle.std.specs.Prelude.{if◌then◌else◌, filter, filter_map, is_some, length, map}
 use Rattle.std.specs.Cmp.Lexicographic.{slice_cmp}
 use Rattle.std.specs.List.{AllByRecursion}
-use Rattle.std.specs.Map.{lookup}
 use Rattle.std.specs.Ordering.{is_lt, nat_cmp}
-use Rattle.std.specs.Str.{bytes_eq}
 use Rattle.std.specs.Vec.{with_item}
 use Rattle.redo_tree.specs.Tree.{Tree, file_at}
 use Rattle.redo_which.specs.Rule.{found_of, is_rule}
@@ -26,10 +24,9 @@ use Rattle.redo_past.specs.declared.items.Item.TheVariants as items
 abbrev pub AreRows : List Row → Type 0
 AreRows rows = AreAscending (map (λ row. row.path) rows)
 
--- the map has the index of the row of each path that has one
-abbrev pub FindsRows : List (List ℕ × ℕ) → List Row → Type 0
-FindsRows numbers rows =
-    (path : List ℕ) → option_and_then (slice_get rows) (lookup (bytes_eq path) numbers) ≡ row_at rows path
+-- the set has the paths of the rows, each at the index of its row
+abbrev pub FindsRows : List (List ℕ) → List Row → Type 0
+FindsRows numbers rows = numbers ≡ map (λ row. row.path) rows
 
 -- the sources, and the rows of a run
 pub record StatesView : Type 0 where
@@ -132,8 +129,8 @@ with_book_text report at text =
 abbrev pub with_new_book : PastView → Report → ℕ → Report
 with_new_book past report at = with_book_text report at (new_text past report.rows.items)
 
--- the rows are in order and have these indices, the book is one of the files, and its text has exactly n bytes
-pub record IsRunReport (past : PastView) (report : Report) (numbers : List (List ℕ × ℕ)) (at n : ℕ) : Type 0 where
+-- the rows are in order and have these paths, the book is one of the files, and its text has exactly n bytes
+pub record IsRunReport (past : PastView) (report : Report) (numbers : List (List ℕ)) (at n : ℕ) : Type 0 where
   pub rows : AreRows report.rows.items
   pub numbered : FindsRows numbers report.rows.items
   pub within : at < length report.files.items
