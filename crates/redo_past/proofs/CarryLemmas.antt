@@ -31,6 +31,8 @@ use Rattle.redo_which.specs.Candidates.{book_path}
 use Rattle.redo_past.specs.inside.Books.{carries, has_built, same_answer}
 use Rattle.redo_past.proofs.ItemLemmas.{IsItem, contained-item, item-contained, item-mapped, kept-item, mapped-item}
 use Rattle.redo_past.proofs.OrderLemmas.{before-all, never_before_itself, order, same_path}
+use Rattle.redo_past.proofs.PastLemmas.{kept-directory}
+use Rattle.redo_past.proofs.RowLemmas.{found-there}
 
 pub both : (a b : Bool) → (a && b) ≡ true → (a ≡ true) × (b ≡ true)
 both true b h = (refl, h)
@@ -110,6 +112,21 @@ rule-absent tree t h =
       | Some node ↦ λ e. elim node as (λ n. node_at tree t ≡ Some n → Some n ≡ None) [
         | Is_directory ↦ λ k. let bad : true ≡ false = sym (rw (k, is_rule) at h) in apart cc
         | File bytes ↦ λ k. let bad : true ≡ false = sym (rw (k, is_rule) at h) in apart cc
+      ] e
+    ]) refl
+
+-- of two trees, the second without some files of the first, only a file stands in the first
+pub rule-file : (tree sources : Tree) (out : List (List ℕ)) (t : List ℕ) → sources ≡ without tree out → is_rule (found_of sources t) ≡ true → is_some (node_at tree t) ≡ is_some (file_at tree t)
+rule-file tree sources out t same h =
+    (elim (node_at tree t) as (λ v. node_at tree t ≡ v → is_some v ≡ is_some (option_and_then bytes_of v)) [
+      | None ↦ λ e. refl
+      | Some node ↦ λ e. elim node as (λ n. node_at tree t ≡ Some n → is_some (Some n) ≡ is_some (bytes_of n)) [
+        | Is_directory ↦ λ k.
+            let kept : node_at sources t ≡ Some Is_directory = ap (λ s. node_at s t) same ∙ kept-directory tree out t k in
+            let none : node_at sources t ≡ None = rule-absent sources t h in
+            let bad : Some Is_directory ≡ None = sym kept ∙ none in
+            apart cc
+        | File bytes ↦ λ k. refl
       ] e
     ]) refl
 
@@ -243,6 +260,13 @@ module _ (past : PastView) (t : List ℕ) (is : IsPast past) (sorted : IsStrictl
 
   pub none-found : (r : Record) → record_at past.book t ≡ Some r → same_answer (is_some r.state) (is_some (file_at past.tree t)) ≡ false → intact_record past t ≡ None
   none-found r at h = if-not (is_intact (file_at past.tree)) (record_at past.book t) r at (sym (found-intact r at) ∙ h)
+
+-- a record that was read by a hint is that of its target
+pub read-hinted : (rs : List BookRecord) (book : List Record) (n : ℕ) (x : BookRecord) (t : List ℕ) → IsStrictlySortedBy (slice_cmp nat_cmp) (targets_of book) → map record_of rs ≡ book → slice_get rs n ≡ Some x → x.target ≡ t → slice_get book n ≡ record_at book t
+read-hinted rs book n x t sorted same read is =
+    let here : slice_get book n ≡ Some (record_of x) = ap (λ b. slice_get b n) (sym same) ∙ slice_get-map record_of rs n ∙ ap (option_map record_of) read in
+    let target : slice_get (targets_of book) n ≡ Some t = slice_get-map (λ (r : Record). r.target) book n ∙ ap (option_map (λ (r : Record). r.target)) here ∙ ap Some is in
+    found-there (λ (r : Record). r.target) book t n sorted target
 
 -- a record that was read at its number
 pub was-read : (rs : List BookRecord) (book : List Record) (n : ℕ) (x : BookRecord) → map record_of rs ≡ book → n < length book → x ≡ slice_index_or rs n x → slice_get book n ≡ Some (record_of x)

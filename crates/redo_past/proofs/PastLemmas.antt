@@ -11,7 +11,8 @@ use Rattle.std.specs.Ordering.{is_eq, nat_cmp}
 use Rattle.std.specs.Prelude.{MatchOption, is_some, option_and_then}
 use Rattle.std.specs.Str.{bytes_eq}
 use Rattle.std.specs.declared.cmp.Ordering.TheVariants.{Less}
-use Rattle.redo_tree.specs.Tree.{IsTree, Tree, bytes_of, file_at, node_at}
+use Rattle.redo_names.specs.Paths.{is_among}
+use Rattle.redo_tree.specs.Tree.{Directory, IsTree, Tree, bytes_of, file_at, is_file_among, node_at}
 use Rattle.redo_book.specs.Book.{IsBook, IsText, Record}
 use Rattle.redo_past.specs.Past.{IsPast, PastView, set_aside}
 use Rattle.redo_tree.specs.Tree.{without}
@@ -67,3 +68,34 @@ all-sources tree sources book is none same e = record {
   book = rw none e;
   sources = same ∙ sym (whole tree book_path is.sorted none) ∙ ap (λ (b : List Record). without tree (set_aside tree b)) (sym e);
 }
+
+-- ---- a tree with a book
+
+read-book : (file : Option (List ℕ)) (book : List Record) → MatchOption file ⊥ (λ text. IsText text book) → MatchOption file (book ≡ []) (λ text. IsText text book)
+read-book None book h = absurd h
+read-book (Some text) book h = h
+
+-- it has this past
+pub with-book : (tree was sources : Tree) (book said : List Record) → tree ≡ was → book ≡ said → sources ≡ without was (set_aside was said) → MatchOption (file_at was book_path) ⊥ (λ text. IsText text said) → IsPast (record { tree = tree; sources = sources; book = book })
+with-book tree was sources book said same is cut h =
+    let past : IsPast (record { tree = was; sources = sources; book = said }) = record { book = read-book (file_at was book_path) said h; sources = cut } in
+    subst (λ (es : Tree). IsPast (record { tree = es; sources = sources; book = book })) (sym same)
+    (subst (λ (rs : List Record). IsPast (record { tree = was; sources = sources; book = rs })) (sym is) past)
+
+-- ---- directories
+
+-- they stay where files are taken out
+pub kept-directory : (es : Tree) (ps : List (List ℕ)) (b : List ℕ) → node_at es b ≡ Some Directory → node_at (without es ps) b ≡ Some Directory
+kept-directory [] ps b h = h
+kept-directory (e ∷ es) ps b h = elim (cases_Bool (is_eq (order b e.0))) [
+  | inl here ↦
+      let same : Some e.1 ≡ Some Directory = rw here at h in
+      let directory : e.1 ≡ Directory = cc in
+      rw (no-file (bytes_of e.1) (is_among ps e.0) (ap bytes_of directory), here) same
+  | inr there ↦
+      let rest : node_at (without es ps) b ≡ Some Directory = kept-directory es ps b (rw there at h) in
+      elim (cases_Bool (not (is_file_among ps e))) [
+        | inl stays ↦ rw (stays, there) rest
+        | inr out ↦ rw out rest
+      ]
+]

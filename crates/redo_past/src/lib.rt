@@ -7,7 +7,7 @@
 //! them, on redo_record and redo_report for what a run came to, and on redo_bundle for the writers.
 //!
 //! - `past`: the tree, the sources and the book, and what a run leaves; `named`: the files that the book has digests
-//!   of, and those that the new one will have; `faults`: why a tree is refused;
+//!   of, and those that the new one will have; `hints`: where their records stand; `faults`: why a tree is refused;
 //! - `standing`: whether a path has the state that a book says; `rows`: the rows of a report, found by their paths;
 //!   `states`: the state of each path when a run ends;
 //! - `items`: what the records of the new book are made of, in order; `carrying`: those that are carried; `records`:
@@ -20,6 +20,7 @@
 mod books;
 mod carrying;
 mod faults;
+mod hints;
 mod items;
 pub mod laws;
 mod named;

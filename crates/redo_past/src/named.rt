@@ -1,5 +1,6 @@
 //! The files that a book has digests of.
 
+use crate::hints::RecordHints;
 use crate::records::has_record;
 use redo_book::{Book, BookEntry};
 use redo_digest::Digest;
@@ -9,34 +10,56 @@ use redo_report::Row;
 use redo_tree::Tree;
 use std::alloc::{AllocError, Global};
 
-/// Marks what the tree has at a path, if anything.
-fn name(named: &mut [bool], tree: &Tree, path: &Path) {
-    if let Some(number) = tree.number_of(path) {
-        if let Some(is_named) = named.get_mut(number) {
-            *is_named = true;
-        }
+/// Marks what the tree has at a path, if anything, and returns its number.
+fn name(named: &mut [bool], tree: &Tree, path: &Path) -> Option<usize> {
+    let number = tree.number_of(path)?;
+    if let Some(is_named) = named.get_mut(number) {
+        *is_named = true;
     }
+    Some(number)
 }
 
 /// The same, if the book has a digest for the path.
-fn name_told(named: &mut [bool], tree: &Tree, path: &Path, state: &Option<Digest>) {
+fn name_told(
+    named: &mut [bool],
+    tree: &Tree,
+    path: &Path,
+    state: &Option<Digest>,
+) -> Option<usize> {
     if state.is_some() {
-        name(named, tree, path);
+        name(named, tree, path)
+    } else {
+        None
+    }
+}
+
+/// Marks the files that these entries have digests of.
+fn name_entries(named: &mut [bool], tree: &Tree, entries: &[BookEntry]) {
+    for entry in entries {
+        if let BookEntry::Change(state, path) = entry {
+            name_told(named, tree, path, state);
+        }
     }
 }
 
 /// Which files of a tree the book has digests of, by their numbers in the tree. Each of them is compared with its
-/// digest in the book, some of them many times, so they are digested once before.
-pub(crate) fn named_by(alloc: Global, tree: &Tree, book: &Book) -> Result<Vec<bool>, AllocError> {
+/// digest in the book, some of them many times, so they are digested once before. Notes the record of each target that
+/// is among them.
+pub(crate) fn named_by(
+    alloc: Global,
+    tree: &Tree,
+    book: &Book,
+    hints: &mut RecordHints,
+) -> Result<Vec<bool>, AllocError> {
     let mut named = Vec::new(alloc);
     named.resize(tree.len(), false)?;
-    for record in book.records() {
-        name_told(&mut named, tree, &record.target, &record.state);
-        for entry in &record.entries {
-            if let BookEntry::Change(state, path) = entry {
-                name_told(&mut named, tree, path, state);
-            }
+    let records = book.records();
+    for index in 0..records.len() {
+        let record = &records[index];
+        if let Some(number) = name_told(&mut named, tree, &record.target, &record.state) {
+            hints.note(number, index);
         }
+        name_entries(&mut named, tree, &record.entries);
     }
     Ok(named)
 }

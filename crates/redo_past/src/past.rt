@@ -7,7 +7,7 @@ ghost use Rattle.redo_report.specs.Reports.{AreAscending, row_paths};
 ghost use Rattle.redo_past.specs.NewBook.{IsResultOf};
 ghost use Rattle.std.specs.Arc.{arc_value};
 ghost use Rattle.redo_tree.specs.Tree.{file_at};
-ghost use Rattle.redo_book.specs.Book.{record_of, IsText};
+ghost use Rattle.redo_book.specs.Book.{record_at, record_of, IsText};
 ghost use Rattle.redo_past.specs.Past.{HasNoPast, IsPast, RefusesBook, intact_record, is_generated as was_generated};
 ghost use Rattle.redo_past.specs.Past.{set_aside as aside_of};
 ghost use Rattle.redo_tree.specs.Tree.{without};
@@ -16,6 +16,7 @@ ghost use Rattle.redo_which.specs.Candidates.{book_path as path_of_book};
 
 use crate::PastFault;
 use crate::books::put_file;
+use crate::hints::RecordHints;
 use crate::named::named_by;
 use crate::new_book::text_size;
 use crate::row_digests::with_row_digests;
@@ -40,6 +41,8 @@ pub struct Past {
     tree: Arc<Tree>,
     sources: Arc<Tree>,
     book: Arc<Book>,
+    /// Where the records of the tree's files stand in the book. No contract speaks of it.
+    hints: Arc<RecordHints>,
 }
 
 impl Model for Past {
@@ -121,8 +124,9 @@ impl Past {
         tree.is_tree();
         match book_in(alloc, &tree)? {
             Some(book) => {
-                let named = named_by(alloc, &tree, &book)?;
-                Past::with_book_of(alloc, tree.keep_digests(&named), book)
+                let mut hints = RecordHints::new(alloc, tree.len())?;
+                let named = named_by(alloc, &tree, &book, &mut hints)?;
+                Past::with_book_of(alloc, tree.keep_digests(&named), book, hints)
             }
             None => Past::without_book(alloc, tree),
         }
@@ -143,8 +147,10 @@ impl Past {
         tree.is_tree();
         match book_in(alloc, &tree)? {
             Some(book) => {
-                let named = named_by(alloc, &tree, &book)?;
-                Past::with_book_of(alloc, tree.keep_digests_by(rt, threads, &named), book)
+                let mut hints = RecordHints::new(alloc, tree.len())?;
+                let named = named_by(alloc, &tree, &book, &mut hints)?;
+                let tree = tree.keep_digests_by(rt, threads, &named);
+                Past::with_book_of(alloc, tree, book, hints)
             }
             None => Past::without_book(alloc, tree),
         }
@@ -161,15 +167,22 @@ impl Past {
         let tree = Arc::new(alloc, tree)?;
         let sources = Arc::try_clone(&tree)?;
         let book = Arc::new(alloc, Book::new(alloc))?;
+        let hints = Arc::new(alloc, RecordHints::new(alloc, 0)?)?;
         Ok(Past {
             tree,
             sources,
             book,
+            hints,
         })
     }
 
     /// The past of a tree with its book.
-    fn with_book_of(alloc: Global, tree: Tree, book: Book) -> Result<Past, PastFault>
+    fn with_book_of(
+        alloc: Global,
+        tree: Tree,
+        book: Book,
+        hints: RecordHints,
+    ) -> Result<Past, PastFault>
         requires book { MatchOption (file_at tree path_of_book) ⊥ (λ text. IsText text book) }
         ensures tree { IfOk result (λ past. past.tree ≡ tree) }
         ensures past { IfOk result IsPast }
@@ -179,10 +192,12 @@ impl Past {
         let sources = sources_of(alloc, &tree, &book)?;
         let tree = Arc::new(alloc, tree)?;
         let book = Arc::new(alloc, book)?;
+        let hints = Arc::new(alloc, hints)?;
         Ok(Past {
             tree,
             sources,
             book,
+            hints,
         })
     }
 
@@ -193,10 +208,12 @@ impl Past {
         let tree = Arc::try_clone(&self.tree)?;
         let sources = Arc::try_clone(&self.sources)?;
         let book = Arc::try_clone(&self.book)?;
+        let hints = Arc::try_clone(&self.hints)?;
         Ok(Past {
             tree,
             sources,
             book,
+            hints,
         })
     }
 
@@ -215,6 +232,7 @@ impl Past {
             tree,
             sources,
             book,
+            hints,
         } = self;
         let sources = Tree::clone(&sources)?.keep_digests_by(rt, threads, named);
         let sources = Arc::new(alloc, sources)?;
@@ -222,6 +240,7 @@ impl Past {
             tree,
             sources,
             book,
+            hints,
         })
     }
 
@@ -257,8 +276,34 @@ impl Past {
         &self.book
     }
 
+    /// The index of a target's record, if there is a hint. `at` is the number of what the tree has at the target, if
+    /// anything.
+    fn hinted(&self, target: &Path, at: Option<usize>) -> Option<usize>
+        ensures found { IfSome result (λ n. slice_get self.now.book n ≡ record_at self.now.book target.now) }
+        ensures within { IfSome result (λ n. n < length self.now.book) }
+    {
+        let index = self.hints.index_for(at?)?;
+        let record = self.book().records().get(index)?;
+        if record.target == *target {
+            Some(index)
+        } else {
+            None
+        }
+    }
+
+    /// The index of a target's record, if it has one. The book is searched only where no hint tells it.
+    fn record_number(&self, target: &Path, at: Option<usize>) -> Option<usize>
+        ensures found { option_and_then (λ n. slice_get self.now.book n) result ≡ record_at self.now.book target.now }
+        ensures within { IfSome result (λ n. n < length self.now.book) }
+    {
+        match self.hinted(target, at) {
+            Some(number) => Some(number),
+            None => self.book.number_of(target),
+        }
+    }
+
     /// The index of a target's record, if it has one and is as the last run left it. A target with a rule isn't a
-    /// source, so a file at its path is the generated one that the record tells of; it isn't digested again.
+    /// source, so what stands at its path is the generated file that the record tells of; it isn't digested again.
     pub fn intact(&self, target: &Path) -> Option<usize>
         requires rule { is_rule (found_of self.now.sources target.now) ≡ true }
         ensures found { option_and_then (λ n. slice_get self.now.book n) result ≡ intact_record self.now target.now }
@@ -266,10 +311,11 @@ impl Past {
     {
         self.tree().is_tree();
         no_other_file_is_taken_out();
-        let book = self.book();
-        let number = book.number_of(target)?;
-        let state = &book.records()[number].state;
-        if state.is_some() == self.tree.file(target).is_some() {
+        let at = self.tree.number_of(target);
+        let number = self.record_number(target, at)?;
+        let records = self.book().records();
+        let state = &records[number].state;
+        if state.is_some() == at.is_some() {
             Some(number)
         } else {
             None

@@ -1,9 +1,9 @@
-use Rattle.std.proofs.Common.{rules, ◌<◌, length, ◌≡◌, ◌∙◌, Some, true, false, subst, sym, is_some, slice_get}
+use Rattle.std.proofs.Common.{rules, ◌≡◌, ◌∙◌, Some, true, false, sym, is_some, slice_get}
 use Rattle.redo_tree.specs.Tree.{IsTree, file_at}
 use Rattle.redo_book.specs.Book.{Record, record_at, record_of}
 use Rattle.redo_past.specs.Past.{set_aside}
 use Rattle.redo_past.specs.inside.Books.{same_answer}
-use Rattle.redo_past.proofs.CarryLemmas.{Without, is-found, none-found, was-read, same-beq}
+use Rattle.redo_past.proofs.CarryLemmas.{Without, is-found, none-found, rule-file, was-read, same-beq}
 use Rattle.redo_past.proofs.PastLemmas.{past_book}
 use Rattle.redo_past.proofs.past.Past.intact.Goals as goal
 
@@ -14,13 +14,10 @@ returns-then-is_some-clause-found c =
     let law : Without past = λ p. let is : IsTree past.tree = search rules in c.no_other_file_is_taken_out.ensures past.tree (set_aside past.tree past.book) p is in
     let r : Record = record_of c.index-records-number.result in
     let n = c.in_ok-number.number in
-    let same-book : c.book-book.result.now ≡ past.book = c.book-book.ensures.book in
-    let found : slice_get past.book n ≡ record_at past.book t = subst (λ b. slice_get b n ≡ record_at b t) same-book c.in_ok-number.ensures.found in
-    let within = subst (λ b. n < length b) same-book c.in_ok-number.ensures.within in
     let here : slice_get past.book n ≡ Some r =
-    was-read c.records.result.now past.book n c.index-records-number.result (c.records.ensures.records ∙ same-book) within c.index-records-number.is in
-    let at : record_at past.book t ≡ Some r = sym found ∙ here in
-    let file : is_some (file_at past.tree t) ≡ c.is_some-2.result = search rules in
+    was-read c.records-records.result.now past.book n c.index-records-number.result (c.records-records.ensures.records ∙ c.book.ensures.book) c.in_ok-number.ensures.within c.index-records-number.is in
+    let at : record_at past.book t ≡ Some r = sym c.in_ok-number.ensures.found ∙ here in
+    let file : is_some (file_at past.tree t) ≡ c.is_some-2.result = sym (rule-file past.tree past.sources (set_aside past.tree past.book) t c.tree.ensures.past.sources c.requires.rule) ∙ search rules in
     let state : is_some r.state ≡ c.is_some.result = search rules in
     let same : same_answer (is_some r.state) (is_some (file_at past.tree t)) ≡ true = same-beq _ _ _ _ state file ∙ c.if-is_some.true in
     here ∙ sym (is-found past t c.tree.ensures.past (past_book past c.tree.ensures.past).sorted law c.requires.rule r at same)
@@ -32,13 +29,10 @@ returns-else-is_some-clause-found c =
     let law : Without past = λ p. let is : IsTree past.tree = search rules in c.no_other_file_is_taken_out.ensures past.tree (set_aside past.tree past.book) p is in
     let r : Record = record_of c.index-records-number.result in
     let n = c.in_ok-number.number in
-    let same-book : c.book-book.result.now ≡ past.book = c.book-book.ensures.book in
-    let found : slice_get past.book n ≡ record_at past.book t = subst (λ b. slice_get b n ≡ record_at b t) same-book c.in_ok-number.ensures.found in
-    let within = subst (λ b. n < length b) same-book c.in_ok-number.ensures.within in
     let here : slice_get past.book n ≡ Some r =
-    was-read c.records.result.now past.book n c.index-records-number.result (c.records.ensures.records ∙ same-book) within c.index-records-number.is in
-    let at : record_at past.book t ≡ Some r = sym found ∙ here in
-    let file : is_some (file_at past.tree t) ≡ c.is_some-2.result = search rules in
+    was-read c.records-records.result.now past.book n c.index-records-number.result (c.records-records.ensures.records ∙ c.book.ensures.book) c.in_ok-number.ensures.within c.index-records-number.is in
+    let at : record_at past.book t ≡ Some r = sym c.in_ok-number.ensures.found ∙ here in
+    let file : is_some (file_at past.tree t) ≡ c.is_some-2.result = sym (rule-file past.tree past.sources (set_aside past.tree past.book) t c.tree.ensures.past.sources c.requires.rule) ∙ search rules in
     let state : is_some r.state ≡ c.is_some.result = search rules in
     let same : same_answer (is_some r.state) (is_some (file_at past.tree t)) ≡ false = same-beq _ _ _ _ state file ∙ c.if-is_some.false in
     sym (none-found past t c.tree.ensures.past (past_book past c.tree.ensures.past).sorted law c.requires.rule r at same)
