@@ -10,9 +10,8 @@ use Rattle.redo_record.specs.declared.deps.DepKind.{DepKind}
 use Rattle.redo_record.specs.declared.deps.DepKind.TheVariants as kinds
 use Rattle.redo_record.specs.Entries.{AreOnce, is_entered, same_kind}
 use Rattle.redo_book.specs.declared.book.BookEntry.{BookEntry}
-use Rattle.redo_book.specs.declared.book.BookEntry.TheVariants.{Change, Create, Always}
 use Rattle.redo_book.specs.Book.{same_entry}
-use Rattle.redo_book.specs.Noted.{entry_as, is_notable, is_top, noted}
+use Rattle.redo_book.specs.Noted.{entry_as, is_notable, is_top}
 use Rattle.redo_past.specs.NewBook.{notable, state_after}
 use Rattle.redo_past.specs.inside.Books.{StatesView, noted_in}
 

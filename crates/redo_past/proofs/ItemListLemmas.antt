@@ -14,20 +14,15 @@ use Rattle.redo_which.specs.Rule.{found_of, is_rule}
 use Rattle.redo_path.proofs.PartLemmas.{AllByRecursion-append}
 use Rattle.redo_path.proofs.ApartLemmas.{apart}
 use Rattle.redo_report.specs.declared.report.Row.{Row}
-use Rattle.redo_book.specs.Book.{Record, book_lines, record_lines, text_of}
+use Rattle.redo_book.specs.Book.{Record, book_lines, text_of}
 use Rattle.redo_past.specs.declared.items.Item.{Item}
 use Rattle.redo_past.specs.NewBook.{is_built, row_at}
 use Rattle.redo_past.specs.Past.{PastView}
-use Rattle.redo_past.specs.inside.Books.{AreItems, AreRows, IsSound, StatesView, carries, has_built, item_text, record_in}
+use Rattle.redo_past.specs.inside.Books.{AreItems, AreRows, IsSound, StatesView, carries, has_built, item_text, record_in, record_text}
 use Rattle.redo_past.specs.inside.Books.{same_answer}
+use Rattle.redo_past.proofs.OldLemmas.{book-text}
 use Rattle.redo_past.proofs.OrderLemmas.{ascending-sorted, order}
 use Rattle.redo_past.proofs.RowLemmas.{was-found}
-
--- what holds of all holds of each
-pub each-at : {X Y : Type 0} (P : Y → Type 0) (f : X → Y) (xs : List X) (i : ℕ) (x : X) → AllByRecursion P (map f xs) → i < length xs → x ≡ slice_index_or xs i x → P (f x)
-each-at P f [] i x h l is = absurd (omega (arith, l))
-each-at P f (y ∷ ys) zero x h l is = subst (λ z. P (f z)) (sym is) h.0
-each-at P f (y ∷ ys) (suc i) x h l is = each-at P f ys i x h.1 (omega (arith, l)) is
 
 -- an item more is a record more
 pub item-more : (states : StatesView) (list : List Item) (records : List Record) (item : Item) (r : Record) → AreItems states list records → record_in states item ≡ r → IsSound item → AreItems states (list ++ item ∷ []) (records ++ r ∷ [])
@@ -41,18 +36,17 @@ pub item-pushed : (states : StatesView) (list new : List Item) (records all : Li
 item-pushed states list new records all item r pushed h is sound same =
     subst (λ xs. AreItems states xs all) (sym pushed) (subst (AreItems states (list ++ item ∷ [])) same (item-more states list records item r h is sound))
 
+same-texts : (states : StatesView) (list : List Item) → flat_map record_text (map (record_in states) list) ≡ flat_map (item_text states) list
+same-texts states [] = refl
+same-texts states (item ∷ list) = ap (λ t. item_text states item ++ t) (same-texts states list)
+
 -- the text of the book of these records is that of the items, one after another, and the end
 pub items-text : (states : StatesView) (list : List Item) → text_of (book_lines (map (record_in states) list)) ≡ flat_map (item_text states) list ++ codes "end\n"
-items-text states [] = refl
-items-text states (item ∷ list) =
-    let lines = flat_map record_lines (map (record_in states) list) in
-    ap text_of (append_assoc (record_lines (record_in states item)) lines (codes "end" ∷ []))
-    ∙ flat_map-append (λ line. line ++ 10 ∷ []) (record_lines (record_in states item)) (lines ++ codes "end" ∷ [])
-    ∙ ap (λ t. item_text states item ++ t) (items-text states list)
-    ∙ sym (append_assoc (item_text states item) (flat_map (item_text states) list) (codes "end\n"))
+items-text states list = book-text (map (record_in states) list) ∙ ap (λ t. t ++ codes "end\n") (same-texts states list)
 
 -- ---- one item more
 
+-- what holds of all holds of each
 pub all-at : {X : Type 0} (P : X → Type 0) (xs : List X) (i : ℕ) (x : X) → AllByRecursion P xs → i < length xs → x ≡ slice_index_or xs i x → P x
 all-at P [] i x h l is = absurd (omega (arith, l))
 all-at P (y ∷ ys) zero x h l is = subst P (sym is) h.0

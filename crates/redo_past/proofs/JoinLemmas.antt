@@ -1,5 +1,5 @@
 -- Records that were built and old ones that are kept, in one order.
-use Rattle.std.proofs.Common.{◌≡◌, ℕ, Bool, true, false, not, ◌⊎◌, inl, inr, List, [], ◌∷◌, ◌++◌, ◌+◌, suc, drop, filter, map}
+use Rattle.std.proofs.Common.{◌≡◌, ℕ, Bool, true, false, not, ◌⊎◌, inl, inr, List, [], ◌∷◌, ◌++◌, ◌+◌, suc, drop, filter}
 use Rattle.std.proofs.Common.{append_assoc, arith, refl, sym, ap, subst, take, ◌∙◌}
 use Rattle.std.proofs.lemmas.Bool.{cases_Bool}
 use Rattle.std.specs.Cmp.Lexicographic.{nat_list_cmp_total, slice_cmp}
@@ -10,8 +10,7 @@ use Rattle.std.specs.Str.{bytes_eq}
 use Rattle.std.specs.declared.cmp.Ordering.TheVariants.{Less, Equal, Greater}
 use Rattle.redo_path.proofs.ApartLemmas.{apart}
 use Rattle.redo_path.proofs.PartLemmas.{AllByRecursion-append}
-use Rattle.redo_book.specs.declared.book.BookRecord.{BookRecord}
-use Rattle.redo_book.specs.Book.{IsBook, IsRecord, Record, record_of, targets_of}
+use Rattle.redo_book.specs.Book.{IsBook, IsRecord, Record, targets_of}
 use Rattle.redo_past.specs.inside.Books.{is_before, is_behind, joined}
 use Rattle.redo_past.proofs.CarryLemmas.{was-not}
 use Rattle.redo_past.proofs.ItemLemmas.{IsItem, item-back, item-cases, item-front, item-kept, item-mapped, kept-item}
@@ -44,29 +43,26 @@ module _ (path : List ℕ) where
   all-behind x [] h e = refl
   all-behind x (y ∷ ys) h e = rw (still-behind x.target y.target path h.0 e) (ap (λ t. y ∷ t) (all-behind x ys h.1 e))
 
-  abbrev fronts : BookRecord → Bool
-  fronts b = is_before path (record_of b)
-
   -- in order, those before the path stand in front
-  pub front-kept : (xs : List BookRecord) → AreSorted (map record_of xs) → map record_of (take (prefix_len fronts xs) xs) ≡ filter (is_before path) (map record_of xs)
+  pub front-kept : (xs : List Record) → AreSorted xs → take (prefix_len (is_before path) xs) xs ≡ filter (is_before path) xs
   unfolding IsStrictlySortedBy
   front-kept [] s = refl
-  front-kept (x ∷ xs) s = elim (cases_Bool (is_before path (record_of x))) [
+  front-kept (x ∷ xs) s = elim (cases_Bool (is_before path x)) [
     | inl t ↦
-        let more : 1 + prefix_len fronts xs ≡ suc (prefix_len fronts xs) = omega arith in
-        rw (t, more) (ap (λ rs. record_of x ∷ rs) (front-kept xs s.1))
-    | inr f ↦ rw f (sym (none-before (record_of x) (map record_of xs) s.0 f))
+        let more : 1 + prefix_len (is_before path) xs ≡ suc (prefix_len (is_before path) xs) = omega arith in
+        rw (t, more) (ap (λ rs. x ∷ rs) (front-kept xs s.1))
+    | inr f ↦ rw f (sym (none-before x xs s.0 f))
   ]
 
   -- and the others behind them
-  pub back-left : (xs : List BookRecord) → AreSorted (map record_of xs) → map record_of (drop (prefix_len fronts xs) xs) ≡ filter (is_behind path) (map record_of xs)
+  pub back-left : (xs : List Record) → AreSorted xs → drop (prefix_len (is_before path) xs) xs ≡ filter (is_behind path) xs
   unfolding IsStrictlySortedBy
   back-left [] s = refl
-  back-left (x ∷ xs) s = elim (cases_Bool (is_before path (record_of x))) [
+  back-left (x ∷ xs) s = elim (cases_Bool (is_before path x)) [
     | inl t ↦
-        let more : 1 + prefix_len fronts xs ≡ suc (prefix_len fronts xs) = omega arith in
+        let more : 1 + prefix_len (is_before path) xs ≡ suc (prefix_len (is_before path) xs) = omega arith in
         rw (t, more) (back-left xs s.1)
-    | inr f ↦ rw f (ap (λ rs. record_of x ∷ rs) (sym (all-behind (record_of x) (map record_of xs) s.0 f)))
+    | inr f ↦ rw f (ap (λ rs. x ∷ rs) (sym (all-behind x xs s.0 f)))
   ]
 
 -- ---- which records there are

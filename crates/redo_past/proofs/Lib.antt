@@ -8,6 +8,7 @@ pub mod LawLemmas
 pub mod LoopLemmas
 pub mod NewBookLemmas
 pub mod NotedLemmas
+pub mod OldLemmas
 pub mod OrderLemmas
 pub mod PastLemmas
 pub mod RowLemmas

@@ -1,8 +1,8 @@
 -- What one more item of a list adds.
 use Rattle.std.proofs.Common.{◌≡◌, ◌∙◌, ◌+◌, ◌<◌, ℕ, Bool, cond, List, [], ◌∷◌, ◌++◌, Option}
-use Rattle.std.proofs.Common.{add-one, ap, drop, filter, length, map, sym, take, slice_index_or}
+use Rattle.std.proofs.Common.{add-one, ap, drop, filter, length, sym, take, slice_index_or}
 use Rattle.std.proofs.Math.Seq.{drop-cons}
-use Rattle.std.proofs.lemmas.List.{map-append, take_more}
+use Rattle.std.proofs.lemmas.List.{take_more}
 use Rattle.std.proofs.lemmas.List.Elements.{filter-append, filter_map-append}
 use Rattle.std.specs.List.{AllByRecursion, cons_option}
 use Rattle.std.specs.Prelude.{Err, IfOk, Ok, Result, filter_map}
@@ -18,12 +18,10 @@ module _ {X Y : Type 0} where
   left-more f xs i x below is =
       ap (filter_map f) ((rw add-one (drop-cons xs i x below)) ∙ ap (λ y. y ∷ drop (i + 1) xs) (sym is))
 
-  pub kept-more : (p : Y → Bool) (g : X → Y) (xs : List X) (i : ℕ) (x : X) → i < length xs → x ≡ slice_index_or xs i x → filter p (map g (take (i + 1) xs)) ≡ filter p (map g (take i xs)) ++ cond (p (g x)) (g x ∷ []) []
-  kept-more p g xs i x below is =
-      ap (λ ys. filter p (map g ys)) (take_more xs i x below)
-      ∙ ap (filter p) (map-append g (take i xs) (slice_index_or xs i x ∷ []))
-      ∙ filter-append p (map g (take i xs)) (g (slice_index_or xs i x) ∷ [])
-      ∙ ap (λ y. filter p (map g (take i xs)) ++ cond (p (g y)) (g y ∷ []) []) (sym is)
+pub kept-more : {X : Type 0} (p : X → Bool) (xs : List X) (i : ℕ) (x : X) → i < length xs → x ≡ slice_index_or xs i x → filter p (take (i + 1) xs) ≡ filter p (take i xs) ++ cond (p x) (x ∷ []) []
+kept-more p xs i x below is =
+    ap (filter p) (take_more xs i x below) ∙ filter-append p (take i xs) (slice_index_or xs i x ∷ [])
+    ∙ ap (λ y. filter p (take i xs) ++ cond (p y) (y ∷ []) []) (sym is)
 
 pub all-more : {X : Type 0} (P : X → Type 0) (xs : List X) (x : X) → AllByRecursion P xs → P x → AllByRecursion P (xs ++ x ∷ [])
 all-more P xs x h k = AllByRecursion-append P xs (x ∷ []) h (k, tt)

@@ -1,6 +1,6 @@
 //! The records of the last run that are carried into the new book.
 
-ghost use Rattle.std.specs.Prelude.{◌≡◌, ◌++◌, IfOk, List, OnOk, filter, map};
+ghost use Rattle.std.specs.Prelude.{◌≡◌, ◌++◌, IfOk, List, OnOk, filter};
 ghost use Rattle.std.specs.List.{AllByRecursion};
 ghost use Rattle.std.specs.Cmp.Lexicographic.{slice_cmp};
 ghost use Rattle.std.specs.List.{prefix_len};
@@ -14,6 +14,7 @@ ghost use Rattle.redo_past.specs.NewBook.{row_at};
 
 use crate::Past;
 use crate::items::Item;
+use crate::old_records::OldRecord;
 use crate::records::is_built;
 use crate::rows::Rows;
 use redo_book::BookRecord;
@@ -67,17 +68,17 @@ pub(crate) fn carry<'a>(
     alloc: Global,
     past: &Past,
     rows: &Rows<'_>,
-    records: &'a [BookRecord],
+    records: &[OldRecord<'a>],
     items: &mut Vec<Item<'a>>,
 ) -> Result<(), AllocError>
-    requires each { AllByRecursion IsRecord (map record_of records.now) }
+    requires each { AllByRecursion IsRecord records.now }
     ensures { OnOk result ((known : List Record) → AreItems (states_after past.now rows.now) items.old.items known →
         AreItems (states_after past.now rows.now) items.new.items
-        (known ++ filter (carries past.now rows.now) (map record_of records.now))) }
+        (known ++ filter (carries past.now rows.now) records.now)) }
 {
-    for record in records {
-        if is_carried(alloc, past, rows, record)? {
-            items.push(Item::Carried(record))?;
+    for old in records {
+        if is_carried(alloc, past, rows, old.record())? {
+            items.push(Item::Carried(old.same()))?;
         }
     }
     Ok(())
@@ -91,11 +92,11 @@ fn stands_before(record: &BookRecord, path: &Path) -> bool
 }
 
 /// How many records at the front come before a path.
-fn count_before(records: &[BookRecord], path: &Path) -> usize
-    ensures { result ≡ prefix_len (λ r. is_before path.now (record_of r)) records.now }
+fn count_before(records: &[OldRecord<'_>], path: &Path) -> usize
+    ensures { result ≡ prefix_len (is_before path.now) records.now }
 {
     for at in 0..records.len() {
-        if !stands_before(&records[at], path) {
+        if !stands_before(records[at].record(), path) {
             return at;
         }
     }
@@ -104,22 +105,21 @@ fn count_before(records: &[BookRecord], path: &Path) -> usize
 
 /// Adds those of these old records that are carried and come before a path. Returns the records that don't come before
 /// it.
-pub(crate) fn carry_before<'a>(
+pub(crate) fn carry_before<'o, 'a>(
     alloc: Global,
     past: &Past,
     rows: &Rows<'_>,
-    records: &'a [BookRecord],
+    records: &'o [OldRecord<'a>],
     path: &Path,
     items: &mut Vec<Item<'a>>,
-) -> Result<&'a [BookRecord], AllocError>
-    requires each { AllByRecursion IsRecord (map record_of records.now) }
-    requires sorted { IsStrictlySortedBy (slice_cmp nat_cmp) (targets_of (map record_of records.now)) }
+) -> Result<&'o [OldRecord<'a>], AllocError>
+    requires each { AllByRecursion IsRecord records.now }
+    requires sorted { IsStrictlySortedBy (slice_cmp nat_cmp) (targets_of records.now) }
     ensures known { OnOk result ((known : List Record) →
         AreItems (states_after past.now rows.now) items.old.items known →
         AreItems (states_after past.now rows.now) items.new.items (known ++
-        filter (carries past.now rows.now) (filter (is_before path.now) (map record_of records.now)))) }
-    ensures left { IfOk result (λ left. map record_of left.now ≡
-        filter (is_behind path.now) (map record_of records.now)) }
+        filter (carries past.now rows.now) (filter (is_before path.now) records.now))) }
+    ensures left { IfOk result (λ left. left.now ≡ filter (is_behind path.now) records.now) }
 {
     let (front, left) = records.split_at(count_before(records, path));
     carry(alloc, past, rows, front, items)?;

@@ -1,35 +1,34 @@
 //! What the records of the new book are made of, in its order. No record is made.
 
-ghost use Rattle.std.specs.Prelude.{◌≡◌, Bool, IfOk, List, false, map};
-ghost use Rattle.redo_book.specs.Book.{IsBook, Record, record_of};
+ghost use Rattle.std.specs.Prelude.{◌≡◌, Bool, IfOk, List, false};
+ghost use Rattle.redo_book.specs.Book.{IsBook, Record};
 ghost use Rattle.redo_past.specs.inside.Books.{AreItems, joined, new_records, states_after};
 
 use crate::Past;
 use crate::carrying::{carry, carry_before};
+use crate::old_records::{OldRecord, records_of};
 use crate::records::has_record;
 use crate::rows::Rows;
-use redo_book::BookRecord;
 use redo_path::Path;
 use redo_report::Row;
 use std::alloc::{AllocError, Global};
 
 /// What a record of the new book is made of: the row of a target that was built, or a record of the last run that is
-/// carried.
+/// carried, with its text.
 #[derive(Drop)]
 pub(crate) enum Item<'a> {
     Built(&'a Row),
-    Carried(&'a BookRecord),
+    Carried(OldRecord<'a>),
 }
 
 /// These old records without the first, if that is this target's. A target that was built has a new record.
-fn but_of<'a>(records: &'a [BookRecord], target: &Path) -> &'a [BookRecord]
+fn but_of<'o, 'a>(records: &'o [OldRecord<'a>], target: &Path) -> &'o [OldRecord<'a>]
     ensures joined { (keeps : Record → Bool) → ((r : Record) → r.target ≡ target.now → keeps r ≡ false) →
-        (built : List Record) →
-        joined keeps built (map record_of result.now) ≡ joined keeps built (map record_of records.now) }
-    ensures book { IsBook (map record_of records.now) → IsBook (map record_of result.now) }
+        (built : List Record) → joined keeps built result.now ≡ joined keeps built records.now }
+    ensures book { IsBook records.now → IsBook result.now }
 {
     if let Some((first, rest)) = records.split_first() {
-        if first.target == *target {
+        if first.record().target == *target {
             return rest;
         }
     }
@@ -46,7 +45,8 @@ pub(crate) fn items_of<'a>(
         AreItems (states_after past.now rows.now) items.items (new_records past.now rows.now)) }
 {
     let mut items = Vec::new(alloc);
-    let mut left = past.book().records();
+    let old = records_of(alloc, past)?;
+    let mut left = old.as_slice();
     let in_order = rows.in_order();
     for row in in_order {
         if has_record(row) {

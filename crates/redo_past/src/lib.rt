@@ -10,8 +10,9 @@
 //!   of, and those that the new one will have; `hints`: where their records stand; `faults`: why a tree is refused;
 //! - `standing`: whether a path has the state that a book says; `rows`: the rows of a report, found by their paths;
 //!   `states`: the state of each path when a run ends;
-//! - `items`: what the records of the new book are made of, in order; `carrying`: those that are carried; `records`:
-//!   the lines of each; `sizes`: how many bytes they have; `new_book`: the whole text;
+//! - `old_records`: the records of the last run, with their texts; `items`: what the records of the new book are made
+//!   of, in order; `carrying`: those that are carried; `records`: the lines of each; `sizes`: how many bytes they have;
+//!   `new_book`: the whole text;
 //! - `row_digests`: the digests of what was built; `run_report`: a run's report with the new book, which is written
 //!   piece by piece; `books`: the place of the book among the files;
 //! - [`laws`]: a tree has one past, and a run leaves one book.
@@ -25,6 +26,7 @@ mod items;
 pub mod laws;
 mod named;
 mod new_book;
+mod old_records;
 mod past;
 mod records;
 mod row_digests;

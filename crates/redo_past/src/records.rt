@@ -1,4 +1,4 @@
-//! The records of the new book, line by line.
+//! The records of the new book. Those of targets that were built are written line by line.
 
 ghost use Rattle.std.specs.Prelude.{◌≡◌, ◌∷◌, [], codes, false, flat_map, is_err, option_copied};
 ghost use Rattle.redo_path.specs.Names.{IsPath};
@@ -12,10 +12,8 @@ ghost use Rattle.redo_past.specs.inside.Books.{StatesView, item_text, leaves_rec
 
 use crate::items::Item;
 use crate::states::{States, built_state};
-use redo_book::{
-    write_always, write_change, write_create, write_record as write_old_record, write_target,
-};
-use redo_bundle::{Broken, ByteOut};
+use redo_book::{write_always, write_change, write_create, write_target};
+use redo_bundle::{Broken, ByteOut, write_all};
 use redo_path::Path;
 use redo_record::{Dep, DepKind, Outcome, Record};
 use redo_report::{Row, write_missing};
@@ -205,7 +203,7 @@ fn write_item<'a, W: ByteOut>(
 {
     match item {
         Item::Built(row) => write_built(out, states, lines, row),
-        Item::Carried(record) => write_old_record(out, record),
+        Item::Carried(old) => write_all(out, old.text()),
     }
 }
 

@@ -134,8 +134,8 @@ impl RunReport {
         Ok(report)
     }
 
-    /// Writes the report with its files. The text of the new book is written line by line, and is never in memory. Hand
-    /// in a buffered writer, as the report comes in many small pieces. Without memory nothing is written; a failure of
+    /// Writes the report with its files. The text of the new book is written piece by piece, and is never in memory.
+    /// Hand in a buffered writer, as many of the pieces are small. Without memory nothing is written; a failure of
     /// the writer leaves a prefix written.
     pub fn write<W: ByteOut>(&self, alloc: Global, out: &mut W) -> Result<(), WriteFault>
         requires works { W.has_failed out.old ≡ false }

@@ -11,7 +11,7 @@ ghost use Rattle.redo_past.specs.inside.Books.{AreSized, IsSound, StatesView, it
 use crate::items::Item;
 use crate::records::is_top;
 use crate::states::{Files, has_made};
-use redo_book::{always_size, change_size, create_size, record_size, target_size};
+use redo_book::{always_size, change_size, create_size, target_size};
 use redo_path::Path;
 use redo_record::{Dep, DepKind, Record};
 use redo_report::Row;
@@ -145,7 +145,7 @@ fn item_size<'a>(
 {
     match item {
         Item::Built(row) => built_size(files, lines, row),
-        Item::Carried(record) => record_size(record),
+        Item::Carried(old) => Ok(old.text().len()),
     }
 }
 

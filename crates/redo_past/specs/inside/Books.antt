@@ -9,7 +9,7 @@ use Rattle.redo_tree.specs.Tree.{Tree, file_at}
 use Rattle.redo_which.specs.Rule.{found_of, is_rule}
 use Rattle.redo_record.specs.declared.deps.Dep.{Dep}
 use Rattle.redo_book.specs.declared.book.BookEntry.{BookEntry}
-use Rattle.redo_book.specs.Book.{IsEntry, IsRecord, Record, book_lines, entry_line, record_lines, record_of, text_of}
+use Rattle.redo_book.specs.Book.{IsEntry, IsRecord, Record, book_lines, entry_line, record_lines, text_of}
 use Rattle.redo_book.specs.Noted.{is_top, noted}
 use Rattle.redo_report.specs.Reports.{AreAscending}
 use Rattle.redo_report.specs.declared.report.Report.{Report}
@@ -101,10 +101,18 @@ new_records past rows = joined (carries past rows) (built_records past.sources r
 abbrev pub new_text : PastView → List Row → List ℕ
 new_text past rows = text_of (book_lines (new_records past rows))
 
+-- the text of a record
+abbrev pub record_text : Record → List ℕ
+record_text r = text_of (record_lines r)
+
+-- the text begins with this one
+abbrev pub BeginsWith : List ℕ → List ℕ → Type 0
+BeginsWith text front = (rest : List ℕ) × (text ≡ front ++ rest)
+
 -- the record that is made of an item
 abbrev pub record_in : StatesView → Item → Record
 record_in states (items.Built row) = record_of_row states.sources states.rows row.now
-record_in states (items.Carried r) = record_of r.now
+record_in states (items.Carried r) = r
 
 -- the lines of that record
 abbrev pub item_text : StatesView → Item → List ℕ
@@ -113,7 +121,7 @@ item_text states item = text_of (record_lines (record_in states item))
 -- a book can have a record of the item
 abbrev pub IsSound : Item → Type 0
 IsSound (items.Built row) = row.now.path ≢ []
-IsSound (items.Carried r) = IsRecord (record_of r.now)
+IsSound (items.Carried r) = IsRecord r
 
 -- these records are made of the items
 pub record AreItems (states : StatesView) (list : List Item) (records : List Record) : Type 0 where

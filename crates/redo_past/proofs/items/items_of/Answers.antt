@@ -1,9 +1,9 @@
 use Rattle.std.proofs.Common.{◌≡◌, ◌<◌, ◌+◌, ◌∙◌, ◌++◌, ◌∷◌, [], true, false, List, Option, Some, None, ap, arith, drop, refl}
-use Rattle.std.proofs.Common.{filter, if◌then◌else◌, length, map, slice_index_or, subst, sym, Vec, Global}
+use Rattle.std.proofs.Common.{filter, if◌then◌else◌, length, slice_index_or, subst, sym, Vec, Global}
 use Rattle.std.proofs.lemmas.List.{drop_all}
 use Rattle.std.specs.List.{cons_option}
 use Rattle.std.specs.Prelude.{filter_map}
-use Rattle.redo_book.specs.Book.{IsBook, Record, record_of}
+use Rattle.redo_book.specs.Book.{IsBook, Record}
 use Rattle.redo_report.specs.declared.report.Row.{Row}
 use Rattle.redo_past.specs.NewBook.{record_of_row}
 use Rattle.redo_past.specs.inside.Books.{AreItems, StatesView, carries, is_before, is_behind, joined, leaves_record, new_records}
@@ -16,6 +16,21 @@ use Rattle.redo_past.specs.declared.items.Item.{Item}
 use Rattle.redo_past.proofs.items.items_of.Goals as goal
 use Rattle.redo_past.proofs.items.items_of.Goals.{then-has_record+in_ok-left+in_ok-push, else-has_record}
 
+pub loop-row-init : goal.loop-row-init
+loop-row-init c =
+    let past = c.args.past.now in
+    let rows = c.args.rows.now in
+    let states : StatesView = record { sources = past.sources; rows = rows } in
+    let is : c.as_slice-left.result.now ≡ c.in_ok-old.old.items = c.as_slice-left.ensures.value in
+    record {
+      left = subst IsBook (sym is) c.in_ok-old.ensures.book;
+      known = (
+        [],
+        subst (λ xs. AreItems states xs []) (sym c.new-items.ensures.items) (record { are = refl; sound = tt }),
+        ap (joined (carries past rows) (filter_map (record_if_built past.sources rows) rows)) (is ∙ c.in_ok-old.ensures.records),
+      );
+    }
+
 pub loop-row-preserved : goal.loop-row-preserved
 loop-row-preserved c =
     let past = c.args.past.now in
@@ -25,7 +40,7 @@ loop-row-preserved c =
     let i = c.loop-row.row-index in
     let x : Row = c.row-item.result in
     let keeps = carries past rows in
-    let old = map record_of c.loop-row.left.now in
+    let old = c.loop-row.left.now in
     let f : Row → Option Record = record_if_built past.sources rows in
     let rest = filter_map f (drop (i + 1) rows) in
     let r = record_of_row past.sources rows x in
@@ -40,11 +55,11 @@ loop-row-preserved c =
           let told : leaves_record x ≡ true = sym c.has_record.ensures ∙ w.if-has_record.true in
           let split : filter_map f (drop i rows) ≡ r ∷ rest =
           step ∙ ap (λ b. cons_option (if b then Some r else None) rest) told in
-          let behind : map record_of w.in_ok-left.left.now ≡ filter (is_behind x.path) old = w.in_ok-left.ensures.left in
+          let behind : w.in_ok-left.left.now ≡ filter (is_behind x.path) old = w.in_ok-left.ensures.left in
           let bare : (q : Record) → q.target ≡ x.path → keeps q ≡ false = λ q same. not-carried past rows i x q c.in_order-in_order.ensures.order below here (leaves-built x told) same in
-          let left : map record_of c.if-has_record.left.now ≡ map record_of w.but_of-left.result.now = ap (λ l. map record_of l.now) w.left-is in
-          let book : IsBook (map record_of w.in_ok-left.left.now) = subst IsBook (sym behind) (kept-book (is_behind x.path) old c.loop-row.invariant.left) in
-          let others : joined keeps rest (map record_of c.if-has_record.left.now) ≡ joined keeps rest (map record_of w.in_ok-left.left.now) =
+          let left : c.if-has_record.left.now ≡ w.but_of-left.result.now = ap (λ l. l.now) w.left-is in
+          let book : IsBook w.in_ok-left.left.now = subst IsBook (sym behind) (kept-book (is_behind x.path) old c.loop-row.invariant.left) in
+          let others : joined keeps rest c.if-has_record.left.now ≡ joined keeps rest w.in_ok-left.left.now =
           ap (joined keeps rest) left ∙ w.but_of-left.ensures.joined keeps bare rest in
           let front = filter keeps (filter (is_before x.path) old) in
           record {
@@ -54,13 +69,13 @@ loop-row-preserved c =
               subst (λ (l : Vec Item Global). AreItems states l.items ((done ++ front) ++ r ∷ [])) (sym w.items-is)
                   (item-pushed states w.carry_before.new.items.items w.push.new.self.items (done ++ front) ((done ++ front) ++ r ∷ []) _ r w.in_ok-push.ensures.items (w.in_ok-left.ensures.known done are) refl (leaves-below x told) refl),
               ap (λ l. ((done ++ front) ++ r ∷ []) ++ l) others
-                  ∙ join-step keeps done r rest (filter_map f (drop i rows)) old (map record_of w.in_ok-left.left.now) (new_records past rows) split behind was,
+                  ∙ join-step keeps done r rest (filter_map f (drop i rows)) old w.in_ok-left.left.now (new_records past rows) split behind was,
             );
           }
       | else-has_record w ↦
           let told : leaves_record x ≡ false = sym c.has_record.ensures ∙ w.if-has_record.false in
           let same : filter_map f (drop i rows) ≡ rest = step ∙ ap (λ b. cons_option (if b then Some r else None) rest) told in
-          let left : map record_of c.if-has_record.left.now ≡ old = ap (λ l. map record_of l.now) w.left-is in
+          let left : c.if-has_record.left.now ≡ old = ap (λ l. l.now) w.left-is in
           record {
             left = subst IsBook (sym left) c.loop-row.invariant.left;
             known = (
@@ -76,7 +91,7 @@ returns c =
     let past = c.args.past.now in
     let rows = c.args.rows.now in
     let done = c.loop-row.invariant.known.0 in
-    let old = map record_of c.loop-row.left.now in
+    let old = c.loop-row.left.now in
     let f : Row → Option Record = record_if_built past.sources rows in
     let none : drop c.loop-row.row-index rows ≡ [] =
     subst (λ (rs : List Row). drop c.loop-row.row-index rs ≡ []) c.in_order-in_order.ensures.rows (drop_all c.loop-row.row-index c.in_order-in_order.result.now (omega (arith, c.loop-row-test.false))) in
