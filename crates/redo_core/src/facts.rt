@@ -6,7 +6,7 @@ ghost use Rattle.redo_core.specs.inside.Works.{told_in, known_in, few_known, Add
 use crate::fact::Fact;
 use redo_names::PathMap;
 use redo_path::Path;
-use redo_record::{Deps, Outcome};
+use redo_record::{Dep, Deps, Outcome};
 use redo_step::Answers;
 use redo_sync::Known;
 use redo_tree::Tree;
@@ -106,6 +106,17 @@ impl Facts {
 /// Whether a tree has a file of at least `least` bytes at a path.
 pub(crate) fn has_file_of(tree: &Tree, path: &Path, least: usize) -> bool {
     tree.file(path).is_some_and(|bytes| bytes.len() >= least)
+}
+
+/// Whether a tree has such a file for one of the first entries of a record.
+pub(crate) fn is_any_large(tree: &Tree, deps: &[Dep], least: usize) -> bool {
+    let first = &deps[..deps.len().min(FEW)];
+    for dep in first {
+        if has_file_of(tree, &dep.path, least) {
+            return true;
+        }
+    }
+    false
 }
 
 /// What some facts tell of a path.

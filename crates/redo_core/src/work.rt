@@ -10,7 +10,7 @@ ghost use Rattle.redo_core.specs.inside.Works.{told_in};
 ghost use Rattle.redo_core.specs.inside.Ends.{IsEndAt};
 
 use crate::fact::Fact;
-use crate::facts::{Facts, has_file_of};
+use crate::facts::{Facts, has_file_of, is_any_large};
 use crate::given::Given;
 use crate::scripts::{begun, may_loop_long};
 use redo_path::Path;
@@ -365,6 +365,18 @@ impl Piece {
         match &self.end {
             End::Ended(fact, _) => fact.outcome().file(),
             End::Stopped { .. } => None,
+        }
+    }
+
+    /// Whether one of the first files that the script has declared so far is a source of at least `least` bytes. So
+    /// whoever gives out works can tell what the next ones may be like. No report depends on it.
+    pub fn has_large_source(&self, least: usize) -> bool {
+        let sources = self.given.sources();
+        match &self.end {
+            End::Ended(fact, _) => is_any_large(sources, fact.deps().parts().own, least),
+            End::Stopped { begun, .. } => {
+                is_any_large(sources, begun.job.declared().as_slice(), least)
+            }
         }
     }
 

@@ -92,7 +92,7 @@ impl<B: Build> Owner<B> {
     {
         what_was_taken();
         let piece = piece.into_piece();
-        self.pace.made(piece.file());
+        self.pace.handed_in(&piece);
         match self.board.hand_in(piece) {
             Ok(()) => Ok(()),
             Err(HandFault::TooMany) => Err(Stop::TooMany),

@@ -2,16 +2,16 @@
 //!
 //! To hand a job on costs some microseconds, and beside busy processes a worker may come to it much later. So short
 //! scripts stay with the owner. A job is expected to take long if its script, or a file that it asked for, is large, or
-//! if the script that was handed in last has made a large file.
+//! if the script that was handed in last has made a large file or read a large source.
 //!
-//! A script that reads little can take long only by its loops. How long a loop takes its text doesn't say, and a run has
-//! no clock. But it takes a sleeper some time to wake up. So now and then, while many jobs wait, one with loops is tried:
+//! Others can take long only by their loops. How long a loop takes its text doesn't say, and a run has no clock. But it
+//! takes a sleeper some time to wake up. So now and then, while many jobs wait, one with loops is tried:
 //! a sleeper is called for it. If it is back with the piece before the owner has advanced more than two jobs itself, then
 //! these are long enough, and the next ones with loops are offered. If not, the owner tries again after twice as many.
 //! The first time a few are tried at once, so that a build of long ones begins on several workers. No report depends on
 //! any of it.
 
-use redo_core::work::Work;
+use redo_core::work::{Piece, Work};
 
 /// A job takes long if it reads or makes so many bytes.
 const LONG: usize = 4096;
@@ -60,10 +60,12 @@ impl Trial {
 /// What the owner knows of how long jobs take.
 #[derive(Clone, Copy, Debug, PartialEq, Eq)]
 pub(crate) struct Pace {
-    /// The script that was handed in last has made a large file.
-    made_long: bool,
+    /// The script that was handed in last has made a large file or read a large source.
+    was_long: bool,
     /// How many jobs in turn are not known to read much or to have loops.
     little: u32,
+    /// The job that was given last was looked at.
+    is_looked_at: bool,
     /// So many jobs more are offered.
     trusted: u32,
     trial: Option<Trial>,
@@ -78,8 +80,9 @@ impl Pace {
     /// Before the first job.
     pub fn new() -> Pace {
         Pace {
-            made_long: false,
+            was_long: false,
             little: 0,
+            is_looked_at: false,
             trusted: 0,
             trial: None,
             more: TRIED - 1,
@@ -90,7 +93,7 @@ impl Pace {
 
     /// Whether a worker is to have a job, while so many others are ready and out.
     pub fn is_for_worker(&mut self, work: &Work, ready: usize, out: usize) -> bool {
-        if self.made_long {
+        if self.was_long {
             return true;
         }
         if !self.looks() {
@@ -109,9 +112,9 @@ impl Pace {
 
     /// Whether the next job is looked at.
     fn looks(&mut self) -> bool {
-        let looks = self.little < LITTLE || self.little % EACH == 0;
+        self.is_looked_at = self.little < LITTLE || self.little % EACH == 0;
         self.little = self.little.wrapping_add(1);
-        looks
+        self.is_looked_at
     }
 
     /// Whether a job with loops is offered: it is tried, or those before took long.
@@ -181,11 +184,13 @@ impl Pace {
         }
     }
 
-    /// A script was handed in that has made this file, if any.
-    pub fn made(&mut self, file: Option<&[u8]>) {
-        self.made_long = match file {
-            Some(bytes) => bytes.len() >= LONG,
-            None => false,
-        };
+    /// A piece was handed in. Of a short one in turn its sources are looked at only if its job was.
+    pub fn handed_in(&mut self, piece: &Piece) {
+        let has_made = piece.file().is_some_and(|bytes| bytes.len() >= LONG);
+        let looks = self.was_long || self.is_looked_at;
+        self.was_long = has_made || looks && piece.has_large_source(LONG);
+        if self.was_long {
+            self.little = 0;
+        }
     }
 }
