@@ -24,7 +24,7 @@ use std::marker::Model;
 use std::thread::Threads;
 
 /// From so many bytes on, in long sources, digests are worth threads.
-const WORTH_THREADS: usize = 1 << 17;
+const WORTH_THREADS: usize = 1 << 20;
 
 /// The report of a run with the new book among its files. The book may be long, so its text is made only as it is
 /// written. In a contract it is the report with that text.
