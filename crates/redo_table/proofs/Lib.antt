@@ -1,0 +1,4 @@
+pub mod NumberLemmas
+pub mod SlotLemmas
+pub mod WaitLemmas
+pub mod ListedLemmas
