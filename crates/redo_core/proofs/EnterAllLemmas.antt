@@ -66,9 +66,10 @@ module _ (given : GivenView) where
       AreEnteredInto given t v (ps ++ qs)
   enter-more t u v ps qs one two = record {
     table = two.table;
-    entries = two.entries ∙ ap (λ es. entered (rules_for given) es qs) one.entries ∙ sym (entered-append (rules_for given) (table_entries (rules_for given) given.limits.targets t) ps qs);
-    rest = (two.rest.0 ∙ one.rest.0, two.rest.1 ∙ one.rest.1);
+    entries = two.entries ∙ ap (λ es. entered (rules_for given) es qs) one.entries ∙ sym (entered-append (rules_for given) (table_entries given t) ps qs);
+    ready = two.ready ∙ one.ready;
     keys_kept = λ k p h. two.keys_kept k p (one.keys_kept k p h);
     slots_kept = λ k slot h. two.slots_kept k slot (one.slots_kept k slot h);
-    watched = λ pending all. two.watched pending (one.watched pending all);
+    stages_kept = λ k s h. two.stages_kept k s (one.stages_kept k s h);
+    fresh = λ k s h. elim (two.fresh k s h) [ inl mid ↦ one.fresh k s mid | inr new ↦ inr new ];
   }

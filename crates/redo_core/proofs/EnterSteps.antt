@@ -1,50 +1,35 @@
 -- Entering a path that is new.
-use Rattle.std.proofs.Common.{slice_get, ◌≡◌, ℕ, zero, suc, ◌+◌, ◌<◌, ◌≤◌, true, false, cond, ◌⊎◌, inl, inr, List, []}
-use Rattle.std.proofs.Common.{◌∷◌, ◌++◌, length, length-append, append-nil, filter, Some, None, refl, sym, ap, subst}
+use Rattle.std.proofs.Common.{slice_get, slice_set, ◌≡◌, ℕ, suc, ◌+◌, ◌<◌, ◌≤◌, true, false, ◌⊎◌, inl, inr, List, []}
+use Rattle.std.proofs.Common.{◌∷◌, ◌++◌, length, length-append, Some, None, refl, sym, ap, subst}
 use Rattle.std.proofs.Common.{◌∙◌, arith}
-use Rattle.std.proofs.lemmas.Bool.{cases_Bool, both_ways}
+use Rattle.std.proofs.lemmas.Bool.{cases_Bool}
 use Rattle.redo_record.specs.Paths.{IsAmong, is_among}
 use Rattle.redo_build.specs.Rules.{Ask, Rules, Extends, operands}
-use Rattle.redo_build.specs.Outcomes.{outcome_at}
 use Rattle.redo_rules.specs.Build.{GivenView, rules_for}
 use Rattle.redo_build.specs.Schedule.{Entry, only, outcomes_of, paths_of, entered, new_entry, nothing_known}
-use Rattle.std.specs.Ordering.{nat_cmp}
-use Rattle.std.specs.BTreeSet.{insert_key}
 use Rattle.redo_record.specs.Progress.{Progress}
-use Rattle.redo_core.specs.inside.Slots.{rounds_of, table_entries, entries_from, slot_entries, slot_entry, stage_deps}
-use Rattle.redo_core.specs.inside.Slots.{stage_outcome, path_at, is_stage_due, is_stage_out, is_stage_ready, Fits}
-use Rattle.redo_core.specs.inside.Slots.{is_stage_waiting}
-use Rattle.redo_core.specs.inside.Slots.{AllFit, AllWatched, AllWatchersBelow, IsWatched, IsPlace, IsQueue, IsTable}
-use Rattle.redo_core.specs.inside.Slots.{IsTableOf, IsNumbered, AllNumbered, IsBegun, IsPushed, IsEnteredInto, IsFull}
+use Rattle.redo_table.specs.Table.{StageView, TableView, with_stage, with_target}
+use Rattle.redo_table.specs.Table.StageView.{Due as AtDue, Ready as AtReady, InHand as AtHand, Decided as AtDecided}
+use Rattle.redo_table.proofs.SlotLemmas.{push-before, push-cases}
+use Rattle.redo_core.specs.inside.Slots.{outcomes_at_limit, table_entries, entries_from, slot_entries, slot_entry, stage_deps}
+use Rattle.redo_core.specs.inside.Slots.{stage_outcome, path_at, is_stage_out, Fits, Agrees, AreAgreed, first_stage}
+use Rattle.redo_core.specs.inside.Slots.{AllFit, IsTable, IsTableOf, IsBegun, IsPushed, IsEnteredInto, IsFull}
 use Rattle.redo_core.specs.declared.table.Slot.{Slot}
 use Rattle.redo_core.specs.declared.table.Table.{Table}
 use Rattle.redo_core.specs.declared.table.Stage.{Stage}
 use Rattle.redo_core.specs.declared.table.Stage.TheVariants.{Due, Checking, Waiting, Ready, Out, Decided}
-use Rattle.redo_core.proofs.NumberLemmas.{numbered-kept, numbered-still}
+use Rattle.redo_core.proofs.NumberLemmas.{agrees-kept}
 use Rattle.redo_build.proofs.PathLemmas.{is_among-true, is_among-from}
 use Rattle.redo_build.proofs.SeenLemmas.{outcomes_of-entry, outcomes_of-at, entry_of-entered_old}
 use Rattle.redo_core.proofs.SlotLemmas.{paths_of-slots, slice_get-below_some, slice_get-from}
-use Rattle.redo_core.proofs.TableLemmas.{Fits-more, place-append, place-left, place-right}
-use Rattle.redo_core.proofs.DueSteps.{due-push}
-use Rattle.redo_core.proofs.TableSteps.{once-push}
+use Rattle.redo_core.proofs.TableLemmas.{Fits-more}
 use Rattle.redo_core.proofs.BeginLemmas.{unruled-same}
 use Rattle.redo_record.specs.declared.deps.Dep.{Dep}
 use Rattle.redo_record.specs.declared.outcome.Outcome.{Outcome}
 
-get-push_old : {A : Type 0} (xs : List A) (x y : A) (k : ℕ) → slice_get xs k ≡ Some y → slice_get (xs ++ x ∷ []) k ≡ Some y
-get-push_old [] x y k h = cc
-get-push_old (z ∷ xs) x y zero h = h
-get-push_old (z ∷ xs) x y (suc k) h = get-push_old xs x y k h
-
 get-push_end : {A : Type 0} (xs : List A) (x : A) → slice_get (xs ++ x ∷ []) (length xs) ≡ Some x
 get-push_end [] x = refl
 get-push_end (z ∷ xs) x = get-push_end xs x
-
-get-push_cases : (xs : List Slot) (x y : Slot) (k : ℕ) → slice_get (xs ++ x ∷ []) k ≡ Some y → ((k ≡ length xs) × (x ≡ y)) ⊎ (slice_get xs k ≡ Some y)
-get-push_cases [] x y zero h = inl (refl, (cc))
-get-push_cases [] x y (suc k) h = cc
-get-push_cases (z ∷ xs) x y zero h = inr h
-get-push_cases (z ∷ xs) x y (suc k) h = elim (get-push_cases xs x y k h) [ inl here ↦ inl (ap suc here.0, here.1) | inr old ↦ inr old ]
 
 slot_entries-push : (r : Rules) (a : Ask) (ps : List (List ℕ)) (slots : List Slot) (p : List ℕ) (slot : Slot) → length slots ≡ length ps →
     slot_entries r a (ps ++ p ∷ []) (slots ++ slot ∷ []) ≡ slot_entries r a ps slots ++ slot_entry r a p slot ∷ []
@@ -66,7 +51,7 @@ begun-entry given a p (Due held) h =
     let E : List Dep → Entry = λ ds. record { path = p; looks = 0; turn = 0; deps = ds; outcome = None; is_out = false } in
     ap E h.1 ∙ sym (entry-ruled (rules_for given) p h.2)
 begun-entry given a p (Checking awaiting) h = absurd h
-begun-entry given a p (Waiting parked) h = absurd h
+begun-entry given a p (Waiting begun) h = absurd h
 begun-entry given a p (Ready work) h =
     let E : List Dep → Entry = λ ds. record { path = p; looks = 0; turn = 0; deps = ds; outcome = None; is_out = false } in
     ap E h.1 ∙ sym (entry-ruled (rules_for given) p h.2)
@@ -78,7 +63,7 @@ begun-entry given a p (Decided fact) h =
 begun-fits : (given : GivenView) (a : Ask) (p : List ℕ) (stage : Stage) → IsBegun given p stage → Fits (rules_for given) a given p 0 stage
 begun-fits given a p (Due held) h = h.0 a
 begun-fits given a p (Checking awaiting) h = absurd h
-begun-fits given a p (Waiting parked) h = absurd h
+begun-fits given a p (Waiting begun) h = absurd h
 begun-fits given a p (Ready work) h = (
   h.0,
   λ q m none. let P : List Dep → Type 0 = λ ds. IsAmong (operands (rules_for given) ds) q in absurd (subst P h.1 m),
@@ -87,75 +72,50 @@ begun-fits given a p (Ready work) h = (
 begun-fits given a p Out h = absurd h
 begun-fits given a p (Decided fact) h = (h.0, h.1)
 
-begun-inside : (given : GivenView) (p : List ℕ) (stage : Stage) → IsBegun given p stage → (is_stage_out stage ≡ false) × (is_stage_waiting stage ≡ false)
-begun-inside given p (Due held) h = (refl, refl)
-begun-inside given p (Checking awaiting) h = absurd h
-begun-inside given p (Waiting parked) h = absurd h
-begun-inside given p (Ready work) h = (refl, refl)
-begun-inside given p Out h = absurd h
-begun-inside given p (Decided fact) h = (refl, refl)
+-- a target that was added and put into a stage
+pub pushed-stage : (s : TableView) (n : ℕ) (stage : StageView) → n ≡ length s.stages → with_stage (with_target s AtHand) n stage ≡ with_target s stage
+pushed-stage s n stage is = ap (λ ss. record s { stages = ss }) (ap (λ k. slice_set (s.stages ++ AtHand ∷ []) k stage) is ∙ set-last s.stages)
+  where
+    set-last : (xs : List StageView) → slice_set (xs ++ AtHand ∷ []) (length xs) stage ≡ xs ++ stage ∷ []
+    set-last [] = refl
+    set-last (x ∷ xs) = ap (λ ys. x ∷ ys) (set-last xs)
 
-count-push : (xs : List Slot) (x : Slot) → is_stage_out x.stage ≡ false →
-    length (filter (λ slot. is_stage_out slot.stage) (xs ++ x ∷ [])) ≡ length (filter (λ slot. is_stage_out slot.stage) xs)
-count-push [] x h = rw h refl
-count-push (y ∷ xs) x h =
-    let rest = count-push xs x h in
-    elim (cases_Bool (is_stage_out y.stage)) [ inl t ↦ rw t (ap suc rest) | inr f ↦ rw f rest ]
+-- the schedule has a path at first sight where its slot is: due, ready or decided
+begun-agrees : (given : GivenView) (ps : List (List ℕ)) (p : List ℕ) (stage : Stage) → IsBegun given p stage →
+    Agrees (rules_for given) ps stage (first_stage stage) ×
+    ((first_stage stage ≡ AtDue) ⊎ ((first_stage stage ≡ AtReady) ⊎ (first_stage stage ≡ AtDecided)))
+begun-agrees given ps p (Due held) h = (refl, inl refl)
+begun-agrees given ps p (Checking awaiting) h = absurd h
+begun-agrees given ps p (Waiting begun) h = absurd h
+begun-agrees given ps p (Ready work) h = (refl, inr (inl refl))
+begun-agrees given ps p Out h = absurd h
+begun-agrees given ps p (Decided fact) h = (refl, inr (inr refl))
 
-module _ (slots : List Slot) (ready newly_ready : List ℕ) (new : Slot) (queue : IsQueue slots ready newly_ready) where
-  pub queue-push : IsQueue (slots ++ new ∷ []) ready (newly_ready ++ cond (is_stage_ready new.stage) (length slots ∷ []) [])
-  queue-push =
-      let len : length (slots ++ new ∷ []) ≡ length slots + 1 = length-append slots (new ∷ []) in
-      let only : (k : ℕ) → IsPlace (cond (is_stage_ready new.stage) (length slots ∷ []) []) k → (k ≡ length slots) × (is_stage_ready new.stage ≡ true) = λ k m.
-      elim (cases_Bool (is_stage_ready new.stage)) [
-        | inl t ↦ elim (rw t at m) as (λ _. (k ≡ length slots) × (is_stage_ready new.stage ≡ true)) [ inl here ↦ (sym here, t) | inr none ↦ absurd none ]
-        | inr f ↦ absurd (rw f at m)
-      ] in
-      record {
-        ready_below = λ k m. omega (arith, queue.ready_below k m, len);
-        newly_ready_below = λ k m. elim (place-append newly_ready (cond (is_stage_ready new.stage) (length slots ∷ []) []) k m) [
-          | inl old ↦ omega (arith, queue.newly_ready_below k old, len)
-          | inr end ↦ omega (arith, (only k end).0, len)
-        ];
-        ready_is = λ k x m g. elim (get-push_cases slots new x k g) [
-          | inl here ↦ elim m [
-            | inl l ↦ absurd (omega (arith, queue.ready_below k l, here.0))
-            | inr l ↦ elim (place-append newly_ready (cond (is_stage_ready new.stage) (length slots ∷ []) []) k l) [
-              | inl f ↦ absurd (omega (arith, queue.newly_ready_below k f, here.0))
-              | inr end ↦ sym (ap (λ (y : Slot). is_stage_ready y.stage) here.1) ∙ (only k end).1
-            ]
-          ]
-          | inr old ↦ elim m [
-            | inl l ↦ queue.ready_is k x (inl l) old
-            | inr l ↦ elim (place-append newly_ready (cond (is_stage_ready new.stage) (length slots ∷ []) []) k l) [
-              | inl f ↦ queue.ready_is k x (inr f) old
-              | inr end ↦ absurd (omega (arith, (only k end).0, slice_get-below_some slots k x old))
-            ]
-          ]
-        ];
-        ready_in = λ k x g t. elim (get-push_cases slots new x k g) [
-          | inl here ↦
-              let now : is_stage_ready new.stage ≡ true = ap (λ (y : Slot). is_stage_ready y.stage) here.1 ∙ t in
-              inr (place-right newly_ready (cond (is_stage_ready new.stage) (length slots ∷ []) []) k (rw now (inl (sym here.0))))
-          | inr old ↦ elim (queue.ready_in k x old t) [
-            | inl l ↦ inl l
-            | inr f ↦ inr (place-left newly_ready (cond (is_stage_ready new.stage) (length slots ∷ []) []) k f)
-          ]
-        ];
-        apart = λ k m f. elim (place-append newly_ready (cond (is_stage_ready new.stage) (length slots ∷ []) []) k f) [
-          | inl l ↦ queue.apart k m l
-          | inr end ↦ absurd (omega (arith, queue.ready_below k m, (only k end).0))
-        ];
-        once = elim (cases_Bool (is_stage_ready new.stage)) [
-          | inl t ↦ rw t (once-push newly_ready (length slots) queue.once (λ m. absurd (let h = queue.newly_ready_below (length slots) m in omega (arith, h))))
-          | inr f ↦ rw f (rw append-nil queue.once)
-        ];
-      }
+-- a slot and its stage behind the others, with more paths
+agreed-push : (r : Rules) (ps us : List (List ℕ)) (slots : List Slot) (stages : List StageView) (new : Slot) (s : StageView) →
+    AreAgreed r ps slots stages → ((k : ℕ) (p : List ℕ) → slice_get ps k ≡ Some p → slice_get us k ≡ Some p) →
+    Agrees r us new.stage s → AreAgreed r us (slots ++ new ∷ []) (stages ++ s ∷ [])
+agreed-push r ps us slots stages new s agreed kept agrees = record {
+  one_each = omega (arith, agreed.one_each, length-append slots (new ∷ []), length-append stages (s ∷ []));
+  each = λ k x y g h. elim (push-cases slots k new x g) [
+    | inl here ↦ elim (push-cases stages k s y h) [
+      | inl now ↦
+          let P : Stage → Type 0 = λ stage. Agrees r us stage y in
+          let Q : StageView → Type 0 = Agrees r us new.stage in
+          subst P (ap (λ (z : Slot). z.stage) here.1) (subst Q now.1 agrees)
+      | inr old ↦ absurd (omega (arith, agreed.one_each, here.0, slice_get-below_some stages k y old))
+    ]
+    | inr old ↦ elim (push-cases stages k s y h) [
+      | inl now ↦ absurd (omega (arith, agreed.one_each, now.0, slice_get-below_some slots k x old))
+      | inr was ↦ agrees-kept ps us kept r x.stage y (agreed.each k x y old was)
+    ]
+  ];
+}
 
 path_at-old : (ps : List (List ℕ)) (p : List ℕ) (k : ℕ) → k < length ps → path_at (ps ++ p ∷ []) k ≡ path_at ps k
 path_at-old ps p k h =
     let found = slice_get-from ps k h in
-    rw (get-push_old ps p found.0 k found.1, found.1) refl
+    rw (push-before ps k p found.0 found.1, found.1) refl
 
 path_at-end : (ps : List (List ℕ)) (p : List ℕ) → path_at (ps ++ p ∷ []) (length ps) ≡ p
 path_at-end ps p = rw (get-push_end ps p) refl
@@ -175,29 +135,29 @@ module _ (given : GivenView) (t u : Table) (p : List ℕ) (table : IsTableOf giv
   r = rules_for given
 
   abbrev a : Ask
-  a = outcome_at (rules_for given) given.limits.targets
+  a = outcomes_at_limit given
 
   abbrev es : List Entry
-  es = table_entries (rules_for given) given.limits.targets t
+  es = table_entries given t
 
   begun : IsBegun given p w.new.stage
   begun = w.begun
 
-  new-entry : slot_entry (rules_for given) (outcome_at (rules_for given) given.limits.targets) p w.new ≡ new_entry (rules_for given) p
+  new-entry : slot_entry (rules_for given) (outcomes_at_limit given) p w.new ≡ new_entry (rules_for given) p
   new-entry =
       let P : ℕ → ℕ → Type 0 = λ m n. record { path = p; looks = m; turn = n; deps = stage_deps r a p (m + n) w.new.stage; outcome = stage_outcome w.new.stage; is_out = is_stage_out w.new.stage } ≡ new_entry r p in
       let Q : ℕ → Type 0 = λ m. P m 0 in
       let R : ℕ → Type 0 = λ n. P w.new.looks n in
       subst R (sym w.turn) (subst Q (sym w.looks) (begun-entry given a p w.new.stage w.begun))
 
-  pushed : entries_from (rules_for given) given.limits.targets (t.targets ++ p ∷ []) (t.slots.items ++ w.new ∷ []) ≡ entered (rules_for given) (table_entries (rules_for given) given.limits.targets t) (p ∷ [])
+  pushed : entries_from (rules_for given) given.limits.targets (t.targets ++ p ∷ []) (t.slots.items ++ w.new ∷ []) ≡ entered (rules_for given) (table_entries given t) (p ∷ [])
   pushed =
       let raw = slot_entries-push r a t.targets t.slots.items p w.new table.one_each in
       let no : is_among (paths_of es) p ≡ false = (let P : List (List ℕ) → Type 0 = λ xs. is_among xs p ≡ false in
       subst P (sym (paths_of-slots r a t.targets t.slots.items table.one_each)) (not-among t.targets p out)) in
       raw ∙ ap (λ e. es ++ e ∷ []) new-entry ∙ sym (rw no refl)
 
-  more : Extends (rules_for given) (outcomes_of (table_entries (rules_for given) given.limits.targets t))
+  more : Extends (rules_for given) (outcomes_of (table_entries given t))
       (outcomes_of (entries_from (rules_for given) given.limits.targets (t.targets ++ p ∷ []) (t.slots.items ++ w.new ∷ [])))
   more =
       let P : List Entry → Type 0 = λ xs. Extends r (outcomes_of es) (outcomes_of xs) in
@@ -208,7 +168,7 @@ module _ (given : GivenView) (t u : Table) (p : List ℕ) (table : IsTableOf giv
   fits-push : AllFit (rules_for given) given.limits.targets given (t.targets ++ p ∷ []) (t.slots.items ++ w.new ∷ [])
   fits-push k x g =
       let b = outcomes_of (entries_from (rules_for given) given.limits.targets (t.targets ++ p ∷ []) (t.slots.items ++ w.new ∷ [])) in
-      elim (get-push_cases t.slots.items w.new x k g) [
+      elim (push-cases t.slots.items k w.new x g) [
         | inl here ↦
             let path : path_at (t.targets ++ p ∷ []) k ≡ p = ap (path_at (t.targets ++ p ∷ [])) (here.0 ∙ table.one_each) ∙ path_at-end t.targets p in
             let P : List ℕ → Type 0 = λ q. Fits r b given q x.turn x.stage in
@@ -221,27 +181,10 @@ module _ (given : GivenView) (t u : Table) (p : List ℕ) (table : IsTableOf giv
             subst P (sym path) (Fits-more given (outcomes_of es) b (path_at t.targets k) x.turn x.stage more (table.fits k x old))
       ]
 
-  numbered-push : AllNumbered (rules_for given) (t.targets ++ p ∷ []) (t.slots.items ++ w.new ∷ [])
-  numbered-push k x g = elim (get-push_cases t.slots.items w.new x k g) [
-    | inl here ↦
-        let P : Slot → Type 0 = λ y. IsNumbered r (t.targets ++ p ∷ []) y.stage in
-        subst P here.1 (numbered-still r (t.targets ++ p ∷ []) w.new.stage (begun-inside given p w.new.stage w.begun).1)
-    | inr old ↦ numbered-kept t.targets (t.targets ++ p ∷ []) (λ j q h. get-push_old t.targets p q j h) r x.stage (table.numbered k x old)
-  ]
+  first-agrees : Agrees (rules_for given) (t.targets ++ p ∷ []) w.new.stage (first_stage w.new.stage)
+  first-agrees = (begun-agrees given (t.targets ++ p ∷ []) p w.new.stage w.begun).0
 
-  below-push : AllWatchersBelow (t.slots.items ++ w.new ∷ [])
-  below-push i k x g m =
-      let len = length-append t.slots.items (w.new ∷ []) in
-      elim (get-push_cases t.slots.items w.new x i g) [
-        | inl here ↦ absurd (
-            let P : List ℕ → Type 0 = λ xs. IsPlace xs k in
-            subst P w.watchers (let Q : Slot → Type 0 = λ y. IsPlace y.watchers.items k in subst Q (sym here.1) m))
-        | inr old ↦ omega (arith, table.watchers_below i k x old m, len)
-      ]
-
-  table-push : IsTable (rules_for given) given (t.targets ++ p ∷ []) (t.slots.items ++ w.new ∷ []) t.ready.items
-      (cond (is_stage_due w.new.stage) (insert_key nat_cmp t.due.keys (length t.slots.items)) t.due.keys) t.out
-      (t.newly_ready.items ++ cond (is_stage_ready w.new.stage) (length t.slots.items ∷ []) [])
+  table-push : IsTable (rules_for given) given (t.targets ++ p ∷ []) (t.slots.items ++ w.new ∷ []) (t.schedule.stages ++ first_stage w.new.stage ∷ [])
   table-push =
       let len : length (t.slots.items ++ w.new ∷ []) ≡ length t.slots.items + 1 = length-append t.slots.items (w.new ∷ []) in
       let keys : length (t.targets ++ p ∷ []) ≡ length t.targets + 1 = length-append t.targets (p ∷ []) in
@@ -249,45 +192,33 @@ module _ (given : GivenView) (t u : Table) (p : List ℕ) (table : IsTableOf giv
         one_each = omega (arith, len, keys, table.one_each);
         within_limit = omega (arith, len, room);
         few = table.few;
-        out_counted = table.out_counted ∙ sym (count-push t.slots.items w.new (begun-inside given p w.new.stage w.begun).0);
         fits = fits-push;
-        numbered = numbered-push;
-        queue = queue-push t.slots.items t.ready.items t.newly_ready.items w.new table.queue;
-        due_listed = due-push t.slots.items t.due.keys w.new table.due_listed;
-        watchers_below = below-push;
+        agreed = agreed-push r t.targets (t.targets ++ p ∷ []) t.slots.items t.schedule.stages w.new (first_stage w.new.stage) table.agreed
+            (λ k q h. push-before t.targets k p q h) first-agrees;
       }
 
-  watched-push : (pending : List ℕ) → AllWatched (rules_for given) given.limits.targets t.targets t.slots.items pending →
-      AllWatched (rules_for given) given.limits.targets (t.targets ++ p ∷ []) (t.slots.items ++ w.new ∷ []) pending
-  watched-push pending all k x g m = elim (get-push_cases t.slots.items w.new x k g) [
-    | inl here ↦ absurd (both_ways _ (begun-inside given p w.new.stage w.begun).1 (ap (λ (y : Slot). is_stage_waiting y.stage) here.1 ∙ m))
-    | inr old ↦
-        let path = path_at-old t.targets p k (omega (arith, slice_get-below_some t.slots.items k x old, table.one_each)) in
-        elim (all k x old m) [
-          | inl l ↦ inl l
-          | inr v ↦
-              let there = path_at-old t.targets p v.at (omega (arith, slice_get-below_some t.slots.items v.at v.other v.there, table.one_each)) in
-              let P : List ℕ → Type 0 = λ q. IsWatched r (t.targets ++ p ∷ []) (t.slots.items ++ w.new ∷ []) k (stage_deps r a q (rounds_of x) x.stage) in
-              let Q : List ℕ → Type 0 = λ q. IsAmong (operands r (stage_deps r a (path_at t.targets k) (rounds_of x) x.stage)) q in
-              inr (subst P (sym path) (record {
-                at = v.at;
-                other = v.other;
-                there = get-push_old t.slots.items w.new v.other v.at v.there;
-                is_open = v.is_open;
-                listed = v.listed;
-                asked = subst Q (sym there) v.asked;
-              }))
-        ]
+  stage-push : u.schedule.stages ≡ t.schedule.stages ++ first_stage w.new.stage ∷ []
+  stage-push = ap (λ (x : TableView). x.stages) w.schedule
+
+  stages-fresh : (k : ℕ) (s : StageView) → slice_get u.schedule.stages k ≡ Some s →
+      (slice_get t.schedule.stages k ≡ Some s) ⊎ ((s ≡ AtDue) ⊎ ((s ≡ AtReady) ⊎ (s ≡ AtDecided)))
+  stages-fresh k s h = elim (push-cases t.schedule.stages k (first_stage w.new.stage) s (sym (ap (λ ss. slice_get ss k) stage-push) ∙ h)) [
+    | inl here ↦ inr (elim (begun-agrees given t.targets p w.new.stage w.begun).1 [
+      | inl due ↦ inl (sym here.1 ∙ due)
+      | inr other ↦ elim other [ inl ready ↦ inr (inl (sym here.1 ∙ ready)) | inr decided ↦ inr (inr (sym here.1 ∙ decided)) ]
+    ])
+    | inr old ↦ inl old
   ]
 
   pub entered-new : IsEnteredInto given t u p
   entered-new = record {
-    table = rw (w.keys, w.slots, w.rest.0, w.rest.1, w.newly_ready_is, w.due_is) table-push;
+    table = rw (w.keys, w.slots, stage-push) table-push;
     entries = rw (w.keys, w.slots) pushed;
-    rest = w.rest;
-    keys_kept = λ k q h. rw w.keys (get-push_old t.targets p q k h);
-    slots_kept = λ k x h. rw w.slots (get-push_old t.slots.items w.new x k h);
-    watched = λ pending all. rw (w.keys, w.slots) (watched-push pending all);
+    ready = ap (λ (x : TableView). x.ready) w.schedule;
+    keys_kept = λ k q h. rw w.keys (push-before t.targets k p q h);
+    slots_kept = λ k x h. rw w.slots (push-before t.slots.items k w.new x h);
+    stages_kept = λ k s h. rw stage-push (push-before t.schedule.stages k (first_stage w.new.stage) s h);
+    fresh = stages-fresh;
   }
 
   -- its number is the next
@@ -303,20 +234,21 @@ entered-old given t p table m = record {
   table = table;
   entries =
       let P : List (List ℕ) → Type 0 = λ xs. is_among xs p ≡ true in
-      let yes' : is_among (paths_of (table_entries (rules_for given) given.limits.targets t)) p ≡ true =
-      subst P (sym (paths_of-slots (rules_for given) (outcome_at (rules_for given) given.limits.targets) t.targets t.slots.items table.one_each)) (is_among-from t.targets p m) in
+      let yes' : is_among (paths_of (table_entries given t)) p ≡ true =
+      subst P (sym (paths_of-slots (rules_for given) (outcomes_at_limit given) t.targets t.slots.items table.one_each)) (is_among-from t.targets p m) in
       sym (rw yes' refl);
-  rest = (refl, refl);
+  ready = refl;
   keys_kept = λ k q h. h;
   slots_kept = λ k x h. h;
-  watched = λ pending all. all;
+  stages_kept = λ k s h. h;
+  fresh = λ k s h. inl h;
 }
 
 pub full : (given : GivenView) (t : Table) (p : List ℕ) → IsTableOf given t → (IsAmong t.targets p → ⊥) →
-    given.limits.targets ≤ length t.slots.items → IsFull (rules_for given) given.limits.targets (table_entries (rules_for given) given.limits.targets t) p
+    given.limits.targets ≤ length t.slots.items → IsFull given t p
 full given t p table out h =
-    let a = outcome_at (rules_for given) given.limits.targets in
-    let es = table_entries (rules_for given) given.limits.targets t in
+    let a = outcomes_at_limit given in
+    let es = table_entries given t in
     let P : List (List ℕ) → Type 0 = λ xs. is_among xs p ≡ false in
     let no : is_among (paths_of es) p ≡ false = subst P (sym (paths_of-slots (rules_for given) a t.targets t.slots.items table.one_each)) (not-among t.targets p out) in
     rw no (omega (
@@ -328,24 +260,24 @@ full given t p table out h =
 
 -- what was entered is within the limit
 pub entered-room : (given : GivenView) (t u : Table) (p : List ℕ) → IsEnteredInto given t u p →
-    IsFull (rules_for given) given.limits.targets (table_entries (rules_for given) given.limits.targets t) p → ⊥
+    IsFull given t p → ⊥
 entered-room given t u p entered many =
     let r = rules_for given in
     omega (
       arith,
       many,
       ap length entered.entries,
-      slots-length r (outcome_at r given.limits.targets) u.targets u.slots.items entered.table.one_each,
+      slots-length r (outcomes_at_limit given) u.targets u.slots.items entered.table.one_each,
       entered.table.within_limit,
     )
 
 -- where a slot is free, one more path is within the limit
 pub room-left : (given : GivenView) (t : Table) (p : List ℕ) → IsTableOf given t → length t.slots.items < given.limits.targets →
-    IsFull (rules_for given) given.limits.targets (table_entries (rules_for given) given.limits.targets t) p → ⊥
+    IsFull given t p → ⊥
 room-left given t p table room many =
     let r = rules_for given in
-    let es = table_entries (rules_for given) given.limits.targets t in
-    let len = slots-length r (outcome_at r given.limits.targets) t.targets t.slots.items table.one_each in
+    let es = table_entries given t in
+    let len = slots-length r (outcomes_at_limit given) t.targets t.slots.items table.one_each in
     elim (cases_Bool (is_among (paths_of es) p)) [
       | inl old ↦ let few = rw old at many in omega (arith, few, len, room)
       | inr new ↦ let few = rw new at many in omega (arith, few, len, room, length-append es (new_entry r p ∷ []))

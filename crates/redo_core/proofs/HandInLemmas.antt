@@ -1,19 +1,20 @@
 -- A piece that is handed in leaves the board in the state that the schedule says.
 use Rattle.std.proofs.Common.{slice_get, ◌≡◌, ℕ, ◌<◌, ◌≤◌, List, [], length, Option, Some, None, refl, sym, ap, subst}
 use Rattle.std.proofs.Common.{◌∙◌, arith}
-use Rattle.redo_build.specs.Outcomes.{outcome_at, IsTooMany}
+use Rattle.redo_build.specs.Outcomes.{IsTooMany}
 use Rattle.redo_build.specs.Schedule.{Entry, Event, State, entry_of, happens, IsOutAt}
 use Rattle.redo_build.specs.Schedule.Event.{Hand_in}
 use Rattle.redo_build.specs.Schedule.Phase.{Script}
 use Rattle.redo_build.specs.Looking.{IsLookedOut, looked}
 use Rattle.redo_rules.specs.Build.{GivenView, rules_for}
 use Rattle.redo_rules.proofs.Public.{lawful_for}
+use Rattle.redo_table.specs.Table.{NoneDue}
 use Rattle.redo_core.specs.Views.{BoardView, IsReached, PieceView, rules_on}
 use Rattle.redo_core.specs.Faults.{fault_of, IsSameBuild, RefusedRunning}
 use Rattle.redo_core.specs.declared.board.Stop.{Stop}
 use Rattle.redo_core.specs.declared.board.Stop.TheVariants.{TooMany, Memory}
 use Rattle.redo_core.specs.inside.Ends.{IsEndAt}
-use Rattle.redo_core.specs.inside.Slots.{rules_inside, state_of, path_at, slot_entry, is_stage_out, IsKept, IsOutSlotAt}
+use Rattle.redo_core.specs.inside.Slots.{outcomes_at_limit, rules_inside, state_of, path_at, slot_entry, is_stage_out, IsKept, IsOutSlotAt}
 use Rattle.redo_core.specs.inside.Slots.{MayTakeIn, IsAtRest, IsLookedOn, IsMovedOn, IsTakenIn, state_after, table_state}
 use Rattle.redo_record.specs.Paths.{AreDistinct}
 use Rattle.redo_build.proofs.SoundLemmas.{IsSound, happens-sound}
@@ -31,18 +32,18 @@ use Rattle.redo_core.proofs.TakeLemmas.{distinct-inside, reached-more}
 -- what was out is taken in: the table is at rest, or the build needs too many
 module _ (given : GivenView) (t : Table) (at : ℕ) (end : End) (may : MayTakeIn given t at end) where
   abbrev before : State
-  before = table_state (rules_for given) given.limits.targets t
+  before = table_state given t
 
   before-sound : IsSound (rules_for given) given.request before
   before-sound = reached-sound (rules_for given) (lawful_for given) given.request before may.at_rest.reached
 
   abbrev out-slot : Entry
-  out-slot = slot_entry (rules_for given) (outcome_at (rules_for given) given.limits.targets) (path_at t.targets at) may.slot
+  out-slot = slot_entry (rules_for given) (outcomes_at_limit given) (path_at t.targets at) may.slot
 
   was-out : IsOutAt before (path_at t.targets at) may.slot.turn
   was-out =
       let r = rules_for given in
-      let a = outcome_at r given.limits.targets in
+      let a = outcomes_at_limit given in
       let D : List (List ℕ) → Type 0 = AreDistinct in
       let distinct = subst D (paths_of-slots r a t.targets t.slots.items may.at_rest.table.one_each) before-sound.standing.distinct in
       let found = slice_get-from t.targets at (omega (arith, may.at_rest.table.one_each, slice_get-below_some t.slots.items at may.slot may.there)) in
@@ -61,8 +62,7 @@ module _ (given : GivenView) (t : Table) (at : ℕ) (end : End) (may : MayTakeIn
         reached = subst P (sym taken.state) (reached-more (rules_for given) given.request before
             (Hand_in (path_at t.targets at) may.slot.turn) may.at_rest.reached was-out);
         table = taken.table;
-        none_newly_ready = taken.none_newly_ready;
-        watched = taken.watched;
+        resting = taken.resting;
       }
 
   pub too-many-taken : given.limits.targets < length (state_after given Script t at).entries →
@@ -73,7 +73,7 @@ module _ (given : GivenView) (t : Table) (at : ℕ) (end : End) (may : MayTakeIn
       let sound = happens-sound r (lawful_for given) given.request before event before-sound was-out in
       (is_part r (lawful_for given) given.request (happens r before event) sound given.limits.targets).too_many many
 
-pub moved-on : (given : GivenView) (after : State) (u v : Table) → IsTakenIn given after u → IsLookedOn given u v → v.due.keys ≡ [] →
+pub moved-on : (given : GivenView) (after : State) (u v : Table) → IsTakenIn given after u → IsLookedOn given u v → NoneDue v.schedule →
     IsMovedOn given after v
 moved-on given after u v taken ahead none = record {
   at_rest = ahead.at_rest;
@@ -86,12 +86,12 @@ module _ (b : Inside) (kept : IsKept b) (target : List ℕ) (turn at : ℕ) (o :
   path-is : path_at b.table.targets at ≡ target
   path-is = rw o.path refl
 
-  entry-out : entry_of (state_of b).entries target ≡ Some (slot_entry (rules_inside b) (outcome_at (rules_inside b) b.build.limits.targets) target o.slot)
-  entry-out = entry_of-slots (rules_inside b) (outcome_at (rules_inside b) b.build.limits.targets) b.table.targets b.table.slots.items at target o.slot (distinct-inside b kept) o.path o.there
+  entry-out : entry_of (state_of b).entries target ≡ Some (slot_entry (rules_inside b) (outcomes_at_limit b.build) target o.slot)
+  entry-out = entry_of-slots (rules_inside b) (outcomes_at_limit b.build) b.table.targets b.table.slots.items at target o.slot (distinct-inside b kept) o.path o.there
 
   pub open-out : IsOutAt (state_of b) target turn
   open-out = record {
-    entry = slot_entry (rules_inside b) (outcome_at (rules_inside b) b.build.limits.targets) target o.slot;
+    entry = slot_entry (rules_inside b) (outcomes_at_limit b.build) target o.slot;
     at = entry-out;
     is_out = ap is_stage_out o.is_out;
     at_turn = o.at_turn;
@@ -132,7 +132,7 @@ module _ (b : Inside) (kept : IsKept b) (target : List ℕ) (turn at : ℕ) (o :
 -- where no slot is out for a piece, its target isn't out
 pub stranger : (b : Inside) (kept : IsKept b) (target : List ℕ) (turn : ℕ) → ((at : ℕ) → IsOutSlotAt b.table target turn at → ⊥) → IsOutAt (state_of b) target turn → ⊥
 stranger b kept target turn none out =
-    let found = slot-of-path (rules_inside b) (outcome_at (rules_inside b) b.build.limits.targets) b.table.targets b.table.slots.items target out.entry out.at in
+    let found = slot-of-path (rules_inside b) (outcomes_at_limit b.build) b.table.targets b.table.slots.items target out.entry out.at in
     none found.0 (record {
       slot = found.1;
       path = found.2;

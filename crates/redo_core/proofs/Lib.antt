@@ -6,7 +6,8 @@ pub mod JobLemmas
 pub mod SlotLemmas
 pub mod TableLemmas
 pub mod NumberLemmas
-pub mod DueSteps
+pub mod AgreeLemmas
+pub mod WaitedLemmas
 pub mod HoldingLemmas
 pub mod LookLemmas
 pub mod LookedLemmas
@@ -19,13 +20,11 @@ pub mod StopLemmas
 pub mod FactLemmas
 pub mod BeginLemmas
 pub mod BegunLemmas
-pub mod HoldSteps
 pub mod MakeReadySteps
 pub mod GainSteps
 pub mod ResumeSteps
+pub mod GoOnSteps
 pub mod EnterAllLemmas
-pub mod SettleAllLemmas
-pub mod SortingLemmas
 pub mod ConcludeSteps
 pub mod TakeInLemmas
 pub mod TakenSteps

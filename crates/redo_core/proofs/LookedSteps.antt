@@ -11,7 +11,6 @@ use Rattle.redo_record.specs.Entries.{is_entered, with_entry}
 use Rattle.redo_record.specs.Paths.{IsAmong, AreDistinct, is_among}
 use Rattle.redo_record.specs.Progress.{Progress}
 use Rattle.redo_build.specs.Rules.{Ask, Rules, AreLawful, Extends, operands}
-use Rattle.redo_build.specs.Outcomes.{outcome_at}
 use Rattle.redo_build.specs.Schedule.{Entry, advanced, entered, moved_on, only, outcomes_of, paths_of, put}
 use Rattle.redo_build.specs.Schedule.Phase.{Check as In_check}
 use Rattle.redo_build.specs.inside.Standing.{AreStanding}
@@ -26,7 +25,10 @@ use Rattle.redo_rules.proofs.Public.{lawful_for}
 use Rattle.redo_core.specs.Views.{FactView}
 use Rattle.redo_core.specs.inside.Checking.{IsWaitingCheck, asks_next, entries_in}
 use Rattle.redo_core.specs.inside.Decided.{IsDecided}
-use Rattle.redo_core.specs.inside.Slots.{AreEnteredInto, IsAskedAt, IsCheckingWith, IsConcludedAt, IsOutThere, IsPutBackThere, MayConclude}
+use Rattle.redo_table.specs.Table.{TableView, stage_at}
+use Rattle.redo_table.specs.Table.StageView.{Out as AtOut, InHand as AtHand, Waiting as AtWaiting}
+use Rattle.redo_core.specs.inside.Slots.{outcomes_at_limit, AreEnteredInto, IsAskedAt, IsCheckingWith, IsConcludedAt, IsOutThere, IsPutBackThere, MayConclude}
+use Rattle.redo_core.specs.inside.Slots.{IsSettled, IsStandingTable, IsTableOf}
 use Rattle.redo_core.specs.inside.Slots.{MayLook, concluded_entry, path_at, rounds_of, slot_entry, stage_deps, stage_outcome, is_stage_out}
 use Rattle.redo_core.specs.inside.Slots.{state_after, table_entries}
 use Rattle.redo_core.specs.declared.table.InCheck.{InCheck}
@@ -35,11 +37,11 @@ use Rattle.redo_core.specs.declared.table.Stage.{Stage}
 use Rattle.redo_core.specs.declared.table.Table.{Table}
 use Rattle.redo_core.proofs.CheckingLemmas.{due-asks, due-kept, due-waits, waiting-moves}
 use Rattle.redo_core.proofs.EnterAllLemmas.{entered-seen, operands-append}
-use Rattle.redo_core.proofs.PutSteps.{asked-table, asked-watched, put-entries}
+use Rattle.redo_core.proofs.PutSteps.{asked-table, put-entries, put-none_in_hand}
 use Rattle.redo_core.proofs.SlotLemmas.{paths_of-slots, slice_get-below_some}
 use Rattle.redo_core.proofs.TakeInLemmas.{all-entered}
-use Rattle.redo_core.proofs.LookSteps.{fits, look-after_entries, look-deep, look-distinct, look-key, look-known, look-out}
-use Rattle.redo_core.proofs.LookSteps.{look-outcomes, look-path, look-seen, look-sound, look-table, look-targets, look-there, look-watched}
+use Rattle.redo_core.proofs.LookSteps.{fits, look-after_entries, look-alone, look-deep, look-distinct, look-key, look-known, look-out}
+use Rattle.redo_core.proofs.LookSteps.{look-outcomes, look-path, look-seen, look-sound, look-table, look-targets, look-there}
 
 -- the operands of entries to which one was added
 entry-cases : (r : Rules) (ds : List Dep) (d : Dep) (x : List ℕ) → IsAmong (operands r (with_entry ds d.kind d.path)) x →
@@ -78,45 +80,45 @@ module _ (given : GivenView) (u : Table) (at : ℕ) (held : Box InCheck Global) 
   lim = given.limits.targets
 
   abbrev al : Ask
-  al = outcome_at (rules_for given) given.limits.targets
+  al = outcomes_at_limit given
 
   abbrev p : List ℕ
   p = path_at may.whole.targets at
 
   abbrev eu : List Entry
-  eu = table_entries (rules_for given) given.limits.targets u
+  eu = table_entries given u
 
   abbrev ew : List Entry
-  ew = table_entries (rules_for given) given.limits.targets may.whole
+  ew = table_entries given may.whole
 
   abbrev e : Entry
-  e = (slot_entry (rules_for given) (outcome_at (rules_for given) given.limits.targets) (path_at may.whole.targets at) may.taken.old)
+  e = (slot_entry (rules_for given) (outcomes_at_limit given) (path_at may.whole.targets at) may.taken.old)
 
   abbrev asked : List Dep
   asked = held.value.check.asked
 
   -- what its check knows
   abbrev known : Ask
-  known = only (operands (rules_for given) held.value.check.asked) (outcomes_of (table_entries (rules_for given) given.limits.targets may.whole))
+  known = only (operands (rules_for given) held.value.check.asked) (outcomes_of (table_entries given may.whole))
 
   lawful : AreLawful (rules_for given)
   lawful = lawful_for given
 
-  deep : Extends (rules_for given) (only (operands (rules_for given) held.value.check.asked) (outcomes_of (table_entries (rules_for given) given.limits.targets may.whole))) (outcome_at (rules_for given) given.limits.targets)
+  deep : Extends (rules_for given) (only (operands (rules_for given) held.value.check.asked) (outcomes_of (table_entries given may.whole))) (outcomes_at_limit given)
   deep = Extends-trans' r known (outcomes_of ew) al (only-Extends r (operands r asked) (outcomes_of ew) (outcomes_of ew) (λ q o s h. h)) (look-deep given u at held may)
 
   -- all entries stand
   module _ (stands : asks_next given held.value.check ≡ None) where
-    kept-now : advanced (rules_for given) (table_entries (rules_for given) given.limits.targets may.whole) (slot_entry (rules_for given) (outcome_at (rules_for given) given.limits.targets) (path_at may.whole.targets at) may.taken.old) ≡ built (file_at given.past.tree (path_at may.whole.targets at)) held.value.check.asked
+    kept-now : advanced (rules_for given) (table_entries given may.whole) (slot_entry (rules_for given) (outcomes_at_limit given) (path_at may.whole.targets at) may.taken.old) ≡ built (file_at given.past.tree (path_at may.whole.targets at)) held.value.check.asked
     kept-now = look-known given u at held may ∙ (due-kept given p (outcomes_of ew) held.value.check (fits given u at held may).is_due stands).0
 
-    kept-end : (rules_for given).progress (path_at may.whole.targets at) (outcome_at (rules_for given) given.limits.targets) ≡ built (file_at given.past.tree (path_at may.whole.targets at)) held.value.check.asked
+    kept-end : (rules_for given).progress (path_at may.whole.targets at) (outcomes_at_limit given) ≡ built (file_at given.past.tree (path_at may.whole.targets at)) held.value.check.asked
     kept-end =
         let here = (due-kept given p (outcomes_of ew) held.value.check (fits given u at held may).is_due stands).0 in
         sym (ended_stays r lawful p known al (Built (file_at given.past.tree p)) deep (ap (λ (x : Progress). x.outcome) here)) ∙ here
 
     -- what is asked for has the same answers in the end
-    kept-alike : (q : List ℕ) → IsAmong (operands (rules_for given) ((rules_for given).progress (path_at may.whole.targets at) (only (operands (rules_for given) held.value.check.asked) (outcomes_of (table_entries (rules_for given) given.limits.targets may.whole)))).deps) q → (only (operands (rules_for given) held.value.check.asked) (outcomes_of (table_entries (rules_for given) given.limits.targets may.whole))) q ≡ outcome_at (rules_for given) given.limits.targets q
+    kept-alike : (q : List ℕ) → IsAmong (operands (rules_for given) ((rules_for given).progress (path_at may.whole.targets at) (only (operands (rules_for given) held.value.check.asked) (outcomes_of (table_entries given may.whole)))).deps) q → (only (operands (rules_for given) held.value.check.asked) (outcomes_of (table_entries given may.whole))) q ≡ outcomes_at_limit given q
     kept-alike q m =
         let here = (due-kept given p (outcomes_of ew) held.value.check (fits given u at held may).is_due stands).0 in
         let D : Progress → Type 0 = λ x. IsAmong (operands r x.deps) q in
@@ -140,7 +142,7 @@ module _ (given : GivenView) (u : Table) (at : ℕ) (held : Box InCheck Global) 
         )
 
     module _ (fact : FactView) (of_given : fact.given ≡ given) (of_target : fact.target ≡ (path_at may.whole.targets at)) (of_outcome : fact.outcome ≡ Built (file_at given.past.tree (path_at may.whole.targets at))) where
-      kept-after : put (table_entries (rules_for given) given.limits.targets u) (concluded_entry given (path_at may.whole.targets at) may.taken.new fact) ≡ (state_after given In_check u at).entries
+      kept-after : put (table_entries given u) (concluded_entry given (path_at may.whole.targets at) may.taken.new fact) ≡ (state_after given In_check u at).entries
       kept-after =
           let M : ℕ → ℕ → List Dep → Outcome → Entry = λ k n ds o. record { path = p; looks = k; turn = n; deps = ds; outcome = Some o; is_out = false } in
           let N : Progress → List Entry = λ n. put (entered r eu (operands r n.deps)) (moved_on In_check e n) in
@@ -159,9 +161,9 @@ module _ (given : GivenView) (u : Table) (at : ℕ) (held : Box InCheck Global) 
           let S : List Entry → Type 0 = AreStanding r given.request in
           record {
             table = look-table given u at held may;
-            watched = look-watched given u at held may;
             distinct = look-distinct given u at held may;
             is_out = look-out given u at held may;
+            alone = look-alone given u at held may;
             of_build = (of_given, of_target ∙ sym (look-path given u at held may));
             request = given.request;
             standing = λ slot there.
@@ -172,7 +174,7 @@ module _ (given : GivenView) (u : Table) (at : ℕ) (held : Box InCheck Global) 
                 subst R (sym (look-path given u at held may)) (subst Q (sym same) (subst S (sym kept-after) (look-sound given u at held may).standing));
           }
 
-      pub kept-put : (v : Table) → IsConcludedAt given u v at fact → IsPutBackThere given (state_after given In_check u at) u v []
+      pub kept-put : (v : Table) → IsConcludedAt given u v at fact → IsPutBackThere given (state_after given In_check u at) u v
       kept-put v c =
           let both : Some c.slot ≡ Some may.taken.new = sym c.there ∙ look-there given u at held may in
           let same : c.slot ≡ may.taken.new = cc in
@@ -182,8 +184,8 @@ module _ (given : GivenView) (u : Table) (at : ℕ) (held : Box InCheck Global) 
                 ∙ ap (λ (x : Slot). put eu (concluded_entry given p x fact)) same ∙ kept-after;
             ready = c.ready;
             keys_kept = λ k q h. rw c.targets h;
-            within = λ k m. absurd m;
-            watched = c.watched;
+            lacks = c.lacks;
+            put_back = c.put_back;
           }
 
   -- the next entry asks for a path
@@ -192,23 +194,23 @@ module _ (given : GivenView) (u : Table) (at : ℕ) (held : Box InCheck Global) 
     abbrev more : List Dep
     more = with_entry held.value.check.asked kinds.Change q
 
-    abbrev asks : ((rules_for given).progress (path_at may.whole.targets at) (only (operands (rules_for given) held.value.check.asked) (outcomes_of (table_entries (rules_for given) given.limits.targets may.whole))) ≡ record { outcome = None; deps = with_entry held.value.check.asked kinds.Change q }) ×
-        ((rules_for given).begins (path_at may.whole.targets at) (only (operands (rules_for given) held.value.check.asked) (outcomes_of (table_entries (rules_for given) given.limits.targets may.whole))) ≡ false) × ((rules_for given).is_source q ≡ false) × (IsAmong (operands (rules_for given) held.value.check.asked) q → ⊥)
+    abbrev asks : ((rules_for given).progress (path_at may.whole.targets at) (only (operands (rules_for given) held.value.check.asked) (outcomes_of (table_entries given may.whole))) ≡ record { outcome = None; deps = with_entry held.value.check.asked kinds.Change q }) ×
+        ((rules_for given).begins (path_at may.whole.targets at) (only (operands (rules_for given) held.value.check.asked) (outcomes_of (table_entries given may.whole))) ≡ false) × ((rules_for given).is_source q ≡ false) × (IsAmong (operands (rules_for given) held.value.check.asked) q → ⊥)
     asks = due-asks given p (outcomes_of ew) held.value.check q (fits given u at held may).is_due next
 
-    asked-now : advanced (rules_for given) (table_entries (rules_for given) given.limits.targets may.whole) (slot_entry (rules_for given) (outcome_at (rules_for given) given.limits.targets) (path_at may.whole.targets at) may.taken.old) ≡ record { outcome = None; deps = with_entry held.value.check.asked kinds.Change q }
+    asked-now : advanced (rules_for given) (table_entries given may.whole) (slot_entry (rules_for given) (outcomes_at_limit given) (path_at may.whole.targets at) may.taken.old) ≡ record { outcome = None; deps = with_entry held.value.check.asked kinds.Change q }
     asked-now = look-known given u at held may ∙ asks.0
 
     alone : operands (rules_for given) (record { kind = kinds.Change; path = q } ∷ []) ≡ q ∷ []
     alone = rw asks.2 refl
 
-    pub asked-enters : entered (rules_for given) (table_entries (rules_for given) given.limits.targets u) (operands (rules_for given) (with_entry held.value.check.asked kinds.Change q)) ≡ entered (rules_for given) (table_entries (rules_for given) given.limits.targets u) (q ∷ [])
+    pub asked-enters : entered (rules_for given) (table_entries given u) (operands (rules_for given) (with_entry held.value.check.asked kinds.Change q)) ≡ entered (rules_for given) (table_entries given u) (q ∷ [])
     asked-enters =
         all-entered r eu asked (record { kind = kinds.Change; path = q } ∷ [])
         ∙ ap (λ xs. entered r xs (operands r (record { kind = kinds.Change; path = q } ∷ []))) (entered-seen r eu (operands r asked) (look-seen given u at held may))
         ∙ ap (entered r eu) alone
 
-    asked-after : put (entered (rules_for given) (table_entries (rules_for given) given.limits.targets u) (q ∷ [])) (record { path = (path_at may.whole.targets at); looks = may.taken.old.looks + 1; turn = may.taken.old.turn; deps = with_entry held.value.check.asked kinds.Change q; outcome = None; is_out = false }) ≡
+    asked-after : put (entered (rules_for given) (table_entries given u) (q ∷ [])) (record { path = (path_at may.whole.targets at); looks = may.taken.old.looks + 1; turn = may.taken.old.turn; deps = with_entry held.value.check.asked kinds.Change q; outcome = None; is_out = false }) ≡
         (state_after given In_check u at).entries
     asked-after =
         let N : Progress → List Entry = λ n. put (entered r eu (operands r n.deps)) (moved_on In_check e n) in
@@ -219,7 +221,7 @@ module _ (given : GivenView) (u : Table) (at : ℕ) (held : Box InCheck Global) 
     length-put [] x = refl
     length-put (y ∷ xs) x = elim (cases_Bool (Rattle.std.proofs.Common.bytes_eq y.path x.path)) [ inl t' ↦ rw t' refl | inr f ↦ rw f (ap suc (length-put xs x)) ]
 
-    pub asked-length : length (entered (rules_for given) (table_entries (rules_for given) given.limits.targets u) (q ∷ [])) ≡ length (state_after given In_check u at).entries
+    pub asked-length : length (entered (rules_for given) (table_entries given u) (q ∷ [])) ≡ length (state_after given In_check u at).entries
     asked-length = sym (length-put (entered r eu (q ∷ [])) (record { path = p; looks = may.taken.old.looks + 1; turn = may.taken.old.turn; deps = more; outcome = None; is_out = false })) ∙ ap length asked-after
 
     -- what it asked for, but for that path, it had asked for before
@@ -235,8 +237,23 @@ module _ (given : GivenView) (u : Table) (at : ℕ) (held : Box InCheck Global) 
     module _ (v : Table) (place : ℕ) (a : AreEnteredInto given u v (q ∷ [])) (number : slice_get v.targets place ≡ Some q) where
       pub asked-out : IsOutThere v at
       asked-out =
-          let out = look-out given u at held may in
-          (omega (arith, out.0, a.rest.1), (out.1.0, a.slots_kept at out.1.0 out.1.1, out.1.2, out.1.3))
+          let out = look-out given u at held may in (
+            elim out.0 [ inl is ↦ inl (a.stages_kept at AtOut is) | inr is ↦ inr (a.stages_kept at AtHand is) ],
+            (out.1.0, a.slots_kept at out.1.0 out.1.1, out.1.2, out.1.3, out.1.4),
+          )
+
+      pub asked-seen : place < length v.schedule.stages
+      asked-seen = omega (arith, a.table.one_each, a.table.agreed.one_each, slice_get-below_some v.targets place q number)
+
+      -- it alone is in hand
+      asked-alone : (k : ℕ) → stage_at v.schedule k ≡ Some AtHand → at ≡ k
+      asked-alone k h = elim (a.fresh k AtHand h) [
+        | inl old ↦ look-alone given u at held may k old
+        | inr new ↦ absurd (elim new as (λ _. ⊥) [
+          | inl due ↦ cc
+          | inr other ↦ elim other as (λ _. ⊥) [ inl ready ↦ cc | inr decided ↦ cc ]
+        ])
+      ]
 
       asked-path : path_at v.targets at ≡ path_at may.whole.targets at
       asked-path =
@@ -251,20 +268,20 @@ module _ (given : GivenView) (u : Table) (at : ℕ) (held : Box InCheck Global) 
           subst D (paths_of-slots r al v.targets v.slots.items a.table.one_each) (subst D (sym paths) (with_new-distinct (paths_of eu) (q ∷ []) before))
 
       -- answers stay
-      asked-more : Extends (rules_for given) (outcomes_of (table_entries (rules_for given) given.limits.targets may.whole)) (outcomes_of (table_entries (rules_for given) given.limits.targets v))
+      asked-more : Extends (rules_for given) (outcomes_of (table_entries given may.whole)) (outcomes_of (table_entries given v))
       asked-more x o source h =
           let S : List Entry → Type 0 = λ xs. outcomes_of xs x ≡ Some o in
           let old = outcomes_of-entry eu x o (look-outcomes given u at held may x ∙ h) in
           subst S (sym a.entries) (outcomes_of-at (entered r eu (q ∷ [])) x old.0 (entry_of-entered_old r eu (q ∷ []) x old.0 old.1) ∙ old.2)
 
-      asked-same : (x : List ℕ) → IsAmong (operands (rules_for given) held.value.check.asked) x → outcomes_of (table_entries (rules_for given) given.limits.targets may.whole) x ≡ outcomes_of (table_entries (rules_for given) given.limits.targets v) x
+      asked-same : (x : List ℕ) → IsAmong (operands (rules_for given) held.value.check.asked) x → outcomes_of (table_entries given may.whole) x ≡ outcomes_of (table_entries given v) x
       asked-same x m = elim (cases_Option (outcomes_of ew x)) [
         | inl none ↦ absurd ((fits given u at held may).answered x m none)
         | inr some ↦ some.1 ∙ sym (asked-more x some.0 (operand-target r lawful asked x m) some.1)
       ]
 
       module _ (w : Table) (held' : Box InCheck Global) (is : held'.value ≡ record held.value { check = record held.value.check { asked = with_entry held.value.check.asked kinds.Change q } })
-          (d : IsAskedAt v w at (record { held = held'; path = q; at = place })) where
+          (d : IsAskedAt v w at (record { held = held'; path = q }) place) where
         slot-old : d.old ≡ may.taken.new
         slot-old =
             let both : Some d.old ≡ Some may.taken.new = sym d.put_back.there ∙ a.slots_kept at may.taken.new (look-there given u at held may) in cc
@@ -275,21 +292,21 @@ module _ (given : GivenView) (u : Table) (at : ℕ) (held : Box InCheck Global) 
         looks-same : d.new.looks ≡ may.taken.old.looks + 1
         looks-same = d.looks ∙ ap (λ (x : Slot). x.looks + 1) slot-old ∙ ap (λ n. n + 1) may.taken.looks
 
-        checking-raw : IsCheckingWith (rules_for given) (outcomes_of (table_entries (rules_for given) given.limits.targets v)) given (path_at may.whole.targets at) may.taken.old.turn
-            (record { held = record held' { value = record held.value { check = record held.value.check { asked = with_entry held.value.check.asked kinds.Change q } } }; path = q; at = place })
+        checking-raw : IsCheckingWith (rules_for given) (outcomes_of (table_entries given v)) given (path_at may.whole.targets at) may.taken.old.turn
+            (record { held = record held' { value = record held.value { check = record held.value.check { asked = with_entry held.value.check.asked kinds.Change q } } }; path = q })
         checking-raw =
             let due = fits given u at held may in
             let waits : IsWaitingCheck given p (outcomes_of ew) q (record held.value.check { asked = more }) = due-waits given p (outcomes_of ew) held.value.check q due.is_due next in
             record {
               is_held = record { found = due.is_held.found; at_first = due.is_held.at_first; none_behind = due.is_held.none_behind };
-              waits = waiting-moves given p (outcomes_of ew) (outcomes_of (table_entries r lim v)) q (record held.value.check { asked = more }) waits
+              waits = waiting-moves given p (outcomes_of ew) (outcomes_of (table_entries given v)) q (record held.value.check { asked = more }) waits
                   (λ x m other. asked-same x (other-asked x m (λ is'. other (sym is'))));
               answered = λ x m other none. due.answered x (other-asked x m other) (asked-same x (other-asked x m other) ∙ none);
               exact = λ x other. due.exact x ∙ elim (cases_Bool (is_among (operands r asked) x)) as
-                  (λ _. only (operands r asked) (outcomes_of ew) x ≡ only (operands r more) (outcomes_of (table_entries r lim v)) x) [
+                  (λ _. only (operands r asked) (outcomes_of ew) x ≡ only (operands r more) (outcomes_of (table_entries given v)) x) [
                     | inl t ↦
                         let m = is_among-true (operands r asked) x t in
-                        only-among (operands r asked) (outcomes_of ew) x m ∙ asked-same x m ∙ sym (only-among (operands r more) (outcomes_of (table_entries r lim v)) x (asked-still x m))
+                        only-among (operands r asked) (outcomes_of ew) x m ∙ asked-same x m ∙ sym (only-among (operands r more) (outcomes_of (table_entries given v)) x (asked-still x m))
                     | inr f ↦
                         let no' : is_among (operands r more) x ≡ false = elim (cases_Bool (is_among (operands r more) x)) [
                           | inl t ↦ absurd (both_ways _ f (is_among-from (operands r asked) x (other-asked x (is_among-true (operands r more) x t) other)))
@@ -303,36 +320,41 @@ module _ (given : GivenView) (u : Table) (at : ℕ) (held : Box InCheck Global) 
               ];
             }
 
-        checking : IsCheckingWith (rules_for given) (outcomes_of (table_entries (rules_for given) given.limits.targets v)) given (path_at v.targets at) d.new.turn (record { held = held'; path = q; at = place })
+        checking : IsCheckingWith (rules_for given) (outcomes_of (table_entries given v)) given (path_at v.targets at) d.new.turn (record { held = held'; path = q })
         checking =
-            let C : List ℕ → ℕ → Box InCheck Global → Type 0 = λ x n h. IsCheckingWith r (outcomes_of (table_entries r lim v)) given x n (record { held = h; path = q; at = place }) in
+            let C : List ℕ → ℕ → Box InCheck Global → Type 0 = λ x n h. IsCheckingWith r (outcomes_of (table_entries given v)) given x n (record { held = h; path = q }) in
             let X : List ℕ → Type 0 = λ x. C x d.new.turn held' in
             let Y : ℕ → Type 0 = λ n. C p n held' in
             let Z : InCheck → Type 0 = λ h. C p may.taken.old.turn (record held' { value = h }) in
             subst X (sym asked-path) (subst Y (sym turn-same) (subst Z (sym is) checking-raw))
 
-        asked-moved : table_entries (rules_for given) given.limits.targets w ≡ (state_after given In_check u at).entries
+        asked-moved : table_entries given w ≡ (state_after given In_check u at).entries
         asked-moved =
-            let put-in = put-entries given v w a.table asked-distinct at d.old d.new d.put_back in
+            let put-in = put-entries given v w a.table asked-distinct at d.old d.new (AtWaiting (place ∷ [])) d.put_back in
             let M : List ℕ → ℕ → ℕ → List Dep → Entry = λ x k n ds. record { path = x; looks = k; turn = n; deps = ds; outcome = None; is_out = false } in
             let T : Stage → Entry = λ st. record { path = path_at v.targets at; looks = d.new.looks; turn = d.new.turn; deps = stage_deps r al (path_at v.targets at) (rounds_of d.new) st; outcome = stage_outcome st; is_out = is_stage_out st } in
             let deps : held'.value.check.asked ≡ more = ap (λ (h : InCheck). h.check.asked) is in
             let entry' : slot_entry r al (path_at v.targets at) d.new ≡ M p (may.taken.old.looks + 1) may.taken.old.turn more =
             ap T d.stage ∙ ap (λ x. M x d.new.looks d.new.turn held'.value.check.asked) asked-path ∙ ap (λ k. M p k d.new.turn held'.value.check.asked) looks-same
             ∙ ap (λ n. M p (may.taken.old.looks + 1) n held'.value.check.asked) turn-same ∙ ap (M p (may.taken.old.looks + 1) may.taken.old.turn) deps in
-            put-in ∙ ap (put (table_entries r lim v)) entry' ∙ ap (λ xs. put xs (M p (may.taken.old.looks + 1) may.taken.old.turn more)) a.entries ∙ asked-after
+            put-in ∙ ap (put (table_entries given v)) entry' ∙ ap (λ xs. put xs (M p (may.taken.old.looks + 1) may.taken.old.turn more)) a.entries ∙ asked-after
 
-        pub asked-put : IsPutBackThere given (state_after given In_check u at) u w (at ∷ [])
-        asked-put =
-            let len = ap length d.put_back.slots ∙ Rattle.std.proofs.Common.length-set v.slots.items at d.new in
-            record {
-              table = asked-table given v w a.table asked-distinct at (record { held = held'; path = q; at = place }) d checking number;
-              entries = asked-moved;
-              ready = d.put_back.rest.1 ∙ a.rest.0;
-              keys_kept = λ k x h. rw d.put_back.rest.0 (a.keys_kept k x h);
-              within = λ k m. elim m [
-                | inl here ↦ omega (arith, here, len, slice_get-below_some v.slots.items at d.old d.put_back.there)
-                | inr none ↦ absurd none
-              ];
-              watched = asked-watched given v w a.table asked-distinct at (record { held = held'; path = q; at = place }) d checking number (a.watched [] (look-watched given u at held may));
-            }
+        pub asked-table' : IsTableOf given w
+        asked-table' = asked-table given v w a.table asked-distinct at (record { held = held'; path = q }) place d checking number
+
+        pub asked-standing : IsStandingTable given w
+        asked-standing =
+            let S : List Entry → Type 0 = AreStanding r given.request in
+            (given.request, subst S (sym asked-moved) (look-sound given u at held may).standing)
+
+        -- and what could go on did
+        pub asked-put : (x : Table) → IsSettled given w x → IsPutBackThere given (state_after given In_check u at) u x
+        asked-put x settled = record {
+          table = settled.0.table;
+          entries = settled.0.entries ∙ asked-moved;
+          ready = settled.0.ready ∙ ap (λ (y : TableView). y.ready) d.put_back.schedule ∙ a.ready;
+          keys_kept = λ k y h. rw (settled.0.targets, d.put_back.targets) (a.keys_kept k y h);
+          lacks = settled.1;
+          put_back = λ k h. put-none_in_hand given v w a.table asked-distinct at d.old d.new (AtWaiting (place ∷ [])) d.put_back
+              (λ e. let bad : AtWaiting (place ∷ []) ≡ AtHand = e in cc) asked-alone k (settled.0.in_hand k h);
+        }

@@ -1,7 +1,7 @@
--- A parked job with all its answers takes over their facts and is made a work.
-use Rattle.std.proofs.Common.{slice_get, slice_set, ◌≡◌, ℕ, zero, suc, true, false, inl, inr, List, [], ◌∷◌, Option}
-use Rattle.std.proofs.Common.{Some, None, refl, sym, ap, subst, ◌∙◌, arith, bytes_eq}
-use Rattle.std.proofs.lemmas.Bool.{cases_Bool, cases_lt, both_ways}
+-- A job that waited takes over the facts of what it waited for and is made a work.
+use Rattle.std.proofs.Common.{slice_get, slice_set, ◌≡◌, ℕ, zero, suc, false, inl, inr, List, [], ◌∷◌}
+use Rattle.std.proofs.Common.{Some, None, refl, sym, ap, subst, ◌∙◌, arith, bytes_eq, Global}
+use Rattle.std.proofs.lemmas.Bool.{cases_Bool, both_ways}
 use Rattle.std.proofs.lemmas.Slice.Eq.{bytes_eq-Decides}
 use Rattle.redo_record.specs.declared.outcome.Outcome.{Outcome}
 use Rattle.redo_sync.specs.Shown.{Shown}
@@ -19,24 +19,25 @@ use Rattle.redo_core.proofs.AllAskedLemmas.{asked-cases, asked-second}
 use Rattle.redo_core.proofs.CheckingLemmas.{behind-moves}
 use Rattle.redo_record.specs.Entries.{with_all}
 use Rattle.redo_record.specs.declared.deps.Dep.{Dep}
-use Rattle.redo_core.specs.inside.Slots.{path_at, table_entries, slot_entries, slot_entry, stage_outcome}
-use Rattle.redo_core.specs.inside.Slots.{is_stage_decided, AllFit, Fits, IsDecidedSlot, IsDecidedNumber, IsFactAt}
+use Rattle.redo_core.specs.inside.Slots.{outcomes_at_limit, path_at, table_entries, slot_entries, slot_entry, stage_outcome}
+use Rattle.redo_core.specs.inside.Slots.{is_stage_decided, AllFit, Fits, IsDecidedNumber, IsFactAt}
 use Rattle.redo_core.specs.inside.Slots.{IsFed, IsFedAs, Gains}
 use Rattle.redo_core.specs.declared.facts.Facts.{Facts}
-use Rattle.redo_core.specs.declared.table.Parked.{Parked}
+use Rattle.redo_core.specs.declared.work.Begun.{Begun}
+use Rattle.std.specs.Prelude.{Box}
 use Rattle.redo_core.specs.declared.table.Slot.{Slot}
 use Rattle.redo_core.specs.declared.table.Stage.{Stage}
 use Rattle.redo_core.specs.declared.table.Table.{Table}
-use Rattle.redo_core.specs.declared.table.Stage.TheVariants.{Due, Checking, Waiting, Ready, Out, Decided}
+use Rattle.redo_core.specs.declared.table.Stage.TheVariants.{Waiting, Out, Decided}
 use Rattle.redo_build.proofs.PathLemmas.{is_among-true}
 use Rattle.redo_build.proofs.DepthLemmas.{cases_Option, operand-target}
 use Rattle.redo_core.proofs.JobLemmas.{asked_of_job, asked_by_job}
 use Rattle.redo_build.proofs.TurnLemmas.{only-among}
 use Rattle.redo_core.proofs.SlotLemmas.{entry_of-slots, slice_get-below_some}
-use Rattle.redo_core.proofs.TableLemmas.{get-set_cases, get-set_other}
+use Rattle.redo_core.proofs.TableLemmas.{get-set_cases}
+use Rattle.redo_table.proofs.SlotLemmas.{get-other}
 use Rattle.redo_core.proofs.TableSteps.{waited-declared, waited-place}
 use Rattle.redo_core.proofs.GainSteps.{decided-fact}
-use Rattle.redo_core.proofs.NewlyReadyLemmas.{distinct-place}
 use Rattle.redo_core.proofs.NumberLemmas.{numbers-number, numbers-path}
 use Rattle.redo_build.proofs.QueueLemmas.{slice_get-among}
 use Rattle.redo_core.specs.Views.{FactView}
@@ -57,31 +58,6 @@ slot-of-path r a (p ∷ ps) (s ∷ slots) q e h = elim (cases_Bool (bytes_eq p q
       (suc found.0, found.1, found.2, found.3, found.4)
 ]
 
-decided-stage : (stage : Stage) (o : Outcome) → stage_outcome stage ≡ Some o → is_stage_decided stage ≡ true
-decided-stage (Due d) o h = cc
-decided-stage (Checking c) o h = cc
-decided-stage (Waiting p) o h = cc
-decided-stage (Ready w) o h = cc
-decided-stage Out o h = cc
-decided-stage (Decided f) o h = refl
-
-some-outcome : (e : Option Entry) (o : Outcome) → outcome_of e ≡ Some o → (x : Entry) × (e ≡ Some x) × (x.outcome ≡ Some o)
-some-outcome None o h = cc
-some-outcome (Some x) o h = (x, refl, h)
-
--- what is known is decided
-pub known-decided : (r : Rules) (n : ℕ) (t : Table) (q : List ℕ) (o : Outcome) → outcomes_of (table_entries r n t) q ≡ Some o → IsDecidedSlot t q
-known-decided r n t q o h =
-    let e = some-outcome (entry_of (table_entries r n t) q) o h in
-    let found = slot-of-path r (outcome_at r n) t.targets t.slots.items q e.0 e.1 in
-    record {
-      at = found.0;
-      slot = found.1;
-      path = found.2;
-      there = found.3;
-      decided = decided-stage found.1.stage o (sym (ap (λ (x : Entry). x.outcome) found.4) ∙ e.2);
-    }
-
 -- while an undecided slot is out, what is decided stays so
 pub number-kept : (t u : Table) (at : ℕ) (slot gone : Slot) → slice_get t.slots.items at ≡ Some slot → is_stage_decided slot.stage ≡ false →
     u.slots.items ≡ slice_set t.slots.items at gone → (n : ℕ) → IsDecidedNumber t n → IsDecidedNumber u n
@@ -91,16 +67,16 @@ number-kept t u at slot gone there undecided slots n d =
     let both : Some d.0 ≡ Some slot = sym (subst P e d.1) ∙ there in
     let same : d.0 ≡ slot = cc in
     both_ways _ undecided (sym (ap (λ (y : Slot). is_stage_decided y.stage) same) ∙ d.2)) in
-    (d.0, rw slots (get-set_other t.slots.items at n gone other ∙ d.1), d.2)
+    (d.0, rw slots (get-other t.slots.items at n gone (λ e. other (sym e)) ∙ d.1), d.2)
 
 -- and a fact there is that of the number's path, with an outcome that is known
 pub fact-kept : (given : GivenView) (t u : Table) (at : ℕ) (gone : Slot) → gone.stage ≡ Out → u.slots.items ≡ slice_set t.slots.items at gone →
     AreDistinct t.targets → AllFit (rules_for given) given.limits.targets given t.targets t.slots.items →
     (n : ℕ) (q : List ℕ) (fact : Shown FactView) → slice_get t.targets n ≡ Some q → IsFactAt u n fact →
-    (fact.value.target ≡ q) × (outcomes_of (table_entries (rules_for given) given.limits.targets t) q ≡ Some fact.value.outcome)
+    (fact.value.target ≡ q) × (outcomes_of (table_entries given t) q ≡ Some fact.value.outcome)
 fact-kept given t u at gone out slots distinct all n q fact path there =
     let r = rules_for given in
-    let a = outcomes_of (table_entries r given.limits.targets t) in
+    let a = outcomes_of (table_entries given t) in
     let get : slice_get (slice_set t.slots.items at gone) n ≡ Some there.0 = sym (ap (λ xs. slice_get xs n) slots) ∙ there.1 in
     elim (get-set_cases t.slots.items at n gone there.0 get) [
       | inl here ↦ absurd (
@@ -112,103 +88,85 @@ fact-kept given t u at gone out slots distinct all n q fact path there =
           let fits : Fits r a given (path_at t.targets n) there.0.turn (Decided fact) = subst F there.2 (all n there.0 old.1) in
           let is : path_at t.targets n ≡ q = rw path refl in (
             fits.1 ∙ is,
-            ap outcome_of (entry_of-slots r (outcome_at r given.limits.targets) t.targets t.slots.items n q there.0 distinct path old.1) ∙ ap stage_outcome there.2,
+            ap outcome_of (entry_of-slots r (outcomes_at_limit given) t.targets t.slots.items n q there.0 distinct path old.1) ∙ ap stage_outcome there.2,
           )
     ]
 
-module _ (given : GivenView) (t : Table) (at : ℕ) (slot : Slot) (parked : Parked) where
+module _ (given : GivenView) (t : Table) (at : ℕ) (on : List ℕ) (slot : Slot) (begun : Box Begun Global) where
   -- what was fed is this job
-  pub fed-here : IsFed given t at → slice_get t.slots.items at ≡ Some slot → slot.stage ≡ Waiting parked → IsFedAs given t at slot parked
+  pub fed-here : IsFed given t at on → slice_get t.slots.items at ≡ Some slot → slot.stage ≡ Waiting begun → IsFedAs given t at on slot begun
   fed-here fed there is =
       let both : Some fed.0 ≡ Some slot = sym fed.2.there ∙ there in
       let same : fed.0 ≡ slot = cc in
-      let stages : Waiting fed.1 ≡ Waiting parked = sym fed.2.was ∙ ap (λ (y : Slot). y.stage) same ∙ is in
-      let job : fed.1 ≡ parked = cc in
-      let P : Slot → Type 0 = λ y. IsFedAs given t at y fed.1 in
-      let Q : Parked → Type 0 = λ y. IsFedAs given t at slot y in
+      let stages : Waiting fed.1 ≡ Waiting begun = sym fed.2.was ∙ ap (λ (y : Slot). y.stage) same ∙ is in
+      let job : fed.1 ≡ begun = cc in
+      let P : Slot → Type 0 = λ y. IsFedAs given t at on y fed.1 in
+      let Q : Box Begun Global → Type 0 = λ y. IsFedAs given t at on slot y in
       subst Q job (subst P same fed.2)
 
-  module _ (fed : IsFedAs given t at slot parked) (u : Table) (gone : Slot) (out : gone.stage ≡ Out) (keys : u.targets ≡ t.targets)
+  module _ (fed : IsFedAs given t at on slot begun) (u : Table) (gone : Slot) (out : gone.stage ≡ Out) (keys : u.targets ≡ t.targets)
       (slots : u.slots.items ≡ slice_set t.slots.items at gone) where
     abbrev r : Rules
     r = rules_for given
 
     abbrev a : Ask
-    a = outcomes_of (table_entries (rules_for given) given.limits.targets t)
+    a = outcomes_of (table_entries given t)
 
     -- a decided number is another than that of the job
-    number-still : (n : ℕ) → IsDecidedNumber t n → IsDecidedNumber u n
-    number-still = number-kept t u at slot gone fed.there (ap is_stage_decided fed.was) slots
-
-    -- a path that is known is decided at its number
-    known-number : (n : ℕ) (q : List ℕ) → slice_get t.targets n ≡ Some q → IsDecidedSlot t q → IsDecidedNumber t n
-    known-number n q path d =
-        let same : d.at ≡ n = distinct-place t.targets d.at n q fed.distinct d.path path in
-        let P : ℕ → Type 0 = λ j. slice_get t.slots.items j ≡ Some d.slot in
-        (d.slot, subst P same d.there, d.decided)
-
-    pub gain-decided : (k n : ℕ) → slice_get parked.operands.items k ≡ Some n → IsDecidedNumber u n
-    gain-decided k n get = number-still n (elim (cases_lt k parked.held) [
-      | inl before ↦
-          let path = numbers-number t.targets parked.operands.items (waited_by r parked.begun.value) k n fed.numbered get in
-          elim (cases_Option (outcomes_of (table_entries (rules_for given) given.limits.targets t) path.0)) [
-            | inl none ↦ absurd (fed.waits.answered k path.0 before path.1 none)
-            | inr some ↦ known-number n path.0 path.2 (known-decided r given.limits.targets t path.0 some.0 some.1)
-          ]
-      | inr after' ↦ fed.rest k n after' (slice_get-below_some parked.operands.items k n get) get
-    ])
+    pub gain-decided : (k n : ℕ) → slice_get on k ≡ Some n → IsDecidedNumber u n
+    gain-decided k n get = number-kept t u at slot gone fed.there (ap is_stage_decided fed.was) slots n (fed.decided k n get)
 
     fact-known : (n : ℕ) (q : List ℕ) (fact : Shown FactView) → slice_get t.targets n ≡ Some q → IsFactAt u n fact →
-        (fact.value.target ≡ q) × (outcomes_of (table_entries (rules_for given) given.limits.targets t) q ≡ Some fact.value.outcome)
+        (fact.value.target ≡ q) × (outcomes_of (table_entries given t) q ≡ Some fact.value.outcome)
     fact-known = fact-kept given t u at gone out slots fed.distinct fed.fits
 
-    module _ (facts : Facts) (g : Gains u parked.operands.items parked.begun.value.facts facts) where
+    module _ (facts : Facts) (g : Gains u on begun.value.facts facts) where
       abbrev job : JobView
-      job = parked.begun.value.job
+      job = begun.value.job
 
       abbrev asked : List Dep
-      asked = all_asked parked.begun.value.job parked.begun.value.facts
+      asked = all_asked begun.value.job begun.value.facts
 
       -- what it holds is known, and asked for
       told : (q : List ℕ) (o : Outcome) → told_in facts q ≡ Some o →
-          IsAmong (operands (rules_for given) (all_asked parked.begun.value.job parked.begun.value.facts)) q × (outcomes_of (table_entries (rules_for given) given.limits.targets t) q ≡ Some o)
+          IsAmong (operands (rules_for given) (all_asked begun.value.job begun.value.facts)) q × (outcomes_of (table_entries given t) q ≡ Some o)
       told q o h = elim (g.origin q o h) [
         | inl old ↦ fed.waits.told q o old
         | inr new ↦
-            let path = numbers-number t.targets parked.operands.items (waited_by r parked.begun.value) new.k new.n fed.numbered new.number in
+            let path = numbers-number t.targets on (waited_by r begun.value) new.k new.n fed.numbered new.number in
             let known = fact-known new.n path.0 new.fact path.2 new.there in
             let same : path.0 ≡ q = sym known.0 ∙ new.target in
             let P : List ℕ → Type 0 = λ x. IsAmong (operands r asked) x × (a x ≡ Some o) in
             subst P same (
-              asked-second r parked.begun.value.facts.asked (job_deps parked.begun.value.job) path.0
-                  (asked_of_job given parked.begun.value.job fed.waits.is_job (omega (arith, fed.waits.at_turn, fed.waits.stopped)) path.0
-                  (waited-declared r parked.begun.value path.0 (slice_get-among (waited_by r parked.begun.value) new.k path.0 path.1))),
+              asked-second r begun.value.facts.asked (job_deps begun.value.job) path.0
+                  (asked_of_job given begun.value.job fed.waits.is_job (omega (arith, fed.waits.at_turn, fed.waits.stopped)) path.0
+                  (waited-declared r begun.value path.0 (slice_get-among (waited_by r begun.value) new.k path.0 path.1))),
               known.1 ∙ ap Some new.outcome,
             )
       ]
 
       -- it holds all that the job asked for
-      own_complete : (q : List ℕ) → IsAmong (operands (rules_for given) (job_deps parked.begun.value.job)) q → told_in facts q ≡ None → ⊥
+      own_complete : (q : List ℕ) → IsAmong (operands (rules_for given) (job_deps begun.value.job)) q → told_in facts q ≡ None → ⊥
       own_complete q m none =
-          let place = waited-place r parked.begun.value q (asked_by_job given parked.begun.value.job fed.waits.is_job q m) (g.kept q none) in
-          let number = numbers-path t.targets parked.operands.items (waited_by r parked.begun.value) place.0 q fed.numbered place.1 in
+          let place = waited-place r begun.value q (asked_by_job given begun.value.job fed.waits.is_job q m) (g.kept q none) in
+          let number = numbers-path t.targets on (waited_by r begun.value) place.0 q fed.numbered place.1 in
           let decided = gain-decided place.0 number.0 number.1 in
           let fact = decided-fact decided.0.stage decided.2 in
           let there : IsFactAt u number.0 fact.0 = (decided.0, decided.1, fact.1) in
           let known = fact-known number.0 q fact.0 number.2 there in
           let target : List ℕ = fact.0.value.target in
           let lost : told_in facts target ≡ None = ap (told_in facts) known.0 ∙ none in
-          g.known place.0 number.0 fact.0 (slice_get-below_some parked.operands.items place.0 number.0 number.1) number.1 there lost
+          g.known place.0 number.0 fact.0 (slice_get-below_some on place.0 number.0 number.1) number.1 there lost
 
       -- and all that the check did
-      complete : (q : List ℕ) → IsAmong (operands (rules_for given) (all_asked parked.begun.value.job parked.begun.value.facts)) q → told_in facts q ≡ None → ⊥
-      complete q m none = elim (asked-cases r parked.begun.value.facts.asked (job_deps parked.begun.value.job) q m) [
+      complete : (q : List ℕ) → IsAmong (operands (rules_for given) (all_asked begun.value.job begun.value.facts)) q → told_in facts q ≡ None → ⊥
+      complete q m none = elim (asked-cases r begun.value.facts.asked (job_deps begun.value.job) q m) [
         | inl first ↦ fed.waits.checked q first (g.kept q none)
         | inr second ↦ own_complete q second none
       ]
 
       exact : (q : List ℕ) → told_in facts q ≡
-          only (operands (rules_for given) (all_asked parked.begun.value.job parked.begun.value.facts)) (outcome_at (rules_for given) fed.is_work.depth) q
+          only (operands (rules_for given) (all_asked begun.value.job begun.value.facts)) (outcome_at (rules_for given) fed.is_work.depth) q
       exact q = elim (cases_Option (told_in facts q)) [
         | inl none ↦ elim (cases_Bool (is_among (operands r asked) q)) [
           | inl t' ↦ absurd (complete q (is_among-true (operands r asked) q t') none)
@@ -221,8 +179,8 @@ module _ (given : GivenView) (t : Table) (at : ℕ) (slot : Slot) (parked : Park
       ]
 
       -- what it held it still holds
-      held-alike : TellsAlike (rules_for given) parked.begun.value.facts.asked (told_in parked.begun.value.facts) (told_in facts)
-      held-alike q m = elim (cases_Option (told_in parked.begun.value.facts q)) [
+      held-alike : TellsAlike (rules_for given) begun.value.facts.asked (told_in begun.value.facts) (told_in facts)
+      held-alike q m = elim (cases_Option (told_in begun.value.facts q)) [
         | inl lost ↦ absurd (fed.waits.checked q m lost)
         | inr some ↦ elim (cases_Option (told_in facts q)) [
           | inl none ↦ absurd (let was = g.kept q none in let bad = sym was ∙ some.1 in cc)
@@ -230,28 +188,28 @@ module _ (given : GivenView) (t : Table) (at : ℕ) (slot : Slot) (parked : Park
         ]
       ]
 
-      behind : IsBegunBehind given parked.begun.value.job.target facts.asked (told_in facts)
+      behind : IsBegunBehind given begun.value.job.target facts.asked (told_in facts)
       behind =
-          let one = behind-moves given (path_at t.targets at) parked.begun.value.facts.asked (told_in parked.begun.value.facts) (told_in facts) fed.waits.behind held-alike in
-          let P : List ℕ → Type 0 = λ p. IsBegunBehind given p parked.begun.value.facts.asked (told_in facts) in
-          let Q : List Dep → Type 0 = λ ds. IsBegunBehind given parked.begun.value.job.target ds (told_in facts) in
+          let one = behind-moves given (path_at t.targets at) begun.value.facts.asked (told_in begun.value.facts) (told_in facts) fed.waits.behind held-alike in
+          let P : List ℕ → Type 0 = λ p. IsBegunBehind given p begun.value.facts.asked (told_in facts) in
+          let Q : List Dep → Type 0 = λ ds. IsBegunBehind given begun.value.job.target ds (told_in facts) in
           subst Q (sym g.asked) (subst P (sym fed.waits.of_target) one)
 
       -- it holds the outcomes of a work of all that was asked for
-      fits-work : (work : IsWork (rules_for given) parked.begun.value.job.target parked.begun.value.job.turn (all_asked parked.begun.value.job facts)) ×
-          ((q : List ℕ) → told_in facts q ≡ only (operands (rules_for given) (all_asked parked.begun.value.job facts)) (outcome_at (rules_for given) work.depth) q)
+      fits-work : (work : IsWork (rules_for given) begun.value.job.target begun.value.job.turn (all_asked begun.value.job facts)) ×
+          ((q : List ℕ) → told_in facts q ≡ only (operands (rules_for given) (all_asked begun.value.job facts)) (outcome_at (rules_for given) work.depth) q)
       fits-work =
-          let P : List Dep → Type 0 = λ ds. (work : IsWork r parked.begun.value.job.target parked.begun.value.job.turn ds) ×
+          let P : List Dep → Type 0 = λ ds. (work : IsWork r begun.value.job.target begun.value.job.turn ds) ×
           ((q : List ℕ) → told_in facts q ≡ only (operands r ds) (outcome_at r work.depth) q) in
-          subst P (ap (λ ds. with_all ds (job_deps parked.begun.value.job)) (sym g.asked)) (fed.is_work, exact)
+          subst P (ap (λ ds. with_all ds (job_deps begun.value.job)) (sym g.asked)) (fed.is_work, exact)
 
-      pub fed-work : IsWorkWith given parked.begun.value.job facts
+      pub fed-work : IsWorkWith given begun.value.job facts
       fed-work = record {
         is_job = fed.waits.is_job;
         is_work = fits-work.0;
         exact = fits-work.1;
         behind = behind;
-        declared = λ q m. asked_of_job given parked.begun.value.job fed.waits.is_job (omega (arith, fed.waits.at_turn, fed.waits.stopped)) q m;
+        declared = λ q m. asked_of_job given begun.value.job fed.waits.is_job (omega (arith, fed.waits.at_turn, fed.waits.stopped)) q m;
         goes_on = λ later keeps. fed.waits.goes_on later (record {
           same = λ p o none entered known. elim (cases_Option (told_in facts p)) [
             | inl lost ↦ absurd (let was = g.kept p lost in let bad = sym was ∙ known in cc)

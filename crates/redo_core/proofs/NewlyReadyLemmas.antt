@@ -1,16 +1,19 @@
 -- The newly ready numbers, in order, are those of the entries that an event enqueues.
 use Rattle.std.proofs.Common.{map, slice_get, ◌≡◌, ℕ, zero, suc, ◌+◌, ◌<◌, true, false, is_none, ◌⊎◌, inl, inr, List}
-use Rattle.std.proofs.Common.{[], ◌∷◌, length, filter, Option, Some, None, refl, sym, ap, subst, ◌∙◌, arith}
+use Rattle.std.proofs.Common.{[], ◌∷◌, length, filter, ◌↔◌, Option, Some, None, refl, sym, ap, subst, ◌∙◌, arith}
 use Rattle.std.specs.List.{list_any}
-use Rattle.std.proofs.lemmas.Bool.{cases_Bool, both_ways, and_from, not_from_false}
+use Rattle.std.proofs.lemmas.Bool.{cases_Bool, cases_lt, both_ways, and_from, not_from_false}
 use Rattle.redo_record.specs.Paths.{IsAmong, AreDistinct, is_among}
 use Rattle.redo_build.specs.Rules.{Ask, Rules, operands}
-use Rattle.redo_build.specs.Outcomes.{outcome_at}
 use Rattle.redo_rules.specs.Build.{GivenView, rules_for}
-use Rattle.redo_build.specs.Schedule.{Entry, State, outcome_of, outcomes_of, paths_of, known_to, may_run, lacks_none, only}
-use Rattle.redo_core.specs.inside.Slots.{rounds_of, state_from, slot_entries, slot_entry, stage_deps, stage_outcome, path_at}
-use Rattle.redo_core.specs.inside.Slots.{is_stage_out, is_stage_ready, is_stage_waiting, AllWatched, AllAnswered}
-use Rattle.redo_core.specs.inside.Slots.{IsPlace, IsTableOf}
+use Rattle.redo_build.specs.Schedule.{Entry, State, outcomes_of, paths_of, known_to, may_run, lacks_none, only}
+use Rattle.redo_core.specs.inside.Slots.{outcomes_at_limit, rounds_of, state_from, slot_entries, slot_entry, stage_deps, stage_outcome, path_at}
+use Rattle.redo_core.specs.inside.Slots.{is_stage_out, is_stage_ready, is_stage_waiting, AllAnswered}
+use Rattle.redo_core.specs.inside.Slots.{IsTableOf}
+use Rattle.redo_table.specs.Table.{EachLacks, IsQueue, stage_at, times}
+use Rattle.redo_table.specs.Table.StageView.{Ready as AtReady}
+use Rattle.redo_core.proofs.AgreeLemmas.{agreed-stage, agrees-ready, ready-agrees}
+use Rattle.redo_core.proofs.WaitedLemmas.{waited-lacks}
 use Rattle.redo_core.specs.inside.Slots.{Fits, IsDueWith}
 use Rattle.redo_core.specs.inside.Checking.{IsDueCheck, asks_next}
 use Rattle.redo_core.specs.declared.check.Check.{Check}
@@ -26,8 +29,8 @@ use Rattle.redo_core.specs.declared.table.Stage.TheVariants.{Due, Checking, Wait
 use Rattle.redo_build.proofs.PathLemmas.{is_among-true, is_among-from, IsAmong-same}
 use Rattle.redo_build.proofs.QueueLemmas.{slice_get-among}
 use Rattle.redo_build.proofs.SoundLemmas.{may_run-parts, lacks_none-true}
-use Rattle.redo_core.proofs.SlotLemmas.{entry_of-slots, slice_get-from, slice_get-below_some, ready-job}
-use Rattle.redo_core.proofs.PlaceLemmas.{AscendFrom, filter-places}
+use Rattle.redo_core.proofs.SlotLemmas.{slice_get-from, slice_get-below_some, ready-job}
+use Rattle.redo_core.proofs.PlaceLemmas.{AscendFrom, IsPlace, filter-places, place-times, times-place}
 use Rattle.redo_record.specs.declared.deps.Dep.{Dep}
 
 pub distinct-place : (ps : List (List ℕ)) (i j : ℕ) (p : List ℕ) → AreDistinct ps → slice_get ps i ≡ Some p → slice_get ps j ≡ Some p → i ≡ j
@@ -78,17 +81,17 @@ due-begins given p a c due = elim (cases_Option (asks_next given c)) [
   | inr some ↦ (due-asks given p a c some.0 due some.1).1
 ]
 
-module _ (given : GivenView) (t : Table) (sorted : List ℕ) (table : IsTableOf given t) (distinct : AreDistinct t.targets)
-    (watched : AllWatched (rules_for given) given.limits.targets t.targets t.slots.items [])
-    (ascends : AscendFrom 0 sorted) (in' : (k : ℕ) → IsPlace sorted k → IsPlace t.newly_ready.items k) (out : (k : ℕ) → IsPlace t.newly_ready.items k → IsPlace sorted k) where
+module _ (given : GivenView) (t : Table) (more : List ℕ) (table : IsTableOf given t) (distinct : AreDistinct t.targets)
+    (lacks : EachLacks t.schedule.stages) (queue : IsQueue t.schedule) (ascends : AscendFrom 0 more)
+    (are_more : (k : ℕ) → (0 < times k more) ↔ ((stage_at t.schedule k ≡ Some AtReady) × (times k t.schedule.ready ≡ 0))) where
   abbrev r : Rules
   r = rules_for given
 
   abbrev a : Ask
-  a = outcome_at (rules_for given) given.limits.targets
+  a = outcomes_at_limit given
 
   abbrev s : State
-  s = state_from (rules_for given) given.limits.targets t.targets t.slots.items t.ready.items
+  s = state_from (rules_for given) given.limits.targets t.targets t.slots.items t.schedule.ready
 
   key-at : (k : ℕ) → k < length t.slots.items → slice_get t.targets k ≡ Some (path_at t.targets k)
   key-at k h =
@@ -96,12 +99,17 @@ module _ (given : GivenView) (t : Table) (sorted : List ℕ) (table : IsTableOf 
       let is : path_at t.targets k ≡ found.0 = rw found.1 refl in
       found.1 ∙ ap Some (sym is)
 
-  make_ready-there : (i : ℕ) (e : Entry) → slice_get s.entries i ≡ Some e → IsPlace t.newly_ready.items i → may_run (rules_for given) s e ≡ true
+  -- a number with a stage is one of a slot
+  staged-below : (k : ℕ) → stage_at t.schedule k ≡ Some AtReady → k < length t.slots.items
+  staged-below k h = omega (arith, slice_get-below_some t.schedule.stages k AtReady h, table.agreed.one_each)
+
+  make_ready-there : (i : ℕ) (e : Entry) → slice_get s.entries i ≡ Some e → 0 < times i more → may_run (rules_for given) s e ≡ true
   make_ready-there i e h m =
       let found = slot-of-entry r a t.targets t.slots.items i e h in
       let slot = found.0 in
       let p = found.1 in
-      let ready = table.queue.ready_is i slot (inr m) found.2 in
+      let is_more = (are_more i).0 m in
+      let ready = agrees-ready r t.targets slot.stage AtReady (table.agreed.each i slot AtReady found.2 is_more.0) refl in
       let job = ready-job r (outcomes_of s.entries) given (path_at t.targets i) slot.turn slot.stage (table.fits i slot found.2) ready in
       let outcome : e.outcome ≡ None = sym (ap (λ (x : Entry). x.outcome) found.4) ∙ (let O : Stage → Type 0 = λ st. stage_outcome st ≡ None in subst O (sym job.1) refl) in
       let inside : e.is_out ≡ false = sym (ap (λ (x : Entry). x.is_out) found.4) ∙ (let I : Stage → Type 0 = λ st. is_stage_out st ≡ false in subst I (sym job.1) refl) in
@@ -113,10 +121,11 @@ module _ (given : GivenView) (t : Table) (sorted : List ℕ) (table : IsTableOf 
       let all : lacks_none r s.entries e ≡ true = not_from_false _ (none-lacks (outcomes_of s.entries) (operands r e.deps) (subst P (sym deps) job.3)) in
       let away : is_among s.ready e.path ≡ false = elim (cases_Bool (is_among s.ready e.path)) [
         | inl yes' ↦ absurd (
-            let at = among-map (path_at t.targets) t.ready.items e.path (is_among-true s.ready e.path yes') in
+            let at = among-map (path_at t.targets) t.schedule.ready e.path (is_among-true s.ready e.path yes') in
             let same : at.0 ≡ i = distinct-place t.targets at.0 i p distinct
-            (key-at at.0 (table.queue.ready_below at.0 at.1) ∙ ap Some (at.2 ∙ path)) found.3 in
-            table.queue.apart at.0 at.1 (let Q : ℕ → Type 0 = IsPlace t.newly_ready.items in subst Q (sym same) m))
+            (key-at at.0 (staged-below at.0 (queue.are_ready at.0 (place-times t.schedule.ready at.0 at.1))) ∙ ap Some (at.2 ∙ path)) found.3 in
+            let Q : ℕ → Type 0 = IsPlace t.schedule.ready in
+            omega (arith, is_more.1, place-times t.schedule.ready i (subst Q same at.1)))
         | inr f ↦ f
       ] in
       let here : path_at t.targets i ≡ e.path = (let same : path_at t.targets i ≡ p = rw found.3 refl in same) ∙ sym path in
@@ -126,7 +135,7 @@ module _ (given : GivenView) (t : Table) (sorted : List ℕ) (table : IsTableOf 
       let begun : r.begins e.path (known_to r s.entries e) ≡ true = subst C (sym deps) (subst A here job.4) in
       and_from _ _ (and_from _ _ (and_from _ _ (and_from _ _ (let o : is_none e.outcome ≡ true = rw outcome refl in o) all) (not_from_false _ inside)) (not_from_false _ away)) begun
 
-  make_ready-alone : (i : ℕ) (e : Entry) → slice_get s.entries i ≡ Some e → may_run (rules_for given) s e ≡ true → IsPlace t.newly_ready.items i
+  make_ready-alone : (i : ℕ) (e : Entry) → slice_get s.entries i ≡ Some e → may_run (rules_for given) s e ≡ true → 0 < times i more
   make_ready-alone i e h free =
       let found = slot-of-entry r a t.targets t.slots.items i e h in
       let slot = found.0 in
@@ -137,22 +146,20 @@ module _ (given : GivenView) (t : Table) (sorted : List ℕ) (table : IsTableOf 
       let outcome : stage_outcome slot.stage ≡ None = ap (λ (x : Entry). x.outcome) found.4 ∙ parts.0 in
       let inside : is_stage_out slot.stage ≡ false = ap (λ (x : Entry). x.is_out) found.4 ∙ parts.2 in
       elim (three slot.stage outcome inside) [
-        | inl waits ↦ absurd (elim (watched i slot found.2 waits) [
-          | inl none ↦ none
-          | inr v ↦
-              let q = path_at t.targets v.at in
-              let known = ap outcome_of (entry_of-slots r a t.targets t.slots.items v.at q v.other distinct
-              (key-at v.at (slice_get-below_some t.slots.items v.at v.other v.there)) v.there) in
-              let D : List ℕ → Type 0 = λ x. IsAmong (operands r (stage_deps r a x (rounds_of slot) slot.stage)) q in
-              let E : Entry → Type 0 = λ x. IsAmong (operands r x.deps) q in
-              lacks_none-true r s.entries e parts.1 q (subst E found.4 (subst D here v.asked)) (known ∙ v.is_open)
-        ])
+        | inl waits ↦ absurd (
+            let lack = waited-lacks given t t.schedule.stages table distinct lacks i slot found.2 waits in
+            let D : List ℕ → Type 0 = λ x. IsAmong (operands r (stage_deps r a x (rounds_of slot) slot.stage)) lack.0 in
+            let E : Entry → Type 0 = λ x. IsAmong (operands r x.deps) lack.0 in
+            lacks_none-true r s.entries e parts.1 lack.0 (subst E found.4 (subst D here lack.1)) lack.2)
         | inr other ↦ elim other [
-          | inl ready ↦ elim (table.queue.ready_in i slot found.2 ready) [
-            | inl queued ↦ absurd (both_ways _ parts.3 (is_among-from s.ready e.path
-                (IsAmong-same s.ready (path_at t.targets i) e.path (here ∙ sym path) (map-among (path_at t.targets) t.ready.items i queued))))
-            | inr f ↦ f
-          ]
+          | inl ready ↦
+              let stage = agreed-stage r t.targets t.slots.items t.schedule.stages table.agreed i slot found.2 in
+              let staged = stage.1 ∙ ap Some (ready-agrees r t.targets slot.stage stage.0 stage.2 ready) in
+              elim (cases_lt 0 (times i t.schedule.ready)) [
+                | inl queued ↦ absurd (both_ways _ parts.3 (is_among-from s.ready e.path
+                    (IsAmong-same s.ready (path_at t.targets i) e.path (here ∙ sym path) (map-among (path_at t.targets) t.schedule.ready i (times-place t.schedule.ready i queued)))))
+                | inr none ↦ (are_more i).1 (staged, omega (arith, none))
+              ]
           | inr due ↦ absurd (
               let F : Stage → Type 0 = Fits r (outcomes_of s.entries) given (path_at t.targets i) slot.turn in
               let fits : IsDueWith r (outcomes_of s.entries) given (path_at t.targets i) slot.turn due.0.value = subst F due.1 (table.fits i slot found.2) in
@@ -170,17 +177,17 @@ module _ (given : GivenView) (t : Table) (sorted : List ℕ) (table : IsTableOf 
           (is_stage_waiting stage ≡ true) ⊎ ((is_stage_ready stage ≡ true) ⊎ ((held : Box InCheck Global) × (stage ≡ Due held)))
       three (Due held) o i' = inr (inr (held, refl))
       three (Checking awaiting) o i' = inl refl
-      three (Waiting parked) o i' = inl refl
+      three (Waiting begun) o i' = inl refl
       three (Ready work) o i' = inr (inl refl)
       three Out o i' = cc
       three (Decided fact) o i' = cc
 
-  pub newly_ready-paths : paths_of (filter (may_run (rules_for given) s) s.entries) ≡ map (path_at t.targets) sorted
-  newly_ready-paths = filter-places (may_run r s) (path_at t.targets) 0 s.entries sorted (record {
+  pub newly_ready-paths : paths_of (filter (may_run (rules_for given) s) s.entries) ≡ map (path_at t.targets) more
+  newly_ready-paths = filter-places (may_run r s) (path_at t.targets) 0 s.entries more (record {
     ascending = ascends;
-    within = λ k m. omega (arith, table.queue.newly_ready_below k (in' k m), length-slots r a t.targets t.slots.items table.one_each);
-    passes = λ i e h m. let P : ℕ → Type 0 = IsPlace sorted in let same : 0 + i ≡ i = omega arith in make_ready-there i e h (in' i (subst P same m));
-    alone = λ i e h t'. let P : ℕ → Type 0 = IsPlace sorted in let same : i ≡ 0 + i = omega arith in subst P same (out i (make_ready-alone i e h t'));
+    within = λ k m. omega (arith, staged-below k ((are_more k).0 (place-times more k m)).0, length-slots r a t.targets t.slots.items table.one_each);
+    passes = λ i e h m. let P : ℕ → Type 0 = IsPlace more in let same : 0 + i ≡ i = omega arith in make_ready-there i e h (place-times more i (subst P same m));
+    alone = λ i e h t'. let P : ℕ → Type 0 = IsPlace more in let same : i ≡ 0 + i = omega arith in subst P same (times-place more i (make_ready-alone i e h t'));
     named = λ i e h.
         let found = slot-of-entry r a t.targets t.slots.items i e h in
         let same : 0 + i ≡ i = omega arith in

@@ -1,14 +1,12 @@
 -- Numbers of paths.
-use Rattle.std.proofs.Common.{slice_get, slice_set, ◌≡◌, ℕ, zero, suc, false, inl, inr, List, [], ◌∷◌, ◌++◌}
-use Rattle.std.proofs.Common.{Some, refl, ap, subst}
+use Rattle.std.proofs.Common.{slice_get, ◌≡◌, ℕ, zero, suc, inl, inr, List, [], ◌∷◌, ◌++◌, Some, refl, ap, subst}
 use Rattle.redo_record.specs.Paths.{IsAmong}
 use Rattle.redo_build.specs.Rules.{Rules}
-use Rattle.redo_core.specs.inside.Slots.{AreNumbers, IsNumbered, AllNumbered, is_stage_waiting}
+use Rattle.redo_table.specs.Table.{StageView}
+use Rattle.redo_core.specs.inside.Slots.{Agrees, AreNumbers}
 use Rattle.redo_core.specs.inside.Works.{waited_by}
-use Rattle.redo_core.specs.declared.table.Slot.{Slot}
 use Rattle.redo_core.specs.declared.table.Stage.{Stage}
 use Rattle.redo_core.specs.declared.table.Stage.TheVariants.{Due, Checking, Waiting, Ready, Out, Decided}
-use Rattle.redo_core.proofs.TableLemmas.{get-set_cases}
 
 module _ (ps : List (List ℕ)) where
   -- the path of a number
@@ -46,28 +44,14 @@ module _ (ps : List (List ℕ)) where
     numbers-kept (n ∷ ns) [] h = absurd h
     numbers-kept (n ∷ ns) (q ∷ qs) h = (kept n q h.0, numbers-kept ns qs h.1)
 
-    pub numbered-kept : (r : Rules) (stage : Stage) → IsNumbered r ps stage → IsNumbered r us stage
-    numbered-kept r (Due held) h = tt
-    numbered-kept r (Checking awaiting) h = kept awaiting.at awaiting.path h
-    numbered-kept r (Waiting parked) h = numbers-kept parked.operands.items (waited_by r parked.begun.value) h
-    numbered-kept r (Ready work) h = tt
-    numbered-kept r Out h = tt
-    numbered-kept r (Decided fact) h = tt
-
--- what doesn't wait has no numbers
-pub numbered-still : (r : Rules) (ps : List (List ℕ)) (stage : Stage) → is_stage_waiting stage ≡ false → IsNumbered r ps stage
-numbered-still r ps (Due held) h = tt
-numbered-still r ps (Checking awaiting) h = cc
-numbered-still r ps (Waiting parked) h = cc
-numbered-still r ps (Ready work) h = tt
-numbered-still r ps Out h = tt
-numbered-still r ps (Decided fact) h = tt
-
-pub numbered-set : (r : Rules) (ps : List (List ℕ)) (slots : List Slot) (at : ℕ) (new : Slot) → IsNumbered r ps new.stage → AllNumbered r ps slots → AllNumbered r ps (slice_set slots at new)
-numbered-set r ps slots at new mine all k x g = elim (get-set_cases slots at k new x g) [
-  | inl here ↦ let P : Slot → Type 0 = λ y. IsNumbered r ps y.stage in subst P here.1 mine
-  | inr before ↦ all k x before.1
-]
+    -- with more paths a stage agrees as it did
+    pub agrees-kept : (r : Rules) (stage : Stage) (s : StageView) → Agrees r ps stage s → Agrees r us stage s
+    agrees-kept r (Due held) s h = h
+    agrees-kept r (Checking awaiting) s h = (h.0, h.1, kept h.0 awaiting.path h.2)
+    agrees-kept r (Waiting begun) s h = (h.0, h.1, numbers-kept h.0 (waited_by r begun.value) h.2)
+    agrees-kept r (Ready work) s h = h
+    agrees-kept r Out s h = h
+    agrees-kept r (Decided fact) s h = h
 
 pub among-place : (qs : List (List ℕ)) (q : List ℕ) → IsAmong qs q → (k : ℕ) × (slice_get qs k ≡ Some q)
 among-place [] q m = absurd m

@@ -1,5 +1,5 @@
 -- The opening of a build on the table.
-use Rattle.std.proofs.Common.{slice_get, ◌≡◌, ℕ, ◌+◌, ◌*◌, ◌<◌, ◌≤◌, Bool, true, false, cond, not, List, [], ◌∷◌}
+use Rattle.std.proofs.Common.{slice_get, ◌≡◌, ℕ, ◌+◌, ◌*◌, ◌<◌, ◌≤◌, Bool, true, false, cond, not, ◌⊎◌, List, [], ◌∷◌}
 use Rattle.std.proofs.Common.{◌++◌, Some, inl, inr, length, take, drop, take-append-drop, refl, sym, ap, subst}
 use Rattle.std.proofs.Common.{◌∙◌, arith}
 use Rattle.std.proofs.lemmas.Bool.{cases_Bool}
@@ -17,7 +17,9 @@ use Rattle.redo_build.specs.Looking.{IsLookedOut, looked}
 use Rattle.redo_build.specs.TakesLeft.{takes_left}
 use Rattle.redo_build.proofs.CountLemmas.{opening-left, opening-out}
 use Rattle.redo_build.proofs.StillLemmas.{looked-count}
-use Rattle.redo_core.specs.inside.Slots.{IsAtRest, IsKept, table_entries, table_state, targets_in, AllWatched}
+use Rattle.redo_table.specs.Table.{StageView, TableView, EachLacks, NoneDue, no_targets, stage_at}
+use Rattle.redo_table.specs.Table.StageView.{Due as AtDue, Ready as AtReady, InHand as AtHand, Waiting as AtWaiting, Decided as AtDecided}
+use Rattle.redo_core.specs.inside.Slots.{IsAtRest, IsKept, table_entries, table_state, targets_in}
 use Rattle.redo_core.specs.inside.Slots.{AreEnteredInto, AreEnqueued, IsFirstTable, IsLookedOn, rules_inside, state_of}
 use Rattle.redo_core.proofs.LookLemmas.{none_due}
 use Rattle.redo_core.proofs.LookedLemmas.{looked-left, looked-longer}
@@ -26,7 +28,7 @@ use Rattle.redo_build.proofs.PathLemmas.{is_among-true, with_new-second}
 use Rattle.redo_build.proofs.SeenLemmas.{paths_of-entered, entered-longer}
 use Rattle.redo_build.proofs.SoundLemmas.{IsSound, opening-sound}
 use Rattle.redo_core.proofs.EnterAllLemmas.{entered-append, entered-seen, path-take}
-use Rattle.redo_core.proofs.EnqueueLemmas.{enqueued-table, enqueued-watched, enqueued-state}
+use Rattle.redo_core.proofs.EnqueueLemmas.{enqueued-resting, enqueued-table, enqueued-state}
 
 pub targets-more : (r : Rules) (ps : List (List ℕ)) (i : ℕ) (p : List ℕ) → slice_get ps i ≡ Some p → targets_in r (take (i + 1) ps) ≡ targets_in r (take i ps) ++ targets_in r (p ∷ [])
 targets-more r ps i p get = ap (targets_in r) (path-take ps i p get) ∙ filter-append (λ q. not (r.is_source q)) (take i ps) (p ∷ [])
@@ -67,42 +69,53 @@ entered-new r es ps (q ∷ qs) =
 pub opening-entries : (given : GivenView) (request : List (List ℕ)) → (opening (rules_for given) request).entries ≡ entered (rules_for given) [] (targets_in (rules_for given) request)
 opening-entries given request = entered-new (rules_for given) [] [] (targets_in (rules_for given) request)
 
-pub empty-watched : (given : GivenView) (t : Table) → t.targets ≡ [] → t.slots.items ≡ [] → AllWatched (rules_for given) given.limits.targets t.targets t.slots.items []
-empty-watched given t keys slots = rw (keys, slots) (λ k x g h. absurd (nothing k x g))
-  where
-    nothing : (k : ℕ) (x : Rattle.redo_core.specs.declared.table.Slot.Slot) → slice_get {X = Rattle.redo_core.specs.declared.table.Slot.Slot} [] k ≡ Some x → ⊥
-    nothing k x g = cc
-
-pub first-is : (given : GivenView) (t u v : Table) → t.targets ≡ [] → t.slots.items ≡ [] → t.ready.items ≡ [] →
+pub first-is : (given : GivenView) (t u v : Table) → t.targets ≡ [] → t.slots.items ≡ [] → t.schedule ≡ no_targets →
     AreEnteredInto given t u (targets_in (rules_for given) given.request) → AreEnqueued u v → IsFirstTable given v
-first-is given t u v keys slots ready a w =
+first-is given t u v keys slots schedule a w =
     let r = rules_for given in
     let request = given.request in
-    let none : table_entries r given.limits.targets t ≡ [] = rw keys refl in
-    let entries : table_entries r given.limits.targets u ≡ (opening r request).entries = a.entries ∙ ap (λ es. entered r es (targets_in (rules_for given) request)) none ∙ sym (opening-entries given request) in
+    let none : table_entries given t ≡ [] = rw keys refl in
+    let entries : table_entries given u ≡ (opening r request).entries = a.entries ∙ ap (λ es. entered r es (targets_in (rules_for given) request)) none ∙ sym (opening-entries given request) in
     let S : List Entry → Type 0 = AreStanding r request in
     let standing = subst S (sym entries) (opening-sound r (lawful_for given) request).standing in
-    let watched = a.watched [] (empty-watched given t keys slots) in
+    let ready : u.schedule.ready ≡ [] = a.ready ∙ ap (λ (x : TableView). x.ready) schedule in
     let T : List Entry → List (List ℕ) → State = λ xs ps. record { entries = xs; ready = ps } in
-    let before : table_state r given.limits.targets u ≡ T (opening r request).entries [] = (let numbers : table_state r given.limits.targets u ≡ T (table_entries r given.limits.targets u) [] = rw (a.rest.0, ready) refl in numbers ∙ ap (λ xs. T xs []) entries) in
+    let before : table_state given u ≡ T (opening r request).entries [] = (let numbers : table_state given u ≡ T (table_entries given u) [] = rw ready refl in numbers ∙ ap (λ xs. T xs []) entries) in
     record {
-      table = enqueued-table given request u v a.table standing watched w;
-      none_newly_ready = w.none_newly_ready;
-      watched = enqueued-watched given request u v a.table standing watched w;
-      state = enqueued-state given request u v a.table standing watched w ∙ ap (enqueued r) before;
+      table = enqueued-table given request u v a.table standing lacks w;
+      resting = enqueued-resting given request u v a.table standing lacks w (λ k h. elim (fresh k AtHand h) as (λ _. ⊥) [
+        | inl due ↦ cc
+        | inr other ↦ elim other as (λ _. ⊥) [ inl is ↦ cc | inr decided ↦ cc ]
+      ]);
+      state = enqueued-state given request u v a.table standing lacks w ∙ ap (enqueued r) before;
     }
+  where
+    -- each target is due, ready or decided
+    fresh : (k : ℕ) (s : StageView) → stage_at u.schedule k ≡ Some s → (s ≡ AtDue) ⊎ ((s ≡ AtReady) ⊎ (s ≡ AtDecided))
+    fresh k s h = elim (a.fresh k s h) [
+      | inl old ↦ absurd (let bad : slice_get {X = StageView} [] k ≡ Some s = sym (ap (λ (x : TableView). stage_at x k) schedule) ∙ old in none-there k s bad)
+      | inr new ↦ new
+    ]
+      where
+        none-there : (j : ℕ) (x : StageView) → slice_get {X = StageView} [] j ≡ Some x → ⊥
+        none-there j x g = cc
+
+    lacks : EachLacks u.schedule.stages
+    lacks k on h = absurd (elim (fresh k (AtWaiting on) h) as (λ _. ⊥) [
+      | inl due ↦ cc
+      | inr other ↦ elim other as (λ _. ⊥) [ inl is ↦ cc | inr decided ↦ cc ]
+    ])
 
 -- the first table is at rest
 pub first-at_rest : (given : GivenView) (t : Table) → IsFirstTable given t → IsAtRest given t
 first-at_rest given t first = record {
   reached = record { events = []; all_open = tt; ends = first.state };
   table = first.table;
-  none_newly_ready = first.none_newly_ready;
-  watched = first.watched;
+  resting = first.resting;
 }
 
 -- what a board has come to that was opened and has looked ahead
-module _ (b : Inside) (t : Table) (first : IsFirstTable b.build t) (ahead : IsLookedOn b.build t b.table) (none : b.table.due.keys ≡ []) where
+module _ (b : Inside) (t : Table) (first : IsFirstTable b.build t) (ahead : IsLookedOn b.build t b.table) (none : NoneDue b.table.schedule) where
   pub opened-kept : IsKept b
   opened-kept = record { at_rest = ahead.at_rest; none_due = none }
 

@@ -1,14 +1,48 @@
 -- A filter over entries that passes at ascending places gives the paths at these places.
-use Rattle.std.proofs.Common.{◌≡◌, ℕ, suc, ◌+◌, ◌<◌, ◌≤◌, Bool, true, inl, inr, List, [], ◌∷◌, map, length, filter}
-use Rattle.std.proofs.Common.{slice_get, Some, refl, sym, ap, ap₂, subst, ◌∙◌, arith}
+use Rattle.std.proofs.Common.{◌≡◌, ℕ, suc, ◌+◌, ◌<◌, ◌≤◌, ◌⊎◌, Bool, true, inl, inr, List, [], ◌∷◌, map, length, filter}
+use Rattle.std.proofs.Common.{slice_get, slice_index_or, Some, refl, sym, ap, ap₂, subst, ◌∙◌, arith}
 use Rattle.std.proofs.lemmas.Bool.{cases_Bool, cases_eq}
 use Rattle.redo_build.specs.Schedule.{Entry, paths_of}
-use Rattle.redo_core.specs.inside.Slots.{IsPlace}
+use Rattle.std.specs.Prelude.{AllPairs}
+use Rattle.std.specs.List.Sorted.{IsStrictlyIncreasing}
+use Rattle.std.proofs.lemmas.List.Kept.{AllPairs-from_increasing}
+use Rattle.redo_table.specs.Table.{times}
+use Rattle.redo_table.proofs.NumberLemmas.{at-same, at-other, times-cons, times-nil}
+
+-- a number stands in a list
+abbrev pub IsPlace : List ℕ → ℕ → Type 0
+IsPlace [] k = ⊥
+IsPlace (i ∷ is) k = (i ≡ k) ⊎ IsPlace is k
+
+pub times-place : (xs : List ℕ) (k : ℕ) → 0 < times k xs → IsPlace xs k
+times-place [] k h = absurd (omega (arith, h, times-nil k))
+times-place (x ∷ xs) k h = elim (cases_eq x k) [
+  | inl same ↦ inl same
+  | inr other ↦ inr (times-place xs k (omega (arith, h, times-cons k x xs, at-other k x (λ e. other (sym e)))))
+]
+
+pub place-times : (xs : List ℕ) (k : ℕ) → IsPlace xs k → 0 < times k xs
+place-times [] k m = absurd m
+place-times (x ∷ xs) k m = elim m [
+  | inl here ↦ omega (arith, times-cons k x xs, at-same k x (sym here))
+  | inr later ↦ omega (arith, times-cons k x xs, place-times xs k later)
+]
 
 -- numbers from n on, each above the one before
 abbrev pub AscendFrom : ℕ → List ℕ → Type 0
 AscendFrom n [] = Unit {0}
 AscendFrom n (i ∷ is) = (n ≤ i) × AscendFrom (suc i) is
+
+ascends-from : (n : ℕ) (xs : List ℕ) → AllPairs (λ x y. x < y) xs → ((d : ℕ) → 0 < length xs → n ≤ slice_index_or xs 0 d) → AscendFrom n xs
+ascends-from n [] all least = tt
+ascends-from n (x ∷ xs) all least = (
+  least x (omega arith),
+  ascends-from (suc x) xs (λ i j d lt within. all (suc i) (suc j) d (omega (arith, lt)) (omega (arith, within)))
+      (λ d some. all 0 1 d (omega arith) (omega (arith, some))),
+)
+
+pub increasing-ascends : (xs : List ℕ) → IsStrictlyIncreasing xs → AscendFrom 0 xs
+increasing-ascends xs up = ascends-from 0 xs (AllPairs-from_increasing xs up) (λ d some. omega arith)
 
 from_later : (n m : ℕ) (is : List ℕ) → n ≤ m → AscendFrom m is → AscendFrom n is
 from_later n m [] h a = tt

@@ -7,7 +7,6 @@ use Rattle.std.specs.List.{AllByRecursion}
 use Rattle.std.specs.Prelude.{Contains, unwrap_or}
 use Rattle.std.proofs.lemmas.Bool.{and_from, and_parts, cases_Bool}
 use Rattle.redo_tree.specs.Tree.{file_at}
-use Rattle.redo_record.specs.declared.deps.Dep.{Dep}
 use Rattle.redo_record.specs.declared.outcome.Outcome.{Outcome}
 use Rattle.redo_record.specs.declared.outcome.Outcome.TheVariants.{Built, Cyclic, Source as Is_source}
 use Rattle.redo_rules.specs.Build.{GivenView, rules_for}
@@ -19,10 +18,14 @@ use Rattle.redo_core.specs.inside.Reported.{is_settled, AllSettled}
 use Rattle.redo_report.specs.Reports.{AreAscending, IsReport, row_paths, deps_of}
 use Rattle.redo_build.specs.Rules.{Ask, Rules, operands}
 use Rattle.redo_build.specs.Schedule.{Entry, IsQuiet, State, outcome_of, outcomes_of, paths_of}
-use Rattle.redo_core.specs.inside.Slots.{AllWatched, Fits, IsKept, IsPlace, IsTableOf, IsWatched, entries_from, is_stage_due}
+use Rattle.redo_table.specs.Table.{StageView, EachLacks, stage_at, times}
+use Rattle.redo_table.specs.Table.StageView.{Ready as AtReady}
+use Rattle.redo_table.proofs.NumberLemmas.{times-nil}
+use Rattle.redo_core.proofs.AgreeLemmas.{agreed-stage, due-agrees, ready-agrees}
+use Rattle.redo_core.proofs.WaitedLemmas.{waited-lacks}
+use Rattle.redo_core.specs.inside.Slots.{outcomes_at_limit, Agrees, Fits, IsKept, IsTableOf, entries_from, is_stage_due}
 use Rattle.redo_core.specs.inside.Slots.{is_stage_out, is_stage_ready, is_stage_waiting, path_at, rounds_of, rules_inside}
 use Rattle.redo_core.specs.inside.Slots.{slot_entries, stage_deps, stage_outcome, state_of}
-use Rattle.redo_core.specs.inside.Works.{all_asked}
 use Rattle.redo_core.specs.Views.{BoardView, IsQuietBoard, rules_on}
 use Rattle.redo_core.specs.declared.board.Board.TheInside.{Inside}
 use Rattle.redo_build.specs.Theorems.{ShowsBuild}
@@ -41,7 +44,7 @@ use Rattle.redo_core.proofs.RowLemmas.{IsItem, item-contained, contained-item, a
 use Rattle.redo_core.proofs.RowLemmas.{begun-from, begun-sorted, begun-to, file_row, files_sorted, filter-among, row_file}
 use Rattle.redo_core.proofs.RowLemmas.{rows-all}
 use Rattle.redo_core.proofs.ShownLemmas.{IsOfBuild, LacksOne, stage-shown}
-use Rattle.redo_core.proofs.SlotLemmas.{paths_of-slots, entry_of-slots, out_count-slots, slice_get-below_some, slice_get-from}
+use Rattle.redo_core.proofs.SlotLemmas.{paths_of-slots, entry_of-slots, out_count-slots}
 use Rattle.redo_core.proofs.TakeLemmas.{distinct-inside, shows-inside, sound-inside, view_of}
 
 source-outcome : (r : Rules) (n : ℕ) (p : List ℕ) → r.is_source p ≡ true → outcome_at r n p ≡ Some Is_source
@@ -56,7 +59,7 @@ slot-outcome r a ps slots k p slot distinct path there = ap outcome_of (entry_of
 module _ (given : GivenView) (t : Table) (s : State)
     (entries : s.entries ≡ entries_from (rules_for given) given.limits.targets t.targets t.slots.items)
     (shows : ShowsBuild (rules_for given) given.request given.limits.targets s)
-    (table : IsTableOf given t) (watched : AllWatched (rules_for given) given.limits.targets t.targets t.slots.items [])
+    (table : IsTableOf given t) (lacks : EachLacks t.schedule.stages)
     (distinct : AreDistinct t.targets)
     (targets : (p : List ℕ) → IsAmong t.targets p → is_some (file_at given.past.sources p) ≡ false) where
   abbrev r : Rules
@@ -66,7 +69,7 @@ module _ (given : GivenView) (t : Table) (s : State)
   es = entries_from (rules_for given) given.limits.targets t.targets t.slots.items
 
   keys : paths_of s.entries ≡ t.targets
-  keys = ap paths_of entries ∙ paths_of-slots r (outcome_at r given.limits.targets) t.targets t.slots.items table.one_each
+  keys = ap paths_of entries ∙ paths_of-slots r (outcomes_at_limit given) t.targets t.slots.items table.one_each
 
   key-needed : (p : List ℕ) → IsAmong t.targets p → IsAmong (needed_at (rules_for given) given.request given.limits.targets) p
   key-needed p m = (shows.members p).0 (let P : List (List ℕ) → Type 0 = λ ps. IsAmong ps p in subst P (sym keys) m)
@@ -90,34 +93,21 @@ module _ (given : GivenView) (t : Table) (s : State)
   abbrev IsRight : Row → Type 0
   IsRight row = (row.outcome ≡ final_outcome (rules_for given) given.limits.targets row.path) × (arc_value row.deps ≡ deps_of (rules_for given) given.limits.targets row.path)
 
-  -- the watched path is one that lacks
-  lacking : (k : ℕ) (deps : List Dep) → IsWatched (rules_for given) t.targets t.slots.items k deps →
-      (q : List ℕ) × IsAmong (operands (rules_for given) deps) q × (outcomes_of (entries_from (rules_for given) given.limits.targets t.targets t.slots.items) q ≡ None)
-  lacking k deps w =
-      let below : w.at < length t.targets = omega (arith, slice_get-below_some t.slots.items w.at w.other w.there, table.one_each) in
-      let path = slice_get-from t.targets w.at below in
-      let at : path_at t.targets w.at ≡ path.0 = ap (λ (o : Option (List ℕ)). unwrap_or o []) path.1 in (
-        path_at t.targets w.at,
-        w.asked,
-        ap (outcomes_of es) at
-            ∙ slot-outcome r (outcome_at r given.limits.targets) t.targets t.slots.items w.at path.0 w.other distinct path.1 w.there
-            ∙ w.is_open,
-      )
-
-  -- what waits is watched at one
-  lacks-one : (k : ℕ) (p : List ℕ) (turn : ℕ) (stage : Stage) →
-      (is_stage_waiting stage ≡ true → IsWatched (rules_for given) t.targets t.slots.items k (stage_deps (rules_for given) (outcome_at (rules_for given) given.limits.targets) p turn stage)) →
-      LacksOne (rules_for given) (outcomes_of (entries_from (rules_for given) given.limits.targets t.targets t.slots.items)) p stage
-  lacks-one k p turn (Due held) w = tt
-  lacks-one k p turn (Checking awaiting) w = lacking k awaiting.held.value.check.asked (w refl)
-  lacks-one k p turn (Waiting parked) w = lacking k (all_asked parked.begun.value.job parked.begun.value.facts) (w refl)
-  lacks-one k p turn (Ready work) w = tt
-  lacks-one k p turn Out w = tt
-  lacks-one k p turn (Decided fact) w = tt
+  -- what waits asked for a path that has no outcome
+  lacks-one : (p : List ℕ) (turn : ℕ) (stage : Stage) →
+      (is_stage_waiting stage ≡ true → (q : List ℕ) ×
+      IsAmong (operands r (stage_deps r (outcomes_at_limit given) p turn stage)) q × (outcomes_of es q ≡ None)) →
+      LacksOne r (outcomes_of es) p stage
+  lacks-one p turn (Due held) w = tt
+  lacks-one p turn (Checking awaiting) w = w refl
+  lacks-one p turn (Waiting begun) w = w refl
+  lacks-one p turn (Ready work) w = tt
+  lacks-one p turn Out w = tt
+  lacks-one p turn (Decided fact) w = tt
 
   target-shown : (row : Row) (bit : Bool) (is : IsTargetRow given t row bit) →
       IsOfBuild given row.path is.slot.stage row.outcome (arc_value row.deps) bit ×
-      (stage_outcome is.slot.stage ≡ outcome_at (rules_for given) given.limits.targets row.path)
+      (stage_outcome is.slot.stage ≡ outcomes_at_limit given row.path)
   target-shown row bit is =
       let p = row.path in
       let stage = is.slot.stage in
@@ -125,18 +115,18 @@ module _ (given : GivenView) (t : Table) (s : State)
       let among : IsAmong (paths_of s.entries) p = let Q : List (List ℕ) → Type 0 = λ ps. IsAmong ps p in subst Q (sym keys) key in
       let same : outcomes_of s.entries ≡ outcomes_of es = ap outcomes_of entries in
       let R : Ask → Type 0 = λ a. r.recorded p a ≡ record_of r given.limits.targets p in
-      let B : Ask → Type 0 = λ a. r.begins p a ≡ r.begins p (outcome_at r given.limits.targets) in
-      let A : Ask → Type 0 = λ a. a p ≡ outcome_at r given.limits.targets p in
-      let known = slot-outcome r (outcome_at r given.limits.targets) t.targets t.slots.items is.at p is.slot distinct is.path is.there in
-      let outcome : stage_outcome stage ≡ outcome_at r given.limits.targets p = sym known ∙ subst A same (shows.outcomes p among) in
+      let B : Ask → Type 0 = λ a. r.begins p a ≡ r.begins p (outcomes_at_limit given) in
+      let A : Ask → Type 0 = λ a. a p ≡ outcomes_at_limit given p in
+      let known = slot-outcome r (outcomes_at_limit given) t.targets t.slots.items is.at p is.slot distinct is.path is.there in
+      let outcome : stage_outcome stage ≡ outcomes_at_limit given p = sym known ∙ subst A same (shows.outcomes p among) in
       let at : path_at t.targets is.at ≡ p = ap (λ (o : Option (List ℕ)). unwrap_or o []) is.path in
       let F : List ℕ → Type 0 = λ x. Fits r (outcomes_of es) given x is.slot.turn stage in
-      let W : List ℕ → Type 0 = λ x. is_stage_waiting stage ≡ true →
-      IsWatched r t.targets t.slots.items is.at (stage_deps r (outcome_at r given.limits.targets) x (rounds_of is.slot) stage) in
-      let waits : W (path_at t.targets is.at) = λ w. elim (watched is.at is.slot is.there w) [ inl none ↦ absurd none | inr there ↦ there ] in (
+      let W : List ℕ → Type 0 = λ x. is_stage_waiting stage ≡ true → (q : List ℕ) ×
+      IsAmong (operands r (stage_deps r (outcomes_at_limit given) x (rounds_of is.slot) stage)) q × (outcomes_of es q ≡ None) in
+      let waits : W (path_at t.targets is.at) = waited-lacks given t t.schedule.stages table distinct lacks is.at is.slot is.there in (
         stage-shown given p (outcomes_of es) (subst R same (shows.records p among)) (subst B same (shows.begun p among)) (targets p key)
             is.slot.turn stage row.outcome (arc_value row.deps) bit (subst F at (table.fits is.at is.slot is.there)) is.shown is.begun
-            (lacks-one is.at p (rounds_of is.slot) stage (subst W at waits)) outcome,
+            (lacks-one p (rounds_of is.slot) stage (subst W at waits)) outcome,
         outcome,
       )
 
@@ -152,20 +142,20 @@ module _ (given : GivenView) (t : Table) (s : State)
 
   abbrev IsBegunPath : List ℕ → Type 0
   IsBegunPath p = IsAmong (needed_at (rules_for given) given.request given.limits.targets) p × ((rules_for given).has_rule p ≡ true) ×
-      ((rules_for given).begins p (outcome_at (rules_for given) given.limits.targets) ≡ true)
+      ((rules_for given).begins p (outcomes_at_limit given) ≡ true)
 
   -- a row whose script was begun is that of a needed target with a rule that begins
   begun-row : (row : Row) → IsRowOf given t row true → IsBegunPath row.path
   begun-row row (inl is) =
-      let both : (r.has_rule row.path && r.begins row.path (outcome_at r given.limits.targets)) ≡ true = sym (target-shown row true is).0.begun_is in
-      let parts = and_parts (r.has_rule row.path) (r.begins row.path (outcome_at r given.limits.targets)) both in
+      let both : (r.has_rule row.path && r.begins row.path (outcomes_at_limit given)) ≡ true = sym (target-shown row true is).0.begun_is in
+      let parts = and_parts (r.has_rule row.path) (r.begins row.path (outcomes_at_limit given)) both in
       (key-needed row.path (slice_get-among t.targets is.at row.path is.path), parts.0, parts.1)
   begun-row row (inr is) = let bad : true ≡ false = is.begun in cc
 
   -- and the row of such a target says so
   row-begun : (row : Row) → IsBegunPath row.path → (bit : Bool) → IsRowOf given t row bit → bit ≡ true
   row-begun row is bit (inl there) = (target-shown row bit there).0.begun_is ∙
-      and_from (r.has_rule row.path) (r.begins row.path (outcome_at r given.limits.targets)) is.1 is.2
+      and_from (r.has_rule row.path) (r.begins row.path (outcomes_at_limit given)) is.1 is.2
   row-begun row is bit (inr other) = absurd (other.absent (needed-key row.path is.0))
 
   module _ (report : Report) (made : IsReportOf given t report) where
@@ -260,14 +250,14 @@ module _ (given : GivenView) (t : Table) (s : State)
 settled-stage : (stage : Stage) → (is_stage_ready stage ≡ true → ⊥) → (is_stage_due stage ≡ true → ⊥) → (is_stage_out stage ≡ true → ⊥) → is_settled stage ≡ true
 settled-stage (Due held) ready due out = absurd (due refl)
 settled-stage (Checking awaiting) ready due out = refl
-settled-stage (Waiting parked) ready due out = refl
+settled-stage (Waiting begun) ready due out = refl
 settled-stage (Ready work) ready due out = absurd (ready refl)
 settled-stage Out ready due out = absurd (out refl)
 settled-stage (Decided fact) ready due out = refl
 
-none-placed : (f : ℕ → List ℕ) (xs : List ℕ) (k : ℕ) → map f xs ≡ [] → IsPlace xs k → ⊥
-none-placed f [] k e m = m
-none-placed f (x ∷ xs) k e m = cc
+none-queued : (f : ℕ → List ℕ) (xs : List ℕ) (k : ℕ) → map f xs ≡ [] → 0 < times k xs → ⊥
+none-queued f [] k e m = absurd (omega (arith, m, times-nil k))
+none-queued f (x ∷ xs) k e m = cc
 
 out-counted : (slots : List Slot) (k : ℕ) (slot : Slot) → slice_get slots k ≡ Some slot → is_stage_out slot.stage ≡ true → length (filter (λ x. is_stage_out x.stage) slots) ≡ 0 → ⊥
 out-counted [] k slot there out none = cc
@@ -282,25 +272,31 @@ out-counted (x ∷ slots) (suc k) slot there out none = elim (cases_Bool (is_sta
 ]
 
 module _ (b : Inside) (kept : IsKept b) (quiet : IsQuiet (state_of b)) where
+  staged : (k : ℕ) (slot : Slot) → slice_get b.table.slots.items k ≡ Some slot →
+      (s : StageView) × (stage_at b.table.schedule k ≡ Some s) × Agrees (rules_inside b) b.table.targets slot.stage s
+  staged = agreed-stage (rules_inside b) b.table.targets b.table.slots.items b.table.schedule.stages kept.at_rest.table.agreed
+
   pub settled-inside : AllSettled b.table
   settled-inside k slot there = settled-stage slot.stage
-      (λ ready. elim (kept.at_rest.table.queue.ready_in k slot there ready) [
-        | inl placed ↦ none-placed (path_at b.table.targets) b.table.ready.items k quiet.0 placed
-        | inr new ↦ let P : List ℕ → Type 0 = λ xs. IsPlace xs k in subst P kept.at_rest.none_newly_ready new
-      ])
-      (λ due. let P : List ℕ → Type 0 = λ xs. IsPlace xs k in subst P kept.none_due (kept.at_rest.table.due_listed.due_in k slot there due))
+      (λ ready.
+      let stage = staged k slot there in
+      let at : stage_at b.table.schedule k ≡ Some AtReady = stage.1 ∙ ap Some (ready-agrees (rules_inside b) b.table.targets slot.stage stage.0 stage.2 ready) in
+      none-queued (path_at b.table.targets) b.table.schedule.ready k quiet.0 (kept.at_rest.resting.queued k at))
+      (λ due.
+      let stage = staged k slot there in
+      kept.none_due k (stage.1 ∙ ap Some (due-agrees (rules_inside b) b.table.targets slot.stage stage.0 stage.2 due)))
       (λ out. out-counted b.table.slots.items k slot there out
-      (sym (out_count-slots (rules_inside b) (outcome_at (rules_inside b) b.build.limits.targets) b.table.targets b.table.slots.items kept.at_rest.table.one_each) ∙ quiet.1))
+      (sym (out_count-slots (rules_inside b) (outcomes_at_limit b.build) b.table.targets b.table.slots.items kept.at_rest.table.one_each) ∙ quiet.1))
 
   target-keys : (p : List ℕ) → IsAmong b.table.targets p → is_some (file_at b.build.past.sources p) ≡ false
   target-keys p m =
       let P : List (List ℕ) → Type 0 = λ ps. IsAmong ps p in
       (sound-inside b kept).standing.targets p
-      (subst P (sym (paths_of-slots (rules_inside b) (outcome_at (rules_inside b) b.build.limits.targets) b.table.targets b.table.slots.items kept.at_rest.table.one_each)) m)
+      (subst P (sym (paths_of-slots (rules_inside b) (outcomes_at_limit b.build) b.table.targets b.table.slots.items kept.at_rest.table.one_each)) m)
 
   pub report-inside : (report : Report) → IsReportOf b.build b.table report → IsReport (rules_inside b) b.build.request b.build.limits.targets report
   report-inside report made = is-report b.build b.table (state_of b) refl (shows-inside b kept quiet)
-      kept.at_rest.table kept.at_rest.watched (distinct-inside b kept) target-keys report made
+      kept.at_rest.table kept.at_rest.resting.lacks (distinct-inside b kept) target-keys report made
 
 no_paths : (ps : List (List ℕ)) → length ps ≡ 0 → ps ≡ []
 no_paths [] h = refl
@@ -318,7 +314,7 @@ quiet-inside b view is quiet =
     let on : is_some b.stopped ≡ false = none_stopped b.stopped here.0 in
     let ready = rw on at here.1 in
     let out = rw on at here.2 in
-    (here.0, (no_paths (map (path_at b.table.targets) b.table.ready.items) ready, out))
+    (here.0, (no_paths (map (path_at b.table.targets) b.table.schedule.ready) ready, out))
 
 pub if_ok-more : {X E : Type 0} (r : Result X E) (P Q : X → Type 0) → ((x : X) → P x → Q x) → IfOk r P → IfOk r Q
 if_ok-more (Ok x) P Q f h = f x h
@@ -335,7 +331,7 @@ report-view b invariant view is quiet report made =
 told-stage : (r : Rules) (a : Ask) (given : GivenView) (p : List ℕ) (turn : ℕ) (stage : Stage) → Fits r a given p turn stage → IsTold given stage
 told-stage r a given p turn (Due held) fits = tt
 told-stage r a given p turn (Checking awaiting) fits = number-within given p awaiting.held.value.check.number fits.waits.in_check
-told-stage r a given p turn (Waiting parked) fits = tt
+told-stage r a given p turn (Waiting begun) fits = tt
 told-stage r a given p turn (Ready work) fits = tt
 told-stage r a given p turn Out fits = tt
 told-stage r a given p turn (Decided fact) fits = tt

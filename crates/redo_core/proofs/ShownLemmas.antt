@@ -1,7 +1,8 @@
 -- What a target of a quiet board comes to is what its build says of it.
 use Rattle.std.proofs.Common.{◌≡◌, ℕ, zero, suc, ◌+◌, ◌<◌, Bool, ◌&&◌, true, false, inl, inr, List, []}
 use Rattle.std.proofs.Common.{Some, None, refl, sym, ap, subst, ◌∙◌, arith}
-use Rattle.std.specs.Prelude.{bytes_eq, unwrap_or}
+use Rattle.std.specs.Prelude.{Box, bytes_eq, unwrap_or}
+use Rattle.std.specs.declared.alloc.Global.{Global}
 use Rattle.std.proofs.lemmas.Bool.{and_from, cases_Bool}
 use Rattle.std.proofs.lemmas.Slice.Eq.{bytes_eq-Decides}
 use Rattle.redo_record.specs.declared.deps.Dep.{Dep}
@@ -20,10 +21,10 @@ use Rattle.redo_rules.proofs.Public.{lawful_for, plain_lawful}
 use Rattle.redo_core.specs.inside.Checking.{TellsAlike}
 use Rattle.redo_core.specs.inside.Decided.{IsDecided}
 use Rattle.redo_core.specs.inside.Reported.{IsBegunAs, IsShown}
-use Rattle.redo_core.specs.inside.Slots.{Fits, IsCheckingWith, IsWaitingWith, stage_outcome}
+use Rattle.redo_core.specs.inside.Slots.{outcomes_at_limit, Fits, IsCheckingWith, IsWaitingWith, stage_outcome}
 use Rattle.redo_core.specs.inside.Works.{all_asked, job_deps, told_in}
 use Rattle.redo_core.specs.declared.table.Awaiting.{Awaiting}
-use Rattle.redo_core.specs.declared.table.Parked.{Parked}
+use Rattle.redo_core.specs.declared.work.Begun.{Begun}
 use Rattle.redo_core.specs.declared.table.Stage.{Stage}
 use Rattle.redo_core.specs.declared.table.Stage.TheVariants.{Due, Checking, Waiting, Ready, Out, Decided}
 use Rattle.redo_core.proofs.CheckingLemmas.{waiting-shows}
@@ -66,43 +67,43 @@ module _ (r : Rules) (lawful : AreLawful r) (p : List ℕ) where
 pub record IsOfBuild (given : GivenView) (p : List ℕ) (stage : Stage) (outcome : Outcome) (deps : List Dep) (begun : Bool) : Type 0 where
   pub outcome_is : outcome ≡ unwrap_or (stage_outcome stage) Cyclic
   pub deps_is : deps ≡ record_of (rules_for given) given.limits.targets p
-  pub begun_is : begun ≡ ((rules_for given).has_rule p && (rules_for given).begins p (outcome_at (rules_for given) given.limits.targets))
+  pub begun_is : begun ≡ ((rules_for given).has_rule p && (rules_for given).begins p (outcomes_at_limit given))
 
 -- a target asked for a path that has no outcome, if it waits
 abbrev pub LacksOne : Rules → Ask → List ℕ → Stage → Type 0
 LacksOne r a p (Due held) = Unit {0}
 LacksOne r a p (Checking awaiting) = (q : List ℕ) × IsAmong (operands r awaiting.held.value.check.asked) q × (a q ≡ None)
-LacksOne r a p (Waiting parked) =
-    (q : List ℕ) × IsAmong (operands r (all_asked parked.begun.value.job parked.begun.value.facts)) q × (a q ≡ None)
+LacksOne r a p (Waiting begun) =
+    (q : List ℕ) × IsAmong (operands r (all_asked begun.value.job begun.value.facts)) q × (a q ≡ None)
 LacksOne r a p (Ready work) = Unit {0}
 LacksOne r a p Out = Unit {0}
 LacksOne r a p (Decided fact) = Unit {0}
 
 module _ (given : GivenView) (p : List ℕ) (a : Ask)
     (records : (rules_for given).recorded p a ≡ record_of (rules_for given) given.limits.targets p)
-    (begins : (rules_for given).begins p a ≡ (rules_for given).begins p (outcome_at (rules_for given) given.limits.targets))
+    (begins : (rules_for given).begins p a ≡ (rules_for given).begins p (outcomes_at_limit given))
     (target : (rules_for given).is_source p ≡ false) where
   abbrev r : Rules
   r = rules_for given
 
-  module _ (turn : ℕ) (parked : Parked) (fits : IsWaitingWith (rules_for given) a given p turn parked) where
+  module _ (turn : ℕ) (held : Box Begun Global) (fits : IsWaitingWith (rules_for given) a given p turn held.value) where
     abbrev job : JobView
-    job = parked.begun.value.job
+    job = held.value.job
 
     abbrev told : Ask
-    told = told_in parked.begun.value.facts
+    told = told_in held.value.facts
 
-    told-more : Extends (rules_for given) (told_in parked.begun.value.facts) a
+    told-more : Extends (rules_for given) (told_in held.value.facts) a
     told-more q o source h = (fits.told q o h).1
 
-    same-told : TellsAlike (rules_for given) parked.begun.value.facts.asked (told_in parked.begun.value.facts) a
-    same-told = told-alike r told a parked.begun.value.facts.asked (λ q o h. (fits.told q o h).1) fits.checked
+    same-told : TellsAlike (rules_for given) held.value.facts.asked (told_in held.value.facts) a
+    same-told = told-alike r told a held.value.facts.asked (λ q o h. (fits.told q o h).1) fits.checked
 
     -- while an operand lacks, the script is where it stopped
-    still : (q : List ℕ) → IsAmong (operands (rules_for given) (all_asked parked.begun.value.job parked.begun.value.facts)) q → a q ≡ None →
-        (sources_for given).progress p a ≡ record { outcome = None; deps = record_so_far parked.begun.value.job }
+    still : (q : List ℕ) → IsAmong (operands (rules_for given) (all_asked held.value.job held.value.facts)) q → a q ≡ None →
+        (sources_for given).progress p a ≡ record { outcome = None; deps = record_so_far held.value.job }
     still q m none =
-        let own : IsAmong (operands r (job_deps job)) q = elim (asked-cases r parked.begun.value.facts.asked (job_deps job) q m) [
+        let own : IsAmong (operands r (job_deps job)) q = elim (asked-cases r held.value.facts.asked (job_deps job) q m) [
           | inl first ↦ absurd (fits.checked q first (same-told q first ∙ none))
           | inr second ↦ second
         ] in
@@ -111,8 +112,8 @@ module _ (given : GivenView) (p : List ℕ) (a : Ask)
         let there : IsAmong (operands r ((sources_for given).progress p told).deps) q = subst O (ap (λ (x : Progress). x.deps) (sym fits.own)) far in
         ((plain_lawful given).each p).waits q told a told-more there none ∙ fits.own
 
-    waiting-right : (o : Outcome) (deps : List Dep) (begun : Bool) → IsShown given (Waiting parked) o deps → IsBegunAs (Waiting parked) begun →
-        LacksOne (rules_for given) a p (Waiting parked) → IsOfBuild given p (Waiting parked) o deps begun
+    waiting-right : (o : Outcome) (deps : List Dep) (begun : Bool) → IsShown given (Waiting held) o deps → IsBegunAs (Waiting held) begun →
+        LacksOne (rules_for given) a p (Waiting held) → IsOfBuild given p (Waiting held) o deps begun
     waiting-right o deps begun shown is lacks =
         let own : record_so_far job ≡ ((sources_for given).progress p a).deps =
         ap (λ (x : Progress). x.deps) (sym (still lacks.0 lacks.1 lacks.2)) in
@@ -121,7 +122,7 @@ module _ (given : GivenView) (p : List ℕ) (a : Ask)
         record {
           outcome_is = shown.0;
           deps_is = shown.1 ∙ own ∙ sym (fits.behind.recorded a same-told) ∙ records;
-          begun_is = is ∙ sym (and_from (r.has_rule p) (r.begins p (outcome_at r given.limits.targets)) ruled (sym begins ∙ fits.behind.begins a same-told));
+          begun_is = is ∙ sym (and_from (r.has_rule p) (r.begins p (outcomes_at_limit given)) ruled (sym begins ∙ fits.behind.begins a same-told));
         }
 
   checking-right : (turn : ℕ) (awaiting : Awaiting) → IsCheckingWith (rules_for given) a given p turn awaiting →
@@ -136,13 +137,13 @@ module _ (given : GivenView) (p : List ℕ) (a : Ask)
       record {
         outcome_is = shown.0;
         deps_is = shown.1 ∙ sym shows.2 ∙ records;
-        begun_is = is ∙ sym (and-false (r.has_rule p) (r.begins p (outcome_at r given.limits.targets)) (sym begins ∙ shows.1));
+        begun_is = is ∙ sym (and-false (r.has_rule p) (r.begins p (outcomes_at_limit given)) (sym begins ∙ shows.1));
       }
 
   decided-right : (outcome : Outcome) (shown : List Dep) (begun : Bool) → IsDecided given p outcome shown begun →
-      outcome_at (rules_for given) given.limits.targets p ≡ Some outcome →
+      outcomes_at_limit given p ≡ Some outcome →
       (shown ≡ record_of (rules_for given) given.limits.targets p) ×
-      (begun ≡ ((rules_for given).has_rule p && (rules_for given).begins p (outcome_at (rules_for given) given.limits.targets)))
+      (begun ≡ ((rules_for given).has_rule p && (rules_for given).begins p (outcomes_at_limit given)))
   decided-right outcome shown begun is known =
       let fact = is.1 in
       let ended : (r.progress p (outcome_at r fact.depth)).outcome ≡ Some outcome = ap (λ (x : Progress). x.outcome) fact.is in
@@ -152,10 +153,10 @@ module _ (given : GivenView) (p : List ℕ) (a : Ask)
   -- what a settled target shows is what the build says
   pub stage-shown : (turn : ℕ) (stage : Stage) (o : Outcome) (deps : List Dep) (begun : Bool) → Fits (rules_for given) a given p turn stage →
       IsShown given stage o deps → IsBegunAs stage begun → LacksOne (rules_for given) a p stage →
-      stage_outcome stage ≡ outcome_at (rules_for given) given.limits.targets p → IsOfBuild given p stage o deps begun
+      stage_outcome stage ≡ outcomes_at_limit given p → IsOfBuild given p stage o deps begun
   stage-shown turn (Due held) o deps begun fits shown is lacks known = absurd shown
   stage-shown turn (Checking awaiting) o deps begun fits shown is lacks known = checking-right turn awaiting fits o deps begun shown is lacks
-  stage-shown turn (Waiting parked) o deps begun fits shown is lacks known = waiting-right turn parked fits o deps begun shown is lacks
+  stage-shown turn (Waiting held) o deps begun fits shown is lacks known = waiting-right turn held fits o deps begun shown is lacks
   stage-shown turn (Ready work) o deps begun fits shown is lacks known = absurd shown
   stage-shown turn Out o deps begun fits shown is lacks known = absurd shown
   stage-shown turn (Decided fact) o deps begun fits shown is lacks known =

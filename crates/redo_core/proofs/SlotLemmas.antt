@@ -1,6 +1,6 @@
 -- How the slots stand for the entries.
 use Rattle.std.proofs.Common.{map, remove, slice_get, slice_set, slice_index_or, option_and_then, ◌≡◌, ℕ, zero, suc}
-use Rattle.std.proofs.Common.{◌<◌, ◌≤◌, Bool, true, false, inl, inr, List, [], ◌∷◌, length, filter, Option, Some, None}
+use Rattle.std.proofs.Common.{◌<◌, ◌≤◌, true, false, inl, inr, List, [], ◌∷◌, length, filter, Option, Some, None}
 use Rattle.std.proofs.Common.{is_some, IsNone, rules, refl, sym, ap, subst, ◌∙◌, arith, bytes_eq}
 use Rattle.std.specs.Prelude.{count_by}
 use Rattle.std.proofs.lemmas.Bool.{cases_Bool}
@@ -43,7 +43,7 @@ out_count-slots r a (p ∷ ps) (slot ∷ slots) h =
 decided-outcome : (stage : Stage) → is_some (stage_outcome stage) ≡ is_stage_decided stage
 decided-outcome (Due held) = refl
 decided-outcome (Checking awaiting) = refl
-decided-outcome (Waiting parked) = refl
+decided-outcome (Waiting begun) = refl
 decided-outcome (Ready work) = refl
 decided-outcome Out = refl
 decided-outcome (Decided fact) = refl
@@ -134,13 +134,6 @@ pub slice_get-from : {A : Type 0} (xs : List A) (i : ℕ) → i < length xs → 
 slice_get-from [] i h = absurd (omega arith)
 slice_get-from (y ∷ xs) zero h = (y, refl)
 slice_get-from (y ∷ xs) (suc i) h = slice_get-from xs i (omega arith)
-
-pub length-filter_le : (f : Slot → Bool) (xs : List Slot) → length (filter f xs) ≤ length xs
-length-filter_le f [] = omega arith
-length-filter_le f (x ∷ xs) = elim (cases_Bool (f x)) [
-  | inl t ↦ rw t (omega (arith, length-filter_le f xs))
-  | inr e ↦ rw e (omega (arith, length-filter_le f xs))
-]
 
 -- a ready slot has its job
 pub ready-job : (r : Rules) (a : Ask) (given : GivenView) (p : List ℕ) (turn : ℕ) (stage : Stage) → Fits r a given p turn stage →

@@ -1,7 +1,6 @@
 -- What changes of single slots keep.
-use Rattle.std.proofs.Common.{remove, slice_get, slice_set, ◌≡◌, ℕ, zero, suc, ◌<◌, true, ◌⊎◌, inl, inr, List, []}
-use Rattle.std.proofs.Common.{◌∷◌, ◌++◌, length, length-set, Some, None, refl, sym, ap, subst, ◌∙◌, arith, bytes_eq}
-use Rattle.std.specs.Prelude.{is_none}
+use Rattle.std.proofs.Common.{slice_get, slice_set, ◌≡◌, ℕ, zero, suc, ◌⊎◌, inl, inr, List, []}
+use Rattle.std.proofs.Common.{◌∷◌, Some, None, refl, sym, ap, subst, ◌∙◌, arith, bytes_eq}
 use Rattle.std.proofs.lemmas.Bool.{cases_Bool, both_ways}
 use Rattle.redo_record.specs.Paths.{IsAmong, AreDistinct, is_among}
 use Rattle.redo_build.specs.Rules.{Ask, Rules, AreLawful, Extends, operands}
@@ -11,60 +10,19 @@ use Rattle.redo_build.specs.Outcomes.{outcome_at}
 use Rattle.redo_build.specs.Schedule.{only, outcome_of, outcomes_of}
 use Rattle.redo_rules.proofs.Public.{lawful_for}
 use Rattle.redo_rules.specs.Build.{GivenView, rules_for}
-use Rattle.redo_core.specs.inside.Slots.{rounds_of, entries_from, slot_entry, stage_deps, stage_outcome, path_at, is_stage_waiting}
-use Rattle.redo_core.specs.inside.Slots.{Fits, AllAnswered, AllFit, AllWatched, AllWatchersBelow, IsWatched, IsPlace}
-use Rattle.redo_core.specs.inside.Works.{all_asked, told_in, waited_by}
+use Rattle.redo_table.proofs.SlotLemmas.{get-same}
+use Rattle.redo_core.specs.inside.Slots.{entries_from, slot_entry, stage_outcome, path_at}
+use Rattle.redo_core.specs.inside.Slots.{Fits, AllAnswered, AllFit}
+use Rattle.redo_core.specs.inside.Works.{all_asked}
 use Rattle.redo_core.specs.inside.Checking.{TellsAlike}
 use Rattle.redo_core.specs.declared.table.Slot.{Slot}
 use Rattle.redo_core.specs.declared.table.Stage.{Stage}
 use Rattle.redo_core.specs.declared.table.Stage.TheVariants.{Due, Checking, Waiting, Ready, Out, Decided}
 use Rattle.redo_build.proofs.DepthLemmas.{cases_Option, operand-target}
-use Rattle.redo_build.proofs.QueueLemmas.{slice_get-among}
 use Rattle.redo_core.proofs.SlotLemmas.{entry_of-slots, slot_entries-set}
 use Rattle.std.proofs.lemmas.Slice.Eq.{bytes_eq-Decides}
-use Rattle.redo_build.proofs.PathLemmas.{filter-from, is_among-true}
+use Rattle.redo_build.proofs.PathLemmas.{is_among-true}
 use Rattle.redo_core.proofs.CheckingLemmas.{due-moves, waiting-moves}
-
-pub slice_get-place : (xs : List ℕ) (i k : ℕ) → slice_get xs i ≡ Some k → IsPlace xs k
-slice_get-place [] i k h = cc
-slice_get-place (x ∷ xs) zero k h = inl (cc)
-slice_get-place (x ∷ xs) (suc i) k h = inr (slice_get-place xs i k h)
-
-pub place-slice_get : (xs : List ℕ) (k : ℕ) → IsPlace xs k → (i : ℕ) × (slice_get xs i ≡ Some k)
-place-slice_get [] k m = absurd m
-place-slice_get (x ∷ xs) k m = elim m [
-  | inl here ↦ (zero, ap Some here)
-  | inr later ↦ let found = place-slice_get xs k later in (suc found.0, found.1)
-]
-
-pub remove-place : (xs : List ℕ) (i k : ℕ) → IsPlace (remove xs i) k → IsPlace xs k
-remove-place [] zero k m = m
-remove-place [] (suc i) k m = m
-remove-place (x ∷ xs) zero k m = inr m
-remove-place (x ∷ xs) (suc i) k m = elim m [ inl here ↦ inl here | inr later ↦ inr (remove-place xs i k later) ]
-
-pub remove-place_cases : (xs : List ℕ) (i at k : ℕ) → slice_get xs i ≡ Some at → IsPlace xs k → (at ≡ k) ⊎ IsPlace (remove xs i) k
-remove-place_cases [] i at k h m = absurd m
-remove-place_cases (x ∷ xs) zero at k h m = elim m [ inl here ↦ inl (cc) | inr later ↦ inr later ]
-remove-place_cases (x ∷ xs) (suc i) at k h m = elim m [
-  | inl here ↦ inr (inl here)
-  | inr later ↦ elim (remove-place_cases xs i at k h later) [ inl same ↦ inl same | inr rest ↦ inr (inr rest) ]
-]
-
-pub place-append : (xs ys : List ℕ) (k : ℕ) → IsPlace (xs ++ ys) k → IsPlace xs k ⊎ IsPlace ys k
-place-append [] ys k m = inr m
-place-append (x ∷ xs) ys k m = elim m [
-  | inl here ↦ inl (inl here)
-  | inr later ↦ elim (place-append xs ys k later) [ inl l ↦ inl (inr l) | inr r ↦ inr r ]
-]
-
-pub place-left : (xs ys : List ℕ) (k : ℕ) → IsPlace xs k → IsPlace (xs ++ ys) k
-place-left [] ys k m = absurd m
-place-left (x ∷ xs) ys k m = elim m [ inl here ↦ inl here | inr later ↦ inr (place-left xs ys k later) ]
-
-pub place-right : (xs ys : List ℕ) (k : ℕ) → IsPlace ys k → IsPlace (xs ++ ys) k
-place-right [] ys k m = m
-place-right (x ∷ xs) ys k m = inr (place-right xs ys k m)
 
 pub get-set_cases : (xs : List Slot) (at i : ℕ) (new found : Slot) → slice_get (slice_set xs at new) i ≡ Some found →
     ((i ≡ at) × (new ≡ found)) ⊎ ((i ≡ at → ⊥) × (slice_get xs i ≡ Some found))
@@ -76,24 +34,6 @@ get-set_cases (x ∷ xs) (suc at) (suc i) new found h = elim (get-set_cases xs a
   | inl here ↦ inl (ap suc here.0, here.1)
   | inr old ↦ inr ((λ e. old.0 (let f : i ≡ at = omega arith in f)), old.1)
 ]
-
-pub get-set_same : (xs : List Slot) (at : ℕ) (old new : Slot) → slice_get xs at ≡ Some old → slice_get (slice_set xs at new) at ≡ Some new
-get-set_same [] at old new h = cc
-get-set_same (x ∷ xs) zero old new h = refl
-get-set_same (x ∷ xs) (suc at) old new h = get-set_same xs at old new h
-
-pub get-set_other : (xs : List Slot) (at i : ℕ) (new : Slot) → (i ≡ at → ⊥) → slice_get (slice_set xs at new) i ≡ slice_get xs i
-get-set_other [] at i new other = refl
-get-set_other (x ∷ xs) zero zero new other = absurd (other refl)
-get-set_other (x ∷ xs) zero (suc i) new other = refl
-get-set_other (x ∷ xs) (suc at) zero new other = refl
-get-set_other (x ∷ xs) (suc at) (suc i) new other = get-set_other xs at i new (λ e. other (ap suc e))
-
-pub cases_place : (i at : ℕ) → (i ≡ at) ⊎ (i ≡ at → ⊥)
-cases_place zero zero = inl refl
-cases_place zero (suc at) = inr (λ e. absurd (omega arith))
-cases_place (suc i) zero = inr (λ e. absurd (omega arith))
-cases_place (suc i) (suc at) = elim (cases_place i at) [ inl e ↦ inl (ap suc e) | inr n ↦ inr (λ e. n (let f : i ≡ at = omega arith in f)) ]
 
 -- with more answers those to these entries stay as they are
 pub answered-alike : (r : Rules) (lawful : AreLawful r) (a b : Ask) (ds : List Dep) → Extends r a b → AllAnswered r a ds → TellsAlike r ds a b
@@ -144,7 +84,7 @@ Fits-more given a b p turn (Checking awaiting) more h =
           ];
       lacks = h.lacks;
     }
-Fits-more given a b p turn (Waiting parked) more h =
+Fits-more given a b p turn (Waiting begun) more h =
     let r = rules_for given in
     let lawful = lawful_for given in
     record {
@@ -152,14 +92,7 @@ Fits-more given a b p turn (Waiting parked) more h =
       of_target = h.of_target;
       at_turn = h.at_turn;
       stopped = h.stopped;
-      answered = λ k q below at none. elim (cases_Option (a q)) [
-        | inl no_answer ↦ h.answered k q below at no_answer
-        | inr some ↦
-            let target = operand-target r lawful parked.begun.value.job.state.entries q
-            (filter-from (λ x. is_none (told_in parked.begun.value.facts x)) (operands r parked.begun.value.job.state.entries) q (slice_get-among (waited_by r parked.begun.value) k q at)) in
-            let also = more q some.0 target some.1 in cc
-      ];
-      told = λ q o known. let was = h.told q o known in (was.0, more q o (operand-target r lawful (all_asked parked.begun.value.job parked.begun.value.facts) q was.0) was.1);
+      told = λ q o known. let was = h.told q o known in (was.0, more q o (operand-target r lawful (all_asked begun.value.job begun.value.facts) q was.0) was.1);
       behind = h.behind;
       checked = h.checked;
       own = h.own;
@@ -192,7 +125,7 @@ module _ (r : Rules) (lawful : AreLawful r) (n : ℕ) (ps : List (List ℕ)) (sl
     | inl t ↦
         let is = (bytes_eq-Decides p q).0 t in
         let P : List ℕ → Type 0 = λ x. outcomes_of (entries_from r n ps (slice_set slots at new)) x ≡ outcomes_of (entries_from r n ps slots) x in
-        subst P is (outcomes-here (slice_set slots at new) new (get-set_same slots at old new there) ∙ same ∙ sym (outcomes-here slots old there))
+        subst P is (outcomes-here (slice_set slots at new) new (get-same slots at old new there) ∙ same ∙ sym (outcomes-here slots old there))
     | inr f ↦ outcomes-other q (λ is. both_ways _ f ((bytes_eq-Decides p q).1 is))
   ]
 
@@ -222,63 +155,8 @@ module _ (r : Rules) (lawful : AreLawful r) (n : ℕ) (ps : List (List ℕ)) (sl
         (fits k x before.1)
   ]
 
-module _ (slots : List Slot) (at : ℕ) (old new : Slot) (there : slice_get slots at ≡ Some old) where
-  pub watchers-set : ((k : ℕ) → IsPlace new.watchers.items k → k < length slots) → AllWatchersBelow slots → AllWatchersBelow (slice_set slots at new)
-  watchers-set below all i k x g m =
-      let len = length-set slots at new in
-      elim (get-set_cases slots at i new x g) [
-        | inl here ↦ omega (arith, len, below k (let P : Slot → Type 0 = λ y. IsPlace y.watchers.items k in subst P (sym here.1) m))
-        | inr before ↦ omega (arith, len, all i k x before.1 m)
-      ]
-
-  pub IsWatched-set : (r : Rules) (ps : List (List ℕ)) (k : ℕ) (deps : List Dep) → stage_outcome new.stage ≡ None →
-      ((j : ℕ) → IsPlace old.watchers.items j → IsPlace new.watchers.items j) → IsWatched r ps slots k deps → IsWatched r ps (slice_set slots at new) k deps
-  IsWatched-set r ps k deps open' more w = elim (cases_place w.at at) [
-    | inl same ↦
-        let P : ℕ → Type 0 = λ j. slice_get slots j ≡ Some w.other in
-        let both : Some w.other ≡ Some old = sym (subst P same w.there) ∙ there in
-        let is : w.other ≡ old = cc in
-        let Q : Slot → Type 0 = λ y. IsPlace y.watchers.items k in
-        let R : ℕ → Type 0 = λ j. IsAmong (operands r deps) (path_at ps j) in
-        record {
-          at = at;
-          other = new;
-          there = get-set_same slots at old new there;
-          is_open = open';
-          listed = more k (subst Q is w.listed);
-          asked = subst R same w.asked;
-        }
-    | inr other ↦ record {
-      at = w.at;
-      other = w.other;
-      there = get-set_other slots at w.at new other ∙ w.there;
-      is_open = w.is_open;
-      listed = w.listed;
-      asked = w.asked;
-    }
-  ]
-
-  -- what waited is still watched, where the slot is still open
-  pub watched-set : (r : Rules) (n : ℕ) (ps : List (List ℕ)) (pending : List ℕ) → stage_outcome new.stage ≡ None →
-      ((j : ℕ) → IsPlace old.watchers.items j → IsPlace new.watchers.items j) →
-      (is_stage_waiting new.stage ≡ true → IsPlace pending at ⊎ IsWatched r ps (slice_set slots at new) at (stage_deps r (outcome_at r n) (path_at ps at) (rounds_of new) new.stage)) →
-      ((k : ℕ) (x : Slot) → (k ≡ at → ⊥) → slice_get slots k ≡ Some x → is_stage_waiting x.stage ≡ true →
-      IsPlace pending k ⊎ IsWatched r ps slots k (stage_deps r (outcome_at r n) (path_at ps k) (rounds_of x) x.stage)) →
-      AllWatched r n ps (slice_set slots at new) pending
-  watched-set r n ps pending open' more mine all k x g t = elim (get-set_cases slots at k new x g) [
-    | inl here ↦
-        let P : ℕ → Slot → Type 0 = λ j y. IsPlace pending j ⊎ IsWatched r ps (slice_set slots at new) j (stage_deps r (outcome_at r n) (path_at ps j) (rounds_of y) y.stage) in
-        let A : Slot → Type 0 = λ y. P k y in
-        let B : ℕ → Type 0 = λ j. P j new in
-        subst A here.1 (subst B (sym here.0) (mine (ap (λ (y : Slot). is_stage_waiting y.stage) here.1 ∙ t)))
-    | inr before ↦ elim (all k x before.0 before.1 t) [
-      | inl m ↦ inl m
-      | inr w ↦ inr (IsWatched-set r ps k (stage_deps r (outcome_at r n) (path_at ps k) (rounds_of x) x.stage) open' more w)
-    ]
-  ]
-
--- a slot that is replaced twice
-pub set-twice : (xs : List Slot) (at : ℕ) (x y : Slot) → slice_set (slice_set xs at x) at y ≡ slice_set xs at y
+-- an item that is replaced twice
+pub set-twice : {X : Type 0} (xs : List X) (at : ℕ) (x y : X) → slice_set (slice_set xs at x) at y ≡ slice_set xs at y
 set-twice [] at x y = refl
 set-twice (z ∷ xs) zero x y = refl
 set-twice (z ∷ xs) (suc at) x y = ap (λ ys. z ∷ ys) (set-twice xs at x y)

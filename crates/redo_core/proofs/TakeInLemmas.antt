@@ -25,13 +25,17 @@ use Rattle.redo_core.specs.Views.{FactView}
 use Rattle.redo_core.specs.inside.Works.{all_asked, job_deps, told_in, waited_by, IsStopped}
 use Rattle.redo_core.specs.inside.Checking.{IsBegunBehind}
 use Rattle.redo_core.specs.inside.Ends.{end_progress}
-use Rattle.redo_core.specs.inside.Slots.{rounds_of, table_entries, table_state, slot_entry, stage_deps, stage_outcome}
+use Rattle.redo_core.specs.inside.Slots.{outcomes_at_limit, rounds_of, table_entries, table_state, slot_entry, stage_deps, stage_outcome}
 use Rattle.redo_core.specs.inside.Slots.{is_stage_out, path_at, AreNumbers, IsWaitingWith}
 use Rattle.redo_core.specs.inside.Slots.{AreEnteredInto, IsParkedStage, IsParkedAt, MayConclude, IsConcludedAt, concluded_entry}
 use Rattle.redo_core.specs.inside.Slots.{IsOutThere, MayTakeIn, IsPutBackThere, state_after}
+use Rattle.redo_core.specs.inside.Slots.{Agrees, AreSeen, IsSettled, IsStandingTable, IsTableOf}
+use Rattle.redo_table.specs.Table.{IsOpen, TableView, stage_at}
+use Rattle.redo_table.specs.Table.StageView.{Out as AtOut, InHand as AtHand, Waiting as AtWaiting}
+use Rattle.redo_core.proofs.AgreeLemmas.{agreed-stage}
+use Rattle.redo_core.proofs.NumberLemmas.{numbers-number}
 use Rattle.std.specs.Prelude.{Box, is_none}
 use Rattle.std.specs.declared.vec.Vec.{Vec}
-use Rattle.redo_core.specs.declared.table.Parked.{Parked}
 use Rattle.redo_core.specs.declared.work.Begun.{Begun}
 use Rattle.redo_core.specs.declared.table.Slot.{Slot}
 use Rattle.redo_core.specs.declared.table.Stage.{Stage}
@@ -49,30 +53,20 @@ use Rattle.redo_build.proofs.StandingLemmas.{outcomes_of-deep}
 use Rattle.redo_build.proofs.SoundLemmas.{IsSound, opening-sound, run-sound, happens-sound, out-parts}
 use Rattle.redo_build.proofs.HandoverLemmas.{looks_agree, piece-advanced}
 use Rattle.redo_core.proofs.SlotLemmas.{entry_of-slots, paths_of-slots, slice_get-from, slice_get-below_some}
-use Rattle.redo_core.proofs.PutSteps.{put-entries, parked-table, parked-watched}
+use Rattle.redo_core.proofs.PutSteps.{put-entries, put-none_in_hand, parked-table}
 use Rattle.redo_core.proofs.EnterAllLemmas.{entered-append, entered-passed, entered-seen, operands-append}
 
-count-some : (xs : List Slot) (at : ℕ) (slot : Slot) → slice_get xs at ≡ Some slot → is_stage_out slot.stage ≡ true → 0 < length (filter (λ y. is_stage_out y.stage) xs)
-count-some [] at slot h out = cc
-count-some (x ∷ xs) zero slot h out =
-    let same : x ≡ slot = cc in
-    let is : is_stage_out x.stage ≡ true = ap (λ (y : Slot). is_stage_out y.stage) same ∙ out in
-    rw is (omega arith)
-count-some (x ∷ xs) (suc at) slot h out =
-    let rest = count-some xs at slot h out in
-    elim (cases_Bool (is_stage_out x.stage)) [ inl t ↦ rw t (omega arith) | inr f ↦ rw f rest ]
-
-parked-shows : (r : Rules) (a : Ask) (begun : Box Begun Global) (numbers : Vec ℕ Global) (p : List ℕ) (slot : Slot) → IsParkedStage begun numbers slot.stage →
+parked-shows : (r : Rules) (a : Ask) (begun : Box Begun Global) (p : List ℕ) (slot : Slot) → IsParkedStage begun slot.stage →
     slot_entry r a p slot ≡ record { path = p; looks = slot.looks; turn = slot.turn; deps = all_asked begun.value.job begun.value.facts; outcome = None; is_out = false }
-parked-shows r a begun numbers p slot h = by-stage slot.looks slot.turn slot.stage h
+parked-shows r a begun p slot h = by-stage slot.looks slot.turn slot.stage h
   where
-    by-stage : (looks turn : ℕ) (stage : Stage) → IsParkedStage begun numbers stage →
+    by-stage : (looks turn : ℕ) (stage : Stage) → IsParkedStage begun stage →
         ◌≡◌ {A = Entry} (record { path = p; looks = looks; turn = turn; deps = stage_deps r a p (looks + turn) stage; outcome = stage_outcome stage; is_out = is_stage_out stage })
         (record { path = p; looks = looks; turn = turn; deps = all_asked begun.value.job begun.value.facts; outcome = None; is_out = false })
     by-stage looks turn (Due held) h' = absurd h'
     by-stage looks turn (Checking awaiting) h' = absurd h'
-    by-stage looks turn (Waiting parked) h' =
-        let E : Parked → Entry = λ x. record { path = p; looks = looks; turn = turn; deps = all_asked x.begun.value.job x.begun.value.facts; outcome = None; is_out = false } in ap E h'
+    by-stage looks turn (Waiting held) h' =
+        let E : Box Begun Global → Entry = λ x. record { path = p; looks = looks; turn = turn; deps = all_asked x.value.job x.value.facts; outcome = None; is_out = false } in ap E h'
     by-stage looks turn (Ready work) h' = absurd h'
     by-stage looks turn Out h' = absurd h'
     by-stage looks turn (Decided held) h' = absurd h'
@@ -109,21 +103,21 @@ module _ (given : GivenView) (t : Table) (at : ℕ) (end : End) (may : MayTakeIn
   r = rules_for given
 
   abbrev es : List Entry
-  es = table_entries (rules_for given) given.limits.targets t
+  es = table_entries given t
 
   abbrev s : State
-  s = table_state (rules_for given) given.limits.targets t
+  s = table_state given t
 
   abbrev target : List ℕ
   target = path_at t.targets at
 
   abbrev e : Entry
-  e = slot_entry (rules_for given) (outcome_at (rules_for given) given.limits.targets) (path_at t.targets at) may.slot
+  e = slot_entry (rules_for given) (outcomes_at_limit given) (path_at t.targets at) may.slot
 
   lawful : AreLawful (rules_for given)
   lawful = lawful_for given
 
-  sound : IsSound (rules_for given) given.request (table_state (rules_for given) given.limits.targets t)
+  sound : IsSound (rules_for given) given.request (table_state given t)
   sound =
       let P : State → Type 0 = IsSound r given.request in
       subst P (sym may.at_rest.reached.ends) (run-sound r lawful given.request _ may.at_rest.reached.events (opening-sound r lawful given.request) may.at_rest.reached.all_open)
@@ -131,7 +125,7 @@ module _ (given : GivenView) (t : Table) (at : ℕ) (end : End) (may : MayTakeIn
   pub keys_distinct : AreDistinct t.targets
   keys_distinct =
       let P : List (List ℕ) → Type 0 = AreDistinct in
-      subst P (paths_of-slots r (outcome_at r given.limits.targets) t.targets t.slots.items may.at_rest.table.one_each) sound.standing.distinct
+      subst P (paths_of-slots r (outcomes_at_limit given) t.targets t.slots.items may.at_rest.table.one_each) sound.standing.distinct
 
   pub key-there : slice_get t.targets at ≡ Some (path_at t.targets at)
   key-there =
@@ -139,8 +133,8 @@ module _ (given : GivenView) (t : Table) (at : ℕ) (end : End) (may : MayTakeIn
       let is : path_at t.targets at ≡ found.0 = rw found.1 refl in
       found.1 ∙ ap Some (sym is)
 
-  entry-there : entry_of (table_entries (rules_for given) given.limits.targets t) (path_at t.targets at) ≡ Some (slot_entry (rules_for given) (outcome_at (rules_for given) given.limits.targets) (path_at t.targets at) may.slot)
-  entry-there = entry_of-slots r (outcome_at r given.limits.targets) t.targets t.slots.items at target may.slot keys_distinct key-there may.there
+  entry-there : entry_of (table_entries given t) (path_at t.targets at) ≡ Some (slot_entry (rules_for given) (outcomes_at_limit given) (path_at t.targets at) may.slot)
+  entry-there = entry_of-slots r (outcomes_at_limit given) t.targets t.slots.items at target may.slot keys_distinct key-there may.there
 
   e-out : is_stage_out may.slot.stage ≡ true
   e-out = ap is_stage_out may.is_out
@@ -148,8 +142,8 @@ module _ (given : GivenView) (t : Table) (at : ℕ) (end : End) (may : MayTakeIn
   e-open : stage_outcome may.slot.stage ≡ None
   e-open = ap stage_outcome may.is_out
 
-  e-fed : (q : List ℕ) → IsAmong (operands (rules_for given) (stage_deps (rules_for given) (outcome_at (rules_for given) given.limits.targets) (path_at t.targets at) (rounds_of may.slot) may.slot.stage)) q →
-      outcomes_of (table_entries (rules_for given) given.limits.targets t) q ≡ None → ⊥
+  e-fed : (q : List ℕ) → IsAmong (operands (rules_for given) (stage_deps (rules_for given) (outcomes_at_limit given) (path_at t.targets at) (rounds_of may.slot) may.slot.stage)) q →
+      outcomes_of (table_entries given t) q ≡ None → ⊥
   e-fed q m none =
       let fed = sound.queued.out_fed target e entry-there e-out in
       let both : Some fed.0 ≡ Some e = sym fed.1 ∙ entry-there in
@@ -157,54 +151,61 @@ module _ (given : GivenView) (t : Table) (at : ℕ) (end : End) (may : MayTakeIn
       let P : Entry → Type 0 = λ x. IsAmong (operands r x.deps) q in
       fed.3 q (subst P (sym same) m) none
 
-  now-is : end_progress end ≡ advanced (rules_for given) (table_entries (rules_for given) given.limits.targets t) (slot_entry (rules_for given) (outcome_at (rules_for given) given.limits.targets) (path_at t.targets at) may.slot)
+  now-is : end_progress end ≡ advanced (rules_for given) (table_entries given t) (slot_entry (rules_for given) (outcomes_at_limit given) (path_at t.targets at) may.slot)
   now-is = piece-advanced r lawful given.request es sound.standing target e entry-there e-open e-fed
       (out-parts r lawful given.request s sound target e entry-there e-out).2 (end_progress end) may.is_end.is_piece
 
-  open-event : IsOutAt (table_state (rules_for given) given.limits.targets t) (path_at t.targets at) may.slot.turn
+  open-event : IsOutAt (table_state given t) (path_at t.targets at) may.slot.turn
   open-event = record { entry = e; at = entry-there; is_out = e-out; at_turn = refl }
 
   pub after-sound : IsSound (rules_for given) given.request (state_after given Script t at)
   after-sound = happens-sound r lawful given.request s (Hand_in target may.slot.turn) sound open-event
 
   pub moved : List Entry
-  moved = put (entered (rules_for given) (table_entries (rules_for given) given.limits.targets t) (operands (rules_for given) (end_progress end).deps))
-      (moved_on Script (slot_entry (rules_for given) (outcome_at (rules_for given) given.limits.targets) (path_at t.targets at) may.slot) (end_progress end))
+  moved = put (entered (rules_for given) (table_entries given t) (operands (rules_for given) (end_progress end).deps))
+      (moved_on Script (slot_entry (rules_for given) (outcomes_at_limit given) (path_at t.targets at) may.slot) (end_progress end))
 
-  pub after-state : state_after given Script t at ≡ enqueued (rules_for given) (record { entries = moved; ready = map (path_at t.targets) t.ready.items })
+  pub after-state : state_after given Script t at ≡ enqueued (rules_for given) (record { entries = moved; ready = map (path_at t.targets) t.schedule.ready })
   unfolding moved
   after-state =
-      let N : Progress → State = λ now. enqueued r (record { entries = put (entered r es (operands r now.deps)) (moved_on Script e now); ready = map (path_at t.targets) t.ready.items }) in
+      let N : Progress → State = λ now. enqueued r (record { entries = put (entered r es (operands r now.deps)) (moved_on Script e now); ready = map (path_at t.targets) t.schedule.ready }) in
       let first : state_after given Script t at ≡ N (advanced r es e) = rw entry-there refl in
       first ∙ ap N (sym now-is)
 
   pub after-entries : (state_after given Script t at).entries ≡ moved
   after-entries = ap (λ (x : State). x.entries) after-state
 
-  pub out-there : IsOutThere t at
-  out-there =
+  open-there : IsOpen t.schedule at
+  open-there =
+      let stage = agreed-stage r t.targets t.slots.items t.schedule.stages may.at_rest.table.agreed at may.slot may.there in
+      let A : Stage → Type 0 = λ st. Agrees r t.targets st stage.0 in
+      elim (subst A may.is_out stage.2) as (λ _. IsOpen t.schedule at) [
+        | inl out ↦ inl (stage.1 ∙ ap Some out)
+        | inr hand ↦ inr (stage.1 ∙ ap Some hand)
+      ]
+
+  small : at < 65536
+  small = omega (arith, slice_get-below_some t.slots.items at may.slot may.there, may.at_rest.table.within_limit, may.at_rest.table.few)
+
+  few-rounds : rounds_of may.slot < 65536
+  few-rounds =
       let below = turn-below r lawful given.request es sound.standing target e entry-there e-open e-fed in
-      let paths = ap length (paths_of-slots r (outcome_at r given.limits.targets) t.targets t.slots.items may.at_rest.table.one_each) in (
-        omega (arith, may.at_rest.table.out_counted, count-some t.slots.items at may.slot may.there e-out),
-        (may.slot, may.there, may.is_out, omega (arith, below, paths, may.at_rest.table.one_each, may.at_rest.table.within_limit, may.at_rest.table.few)),
-      )
+      let paths = ap length (paths_of-slots r (outcomes_at_limit given) t.targets t.slots.items may.at_rest.table.one_each) in
+      omega (arith, below, paths, may.at_rest.table.one_each, may.at_rest.table.within_limit, may.at_rest.table.few)
 
   -- what is decided is the build's at the limit
-  deep-limit : Extends (rules_for given) (outcomes_of (table_entries (rules_for given) given.limits.targets t)) (outcome_at (rules_for given) given.limits.targets)
+  deep-limit : Extends (rules_for given) (outcomes_of (table_entries given t)) (outcomes_at_limit given)
   deep-limit =
-      let paths = ap length (paths_of-slots r (outcome_at r given.limits.targets) t.targets t.slots.items may.at_rest.table.one_each) in
-      Extends-trans' r (outcomes_of es) (outcome_at r (decided_count es)) (outcome_at r given.limits.targets) (outcomes_of-deep r lawful given.request es sound.standing)
+      let paths = ap length (paths_of-slots r (outcomes_at_limit given) t.targets t.slots.items may.at_rest.table.one_each) in
+      Extends-trans' r (outcomes_of es) (outcome_at r (decided_count es)) (outcomes_at_limit given) (outcomes_of-deep r lawful given.request es sound.standing)
       (deeper r lawful (decided_count es) given.limits.targets (omega (arith, decided_count-length es, paths, may.at_rest.table.one_each, may.at_rest.table.within_limit)))
-
-  pub small : at < 65536
-  small = omega (arith, slice_get-below_some t.slots.items at may.slot may.there, may.at_rest.table.within_limit, may.at_rest.table.few)
 
   -- a script that ended asked for what is decided alone
   module _ (fact : FactView) (asked : List Dep) (ended : end ≡ Ended fact asked) where
-    fact-now : record { outcome = Some fact.outcome; deps = with_all asked fact.deps } ≡ advanced (rules_for given) (table_entries (rules_for given) given.limits.targets t) (slot_entry (rules_for given) (outcome_at (rules_for given) given.limits.targets) (path_at t.targets at) may.slot)
+    fact-now : record { outcome = Some fact.outcome; deps = with_all asked fact.deps } ≡ advanced (rules_for given) (table_entries given t) (slot_entry (rules_for given) (outcomes_at_limit given) (path_at t.targets at) may.slot)
     fact-now = let P : End → Type 0 = λ x. end_progress x ≡ advanced r es e in subst P ended now-is
 
-    asked-seen : (q : List ℕ) → IsAmong (operands (rules_for given) (with_all asked fact.deps)) q → IsAmong (paths_of (table_entries (rules_for given) given.limits.targets t)) q
+    asked-seen : (q : List ℕ) → IsAmong (operands (rules_for given) (with_all asked fact.deps)) q → IsAmong (paths_of (table_entries given t)) q
     asked-seen q m =
         let ask : Ask = only (operands r e.deps) (outcomes_of es) in
         let outcome : (r.progress target ask).outcome ≡ Some fact.outcome = ap (λ (x : Progress). x.outcome) (sym fact-now) in
@@ -216,14 +217,14 @@ module _ (given : GivenView) (t : Table) (at : ℕ) (end : End) (may : MayTakeIn
         ]
 
     -- under all that the build decides it asked for the same
-    decided_deps : with_all asked fact.deps ≡ ((rules_for given).progress (path_at t.targets at) (outcome_at (rules_for given) given.limits.targets)).deps
+    decided_deps : with_all asked fact.deps ≡ ((rules_for given).progress (path_at t.targets at) (outcomes_at_limit given)).deps
     decided_deps =
         let ask : Ask = only (operands r e.deps) (outcomes_of es) in
         let outcome : (r.progress target ask).outcome ≡ Some fact.outcome = ap (λ (x : Progress). x.outcome) (sym fact-now) in
-        let far = Extends-trans' r ask (outcomes_of es) (outcome_at r given.limits.targets) (only-Extends r (operands r e.deps) (outcomes_of es) (outcomes_of es) (λ q o s h. h)) deep-limit in
-        ap (λ (x : Progress). x.deps) (fact-now ∙ ended_stays r lawful target ask (outcome_at r given.limits.targets) fact.outcome far outcome)
+        let far = Extends-trans' r ask (outcomes_of es) (outcomes_at_limit given) (only-Extends r (operands r e.deps) (outcomes_of es) (outcomes_of es) (λ q o s h. h)) deep-limit in
+        ap (λ (x : Progress). x.deps) (fact-now ∙ ended_stays r lawful target ask (outcomes_at_limit given) fact.outcome far outcome)
 
-    concluded-moved : put (table_entries (rules_for given) given.limits.targets t) (concluded_entry given (path_at t.targets at) may.slot fact) ≡ moved
+    concluded-moved : put (table_entries given t) (concluded_entry given (path_at t.targets at) may.slot fact) ≡ moved
     unfolding moved
     concluded-moved =
         let M : List Dep → Entry = λ ds. record { path = target; looks = may.slot.looks; turn = may.slot.turn; deps = ds; outcome = Some fact.outcome; is_out = false } in
@@ -231,7 +232,7 @@ module _ (given : GivenView) (t : Table) (at : ℕ) (end : End) (may : MayTakeIn
         let seen = entered-seen r es (operands r (with_all asked fact.deps)) asked-seen in
         ap (λ ds. put es (M ds)) (sym decided_deps) ∙ sym (ap (λ xs. put xs (M (with_all asked fact.deps))) seen) ∙ ap E (sym ended)
 
-    concluded-after : put (table_entries (rules_for given) given.limits.targets t) (concluded_entry given (path_at t.targets at) may.slot fact) ≡ (state_after given Script t at).entries
+    concluded-after : put (table_entries given t) (concluded_entry given (path_at t.targets at) may.slot fact) ≡ (state_after given Script t at).entries
     concluded-after = concluded-moved ∙ sym after-entries
 
     pub may-conclude : MayConclude given t at fact
@@ -240,9 +241,9 @@ module _ (given : GivenView) (t : Table) (at : ℕ) (end : End) (may : MayTakeIn
         let S : List Entry → Type 0 = AreStanding r given.request in
         record {
           table = may.at_rest.table;
-          watched = may.at_rest.watched;
           distinct = keys_distinct;
-          is_out = out-there;
+          is_out = (open-there, (may.slot, may.there, may.is_out, few-rounds, small));
+          alone = λ k h. absurd (may.at_rest.resting.put_back k h);
           of_build = subst P ended may.is_end.is_end;
           request = given.request;
           standing = λ slot there.
@@ -252,7 +253,7 @@ module _ (given : GivenView) (t : Table) (at : ℕ) (end : End) (may : MayTakeIn
               subst Q (sym same) (subst S (sym concluded-after) after-sound.standing);
         }
 
-    pub concluded-put : (u : Table) → IsConcludedAt given t u at fact → IsPutBackThere given (state_after given Script t at) t u []
+    pub concluded-put : (u : Table) → IsConcludedAt given t u at fact → IsPutBackThere given (state_after given Script t at) t u
     concluded-put u c =
         let both : Some c.slot ≡ Some may.slot = sym c.there ∙ may.there in
         let same : c.slot ≡ may.slot = cc in
@@ -261,8 +262,8 @@ module _ (given : GivenView) (t : Table) (at : ℕ) (end : End) (may : MayTakeIn
           entries = c.entries ∙ ap (λ (x : Slot). put es (concluded_entry given target x fact)) same ∙ concluded-after;
           ready = c.ready;
           keys_kept = λ k p h. rw c.targets h;
-          within = λ k m. absurd m;
-          watched = c.watched;
+          lacks = c.lacks;
+          put_back = c.put_back;
         }
 
   -- a script that stopped
@@ -280,16 +281,16 @@ module _ (given : GivenView) (t : Table) (at : ℕ) (end : End) (may : MayTakeIn
     pub paths-waited : paths.items ≡ waited_by (rules_for given) begun.value
     paths-waited = is_stop.1
 
-    way : CameTo (rules_for given) (path_at t.targets at) (outcomes_of (table_entries (rules_for given) given.limits.targets t)) (rounds (slot_entry (rules_for given) (outcome_at (rules_for given) given.limits.targets) (path_at t.targets at) may.slot)) ×
-        (stage_deps (rules_for given) (outcome_at (rules_for given) given.limits.targets) (path_at t.targets at) (rounds_of may.slot) may.slot.stage ≡
-        deps_at_turn (rules_for given) (path_at t.targets at) (outcomes_of (table_entries (rules_for given) given.limits.targets t)) (rounds (slot_entry (rules_for given) (outcome_at (rules_for given) given.limits.targets) (path_at t.targets at) may.slot)))
+    way : CameTo (rules_for given) (path_at t.targets at) (outcomes_of (table_entries given t)) (rounds (slot_entry (rules_for given) (outcomes_at_limit given) (path_at t.targets at) may.slot)) ×
+        (stage_deps (rules_for given) (outcomes_at_limit given) (path_at t.targets at) (rounds_of may.slot) may.slot.stage ≡
+        deps_at_turn (rules_for given) (path_at t.targets at) (outcomes_of (table_entries given t)) (rounds (slot_entry (rules_for given) (outcomes_at_limit given) (path_at t.targets at) may.slot)))
     way =
         let w = sound.standing.under_way target e entry-there e-open in (w.came, w.is)
 
-    deep : Extends (rules_for given) (outcomes_of (table_entries (rules_for given) given.limits.targets t)) (outcome_at (rules_for given) (decided_count (table_entries (rules_for given) given.limits.targets t)))
+    deep : Extends (rules_for given) (outcomes_of (table_entries given t)) (outcome_at (rules_for given) (decided_count (table_entries given t)))
     deep = outcomes_of-deep r lawful given.request es sound.standing
 
-    begun-here : IsBegunAt (rules_for given) (path_at t.targets at) (outcomes_of (table_entries (rules_for given) given.limits.targets t)) may.slot.looks
+    begun-here : IsBegunAt (rules_for given) (path_at t.targets at) (outcomes_of (table_entries given t)) may.slot.looks
     begun-here =
         let w = sound.standing.under_way target e entry-there e-open in
         let starts = (out-parts r lawful given.request s sound target e entry-there e-out).2 in
@@ -316,11 +317,11 @@ module _ (given : GivenView) (t : Table) (at : ℕ) (end : End) (may : MayTakeIn
         (deeper r lawful piece.depth depth (omega arith)) far
         piece.looks may.slot.looks may.slot.turn may.slot.turn piece.came way.0 piece.fed (subst F way.1 e-fed) piece.begun begun-here)
 
-    same-rounds : rounds (slot_entry (rules_for given) (outcome_at (rules_for given) given.limits.targets) (path_at t.targets at) may.slot) ≡ may.is_end.is_piece.looks + may.slot.turn
+    same-rounds : rounds (slot_entry (rules_for given) (outcomes_at_limit given) (path_at t.targets at) may.slot) ≡ may.is_end.is_piece.looks + may.slot.turn
     same-rounds = ap (λ n. n + may.slot.turn) same-looks
 
     -- the record at its turn is the same under the outcomes that the job held
-    same-deps : stage_deps (rules_for given) (outcome_at (rules_for given) given.limits.targets) (path_at t.targets at) (rounds_of may.slot) may.slot.stage ≡
+    same-deps : stage_deps (rules_for given) (outcomes_at_limit given) (path_at t.targets at) (rounds_of may.slot) may.slot.stage ≡
         deps_at_turn (rules_for given) (path_at t.targets at) (outcome_at (rules_for given) may.is_end.is_piece.depth) (may.is_end.is_piece.looks + may.slot.turn)
     same-deps =
         let n = may.is_end.is_piece.depth in
@@ -332,8 +333,8 @@ module _ (given : GivenView) (t : Table) (at : ℕ) (end : End) (may : MayTakeIn
 
     -- what it held is known, and it had asked for it
     held-known : (q : List ℕ) (o : Outcome) → told_in begun.value.facts q ≡ Some o →
-        IsAmong (operands (rules_for given) (stage_deps (rules_for given) (outcome_at (rules_for given) given.limits.targets) (path_at t.targets at) (rounds_of may.slot) may.slot.stage)) q ×
-        (outcomes_of (table_entries (rules_for given) given.limits.targets t) q ≡ Some o)
+        IsAmong (operands (rules_for given) (stage_deps (rules_for given) (outcomes_at_limit given) (path_at t.targets at) (rounds_of may.slot) may.slot.stage)) q ×
+        (outcomes_of (table_entries given t) q ≡ Some o)
     held-known q o h =
         let n = may.is_end.is_piece.depth in
         let m = max n (decided_count es) in
@@ -357,8 +358,8 @@ module _ (given : GivenView) (t : Table) (at : ℕ) (end : End) (may : MayTakeIn
         ]
 
     -- entering what it waits for is entering all that its record asks for, since what has an answer was seen
-    pub enters-same : entered (rules_for given) (table_entries (rules_for given) given.limits.targets t) (waited_by (rules_for given) begun.value) ≡
-        entered (rules_for given) (table_entries (rules_for given) given.limits.targets t) (operands (rules_for given) (end_progress end).deps)
+    pub enters-same : entered (rules_for given) (table_entries given t) (waited_by (rules_for given) begun.value) ≡
+        entered (rules_for given) (table_entries given t) (operands (rules_for given) (end_progress end).deps)
     enters-same =
         let none = sources_alone (rules_for given).is_source (found_deps begun.value.job) (found_sources given begun.value.job is_stopped.is_job) in
         let checked = entered-seen r es (operands r begun.value.facts.asked) (λ q m. elim (cases_Option (told_in begun.value.facts q)) [
@@ -376,7 +377,7 @@ module _ (given : GivenView) (t : Table) (at : ℕ) (end : End) (may : MayTakeIn
         let E : End → List Entry = λ x. entered r es (operands r (end_progress x).deps) in
         seen ∙ sym (ap E stopped ∙ whole)
 
-    pub after-length : length (entered (rules_for given) (table_entries (rules_for given) given.limits.targets t) (waited_by (rules_for given) begun.value)) ≡ length (state_after given Script t at).entries
+    pub after-length : length (entered (rules_for given) (table_entries given t) (waited_by (rules_for given) begun.value)) ≡ length (state_after given Script t at).entries
     unfolding moved
     after-length =
         let wide = entered r es (operands r (end_progress end).deps) in
@@ -391,30 +392,40 @@ module _ (given : GivenView) (t : Table) (at : ℕ) (end : End) (may : MayTakeIn
       there-still = a.slots_kept at may.slot may.there
 
       pub out-still : IsOutThere v at
-      out-still = (omega (arith, out-there.0, a.rest.1), (may.slot, there-still, may.is_out, out-fits))
-        where
-          out-fits : rounds_of may.slot < 65536
-          out-fits =
-              let was = out-there.1 in
-              let both : Some was.0 ≡ Some may.slot = sym was.1 ∙ may.there in
-              let same : was.0 ≡ may.slot = cc in
-              let P : Slot → Type 0 = λ y. rounds_of y < 65536 in
-              subst P same was.3
+      out-still = (
+        elim open-there [ inl out ↦ inl (a.stages_kept at AtOut out) | inr hand ↦ inr (a.stages_kept at AtHand hand) ],
+        (may.slot, there-still, may.is_out, few-rounds, small),
+      )
+
+      -- entering leaves nothing in hand
+      none-still : (k : ℕ) → stage_at v.schedule k ≡ Some AtHand → ⊥
+      none-still k h = elim (a.fresh k AtHand h) as (λ _. ⊥) [
+        | inl old ↦ may.at_rest.resting.put_back k old
+        | inr new ↦ elim new as (λ _. ⊥) [
+          | inl due ↦ cc
+          | inr other ↦ elim other as (λ _. ⊥) [ inl ready ↦ cc | inr decided ↦ cc ]
+        ]
+      ]
+
+      pub are-seen : (ns : List ℕ) → AreNumbers v.targets ns (waited_by (rules_for given) begun.value) → AreSeen v ns
+      are-seen ns are i n h =
+          let path = numbers-number v.targets ns (waited_by r begun.value) i n are h in
+          omega (arith, a.table.one_each, a.table.agreed.one_each, slice_get-below_some v.targets n path.0 path.2)
 
       path-still : path_at v.targets at ≡ path_at t.targets at
       path-still = rw (a.keys_kept at target key-there) refl
 
-      wider-entries : table_entries (rules_for given) given.limits.targets v ≡ entered (rules_for given) (table_entries (rules_for given) given.limits.targets t) (operands (rules_for given) (end_progress end).deps)
+      wider-entries : table_entries given v ≡ entered (rules_for given) (table_entries given t) (operands (rules_for given) (end_progress end).deps)
       wider-entries = a.entries ∙ enters-same
 
       wider-distinct : AreDistinct v.targets
       wider-distinct =
           let P : List (List ℕ) → Type 0 = AreDistinct in
           let paths = ap paths_of a.entries ∙ paths_of-entered r es (waited_by r begun.value) in
-          let keys = paths_of-slots r (outcome_at r given.limits.targets) v.targets v.slots.items a.table.one_each in
+          let keys = paths_of-slots r (outcomes_at_limit given) v.targets v.slots.items a.table.one_each in
           subst P keys (subst P (sym paths) (with_new-distinct (paths_of es) (waited_by r begun.value) sound.standing.distinct))
 
-      wider-known : (q : List ℕ) (o : Outcome) → outcomes_of (table_entries (rules_for given) given.limits.targets t) q ≡ Some o → outcomes_of (table_entries (rules_for given) given.limits.targets v) q ≡ Some o
+      wider-known : (q : List ℕ) (o : Outcome) → outcomes_of (table_entries given t) q ≡ Some o → outcomes_of (table_entries given v) q ≡ Some o
       wider-known q o h =
           let P : List Entry → Type 0 = λ xs. outcomes_of xs q ≡ Some o in
           let old = outcomes_of-entry es q o h in
@@ -437,7 +448,7 @@ module _ (given : GivenView) (t : Table) (at : ℕ) (end : End) (may : MayTakeIn
           let more = asked-more r lawful target (outcome_at r n) (may.is_end.is_piece.looks + may.slot.turn) may.is_end.is_piece.came q before in
           subst D (sym (job-record ∙ ap (λ (x : Progress). x.deps) may.is_end.is_piece.is)) more
 
-      module _ (u : Table) (numbers : Vec ℕ Global) (are : AreNumbers v.targets numbers.items (waited_by (rules_for given) begun.value)) (d : IsParkedAt v u at begun numbers) where
+      module _ (u : Table) (on : List ℕ) (are : AreNumbers v.targets on (waited_by (rules_for given) begun.value)) (d : IsParkedAt v u at begun on) where
         old-there : d.old ≡ may.slot
         old-there = let both : Some d.old ≡ Some may.slot = sym d.put_back.there ∙ there-still in cc
 
@@ -447,14 +458,13 @@ module _ (given : GivenView) (t : Table) (at : ℕ) (end : End) (may : MayTakeIn
         new-looks : d.new.looks ≡ may.slot.looks
         new-looks = d.looks ∙ ap (λ (y : Slot). y.looks) old-there
 
-        waits : IsWaitingWith (rules_for given) (outcomes_of (table_entries (rules_for given) given.limits.targets v)) given (path_at v.targets at) d.new.turn
-            (record { begun = begun; operands = numbers; held = 0 })
+        waits : IsWaitingWith (rules_for given) (outcomes_of (table_entries given v)) given (path_at v.targets at) d.new.turn
+            begun.value
         waits = record {
           is_job = is_stopped.is_job;
           of_target = is_stopped.of_target ∙ sym path-still;
           at_turn = is_stopped.at_turn ∙ sym new-turn;
           stopped = omega (arith, new-turn);
-          answered = λ k q below get none. absurd (omega (arith, below));
           told = λ q o h. (asked-still q o h, wider-known q o (held-known q o h).1);
           behind = (let B : List ℕ → Type 0 = λ p. IsBegunBehind given p begun.value.facts.asked (told_in begun.value.facts) in subst B (sym path-still) is_stopped.behind);
           checked = is_stopped.checked;
@@ -462,30 +472,35 @@ module _ (given : GivenView) (t : Table) (at : ℕ) (end : End) (may : MayTakeIn
           goes_on = is_stopped.goes_on;
         }
 
-        parked-moved : table_entries (rules_for given) given.limits.targets u ≡ moved
+        parked-moved : table_entries given u ≡ moved
         unfolding moved
         parked-moved =
-            let put-in = put-entries given v u a.table wider-distinct at d.old d.new d.put_back in
-            let shows = parked-shows r (outcome_at r given.limits.targets) begun numbers (path_at v.targets at) d.new d.stage in
+            let put-in = put-entries given v u a.table wider-distinct at d.old d.new (AtWaiting on) d.put_back in
+            let shows = parked-shows r (outcomes_at_limit given) begun (path_at v.targets at) d.new d.stage in
             let M : List ℕ → ℕ → ℕ → List Dep → Entry = λ p k n ds. record { path = p; looks = k; turn = n; deps = ds; outcome = None; is_out = false } in
             let asked = all_asked begun.value.job begun.value.facts in
             let entry' = shows ∙ ap (λ p. M p d.new.looks d.new.turn asked) path-still ∙ ap (λ k. M target k d.new.turn asked) new-looks
             ∙ ap (λ n. M target may.slot.looks n asked) new-turn ∙ ap (M target may.slot.looks (may.slot.turn + 1)) job-record in
             let N : End → Type 0 = λ x. M target may.slot.looks (may.slot.turn + 1) (end_progress x).deps ≡ moved_on Script e (end_progress x) in
             let last : M target may.slot.looks (may.slot.turn + 1) (end_progress end).deps ≡ moved_on Script e (end_progress end) = subst N (sym stopped) refl in
-            put-in ∙ ap (put (table_entries r given.limits.targets v)) (entry' ∙ last) ∙ ap (λ xs. put xs (moved_on Script e (end_progress end))) wider-entries
+            put-in ∙ ap (put (table_entries given v)) (entry' ∙ last) ∙ ap (λ xs. put xs (moved_on Script e (end_progress end))) wider-entries
 
-        pub parked-put : IsPutBackThere given (state_after given Script t at) t u (at ∷ [])
-        parked-put =
-            let len = ap length d.put_back.slots ∙ Rattle.std.proofs.Common.length-set v.slots.items at d.new in
-            record {
-              table = parked-table given v u a.table wider-distinct at begun numbers d waits are;
-              entries = parked-moved ∙ sym after-entries;
-              ready = d.put_back.rest.1 ∙ a.rest.0;
-              keys_kept = λ k p h. rw d.put_back.rest.0 (a.keys_kept k p h);
-              within = λ k m. elim m [
-                | inl here ↦ omega (arith, here, len, slice_get-below_some v.slots.items at may.slot there-still)
-                | inr none ↦ absurd none
-              ];
-              watched = parked-watched given v u a.table wider-distinct at begun numbers d waits are (a.watched [] may.at_rest.watched);
-            }
+        pub suspended-table : IsTableOf given u
+        suspended-table = parked-table given v u a.table wider-distinct at begun on d waits are
+
+        pub suspended-standing : IsStandingTable given u
+        suspended-standing =
+            let P : List Entry → Type 0 = AreStanding r given.request in
+            (given.request, subst P (sym (parked-moved ∙ sym after-entries)) after-sound.standing)
+
+        -- and what could go on did
+        pub suspended-put : (x : Table) → IsSettled given u x → IsPutBackThere given (state_after given Script t at) t x
+        suspended-put x settled = record {
+          table = settled.0.table;
+          entries = settled.0.entries ∙ parked-moved ∙ sym after-entries;
+          ready = settled.0.ready ∙ ap (λ (y : TableView). y.ready) d.put_back.schedule ∙ a.ready;
+          keys_kept = λ k p h. rw (settled.0.targets, d.put_back.targets) (a.keys_kept k p h);
+          lacks = settled.1;
+          put_back = λ k h. put-none_in_hand given v u a.table wider-distinct at d.old d.new (AtWaiting on) d.put_back
+              (λ e. let bad : AtWaiting on ≡ AtHand = e in cc) (λ j g. absurd (none-still j g)) k (settled.0.in_hand k h);
+        }

@@ -168,7 +168,7 @@ impl Board {
         if self.stopped.is_some() {
             0
         } else {
-            self.table.ready.len()
+            self.table.schedule.ready()
         }
     }
 
@@ -195,13 +195,10 @@ impl Board {
             self.new.state) }
         ensures err { OnErr result (self.new ≡ self.old) }
     {
-        let Some(at) = self.table.ready.remove(which) else {
-            unreachable!()
-        };
+        let at = self.table.schedule.take(which);
+        self.table.schedule.is_queue();
         let slot = &mut self.table.slots[at as usize];
-        let stage = mem::replace(&mut slot.stage, Stage::Out);
-        self.table.out += 1;
-        match stage {
+        match mem::replace(&mut slot.stage, Stage::Out) {
             Stage::Ready(work) => Ok(work.numbered(at)),
             _ => unreachable!(),
         }
@@ -243,7 +240,7 @@ impl Board {
         if self.stopped.is_some() {
             0
         } else {
-            self.table.out
+            self.table.schedule.out()
         }
     }
 

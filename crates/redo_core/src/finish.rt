@@ -164,10 +164,7 @@ fn came_to(
             let fact = fact.read();
             Ok((copied(fact.outcome())?, Arc::try_clone(fact.deps())?))
         }
-        Stage::Waiting(parked) => Ok((
-            Outcome::Cyclic,
-            Arc::new(alloc, parked.begun.job.record()?)?,
-        )),
+        Stage::Waiting(begun) => Ok((Outcome::Cyclic, Arc::new(alloc, begun.job.record()?)?)),
         Stage::Checking(awaiting) => {
             let seen = awaiting.held.check.seen(alloc, given)?;
             Ok((Outcome::Cyclic, Arc::new(alloc, seen)?))

@@ -7,8 +7,9 @@
 //! `redo_rules` for what it is given, on `redo_step` for what a script does, on `redo_record` for outcomes and
 //! records, on `redo_which` and `redo_tree` for rules and sources, on `redo_report` for what a build came to, on
 //! `redo_past` for what a run takes over, on `redo_skip` for what a book is used for, on `redo_script` and
-//! `redo_path`, on `redo_names`, which numbers targets by first sight, and on `redo_sync` for write-once cells. It
-//! starts no thread and runs nothing by itself: a layer above takes, advances and hands in.
+//! `redo_path`, on `redo_names`, which numbers targets by first sight, on `redo_table` for who waits for whom, and on
+//! `redo_sync` for write-once cells. It starts no thread and runs nothing by itself: a layer above takes, advances and
+//! hands in.
 //!
 //! - `laws`: what a board has taken, as the contract of a function that does nothing.
 //! - `board`: the board; `table`, `moves` and `begin` are its inside, and `same` compares by value; `opening`: why none

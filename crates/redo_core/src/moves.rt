@@ -1,9 +1,10 @@
 //! What the opening, a hand-in and looks do to the table.
-ghost use Rattle.std.specs.Prelude.{◌≡◌, ◌<◌, ℕ, [], length, IfOk, OnOk, Err};
+ghost use Rattle.std.specs.Prelude.{◌≡◌, ◌<◌, ℕ, length, IfOk, OnOk, Err};
 ghost use Rattle.redo_rules.specs.Build.{rules_for};
-ghost use Rattle.redo_core.specs.inside.Slots.{IsPlace, AreNumbers, IsTableOf, IsStandingTable, AreEnteredInto};
-ghost use Rattle.redo_core.specs.inside.Slots.{AreTooMany, AreLookedAt, AreEnqueued, MayTakeIn, IsPutBackThere};
-ghost use Rattle.redo_core.specs.inside.Slots.{IsTakenIn, IsFirstTable, targets_in, table_entries, state_after};
+ghost use Rattle.redo_table.specs.Table.{NoneDue};
+ghost use Rattle.redo_core.specs.inside.Slots.{AreNumbers, IsTableOf, AreEnteredInto};
+ghost use Rattle.redo_core.specs.inside.Slots.{AreTooMany, MayTakeIn, IsPutBackThere};
+ghost use Rattle.redo_core.specs.inside.Slots.{IsTakenIn, IsFirstTable, targets_in, state_after};
 ghost use Rattle.redo_core.specs.inside.Slots.{MayConclude, IsConcludedAt, MayLook, IsDrawn, IsLookedOnce, IsAtRest};
 ghost use Rattle.redo_core.specs.inside.Slots.{IsLookedOn, IsMovedOn};
 ghost use Rattle.redo_build.specs.Outcomes.{IsTooMany};
@@ -18,8 +19,8 @@ use crate::table::{Awaiting, InCheck, Table};
 use crate::work::{Begun, End};
 use redo_names::PathSet;
 use redo_path::Path;
+use redo_table::Table as Schedule;
 use std::alloc::{AllocError, Global};
-use std::collections::{BTreeSet, VecDeque};
 use std::sync::Arc;
 
 impl Table {
@@ -38,10 +39,7 @@ impl Table {
         let mut table = Table {
             targets,
             slots,
-            ready: VecDeque::new(alloc),
-            due: BTreeSet::new(alloc),
-            out: 0,
-            newly_ready: Vec::new(alloc),
+            schedule: Schedule::new(alloc),
         };
         let request = build.given().request();
         table.enter_requested(request, build)?;
@@ -54,9 +52,7 @@ impl Table {
         requires table { IsTableOf build.now self.old }
         ensures ok { OnOk result (AreEnteredInto build.now self.old self.new paths.now) }
         ensures numbers { IfOk result (λ ns. AreNumbers self.new.targets ns.items paths.now) }
-        ensures too_many { result ≡ Err Stop.TooMany →
-            AreTooMany (rules_for build.now) build.now.limits.targets
-            (table_entries (rules_for build.now) build.now.limits.targets self.old) paths.now }
+        ensures too_many { result ≡ Err Stop.TooMany → AreTooMany build.now self.old paths.now }
     {
         let mut numbers = Vec::with_capacity(self.allocator(), paths.len())?;
         for path in paths {
@@ -66,44 +62,17 @@ impl Table {
         Ok(numbers)
     }
 
-    /// Looks again at some numbers.
-    fn settle_all(&mut self, pending: &[u32], build: &Build) -> Result<(), AllocError>
-        requires within { (k : ℕ) → IsPlace pending.now k → k < length self.old.slots.items }
-        requires table { IsTableOf build.now self.old }
-        requires standing { IsStandingTable build.now self.old }
-        ensures table { OnOk result (IsTableOf build.now self.new) }
-        ensures looked { OnOk result (AreLookedAt build.now self.old self.new pending.now) }
-    {
-        for at in pending {
-            self.settle(*at, build)?;
-        }
-        Ok(())
-    }
-
-    /// Moves the newly ready numbers behind the queue, in order of first sight.
-    fn enqueue(&mut self) -> Result<(), AllocError>
-        ensures { OnOk result (AreEnqueued self.old self.new) }
-    {
-        self.newly_ready.sort_unstable();
-        let ready = &mut self.ready;
-        for at in &self.newly_ready {
-            ready.push_back(*at)?;
-        }
-        self.newly_ready.clear();
-        Ok(())
-    }
-
-    /// Decides a target that was out by its fact, and looks again at what watches it.
+    /// Decides a target that was out by its fact, and lets what waited for it go on.
     fn conclude(&mut self, at: usize, fact: Fact, build: &Build) -> Result<(), AllocError>
         requires { MayConclude build.now self.old at fact }
         ensures { OnOk result (IsConcludedAt build.now self.old self.new at fact) }
     {
         let known = build.publish(at, fact)?;
-        let watchers = self.decide(at, known);
-        self.settle_all(&watchers, build)
+        self.decide(at, known)?;
+        self.settle(build)
     }
 
-    /// Enters the paths that a stopped job waits for, parks the job, and looks at it.
+    /// Enters the paths that a stopped job waits for, parks the job, and lets it go on if all of them are decided.
     fn suspend(
         &mut self,
         at: usize,
@@ -113,13 +82,13 @@ impl Table {
     ) -> Result<(), Stop>
         requires { MayTakeIn build.now self.old at (End.Stopped begun paths) }
         ensures ok { OnOk result (
-            IsPutBackThere build.now (state_after build.now Script self.old at) self.old self.new []) }
+            IsPutBackThere build.now (state_after build.now Script self.old at) self.old self.new) }
         ensures too_many { result ≡ Err Stop.TooMany →
             build.now.limits.targets < length (state_after build.now Script self.old at).entries }
     {
         let operands = self.enter_all(&paths, build)?;
-        self.park(at, begun, operands);
-        self.settle(at as u32, build)?;
+        self.park(at, begun, operands)?;
+        self.settle(build)?;
         Ok(())
     }
 
@@ -144,9 +113,7 @@ impl Table {
         ensures ok { OnOk result (
             AreEnteredInto build.now self.old self.new (targets_in (rules_for build.now) request.now)) }
         ensures too_many { result ≡ Err Stop.TooMany →
-            AreTooMany (rules_for build.now) build.now.limits.targets
-            (table_entries (rules_for build.now) build.now.limits.targets self.old)
-            (targets_in (rules_for build.now) request.now) }
+            AreTooMany build.now self.old (targets_in (rules_for build.now) request.now) }
     {
         for path in request {
             if build.given().is_target(path) {
@@ -161,7 +128,7 @@ impl Table {
         requires may { MayLook build.now self.old at held }
         requires stands { asks_next build.now held.value.check ≡ None }
         ensures { OnOk result (
-            IsPutBackThere build.now (state_after build.now Check self.old at) self.old self.new []) }
+            IsPutBackThere build.now (state_after build.now Check self.old at) self.old self.new) }
     {
         let alloc = self.allocator();
         let (outcome, deps) = held.check.kept(alloc, build.given())?;
@@ -171,7 +138,7 @@ impl Table {
         self.conclude(at, fact, build)
     }
 
-    /// Enters the next path that a check asks for, lets the check wait for it, and looks at the target.
+    /// Enters the next path that a check asks for, lets the check wait for it, and lets it go on if that is decided.
     fn ask(
         &mut self,
         at: usize,
@@ -182,21 +149,14 @@ impl Table {
         requires may { MayLook build.now self.old at held }
         requires asks { asks_next build.now held.value.check ≡ Some path }
         ensures ok { OnOk result (
-            IsPutBackThere build.now (state_after build.now Check self.old at) self.old self.new []) }
+            IsPutBackThere build.now (state_after build.now Check self.old at) self.old self.new) }
         ensures too_many { result ≡ Err Stop.TooMany →
             build.now.limits.targets < length (state_after build.now Check self.old at).entries }
     {
         let place = self.enter(&path, build)?;
         held.check.ask(&path)?;
-        self.await_answer(
-            at,
-            Awaiting {
-                held,
-                path,
-                at: place,
-            },
-        );
-        self.settle(at as u32, build)?;
+        self.await_answer(at, Awaiting { held, path }, place)?;
+        self.settle(build)?;
         Ok(())
     }
 
@@ -224,11 +184,11 @@ impl Table {
     pub(crate) fn look_ahead(&mut self, build: &Build) -> Result<(), Stop>
         requires { IsAtRest build.now self.old }
         ensures ok { OnOk result (IsLookedOn build.now self.old self.new) }
-        ensures none_due { OnOk result (self.new.due.keys ≡ []) }
+        ensures none_due { OnOk result (NoneDue self.new.schedule) }
         ensures too_many { result ≡ Err Stop.TooMany → IsTooMany (rules_for build.now) build.now.request
             build.now.limits.targets }
     {
-        while let Some(at) = self.due.pop_first() {
+        while let Some(at) = self.schedule.next_due() {
             self.look(at as usize, build)?;
         }
         Ok(())

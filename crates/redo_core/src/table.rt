@@ -2,14 +2,15 @@
 ghost use Rattle.std.specs.Prelude.{◌≡◌, ℕ, List, ◌↔◌, ◌<◌, ◌≤◌, ◌+◌, ◌++◌, ◌∷◌, [], OnOk, IfOk, IfSome};
 ghost use Rattle.std.specs.Prelude.{IfNone, MatchOption, length, slice_get, Some, None};
 ghost use Rattle.redo_record.specs.Paths.{IsAmong, AreDistinct};
-ghost use Rattle.redo_rules.specs.Build.{rules_for};
-ghost use Rattle.redo_core.specs.inside.Slots.{IsPlace, IsDecidedNumber, GainsOne, IsLackingAt};
-ghost use Rattle.redo_core.specs.inside.Slots.{AreDecidedFrom, is_stage_decided, is_stage_ready, is_stage_out};
-ghost use Rattle.redo_core.specs.inside.Slots.{IsOutSlotAt, IsWaitingThere, IsHeldAt, IsTableOf, IsStandingTable};
-ghost use Rattle.redo_core.specs.inside.Slots.{IsWatchAdded, IsMadeReadyAt, IsFed, IsLookedAt, IsBegun, IsPushed};
-ghost use Rattle.redo_core.specs.inside.Slots.{IsEnteredInto, IsFull, table_entries, IsDecidedAt, IsParkedAt};
-ghost use Rattle.redo_core.specs.inside.Slots.{IsOutThere, Gains, IsAnswered, IsResumedAt, GoesOnWith, IsFallen};
-ghost use Rattle.redo_core.specs.inside.Slots.{decided_slots, IsAskedAt, IsTakenOut, is_stage_due, IsDueThere};
+ghost use Rattle.redo_table.specs.Table.{stage_at};
+ghost use Rattle.redo_table.specs.Table.StageView.{InHand};
+ghost use Rattle.redo_core.specs.inside.Slots.{IsDecidedNumber, GainsOne, is_stage_decided, is_stage_out};
+ghost use Rattle.redo_core.specs.inside.Slots.{IsOutSlotAt, IsTableOf, IsStandingTable};
+ghost use Rattle.redo_core.specs.inside.Slots.{IsMadeReadyAt, IsFed, IsBegun, IsPushed, AreEnqueued};
+ghost use Rattle.redo_core.specs.inside.Slots.{IsEnteredInto, IsFull, IsDecidedAt, IsParkedAt};
+ghost use Rattle.redo_core.specs.inside.Slots.{IsOutThere, Gains, IsAnsweredCheck, IsAnsweredAt, IsGoneOnAt, IsSettled};
+ghost use Rattle.redo_core.specs.inside.Slots.{IsResumedAt, GoesOnWith, IsFallen, AreSeen};
+ghost use Rattle.redo_core.specs.inside.Slots.{decided_slots, IsAskedAt, IsTakenOut, IsDueThere};
 ghost use Rattle.redo_core.specs.inside.Works.{known_in};
 
 use crate::begin::begin;
@@ -22,9 +23,9 @@ use crate::work::{Begun, Work};
 use redo_names::PathSet;
 use redo_path::Path;
 use redo_sync::Known;
+use redo_table::{Answered, Table as Schedule};
 use redo_which::Rule;
 use std::alloc::{AllocError, Global};
-use std::collections::{BTreeSet, VecDeque};
 use std::mem;
 
 /// How far a target has come.
@@ -34,7 +35,8 @@ pub enum Stage {
     Due(Box<InCheck>),
     /// Its check waits.
     Checking(Awaiting),
-    Waiting(Parked),
+    /// Its script waits.
+    Waiting(Box<Begun>),
     Ready(Work),
     Out,
     Decided(Known<Fact>),
@@ -49,46 +51,28 @@ pub struct InCheck {
     pub facts: Facts,
 }
 
-/// A check that waits for a path, with the path's number.
+/// A check that waits for a path.
 #[derive(Drop)]
 pub struct Awaiting {
     pub held: Box<InCheck>,
     pub path: Path,
-    pub at: u32,
 }
 
-/// A job that waits.
-#[derive(Drop)]
-pub struct Parked {
-    pub begun: Box<Begun>,
-    /// The numbers of the targets that it asked for and has no facts of yet, in the order of their entries.
-    pub operands: Vec<u32>,
-    /// How many of them are decided, from the first on.
-    pub held: usize,
-}
-
-/// A target that has been seen, with how often its check and its script have stopped. Its watchers are looked at again
-/// once it is decided.
+/// A target that has been seen, with how often its check and its script have stopped.
 #[derive(Drop)]
 pub struct Slot {
     pub looks: u64,
     pub turn: u64,
-    pub watchers: Vec<u32>,
     pub stage: Stage,
 }
 
-/// The targets that have been seen, in order of first sight, with the numbers of those ready, and of those whose checks
-/// can go on.
+/// The targets that have been seen, in order of first sight. What a target holds is in its slot; which may be taken or
+/// looked at, and who waits for whom, is in the schedule, by the same numbers.
 #[derive(Drop)]
 pub struct Table {
     pub targets: PathSet,
     pub slots: Vec<Slot>,
-    pub ready: VecDeque<u32>,
-    pub due: BTreeSet<u32>,
-    pub out: usize,
-    /// The numbers that have become ready in the running event and aren't in the queue yet. There are none between
-    /// events; the room stays.
-    pub newly_ready: Vec<u32>,
+    pub schedule: Schedule,
 }
 
 impl Slot {
@@ -101,20 +85,6 @@ impl Slot {
 }
 
 impl Stage {
-    /// Whether a target may be taken.
-    pub(crate) fn is_ready(&self) -> bool
-        ensures { result ≡ is_stage_ready self.now }
-    {
-        matches!(self, Stage::Ready(_))
-    }
-
-    /// Whether the check of a target can go on.
-    pub(crate) fn is_due(&self) -> bool
-        ensures { result ≡ is_stage_due self.now }
-    {
-        matches!(self, Stage::Due(_))
-    }
-
     /// Whether the job of a target is out.
     fn is_out(&self) -> bool
         ensures { result ≡ is_stage_out self.now }
@@ -165,42 +135,6 @@ impl Table {
         None
     }
 
-    /// The first undecided target among these numbers, from index `from` on: its index and its number.
-    fn next_lacking(&self, operands: &[u32], from: usize) -> Option<(usize, usize)>
-        requires seen { (k : ℕ) → IsPlace operands.now k → k < length self.now.slots.items }
-        ensures found { IfSome result (λ f. IsLackingAt self.now operands.now from f.0 f.1) }
-        ensures none { IfNone result (AreDecidedFrom self.now operands.now from (length operands.now)) }
-    {
-        for i in from..operands.len() {
-            let at = operands[i] as usize;
-            if !self.slots[at].is_decided() {
-                return Some((i, at));
-            }
-        }
-        None
-    }
-
-    /// Notes how far the operands of a parked job were looked at.
-    fn hold(&mut self, at: usize, held: usize)
-        requires { IsWaitingThere self.old at }
-        ensures { IsHeldAt self.old self.new at held }
-    {
-        let slot = &mut self.slots[at];
-        if let Stage::Waiting(parked) = &mut slot.stage {
-            parked.held = held;
-        }
-    }
-
-    /// Notes at an undecided target that another waits for it.
-    fn watch(&mut self, at: u32, place: usize) -> Result<(), AllocError>
-        requires { place < length self.old.slots.items }
-        ensures { OnOk result (IsWatchAdded self.old self.new at place) }
-    {
-        let slot = &mut self.slots[place];
-        slot.watchers.push(at)?;
-        Ok(())
-    }
-
     /// Takes over the fact of a decided target.
     fn gain_one(&self, at: u32, facts: &mut Facts) -> Result<(), AllocError>
         requires { IsDecidedNumber self.now at }
@@ -225,45 +159,38 @@ impl Table {
         Ok(())
     }
 
-    /// Turns a parked job that has all its answers into a work.
-    fn make_ready(&mut self, at: u32, build: &Build) -> Result<(), AllocError>
+    /// Turns a job that waited for these numbers, and has its answers now, into a work.
+    fn make_ready(&mut self, at: u32, on: &[u32], build: &Build) -> Result<(), AllocError>
         requires one_each { length self.old.slots.items ≡ length self.old.targets }
-        requires fed { IsFed build.now self.old at }
+        requires in_hand { stage_at self.old.schedule at ≡ Some InHand }
+        requires fed { IsFed build.now self.old at on.now }
         ensures { OnOk result (IsMadeReadyAt build.now self.old self.new at) }
     {
         let own = build.share()?;
         let slot = &mut self.slots[at as usize];
         let stage = mem::replace(&mut slot.stage, Stage::Out);
-        let Stage::Waiting(parked) = stage else {
+        let Stage::Waiting(mut begun) = stage else {
             unreachable!()
         };
-        let Parked {
-            mut begun,
-            operands,
-            held: _,
-        } = parked;
-        self.gain(&operands, &mut begun.facts)?;
-        self.newly_ready.push(at)?;
+        self.gain(on, &mut begun.facts)?;
         let slot = &mut self.slots[at as usize];
         slot.stage = Stage::Ready(Work::of(own, begun));
-        Ok(())
+        self.schedule.make_ready(at)
     }
 
-    /// Gives a check the answer that it waited for: it can go on, or an entry falls and its target is ready.
-    fn resume(&mut self, at: u32, build: &Build) -> Result<(), AllocError>
+    /// Gives a check the answer that it waited for, which is that of the target `place`: the check can go on, or an
+    /// entry falls and its target is ready.
+    fn resume(&mut self, at: u32, place: u32, build: &Build) -> Result<(), AllocError>
         requires one_each { length self.old.slots.items ≡ length self.old.targets }
-        requires answered { IsAnswered build.now self.old at }
+        requires in_hand { stage_at self.old.schedule at ≡ Some InHand }
+        requires answered { IsAnsweredCheck build.now self.old at place }
         ensures { OnOk result (IsResumedAt build.now self.old self.new at) }
     {
         let stage = mem::replace(&mut self.slots[at as usize].stage, Stage::Out);
         let Stage::Checking(awaiting) = stage else {
             unreachable!()
         };
-        let Awaiting {
-            mut held,
-            path: _,
-            at: place,
-        } = awaiting;
+        let Awaiting { mut held, path: _ } = awaiting;
         let InCheck {
             rule: _,
             check,
@@ -271,16 +198,14 @@ impl Table {
         } = &mut *held;
         self.gain_one(place, facts)?;
         let stands = self.goes_on(place, check, build)?;
-        let stage = if stands {
-            self.due.insert(at)?;
-            Stage::Due(held)
-        } else {
-            let target = self.targets.at(at as usize).clone()?;
-            self.newly_ready.push(at)?;
-            Stage::Ready(fallen(self.allocator(), target, held, build)?)
-        };
-        self.slots[at as usize].stage = stage;
-        Ok(())
+        if stands {
+            self.slots[at as usize].stage = Stage::Due(held);
+            return self.schedule.make_due(at);
+        }
+        let target = self.targets.at(at as usize).clone()?;
+        let work = fallen(self.allocator(), target, held, build)?;
+        self.slots[at as usize].stage = Stage::Ready(work);
+        self.schedule.make_ready(at)
     }
 
     /// Whether a check can go on with the answer of a decided target.
@@ -296,32 +221,29 @@ impl Table {
         check.go_on(self.allocator(), build.given(), fact.read().outcome())
     }
 
-    /// Looks again at a target. If its script waits, it becomes ready, or watches the next path that it lacks. If its
-    /// check waits, the check goes on or falls if it has its answer, or watches the path.
-    pub(crate) fn settle(&mut self, at: u32, build: &Build) -> Result<(), AllocError>
-        requires within { at < length self.old.slots.items }
-        requires table { IsTableOf build.now self.old }
-        requires standing { IsStandingTable build.now self.old }
-        ensures table { OnOk result (IsTableOf build.now self.new) }
-        ensures looked { OnOk result (IsLookedAt build.now self.old self.new at) }
+    /// Lets a target go on that has all the answers that it waited for.
+    fn go_on(&mut self, at: u32, on: &[u32], build: &Build) -> Result<(), AllocError>
+        requires { IsAnsweredAt build.now self.old at on.now }
+        ensures { OnOk result (IsGoneOnAt build.now self.old self.new at) }
     {
         match &self.slots[at as usize].stage {
-            Stage::Waiting(parked) => match self.next_lacking(&parked.operands, parked.held) {
-                Some((held, place)) => {
-                    self.hold(at as usize, held);
-                    self.watch(at, place)
-                }
-                None => self.make_ready(at, build),
-            },
-            Stage::Checking(awaiting) => {
-                let place = awaiting.at as usize;
-                if self.slots[place].is_decided() {
-                    return self.resume(at, build);
-                }
-                self.watch(at, place)
-            }
-            _ => Ok(()),
+            Stage::Waiting(_) => self.make_ready(at, on, build),
+            Stage::Checking(_) => self.resume(at, on[0], build),
+            _ => unreachable!(),
         }
+    }
+
+    /// Lets all targets go on that have the answers that they waited for.
+    pub(crate) fn settle(&mut self, build: &Build) -> Result<(), AllocError>
+        requires table { IsTableOf build.now self.old }
+        requires standing { IsStandingTable build.now self.old }
+        ensures { OnOk result (IsSettled build.now self.old self.new) }
+    {
+        while let Some(answered) = self.schedule.next_answered()? {
+            let Answered { at, on } = answered;
+            self.go_on(at, &on, build)?;
+        }
+        Ok(())
     }
 
     /// Enters a path if it is new, and returns its number.
@@ -329,9 +251,7 @@ impl Table {
         requires table { IsTableOf build.now self.old }
         ensures ok { OnOk result (IsEnteredInto build.now self.old self.new path.now) }
         ensures number { IfOk result (λ at. slice_get self.new.targets at ≡ Some path.now) }
-        ensures too_many { result ≡ Err Stop.TooMany ↔
-            IsFull (rules_for build.now) build.now.limits.targets
-            (table_entries (rules_for build.now) build.now.limits.targets self.old) path.now }
+        ensures too_many { result ≡ Err Stop.TooMany ↔ IsFull build.now self.old path.now }
     {
         if let Some(at) = find(&self.targets, path) {
             return Ok(at as u32);
@@ -353,20 +273,18 @@ impl Table {
         requires table { IsTableOf build.now self.old }
         ensures { OnOk result (IsPushed build.now self.old self.new path.now) }
     {
-        let alloc = self.allocator();
-        let stage = begin(alloc, path, build, self.slots.len())?;
-        if stage.is_ready() {
-            self.newly_ready.push(self.slots.len() as u32)?;
-        }
-        if stage.is_due() {
-            self.due.insert(self.slots.len() as u32)?;
+        let stage = begin(self.allocator(), path, build, self.slots.len())?;
+        let at = self.schedule.add()?;
+        match &stage {
+            Stage::Due(_) => self.schedule.make_due(at)?,
+            Stage::Ready(_) => self.schedule.make_ready(at)?,
+            Stage::Decided(_) => self.schedule.decide(at)?,
+            _ => unreachable!(),
         }
         self.targets.insert(path.clone()?)?;
-        let watchers = Vec::new(alloc);
         self.slots.push(Slot {
             looks: 0,
             turn: 0,
-            watchers,
             stage,
         })?;
         Ok(())
@@ -385,32 +303,31 @@ impl Table {
         count
     }
 
-    /// Decides a target that was out, and returns the numbers to look at again.
-    pub(crate) fn decide(&mut self, at: usize, fact: Known<Fact>) -> Vec<u32>
+    /// Decides a target that was out.
+    pub(crate) fn decide(&mut self, at: usize, fact: Known<Fact>) -> Result<(), AllocError>
         requires { IsOutThere self.old at }
-        ensures { IsDecidedAt self.old self.new at fact.value result.items }
+        ensures { OnOk result (IsDecidedAt self.old self.new at fact.value) }
     {
-        let none = Vec::new(self.allocator());
         let slot = &mut self.slots[at];
         slot.stage = Stage::Decided(fact);
-        let pending = mem::replace(&mut slot.watchers, none);
-        self.out -= 1;
-        pending
+        self.schedule.decide(at as u32)
     }
 
-    /// Parks a job that was out, at its next turn, with the numbers of what it waits for. It is to be looked at then.
-    pub(crate) fn park(&mut self, at: usize, begun: Box<Begun>, operands: Vec<u32>)
-        requires { IsOutThere self.old at }
-        ensures { IsParkedAt self.old self.new at begun operands }
+    /// Parks a job that was out, at its next turn, with the numbers of what it waits for.
+    pub(crate) fn park(
+        &mut self,
+        at: usize,
+        begun: Box<Begun>,
+        operands: Vec<u32>,
+    ) -> Result<(), AllocError>
+        requires out { IsOutThere self.old at }
+        requires seen { AreSeen self.old operands.items }
+        ensures { OnOk result (IsParkedAt self.old self.new at begun operands.items) }
     {
         let slot = &mut self.slots[at];
         slot.turn += 1;
-        slot.stage = Stage::Waiting(Parked {
-            begun,
-            operands,
-            held: 0,
-        });
-        self.out -= 1;
+        slot.stage = Stage::Waiting(begun);
+        self.schedule.wait(at as u32, operands)
     }
 
     /// Takes out the check of a target that is due, for a look.
@@ -419,23 +336,39 @@ impl Table {
         ensures { IsTakenOut self.old self.new at result }
     {
         let slot = &mut self.slots[at];
-        let stage = mem::replace(&mut slot.stage, Stage::Out);
-        self.out += 1;
-        match stage {
+        match mem::replace(&mut slot.stage, Stage::Out) {
             Stage::Due(held) => held,
             _ => unreachable!(),
         }
     }
 
-    /// Notes what a check that was taken out waits for. Its target is to be looked at then.
-    pub(crate) fn await_answer(&mut self, at: usize, awaiting: Awaiting)
-        requires { IsOutThere self.old at }
-        ensures { IsAskedAt self.old self.new at awaiting }
+    /// Lets a check that was taken out wait for the target of the number `place`.
+    pub(crate) fn await_answer(
+        &mut self,
+        at: usize,
+        awaiting: Awaiting,
+        place: u32,
+    ) -> Result<(), AllocError>
+        requires out { IsOutThere self.old at }
+        requires seen { place < length self.old.schedule.stages }
+        ensures { OnOk result (IsAskedAt self.old self.new at awaiting place) }
     {
+        let mut on = Vec::with_capacity(self.allocator(), 1)?;
+        on.push(place)?;
         let slot = &mut self.slots[at];
         slot.looks += 1;
         slot.stage = Stage::Checking(awaiting);
-        self.out -= 1;
+        self.schedule.wait(at as u32, on)
+    }
+
+    /// Puts what is ready and isn't in the queue behind it, in order of first sight.
+    pub(crate) fn enqueue(&mut self) -> Result<(), AllocError>
+        ensures { OnOk result (AreEnqueued self.old self.new) }
+    {
+        self.schedule.is_queue();
+        self.schedule.enqueue()?;
+        self.schedule.is_queue();
+        Ok(())
     }
 }
 

@@ -47,7 +47,7 @@ abbrev pub IsShown : GivenView → Stage → Outcome → List Dep → Type 0
 IsShown given (Due held) outcome deps = ⊥
 IsShown given (Checking awaiting) outcome deps =
     (outcome ≡ Cyclic) × (deps ≡ seen_entries given awaiting.held.value.check)
-IsShown given (Waiting parked) outcome deps = (outcome ≡ Cyclic) × (deps ≡ record_so_far parked.begun.value.job)
+IsShown given (Waiting begun) outcome deps = (outcome ≡ Cyclic) × (deps ≡ record_so_far begun.value.job)
 IsShown given (Ready work) outcome deps = ⊥
 IsShown given Out outcome deps = ⊥
 IsShown given (Decided fact) outcome deps = (outcome ≡ fact.value.outcome) × (deps ≡ fact.value.deps)
@@ -55,7 +55,7 @@ IsShown given (Decided fact) outcome deps = (outcome ≡ fact.value.outcome) × 
 abbrev pub is_settled : Stage → Bool
 is_settled (Due held) = false
 is_settled (Checking awaiting) = true
-is_settled (Waiting parked) = true
+is_settled (Waiting begun) = true
 is_settled (Ready work) = false
 is_settled Out = false
 is_settled (Decided fact) = true
@@ -68,7 +68,7 @@ AllSettled t = (k : ℕ) (slot : Slot) → slice_get t.slots.items k ≡ Some sl
 abbrev pub IsTold : GivenView → Stage → Type 0
 IsTold given (Due held) = Unit {0}
 IsTold given (Checking awaiting) = awaiting.held.value.check.number < length given.past.book
-IsTold given (Waiting parked) = Unit {0}
+IsTold given (Waiting begun) = Unit {0}
 IsTold given (Ready work) = Unit {0}
 IsTold given Out = Unit {0}
 IsTold given (Decided fact) = Unit {0}
@@ -81,7 +81,7 @@ AllTold given t = (k : ℕ) (slot : Slot) → slice_get t.slots.items k ≡ Some
 abbrev pub IsBegunAs : Stage → Bool → Type 0
 IsBegunAs (Due held) begun = ⊥
 IsBegunAs (Checking awaiting) begun = begun ≡ false
-IsBegunAs (Waiting parked) begun = begun ≡ true
+IsBegunAs (Waiting held) begun = begun ≡ true
 IsBegunAs (Ready work) begun = ⊥
 IsBegunAs Out begun = ⊥
 IsBegunAs (Decided fact) begun =

@@ -1,10 +1,12 @@
 -- How a board keeps its entries.
 use Rattle.std.specs.Prelude.{◌≡◌, ◌⊎◌, ℕ, ◌+◌, ◌<◌, ◌≤◌, Bool, true, false, not, List, [], ◌∷◌, ◌++◌, Option, Some}
 use Rattle.std.specs.Prelude.{None, IsNone, if◌then◌else◌, map, length, filter, slice_get, slice_set}
-use Rattle.std.specs.Prelude.{count_by, unwrap_or, IsSorted, IsPermutation, Box}
-use Rattle.std.specs.Ordering.{nat_cmp}
+use Rattle.std.specs.Prelude.{count_by, unwrap_or, Box}
 use Rattle.std.specs.declared.alloc.Global.{Global}
-use Rattle.std.specs.declared.vec.Vec.{Vec}
+use Rattle.redo_table.specs.Table.{StageView, TableView, with_stage, with_target, stage_at, times, NoneDue, IsOpen}
+use Rattle.redo_table.specs.Table.{IsFirstDue, IsAnswered, EachLacks, IsQueue, IsEnqueued}
+use Rattle.redo_table.specs.Table.StageView.{Due as AtDue, Ready as AtReady, Out as AtOut, InHand as AtHand}
+use Rattle.redo_table.specs.Table.StageView.{Waiting as AtWaiting, Decided as AtDecided}
 use Rattle.redo_build.specs.Rules.{Ask, Rules, Extends, operands}
 use Rattle.redo_rules.specs.Build.{GivenView, rules_for, sources_for}
 use Rattle.redo_core.specs.inside.Works.{IsUnreadWork, all_asked, found_as, told_in, AddsFact, IsJobOf, GoesOn}
@@ -19,7 +21,6 @@ use Rattle.redo_build.specs.Schedule.{Entry, State, outcomes_of, entry_of, nothi
 use Rattle.redo_build.specs.Schedule.{opening, put}
 use Rattle.redo_build.specs.Looking.{looked, looked_once}
 use Rattle.redo_which.specs.Rule.{found_of}
-use Rattle.std.specs.BTreeSet.{insert_key}
 use Rattle.redo_core.specs.inside.Checking.{IsBegunBehind, IsDueCheck, IsWaitingCheck}
 use Rattle.redo_core.specs.declared.check.Check.{Check}
 use Rattle.redo_core.specs.declared.table.Awaiting.{Awaiting}
@@ -28,7 +29,6 @@ use Rattle.redo_build.specs.Schedule.{Phase}
 use Rattle.redo_core.specs.inside.Ends.{IsEndAt}
 use Rattle.redo_core.specs.declared.work.End.{End}
 use Rattle.redo_core.specs.declared.table.Table.{Table}
-use Rattle.redo_core.specs.declared.table.Parked.{Parked}
 use Rattle.redo_core.specs.declared.work.Work.{Work}
 use Rattle.redo_core.specs.declared.work.Begun.{Begun}
 use Rattle.redo_build.specs.inside.Standing.{AreStanding}
@@ -44,7 +44,7 @@ use Rattle.redo_record.specs.declared.outcome.Outcome.{Outcome}
 abbrev pub stage_outcome : Stage → Option Outcome
 stage_outcome (Due held) = None
 stage_outcome (Checking awaiting) = None
-stage_outcome (Waiting work) = None
+stage_outcome (Waiting begun) = None
 stage_outcome (Ready work) = None
 stage_outcome Out = None
 stage_outcome (Decided fact) = Some fact.value.outcome
@@ -52,7 +52,7 @@ stage_outcome (Decided fact) = Some fact.value.outcome
 abbrev pub is_stage_out : Stage → Bool
 is_stage_out (Due held) = false
 is_stage_out (Checking awaiting) = false
-is_stage_out (Waiting work) = false
+is_stage_out (Waiting begun) = false
 is_stage_out (Ready work) = false
 is_stage_out Out = true
 is_stage_out (Decided fact) = false
@@ -65,10 +65,14 @@ rounds_of slot = slot.looks + slot.turn
 abbrev pub stage_deps : Rules → Ask → List ℕ → ℕ → Stage → List Dep
 stage_deps r a p rounds (Due held) = held.value.check.asked
 stage_deps r a p rounds (Checking awaiting) = awaiting.held.value.check.asked
-stage_deps r a p rounds (Waiting parked) = all_asked parked.begun.value.job parked.begun.value.facts
+stage_deps r a p rounds (Waiting begun) = all_asked begun.value.job begun.value.facts
 stage_deps r a p rounds (Ready work) = work.deps
 stage_deps r a p rounds Out = deps_at_turn r p a rounds
 stage_deps r a p rounds (Decided fact) = (r.progress p a).deps
+
+-- the build's outcomes at its limit, where it has every outcome that is known
+abbrev pub outcomes_at_limit : GivenView → Ask
+outcomes_at_limit given = outcome_at (rules_for given) given.limits.targets
 
 -- the entry that the slot of a path stands for, given the known outcomes
 abbrev pub slot_entry : Rules → Ask → List ℕ → Slot → Entry
@@ -93,8 +97,9 @@ path_at ps i = unwrap_or (slice_get ps i) []
 abbrev pub entries_from : Rules → ℕ → List (List ℕ) → List Slot → List Entry
 entries_from r depth ps slots = slot_entries r (outcome_at r depth) ps slots
 
-abbrev pub table_entries : Rules → ℕ → Table → List Entry
-table_entries r depth t = entries_from r depth t.targets t.slots.items
+-- the entries that a table of a build stands for
+abbrev pub table_entries : GivenView → Table → List Entry
+table_entries given t = entries_from (rules_for given) given.limits.targets t.targets t.slots.items
 
 -- the state that a table stands for
 abbrev pub state_from : Rules → ℕ → List (List ℕ) → List Slot → List ℕ → State
@@ -103,8 +108,8 @@ state_from r depth ps slots ready = record {
   ready = map (path_at ps) ready;
 }
 
-abbrev pub table_state : Rules → ℕ → Table → State
-table_state r depth t = state_from r depth t.targets t.slots.items t.ready.items
+abbrev pub table_state : GivenView → Table → State
+table_state given t = state_from (rules_for given) given.limits.targets t.targets t.slots.items t.schedule.ready
 
 abbrev pub rules_inside : Inside → Rules
 rules_inside b = rules_for b.build
@@ -112,15 +117,11 @@ rules_inside b = rules_for b.build
 -- the state that a board keeps
 abbrev pub state_of : Inside → State
 state_of b = state_from (rules_inside b) b.build.limits.targets b.table.targets b.table.slots.items
-    b.table.ready.items
+    b.table.schedule.ready
 
 -- the work is of this build, this path and this turn
 abbrev pub IsParked : GivenView → List ℕ → ℕ → WorkView → Type 0
 IsParked given p turn work = (work.given ≡ given) × (work.target ≡ p) × (work.turn ≡ turn)
-
--- the first i paths have answers
-abbrev pub AnsweredBelow : Ask → List (List ℕ) → ℕ → Type 0
-AnsweredBelow a qs i = (k : ℕ) (q : List ℕ) → k < i → slice_get qs k ≡ Some q → a q ≡ None → ⊥
 
 -- the numbers are those of the paths, one for one
 abbrev pub AreNumbers : List (List ℕ) → List ℕ → List (List ℕ) → Type 0
@@ -134,20 +135,19 @@ abbrev pub AllAnswered : Rules → Ask → List Dep → Type 0
 AllAnswered r a deps = (q : List ℕ) → IsAmong (operands r deps) q → a q ≡ None → ⊥
 
 -- a job that waits, with the outcomes that it holds, which are among those known
-pub record IsWaitingWith (r : Rules) (a : Ask) (given : GivenView) (p : List ℕ) (turn : ℕ) (parked : Parked)
+pub record IsWaitingWith (r : Rules) (a : Ask) (given : GivenView) (p : List ℕ) (turn : ℕ) (begun : Begun)
     : Type 0 where
-  pub is_job : IsJobOf given parked.begun.value.job
-  pub of_target : parked.begun.value.job.target ≡ p
-  pub at_turn : parked.begun.value.job.turn ≡ turn
+  pub is_job : IsJobOf given begun.job
+  pub of_target : begun.job.target ≡ p
+  pub at_turn : begun.job.turn ≡ turn
   pub stopped : 0 < turn
-  pub answered : AnsweredBelow a (waited_by r parked.begun.value) parked.held
-  pub told : (q : List ℕ) (o : Outcome) → told_in parked.begun.value.facts q ≡ Some o →
-      IsAmong (operands r (all_asked parked.begun.value.job parked.begun.value.facts)) q × (a q ≡ Some o)
-  pub behind : IsBegunBehind given p parked.begun.value.facts.asked (told_in parked.begun.value.facts)
-  pub checked : AllAnswered r (told_in parked.begun.value.facts) parked.begun.value.facts.asked
-  pub goes_on : GoesOn parked.begun.value.job (told_in parked.begun.value.facts)
-  pub own : (sources_for given).progress p (told_in parked.begun.value.facts) ≡
-      record { outcome = None; deps = record_so_far parked.begun.value.job }
+  pub told : (q : List ℕ) (o : Outcome) → told_in begun.facts q ≡ Some o →
+      IsAmong (operands r (all_asked begun.job begun.facts)) q × (a q ≡ Some o)
+  pub behind : IsBegunBehind given p begun.facts.asked (told_in begun.facts)
+  pub checked : AllAnswered r (told_in begun.facts) begun.facts.asked
+  pub goes_on : GoesOn begun.job (told_in begun.facts)
+  pub own : (sources_for given).progress p (told_in begun.facts) ≡
+      record { outcome = None; deps = record_so_far begun.job }
 
 -- a target in check before its script is begun, with its rule
 pub record IsHeldWith (given : GivenView) (p : List ℕ) (turn : ℕ) (held : InCheck) : Type 0 where
@@ -177,7 +177,7 @@ pub record IsCheckingWith (r : Rules) (a : Ask) (given : GivenView) (p : List �
 abbrev pub Fits : Rules → Ask → GivenView → List ℕ → ℕ → Stage → Type 0
 Fits r a given p turn (Due held) = IsDueWith r a given p turn held.value
 Fits r a given p turn (Checking awaiting) = IsCheckingWith r a given p turn awaiting
-Fits r a given p turn (Waiting parked) = IsWaitingWith r a given p turn parked
+Fits r a given p turn (Waiting begun) = IsWaitingWith r a given p turn begun.value
 Fits r a given p turn (Ready work) =
     IsParked given p turn work × AllAnswered r a work.deps ×
     (r.begins p (only (operands r work.deps) a) ≡ true)
@@ -185,22 +185,25 @@ Fits r a given p turn Out = Unit {0}
 Fits r a given p turn (Decided fact) =
     (fact.value.given ≡ given) × (fact.value.target ≡ p)
 
--- a check or a job that waits has the numbers of what it waits for
-abbrev pub IsNumbered : Rules → List (List ℕ) → Stage → Type 0
-IsNumbered r ps (Due held) = Unit {0}
-IsNumbered r ps (Checking awaiting) = slice_get ps awaiting.at ≡ Some awaiting.path
-IsNumbered r ps (Waiting parked) = AreNumbers ps parked.operands.items (waited_by r parked.begun.value)
-IsNumbered r ps (Ready work) = Unit {0}
-IsNumbered r ps Out = Unit {0}
-IsNumbered r ps (Decided fact) = Unit {0}
+-- the schedule has the stage of a slot, and what waits has the numbers of what it waits for
+abbrev pub Agrees : Rules → List (List ℕ) → Stage → StageView → Type 0
+Agrees r ps (Due held) s = s ≡ AtDue
+Agrees r ps (Checking awaiting) s = (n : ℕ) × (s ≡ AtWaiting (n ∷ [])) × (slice_get ps n ≡ Some awaiting.path)
+Agrees r ps (Waiting begun) s = (on : List ℕ) × (s ≡ AtWaiting on) × AreNumbers ps on (waited_by r begun.value)
+Agrees r ps (Ready work) s = s ≡ AtReady
+Agrees r ps Out s = (s ≡ AtOut) ⊎ (s ≡ AtHand)
+Agrees r ps (Decided fact) s = s ≡ AtDecided
 
-abbrev pub AllNumbered : Rules → List (List ℕ) → List Slot → Type 0
-AllNumbered r ps slots = (k : ℕ) (slot : Slot) → slice_get slots k ≡ Some slot → IsNumbered r ps slot.stage
+-- there are as many slots as stages, and each has its own
+pub record AreAgreed (r : Rules) (ps : List (List ℕ)) (slots : List Slot) (stages : List StageView) : Type 0 where
+  pub one_each : length stages ≡ length slots
+  pub each : (k : ℕ) (slot : Slot) (s : StageView) → slice_get slots k ≡ Some slot → slice_get stages k ≡ Some s →
+      Agrees r ps slot.stage s
 
 abbrev pub is_stage_ready : Stage → Bool
 is_stage_ready (Due held) = false
 is_stage_ready (Checking awaiting) = false
-is_stage_ready (Waiting parked) = false
+is_stage_ready (Waiting begun) = false
 is_stage_ready (Ready work) = true
 is_stage_ready Out = false
 is_stage_ready (Decided fact) = false
@@ -208,7 +211,7 @@ is_stage_ready (Decided fact) = false
 abbrev pub is_stage_waiting : Stage → Bool
 is_stage_waiting (Due held) = false
 is_stage_waiting (Checking awaiting) = true
-is_stage_waiting (Waiting parked) = true
+is_stage_waiting (Waiting begun) = true
 is_stage_waiting (Ready work) = false
 is_stage_waiting Out = false
 is_stage_waiting (Decided fact) = false
@@ -216,88 +219,44 @@ is_stage_waiting (Decided fact) = false
 abbrev pub is_stage_due : Stage → Bool
 is_stage_due (Due held) = true
 is_stage_due (Checking awaiting) = false
-is_stage_due (Waiting parked) = false
+is_stage_due (Waiting begun) = false
 is_stage_due (Ready work) = false
 is_stage_due Out = false
 is_stage_due (Decided fact) = false
-
-abbrev pub IsPlace : List ℕ → ℕ → Type 0
-IsPlace [] k = ⊥
-IsPlace (i ∷ is) k = (i ≡ k) ⊎ IsPlace is k
-
-abbrev pub ArePlacesOnce : List ℕ → Type 0
-ArePlacesOnce [] = Unit {0}
-ArePlacesOnce (i ∷ is) = (IsPlace is i → ⊥) × ArePlacesOnce is
-
--- the number is among the watchers of an undecided path that these entries wait for
-pub record IsWatched (r : Rules) (ps : List (List ℕ)) (slots : List Slot) (k : ℕ) (deps : List Dep) : Type 0 where
-  pub at : ℕ
-  pub other : Slot
-  pub there : slice_get slots at ≡ Some other
-  pub is_open : stage_outcome other.stage ≡ None
-  pub listed : IsPlace other.watchers.items k
-  pub asked : IsAmong (operands r deps) (path_at ps at)
-
--- the numbers of those ready: in the queue, or newly ready and not in it yet
-pub record IsQueue (slots : List Slot) (ready newly_ready : List ℕ) : Type 0 where
-  pub ready_below : (k : ℕ) → IsPlace ready k → k < length slots
-  pub newly_ready_below : (k : ℕ) → IsPlace newly_ready k → k < length slots
-  pub ready_is : (k : ℕ) (slot : Slot) → IsPlace ready k ⊎ IsPlace newly_ready k → slice_get slots k ≡ Some slot →
-      is_stage_ready slot.stage ≡ true
-  pub ready_in : (k : ℕ) (slot : Slot) → slice_get slots k ≡ Some slot → is_stage_ready slot.stage ≡ true →
-      IsPlace ready k ⊎ IsPlace newly_ready k
-  pub apart : (k : ℕ) → IsPlace ready k → IsPlace newly_ready k → ⊥
-  pub once : ArePlacesOnce newly_ready
-
--- the numbers of those whose check can go on
-pub record AreDue (slots : List Slot) (due : List ℕ) : Type 0 where
-  pub below : (k : ℕ) → IsPlace due k → k < length slots
-  pub due_is : (k : ℕ) (slot : Slot) → IsPlace due k → slice_get slots k ≡ Some slot → is_stage_due slot.stage ≡ true
-  pub due_in : (k : ℕ) (slot : Slot) → slice_get slots k ≡ Some slot → is_stage_due slot.stage ≡ true → IsPlace due k
-
--- everything that waits is watched, except the numbers still to be looked at
-abbrev pub AllWatched : Rules → ℕ → List (List ℕ) → List Slot → List ℕ → Type 0
-AllWatched r depth ps slots pending =
-    (k : ℕ) (slot : Slot) → slice_get slots k ≡ Some slot → is_stage_waiting slot.stage ≡ true →
-    IsPlace pending k ⊎ IsWatched r ps slots k
-    (stage_deps r (outcome_at r depth) (path_at ps k) (rounds_of slot) slot.stage)
 
 abbrev pub AllFit : Rules → ℕ → GivenView → List (List ℕ) → List Slot → Type 0
 AllFit r depth given ps slots = (k : ℕ) (slot : Slot) → slice_get slots k ≡ Some slot →
     Fits r (outcomes_of (entries_from r depth ps slots)) given (path_at ps k) slot.turn slot.stage
 
-abbrev pub AllWatchersBelow : List Slot → Type 0
-AllWatchersBelow slots =
-    (i k : ℕ) (slot : Slot) → slice_get slots i ≡ Some slot → IsPlace slot.watchers.items k → k < length slots
-
--- the invariant of a table
-pub record IsTable (r : Rules) (given : GivenView) (ps : List (List ℕ)) (slots : List Slot) (ready due : List ℕ)
-    (out : ℕ) (newly_ready : List ℕ) : Type 0 where
+-- what a table keeps: each slot fits its path, and the schedule agrees with it
+pub record IsTable (r : Rules) (given : GivenView) (ps : List (List ℕ)) (slots : List Slot) (stages : List StageView)
+    : Type 0 where
   pub one_each : length slots ≡ length ps
   pub within_limit : length slots ≤ given.limits.targets
   pub few : given.limits.targets ≤ 65536
-  pub out_counted : out ≡ length (filter (λ slot. is_stage_out slot.stage) slots)
   pub fits : AllFit r given.limits.targets given ps slots
-  pub numbered : AllNumbered r ps slots
-  pub queue : IsQueue slots ready newly_ready
-  pub due_listed : AreDue slots due
-  pub watchers_below : AllWatchersBelow slots
+  pub agreed : AreAgreed r ps slots stages
 
 abbrev pub IsTableOf : GivenView → Table → Type 0
-IsTableOf given t =
-    IsTable (rules_for given) given t.targets t.slots.items t.ready.items t.due.keys t.out t.newly_ready.items
+IsTableOf given t = IsTable (rules_for given) given t.targets t.slots.items t.schedule.stages
+
+-- a schedule between two events: each that waits lacks something, none is in hand, and all that is ready is queued
+pub record IsResting (s : TableView) : Type 0 where
+  pub lacks : EachLacks s.stages
+  pub put_back : (k : ℕ) → stage_at s k ≡ Some AtHand → ⊥
+  pub queue : IsQueue s
+  pub queued : (k : ℕ) → stage_at s k ≡ Some AtReady → 0 < times k s.ready
 
 -- the table of a state that is reached, with nothing left to do but to look at what is due
 pub record IsAtRest (given : GivenView) (t : Table) : Type 0 where
-  pub reached : IsReached (rules_for given) given.request (table_state (rules_for given) given.limits.targets t)
+  pub reached : IsReached (rules_for given) given.request (table_state given t)
   pub table : IsTableOf given t
-  pub none_newly_ready : t.newly_ready.items ≡ []
-  pub watched : AllWatched (rules_for given) given.limits.targets t.targets t.slots.items []
+  pub resting : IsResting t.schedule
 
 -- what a board keeps: a table at rest, with nothing to look at
 pub record IsKept (b : Inside) : Type 0 where
   pub at_rest : IsAtRest b.build b.table
-  pub none_due : b.table.due.keys ≡ []
+  pub none_due : NoneDue b.table.schedule
 
 -- a running board keeps what it shows; one that has stopped at the limit is of a build that needs too many targets
 pub record IsBoard (b : Inside) : Type 0 where
@@ -307,7 +266,7 @@ pub record IsBoard (b : Inside) : Type 0 where
 abbrev pub is_stage_decided : Stage → Bool
 is_stage_decided (Due held) = false
 is_stage_decided (Checking awaiting) = false
-is_stage_decided (Waiting parked) = false
+is_stage_decided (Waiting begun) = false
 is_stage_decided (Ready work) = false
 is_stage_decided Out = false
 is_stage_decided (Decided fact) = true
@@ -328,24 +287,14 @@ pub record IsDecidedSlot (t : Table) (q : List ℕ) : Type 0 where
 abbrev pub IsDecidedNumber : Table → ℕ → Type 0
 IsDecidedNumber t n = (slot : Slot) × (slice_get t.slots.items n ≡ Some slot) × (is_stage_decided slot.stage ≡ true)
 
--- the targets from one index up to another are decided
-abbrev pub AreDecidedFrom : Table → List ℕ → ℕ → ℕ → Type 0
-AreDecidedFrom t ns from to = (k n : ℕ) → from ≤ k → k < to → slice_get ns k ≡ Some n → IsDecidedNumber t n
-
--- the first index from `from` on whose target is undecided, and that target's number
-pub record IsLackingAt (t : Table) (ns : List ℕ) (from i at : ℕ) : Type 0 where
-  pub slot : Slot
-  pub after : from ≤ i
-  pub before : AreDecidedFrom t ns from i
-  pub number : slice_get ns i ≡ Some at
-  pub there : slice_get t.slots.items at ≡ Some slot
-  pub is_open : is_stage_decided slot.stage ≡ false
+-- the table has seen these numbers
+abbrev pub AreSeen : Table → List ℕ → Type 0
+AreSeen t ns = (i n : ℕ) → slice_get ns i ≡ Some n → n < length t.schedule.stages
 
 -- the invariant of the schedule holds of the entries of the table
 abbrev pub IsStandingTable : GivenView → Table → Type 0
 IsStandingTable given t =
-    (request : List (List ℕ)) ×
-    AreStanding (rules_for given) request (table_entries (rules_for given) given.limits.targets t)
+    (request : List (List ℕ)) × AreStanding (rules_for given) request (table_entries given t)
 
 -- the fact of a number whose target is decided
 abbrev pub IsFactAt : Table → ℕ → Shown FactView → Type 0
@@ -377,57 +326,26 @@ pub record GainsBelow (t : Table) (ns : List ℕ) (old new : Facts) (i : ℕ) : 
 abbrev pub Gains : Table → List ℕ → Facts → Facts → Type 0
 Gains t ns old new = GainsBelow t ns old new (length ns)
 
--- the job of a slot is parked
-abbrev pub IsWaitingThere : Table → ℕ → Type 0
-IsWaitingThere t at =
-    (slot : Slot) × (parked : Parked) × (slice_get t.slots.items at ≡ Some slot) × (slot.stage ≡ Waiting parked)
-
--- the operands of one parked job have been looked at up to `held`
-pub record IsHeldAt (t u : Table) (at held : ℕ) : Type 0 where
-  pub old : Slot
-  pub new : Slot
-  pub parked : Parked
-  pub there : slice_get t.slots.items at ≡ Some old
-  pub was : old.stage ≡ Waiting parked
-  pub is : new.stage ≡ Waiting (record parked { held = held })
-  pub looks : new.looks ≡ old.looks
-  pub turn : new.turn ≡ old.turn
-  pub watchers : new.watchers ≡ old.watchers
-  pub slots : u.slots.items ≡ slice_set t.slots.items at new
-  pub rest : (u.targets ≡ t.targets) × (u.ready ≡ t.ready) × (u.out ≡ t.out) × (u.due ≡ t.due) ×
-      (u.newly_ready ≡ t.newly_ready)
-
--- one slot has one more watcher
-pub record IsWatchAdded (t u : Table) (at place : ℕ) : Type 0 where
-  pub other : Slot
-  pub new : Slot
-  pub there : slice_get t.slots.items place ≡ Some other
-  pub looks : new.looks ≡ other.looks
-  pub turn : new.turn ≡ other.turn
-  pub stage : new.stage ≡ other.stage
-  pub listed : new.watchers.items ≡ other.watchers.items ++ at ∷ []
-  pub slots : u.slots.items ≡ slice_set t.slots.items place new
-  pub rest : (u.targets ≡ t.targets) × (u.ready ≡ t.ready) × (u.out ≡ t.out) × (u.due ≡ t.due) ×
-      (u.newly_ready ≡ t.newly_ready)
-
 -- one parked job is ready now
 pub record IsMadeReadyAt (given : GivenView) (t u : Table) (at : ℕ) : Type 0 where
   pub old : Slot
   pub new : Slot
-  pub parked : Parked
+  pub begun : Box Begun Global
   pub work : Work
   pub there : slice_get t.slots.items at ≡ Some old
-  pub was : old.stage ≡ Waiting parked
+  pub was : old.stage ≡ Waiting begun
   pub is : new.stage ≡ Ready work
   pub looks : new.looks ≡ old.looks
   pub turn : new.turn ≡ old.turn
-  pub watchers : new.watchers ≡ old.watchers
-  pub same : (work.given ≡ given) × (work.target ≡ parked.begun.value.job.target) ×
-      (work.turn ≡ parked.begun.value.job.turn) ×
-      (work.deps ≡ all_asked parked.begun.value.job parked.begun.value.facts)
+  pub same : (work.given ≡ given) × (work.target ≡ begun.value.job.target) × (work.turn ≡ begun.value.job.turn) ×
+      (work.deps ≡ all_asked begun.value.job begun.value.facts)
+  pub targets : u.targets ≡ t.targets
   pub slots : u.slots.items ≡ slice_set t.slots.items at new
-  pub newly_ready_is : u.newly_ready.items ≡ t.newly_ready.items ++ at ∷ []
-  pub rest : (u.targets ≡ t.targets) × (u.ready ≡ t.ready) × (u.out ≡ t.out) × (u.due ≡ t.due)
+  pub schedule : u.schedule ≡ with_stage t.schedule at AtReady
+
+-- where the schedule has a target that goes on
+abbrev pub next_stage : Stage → StageView
+next_stage stage = if is_stage_due stage then AtDue else AtReady
 
 -- the check of a slot has the answer that it waited for: it can go on, or its target is ready
 pub record IsResumedAt (given : GivenView) (t u : Table) (at : ℕ) : Type 0 where
@@ -437,17 +355,14 @@ pub record IsResumedAt (given : GivenView) (t u : Table) (at : ℕ) : Type 0 whe
   pub there : slice_get t.slots.items at ≡ Some old
   pub was : old.stage ≡ Checking awaiting
   pub is_open : (is_stage_due new.stage ≡ true) ⊎ (is_stage_ready new.stage ≡ true)
-  pub fits : Fits (rules_for given) (outcomes_of (table_entries (rules_for given) given.limits.targets t)) given
-      (path_at t.targets at) new.turn new.stage
-  pub deps : stage_deps (rules_for given) (outcome_at (rules_for given) given.limits.targets) (path_at t.targets at)
-      (rounds_of new) new.stage ≡ awaiting.held.value.check.asked
+  pub fits : Fits (rules_for given) (outcomes_of (table_entries given t)) given (path_at t.targets at) new.turn new.stage
+  pub deps : stage_deps (rules_for given) (outcomes_at_limit given) (path_at t.targets at) (rounds_of new) new.stage ≡
+      awaiting.held.value.check.asked
   pub looks : new.looks ≡ old.looks
   pub turn : new.turn ≡ old.turn
-  pub watchers : new.watchers ≡ old.watchers
+  pub targets : u.targets ≡ t.targets
   pub slots : u.slots.items ≡ slice_set t.slots.items at new
-  pub rest : (u.targets ≡ t.targets) × (u.ready ≡ t.ready) × (u.out ≡ t.out)
-  pub due_is : u.due.keys ≡ (if is_stage_due new.stage then insert_key nat_cmp t.due.keys at else t.due.keys)
-  pub newly_ready_is : u.newly_ready.items ≡ t.newly_ready.items ++ (if is_stage_ready new.stage then at ∷ [] else [])
+  pub schedule : u.schedule ≡ with_stage t.schedule at (next_stage new.stage)
 
 -- a check goes on or falls with the answer of a decided target
 pub record GoesOnWith (given : GivenView) (t : Table) (place : ℕ) (old new : Check) (stands : Bool) : Type 0 where
@@ -464,48 +379,75 @@ abbrev pub IsFallen : GivenView → List ℕ → InCheck → Type 0
 IsFallen given target held =
     IsUnreadWork given target (found_as held.rule) (record held.facts { asked = held.check.asked })
 
--- the check of this slot waits for a target that is decided
-pub record IsAnsweredAs (given : GivenView) (t : Table) (at : ℕ) (slot : Slot) (awaiting : Awaiting) : Type 0 where
+-- the check of this slot waits for the target of the number `place`, which is decided
+pub record IsAnsweredAs (given : GivenView) (t : Table) (at place : ℕ) (slot : Slot) (awaiting : Awaiting)
+    : Type 0 where
   pub there : slice_get t.slots.items at ≡ Some slot
   pub was : slot.stage ≡ Checking awaiting
   pub distinct : AreDistinct t.targets
   pub path : slice_get t.targets at ≡ Some (path_at t.targets at)
-  pub number : slice_get t.targets awaiting.at ≡ Some awaiting.path
-  pub decided : IsDecidedNumber t awaiting.at
+  pub number : slice_get t.targets place ≡ Some awaiting.path
+  pub decided : IsDecidedNumber t place
   pub fits : AllFit (rules_for given) given.limits.targets given t.targets t.slots.items
   pub standing : IsStandingTable given t
 
-abbrev pub IsAnswered : GivenView → Table → ℕ → Type 0
-IsAnswered given t at = (slot : Slot) × (awaiting : Awaiting) × IsAnsweredAs given t at slot awaiting
+abbrev pub IsAnsweredCheck : GivenView → Table → ℕ → ℕ → Type 0
+IsAnsweredCheck given t at place = (slot : Slot) × (awaiting : Awaiting) × IsAnsweredAs given t at place slot awaiting
 
--- the job parked in this slot is a work once it holds the outcomes that are known
-pub record IsFedAs (given : GivenView) (t : Table) (at : ℕ) (slot : Slot) (parked : Parked) : Type 0 where
+-- the job of this slot, which waited for these numbers, is a work once it holds the outcomes that are known
+pub record IsFedAs (given : GivenView) (t : Table) (at : ℕ) (on : List ℕ) (slot : Slot) (begun : Box Begun Global)
+    : Type 0 where
   pub there : slice_get t.slots.items at ≡ Some slot
-  pub was : slot.stage ≡ Waiting parked
+  pub was : slot.stage ≡ Waiting begun
   pub distinct : AreDistinct t.targets
-  pub waits : IsWaitingWith (rules_for given) (outcomes_of (table_entries (rules_for given) given.limits.targets t))
-      given (path_at t.targets at) slot.turn parked
+  pub waits : IsWaitingWith (rules_for given) (outcomes_of (table_entries given t)) given (path_at t.targets at) slot.turn
+      begun.value
   pub fits : AllFit (rules_for given) given.limits.targets given t.targets t.slots.items
-  pub numbered : AreNumbers t.targets parked.operands.items (waited_by (rules_for given) parked.begun.value)
-  pub rest : AreDecidedFrom t parked.operands.items parked.held (length parked.operands.items)
-  pub is_work : IsWork (rules_for given) parked.begun.value.job.target parked.begun.value.job.turn
-      (all_asked parked.begun.value.job parked.begun.value.facts)
-  pub deep : Extends (rules_for given) (outcomes_of (table_entries (rules_for given) given.limits.targets t))
-      (outcome_at (rules_for given) is_work.depth)
-  pub few : parked.begun.value.job.turn < 65536
+  pub numbered : AreNumbers t.targets on (waited_by (rules_for given) begun.value)
+  pub decided : (i n : ℕ) → slice_get on i ≡ Some n → IsDecidedNumber t n
+  pub is_work : IsWork (rules_for given) begun.value.job.target begun.value.job.turn
+      (all_asked begun.value.job begun.value.facts)
+  pub deep : Extends (rules_for given) (outcomes_of (table_entries given t)) (outcome_at (rules_for given) is_work.depth)
+  pub few : begun.value.job.turn < 65536
 
-abbrev pub IsFed : GivenView → Table → ℕ → Type 0
-IsFed given t at = (slot : Slot) × (parked : Parked) × IsFedAs given t at slot parked
+abbrev pub IsFed : GivenView → Table → ℕ → List ℕ → Type 0
+IsFed given t at on = (slot : Slot) × (begun : Box Begun Global) × IsFedAs given t at on slot begun
 
--- a number was looked at: the table shows the same entries
-pub record IsLookedAt (given : GivenView) (t u : Table) (at : ℕ) : Type 0 where
-  pub entries : table_entries (rules_for given) given.limits.targets u ≡
-      table_entries (rules_for given) given.limits.targets t
-  pub rest : (u.targets ≡ t.targets) × (u.ready ≡ t.ready) × (u.out ≡ t.out)
-  pub slots : length u.slots.items ≡ length t.slots.items
-  pub watched : (pending : List ℕ) →
-      AllWatched (rules_for given) given.limits.targets t.targets t.slots.items (at ∷ pending) →
-      AllWatched (rules_for given) given.limits.targets u.targets u.slots.items pending
+-- the target waited for these numbers, which are decided, and the schedule has just put it in hand
+pub record IsAnsweredAt (given : GivenView) (t : Table) (at : ℕ) (on : List ℕ) : Type 0 where
+  pub before : TableView
+  pub table : IsTable (rules_for given) given t.targets t.slots.items before.stages
+  pub standing : IsStandingTable given t
+  pub answered : IsAnswered before.stages at on
+  pub now : t.schedule ≡ with_stage before at AtHand
+
+-- the target in hand is due or ready now: the table shows the same entries
+pub record IsGoneOnAt (given : GivenView) (t u : Table) (at : ℕ) : Type 0 where
+  pub table : IsTableOf given u
+  pub entries : table_entries given u ≡ table_entries given t
+  pub targets : u.targets ≡ t.targets
+  pub schedule : (u.schedule ≡ with_stage t.schedule at AtDue) ⊎ (u.schedule ≡ with_stage t.schedule at AtReady)
+
+-- some targets went on: the table shows the same entries, and nothing more is in hand
+pub record IsSettling (given : GivenView) (t u : Table) : Type 0 where
+  pub table : IsTableOf given u
+  pub entries : table_entries given u ≡ table_entries given t
+  pub targets : u.targets ≡ t.targets
+  pub ready : u.schedule.ready ≡ t.schedule.ready
+  pub in_hand : (k : ℕ) → stage_at u.schedule k ≡ Some AtHand → stage_at t.schedule k ≡ Some AtHand
+
+-- all targets that could go on did
+abbrev pub IsSettled : GivenView → Table → Table → Type 0
+IsSettled given t u = IsSettling given t u × EachLacks u.schedule.stages
+
+-- a stage in which a target waits, of which settling leaves fewer
+abbrev pub is_waiting : StageView → Bool
+is_waiting AtDue = false
+is_waiting AtReady = false
+is_waiting AtOut = false
+is_waiting AtHand = false
+is_waiting (AtWaiting on) = true
+is_waiting AtDecided = false
 
 -- the first stage of a path
 abbrev pub IsBegun : GivenView → List ℕ → Stage → Type 0
@@ -513,7 +455,7 @@ IsBegun given p (Due held) =
     ((a : Ask) → IsDueWith (rules_for given) a given p 0 held.value) × (held.value.check.asked ≡ []) ×
     ((rules_for given).has_rule p ≡ true)
 IsBegun given p (Checking awaiting) = ⊥
-IsBegun given p (Waiting parked) = ⊥
+IsBegun given p (Waiting begun) = ⊥
 IsBegun given p (Ready work) =
     IsParked given p 0 work × (work.deps ≡ []) × ((rules_for given).has_rule p ≡ true) ×
     ((a : Ask) → (rules_for given).begins p a ≡ true)
@@ -523,133 +465,117 @@ IsBegun given p (Decided fact) =
     ((rules_for given).has_rule p ≡ false) ×
     (((rules_for given).progress p nothing_known).outcome ≡ Some fact.value.outcome)
 
+-- where the schedule has a path at first sight
+abbrev pub first_stage : Stage → StageView
+first_stage (Due held) = AtDue
+first_stage (Checking awaiting) = AtHand
+first_stage (Waiting begun) = AtHand
+first_stage (Ready work) = AtReady
+first_stage Out = AtHand
+first_stage (Decided fact) = AtDecided
+
 -- a new path has a slot behind the others
 pub record IsPushed (given : GivenView) (t u : Table) (p : List ℕ) : Type 0 where
   pub new : Slot
   pub begun : IsBegun given p new.stage
   pub looks : new.looks ≡ 0
   pub turn : new.turn ≡ 0
-  pub watchers : new.watchers.items ≡ []
   pub keys : u.targets ≡ t.targets ++ p ∷ []
   pub slots : u.slots.items ≡ t.slots.items ++ new ∷ []
-  pub newly_ready_is : u.newly_ready.items ≡ t.newly_ready.items ++
-      (if is_stage_ready new.stage then length t.slots.items ∷ [] else [])
-  pub due_is : u.due.keys ≡ (if is_stage_due new.stage then insert_key nat_cmp t.due.keys (length t.slots.items)
-      else t.due.keys)
-  pub rest : (u.ready ≡ t.ready) × (u.out ≡ t.out)
+  pub schedule : u.schedule ≡ with_target t.schedule (first_stage new.stage)
 
 -- the table shows the entries with these paths entered
 pub record AreEnteredInto (given : GivenView) (t u : Table) (ps : List (List ℕ)) : Type 0 where
   pub table : IsTableOf given u
-  pub entries : table_entries (rules_for given) given.limits.targets u ≡
-      entered (rules_for given) (table_entries (rules_for given) given.limits.targets t) ps
-  pub rest : (u.ready ≡ t.ready) × (u.out ≡ t.out)
+  pub entries : table_entries given u ≡ entered (rules_for given) (table_entries given t) ps
+  pub ready : u.schedule.ready ≡ t.schedule.ready
   pub keys_kept : (k : ℕ) (p : List ℕ) → slice_get t.targets k ≡ Some p → slice_get u.targets k ≡ Some p
   pub slots_kept : (k : ℕ) (slot : Slot) → slice_get t.slots.items k ≡ Some slot → slice_get u.slots.items k ≡ Some slot
-  pub watched : (pending : List ℕ) →
-      AllWatched (rules_for given) given.limits.targets t.targets t.slots.items pending →
-      AllWatched (rules_for given) given.limits.targets u.targets u.slots.items pending
+  pub stages_kept : (k : ℕ) (s : StageView) → stage_at t.schedule k ≡ Some s → stage_at u.schedule k ≡ Some s
+  pub fresh : (k : ℕ) (s : StageView) → stage_at u.schedule k ≡ Some s →
+      (stage_at t.schedule k ≡ Some s) ⊎ ((s ≡ AtDue) ⊎ ((s ≡ AtReady) ⊎ (s ≡ AtDecided)))
 
 abbrev pub IsEnteredInto : GivenView → Table → Table → List ℕ → Type 0
 IsEnteredInto given t u p = AreEnteredInto given t u (p ∷ [])
 
 -- entering the paths exceeds the limit
-abbrev pub AreTooMany : Rules → ℕ → List Entry → List (List ℕ) → Type 0
-AreTooMany r limit es ps = limit < length (entered r es ps)
+abbrev pub AreTooMany : GivenView → Table → List (List ℕ) → Type 0
+AreTooMany given t ps = given.limits.targets < length (entered (rules_for given) (table_entries given t) ps)
 
-abbrev pub IsFull : Rules → ℕ → List Entry → List ℕ → Type 0
-IsFull r limit es p = AreTooMany r limit es (p ∷ [])
+abbrev pub IsFull : GivenView → Table → List ℕ → Type 0
+IsFull given t p = AreTooMany given t (p ∷ [])
 
--- all of these numbers but those left were looked at: the table shows the same entries
-pub record AreLookedAtBelow (given : GivenView) (t u : Table) (pending left : List ℕ) : Type 0 where
-  pub entries : table_entries (rules_for given) given.limits.targets u ≡
-      table_entries (rules_for given) given.limits.targets t
-  pub rest : (u.targets ≡ t.targets) × (u.ready ≡ t.ready) × (u.out ≡ t.out)
-  pub slots : length u.slots.items ≡ length t.slots.items
-  pub watched : (more : List ℕ) →
-      AllWatched (rules_for given) given.limits.targets t.targets t.slots.items (pending ++ more) →
-      AllWatched (rules_for given) given.limits.targets u.targets u.slots.items (left ++ more)
-
-abbrev pub AreLookedAt : GivenView → Table → Table → List ℕ → Type 0
-AreLookedAt given t u pending = AreLookedAtBelow given t u pending []
-
--- the newly ready numbers are in the queue, in ascending order
+-- what is ready is in the queue, and the rest is as it was
 pub record AreEnqueued (t u : Table) : Type 0 where
-  pub sorted : List ℕ
-  pub ordered : IsSorted nat_cmp sorted
-  pub shuffled : IsPermutation t.newly_ready.items sorted
-  pub queue : u.ready.items ≡ t.ready.items ++ sorted
-  pub none_newly_ready : u.newly_ready.items ≡ []
-  pub rest : (u.targets ≡ t.targets) × (u.slots ≡ t.slots) × (u.out ≡ t.out) × (u.due ≡ t.due)
+  pub before : IsQueue t.schedule
+  pub after : IsQueue u.schedule
+  pub enqueued : IsEnqueued t.schedule u.schedule
+  pub targets : u.targets ≡ t.targets
+  pub slots : u.slots ≡ t.slots
 
 -- the stage holds this fact
 abbrev pub IsDecidedStage : FactView → Stage → Type 0
 IsDecidedStage fact (Due held) = ⊥
 IsDecidedStage fact (Checking awaiting) = ⊥
-IsDecidedStage fact (Waiting parked) = ⊥
+IsDecidedStage fact (Waiting begun) = ⊥
 IsDecidedStage fact (Ready work) = ⊥
 IsDecidedStage fact Out = ⊥
 IsDecidedStage fact (Decided held) = held.value ≡ fact
 
--- the stage holds this job, with these operands and none of them looked at
-abbrev pub IsParkedStage : Box Begun Global → Vec ℕ Global → Stage → Type 0
-IsParkedStage begun operands (Due held) = ⊥
-IsParkedStage begun operands (Checking awaiting) = ⊥
-IsParkedStage begun operands (Waiting parked) = parked ≡ record { begun = begun; operands = operands; held = 0 }
-IsParkedStage begun operands (Ready work) = ⊥
-IsParkedStage begun operands Out = ⊥
-IsParkedStage begun operands (Decided held) = ⊥
+-- the stage holds this job
+abbrev pub IsParkedStage : Box Begun Global → Stage → Type 0
+IsParkedStage begun (Due held) = ⊥
+IsParkedStage begun (Checking awaiting) = ⊥
+IsParkedStage begun (Waiting held) = held ≡ begun
+IsParkedStage begun (Ready work) = ⊥
+IsParkedStage begun Out = ⊥
+IsParkedStage begun (Decided held) = ⊥
 
--- one slot whose job was out has another stage
-pub record IsPutBack (t u : Table) (at : ℕ) (old new : Slot) : Type 0 where
+-- one slot that was out has another stage, and so has the schedule
+pub record IsPutBack (t u : Table) (at : ℕ) (old new : Slot) (s : StageView) : Type 0 where
   pub there : slice_get t.slots.items at ≡ Some old
   pub was : old.stage ≡ Out
+  pub targets : u.targets ≡ t.targets
   pub slots : u.slots.items ≡ slice_set t.slots.items at new
-  pub out : u.out + 1 ≡ t.out
-  pub rest : (u.targets ≡ t.targets) × (u.ready ≡ t.ready) × (u.due ≡ t.due) × (u.newly_ready ≡ t.newly_ready)
+  pub schedule : u.schedule ≡ with_stage t.schedule at s
 
--- a target is decided: its watchers are to be looked at
-pub record IsDecidedAt (t u : Table) (at : ℕ) (fact : FactView) (pending : List ℕ) : Type 0 where
+-- a target is decided
+pub record IsDecidedAt (t u : Table) (at : ℕ) (fact : FactView) : Type 0 where
   pub old : Slot
   pub new : Slot
-  pub put_back : IsPutBack t u at old new
+  pub put_back : IsPutBack t u at old new AtDecided
   pub stage : IsDecidedStage fact new.stage
   pub looks : new.looks ≡ old.looks
   pub turn : new.turn ≡ old.turn
-  pub watchers : new.watchers.items ≡ []
-  pub pending_is : pending ≡ old.watchers.items
 
--- a job is parked at its next turn: it is to be looked at
-pub record IsParkedAt (t u : Table) (at : ℕ) (begun : Box Begun Global) (operands : Vec ℕ Global) : Type 0 where
+-- a job is parked at its next turn, and waits for these numbers
+pub record IsParkedAt (t u : Table) (at : ℕ) (begun : Box Begun Global) (on : List ℕ) : Type 0 where
   pub old : Slot
   pub new : Slot
-  pub put_back : IsPutBack t u at old new
-  pub stage : IsParkedStage begun operands new.stage
+  pub put_back : IsPutBack t u at old new (AtWaiting on)
+  pub stage : IsParkedStage begun new.stage
   pub looks : new.looks ≡ old.looks
   pub turn : new.turn ≡ old.turn + 1
-  pub watchers : new.watchers ≡ old.watchers
 
--- the check of a target that was taken out for a look waits for a path: it is to be looked at
-pub record IsAskedAt (t u : Table) (at : ℕ) (awaiting : Awaiting) : Type 0 where
+-- the check of a target that was taken out for a look waits for the target of the number `place`
+pub record IsAskedAt (t u : Table) (at : ℕ) (awaiting : Awaiting) (place : ℕ) : Type 0 where
   pub old : Slot
   pub new : Slot
-  pub put_back : IsPutBack t u at old new
+  pub put_back : IsPutBack t u at old new (AtWaiting (place ∷ []))
   pub stage : new.stage ≡ Checking awaiting
   pub looks : new.looks ≡ old.looks + 1
   pub turn : new.turn ≡ old.turn
-  pub watchers : new.watchers ≡ old.watchers
 
--- the job of a slot is out
+-- the slot is out, and the schedule has it out or in hand
 abbrev pub IsOutThere : Table → ℕ → Type 0
 IsOutThere t at =
-    (0 < t.out) × ((slot : Slot) × (slice_get t.slots.items at ≡ Some slot) × (slot.stage ≡ Out) ×
-    (rounds_of slot < 65536))
+    IsOpen t.schedule at × ((slot : Slot) × (slice_get t.slots.items at ≡ Some slot) × (slot.stage ≡ Out) ×
+    (rounds_of slot < 65536) × (at < 65536))
 
 -- the state after the target of a number is handed in, or is looked at
 abbrev pub state_after : GivenView → Phase → Table → ℕ → State
 state_after given phase t at =
-    handed_in (rules_for given) phase (table_state (rules_for given) given.limits.targets t)
-    (entry_of (table_entries (rules_for given) given.limits.targets t) (path_at t.targets at))
+    handed_in (rules_for given) phase (table_state given t) (entry_of (table_entries given t) (path_at t.targets at))
 
 -- the table is at rest, and the end is that of the job that is out at the number
 pub record MayTakeIn (given : GivenView) (t : Table) (at : ℕ) (end : End) : Type 0 where
@@ -665,73 +591,70 @@ concluded_entry given p slot fact = record {
   path = p;
   looks = slot.looks;
   turn = slot.turn;
-  deps = ((rules_for given).progress p (outcome_at (rules_for given) given.limits.targets)).deps;
+  deps = ((rules_for given).progress p (outcomes_at_limit given)).deps;
   outcome = Some fact.outcome;
   is_out = false;
 }
 
--- the target at the number is out; with this fact of it, the invariant of the schedule holds of the entries
+-- the target at the number is out, and no other is in hand; with this fact of it, the invariant of the schedule holds of
+-- the entries
 pub record MayConclude (given : GivenView) (t : Table) (at : ℕ) (fact : FactView) : Type 0 where
   pub table : IsTableOf given t
-  pub watched : AllWatched (rules_for given) given.limits.targets t.targets t.slots.items []
   pub distinct : AreDistinct t.targets
   pub is_out : IsOutThere t at
+  pub alone : (k : ℕ) → stage_at t.schedule k ≡ Some AtHand → at ≡ k
   pub of_build : (fact.given ≡ given) × (fact.target ≡ path_at t.targets at)
   pub request : List (List ℕ)
   pub standing : (slot : Slot) → slice_get t.slots.items at ≡ Some slot →
       AreStanding (rules_for given) request
-      (put (table_entries (rules_for given) given.limits.targets t)
-      (concluded_entry given (path_at t.targets at) slot fact))
+      (put (table_entries given t) (concluded_entry given (path_at t.targets at) slot fact))
 
--- the target is decided by the fact, and what watched it was looked at
+-- the target is decided by the fact, and what waited for it went on
 pub record IsConcludedAt (given : GivenView) (t u : Table) (at : ℕ) (fact : FactView) : Type 0 where
   pub table : IsTableOf given u
   pub slot : Slot
   pub there : slice_get t.slots.items at ≡ Some slot
-  pub entries : table_entries (rules_for given) given.limits.targets u ≡
-      put (table_entries (rules_for given) given.limits.targets t)
-      (concluded_entry given (path_at t.targets at) slot fact)
-  pub ready : u.ready ≡ t.ready
+  pub entries : table_entries given u ≡
+      put (table_entries given t) (concluded_entry given (path_at t.targets at) slot fact)
+  pub ready : u.schedule.ready ≡ t.schedule.ready
   pub targets : u.targets ≡ t.targets
-  pub watched : AllWatched (rules_for given) given.limits.targets u.targets u.slots.items []
+  pub lacks : EachLacks u.schedule.stages
+  pub put_back : (k : ℕ) → stage_at u.schedule k ≡ Some AtHand → ⊥
 
--- the table shows the entries of this state, with these numbers to be looked at
-pub record IsPutBackThere (given : GivenView) (after : State) (t u : Table) (pending : List ℕ) : Type 0 where
+-- the table shows the entries of this state; each target that waits lacks something, and none is in hand
+pub record IsPutBackThere (given : GivenView) (after : State) (t u : Table) : Type 0 where
   pub table : IsTableOf given u
-  pub entries : table_entries (rules_for given) given.limits.targets u ≡ after.entries
-  pub ready : u.ready ≡ t.ready
+  pub entries : table_entries given u ≡ after.entries
+  pub ready : u.schedule.ready ≡ t.schedule.ready
   pub keys_kept : (k : ℕ) (p : List ℕ) → slice_get t.targets k ≡ Some p → slice_get u.targets k ≡ Some p
-  pub within : (k : ℕ) → IsPlace pending k → k < length u.slots.items
-  pub watched : AllWatched (rules_for given) given.limits.targets u.targets u.slots.items pending
+  pub lacks : EachLacks u.schedule.stages
+  pub put_back : (k : ℕ) → stage_at u.schedule k ≡ Some AtHand → ⊥
 
 -- the table shows this state, with nothing left to do but to look
 pub record IsTakenIn (given : GivenView) (after : State) (u : Table) : Type 0 where
   pub table : IsTableOf given u
-  pub none_newly_ready : u.newly_ready.items ≡ []
-  pub watched : AllWatched (rules_for given) given.limits.targets u.targets u.slots.items []
-  pub state : table_state (rules_for given) given.limits.targets u ≡ after
+  pub resting : IsResting u.schedule
+  pub state : table_state given u ≡ after
 
--- the first number that is due was drawn from the table at rest
+-- the first number that is due was drawn from the table at rest, and is in hand
 pub record IsDrawnFrom (given : GivenView) (whole t : Table) (at : ℕ) : Type 0 where
   pub at_rest : IsAtRest given whole
-  pub due : whole.due.keys ≡ at ∷ t.due.keys
-  pub least : (k : ℕ) → IsPlace t.due.keys k → at < k
-  pub rest : (t.targets ≡ whole.targets) × (t.slots ≡ whole.slots) × (t.ready ≡ whole.ready) × (t.out ≡ whole.out) ×
-      (t.newly_ready ≡ whole.newly_ready)
+  pub first : IsFirstDue whole.schedule at
+  pub targets : t.targets ≡ whole.targets
+  pub slots : t.slots ≡ whole.slots
+  pub schedule : t.schedule ≡ with_stage whole.schedule at AtHand
 
 abbrev pub IsDrawn : GivenView → Table → ℕ → Type 0
 IsDrawn given t at = (whole : Table) × IsDrawnFrom given whole t at
 
 -- the state after the first look that is due
 abbrev pub state_looked : GivenView → Table → State
-state_looked given t =
-    looked_once (rules_for given) (table_state (rules_for given) given.limits.targets t)
+state_looked given t = looked_once (rules_for given) (table_state given t)
 
 -- the check of the target at the number can go on
 abbrev pub IsDueThere : Table → ℕ → Type 0
 IsDueThere t at =
-    (t.out ≤ 65536) × ((slot : Slot) × (held : Box InCheck Global) × (slice_get t.slots.items at ≡ Some slot) ×
-    (slot.stage ≡ Due held))
+    (slot : Slot) × (held : Box InCheck Global) × (slice_get t.slots.items at ≡ Some slot) × (slot.stage ≡ Due held)
 
 -- the check at the number is taken out of the table
 pub record IsTakenOut (t u : Table) (at : ℕ) (held : Box InCheck Global) : Type 0 where
@@ -742,10 +665,9 @@ pub record IsTakenOut (t u : Table) (at : ℕ) (held : Box InCheck Global) : Typ
   pub is : new.stage ≡ Out
   pub looks : new.looks ≡ old.looks
   pub turn : new.turn ≡ old.turn
-  pub watchers : new.watchers ≡ old.watchers
+  pub targets : u.targets ≡ t.targets
   pub slots : u.slots.items ≡ slice_set t.slots.items at new
-  pub out : u.out ≡ t.out + 1
-  pub rest : (u.targets ≡ t.targets) × (u.ready ≡ t.ready) × (u.due ≡ t.due) × (u.newly_ready ≡ t.newly_ready)
+  pub schedule : u.schedule ≡ t.schedule
 
 -- the table is one from which a check is taken out for a look, and the check is due
 pub record MayLook (given : GivenView) (t : Table) (at : ℕ) (held : Box InCheck Global) : Type 0 where
@@ -757,21 +679,20 @@ pub record MayLook (given : GivenView) (t : Table) (at : ℕ) (held : Box InChec
 -- the table is at rest after one look
 pub record IsLookedOnce (given : GivenView) (t u : Table) : Type 0 where
   pub at_rest : IsAtRest given u
-  pub state : table_state (rules_for given) given.limits.targets u ≡ state_looked given t
+  pub state : table_state given u ≡ state_looked given t
 
 -- the table is at rest, shows this state after some looks, and has nothing more to look at
 pub record IsMovedOn (given : GivenView) (after : State) (u : Table) : Type 0 where
   pub at_rest : IsAtRest given u
   pub looks : ℕ
-  pub state : table_state (rules_for given) given.limits.targets u ≡ looked (rules_for given) looks after
-  pub none_due : u.due.keys ≡ []
+  pub state : table_state given u ≡ looked (rules_for given) looks after
+  pub none_due : NoneDue u.schedule
 
 -- looks alone led from the state of one table to that of the other, which is at rest
 pub record IsLookedOn (given : GivenView) (t u : Table) : Type 0 where
   pub at_rest : IsAtRest given u
   pub looks : ℕ
-  pub state : table_state (rules_for given) given.limits.targets u ≡
-      looked (rules_for given) looks (table_state (rules_for given) given.limits.targets t)
+  pub state : table_state given u ≡ looked (rules_for given) looks (table_state given t)
 
 -- the job of a target is out at this number, at its turn
 pub record IsOutSlotAt (t : Table) (target : List ℕ) (turn at : ℕ) : Type 0 where

@@ -1,6 +1,5 @@
 use Rattle.std.proofs.Common.{◌≡◌, sym, ◌∙◌, is_some, false}
-use Rattle.redo_core.specs.inside.Slots.{rules_inside}
-use Rattle.redo_build.specs.Outcomes.{outcome_at}
+use Rattle.redo_core.specs.inside.Slots.{outcomes_at_limit, rules_inside}
 use Rattle.redo_core.proofs.SlotLemmas.{IsNone-from, decided_count-slots}
 use Rattle.redo_core.proofs.board.Board.decided.Goals as goal
 
@@ -10,4 +9,4 @@ returns-else-is_some c =
     let on : is_some b.stopped ≡ false = sym c.is_some.ensures ∙ c.if-is_some.false in
     let kept = c.self.invariant.kept (IsNone-from b.stopped on) in
     rw (← c.self.view_is) (rw on (c.decided.ensures ∙
-    sym (decided_count-slots (rules_inside b) (outcome_at (rules_inside b) b.build.limits.targets) b.table.targets b.table.slots.items kept.at_rest.table.one_each)))
+    sym (decided_count-slots (rules_inside b) (outcomes_at_limit b.build) b.table.targets b.table.slots.items kept.at_rest.table.one_each)))

@@ -1,6 +1,5 @@
 use Rattle.std.proofs.Common.{◌≡◌, sym, ◌∙◌, is_some, false, length, rules}
-use Rattle.redo_core.specs.inside.Slots.{rules_inside}
-use Rattle.redo_build.specs.Outcomes.{outcome_at}
+use Rattle.redo_core.specs.inside.Slots.{outcomes_at_limit, rules_inside}
 use Rattle.redo_core.proofs.SlotLemmas.{IsNone-from, length-slots}
 use Rattle.redo_core.proofs.board.Board.seen.Goals as goal
 
@@ -11,4 +10,4 @@ returns-else-is_some c =
     let kept = c.self.invariant.kept (IsNone-from b.stopped on) in
     let many : c.len.result ≡ length b.table.slots.items = search rules in
     rw (← c.self.view_is) (rw on (many ∙
-    sym (length-slots (rules_inside b) (outcome_at (rules_inside b) b.build.limits.targets) b.table.targets b.table.slots.items kept.at_rest.table.one_each)))
+    sym (length-slots (rules_inside b) (outcomes_at_limit b.build) b.table.targets b.table.slots.items kept.at_rest.table.one_each)))

@@ -13,7 +13,7 @@ returns-in_err-at-clause-too_many c = λ is.
     let i = c.loop-path.path-index in
     let get = slice_get-item c.args.paths.now i c.path-item.result c.loop-path-test.true c.path-item.is in
     let err = c.in_err-at.was ∙ ap Err (sym made.1) in
-    too-many (rules_for given) (table_entries (rules_for given) c.args.build.now.limits.targets c.args.self.now) (table_entries (rules_for given) c.args.build.now.limits.targets c.loop-path.self)
+    too-many (rules_for given) (table_entries given c.args.self.now) (table_entries given c.loop-path.self)
     c.args.build.now.limits.targets c.args.paths.now i c.path-item.result get c.loop-path.invariant.0.entries (c.enter.ensures.too_many.0 err)
 
 pub loop-path-preserved : goal.loop-path-preserved

@@ -16,7 +16,7 @@ returns-in_err-enter-clause-too_many c = λ is.
     let get = slice_get-item c.args.request.now i c.path-item.result c.loop-path-test.true c.path-item.is in
     let err = c.in_err-enter.was ∙ ap Err (sym made.1) in
     let target : not ((rules_for given).is_source c.path-item.result) ≡ true = ap (λ (g : GivenView). not ((rules_for g).is_source c.path-item.result)) (sym c.given.ensures) ∙ sym c.if-is_target.ensures in
-    too-many-requested (rules_for given) (table_entries (rules_for given) c.args.build.now.limits.targets c.args.self.now) (table_entries (rules_for given) c.args.build.now.limits.targets c.loop-path.self)
+    too-many-requested (rules_for given) (table_entries given c.args.self.now) (table_entries given c.loop-path.self)
     c.args.build.now.limits.targets c.args.request.now i c.path-item.result get target c.loop-path.invariant.entries (c.enter.ensures.too_many.0 err)
 
 pub loop-path-preserved : goal.loop-path-preserved

@@ -3,17 +3,17 @@ use Rattle.redo_build.specs.Rules.{Ask}
 use Rattle.redo_core.specs.inside.Slots.{IsToldBy}
 use Rattle.redo_core.specs.Views.{told_by}
 use Rattle.redo_core.specs.inside.Works.{told_in}
-use Rattle.redo_core.proofs.SettleAllLemmas.{get-index}
+use Rattle.redo_table.proofs.SlotLemmas.{index-there}
 use Rattle.redo_core.proofs.GainSteps.{gains-step}
 use Rattle.redo_core.proofs.table.Table.gain.Goals as goal
 
 pub gain_one-requires : goal.gain_one-requires
-gain_one-requires c = c.requires c.loop-at.at-index _ (get-index c.args.operands.now c.loop-at.at-index 0 c.loop-at-test.true)
+gain_one-requires c = c.requires c.loop-at.at-index _ (index-there c.args.operands.now c.loop-at.at-index 0 c.loop-at-test.true)
 
 pub loop-at-preserved : goal.loop-at-preserved
 loop-at-preserved c =
     gains-step c.args.self.now c.args.operands.now c.reserve.new.self c.loop-at.facts c.gain_one.new.facts c.loop-at.at-index _
-    (get-index c.args.operands.now c.loop-at.at-index 0 c.loop-at-test.true) c.loop-at.invariant c.in_ok-gain_one.ensures
+    (index-there c.args.operands.now c.loop-at.at-index 0 c.loop-at-test.true) c.loop-at.invariant c.in_ok-gain_one.ensures
 
 pub returns : goal.returns
 returns c =

@@ -1,4 +1,4 @@
-use Rattle.std.proofs.Common.{[], ◌<◌, length, Err, sym, ap, subst, ◌∙◌}
+use Rattle.std.proofs.Common.{◌<◌, length, Err, sym, ap, subst, ◌∙◌}
 use Rattle.redo_build.specs.Looking.{looked_once}
 use Rattle.redo_build.specs.Schedule.{State}
 use Rattle.redo_build.specs.Schedule.Phase.{Check}
@@ -8,7 +8,8 @@ use Rattle.redo_core.specs.inside.Slots.{IsPutBackThere, MayLook, state_after}
 use Rattle.redo_core.specs.declared.table.InCheck.{InCheck}
 use Rattle.redo_core.proofs.CheckingLemmas.{number-within}
 use Rattle.redo_core.proofs.EnqueueLemmas.{taken-in}
-use Rattle.redo_core.proofs.LookSteps.{drawn-state, drawn-there, fits, look-after, look-after_entries, look-is, look-many, look-moved, look-reached}
+use Rattle.redo_core.proofs.LookLemmas.{drawn-state, drawn-there}
+use Rattle.redo_core.proofs.LookSteps.{fits, look-after, look-after_entries, look-is, look-many, look-moved, look-queue, look-reached}
 use Rattle.redo_core.proofs.LookSteps.{look-sound, look-table}
 use Rattle.redo_core.proofs.table.Table.look.Goals as goal
 use Rattle.redo_core.proofs.table.Table.look.Goals.{After-take_out-held, in-Some+in_ok-path-in-Some+in_ok-ask-in-Some, in-None+in_ok-keep-in-None}
@@ -44,15 +45,15 @@ returns-clause-ok c =
     let u = c.take_out-held.new.self in
     let at = c.args.at in
     let held = c.take_out-held.result in
-    let put : IsPutBackThere given (state_after given Check u at) u c.match-next.self [] =
+    let put : IsPutBackThere given (state_after given Check u at) u c.match-next.self =
     elim c.match-next.branch [
       | in-Some+in_ok-path-in-Some+in_ok-ask-in-Some w ↦ rw w.self-is w.in_ok-ask-in-Some.ensures.ok
       | in-None+in_ok-keep-in-None w ↦ rw w.self-is w.in_ok-keep-in-None.ensures
     ] in
     let taken = taken-in given given.request (state_after given Check u at) (look-moved given u at held (may d)) u c.match-next.self c.enqueue.new.self
-    (look-table given u at held (may d)) (look-sound given u at held (may d)).standing (look-after given u at held (may d)) (look-after_entries given u at held (may d)) put c.in_ok-enqueue.ensures in
+    (look-table given u at held (may d)) (look-queue given u at held (may d)) (look-sound given u at held (may d)).standing (look-after given u at held (may d)) (look-after_entries given u at held (may d)) put c.in_ok-enqueue.ensures in
     let R : State → Type 0 = IsReached (rules_for given) given.request in
     record {
-      at_rest = record { reached = subst R (sym taken.state) (look-reached given u at held (may d)); table = taken.table; none_newly_ready = taken.none_newly_ready; watched = taken.watched };
+      at_rest = record { reached = subst R (sym taken.state) (look-reached given u at held (may d)); table = taken.table; resting = taken.resting };
       state = taken.state ∙ look-is given u at held (may d) ∙ ap (looked_once (rules_for given)) (sym (drawn-state given c.requires.0 c.args.self.now at c.requires.1));
     }

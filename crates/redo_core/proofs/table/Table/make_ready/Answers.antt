@@ -1,7 +1,8 @@
-use Rattle.std.proofs.Common.{ℕ, List, ◌≡◌, ◌<◌, refl, sym, ap, subst, ◌∙◌, slice_get, slice_set, length, Some}
+use Rattle.std.proofs.Common.{◌≡◌, ◌<◌, refl, sym, ap, subst, ◌∙◌, slice_get, slice_set, length, Some}
 use Rattle.std.proofs.Common.{length-set, arith, rules}
 use Rattle.std.specs.Arc.{arc_value}
 use Rattle.std.specs.Vec.{with_item}
+use Rattle.std.proofs.lemmas.Result.{on_ok_weaker}
 use Rattle.redo_record.specs.Entries.{with_all}
 use Rattle.redo_core.specs.inside.Slots.{IsFedAs, Gains}
 use Rattle.redo_core.specs.inside.Works.{all_asked, job_deps}
@@ -10,7 +11,8 @@ use Rattle.redo_core.specs.Views.{WorkView}
 use Rattle.redo_core.specs.declared.table.Slot.{Slot}
 use Rattle.redo_core.specs.declared.table.Stage.TheVariants.{Ready}
 use Rattle.redo_core.proofs.SlotLemmas.{slice_get-item, slice_get-below_some}
-use Rattle.redo_core.proofs.TableLemmas.{get-set_same, set-twice}
+use Rattle.redo_core.proofs.TableLemmas.{set-twice}
+use Rattle.redo_table.proofs.SlotLemmas.{get-same}
 use Rattle.redo_core.proofs.MakeReadySteps.{fed-here, gain-decided, fed-work}
 use Rattle.redo_core.proofs.table.Table.make_ready.Goals as goal
 use Rattle.redo_core.proofs.table.Table.make_ready.Goals.{After-replace-stage}
@@ -20,7 +22,7 @@ there c = slice_get-item c.args.self.now.slots.items c.args.at c.index_mut-slot.
     (slice_get-below_some c.args.self.now.slots.items c.args.at c.requires.fed.0 c.requires.fed.2.there) c.index_mut-slot.ensures.value
 
 gone : (c : After-replace-stage) → Slot
-gone c = record { looks = c.index_mut-slot.result.now.looks; turn = c.index_mut-slot.result.now.turn; watchers = c.index_mut-slot.result.now.watchers; stage = c.replace-stage.new.dest }
+gone c = record { looks = c.index_mut-slot.result.now.looks; turn = c.index_mut-slot.result.now.turn; stage = c.replace-stage.new.dest }
 
 pub gain-requires : goal.gain-requires
 unfolding gone
@@ -28,10 +30,10 @@ gain-requires c =
     let t = c.args.self.now in
     let slot = c.index_mut-slot.result.now in
     let d = (goal.at-gain-requires c).After-replace-stage in
-    let fed : IsFedAs c.args.build.now t c.args.at slot c.in-Waiting.parked =
-    fed-here c.args.build.now t c.args.at slot c.in-Waiting.parked c.requires.fed (there d) (sym c.replace-stage.ensures.value ∙ c.in-Waiting.is) in
-    rw c.deref.ensures.value (gain-decided c.args.build.now t c.args.at slot c.in-Waiting.parked fed
-    (record t { slots = with_item t.slots c.args.at (gone d) }) (gone d) c.replace-stage.ensures.after refl refl)
+    let fed : IsFedAs c.args.build.now t c.args.at c.args.on.now slot c.in-Waiting.begun =
+    fed-here c.args.build.now t c.args.at c.args.on.now slot c.in-Waiting.begun c.requires.fed (there d) (sym c.replace-stage.ensures.value ∙ c.in-Waiting.is) in
+    gain-decided c.args.build.now t c.args.at c.args.on.now slot c.in-Waiting.begun fed
+    (record t { slots = with_item t.slots c.args.at (gone d) }) (gone d) c.replace-stage.ensures.after refl refl
 
 pub index_mut-slot-requires-2 : goal.index_mut-slot-requires-2
 index_mut-slot-requires-2 c =
@@ -44,15 +46,14 @@ of-requires c =
     let t = c.args.self.now in
     let slot = c.index_mut-slot.result.now in
     let d = (goal.at-of-requires c).After-replace-stage in
-    let fed : IsFedAs c.args.build.now t c.args.at slot c.in-Waiting.parked =
-    fed-here c.args.build.now t c.args.at slot c.in-Waiting.parked c.requires.fed (there d) (sym c.replace-stage.ensures.value ∙ c.in-Waiting.is) in
-    let inside : c.deref_mut.result.now ≡ c.in-Waiting.parked.begun.value = c.deref_mut.ensures.value in
+    let fed : IsFedAs c.args.build.now t c.args.at c.args.on.now slot c.in-Waiting.begun =
+    fed-here c.args.build.now t c.args.at c.args.on.now slot c.in-Waiting.begun c.requires.fed (there d) (sym c.replace-stage.ensures.value ∙ c.in-Waiting.is) in
+    let inside : c.deref_mut.result.now ≡ c.in-Waiting.begun.value = c.deref_mut.ensures.value in
     let own : arc_value c.in_ok-own.own ≡ c.args.build.now = c.in_ok-own.ensures in
     let u = record t { slots = with_item t.slots c.args.at (gone d) } in
-    let P : List ℕ → Type 0 = λ ns. Gains u ns c.in-Waiting.parked.begun.value.facts c.gain.new.facts in
-    let Q : Begun → Type 0 = λ b. Gains u c.deref.result.now b.facts c.gain.new.facts in
-    rw (own, inside) (fed-work c.args.build.now t c.args.at slot c.in-Waiting.parked fed
-    u (gone d) c.replace-stage.ensures.after refl refl c.gain.new.facts (subst P c.deref.ensures.value (subst Q inside c.in_ok-gain.ensures)))
+    let Q : Begun → Type 0 = λ b. Gains u c.args.on.now b.facts c.gain.new.facts in
+    rw (own, inside) (fed-work c.args.build.now t c.args.at c.args.on.now slot c.in-Waiting.begun fed
+    u (gone d) c.replace-stage.ensures.after refl refl c.gain.new.facts (subst Q inside c.in_ok-gain.ensures))
 
 pub returns : goal.returns
 unfolding gone
@@ -63,19 +64,18 @@ returns c =
     let len = length-set t.slots.items c.args.at (gone d) in
     let again = slice_get-item (slice_set t.slots.items c.args.at (gone d)) c.args.at c.index_mut-slot-2.result.now
     (omega (arith, len, slice_get-below_some t.slots.items c.args.at slot (there d))) c.index_mut-slot-2.ensures.value in
-    let both : Some (gone d) ≡ Some c.index_mut-slot-2.result.now = sym (get-set_same t.slots.items c.args.at slot (gone d) (there d)) ∙ again in
+    let both : Some (gone d) ≡ Some c.index_mut-slot-2.result.now = sym (get-same t.slots.items c.args.at slot (gone d) (there d)) ∙ again in
     let same : gone d ≡ c.index_mut-slot-2.result.now = cc in
-    record {
+    on_ok_weaker c.make_ready.result (λ now. record {
       old = slot;
-      new = record { looks = c.index_mut-slot-2.result.now.looks; turn = c.index_mut-slot-2.result.now.turn; watchers = c.index_mut-slot-2.result.now.watchers; stage = Ready c.of.result };
-      parked = c.in-Waiting.parked;
+      new = record { looks = c.index_mut-slot-2.result.now.looks; turn = c.index_mut-slot-2.result.now.turn; stage = Ready c.of.result };
+      begun = c.in-Waiting.begun;
       work = c.of.result;
       there = there d;
       was = sym c.replace-stage.ensures.value ∙ c.in-Waiting.is;
       is = refl;
       looks = ap (λ (y : Slot). y.looks) (sym same);
       turn = ap (λ (y : Slot). y.turn) (sym same);
-      watchers = ap (λ (y : Slot). y.watchers) (sym same);
       same = (
         ap (λ (w : WorkView). w.given) c.of.ensures ∙ c.in_ok-own.ensures,
         ap (λ (w : WorkView). w.target) c.of.ensures ∙ ap (λ (b : Begun). b.job.target) c.deref_mut.ensures.value,
@@ -83,7 +83,7 @@ returns c =
         ap (λ (w : WorkView). w.deps) c.of.ensures ∙ ap (λ ds. with_all ds (job_deps c.deref_mut.result.now.job)) c.in_ok-gain.ensures.asked ∙
             ap (λ (b : Begun). all_asked b.job b.facts) c.deref_mut.ensures.value,
       );
+      targets = refl;
       slots = set-twice t.slots.items c.args.at (gone d) _;
-      newly_ready_is = c.in_ok-push.ensures.items;
-      rest = (refl, refl, refl, refl);
-    }
+      schedule = now;
+    }) c.make_ready.ensures

@@ -1,52 +1,96 @@
 use Rattle.std.proofs.Common.{ℕ, List, ◌≡◌, ◌<◌, refl, sym, ap, subst, ◌∙◌, slice_set, length, Some, length-set, arith, rules}
 use Rattle.std.specs.Box.{with_value}
 use Rattle.std.specs.Vec.{with_item}
+use Rattle.std.proofs.lemmas.Result.{on_ok_weaker}
 use Rattle.redo_core.specs.Views.{WorkView}
 use Rattle.redo_core.specs.inside.Slots.{GainsOne, GoesOnWith, IsAnsweredAs, IsFallen, path_at}
 use Rattle.redo_core.specs.declared.table.InCheck.{InCheck}
 use Rattle.redo_core.specs.declared.table.Slot.{Slot}
-use Rattle.redo_core.specs.declared.table.Stage.{Stage}
+use Rattle.redo_core.specs.declared.table.Stage.TheVariants.{Due, Ready}
 use Rattle.redo_core.specs.declared.table.Table.{Table}
 use Rattle.redo_core.proofs.SlotLemmas.{slice_get-item, slice_get-below_some}
 use Rattle.redo_core.proofs.ResumeSteps.{answer-there, answered-here, check-within, due-again, held-due, held-fallen, held-ready, ready-now}
 use Rattle.redo_core.proofs.table.Table.resume.Goals as goal
-use Rattle.redo_core.proofs.table.Table.resume.Goals.{After-replace-stage, In-Checking, then-stands+in_ok-insert}
-use Rattle.redo_core.proofs.table.Table.resume.Goals.{else-stands+in_ok-target+in_ok-push+in_ok-fallen}
+use Rattle.redo_core.proofs.table.Table.resume.Goals.{After-replace-stage, In-Checking, In_ok-stands}
 
 abbrev gone : After-replace-stage → Slot
 gone c = record {
   looks = c.index_mut.result.now.looks;
   turn = c.index_mut.result.now.turn;
-  watchers = c.index_mut.result.now.watchers;
   stage = c.replace-stage.new.dest;
 }
 
 abbrev left : After-replace-stage → Table
 left c = record c.args.self.now { slots = with_item c.args.self.now.slots c.args.at (gone c) }
 
-answer : (c : In-Checking) → IsAnsweredAs c.args.build.now c.args.self.now c.args.at c.index_mut.result.now c.in-Checking.awaiting
+answer : (c : In-Checking) → IsAnsweredAs c.args.build.now c.args.self.now c.args.at c.args.place c.index_mut.result.now c.in-Checking.awaiting
 answer c =
     let below = slice_get-below_some c.args.self.now.slots.items c.args.at c.requires.answered.0 c.requires.answered.2.there in
-    answered-here c.args.build.now c.args.self.now c.args.at c.index_mut.result.now c.in-Checking.awaiting c.requires.answered
+    answered-here c.args.build.now c.args.self.now c.args.at c.args.place c.index_mut.result.now c.in-Checking.awaiting c.requires.answered
     (slice_get-item c.args.self.now.slots.items c.args.at c.index_mut.result.now below c.index_mut.ensures.value)
     (sym c.replace-stage.ensures.value ∙ c.in-Checking.is)
+
+-- the slot that is written to
+within : (c : In-Checking) → c.args.at < length (slice_set c.args.self.now.slots.items c.args.at (gone (goal.at-In-Checking c).After-replace-stage))
+within c = omega (
+  arith,
+  length-set c.args.self.now.slots.items c.args.at (gone (goal.at-In-Checking c).After-replace-stage),
+  slice_get-below_some c.args.self.now.slots.items c.args.at c.index_mut.result.now (answer c).there,
+)
+
+-- the check with its answer
+abbrev held : In_ok-stands → InCheck
+held c = record { rule = c.deref_mut.result.now.rule; check = c.goes_on.new.check; facts = c.gain_one.new.facts }
+
+gains : (c : In_ok-stands) → GainsOne (left (goal.at-In_ok-stands c).After-replace-stage) c.args.place c.in-Checking.awaiting.held.value.facts c.gain_one.new.facts
+gains c =
+    let G : InCheck → Type 0 = λ h. GainsOne (left (goal.at-In_ok-stands c).After-replace-stage) c.args.place h.facts c.gain_one.new.facts in
+    subst G c.deref_mut.ensures.value c.in_ok-gain_one.ensures
+
+goes : (c : In_ok-stands) → GoesOnWith c.args.build.now (left (goal.at-In_ok-stands c).After-replace-stage) c.args.place c.in-Checking.awaiting.held.value.check c.goes_on.new.check c.in_ok-stands.stands
+goes c =
+    let W : InCheck → Type 0 = λ h. GoesOnWith c.args.build.now (left (goal.at-In_ok-stands c).After-replace-stage) c.args.place h.check c.goes_on.new.check c.in_ok-stands.stands in
+    subst W c.deref_mut.ensures.value c.in_ok-stands.ensures
 
 pub gain_one-requires : goal.gain_one-requires
 gain_one-requires c =
     let d = (goal.at-gain_one-requires c).After-replace-stage in
-    answer-there c.args.build.now c.args.self.now c.args.at c.index_mut.result.now c.in-Checking.awaiting (answer (goal.at-gain_one-requires c).In-Checking)
+    answer-there c.args.build.now c.args.self.now c.args.at c.args.place c.index_mut.result.now c.in-Checking.awaiting (answer (goal.at-gain_one-requires c).In-Checking)
     (left d) (gone d) c.replace-stage.ensures.after refl
 
 pub goes_on-requires-clause-decided : goal.goes_on-requires-clause-decided
 goes_on-requires-clause-decided c =
     let d = (goal.at-goes_on-requires-clause-decided c).After-replace-stage in
-    answer-there c.args.build.now c.args.self.now c.args.at c.index_mut.result.now c.in-Checking.awaiting (answer (goal.at-goes_on-requires-clause-decided c).In-Checking)
+    answer-there c.args.build.now c.args.self.now c.args.at c.args.place c.index_mut.result.now c.in-Checking.awaiting (answer (goal.at-goes_on-requires-clause-decided c).In-Checking)
     (left d) (gone d) c.replace-stage.ensures.after refl
 
 pub goes_on-requires-clause-within : goal.goes_on-requires-clause-within
 goes_on-requires-clause-within c =
-    rw c.deref_mut.ensures.value (check-within c.args.build.now c.args.self.now c.args.at c.index_mut.result.now c.in-Checking.awaiting
+    rw c.deref_mut.ensures.value (check-within c.args.build.now c.args.self.now c.args.at c.args.place c.index_mut.result.now c.in-Checking.awaiting
     (answer (goal.at-goes_on-requires-clause-within c).In-Checking))
+
+pub returns-then-stands : goal.returns-then-stands
+returns-then-stands c =
+    let given = c.args.build.now in
+    let t = c.args.self.now in
+    let slot = c.index_mut.result.now in
+    let awaiting = c.in-Checking.awaiting in
+    let d = (goal.at-returns-then-stands c).After-replace-stage in
+    let e = (goal.at-returns-then-stands c).In_ok-stands in
+    let f = (goal.at-returns-then-stands c).In-Checking in
+    let answered = answer f in
+    let rule = ap (λ (h : InCheck). h.rule) c.deref_mut.ensures.value in
+    let again = slice_get-item (slice_set t.slots.items c.args.at (gone d)) c.args.at c.index_mut-then-stands.result.now (within f) c.index_mut-then-stands.ensures.value in
+    let box = with_value awaiting.held (held e) in
+    let u : Table = record t {
+      slots = with_item (left d).slots c.args.at (record { looks = c.index_mut-then-stands.result.now.looks; turn = c.index_mut-then-stands.result.now.turn; stage = Due box });
+      schedule = c.make_due.new.self;
+    } in
+    on_ok_weaker c.make_due.result (λ now. due-again given t c.args.at slot awaiting answered.there answered.was (gone d) refl refl
+    c.index_mut-then-stands.result.now again u refl box
+    (held-due given t c.args.at c.args.place slot awaiting answered (left d) (gone d) c.replace-stage.ensures.after refl
+    c.gain_one.new.facts (gains e) c.goes_on.new.check c.in_ok-stands.stands (goes e) (held e) rule refl refl c.if-stands.true)
+    (goes e).asked refl now) c.make_due.ensures
 
 pub at-requires : goal.at-requires
 at-requires c =
@@ -58,20 +102,15 @@ pub fallen-requires : goal.fallen-requires
 fallen-requires c =
     let given = c.args.build.now in
     let t = c.args.self.now in
-    let slot = c.index_mut.result.now in
-    let awaiting = c.in-Checking.awaiting in
     let d = (goal.at-fallen-requires c).After-replace-stage in
+    let e = (goal.at-fallen-requires c).In_ok-stands in
     let answered = answer (goal.at-fallen-requires c).In-Checking in
-    let held : InCheck = record { rule = c.deref_mut.result.now.rule; check = c.goes_on.new.check; facts = c.gain_one.new.facts } in
-    let G : InCheck → Type 0 = λ h. GainsOne (left d) awaiting.at h.facts c.gain_one.new.facts in
-    let W : InCheck → Type 0 = λ h. GoesOnWith given (left d) awaiting.at h.check c.goes_on.new.check c.in_ok-stands.stands in
     let rule = ap (λ (h : InCheck). h.rule) c.deref_mut.ensures.value in
     let paths : Some c.at.result.now ≡ Some (path_at t.targets c.args.at) = sym c.at.ensures ∙ answered.path in
     let path : c.at.result.now ≡ path_at t.targets c.args.at = cc in
-    let P : List ℕ → Type 0 = λ p. IsFallen given p held in
-    subst P (sym (c.in_ok-target.ensures.cases ∙ path)) (held-fallen given t c.args.at slot awaiting answered (left d) (gone d) c.replace-stage.ensures.after refl
-    c.gain_one.new.facts (subst G c.deref_mut.ensures.value c.in_ok-gain_one.ensures) c.goes_on.new.check c.in_ok-stands.stands
-    (subst W c.deref_mut.ensures.value c.in_ok-stands.ensures) held rule refl refl c.if-stands.false)
+    let P : List ℕ → Type 0 = λ p. IsFallen given p (held e) in
+    subst P (sym (c.in_ok-target.ensures.cases ∙ path)) (held-fallen given t c.args.at c.args.place c.index_mut.result.now c.in-Checking.awaiting answered (left d) (gone d) c.replace-stage.ensures.after refl
+    c.gain_one.new.facts (gains e) c.goes_on.new.check c.in_ok-stands.stands (goes e) (held e) rule refl refl c.if-stands.false)
 
 pub index_mut-requires-2 : goal.index_mut-requires-2
 index_mut-requires-2 c =
@@ -85,41 +124,23 @@ returns c =
     let slot = c.index_mut.result.now in
     let awaiting = c.in-Checking.awaiting in
     let d = (goal.at-returns c).After-replace-stage in
-    let answered = answer (goal.at-returns c).In-Checking in
-    let held : InCheck = record { rule = c.deref_mut.result.now.rule; check = c.goes_on.new.check; facts = c.gain_one.new.facts } in
-    let G : InCheck → Type 0 = λ h. GainsOne (left d) awaiting.at h.facts c.gain_one.new.facts in
-    let W : InCheck → Type 0 = λ h. GoesOnWith given (left d) awaiting.at h.check c.goes_on.new.check c.in_ok-stands.stands in
-    let gains = subst G c.deref_mut.ensures.value c.in_ok-gain_one.ensures in
-    let goes = subst W c.deref_mut.ensures.value c.in_ok-stands.ensures in
+    let e = (goal.at-returns c).In_ok-stands in
+    let f = (goal.at-returns c).In-Checking in
+    let answered = answer f in
     let rule = ap (λ (h : InCheck). h.rule) c.deref_mut.ensures.value in
-    let asked = goes.asked in
-    let mid : Table = c.if-stands.self in
-    let stage : Stage = c.if-stands.stage in
-    let within : (items : List Slot) → items ≡ slice_set t.slots.items c.args.at (gone d) → c.args.at < length items = λ items is.
-    omega (arith, ap length is, length-set t.slots.items c.args.at (gone d), slice_get-below_some t.slots.items c.args.at slot answered.there) in
-    elim c.if-stands.branch [
-      | then-stands+in_ok-insert w ↦
-          let slots : mid.slots.items ≡ slice_set t.slots.items c.args.at (gone d) = ap (λ (x : Table). x.slots.items) w.self-is in
-          let again = slice_get-item mid.slots.items c.args.at c.index_mut-2.result.now (within mid.slots.items slots) c.index_mut-2.ensures.value in
-          due-again given t c.args.at slot awaiting answered.there answered.was (gone d) refl refl refl mid slots
-          (ap (λ (x : Table). x.targets) w.self-is, ap (λ (x : Table). x.ready) w.self-is, ap (λ (x : Table). x.out) w.self-is)
-          c.index_mut-2.result.now again stage (with_value awaiting.held held) w.stage-is
-          (held-due given t c.args.at slot awaiting answered (left d) (gone d) c.replace-stage.ensures.after refl
-          c.gain_one.new.facts gains c.goes_on.new.check c.in_ok-stands.stands goes held rule refl refl w.if-stands.true)
-          asked (ap (λ (x : Table). x.due.keys) w.self-is ∙ w.in_ok-insert.ensures.keys) (ap (λ (x : Table). x.newly_ready.items) w.self-is)
-      | else-stands+in_ok-target+in_ok-push+in_ok-fallen w ↦
-          let slots : mid.slots.items ≡ slice_set t.slots.items c.args.at (gone d) = ap (λ (x : Table). x.slots.items) w.self-is in
-          let again = slice_get-item mid.slots.items c.args.at c.index_mut-2.result.now (within mid.slots.items slots) c.index_mut-2.ensures.value in
-          let paths : Some w.at.result.now ≡ Some (path_at t.targets c.args.at) = sym w.at.ensures ∙ answered.path in
-          let path : w.at.result.now ≡ path_at t.targets c.args.at = cc in
-          let work = w.in_ok-fallen.field-0 in
-          let is = w.in_ok-fallen.ensures in
-          let deps = ap (λ (x : WorkView). x.deps) is in
-          ready-now given t c.args.at slot awaiting answered.there answered.was (gone d) refl refl refl mid slots
-          (ap (λ (x : Table). x.targets) w.self-is, ap (λ (x : Table). x.ready) w.self-is, ap (λ (x : Table). x.out) w.self-is)
-          c.index_mut-2.result.now again stage work w.stage-is
-          (held-ready given t c.args.at slot awaiting answered (left d) (gone d) c.replace-stage.ensures.after refl
-          c.gain_one.new.facts gains c.goes_on.new.check c.in_ok-stands.stands goes held rule refl refl w.if-stands.false
-          work (ap (λ (x : WorkView). x.given) is) (ap (λ (x : WorkView). x.target) is ∙ w.in_ok-target.ensures.cases ∙ path) (ap (λ (x : WorkView). x.turn) is) deps)
-          (deps ∙ asked) (ap (λ (x : Table). x.due.keys) w.self-is) (ap (λ (x : Table). x.newly_ready.items) w.self-is ∙ w.in_ok-push.ensures.items)
-    ]
+    let again = slice_get-item (slice_set t.slots.items c.args.at (gone d)) c.args.at c.index_mut-2.result.now (within f) c.index_mut-2.ensures.value in
+    let paths : Some c.at.result.now ≡ Some (path_at t.targets c.args.at) = sym c.at.ensures ∙ answered.path in
+    let path : c.at.result.now ≡ path_at t.targets c.args.at = cc in
+    let work = c.in_ok-work.work in
+    let is = c.in_ok-work.ensures in
+    let deps = ap (λ (x : WorkView). x.deps) is in
+    let u : Table = record t {
+      slots = with_item (left d).slots c.args.at (record { looks = c.index_mut-2.result.now.looks; turn = c.index_mut-2.result.now.turn; stage = Ready work });
+      schedule = c.make_ready.new.self;
+    } in
+    on_ok_weaker c.make_ready.result (λ now. ready-now given t c.args.at slot awaiting answered.there answered.was (gone d) refl refl
+    c.index_mut-2.result.now again u refl work
+    (held-ready given t c.args.at c.args.place slot awaiting answered (left d) (gone d) c.replace-stage.ensures.after refl
+    c.gain_one.new.facts (gains e) c.goes_on.new.check c.in_ok-stands.stands (goes e) (held e) rule refl refl c.if-stands.false
+    work (ap (λ (x : WorkView). x.given) is) (ap (λ (x : WorkView). x.target) is ∙ c.in_ok-target.ensures.cases ∙ path) (ap (λ (x : WorkView). x.turn) is) deps)
+    (deps ∙ (goes e).asked) refl now) c.make_ready.ensures

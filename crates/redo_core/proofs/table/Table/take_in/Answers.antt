@@ -1,4 +1,3 @@
-use Rattle.std.proofs.Common.{[]}
 use Rattle.redo_core.specs.inside.Slots.{IsPutBackThere, state_after}
 use Rattle.redo_build.specs.Schedule.Phase.{Script}
 use Rattle.redo_core.proofs.EnqueueLemmas.{taken-in}
@@ -18,7 +17,7 @@ returns-clause-ok c =
     let at = c.args.at in
     let end = c.args.end in
     let may = c.requires in
-    let put : IsPutBackThere given (state_after given Script t at) t c.match-end.self [] =
+    let put : IsPutBackThere given (state_after given Script t at) t c.match-end.self =
     elim c.match-end.branch [
       | in-Ended+in_ok-conclude-in-Ended+in-Few-1 w ↦ rw w.self-is
           (concluded-put given t at end may w.in-Ended.fact w.in-Ended._asked w.in-Ended.is _ w.in_ok-conclude-in-Ended.ensures)
@@ -27,4 +26,4 @@ returns-clause-ok c =
       | in-Stopped+in_ok-suspend-in-Stopped w ↦ rw w.self-is w.in_ok-suspend-in-Stopped.ensures.ok
     ] in
     taken-in given given.request (state_after given Script t at) (moved given t at end may) t c.match-end.self c.enqueue.new.self
-    may.at_rest.table (after-sound given t at end may).standing (after-state given t at end may) (after-entries given t at end may) put c.in_ok-enqueue.ensures
+    may.at_rest.table may.at_rest.resting.queue (after-sound given t at end may).standing (after-state given t at end may) (after-entries given t at end may) put c.in_ok-enqueue.ensures

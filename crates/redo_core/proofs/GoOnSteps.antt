@@ -1,0 +1,251 @@
+-- A target that waited for what is decided goes on, one after the other.
+use Rattle.std.proofs.Common.{slice_get, slice_set, ◌≡◌, ◌⊎◌, ℕ, ◌<◌, Bool, true, false, cond, inl, inr, List, []}
+use Rattle.std.proofs.Common.{◌∷◌, length, Option, Some, None, refl, sym, ap, subst, ◌∙◌, arith, count_by, Global}
+use Rattle.std.specs.Prelude.{Box}
+use Rattle.redo_record.specs.declared.deps.Dep.{Dep}
+use Rattle.redo_record.specs.declared.outcome.Outcome.{Outcome}
+use Rattle.redo_build.specs.Rules.{Rules, operands}
+use Rattle.redo_build.specs.Schedule.{Entry, only, outcomes_of}
+use Rattle.redo_build.specs.inside.Standing.{AreStanding}
+use Rattle.redo_rules.specs.Build.{GivenView, rules_for}
+use Rattle.redo_table.specs.Table.{StageView, TableView, IsAnswered, stage_at, with_stage}
+use Rattle.redo_table.specs.Table.StageView.{Due as AtDue, Ready as AtReady, Out as AtOut, InHand as AtHand}
+use Rattle.redo_table.specs.Table.StageView.{Waiting as AtWaiting, Decided as AtDecided}
+use Rattle.redo_table.proofs.SlotLemmas.{count-set, get-same, set-cases}
+use Rattle.redo_core.specs.inside.Slots.{outcomes_at_limit, Agrees, AllAnswered, AreNumbers, Fits, IsAnsweredAt, IsAnsweredCheck, IsDecidedNumber}
+use Rattle.redo_core.specs.inside.Slots.{IsFed, IsGoneOnAt, IsMadeReadyAt, IsParked, IsResumedAt, IsSettling, IsStandingTable}
+use Rattle.redo_core.specs.inside.Slots.{IsWaitingWith, IsTable, is_stage_due, is_stage_out, is_stage_ready, is_waiting, next_stage}
+use Rattle.redo_core.specs.inside.Slots.{path_at, slot_entry, stage_outcome, table_entries}
+use Rattle.redo_core.specs.inside.Works.{all_asked, waited_by}
+use Rattle.redo_core.specs.declared.work.Begun.{Begun}
+use Rattle.redo_core.specs.declared.table.Awaiting.{Awaiting}
+use Rattle.redo_core.specs.declared.table.Slot.{Slot}
+use Rattle.redo_core.specs.declared.table.Stage.{Stage}
+use Rattle.redo_core.specs.declared.table.Stage.TheVariants.{Due, Checking, Waiting, Ready, Out, Decided}
+use Rattle.redo_core.specs.declared.table.Table.{Table}
+use Rattle.redo_core.proofs.AgreeLemmas.{agreed-slot, agrees-decided}
+use Rattle.redo_core.proofs.SlotLemmas.{slice_get-below_some}
+use Rattle.redo_core.proofs.TableLemmas.{set-twice}
+use Rattle.redo_core.proofs.TableSteps.{distinct_keys, entries-same, parked_fed, parked_ready, path_there, table-same}
+
+-- what waits in the schedule waits in its slot
+waits-so : (r : Rules) (ps : List (List ℕ)) (stage : Stage) (on : List ℕ) → Agrees r ps stage (AtWaiting on) →
+    ((begun : Box Begun Global) → stage ≡ Waiting begun → ⊥) → ((awaiting : Awaiting) → stage ≡ Checking awaiting → ⊥) → ⊥
+waits-so r ps (Due held) on h w c = let bad : AtWaiting on ≡ AtDue = h in cc
+waits-so r ps (Checking awaiting) on h w c = c awaiting refl
+waits-so r ps (Waiting begun) on h w c = w begun refl
+waits-so r ps (Ready work) on h w c = let bad : AtWaiting on ≡ AtReady = h in cc
+waits-so r ps Out on h w c = elim h as (λ _. ⊥) [
+  | inl out ↦ let bad : AtWaiting on ≡ AtOut = out in cc
+  | inr hand ↦ let bad : AtWaiting on ≡ AtHand = hand in cc
+]
+waits-so r ps (Decided fact) on h w c = let bad : AtWaiting on ≡ AtDecided = h in cc
+
+-- where a stage can go on the schedule agrees
+next-agrees : (r : Rules) (ps : List (List ℕ)) (stage : Stage) → (is_stage_due stage ≡ true) ⊎ (is_stage_ready stage ≡ true) →
+    Agrees r ps stage (next_stage stage) × (stage_outcome stage ≡ None) × (is_stage_out stage ≡ false)
+next-agrees r ps (Due held) h = (refl, refl, refl)
+next-agrees r ps (Checking awaiting) h = elim h [ inl t ↦ cc | inr t ↦ cc ]
+next-agrees r ps (Waiting begun) h = elim h [ inl t ↦ cc | inr t ↦ cc ]
+next-agrees r ps (Ready work) h = (refl, refl, refl)
+next-agrees r ps Out h = elim h [ inl t ↦ cc | inr t ↦ cc ]
+next-agrees r ps (Decided fact) h = elim h [ inl t ↦ cc | inr t ↦ cc ]
+
+next-is : (stage : Stage) → (next_stage stage ≡ AtDue) ⊎ (next_stage stage ≡ AtReady)
+next-is (Due held) = inl refl
+next-is (Checking awaiting) = inr refl
+next-is (Waiting begun) = inr refl
+next-is (Ready work) = inr refl
+next-is Out = inr refl
+next-is (Decided fact) = inr refl
+
+module _ (given : GivenView) (t : Table) (at : ℕ) (on : List ℕ) (answered : IsAnsweredAt given t at on) where
+  abbrev r : Rules
+  r = rules_for given
+
+  abbrev stages : List StageView
+  stages = answered.before.stages
+
+  answered-slot : (slot : Slot) × (slice_get t.slots.items at ≡ Some slot) × Agrees r t.targets slot.stage (AtWaiting on)
+  answered-slot = agreed-slot r t.targets t.slots.items stages answered.table.agreed at (AtWaiting on) answered.answered.waited
+
+  pub answered-below : at < length t.slots.items
+  answered-below = slice_get-below_some t.slots.items at answered-slot.0 answered-slot.1
+
+  pub answered-in_hand : stage_at t.schedule at ≡ Some AtHand
+  answered-in_hand = ap (λ (s : TableView). stage_at s at) answered.now ∙ get-same stages at (AtWaiting on) AtHand answered.answered.waited
+
+  decided : (i n : ℕ) → slice_get on i ≡ Some n → IsDecidedNumber t n
+  decided i n h =
+      let found = agreed-slot r t.targets t.slots.items stages answered.table.agreed n AtDecided (answered.answered.decided i n h) in
+      (found.0, found.1, agrees-decided r t.targets found.0.stage AtDecided found.2 refl)
+
+  -- the slot that the code found
+  module _ (slot : Slot) (there : slice_get t.slots.items at ≡ Some slot) where
+    agrees : Agrees r t.targets slot.stage (AtWaiting on)
+    agrees =
+        let both : Some answered-slot.0 ≡ Some slot = sym answered-slot.1 ∙ there in
+        let same : answered-slot.0 ≡ slot = cc in
+        let P : Slot → Type 0 = λ x. Agrees r t.targets x.stage (AtWaiting on) in
+        subst P same answered-slot.2
+
+    pub answered-else : ((begun : Box Begun Global) → slot.stage ≡ Waiting begun → ⊥) → ((awaiting : Awaiting) → slot.stage ≡ Checking awaiting → ⊥) → ⊥
+    answered-else = waits-so r t.targets slot.stage on agrees
+
+    module _ (begun : Box Begun Global) (is : slot.stage ≡ Waiting begun) where
+      numbered : AreNumbers t.targets on (waited_by r begun.value)
+      numbered =
+          let P : Stage → Type 0 = λ st. Agrees r t.targets st (AtWaiting on) in
+          let a : (ns : List ℕ) × (AtWaiting on ≡ AtWaiting ns) × AreNumbers t.targets ns (waited_by r begun.value) = subst P is agrees in
+          let eq : AtWaiting on ≡ AtWaiting a.0 = a.1 in
+          let same : a.0 ≡ on = cc in
+          let N : List ℕ → Type 0 = λ ns. AreNumbers t.targets ns (waited_by r begun.value) in
+          subst N same a.2
+
+      pub answered-fed : IsFed given t at on
+      answered-fed = parked_fed given t stages answered.table answered.standing at slot begun there is on numbered decided
+
+      pub answered-ready : AllAnswered (rules_for given) (outcomes_of (table_entries given t)) (all_asked begun.value.job begun.value.facts) ×
+          ((rules_for given).begins (path_at t.targets at) (only (operands (rules_for given) (all_asked begun.value.job begun.value.facts)) (outcomes_of (table_entries given t))) ≡ true)
+      answered-ready = parked_ready given t stages answered.table answered.standing at slot begun there is on numbered decided
+
+    module _ (awaiting : Awaiting) (is : slot.stage ≡ Checking awaiting) where
+      alone : (n : ℕ) × (on ≡ n ∷ []) × (slice_get t.targets n ≡ Some awaiting.path)
+      alone =
+          let P : Stage → Type 0 = λ st. Agrees r t.targets st (AtWaiting on) in
+          let a : (n : ℕ) × (AtWaiting on ≡ AtWaiting (n ∷ [])) × (slice_get t.targets n ≡ Some awaiting.path) = subst P is agrees in
+          let eq : AtWaiting on ≡ AtWaiting (a.0 ∷ []) = a.1 in
+          (a.0, cc, a.2)
+
+      pub answered-long : 0 < length on
+      answered-long = omega (arith, ap length alone.1)
+
+      pub answered-check : (place : ℕ) → slice_get on 0 ≡ Some place → IsAnsweredCheck given t at place
+      answered-check place first =
+          let both : Some alone.0 ≡ Some place = sym (ap (λ ns. slice_get ns 0) alone.1) ∙ first in
+          let same : alone.0 ≡ place = cc in
+          let P : ℕ → Type 0 = λ n. slice_get t.targets n ≡ Some awaiting.path in (
+            slot,
+            awaiting,
+            record {
+              there = there;
+              was = is;
+              distinct = distinct_keys given t stages answered.table answered.standing;
+              path = path_there given t stages answered.table answered.standing at slot there;
+              number = subst P same alone.2;
+              decided = decided 0 place first;
+              fits = answered.table.fits;
+              standing = answered.standing;
+            },
+          )
+
+  -- the target is due or ready, and stands for the same entry
+  gone-on : (u : Table) (old new : Slot) (s : StageView) → slice_get t.slots.items at ≡ Some old →
+      slot_entry (rules_for given) (outcomes_at_limit given) (path_at t.targets at) new ≡
+      slot_entry (rules_for given) (outcomes_at_limit given) (path_at t.targets at) old →
+      Agrees r t.targets new.stage s →
+      Fits r (outcomes_of (table_entries given t)) given (path_at t.targets at) new.turn new.stage →
+      u.targets ≡ t.targets → u.slots.items ≡ slice_set t.slots.items at new → u.schedule ≡ with_stage t.schedule at s →
+      (s ≡ AtDue) ⊎ (s ≡ AtReady) → IsGoneOnAt given t u at
+  gone-on u old new s there same agrees' fit targets slots schedule is =
+      let next = table-same given t stages answered.table answered.standing at old new there same s agrees' fit in
+      let here : u.schedule.stages ≡ slice_set stages at s =
+      ap (λ (x : TableView). x.stages) schedule ∙ ap (λ (x : TableView). slice_set x.stages at s) answered.now ∙ set-twice stages at AtHand s in
+      record {
+        table = rw (targets, slots, here) next;
+        entries = rw (targets, slots) (entries-same given t stages answered.table answered.standing at old new there same);
+        targets = targets;
+        schedule = elim is [
+          | inl due ↦ inl (schedule ∙ ap (with_stage t.schedule at) due)
+          | inr ready ↦ inr (schedule ∙ ap (with_stage t.schedule at) ready)
+        ];
+      }
+
+  pub made_ready-gone_on : (u : Table) → IsMadeReadyAt given t u at → IsGoneOnAt given t u at
+  made_ready-gone_on u f =
+      let a = outcomes_of (table_entries given t) in
+      let b = outcomes_at_limit given in
+      let p = path_at t.targets at in
+      let asked = all_asked f.begun.value.job f.begun.value.facts in
+      let E : ℕ → ℕ → List Dep → Entry = λ m n ds. record { path = p; looks = m; turn = n; deps = ds; outcome = None; is_out = false } in
+      let one : slot_entry r b p f.new ≡ E f.new.looks f.new.turn f.work.deps = rw f.is refl in
+      let two : slot_entry r b p f.old ≡ E f.old.looks f.old.turn asked = rw f.was refl in
+      let mid : E f.new.looks f.new.turn f.work.deps ≡ E f.old.looks f.old.turn asked =
+      ap (λ m. E m f.new.turn f.work.deps) f.looks ∙ ap (λ n. E f.old.looks n f.work.deps) f.turn ∙ ap (E f.old.looks f.old.turn) f.same.3 in
+      let A : Stage → Type 0 = λ st. Agrees r t.targets st AtReady in
+      let F : Stage → Type 0 = Fits r a given p f.old.turn in
+      let waits : IsWaitingWith r a given p f.old.turn f.begun.value = subst F f.was (answered.table.fits at f.old f.there) in
+      let parts : IsParked given p f.new.turn f.work = (f.same.0, f.same.1 ∙ waits.of_target, f.same.2 ∙ waits.at_turn ∙ sym f.turn) in
+      let D : List Dep → Type 0 = λ ds. AllAnswered r a ds × (r.begins p (only (operands r ds) a) ≡ true) in
+      let both = subst D (sym f.same.3) (answered-ready f.old f.there f.begun f.was) in
+      let N : Stage → Type 0 = Fits r a given p f.new.turn in
+      gone-on u f.old f.new AtReady f.there (one ∙ mid ∙ sym two) (subst A (sym f.is) refl) (subst N (sym f.is) (parts, both.0, both.1))
+      f.targets f.slots f.schedule (inr refl)
+
+  pub resumed-gone_on : (u : Table) → IsResumedAt given t u at → IsGoneOnAt given t u at
+  resumed-gone_on u f =
+      let b = outcomes_at_limit given in
+      let p = path_at t.targets at in
+      let asked = f.awaiting.held.value.check.asked in
+      let next = next-agrees r t.targets f.new.stage f.is_open in
+      let E : ℕ → ℕ → List Dep → Option Outcome → Bool → Entry = λ m n ds o is_out.
+      record { path = p; looks = m; turn = n; deps = ds; outcome = o; is_out = is_out } in
+      let new : slot_entry r b p f.new ≡ E f.new.looks f.new.turn asked None false =
+      ap (λ ds. E f.new.looks f.new.turn ds (stage_outcome f.new.stage) (is_stage_out f.new.stage)) f.deps ∙
+      ap (λ o. E f.new.looks f.new.turn asked o (is_stage_out f.new.stage)) next.1 ∙ ap (E f.new.looks f.new.turn asked None) next.2 in
+      let old : slot_entry r b p f.old ≡ E f.old.looks f.old.turn asked None false = rw f.was refl in
+      gone-on u f.old f.new (next_stage f.new.stage) f.there
+      (new ∙ ap (λ m. E m f.new.turn asked None false) f.looks ∙ ap (λ n. E f.old.looks n asked None false) f.turn ∙ sym old)
+      next.0 f.fits f.targets f.slots f.schedule (next-is f.new.stage)
+
+pub settling-none : (given : GivenView) (t : Table) → IsTable (rules_for given) given t.targets t.slots.items t.schedule.stages → IsSettling given t t
+settling-none given t table = record { table = table; entries = refl; targets = refl; ready = refl; in_hand = λ k h. h }
+
+-- one target more went on
+module _ (given : GivenView) (t mid : Table) (settling : IsSettling given t mid) (at : ℕ) (on : List ℕ) (answered : IsAnswered mid.schedule.stages at on) where
+  pub settling-answered : IsStandingTable given t → (next : TableView) → next ≡ with_stage mid.schedule at AtHand →
+      IsAnsweredAt given (record mid { schedule = next }) at on
+  settling-answered standing next is =
+      let P : List Entry → Type 0 = AreStanding (rules_for given) standing.0 in
+      record {
+        before = mid.schedule;
+        table = settling.table;
+        standing = (standing.0, subst P (sym settling.entries) standing.1);
+        answered = answered;
+        now = is;
+      }
+
+  module _ (next : TableView) (is : next ≡ with_stage mid.schedule at AtHand) (u : Table) (g : IsGoneOnAt given (record mid { schedule = next }) u at) where
+    -- it is due or ready
+    went : (s : StageView) × ((s ≡ AtDue) ⊎ (s ≡ AtReady)) × (u.schedule ≡ with_stage (with_stage mid.schedule at AtHand) at s)
+    went = elim g.schedule as (λ _. (s : StageView) × ((s ≡ AtDue) ⊎ (s ≡ AtReady)) × (u.schedule ≡ with_stage (with_stage mid.schedule at AtHand) at s)) [
+      | inl due ↦ (AtDue, inl refl, due ∙ ap (λ (x : TableView). with_stage x at AtDue) is)
+      | inr ready ↦ (AtReady, inr refl, ready ∙ ap (λ (x : TableView). with_stage x at AtReady) is)
+    ]
+
+    went-stages : u.schedule.stages ≡ slice_set mid.schedule.stages at went.0
+    went-stages = ap (λ (x : TableView). x.stages) went.2 ∙ set-twice mid.schedule.stages at AtHand went.0
+
+    pub settling-more : IsSettling given t u
+    settling-more = record {
+      table = g.table;
+      entries = g.entries ∙ settling.entries;
+      targets = g.targets ∙ settling.targets;
+      ready = ap (λ (x : TableView). x.ready) went.2 ∙ settling.ready;
+      in_hand = λ k h. elim (set-cases mid.schedule.stages at k (AtWaiting on) went.0 AtHand answered.waited (sym (ap (λ ss. slice_get ss k) went-stages) ∙ h)) [
+        | inl here ↦ absurd (elim went.1 as (λ _. ⊥) [
+          | inl due ↦ let bad : AtDue ≡ AtHand = sym due ∙ here.1 in cc
+          | inr ready ↦ let bad : AtReady ≡ AtHand = sym ready ∙ here.1 in cc
+        ])
+        | inr other ↦ settling.in_hand k other.1
+      ];
+    }
+
+    pub settling-fewer : count_by is_waiting u.schedule.stages < count_by is_waiting mid.schedule.stages
+    settling-fewer =
+        let counted = count-set is_waiting mid.schedule.stages at (AtWaiting on) went.0 answered.waited in
+        let none : ◌≡◌ {A = ℕ} (cond (is_waiting went.0) 1 0) 0 = elim went.1 as (λ _. ◌≡◌ {A = ℕ} (cond (is_waiting went.0) 1 0) 0) [
+          | inl due ↦ ap {B = ℕ} (λ s. cond (is_waiting s) 1 0) due
+          | inr ready ↦ ap {B = ℕ} (λ s. cond (is_waiting s) 1 0) ready
+        ] in
+        omega (arith, counted, none, ap (count_by is_waiting) went-stages)
