@@ -2,7 +2,7 @@
 
 use crate::above::{has_book, levels_to_book};
 use crate::diagnosing::say_diagnoses;
-use crate::options::{Build, Format, Input, Storing};
+use crate::options::{BuildOptions, Format, Input, Storing};
 use crate::status::Fault;
 use crate::summary::{Counted, Summary};
 use crate::voice::Voice;
@@ -20,7 +20,7 @@ use std::thread::Threads;
 /// A build that has ended, and what is to be said of it.
 #[derive(Drop)]
 pub(crate) struct After<'a> {
-    pub(crate) build: &'a Build,
+    pub(crate) build: &'a BuildOptions,
     pub(crate) voice: Voice,
     /// How long it took, if that is to be said.
     pub(crate) milliseconds: Option<u64>,

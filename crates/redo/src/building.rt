@@ -4,7 +4,7 @@ ghost use Rattle.std.specs.Prelude.{◌≡◌, false};
 
 use crate::after::{After, say_after};
 use crate::formats::print_report;
-use crate::options::{Build, Format, Input, Storing};
+use crate::options::{BuildOptions, Format, Input, Storing};
 use crate::passing::note_names;
 use crate::progress::Progress;
 use crate::status::Fault;
@@ -31,7 +31,7 @@ enum Run {
 pub(crate) fn build<H: Runtime + Threads + Wait + Sync>(
     rt: &H,
     alloc: Global,
-    build: &Build,
+    build: &BuildOptions,
     voice: Voice,
     progress: &Progress<'_>,
     cause: &mut Cause,
@@ -118,7 +118,7 @@ fn end_over_dir<H: Runtime + Threads + Sync>(
 fn build_and_write<H: Runtime + Threads + Wait + Sync, W: Write + Drop>(
     rt: &H,
     alloc: Global,
-    build: &Build,
+    build: &BuildOptions,
     stream: W,
     progress: &Progress<'_>,
     cause: &mut Cause,
@@ -138,7 +138,7 @@ where
 fn build_to<H: Runtime + Threads + Wait + Sync, W: Write + Drop>(
     rt: &H,
     alloc: Global,
-    build: &Build,
+    build: &BuildOptions,
     writer: &mut Plain<BufWriter<W>>,
     progress: &Progress<'_>,
     cause: &mut Cause,
@@ -168,7 +168,7 @@ fn build_dir<H: Runtime + Threads + Wait + Sync, W: Write + Drop>(
     rt: &H,
     alloc: Global,
     dir: &str,
-    build: &Build,
+    build: &BuildOptions,
     writer: &mut Plain<BufWriter<W>>,
     progress: &Progress<'_>,
     cause: &mut Cause,

@@ -1,6 +1,6 @@
 //! Reports in other forms than their own.
 
-use crate::options::{Build, Format};
+use crate::options::{BuildOptions, Format};
 use crate::status;
 use crate::status::Fault;
 use redo_bundle::{Plain, write_all};
@@ -23,7 +23,7 @@ use std::thread::Threads;
 fn past_of<H: Runtime + Threads + Sync>(
     rt: &H,
     alloc: Global,
-    build: &Build,
+    build: &BuildOptions,
     tree: &Tree,
 ) -> Result<Past, Fault> {
     Ok(Past::open_by(rt, alloc, build.options.workers, tree.clone()?)?)
@@ -32,7 +32,7 @@ fn past_of<H: Runtime + Threads + Sync>(
 /// Why each begun script of a build was begun, in words, by its target.
 fn whys(
     alloc: Global,
-    build: &Build,
+    build: &BuildOptions,
     past: &Past,
     report: &Report,
 ) -> Result<PathMap<Vec<u8>>, AllocError> {
@@ -47,7 +47,7 @@ fn whys(
 /// The report of a build as a page.
 fn as_page(
     alloc: Global,
-    build: &Build,
+    build: &BuildOptions,
     past: &Past,
     report: &Report,
     status: u8,
@@ -68,7 +68,7 @@ fn as_page(
 /// The report of a build as JSON.
 fn as_json(
     alloc: Global,
-    build: &Build,
+    build: &BuildOptions,
     past: &Past,
     report: &Report,
     status: u8,
@@ -90,7 +90,7 @@ fn as_json(
 pub(crate) fn print_report<H: Runtime + Threads + Sync>(
     rt: &H,
     alloc: Global,
-    build: &Build,
+    build: &BuildOptions,
     tree: &Tree,
     report: &Report,
     good: bool,

@@ -63,7 +63,7 @@ pub(crate) enum Format {
 
 /// A build, and what is said of it.
 #[derive(Drop)]
-pub(crate) struct Build {
+pub(crate) struct BuildOptions {
     pub(crate) options: Options,
     pub(crate) input: Input,
     pub(crate) storing: Storing,
@@ -95,7 +95,7 @@ pub(crate) struct Call {
 /// What is to be done.
 #[derive(Drop)]
 pub(crate) enum Action {
-    Build(Build),
+    Build(BuildOptions),
     Whichdo(Path, Input),
     /// A question to the book of a tree, which is read by so many threads.
     Ask(Question, Input, usize),
@@ -114,7 +114,7 @@ impl Action {
     pub(crate) fn directory(&self) -> &str {
         match self {
             Action::Build(
-                Build {
+                BuildOptions {
                     input: Input::Directory(dir),
                     ..
                 },
@@ -471,13 +471,13 @@ fn build_of(
     matches: &ArgMatches<'_>,
     input: Input,
     below: &Path,
-) -> Result<Build, Refusal> {
+) -> Result<BuildOptions, Refusal> {
     let targets = requested(alloc, matches, below)?;
     let workers = workers(matches);
     let Some(limits) = Limits::new(TARGETS, FILE_BYTES) else {
         unreachable!()
     };
-    Ok(Build {
+    Ok(BuildOptions {
         options: Options {
             targets,
             workers,

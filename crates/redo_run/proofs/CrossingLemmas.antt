@@ -45,7 +45,7 @@ use Rattle.redo_core.specs.contracts.work.ScriptStage as ScriptStage
 use Rattle.redo_core.specs.contracts.work.Work as Work
 use Rattle.redo_core.specs.contracts.work.End as End
 use Rattle.redo_core.specs.contracts.work.Piece as Piece
-use Rattle.redo_run.specs.declared.of_build.Build.{Ghosts}
+use Rattle.redo_run.specs.declared.of_build.BuildBrand.{Ghosts}
 use Rattle.redo_run.specs.contracts.of_build.JobOf as JobOf
 use Rattle.redo_run.specs.contracts.of_build.PieceOf as PieceOf
 

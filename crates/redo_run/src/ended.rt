@@ -1,6 +1,6 @@
 //! What is left of a build once all its workers have ended.
 
-use crate::of_build::{Build, JobOf};
+use crate::of_build::{BuildBrand, JobOf};
 use crate::owner::never;
 use crossbeam_channel::Sender;
 use redo_core::board::Board;
@@ -10,13 +10,13 @@ use std::sync::Wait;
 
 /// What is left of a run once all workers have ended.
 #[derive(Drop)]
-pub(crate) struct EndedBuild<B: Build> {
+pub(crate) struct EndedBuild<B: BuildBrand> {
     pub board: Board,
     pub source: JobSource<JobOf<B>>,
     pub takers: Vec<JobTaker<JobOf<B>>>,
 }
 
-impl<B: Build> Model for EndedBuild<B> {
+impl<B: BuildBrand> Model for EndedBuild<B> {
     ghost use Rattle.std.specs.Prelude.{List};
     ghost use Rattle.redo_core.specs.Views.{BoardView};
     ghost use Rattle.redo_sync.specs.Relay.{Source, Taker};
@@ -32,7 +32,7 @@ impl<B: Build> Model for EndedBuild<B> {
 
 /// Sends what is left of a run out of the scope of its threads. The channel has room for it, and its receiver waits
 /// outside.
-pub(crate) fn hand_out<B: Build, R: Wait>(
+pub(crate) fn hand_out<B: BuildBrand, R: Wait>(
     rt: &R,
     out: &Sender<EndedBuild<B>>,
     ended: EndedBuild<B>,

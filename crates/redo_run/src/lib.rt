@@ -50,7 +50,7 @@ pub use directory::{DirRun, load, load_with_book, preview_dir, run_dir, whichdo_
 pub use exit::Exit;
 pub use fault::RunIoFault;
 pub use observer::{NoObserver, Observer};
-pub use of_build::{Build, JobOf};
+pub use of_build::{BuildBrand, JobOf};
 pub use one::build_one;
 pub use options::Options;
 pub use picks::{Pick, drive};

@@ -16,7 +16,7 @@ use std::marker::{Brand, PhantomData};
 
 /// The build that workers are at, by the tree that it is over, what is requested and its limits. It has no value when
 /// the program runs.
-pub trait Build {
+pub trait BuildBrand {
     ghost use Rattle.std.specs.Prelude.{List, ℕ};
     ghost use Rattle.redo_step.specs.Limits.{LimitsView};
     ghost use Rattle.redo_tree.specs.Tree.{Tree};
@@ -31,7 +31,7 @@ pub trait Build {
     ghost limits: { LimitsView };
 }
 
-impl Build for Brand {
+impl BuildBrand for Brand {
     ghost use Rattle.std.specs.Prelude.{[]};
     ghost use Rattle.redo_tree.specs.Tree.{top};
 
@@ -44,7 +44,7 @@ impl Build for Brand {
 
 /// A job of this build, on its way to a worker. It holds a work, which only a board of this build can have given.
 #[derive(Drop)]
-pub struct JobOf<B: Build> {
+pub struct JobOf<B: BuildBrand> {
     work: Work,
     build: PhantomData<B>,
     ghost of_build: { IsWhatIsGiven B.tree B.request B.limits work.given },
@@ -52,7 +52,7 @@ pub struct JobOf<B: Build> {
 
 /// A piece of this build, on its way to the owner.
 #[derive(Drop)]
-pub(crate) struct PieceOf<B: Build> {
+pub(crate) struct PieceOf<B: BuildBrand> {
     piece: Piece,
     build: PhantomData<B>,
     ghost of_build: { IsWhatIsGiven B.tree B.request B.limits piece.given },
@@ -61,7 +61,7 @@ pub(crate) struct PieceOf<B: Build> {
 /// What a worker sends: a piece, or that it ran out of memory.
 pub(crate) type Message<B> = Result<PieceOf<B>, AllocError>;
 
-impl<B: Build> JobOf<B> {
+impl<B: BuildBrand> JobOf<B> {
     /// A work of this build.
     pub(crate) fn new(work: Work) -> JobOf<B>
         requires { IsWhatIsGiven B.tree B.request B.limits work.given }
@@ -74,7 +74,7 @@ impl<B: Build> JobOf<B> {
     }
 }
 
-impl<B: Build, O: Observer> Advance<Message<B>, O> for JobOf<B> {
+impl<B: BuildBrand, O: Observer> Advance<Message<B>, O> for JobOf<B> {
     ghost use Rattle.std.specs.Prelude.{◌≡◌, IfOk};
 
     ghost comes_to = { λ job message. IfOk message (λ p.
@@ -92,7 +92,7 @@ impl<B: Build, O: Observer> Advance<Message<B>, O> for JobOf<B> {
     }
 }
 
-impl<B: Build> PieceOf<B> {
+impl<B: BuildBrand> PieceOf<B> {
     /// The piece, which is of this build.
     pub fn into_piece(self) -> Piece
         ensures piece { result ≡ self.piece }
@@ -104,7 +104,7 @@ impl<B: Build> PieceOf<B> {
 }
 
 /// A relay tells jobs apart by the target and turn of their works.
-impl<B: Build> Numbered for JobOf<B> {
+impl<B: BuildBrand> Numbered for JobOf<B> {
     ghost number = { λ j. (j.work.target, j.work.turn) };
 
     fn target(&self) -> &Path {

@@ -8,7 +8,7 @@ ghost use Rattle.redo_run.specs.inside.Workers.{HasKeptUp, IsManned, IsSameOwner
 
 use crate::crew::{Advance, claimed};
 use crate::observer::Observer;
-use crate::of_build::{Build, JobOf, Message, PieceOf};
+use crate::of_build::{BuildBrand, JobOf, Message, PieceOf};
 use crate::pace::Pace;
 use crate::pool::Pool;
 use redo_core::board::{Board, HandFault, Stop};
@@ -23,14 +23,14 @@ use std::thread::Threads;
 
 /// What the owner has: the board of a build, the end of its relay that gives jobs, and a taker of its own.
 #[derive(Drop)]
-pub(crate) struct Owner<B: Build> {
+pub(crate) struct Owner<B: BuildBrand> {
     pub board: Board,
     pub source: JobSource<JobOf<B>>,
     pub taker: JobTaker<JobOf<B>>,
     pub pace: Pace,
 }
 
-impl<B: Build> Model for Owner<B> {
+impl<B: BuildBrand> Model for Owner<B> {
     ghost use Rattle.redo_run.specs.inside.Workers.{OwnerView};
 
     ghost Value = { OwnerView };
@@ -53,7 +53,7 @@ fn may_offer(ready: usize, out: usize, most_out: usize) -> bool {
     out < most_out && (ready > 0 || out > 0)
 }
 
-impl<B: Build> Owner<B> {
+impl<B: BuildBrand> Owner<B> {
     /// Takes the target that became ready last, tells the observer, and gives its job to the relay. So what was just asked
     /// for is built before more is asked for, and few scripts are under way at a time. Returns whether it is to be offered
     /// to a worker.
@@ -129,7 +129,7 @@ impl<B: Build> Owner<B> {
 }
 
 /// Builds the newest target a part further: gives its job, and offers it to workers or advances it.
-fn build_newest<'s, E, B: Build + Send + Sync + 's, R: Threads + Wait + Sync, O: Observer>(
+fn build_newest<'s, E, B: BuildBrand + Send + Sync + 's, R: Threads + Wait + Sync, O: Observer>(
     owner: &mut Owner<B>,
     pool: &mut PoolOf<'_, 's, E, B, R, O>,
 ) -> Result<(), Stop>
@@ -162,7 +162,7 @@ fn build_newest<'s, E, B: Build + Send + Sync + 's, R: Threads + Wait + Sync, O:
 
 /// Takes one turn: hands in a piece that has come, builds a ready target further, advances a job that no worker has come
 /// to yet, or waits for a piece. Returns false where nothing is ready or out.
-fn turn<'s, E, B: Build + Send + Sync + 's, R: Threads + Wait + Sync, O: Observer>(
+fn turn<'s, E, B: BuildBrand + Send + Sync + 's, R: Threads + Wait + Sync, O: Observer>(
     owner: &mut Owner<B>,
     pool: &mut PoolOf<'_, 's, E, B, R, O>,
 ) -> Result<bool, Stop>
@@ -205,7 +205,7 @@ fn turn<'s, E, B: Build + Send + Sync + 's, R: Threads + Wait + Sync, O: Observe
 }
 
 /// Takes turns until nothing is ready or out.
-pub(crate) fn own<'s, E, B: Build + Send + Sync + 's, R: Threads + Wait + Sync, O: Observer>(
+pub(crate) fn own<'s, E, B: BuildBrand + Send + Sync + 's, R: Threads + Wait + Sync, O: Observer>(
     owner: &mut Owner<B>,
     pool: &mut PoolOf<'_, 's, E, B, R, O>,
 ) -> Result<(), Stop>

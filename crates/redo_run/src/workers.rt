@@ -19,7 +19,7 @@ use crate::crew::{Shared, join_all};
 use crate::ended::{EndedBuild, hand_out};
 use crate::laws::keeping_is_sound;
 use crate::observer::Observer;
-use crate::of_build::{Build, JobOf};
+use crate::of_build::{BuildBrand, JobOf};
 use crate::owner::{Owner, never, own};
 use crate::pace::Pace;
 use crate::pool::{Pool, channel, most_out};
@@ -41,14 +41,14 @@ use std::thread;
 use std::thread::{Scope, Threads};
 
 /// Whether no job is left.
-fn is_all_taken<B: Build>(ledger: &Ledger<JobOf<B>>) -> bool
+fn is_all_taken<B: BuildBrand>(ledger: &Ledger<JobOf<B>>) -> bool
     ensures { IsTrue result → (ledger.now.left ≡ []) × SharesOut ledger.now.given ledger.now.taken [] }
 {
     ledger.left().is_empty()
 }
 
 /// What a run came to, once all workers have ended. At most `threads` threads make the digests that the new book tells of.
-fn answer_of<B: Build, R: Threads + Wait + Sync>(
+fn answer_of<B: BuildBrand, R: Threads + Wait + Sync>(
     rt: &R,
     alloc: Global,
     ended: EndedBuild<B>,
@@ -76,7 +76,7 @@ fn answer_of<B: Build, R: Threads + Wait + Sync>(
 }
 
 /// Runs a build to its end: by the owner, and by as many workers as it needs of those that there are takers for.
-fn run_crew<'s, E, B: Build + Send + Sync + 's, R: Threads + Wait + Sync, O: Observer>(
+fn run_crew<'s, E, B: BuildBrand + Send + Sync + 's, R: Threads + Wait + Sync, O: Observer>(
     scope: &Scope<'s, E>,
     shared: Shared<'s, R, O>,
     alloc: Global,
@@ -136,7 +136,7 @@ fn run_crew<'s, E, B: Build + Send + Sync + 's, R: Threads + Wait + Sync, O: Obs
 
 /// The same in a scope of threads: all have ended when it returns. What is left of the run comes out of the scope
 /// through a channel.
-fn run_in_scope<B: Build + Send + Sync, R: Threads + Wait + Sync, O: Observer>(
+fn run_in_scope<B: BuildBrand + Send + Sync, R: Threads + Wait + Sync, O: Observer>(
     shared: Shared<'_, R, O>,
     alloc: Global,
     owner: Owner<B>,
@@ -172,7 +172,7 @@ fn run_in_scope<B: Build + Send + Sync, R: Threads + Wait + Sync, O: Observer>(
 }
 
 /// Runs a build that was opened. The caller's thread is one of the workers, so it needs one thread fewer.
-fn run_build<B: Build + Send + Sync, R: Threads + Wait + Sync, O: Observer>(
+fn run_build<B: BuildBrand + Send + Sync, R: Threads + Wait + Sync, O: Observer>(
     rt: &R,
     alloc: Global,
     board: Board,
@@ -229,7 +229,7 @@ pub(crate) fn past_of<R: Threads + Sync>(
 ///
 /// The ledger is of jobs of this build by its type, which names the tree, the request and the limits: each job that it
 /// counts held a work that a board of this build gave.
-pub fn build_many<B: Build + Send + Sync, R: Threads + Wait + Sync, O: Observer>(
+pub fn build_many<B: BuildBrand + Send + Sync, R: Threads + Wait + Sync, O: Observer>(
     rt: &R,
     alloc: Global,
     tree: Tree,
@@ -258,7 +258,7 @@ pub fn build_many<B: Build + Send + Sync, R: Threads + Wait + Sync, O: Observer>
 }
 
 /// The same as [`build_many`], over a past. The new book has no text yet.
-fn build_by<B: Build + Send + Sync, R: Threads + Wait + Sync, O: Observer>(
+fn build_by<B: BuildBrand + Send + Sync, R: Threads + Wait + Sync, O: Observer>(
     rt: &R,
     alloc: Global,
     past: Past,
@@ -287,7 +287,7 @@ fn build_by<B: Build + Send + Sync, R: Threads + Wait + Sync, O: Observer>(
 }
 
 /// The report alone, without the ledger.
-fn report_by<B: Build + Send + Sync, R: Threads + Wait + Sync, O: Observer>(
+fn report_by<B: BuildBrand + Send + Sync, R: Threads + Wait + Sync, O: Observer>(
     rt: &R,
     alloc: Global,
     past: Past,

@@ -15,14 +15,14 @@ use Rattle.redo_run.proofs.owner.build_newest.Goals.{then-is_for_worker+in-Full,
 -- jobs go to other threads
 pub start-requires-send-J : goal.start-requires-send-J
 start-requires-send-J g c κs within =
-    let job = arg-4-1 g.row.E g.row.B g.row.R g.row.O g.E.laws g.B.laws g.R.laws g.O.laws g.B.Build g.B.Build-dict g.R.Threads g.R.Threads-dict g.R.Wait g.R.Wait-dict g.O.Observer g.O.Observer-dict κs in
-    param_send 1 job (arg_send _ yes _ (job_of_send (param 1 g.row.B) g.B.Build))
+    let job = arg-4-1 g.row.E g.row.B g.row.R g.row.O g.E.laws g.B.laws g.R.laws g.O.laws g.B.BuildBrand g.B.BuildBrand-dict g.R.Threads g.R.Threads-dict g.R.Wait g.R.Wait-dict g.O.Observer g.O.Observer-dict κs in
+    param_send 1 job (arg_send _ yes _ (job_of_send (param 1 g.row.B) g.B.BuildBrand))
 
 -- and so do what they come to
 pub start-requires-send-M : goal.start-requires-send-M
 start-requires-send-M g c κs within =
-    let message = arg-4-2 g.row.E g.row.B g.row.R g.row.O g.E.laws g.B.laws g.R.laws g.O.laws g.B.Build g.B.Build-dict g.R.Threads g.R.Threads-dict g.R.Wait g.R.Wait-dict g.O.Observer g.O.Observer-dict κs in
-    param_send 2 message (arg_send _ yes _ (message_send (param 1 g.row.B) g.B.Build))
+    let message = arg-4-2 g.row.E g.row.B g.row.R g.row.O g.E.laws g.B.laws g.R.laws g.O.laws g.B.BuildBrand g.B.BuildBrand-dict g.R.Threads g.R.Threads-dict g.R.Wait g.R.Wait-dict g.O.Observer g.O.Observer-dict κs in
+    param_send 2 message (arg_send _ yes _ (message_send (param 1 g.row.B) g.B.BuildBrand))
 
 -- too many targets of the board are too many of its build
 abbrev Many : GivenView → Type 0
@@ -31,13 +31,13 @@ Many given = IsTooMany (rules_for given) given.request given.limits.targets
 -- the board is still of that build
 pub advance_claimed-requires-clause-of_build : goal.advance_claimed-requires-clause-of_build
 advance_claimed-requires-clause-of_build g c κs within =
-    let of : OwnerView → Type 0 = λ d. IsGiven g.B.Build.tree g.B.Build.request g.B.Build.limits d.board.given in
+    let of : OwnerView → Type 0 = λ d. IsGiven g.B.BuildBrand.tree g.B.BuildBrand.request g.B.BuildBrand.limits d.board.given in
     let same : c.if-is_for_worker.owner ≡ c.give_newest.new.self = elim c.if-is_for_worker.branch [
       | then-is_for_worker+in-Full w ↦ w.owner-is ∙ c.owner.view_is
       | else-is_for_worker w ↦ w.owner-is
     ] in
     subst of (sym same)
-    (subst (IsGiven g.B.Build.tree g.B.Build.request g.B.Build.limits) (sym c.give_newest.ensures.same.0) c.requires.of_build)
+    (subst (IsGiven g.B.BuildBrand.tree g.B.BuildBrand.request g.B.BuildBrand.limits) (sym c.give_newest.ensures.same.0) c.requires.of_build)
 
 -- the owner's own job is handed in behind the one that was given
 pub returns-clause-kept_up : goal.returns-clause-kept_up

@@ -15,7 +15,7 @@ invariant_of-result g c =
     let source = c.owner-2.inside.source in let own = c.owner-2.inside.taker in
     let back = c.join_all-takers.result.items in let idle = c.own-ended.new.pool.idle.items in
     let ran = c.in_ok-ended.ensures in let same = ran.same in let complete = c.requires.complete in let view = c.owner-2.view_is in
-    let Of : OwnerView → Type 0 = λ d. IsGiven g.B.Build.tree g.B.Build.request g.B.Build.limits d.board.given in
+    let Of : OwnerView → Type 0 = λ d. IsGiven g.B.BuildBrand.tree g.B.BuildBrand.request g.B.BuildBrand.limits d.board.given in
     let Quiet : OwnerView → Type 0 = λ d. IsQuietBoard d.board in
     let Took : OwnerView → Type 0 = λ d. HasTaken d.board d.source.given in
     let Complete : List Taker → Type 0 = λ l. AreAllTakers source l in
@@ -26,7 +26,7 @@ invariant_of-result g c =
     let of : source.relay ≡ relay = ap (λ (d : OwnerView). d.source.relay) view ∙ same.1.0 in
     let many = complete.1 ∙ sym same.1.1 ∙ sym (ap (λ (d : OwnerView). d.source.takers) view) in
     record {
-      of_build = subst Of (sym view) (subst (IsGiven g.B.Build.tree g.B.Build.request g.B.Build.limits) (sym same.0) c.requires.of_build);
+      of_build = subst Of (sym view) (subst (IsGiven g.B.BuildBrand.tree g.B.BuildBrand.request g.B.BuildBrand.limits) (sym same.0) c.requires.of_build);
       quiet = subst Quiet (sym view) ran.quiet;
       complete = subst Complete (sym items) (all_back relay (length workers) back idle own _ source c.join_all-takers.ensures start mine of many);
       taken = subst Took (sym view) (ran.kept_up.1 c.requires.taken);

@@ -6,7 +6,7 @@ use Rattle.redo_run.proofs.owner.Owner.advance_claimed.Goals as goal
 
 pub hand_in-requires-clause-of_build : goal.hand_in-requires-clause-of_build
 hand_in-requires-clause-of_build g c =
-    let Of : OwnerView → Type 0 = λ d. IsGiven g.B.Build.tree g.B.Build.request g.B.Build.limits d.board.given in
+    let Of : OwnerView → Type 0 = λ d. IsGiven g.B.BuildBrand.tree g.B.BuildBrand.request g.B.BuildBrand.limits d.board.given in
     subst Of (sym c.self.view_is) c.requires.of_build
 
 pub returns-clause-kept_up : goal.returns-clause-kept_up

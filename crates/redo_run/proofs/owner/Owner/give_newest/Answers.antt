@@ -16,8 +16,8 @@ use Rattle.redo_run.proofs.owner.Owner.give_newest.Goals.{in-Ok, in-Err+in-Unrea
 -- the work is of the build that the type names
 pub new-requires : goal.new-requires
 new-requires g c = λ other is.
-    let Of : OwnerView → Type 0 = λ d. IsGiven g.B.Build.tree g.B.Build.request g.B.Build.limits d.board.given in
-    let mine : IsGiven g.B.Build.tree g.B.Build.request g.B.Build.limits c.self.inside.board.given =
+    let Of : OwnerView → Type 0 = λ d. IsGiven g.B.BuildBrand.tree g.B.BuildBrand.request g.B.BuildBrand.limits d.board.given in
+    let mine : IsGiven g.B.BuildBrand.tree g.B.BuildBrand.request g.B.BuildBrand.limits c.self.inside.board.given =
     subst Of (sym c.self.view_is) c.requires.of_build in
     c.in_ok-work.ensures.work.given ∙ one_given c.a_tree_has_one_past.ensures _ _ _ _ other mine is
 
@@ -33,12 +33,12 @@ returns-clause-kept_up g c =
       own = c.if-may_offer.self-inside.taker.relay;
     } in
     let boards : c.if-may_offer.self-inside.board ≡ c.take.new.self = elim c.if-may_offer.branch [
-      | then-may_offer w ↦ ap (λ (i : Inside g.row.B.Denot g.B.Build). i.board) w.self-inside-is
-      | else-may_offer w ↦ ap (λ (i : Inside g.row.B.Denot g.B.Build). i.board) w.self-inside-is
+      | then-may_offer w ↦ ap (λ (i : Inside g.row.B.Denot g.B.BuildBrand). i.board) w.self-inside-is
+      | else-may_offer w ↦ ap (λ (i : Inside g.row.B.Denot g.B.BuildBrand). i.board) w.self-inside-is
     ] in
     let sources : c.if-may_offer.self-inside.source ≡ c.self.inside.source = elim c.if-may_offer.branch [
-      | then-may_offer w ↦ ap (λ (i : Inside g.row.B.Denot g.B.Build). i.source) w.self-inside-is
-      | else-may_offer w ↦ ap (λ (i : Inside g.row.B.Denot g.B.Build). i.source) w.self-inside-is
+      | then-may_offer w ↦ ap (λ (i : Inside g.row.B.Denot g.B.BuildBrand). i.source) w.self-inside-is
+      | else-may_offer w ↦ ap (λ (i : Inside g.row.B.Denot g.B.BuildBrand). i.source) w.self-inside-is
     ] in
     let next : c.if-may_offer.self-inside.board ≡ after b (Take (c.ready.result - 1)) = boards ∙ c.in_ok-work.ensures.ok in
     let Runs : OwnerView → Type 0 = λ d. IsNone d.board.stopped in
