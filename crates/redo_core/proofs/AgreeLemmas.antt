@@ -4,10 +4,10 @@ use Rattle.std.proofs.Common.{◌∷◌, length, length-set, filter, Some, refl,
 use Rattle.std.proofs.lemmas.Bool.{cases_Bool}
 use Rattle.std.proofs.lemmas.List.Sums.{sum_by-cons}
 use Rattle.redo_build.specs.Rules.{Rules}
-use Rattle.redo_table.specs.Table.{StageView, is_out}
-use Rattle.redo_table.specs.Table.StageView.{Due as AtDue, Ready as AtReady, Out as AtOut, InHand as AtHand}
-use Rattle.redo_table.specs.Table.StageView.{Waiting as AtWaiting, Decided as AtDecided}
-use Rattle.redo_table.proofs.SlotLemmas.{get-other, set-cases, there-below}
+use Rattle.redo_table.specs.Schedule.{StageView, is_out}
+use Rattle.redo_table.specs.Schedule.StageView.{Due as AtDue, Ready as AtReady, Out as AtOut, InHand as AtHand}
+use Rattle.redo_table.specs.Schedule.StageView.{Waiting as AtWaiting, Decided as AtDecided}
+use Rattle.redo_table.proofs.TargetLemmas.{get-other, set-cases, there-below}
 use Rattle.redo_core.specs.inside.Slots.{Agrees, AreAgreed, is_stage_decided, is_stage_due, is_stage_out, is_stage_ready}
 use Rattle.redo_core.specs.declared.table.Slot.{Slot}
 use Rattle.redo_core.specs.declared.table.Stage.{Stage}

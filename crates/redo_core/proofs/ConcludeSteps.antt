@@ -3,8 +3,8 @@ use Rattle.std.proofs.Common.{◌≡◌, ℕ, ◌+◌, false, List, Some, sym, a
 use Rattle.redo_build.specs.Schedule.{Entry, put}
 use Rattle.redo_build.specs.inside.Standing.{AreStanding}
 use Rattle.redo_rules.specs.Build.{GivenView, rules_for}
-use Rattle.redo_table.specs.Table.{TableView}
-use Rattle.redo_table.specs.Table.StageView.{InHand as AtHand, Decided as AtDecided}
+use Rattle.redo_table.specs.Schedule.{ScheduleView}
+use Rattle.redo_table.specs.Schedule.StageView.{InHand as AtHand, Decided as AtDecided}
 use Rattle.redo_core.specs.Views.{FactView}
 use Rattle.redo_core.specs.inside.Slots.{outcomes_at_limit, IsDecidedAt, IsDecidedStage, IsConcludedAt, IsSettled, IsStandingTable, IsTableOf}
 use Rattle.redo_core.specs.inside.Slots.{MayConclude, concluded_entry, is_stage_out, path_at, slot_entry}
@@ -54,7 +54,7 @@ module _ (given : GivenView) (t u : Table) (at : ℕ) (fact : FactView) (may : M
     slot = d.old;
     there = d.put_back.there;
     entries = settled.0.entries ∙ concluded-entries;
-    ready = settled.0.ready ∙ ap (λ (x : TableView). x.ready) d.put_back.schedule;
+    ready = settled.0.ready ∙ ap (λ (x : ScheduleView). x.ready) d.put_back.schedule;
     targets = settled.0.targets ∙ d.put_back.targets;
     lacks = settled.1;
     put_back = λ k h. put-none_in_hand given t u may.table may.distinct at d.old d.new AtDecided d.put_back

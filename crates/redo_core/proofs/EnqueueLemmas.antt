@@ -9,8 +9,8 @@ use Rattle.redo_build.specs.Rules.{Rules}
 use Rattle.redo_build.specs.Schedule.{Entry, State, enqueued}
 use Rattle.redo_build.specs.inside.Standing.{AreStanding}
 use Rattle.redo_rules.specs.Build.{GivenView, rules_for}
-use Rattle.redo_table.specs.Table.{StageView, EachLacks, IsQueue, stage_at, times}
-use Rattle.redo_table.specs.Table.StageView.{InHand as AtHand, Ready as AtReady}
+use Rattle.redo_table.specs.Schedule.{StageView, EachLacks, IsQueue, stage_at, times}
+use Rattle.redo_table.specs.Schedule.StageView.{InHand as AtHand, Ready as AtReady}
 use Rattle.redo_table.proofs.NumberLemmas.{times-append}
 use Rattle.redo_core.specs.inside.Slots.{outcomes_at_limit, AreEnqueued, IsPutBackThere, IsResting, IsTakenIn, IsTableOf, path_at, table_entries, table_state}
 use Rattle.redo_core.specs.declared.table.Slot.{Slot}

@@ -8,9 +8,9 @@ use Rattle.redo_build.specs.Rules.{Ask, Rules, Extends, operands}
 use Rattle.redo_rules.specs.Build.{GivenView, rules_for}
 use Rattle.redo_build.specs.Schedule.{Entry, only, outcomes_of, paths_of, entered, new_entry, nothing_known}
 use Rattle.redo_record.specs.Progress.{Progress}
-use Rattle.redo_table.specs.Table.{StageView, TableView, with_stage, with_target}
-use Rattle.redo_table.specs.Table.StageView.{Due as AtDue, Ready as AtReady, InHand as AtHand, Decided as AtDecided}
-use Rattle.redo_table.proofs.SlotLemmas.{push-before, push-cases}
+use Rattle.redo_table.specs.Schedule.{StageView, ScheduleView, with_stage, with_target}
+use Rattle.redo_table.specs.Schedule.StageView.{Due as AtDue, Ready as AtReady, InHand as AtHand, Decided as AtDecided}
+use Rattle.redo_table.proofs.TargetLemmas.{push-before, push-cases}
 use Rattle.redo_core.specs.inside.Slots.{outcomes_at_limit, table_entries, entries_from, slot_entries, slot_entry, stage_deps}
 use Rattle.redo_core.specs.inside.Slots.{stage_outcome, path_at, is_stage_out, Fits, Agrees, AreAgreed, first_stage}
 use Rattle.redo_core.specs.inside.Slots.{AllFit, IsTable, IsTableOf, IsBegun, IsPushed, IsEnteredInto, IsFull}
@@ -73,7 +73,7 @@ begun-fits given a p Out h = absurd h
 begun-fits given a p (Decided fact) h = (h.0, h.1)
 
 -- a target that was added and put into a stage
-pub pushed-stage : (s : TableView) (n : ℕ) (stage : StageView) → n ≡ length s.stages → with_stage (with_target s AtHand) n stage ≡ with_target s stage
+pub pushed-stage : (s : ScheduleView) (n : ℕ) (stage : StageView) → n ≡ length s.stages → with_stage (with_target s AtHand) n stage ≡ with_target s stage
 pushed-stage s n stage is = ap (λ ss. record s { stages = ss }) (ap (λ k. slice_set (s.stages ++ AtHand ∷ []) k stage) is ∙ set-last s.stages)
   where
     set-last : (xs : List StageView) → slice_set (xs ++ AtHand ∷ []) (length xs) stage ≡ xs ++ stage ∷ []
@@ -198,7 +198,7 @@ module _ (given : GivenView) (t u : Table) (p : List ℕ) (table : IsTableOf giv
       }
 
   stage-push : u.schedule.stages ≡ t.schedule.stages ++ first_stage w.new.stage ∷ []
-  stage-push = ap (λ (x : TableView). x.stages) w.schedule
+  stage-push = ap (λ (x : ScheduleView). x.stages) w.schedule
 
   stages-fresh : (k : ℕ) (s : StageView) → slice_get u.schedule.stages k ≡ Some s →
       (slice_get t.schedule.stages k ≡ Some s) ⊎ ((s ≡ AtDue) ⊎ ((s ≡ AtReady) ⊎ (s ≡ AtDecided)))
@@ -214,7 +214,7 @@ module _ (given : GivenView) (t u : Table) (p : List ℕ) (table : IsTableOf giv
   entered-new = record {
     table = rw (w.keys, w.slots, stage-push) table-push;
     entries = rw (w.keys, w.slots) pushed;
-    ready = ap (λ (x : TableView). x.ready) w.schedule;
+    ready = ap (λ (x : ScheduleView). x.ready) w.schedule;
     keys_kept = λ k q h. rw w.keys (push-before t.targets k p q h);
     slots_kept = λ k x h. rw w.slots (push-before t.slots.items k w.new x h);
     stages_kept = λ k s h. rw stage-push (push-before t.schedule.stages k (first_stage w.new.stage) s h);

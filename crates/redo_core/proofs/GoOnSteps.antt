@@ -8,10 +8,10 @@ use Rattle.redo_build.specs.Rules.{Rules, operands}
 use Rattle.redo_build.specs.Schedule.{Entry, only, outcomes_of}
 use Rattle.redo_build.specs.inside.Standing.{AreStanding}
 use Rattle.redo_rules.specs.Build.{GivenView, rules_for}
-use Rattle.redo_table.specs.Table.{StageView, TableView, IsAnswered, stage_at, with_stage}
-use Rattle.redo_table.specs.Table.StageView.{Due as AtDue, Ready as AtReady, Out as AtOut, InHand as AtHand}
-use Rattle.redo_table.specs.Table.StageView.{Waiting as AtWaiting, Decided as AtDecided}
-use Rattle.redo_table.proofs.SlotLemmas.{count-set, get-same, set-cases}
+use Rattle.redo_table.specs.Schedule.{StageView, ScheduleView, IsAnswered, stage_at, with_stage}
+use Rattle.redo_table.specs.Schedule.StageView.{Due as AtDue, Ready as AtReady, Out as AtOut, InHand as AtHand}
+use Rattle.redo_table.specs.Schedule.StageView.{Waiting as AtWaiting, Decided as AtDecided}
+use Rattle.redo_table.proofs.TargetLemmas.{count-set, get-same, set-cases}
 use Rattle.redo_core.specs.inside.Slots.{outcomes_at_limit, Agrees, AllAnswered, AreNumbers, Fits, IsAnsweredAt, IsAnsweredCheck, IsDecidedNumber}
 use Rattle.redo_core.specs.inside.Slots.{IsFed, IsGoneOnAt, IsMadeReadyAt, IsParked, IsResumedAt, IsSettling, IsStandingTable}
 use Rattle.redo_core.specs.inside.Slots.{IsWaitingWith, IsTable, is_stage_due, is_stage_out, is_stage_ready, is_waiting, next_stage}
@@ -73,7 +73,7 @@ module _ (given : GivenView) (t : Table) (at : ℕ) (on : List ℕ) (answered : 
   answered-below = slice_get-below_some t.slots.items at answered-slot.0 answered-slot.1
 
   pub answered-in_hand : stage_at t.schedule at ≡ Some AtHand
-  answered-in_hand = ap (λ (s : TableView). stage_at s at) answered.now ∙ get-same stages at (AtWaiting on) AtHand answered.answered.waited
+  answered-in_hand = ap (λ (s : ScheduleView). stage_at s at) answered.now ∙ get-same stages at (AtWaiting on) AtHand answered.answered.waited
 
   decided : (i n : ℕ) → slice_get on i ≡ Some n → IsDecidedNumber t n
   decided i n h =
@@ -150,7 +150,7 @@ module _ (given : GivenView) (t : Table) (at : ℕ) (on : List ℕ) (answered : 
   gone-on u old new s there same agrees' fit targets slots schedule is =
       let next = table-same given t stages answered.table answered.standing at old new there same s agrees' fit in
       let here : u.schedule.stages ≡ slice_set stages at s =
-      ap (λ (x : TableView). x.stages) schedule ∙ ap (λ (x : TableView). slice_set x.stages at s) answered.now ∙ set-twice stages at AtHand s in
+      ap (λ (x : ScheduleView). x.stages) schedule ∙ ap (λ (x : ScheduleView). slice_set x.stages at s) answered.now ∙ set-twice stages at AtHand s in
       record {
         table = rw (targets, slots, here) next;
         entries = rw (targets, slots) (entries-same given t stages answered.table answered.standing at old new there same);
@@ -203,7 +203,7 @@ settling-none given t table = record { table = table; entries = refl; targets = 
 
 -- one target more went on
 module _ (given : GivenView) (t mid : Table) (settling : IsSettling given t mid) (at : ℕ) (on : List ℕ) (answered : IsAnswered mid.schedule.stages at on) where
-  pub settling-answered : IsStandingTable given t → (next : TableView) → next ≡ with_stage mid.schedule at AtHand →
+  pub settling-answered : IsStandingTable given t → (next : ScheduleView) → next ≡ with_stage mid.schedule at AtHand →
       IsAnsweredAt given (record mid { schedule = next }) at on
   settling-answered standing next is =
       let P : List Entry → Type 0 = AreStanding (rules_for given) standing.0 in
@@ -215,23 +215,23 @@ module _ (given : GivenView) (t mid : Table) (settling : IsSettling given t mid)
         now = is;
       }
 
-  module _ (next : TableView) (is : next ≡ with_stage mid.schedule at AtHand) (u : Table) (g : IsGoneOnAt given (record mid { schedule = next }) u at) where
+  module _ (next : ScheduleView) (is : next ≡ with_stage mid.schedule at AtHand) (u : Table) (g : IsGoneOnAt given (record mid { schedule = next }) u at) where
     -- it is due or ready
     went : (s : StageView) × ((s ≡ AtDue) ⊎ (s ≡ AtReady)) × (u.schedule ≡ with_stage (with_stage mid.schedule at AtHand) at s)
     went = elim g.schedule as (λ _. (s : StageView) × ((s ≡ AtDue) ⊎ (s ≡ AtReady)) × (u.schedule ≡ with_stage (with_stage mid.schedule at AtHand) at s)) [
-      | inl due ↦ (AtDue, inl refl, due ∙ ap (λ (x : TableView). with_stage x at AtDue) is)
-      | inr ready ↦ (AtReady, inr refl, ready ∙ ap (λ (x : TableView). with_stage x at AtReady) is)
+      | inl due ↦ (AtDue, inl refl, due ∙ ap (λ (x : ScheduleView). with_stage x at AtDue) is)
+      | inr ready ↦ (AtReady, inr refl, ready ∙ ap (λ (x : ScheduleView). with_stage x at AtReady) is)
     ]
 
     went-stages : u.schedule.stages ≡ slice_set mid.schedule.stages at went.0
-    went-stages = ap (λ (x : TableView). x.stages) went.2 ∙ set-twice mid.schedule.stages at AtHand went.0
+    went-stages = ap (λ (x : ScheduleView). x.stages) went.2 ∙ set-twice mid.schedule.stages at AtHand went.0
 
     pub settling-more : IsSettling given t u
     settling-more = record {
       table = g.table;
       entries = g.entries ∙ settling.entries;
       targets = g.targets ∙ settling.targets;
-      ready = ap (λ (x : TableView). x.ready) went.2 ∙ settling.ready;
+      ready = ap (λ (x : ScheduleView). x.ready) went.2 ∙ settling.ready;
       in_hand = λ k h. elim (set-cases mid.schedule.stages at k (AtWaiting on) went.0 AtHand answered.waited (sym (ap (λ ss. slice_get ss k) went-stages) ∙ h)) [
         | inl here ↦ absurd (elim went.1 as (λ _. ⊥) [
           | inl due ↦ let bad : AtDue ≡ AtHand = sym due ∙ here.1 in cc

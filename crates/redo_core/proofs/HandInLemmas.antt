@@ -8,7 +8,7 @@ use Rattle.redo_build.specs.Schedule.Phase.{Script}
 use Rattle.redo_build.specs.Looking.{IsLookedOut, looked}
 use Rattle.redo_rules.specs.Build.{GivenView, rules_for}
 use Rattle.redo_rules.proofs.Public.{lawful_for}
-use Rattle.redo_table.specs.Table.{NoneDue}
+use Rattle.redo_table.specs.Schedule.{NoneDue}
 use Rattle.redo_core.specs.Views.{BoardView, IsReached, PieceView, rules_on}
 use Rattle.redo_core.specs.Faults.{fault_of, IsSameBuild, RefusedRunning}
 use Rattle.redo_core.specs.declared.board.Stop.{Stop}

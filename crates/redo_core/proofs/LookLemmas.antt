@@ -20,8 +20,8 @@ use Rattle.redo_build.proofs.PathLemmas.{is_among-true}
 use Rattle.redo_build.proofs.SoundLemmas.{is_able_to_go_on-parts, lacks_none-from, lacks_none-true}
 use Rattle.redo_rules.specs.Build.{GivenView, rules_for}
 use Rattle.redo_rules.proofs.Public.{lawful_for}
-use Rattle.redo_table.specs.Table.{TableView, NoneDue as NoneIsDue, stage_at}
-use Rattle.redo_table.specs.Table.StageView.{Due as AtDue, Ready as AtReady}
+use Rattle.redo_table.specs.Schedule.{ScheduleView, NoneDue as NoneIsDue, stage_at}
+use Rattle.redo_table.specs.Schedule.StageView.{Due as AtDue, Ready as AtReady}
 use Rattle.redo_core.specs.declared.table.InCheck.{InCheck}
 use Rattle.redo_core.specs.declared.table.Slot.{Slot}
 use Rattle.redo_core.specs.declared.table.Stage.{Stage}
@@ -268,7 +268,7 @@ pub drawn-state : (given : GivenView) (whole drawn : Table) (at : ℕ) → IsDra
     table_state given drawn ≡ table_state given whole
 drawn-state given whole drawn at is_drawn =
     let items : drawn.slots.items ≡ whole.slots.items = ap (λ (v : Vec Slot Global). v.items) is_drawn.slots in
-    let queue : drawn.schedule.ready ≡ whole.schedule.ready = ap (λ (x : TableView). x.ready) is_drawn.schedule in
+    let queue : drawn.schedule.ready ≡ whole.schedule.ready = ap (λ (x : ScheduleView). x.ready) is_drawn.schedule in
     rw (is_drawn.targets, items, queue) refl
 
 -- looks that led on, and one more

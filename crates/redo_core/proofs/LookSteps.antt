@@ -28,9 +28,9 @@ use Rattle.redo_build.proofs.TurnBoundLemmas.{turn-below}
 use Rattle.redo_build.proofs.TurnLemmas.{Extends-trans'}
 use Rattle.redo_rules.specs.Build.{GivenView, rules_for}
 use Rattle.redo_rules.proofs.Public.{lawful_for}
-use Rattle.redo_table.specs.Table.{TableView, IsQueue, stage_at, times, with_stage}
-use Rattle.redo_table.specs.Table.StageView.{Due as AtDue, Ready as AtReady, InHand as AtHand}
-use Rattle.redo_table.proofs.SlotLemmas.{get-other, get-same, set-cases}
+use Rattle.redo_table.specs.Schedule.{ScheduleView, IsQueue, stage_at, times, with_stage}
+use Rattle.redo_table.specs.Schedule.StageView.{Due as AtDue, Ready as AtReady, InHand as AtHand}
+use Rattle.redo_table.proofs.TargetLemmas.{get-other, get-same, set-cases}
 use Rattle.redo_core.specs.Views.{IsReached}
 use Rattle.redo_core.specs.inside.Slots.{outcomes_at_limit, Agrees, Fits, IsAtRest, IsDueWith, IsOutThere, IsTable}
 use Rattle.redo_core.specs.inside.Slots.{IsTableOf, MayLook, entries_from, is_stage_out}
@@ -196,7 +196,7 @@ module _ (given : GivenView) (u : Table) (at : ℕ) (held : Box InCheck Global) 
   look-schedule = may.taken.schedule ∙ may.is_drawn.schedule
 
   look-stages : u.schedule.stages ≡ slice_set may.whole.schedule.stages at AtHand
-  look-stages = ap (λ (x : TableView). x.stages) look-schedule
+  look-stages = ap (λ (x : ScheduleView). x.stages) look-schedule
 
   old-open : stage_outcome may.taken.old.stage ≡ None
   old-open = rw may.taken.was refl
@@ -259,7 +259,7 @@ module _ (given : GivenView) (u : Table) (at : ℕ) (held : Box InCheck Global) 
   pub look-queue : IsQueue u.schedule
   look-queue =
       let queue = rest.resting.queue in
-      let ready : u.schedule.ready ≡ w.schedule.ready = ap (λ (x : TableView). x.ready) look-schedule in
+      let ready : u.schedule.ready ≡ w.schedule.ready = ap (λ (x : ScheduleView). x.ready) look-schedule in
       let R : (k : ℕ) → List ℕ → Type 0 = λ k xs. 0 < times k xs in
       record {
         are_ready = λ k m.
@@ -370,7 +370,7 @@ module _ (given : GivenView) (u : Table) (at : ℕ) (held : Box InCheck Global) 
       ap (λ xs. put (entered rl xs ops) m) look-entries ∙ ap (λ xs. put xs m) (entered-put rl ew (sent_out e) ops look-among)
       ∙ put-put (entered rl ew ops) (sent_out e) m refl in
       let names : map (path_at u.targets) u.schedule.ready ≡ map (path_at w.targets) w.schedule.ready =
-      ap (λ ps. map (path_at ps) u.schedule.ready) look-targets ∙ ap (λ (x : TableView). map (path_at w.targets) x.ready) look-schedule in
+      ap (λ ps. map (path_at ps) u.schedule.ready) look-targets ∙ ap (λ (x : ScheduleView). map (path_at w.targets) x.ready) look-schedule in
       let H : Option Entry → State = λ x. handed_in rl Check sw x in
       look-after ∙ ap (λ xs. Q xs (map (path_at u.targets) u.schedule.ready)) entries ∙ ap (Q (put (entered rl ew ops) m)) names ∙ sym (ap H first)
 

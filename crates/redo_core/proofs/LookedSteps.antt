@@ -25,8 +25,8 @@ use Rattle.redo_rules.proofs.Public.{lawful_for}
 use Rattle.redo_core.specs.Views.{FactView}
 use Rattle.redo_core.specs.inside.Checking.{IsWaitingCheck, asks_next, entries_in}
 use Rattle.redo_core.specs.inside.Decided.{IsDecided}
-use Rattle.redo_table.specs.Table.{TableView, stage_at}
-use Rattle.redo_table.specs.Table.StageView.{Out as AtOut, InHand as AtHand, Waiting as AtWaiting}
+use Rattle.redo_table.specs.Schedule.{ScheduleView, stage_at}
+use Rattle.redo_table.specs.Schedule.StageView.{Out as AtOut, InHand as AtHand, Waiting as AtWaiting}
 use Rattle.redo_core.specs.inside.Slots.{outcomes_at_limit, AreEnteredInto, IsAskedAt, IsCheckingWith, IsConcludedAt, IsOutThere, IsPutBackThere, MayConclude}
 use Rattle.redo_core.specs.inside.Slots.{IsSettled, IsStandingTable, IsTableOf}
 use Rattle.redo_core.specs.inside.Slots.{MayLook, concluded_entry, path_at, rounds_of, slot_entry, stage_deps, stage_outcome, is_stage_out}
@@ -352,7 +352,7 @@ module _ (given : GivenView) (u : Table) (at : ℕ) (held : Box InCheck Global) 
         asked-put x settled = record {
           table = settled.0.table;
           entries = settled.0.entries ∙ asked-moved;
-          ready = settled.0.ready ∙ ap (λ (y : TableView). y.ready) d.put_back.schedule ∙ a.ready;
+          ready = settled.0.ready ∙ ap (λ (y : ScheduleView). y.ready) d.put_back.schedule ∙ a.ready;
           keys_kept = λ k y h. rw (settled.0.targets, d.put_back.targets) (a.keys_kept k y h);
           lacks = settled.1;
           put_back = λ k h. put-none_in_hand given v w a.table asked-distinct at d.old d.new (AtWaiting (place ∷ [])) d.put_back

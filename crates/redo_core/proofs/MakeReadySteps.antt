@@ -35,7 +35,7 @@ use Rattle.redo_core.proofs.JobLemmas.{asked_of_job, asked_by_job}
 use Rattle.redo_build.proofs.TurnLemmas.{only-among}
 use Rattle.redo_core.proofs.SlotLemmas.{entry_of-slots, slice_get-below_some}
 use Rattle.redo_core.proofs.TableLemmas.{get-set_cases}
-use Rattle.redo_table.proofs.SlotLemmas.{get-other}
+use Rattle.redo_table.proofs.TargetLemmas.{get-other}
 use Rattle.redo_core.proofs.TableSteps.{waited-declared, waited-place}
 use Rattle.redo_core.proofs.GainSteps.{decided-fact}
 use Rattle.redo_core.proofs.NumberLemmas.{numbers-number, numbers-path}

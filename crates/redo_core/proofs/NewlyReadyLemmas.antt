@@ -10,8 +10,8 @@ use Rattle.redo_build.specs.Schedule.{Entry, State, outcomes_of, paths_of, known
 use Rattle.redo_core.specs.inside.Slots.{outcomes_at_limit, rounds_of, state_from, slot_entries, slot_entry, stage_deps, stage_outcome, path_at}
 use Rattle.redo_core.specs.inside.Slots.{is_stage_out, is_stage_ready, is_stage_waiting, AllAnswered}
 use Rattle.redo_core.specs.inside.Slots.{IsTableOf}
-use Rattle.redo_table.specs.Table.{EachLacks, IsQueue, stage_at, times}
-use Rattle.redo_table.specs.Table.StageView.{Ready as AtReady}
+use Rattle.redo_table.specs.Schedule.{EachLacks, IsQueue, stage_at, times}
+use Rattle.redo_table.specs.Schedule.StageView.{Ready as AtReady}
 use Rattle.redo_core.proofs.AgreeLemmas.{agreed-stage, agrees-ready, ready-agrees}
 use Rattle.redo_core.proofs.WaitedLemmas.{waited-lacks}
 use Rattle.redo_core.specs.inside.Slots.{Fits, IsDueWith}

@@ -2,7 +2,7 @@
 use Rattle.std.proofs.Common.{slice_get, ◌≡◌, ℕ, zero, suc, inl, inr, List, [], ◌∷◌, ◌++◌, Some, refl, ap, subst}
 use Rattle.redo_record.specs.Paths.{IsAmong}
 use Rattle.redo_build.specs.Rules.{Rules}
-use Rattle.redo_table.specs.Table.{StageView}
+use Rattle.redo_table.specs.Schedule.{StageView}
 use Rattle.redo_core.specs.inside.Slots.{Agrees, AreNumbers}
 use Rattle.redo_core.specs.inside.Works.{waited_by}
 use Rattle.redo_core.specs.declared.table.Stage.{Stage}

@@ -17,8 +17,8 @@ use Rattle.redo_build.specs.Looking.{IsLookedOut, looked}
 use Rattle.redo_build.specs.TakesLeft.{takes_left}
 use Rattle.redo_build.proofs.CountLemmas.{opening-left, opening-out}
 use Rattle.redo_build.proofs.StillLemmas.{looked-count}
-use Rattle.redo_table.specs.Table.{StageView, TableView, EachLacks, NoneDue, no_targets, stage_at}
-use Rattle.redo_table.specs.Table.StageView.{Due as AtDue, Ready as AtReady, InHand as AtHand, Waiting as AtWaiting, Decided as AtDecided}
+use Rattle.redo_table.specs.Schedule.{StageView, ScheduleView, EachLacks, NoneDue, no_targets, stage_at}
+use Rattle.redo_table.specs.Schedule.StageView.{Due as AtDue, Ready as AtReady, InHand as AtHand, Waiting as AtWaiting, Decided as AtDecided}
 use Rattle.redo_core.specs.inside.Slots.{IsAtRest, IsKept, table_entries, table_state, targets_in}
 use Rattle.redo_core.specs.inside.Slots.{AreEnteredInto, AreEnqueued, IsFirstTable, IsLookedOn, rules_inside, state_of}
 use Rattle.redo_core.proofs.LookLemmas.{none_due}
@@ -78,7 +78,7 @@ first-is given t u v keys slots schedule a w =
     let entries : table_entries given u ≡ (opening r request).entries = a.entries ∙ ap (λ es. entered r es (targets_in (rules_for given) request)) none ∙ sym (opening-entries given request) in
     let S : List Entry → Type 0 = AreStanding r request in
     let standing = subst S (sym entries) (opening-sound r (lawful_for given) request).standing in
-    let ready : u.schedule.ready ≡ [] = a.ready ∙ ap (λ (x : TableView). x.ready) schedule in
+    let ready : u.schedule.ready ≡ [] = a.ready ∙ ap (λ (x : ScheduleView). x.ready) schedule in
     let T : List Entry → List (List ℕ) → State = λ xs ps. record { entries = xs; ready = ps } in
     let before : table_state given u ≡ T (opening r request).entries [] = (let numbers : table_state given u ≡ T (table_entries given u) [] = rw ready refl in numbers ∙ ap (λ xs. T xs []) entries) in
     record {
@@ -93,7 +93,7 @@ first-is given t u v keys slots schedule a w =
     -- each target is due, ready or decided
     fresh : (k : ℕ) (s : StageView) → stage_at u.schedule k ≡ Some s → (s ≡ AtDue) ⊎ ((s ≡ AtReady) ⊎ (s ≡ AtDecided))
     fresh k s h = elim (a.fresh k s h) [
-      | inl old ↦ absurd (let bad : slice_get {X = StageView} [] k ≡ Some s = sym (ap (λ (x : TableView). stage_at x k) schedule) ∙ old in none-there k s bad)
+      | inl old ↦ absurd (let bad : slice_get {X = StageView} [] k ≡ Some s = sym (ap (λ (x : ScheduleView). stage_at x k) schedule) ∙ old in none-there k s bad)
       | inr new ↦ new
     ]
       where

@@ -6,7 +6,7 @@ use Rattle.redo_build.specs.Schedule.{Entry, paths_of}
 use Rattle.std.specs.Prelude.{AllPairs}
 use Rattle.std.specs.List.Sorted.{IsStrictlyIncreasing}
 use Rattle.std.proofs.lemmas.List.Kept.{AllPairs-from_increasing}
-use Rattle.redo_table.specs.Table.{times}
+use Rattle.redo_table.specs.Schedule.{times}
 use Rattle.redo_table.proofs.NumberLemmas.{at-same, at-other, times-cons, times-nil}
 
 -- a number stands in a list

@@ -8,9 +8,9 @@ use Rattle.redo_build.specs.Rules.{Ask, Rules, Extends}
 use Rattle.redo_build.specs.Schedule.{outcomes_of, put}
 use Rattle.redo_rules.specs.Build.{GivenView, rules_for}
 use Rattle.redo_rules.proofs.Public.{lawful_for}
-use Rattle.redo_table.specs.Table.{StageView, TableView, stage_at}
-use Rattle.redo_table.specs.Table.StageView.{InHand as AtHand, Waiting as AtWaiting, Decided as AtDecided}
-use Rattle.redo_table.proofs.SlotLemmas.{set-cases}
+use Rattle.redo_table.specs.Schedule.{StageView, ScheduleView, stage_at}
+use Rattle.redo_table.specs.Schedule.StageView.{InHand as AtHand, Waiting as AtWaiting, Decided as AtDecided}
+use Rattle.redo_table.proofs.TargetLemmas.{set-cases}
 use Rattle.redo_core.specs.Views.{FactView}
 use Rattle.redo_core.specs.inside.Slots.{outcomes_at_limit, table_entries, entries_from, slot_entry, stage_outcome, path_at, Agrees, AreNumbers, Fits}
 use Rattle.redo_core.specs.inside.Slots.{IsTable, IsTableOf, IsPutBack, IsDecidedAt, IsDecidedStage, IsParkedAt, IsParkedStage}
@@ -67,7 +67,7 @@ module _ (given : GivenView) (t u : Table) (table : IsTableOf given t) (distinct
     put-entries = rw (w.targets, w.slots) (slot_entries-set r (outcomes_at_limit given) t.targets t.slots.items at (path_at t.targets at) old new distinct put_path w.there)
 
     put-stages : u.schedule.stages ≡ slice_set t.schedule.stages at s
-    put-stages = ap (λ (x : TableView). x.stages) w.schedule
+    put-stages = ap (λ (x : ScheduleView). x.stages) w.schedule
 
     put-table : Agrees r t.targets new.stage s → ((a : Ask) → Extends r (outcomes_of (table_entries given t)) a →
         Fits r a given (path_at t.targets at) new.turn new.stage) → IsTableOf given u

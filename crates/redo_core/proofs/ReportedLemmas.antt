@@ -18,8 +18,8 @@ use Rattle.redo_core.specs.inside.Reported.{is_settled, AllSettled}
 use Rattle.redo_report.specs.Reports.{AreAscending, IsReport, row_paths, deps_of}
 use Rattle.redo_build.specs.Rules.{Ask, Rules, operands}
 use Rattle.redo_build.specs.Schedule.{Entry, IsQuiet, State, outcome_of, outcomes_of, paths_of}
-use Rattle.redo_table.specs.Table.{StageView, EachLacks, stage_at, times}
-use Rattle.redo_table.specs.Table.StageView.{Ready as AtReady}
+use Rattle.redo_table.specs.Schedule.{StageView, EachLacks, stage_at, times}
+use Rattle.redo_table.specs.Schedule.StageView.{Ready as AtReady}
 use Rattle.redo_table.proofs.NumberLemmas.{times-nil}
 use Rattle.redo_core.proofs.AgreeLemmas.{agreed-stage, due-agrees, ready-agrees}
 use Rattle.redo_core.proofs.WaitedLemmas.{waited-lacks}

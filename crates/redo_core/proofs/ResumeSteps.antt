@@ -16,9 +16,9 @@ use Rattle.redo_build.proofs.HandoverLemmas.{taken-deep}
 use Rattle.redo_build.proofs.TurnLemmas.{only-among}
 use Rattle.redo_rules.specs.Build.{GivenView, rules_for}
 use Rattle.redo_rules.proofs.Public.{lawful_for}
-use Rattle.redo_table.specs.Table.{with_stage}
-use Rattle.redo_table.specs.Table.StageView.{Due as AtDue, Ready as AtReady}
-use Rattle.redo_table.proofs.SlotLemmas.{get-same}
+use Rattle.redo_table.specs.Schedule.{with_stage}
+use Rattle.redo_table.specs.Schedule.StageView.{Due as AtDue, Ready as AtReady}
+use Rattle.redo_table.proofs.TargetLemmas.{get-same}
 use Rattle.redo_core.specs.Views.{FactView, WorkView}
 use Rattle.redo_core.specs.inside.Checking.{IsBegunBehind, IsDueCheck, IsWaitingCheck}
 use Rattle.redo_record.specs.declared.outcome.Outcome.{Outcome}

@@ -10,7 +10,7 @@ use Rattle.redo_build.specs.Outcomes.{outcome_at}
 use Rattle.redo_build.specs.Schedule.{only, outcome_of, outcomes_of}
 use Rattle.redo_rules.proofs.Public.{lawful_for}
 use Rattle.redo_rules.specs.Build.{GivenView, rules_for}
-use Rattle.redo_table.proofs.SlotLemmas.{get-same}
+use Rattle.redo_table.proofs.TargetLemmas.{get-same}
 use Rattle.redo_core.specs.inside.Slots.{entries_from, slot_entry, stage_outcome, path_at}
 use Rattle.redo_core.specs.inside.Slots.{Fits, AllAnswered, AllFit}
 use Rattle.redo_core.specs.inside.Works.{all_asked}

@@ -9,7 +9,7 @@ use Rattle.redo_build.specs.Outcomes.{outcome_at}
 use Rattle.redo_build.specs.Schedule.{Entry, known_to, only, outcome_of, outcomes_of, entry_of}
 use Rattle.redo_rules.specs.Build.{GivenView, rules_for}
 use Rattle.redo_rules.proofs.Public.{lawful_for}
-use Rattle.redo_table.specs.Table.{StageView}
+use Rattle.redo_table.specs.Schedule.{StageView}
 use Rattle.redo_core.specs.inside.Slots.{outcomes_at_limit, rounds_of, table_entries, entries_from, slot_entries, slot_entry, stage_deps}
 use Rattle.redo_core.specs.inside.Slots.{stage_outcome, path_at, is_stage_decided, Agrees, Fits, AllAnswered, AreNumbers}
 use Rattle.redo_core.specs.inside.Slots.{IsDecidedNumber, IsTable, IsWaitingWith, IsFed, IsStandingTable, IsDecidedSlot}

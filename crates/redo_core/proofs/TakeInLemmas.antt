@@ -30,8 +30,8 @@ use Rattle.redo_core.specs.inside.Slots.{is_stage_out, path_at, AreNumbers, IsWa
 use Rattle.redo_core.specs.inside.Slots.{AreEnteredInto, IsParkedStage, IsParkedAt, MayConclude, IsConcludedAt, concluded_entry}
 use Rattle.redo_core.specs.inside.Slots.{IsOutThere, MayTakeIn, IsPutBackThere, state_after}
 use Rattle.redo_core.specs.inside.Slots.{Agrees, AreSeen, IsSettled, IsStandingTable, IsTableOf}
-use Rattle.redo_table.specs.Table.{IsOpen, TableView, stage_at}
-use Rattle.redo_table.specs.Table.StageView.{Out as AtOut, InHand as AtHand, Waiting as AtWaiting}
+use Rattle.redo_table.specs.Schedule.{IsOpen, ScheduleView, stage_at}
+use Rattle.redo_table.specs.Schedule.StageView.{Out as AtOut, InHand as AtHand, Waiting as AtWaiting}
 use Rattle.redo_core.proofs.AgreeLemmas.{agreed-stage}
 use Rattle.redo_core.proofs.NumberLemmas.{numbers-number}
 use Rattle.std.specs.Prelude.{Box, is_none}
@@ -498,7 +498,7 @@ module _ (given : GivenView) (t : Table) (at : ℕ) (end : End) (may : MayTakeIn
         suspended-put x settled = record {
           table = settled.0.table;
           entries = settled.0.entries ∙ parked-moved ∙ sym after-entries;
-          ready = settled.0.ready ∙ ap (λ (y : TableView). y.ready) d.put_back.schedule ∙ a.ready;
+          ready = settled.0.ready ∙ ap (λ (y : ScheduleView). y.ready) d.put_back.schedule ∙ a.ready;
           keys_kept = λ k p h. rw (settled.0.targets, d.put_back.targets) (a.keys_kept k p h);
           lacks = settled.1;
           put_back = λ k h. put-none_in_hand given v u a.table wider-distinct at d.old d.new (AtWaiting on) d.put_back

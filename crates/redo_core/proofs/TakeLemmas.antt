@@ -6,11 +6,11 @@ use Rattle.redo_build.specs.Rules.{Rules, operands, AreLawful, Ask}
 use Rattle.redo_record.specs.Paths.{AreDistinct}
 use Rattle.redo_rules.specs.Build.{rules_for}
 use Rattle.redo_rules.proofs.Public.{lawful_for}
-use Rattle.redo_table.specs.Table.{StageView, TableView, EachLacks, IsQueue, stage_at, times, with_stage}
-use Rattle.redo_table.specs.Table.StageView.{Due as AtDue, Ready as AtReady, Out as AtOut, InHand as AtHand}
-use Rattle.redo_table.specs.Table.StageView.{Waiting as AtWaiting, Decided as AtDecided}
+use Rattle.redo_table.specs.Schedule.{StageView, ScheduleView, EachLacks, IsQueue, stage_at, times, with_stage}
+use Rattle.redo_table.specs.Schedule.StageView.{Due as AtDue, Ready as AtReady, Out as AtOut, InHand as AtHand}
+use Rattle.redo_table.specs.Schedule.StageView.{Waiting as AtWaiting, Decided as AtDecided}
 use Rattle.redo_table.proofs.NumberLemmas.{at-other, times-taken}
-use Rattle.redo_table.proofs.SlotLemmas.{set-cases}
+use Rattle.redo_table.proofs.TargetLemmas.{set-cases}
 use Rattle.redo_core.proofs.AgreeLemmas.{agreed-set, agrees-ready}
 use Rattle.redo_build.proofs.QueueLemmas.{slice_get-among}
 use Rattle.redo_build.specs.Schedule.{Entry, State, Event, IsOpen, AllOpen, entry_of, opening, run, happens}
@@ -172,7 +172,7 @@ module _ (b : Inside) (kept : IsKept b) (which at : ℕ) (slot : Slot)
       let other = other-stage k AtReady (λ e. cc) h in
       omega (arith, rest.queued k other.1, times-taken k b.table.schedule.ready which at first, at-other k at (λ e. other.0 (sym e)))
 
-  pub kept-taken : (slots : Vec Slot Global) (schedule : TableView) → slots.items ≡ slice_set b.table.slots.items at (record slot { stage = Out }) →
+  pub kept-taken : (slots : Vec Slot Global) (schedule : ScheduleView) → slots.items ≡ slice_set b.table.slots.items at (record slot { stage = Out }) →
       schedule ≡ record (with_stage b.table.schedule at AtOut) { ready = remove b.table.schedule.ready which } → IsQueue schedule →
       IsKept (record b { table = record { targets = b.table.targets; slots = slots; schedule = schedule } })
   kept-taken slots schedule is_slots is_schedule queue =
@@ -180,8 +180,8 @@ module _ (b : Inside) (kept : IsKept b) (which at : ℕ) (slot : Slot)
       let new : Slot = record slot { stage = Out } in
       let job = found_job b kept which at slot first staged there in
       let path = found_path b kept which at slot first staged there in
-      let is_ready : schedule.ready ≡ remove b.table.schedule.ready which = ap (λ (x : TableView). x.ready) is_schedule in
-      let is_stages : schedule.stages ≡ slice_set stages at AtOut = ap (λ (x : TableView). x.stages) is_schedule in
+      let is_ready : schedule.ready ≡ remove b.table.schedule.ready which = ap (λ (x : ScheduleView). x.ready) is_schedule in
+      let is_stages : schedule.stages ≡ slice_set stages at AtOut = ap (λ (x : ScheduleView). x.stages) is_schedule in
       let back : (k : ℕ) (s : StageView) → slice_get schedule.stages k ≡ Some s → slice_get (slice_set stages at AtOut) k ≡ Some s =
       λ k s h. sym (ap (λ ss. slice_get ss k) is_stages) ∙ h in
       let state : state_from r b.build.limits.targets b.table.targets slots.items schedule.ready ≡ happens r (state_of b) (Take which) =

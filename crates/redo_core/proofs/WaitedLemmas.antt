@@ -7,8 +7,8 @@ use Rattle.redo_build.specs.Rules.{Ask, Rules, operands}
 use Rattle.redo_build.specs.Schedule.{outcome_of, outcomes_of}
 use Rattle.redo_build.proofs.QueueLemmas.{slice_get-among}
 use Rattle.redo_rules.specs.Build.{GivenView, rules_for}
-use Rattle.redo_table.specs.Table.{StageView, EachLacks}
-use Rattle.redo_table.specs.Table.StageView.{Waiting as AtWaiting, Decided as AtDecided}
+use Rattle.redo_table.specs.Schedule.{StageView, EachLacks}
+use Rattle.redo_table.specs.Schedule.StageView.{Waiting as AtWaiting, Decided as AtDecided}
 use Rattle.redo_core.specs.inside.Slots.{outcomes_at_limit, Agrees, Fits, IsTable, IsCheckingWith, IsWaitingWith, is_stage_decided, is_stage_waiting}
 use Rattle.redo_core.specs.inside.Slots.{path_at, rounds_of, stage_deps, table_entries}
 use Rattle.redo_core.specs.inside.Works.{waited_by}

@@ -1,7 +1,7 @@
 //! What the opening, a hand-in and looks do to the table.
 ghost use Rattle.std.specs.Prelude.{◌≡◌, ◌<◌, ℕ, length, IfOk, OnOk, Err};
 ghost use Rattle.redo_rules.specs.Build.{rules_for};
-ghost use Rattle.redo_table.specs.Table.{NoneDue};
+ghost use Rattle.redo_table.specs.Schedule.{NoneDue};
 ghost use Rattle.redo_core.specs.inside.Slots.{AreNumbers, IsTableOf, AreEnteredInto};
 ghost use Rattle.redo_core.specs.inside.Slots.{AreTooMany, MayTakeIn, IsPutBackThere};
 ghost use Rattle.redo_core.specs.inside.Slots.{IsTakenIn, IsFirstTable, targets_in, state_after};
@@ -19,7 +19,7 @@ use crate::table::{Awaiting, InCheck, Table};
 use crate::work::{Begun, End};
 use redo_names::PathSet;
 use redo_path::Path;
-use redo_table::Table as Schedule;
+use redo_table::Schedule;
 use std::alloc::{AllocError, Global};
 use std::sync::Arc;
 

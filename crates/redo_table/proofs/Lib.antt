@@ -1,4 +1,4 @@
 pub mod NumberLemmas
-pub mod SlotLemmas
+pub mod TargetLemmas
 pub mod WaitLemmas
 pub mod ListedLemmas

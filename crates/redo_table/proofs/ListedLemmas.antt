@@ -1,9 +1,9 @@
--- The lists of a table, while one target changes its stage.
+-- The lists of a schedule, while one target changes its stage.
 use Rattle.std.proofs.Common.{◌≡◌, inl, inr, ℕ, zero, suc, ◌+◌, ◌<◌, ◌≤◌, ◌^◌, Bool, true, false, cond, List, [], ◌∷◌, ◌++◌}
 use Rattle.std.proofs.Common.{Option, Some, None, length, slice_get, slice_set, refl, sym, ap, subst, ◌∙◌, arith, length-set, length-append, remove, ◌-◌, All, slice_index, ◌↔◌}
 use Rattle.std.proofs.lemmas.Bool.{cases_Bool}
-use Rattle.redo_table.specs.Table.{StageView, is_due, is_ready, is_out, times}
-use Rattle.redo_table.specs.Table.StageView.{Due, Ready, Out, InHand, Waiting, Decided}
+use Rattle.redo_table.specs.Schedule.{StageView, is_due, is_ready, is_out, times}
+use Rattle.redo_table.specs.Schedule.StageView.{Due, Ready, Out, InHand, Waiting, Decided}
 use Rattle.redo_table.specs.inside.Listed.{one_if, IsListed}
 use Rattle.std.specs.BTreeSet.{insert_key}
 use Rattle.std.specs.BTreeMap.Range.{IsLtBy}
@@ -15,8 +15,8 @@ use Rattle.redo_table.proofs.NumberLemmas.{at as one-at, times-twice, times-shuf
 use Rattle.std.specs.Prelude.{IsPermutation, IsSorted}
 use Rattle.std.specs.List.Sorted.{IsStrictlyIncreasing}
 use Rattle.std.proofs.lemmas.List.Sorted.{IsNonDecreasingBy-from_sort}
-use Rattle.redo_table.proofs.SlotLemmas.{index-there}
-use Rattle.redo_table.proofs.SlotLemmas.{get-same, get-other, cases_eq, count-set, count-push}
+use Rattle.redo_table.proofs.TargetLemmas.{index-there}
+use Rattle.redo_table.proofs.TargetLemmas.{get-same, get-other, cases_eq, count-set, count-push}
 
 pub ready-is : (s : StageView) → is_ready s ≡ true → s ≡ Ready
 ready-is Due h = cc

@@ -11,7 +11,7 @@ use Rattle.std.proofs.lemmas.List.Sums.{sum_by-cons, sum_by-append, sum_by-remov
 use Rattle.std.proofs.lemmas.List.Sorted.{sum_by-IsPermutation}
 use Rattle.std.proofs.lemmas.Map.Lookups.{exact_unsigned}
 use Rattle.std.proofs.lemmas.Option.{slice_get_within}
-use Rattle.redo_table.specs.Table.{times}
+use Rattle.redo_table.specs.Schedule.{times}
 
 -- one at a number, zero elsewhere
 pub at : ℕ → ℕ → ℕ

@@ -1,13 +1,13 @@
--- Each target that waits is still to be looked at or watches another, while one slot changes.
+-- Each target that waits is still to be looked at or watches another, while one target changes.
 use Rattle.std.proofs.Common.{◌≡◌, ◌⊎◌, inl, inr, ℕ, ◌+◌, ◌<◌, Bool, true, false, not, List, [], ◌∷◌, ◌++◌}
 use Rattle.std.proofs.Common.{Some, length, slice_get, slice_set, refl, sym, ap, subst, ◌∙◌, arith, length-set, length-append}
-use Rattle.redo_table.specs.Table.{is_decided, times}
-use Rattle.redo_table.specs.Table.StageView.{Waiting, Decided}
-use Rattle.redo_table.specs.inside.Slots.{view_of, stages_of, is_decided_slot, AreDecidedBelow, IsWatched, IsAwaited, AreWaiters}
+use Rattle.redo_table.specs.Schedule.{is_decided, times}
+use Rattle.redo_table.specs.Schedule.StageView.{Waiting, Decided}
+use Rattle.redo_table.specs.inside.Targets.{view_of, stages_of, is_decided_target, AreDecidedBelow, IsWatched, IsAwaited, AreWaiters}
 use Rattle.redo_table.specs.declared.stage.Stage.TheVariants as stages
-use Rattle.redo_table.specs.declared.stage.Slot.{Slot}
+use Rattle.redo_table.specs.declared.stage.Target.{Target}
 use Rattle.redo_table.specs.declared.stage.Waiting as waits
-use Rattle.redo_table.specs.inside.Slots.{is_plain}
+use Rattle.redo_table.specs.inside.Targets.{is_plain}
 use Rattle.redo_table.specs.declared.stage.Stage.{Stage}
 use Rattle.std.specs.Prelude.{Vec}
 use Rattle.std.specs.declared.alloc.Global.{Global}
@@ -15,61 +15,61 @@ use Rattle.std.proofs.lemmas.Bool.{both_ways, cases_lt}
 use Rattle.redo_table.proofs.NumberLemmas.{times-push, times-append, times-nil, times-index, times-there, at-same}
 use Rattle.redo_table.proofs.NumberLemmas.{at as one-at}
 use Rattle.std.proofs.lemmas.Option.{slice_get_within}
-use Rattle.redo_table.specs.inside.Slots.{IsLackingAt, AreDecidedFrom, LacksAt}
-use Rattle.redo_table.proofs.SlotLemmas.{get-same, get-other, cases_eq, set-cases, stages-set, stages-same, stage-there, slot-there, decided-is, view-there}
-use Rattle.redo_table.proofs.SlotLemmas.{push-cases, push-before, stages-push, waiting-is}
-use Rattle.redo_table.specs.Table.{EachLacks}
+use Rattle.redo_table.specs.inside.Targets.{IsLackingAt, AreDecidedFrom, LacksAt}
+use Rattle.redo_table.proofs.TargetLemmas.{get-same, get-other, cases_eq, set-cases, stages-set, stages-same, stage-there, target-there, decided-is, view-there}
+use Rattle.redo_table.proofs.TargetLemmas.{push-cases, push-before, stages-push, waiting-is}
+use Rattle.redo_table.specs.Schedule.{EachLacks}
 
--- one slot changes, and what is to be looked at again
-pub record IsChanged (slots : List Slot) (pending pending' : List ℕ) (at : ℕ) (old new : Slot) : Type 0 where
-  pub there : slice_get slots at ≡ Some old
-  pub stays : is_decided_slot old ≡ true → is_decided_slot new ≡ true
-  pub awaited : (w : waits.Waiting) → new.stage ≡ stages.Waiting w → IsAwaited (slice_set slots at new) w
-  pub own : (w : waits.Waiting) → new.stage ≡ stages.Waiting w → (0 < times at pending') ⊎ IsWatched (slice_set slots at new) at w.on.items
-  pub others : (k : ℕ) (slot : Slot) (w : waits.Waiting) → (at ≡ k → ⊥) → slice_get slots k ≡ Some slot → slot.stage ≡ stages.Waiting w →
-      0 < times k pending → (0 < times k pending') ⊎ IsWatched (slice_set slots at new) k w.on.items
-  pub watchers : (k : ℕ) → 0 < times k old.watchers.items → is_decided_slot old ≡ false →
-      ((0 < times k new.watchers.items) × (is_decided_slot new ≡ false)) ⊎ (0 < times k pending')
+-- one target changes, and what is to be looked at again
+pub record IsChanged (targets : List Target) (pending pending' : List ℕ) (at : ℕ) (old new : Target) : Type 0 where
+  pub there : slice_get targets at ≡ Some old
+  pub stays : is_decided_target old ≡ true → is_decided_target new ≡ true
+  pub awaited : (w : waits.Waiting) → new.stage ≡ stages.Waiting w → IsAwaited (slice_set targets at new) w
+  pub own : (w : waits.Waiting) → new.stage ≡ stages.Waiting w → (0 < times at pending') ⊎ IsWatched (slice_set targets at new) at w.on.items
+  pub others : (k : ℕ) (target : Target) (w : waits.Waiting) → (at ≡ k → ⊥) → slice_get targets k ≡ Some target → target.stage ≡ stages.Waiting w →
+      0 < times k pending → (0 < times k pending') ⊎ IsWatched (slice_set targets at new) k w.on.items
+  pub watchers : (k : ℕ) → 0 < times k old.watchers.items → is_decided_target old ≡ false →
+      ((0 < times k new.watchers.items) × (is_decided_target new ≡ false)) ⊎ (0 < times k pending')
 
-module _ (slots : List Slot) (pending pending' : List ℕ) (at : ℕ) (old new : Slot) (kept : AreWaiters slots pending)
-    (changed : IsChanged slots pending pending' at old new) where
-  abbrev slots' : List Slot
-  slots' = slice_set slots at new
+module _ (targets : List Target) (pending pending' : List ℕ) (at : ℕ) (old new : Target) (kept : AreWaiters targets pending)
+    (changed : IsChanged targets pending pending' at old new) where
+  abbrev targets' : List Target
+  targets' = slice_set targets at new
 
   -- a target that was decided still is
-  decided-still : (n : ℕ) → slice_get (stages_of slots) n ≡ Some Decided → slice_get (stages_of slots') n ≡ Some Decided
+  decided-still : (n : ℕ) → slice_get (stages_of targets) n ≡ Some Decided → slice_get (stages_of targets') n ≡ Some Decided
   decided-still n h = elim (cases_eq at n) [
     | inl same ↦
-        let here : slice_get (stages_of slots) at ≡ Some Decided = subst (λ j. slice_get (stages_of slots) j ≡ Some Decided) (sym same) h in
-        let both : Some (view_of old.stage) ≡ Some Decided = sym (stage-there slots at old changed.there) ∙ here in
+        let here : slice_get (stages_of targets) at ≡ Some Decided = subst (λ j. slice_get (stages_of targets) j ≡ Some Decided) (sym same) h in
+        let both : Some (view_of old.stage) ≡ Some Decided = sym (stage-there targets at old changed.there) ∙ here in
         let was : view_of old.stage ≡ Decided = cc in
         let now = decided-is (view_of new.stage) (changed.stays (ap is_decided was)) in
-        let done : slice_get (stages_of slots') at ≡ Some Decided = stage-there slots' at new (get-same slots at old new changed.there) ∙ ap Some now in
-        subst (λ j. slice_get (stages_of slots') j ≡ Some Decided) same done
-    | inr n' ↦ let e = ap (λ ss. slice_get ss n) (stages-set slots at new) in
-        e ∙ get-other (stages_of slots) at n (view_of new.stage) n' ∙ h
+        let done : slice_get (stages_of targets') at ≡ Some Decided = stage-there targets' at new (get-same targets at old new changed.there) ∙ ap Some now in
+        subst (λ j. slice_get (stages_of targets') j ≡ Some Decided) same done
+    | inr n' ↦ let e = ap (λ ss. slice_get ss n) (stages-set targets at new) in
+        e ∙ get-other (stages_of targets) at n (view_of new.stage) n' ∙ h
   ]
 
-  awaited-still : (w : waits.Waiting) → IsAwaited slots w → IsAwaited slots' w
+  awaited-still : (w : waits.Waiting) → IsAwaited targets w → IsAwaited targets' w
   awaited-still w before = record {
-    seen = λ i n g. omega (arith, before.seen i n g, length-set slots at new);
+    seen = λ i n g. omega (arith, before.seen i n g, length-set targets at new);
     known = λ i n lt g. decided-still n (before.known i n lt g);
   }
 
-  watched-still : (k : ℕ) (slot : Slot) (w : waits.Waiting) → (at ≡ k → ⊥) → slice_get slots k ≡ Some slot → slot.stage ≡ stages.Waiting w →
-      (0 < times k pending) ⊎ IsWatched slots k w.on.items → (0 < times k pending') ⊎ IsWatched slots' k w.on.items
-  watched-still k slot w n there is before = elim before [
-    | inl h ↦ changed.others k slot w n there is h
+  watched-still : (k : ℕ) (target : Target) (w : waits.Waiting) → (at ≡ k → ⊥) → slice_get targets k ≡ Some target → target.stage ≡ stages.Waiting w →
+      (0 < times k pending) ⊎ IsWatched targets k w.on.items → (0 < times k pending') ⊎ IsWatched targets' k w.on.items
+  watched-still k target w n there is before = elim before [
+    | inl h ↦ changed.others k target w n there is h
     | inr by ↦ elim (cases_eq at by.at) [
       | inl same ↦
-          let both : Some old ≡ Some by.other = sym changed.there ∙ subst (λ j. slice_get slots j ≡ Some by.other) (sym same) by.there in
+          let both : Some old ≡ Some by.other = sym changed.there ∙ subst (λ j. slice_get targets j ≡ Some by.other) (sym same) by.there in
           let eq : old ≡ by.other = cc in
-          let listed : 0 < times k old.watchers.items = subst (λ (s : Slot). 0 < times k s.watchers.items) (sym eq) by.listed in
-          elim (changed.watchers k listed (ap is_decided_slot eq ∙ by.undecided)) [
+          let listed : 0 < times k old.watchers.items = subst (λ (s : Target). 0 < times k s.watchers.items) (sym eq) by.listed in
+          elim (changed.watchers k listed (ap is_decided_target eq ∙ by.undecided)) [
             | inl still ↦ inr (record {
               at = at;
               other = new;
-              there = get-same slots at old new changed.there;
+              there = get-same targets at old new changed.there;
               undecided = still.1;
               awaited = subst (λ j. 0 < times j w.on.items) (sym same) by.awaited;
               listed = still.0;
@@ -79,7 +79,7 @@ module _ (slots : List Slot) (pending pending' : List ℕ) (at : ℕ) (old new :
       | inr apart ↦ inr (record {
         at = by.at;
         other = by.other;
-        there = get-other slots at by.at new apart ∙ by.there;
+        there = get-other targets at by.at new apart ∙ by.there;
         undecided = by.undecided;
         awaited = by.awaited;
         listed = by.listed;
@@ -87,16 +87,16 @@ module _ (slots : List Slot) (pending pending' : List ℕ) (at : ℕ) (old new :
     ]
   ]
 
-  pub waiters-changed : AreWaiters (slice_set slots at new) pending'
+  pub waiters-changed : AreWaiters (slice_set targets at new) pending'
   waiters-changed = record {
-    awaited = λ k slot w there is. elim (set-cases slots at k old new slot changed.there there) [
-      | inl here ↦ changed.awaited w (ap (λ (y : Slot). y.stage) here.1 ∙ is)
-      | inr before ↦ awaited-still w (kept.awaited k slot w before.1 is)
+    awaited = λ k target w there is. elim (set-cases targets at k old new target changed.there there) [
+      | inl here ↦ changed.awaited w (ap (λ (y : Target). y.stage) here.1 ∙ is)
+      | inr before ↦ awaited-still w (kept.awaited k target w before.1 is)
     ];
-    watched = λ k slot w there is. elim (set-cases slots at k old new slot changed.there there) [
-      | inl here ↦ subst (λ j. (0 < times j pending') ⊎ IsWatched slots' j w.on.items) here.0
-          (changed.own w (ap (λ (y : Slot). y.stage) here.1 ∙ is))
-      | inr before ↦ watched-still k slot w before.0 before.1 is (kept.watched k slot w before.1 is)
+    watched = λ k target w there is. elim (set-cases targets at k old new target changed.there there) [
+      | inl here ↦ subst (λ j. (0 < times j pending') ⊎ IsWatched targets' j w.on.items) here.0
+          (changed.own w (ap (λ (y : Target). y.stage) here.1 ∙ is))
+      | inr before ↦ watched-still k target w before.0 before.1 is (kept.watched k target w before.1 is)
     ];
   }
 
@@ -104,34 +104,34 @@ module _ (slots : List Slot) (pending pending' : List ℕ) (at : ℕ) (old new :
 pub plain-waits : (stage : Stage) (w : waits.Waiting) → is_plain stage ≡ true → stage ≡ stages.Waiting w → ⊥
 plain-waits stage w plain e = both_ways _ (ap is_plain e) plain
 
-module _ (slots : List Slot) (pending : List ℕ) (at : ℕ) (old new : Slot) (kept : AreWaiters slots pending)
-    (there : slice_get slots at ≡ Some old) (open' : is_decided_slot old ≡ false) where
+module _ (targets : List Target) (pending : List ℕ) (at : ℕ) (old new : Target) (kept : AreWaiters targets pending)
+    (there : slice_get targets at ≡ Some old) (open' : is_decided_target old ≡ false) where
   -- a target is put into another stage, in which it doesn't wait
-  pub put-waiters : is_plain new.stage ≡ true → is_decided_slot new ≡ false → new.watchers ≡ old.watchers → AreWaiters (slice_set slots at new) pending
-  put-waiters plain still same = waiters-changed slots pending pending at old new kept (record {
+  pub put-waiters : is_plain new.stage ≡ true → is_decided_target new ≡ false → new.watchers ≡ old.watchers → AreWaiters (slice_set targets at new) pending
+  put-waiters plain still same = waiters-changed targets pending pending at old new kept (record {
     there = there;
     stays = λ d. absurd (both_ways _ open' d);
     awaited = λ w e. absurd (plain-waits new.stage w plain e);
     own = λ w e. absurd (plain-waits new.stage w plain e);
-    others = λ k slot w n g e h. inl h;
+    others = λ k target w n g e h. inl h;
     watchers = λ k h f. inl (subst (λ (v : Vec ℕ Global). 0 < times k v.items) (sym same) h, still);
   })
 
   -- a target waits, and is to be looked at
   pub wait-waiters : (on : Vec ℕ Global) → new.stage ≡ stages.Waiting (record { on = on; decided = 0 }) → new.watchers ≡ old.watchers →
-      ((i n : ℕ) → slice_get on.items i ≡ Some n → n < length slots) → AreWaiters (slice_set slots at new) (pending ++ at ∷ [])
-  wait-waiters on stage same seen = waiters-changed slots pending (pending ++ at ∷ []) at old new kept (record {
+      ((i n : ℕ) → slice_get on.items i ≡ Some n → n < length targets) → AreWaiters (slice_set targets at new) (pending ++ at ∷ [])
+  wait-waiters on stage same seen = waiters-changed targets pending (pending ++ at ∷ []) at old new kept (record {
     there = there;
     stays = λ d. absurd (both_ways _ open' d);
     awaited = λ w e.
         let both : stages.Waiting (record { on = on; decided = 0 }) ≡ stages.Waiting w = sym stage ∙ e in
         let is : record { on = on; decided = 0 } ≡ w = cc in
-        subst (IsAwaited (slice_set slots at new)) is (record {
-          seen = λ i n g. omega (arith, seen i n g, length-set slots at new);
+        subst (IsAwaited (slice_set targets at new)) is (record {
+          seen = λ i n g. omega (arith, seen i n g, length-set targets at new);
           known = λ i n lt g. absurd (omega (arith, lt));
         });
     own = λ w e. inl (omega (arith, times-push at at pending, at-same at at refl));
-    others = λ k slot w n g e h. inl (omega (arith, times-push k at pending, h));
+    others = λ k target w n g e h. inl (omega (arith, times-push k at pending, h));
     watchers = λ k h f. inl (
       subst (λ (v : Vec ℕ Global). 0 < times k v.items) (sym same) h,
       ap (λ s. is_decided (view_of s)) stage,
@@ -142,48 +142,48 @@ decided-waits : (w : waits.Waiting) → stages.Decided ≡ stages.Waiting w → 
 decided-waits w e = cc
 
 -- a target is decided, and what watched it is to be looked at
-pub decide-waiters : (slots : List Slot) (pending more : List ℕ) (at : ℕ) (old new : Slot) → AreWaiters slots pending →
-    slice_get slots at ≡ Some old → new.stage ≡ stages.Decided → more ≡ old.watchers.items → AreWaiters (slice_set slots at new) (pending ++ more)
-decide-waiters slots pending more at old new kept there stage is = waiters-changed slots pending (pending ++ more) at old new kept (record {
+pub decide-waiters : (targets : List Target) (pending more : List ℕ) (at : ℕ) (old new : Target) → AreWaiters targets pending →
+    slice_get targets at ≡ Some old → new.stage ≡ stages.Decided → more ≡ old.watchers.items → AreWaiters (slice_set targets at new) (pending ++ more)
+decide-waiters targets pending more at old new kept there stage is = waiters-changed targets pending (pending ++ more) at old new kept (record {
   there = there;
   stays = λ d. ap (λ s. is_decided (view_of s)) stage;
   awaited = λ w e. absurd (decided-waits w (sym stage ∙ e));
   own = λ w e. absurd (decided-waits w (sym stage ∙ e));
-  others = λ k slot w n g e h. inl (omega (arith, times-append k pending more, h));
+  others = λ k target w n g e h. inl (omega (arith, times-append k pending more, h));
   watchers = λ k h f. inr (let m : 0 < times k more = subst (λ xs. 0 < times k xs) (sym is) h in omega (arith, times-append k pending more, m));
 })
 
-seen-watched : (slots : List Slot) (at : ℕ) (old new : Slot) → slice_get slots at ≡ Some old → view_of new.stage ≡ view_of old.stage →
-    new.watchers.items ≡ old.watchers.items → (k : ℕ) (on : List ℕ) → IsWatched slots k on → IsWatched (slice_set slots at new) k on
-seen-watched slots at old new there stage same k on by = elim (cases_eq at by.at) [
+seen-watched : (targets : List Target) (at : ℕ) (old new : Target) → slice_get targets at ≡ Some old → view_of new.stage ≡ view_of old.stage →
+    new.watchers.items ≡ old.watchers.items → (k : ℕ) (on : List ℕ) → IsWatched targets k on → IsWatched (slice_set targets at new) k on
+seen-watched targets at old new there stage same k on by = elim (cases_eq at by.at) [
   | inl here ↦
-      let both : Some old ≡ Some by.other = sym there ∙ subst (λ j. slice_get slots j ≡ Some by.other) (sym here) by.there in
+      let both : Some old ≡ Some by.other = sym there ∙ subst (λ j. slice_get targets j ≡ Some by.other) (sym here) by.there in
       let eq : old ≡ by.other = cc in
       record {
         at = at;
         other = new;
-        there = get-same slots at old new there;
-        undecided = ap is_decided stage ∙ ap is_decided_slot eq ∙ by.undecided;
+        there = get-same targets at old new there;
+        undecided = ap is_decided stage ∙ ap is_decided_target eq ∙ by.undecided;
         awaited = subst (λ j. 0 < times j on) (sym here) by.awaited;
-        listed = subst (λ xs. 0 < times k xs) (ap (λ (s : Slot). s.watchers.items) (sym eq) ∙ sym same) by.listed;
+        listed = subst (λ xs. 0 < times k xs) (ap (λ (s : Target). s.watchers.items) (sym eq) ∙ sym same) by.listed;
       }
   | inr apart ↦ record {
     at = by.at;
     other = by.other;
-    there = get-other slots at by.at new apart ∙ by.there;
+    there = get-other targets at by.at new apart ∙ by.there;
     undecided = by.undecided;
     awaited = by.awaited;
     listed = by.listed;
   }
 ]
 
--- a slot that has the same stage and watchers
-pub same-waiters : (slots : List Slot) (pending : List ℕ) (at : ℕ) (old new : Slot) → AreWaiters slots pending → slice_get slots at ≡ Some old →
-    new.stage ≡ old.stage → new.watchers.items ≡ old.watchers.items → AreWaiters (slice_set slots at new) pending
-same-waiters slots pending at old new kept there stage same =
-    let length' = length-set slots at new in
-    let seen-as : stages_of (slice_set slots at new) ≡ stages_of slots = stages-same slots at old new there (ap view_of stage) in
-    waiters-changed slots pending pending at old new kept (record {
+-- a target that has the same stage and watchers
+pub same-waiters : (targets : List Target) (pending : List ℕ) (at : ℕ) (old new : Target) → AreWaiters targets pending → slice_get targets at ≡ Some old →
+    new.stage ≡ old.stage → new.watchers.items ≡ old.watchers.items → AreWaiters (slice_set targets at new) pending
+same-waiters targets pending at old new kept there stage same =
+    let length' = length-set targets at new in
+    let seen-as : stages_of (slice_set targets at new) ≡ stages_of targets = stages-same targets at old new there (ap view_of stage) in
+    waiters-changed targets pending pending at old new kept (record {
       there = there;
       stays = λ d. ap (λ s. is_decided (view_of s)) stage ∙ d;
       awaited = λ w e.
@@ -194,9 +194,9 @@ same-waiters slots pending at old new kept there stage same =
           };
       own = λ w e. elim (kept.watched at old w there (sym stage ∙ e)) [
         | inl h ↦ inl h
-        | inr by ↦ inr (seen-watched slots at old new there (ap view_of stage) same at w.on.items by)
+        | inr by ↦ inr (seen-watched targets at old new there (ap view_of stage) same at w.on.items by)
       ];
-      others = λ k slot w n g e h. inl h;
+      others = λ k target w n g e h. inl h;
       watchers = λ k h f. inl (subst (λ xs. 0 < times k xs) (sym same) h, ap (λ s. is_decided (view_of s)) stage ∙ f);
     })
 
@@ -211,31 +211,31 @@ plain-open stages.Decided h = cc
 in-hand-waits : (w : waits.Waiting) → stages.InHand ≡ stages.Waiting w → ⊥
 in-hand-waits w e = cc
 
--- one slot more
-pub push-waiters : (slots : List Slot) (pending : List ℕ) (new : Slot) → AreWaiters slots pending → new.stage ≡ stages.InHand →
-    AreWaiters (slots ++ new ∷ []) pending
-push-waiters slots pending new kept stage =
-    let longer = length-append slots (new ∷ []) in
+-- one target more
+pub push-waiters : (targets : List Target) (pending : List ℕ) (new : Target) → AreWaiters targets pending → new.stage ≡ stages.InHand →
+    AreWaiters (targets ++ new ∷ []) pending
+push-waiters targets pending new kept stage =
+    let longer = length-append targets (new ∷ []) in
     let hand : (w : waits.Waiting) → new.stage ≡ stages.Waiting w → ⊥ = λ w e. in-hand-waits w (sym stage ∙ e) in
     record {
-      awaited = λ k slot w there is. elim (push-cases slots k new slot there) [
-        | inl last ↦ absurd (hand w (ap (λ (y : Slot). y.stage) last.1 ∙ is))
+      awaited = λ k target w there is. elim (push-cases targets k new target there) [
+        | inl last ↦ absurd (hand w (ap (λ (y : Target). y.stage) last.1 ∙ is))
         | inr before ↦
-            let was = kept.awaited k slot w before is in
+            let was = kept.awaited k target w before is in
             record {
               seen = λ i n g. omega (arith, was.seen i n g, longer);
-              known = λ i n lt g. ap (λ ss. slice_get ss n) (stages-push slots new)
-                  ∙ push-before (stages_of slots) n (view_of new.stage) Decided (was.known i n lt g);
+              known = λ i n lt g. ap (λ ss. slice_get ss n) (stages-push targets new)
+                  ∙ push-before (stages_of targets) n (view_of new.stage) Decided (was.known i n lt g);
             }
       ];
-      watched = λ k slot w there is. elim (push-cases slots k new slot there) [
-        | inl last ↦ absurd (hand w (ap (λ (y : Slot). y.stage) last.1 ∙ is))
-        | inr before ↦ elim (kept.watched k slot w before is) [
+      watched = λ k target w there is. elim (push-cases targets k new target there) [
+        | inl last ↦ absurd (hand w (ap (λ (y : Target). y.stage) last.1 ∙ is))
+        | inr before ↦ elim (kept.watched k target w before is) [
           | inl h ↦ inl h
           | inr by ↦ inr (record {
             at = by.at;
             other = by.other;
-            there = push-before slots by.at new by.other by.there;
+            there = push-before targets by.at new by.other by.there;
             undecided = by.undecided;
             awaited = by.awaited;
             listed = by.listed;
@@ -245,9 +245,9 @@ push-waiters slots pending new kept stage =
     }
 
 -- once nothing is to be looked at, each target that waits waits for one that isn't decided
-pub each-lacks : (slots : List Slot) (pending : List ℕ) → AreWaiters slots pending → pending ≡ [] → EachLacks (stages_of slots)
-each-lacks slots pending kept none k on h =
-    let found = slot-there slots k (Waiting on) h in
+pub each-lacks : (targets : List Target) (pending : List ℕ) → AreWaiters targets pending → pending ≡ [] → EachLacks (stages_of targets)
+each-lacks targets pending kept none k on h =
+    let found = target-there targets k (Waiting on) h in
     let w = waiting-is found.0.stage on found.2 in
     elim (kept.watched k found.0 w.0 found.1 w.1) [
       | inl p ↦ absurd (omega (arith, subst (λ xs. 0 < times k xs) none p, times-nil k))
@@ -257,7 +257,7 @@ each-lacks slots pending kept none k on h =
             i = index.0;
             k = by.at;
             there = subst (λ xs. slice_get xs index.0 ≡ Some by.at) w.2 index.1;
-            undecided = λ d. both_ways _ by.undecided (ap is_decided (view-there slots by.at by.other Decided by.there d));
+            undecided = λ d. both_ways _ by.undecided (ap is_decided (view-there targets by.at by.other Decided by.there d));
           }
     ]
 
@@ -269,24 +269,24 @@ pub not-not : (b : Bool) → not b ≡ false → b ≡ true
 not-not true h = refl
 not-not false h = cc
 
--- a target's slot says of more of the targets that it waits for that they are decided
-pub noted-waiters : (slots : List Slot) (pending : List ℕ) (at count : ℕ) (old new : Slot) (w : waits.Waiting) → AreWaiters slots pending →
-    slice_get slots at ≡ Some old → old.stage ≡ stages.Waiting w → new.stage ≡ stages.Waiting (record { on = w.on; decided = count }) →
-    new.watchers ≡ old.watchers → AreDecidedBelow (stages_of slots) w.on.items count → AreWaiters (slice_set slots at new) pending
-noted-waiters slots pending at count old new w kept there was is same known =
+-- a target's target says of more of the targets that it waits for that they are decided
+pub noted-waiters : (targets : List Target) (pending : List ℕ) (at count : ℕ) (old new : Target) (w : waits.Waiting) → AreWaiters targets pending →
+    slice_get targets at ≡ Some old → old.stage ≡ stages.Waiting w → new.stage ≡ stages.Waiting (record { on = w.on; decided = count }) →
+    new.watchers ≡ old.watchers → AreDecidedBelow (stages_of targets) w.on.items count → AreWaiters (slice_set targets at new) pending
+noted-waiters targets pending at count old new w kept there was is same known =
     let alike : view_of new.stage ≡ view_of old.stage = ap view_of is ∙ sym (ap view_of was) in
-    let seen-as = stages-same slots at old new there alike in
-    let open' : is_decided_slot old ≡ false = ap (λ s. is_decided (view_of s)) was in
-    let still : is_decided_slot new ≡ false = ap (λ s. is_decided (view_of s)) is in
+    let seen-as = stages-same targets at old new there alike in
+    let open' : is_decided_target old ≡ false = ap (λ s. is_decided (view_of s)) was in
+    let still : is_decided_target new ≡ false = ap (λ s. is_decided (view_of s)) is in
     let before = kept.awaited at old w there was in
-    waiters-changed slots pending pending at old new kept (record {
+    waiters-changed targets pending pending at old new kept (record {
       there = there;
       stays = λ d. absurd (both_ways _ open' d);
       awaited = λ v e.
           let both : stages.Waiting (record { on = w.on; decided = count }) ≡ stages.Waiting v = sym is ∙ e in
           let eq : record { on = w.on; decided = count } ≡ v = cc in
-          subst (IsAwaited (slice_set slots at new)) eq (record {
-            seen = λ i n g. omega (arith, before.seen i n g, length-set slots at new);
+          subst (IsAwaited (slice_set targets at new)) eq (record {
+            seen = λ i n g. omega (arith, before.seen i n g, length-set targets at new);
             known = λ i n lt g. ap (λ ss. slice_get ss n) seen-as ∙ known i n lt g;
           });
       own = λ v e.
@@ -295,91 +295,91 @@ noted-waiters slots pending at count old new w kept there was is same known =
           let on : w.on.items ≡ v.on.items = ap (λ (x : waits.Waiting). x.on.items) eq in
           elim (kept.watched at old w there was) [
             | inl h ↦ inl h
-            | inr by ↦ inr (subst (IsWatched (slice_set slots at new) at) on (seen-watched slots at old new there alike
+            | inr by ↦ inr (subst (IsWatched (slice_set targets at new) at) on (seen-watched targets at old new there alike
                 (ap (λ (v : Vec ℕ Global). v.items) same) at w.on.items by))
           ];
-      others = λ k slot v n g e h. inl h;
+      others = λ k target v n g e h. inl h;
       watchers = λ k h f. inl (subst (λ (v : Vec ℕ Global). 0 < times k v.items) (sym same) h, still);
     })
 
 -- what a look at a target that waits finds
-module _ (slots : List Slot) (pending : List ℕ) (at : ℕ) (slot : Slot) (w : waits.Waiting) (kept : AreWaiters slots pending)
-    (there : slice_get slots at ≡ Some slot) (stage : slot.stage ≡ stages.Waiting w) where
-  waits-on : slice_get (stages_of slots) at ≡ Some (Waiting w.on.items)
-  waits-on = stage-there slots at slot there ∙ ap Some (ap view_of stage)
+module _ (targets : List Target) (pending : List ℕ) (at : ℕ) (target : Target) (w : waits.Waiting) (kept : AreWaiters targets pending)
+    (there : slice_get targets at ≡ Some target) (stage : target.stage ≡ stages.Waiting w) where
+  waits-on : slice_get (stages_of targets) at ≡ Some (Waiting w.on.items)
+  waits-on = stage-there targets at target there ∙ ap Some (ap view_of stage)
 
-  pub lacks-at : (i place : ℕ) → IsLackingAt slots w.on.items w.decided i place → LacksAt (stages_of slots) at i place
+  pub lacks-at : (i place : ℕ) → IsLackingAt targets w.on.items w.decided i place → LacksAt (stages_of targets) at i place
   lacks-at i place found = record {
     on = w.on.items;
     waits = waits-on;
     decided = λ j n lt g. elim (cases_lt j w.decided) [
-      | inl early ↦ (kept.awaited at slot w there stage).known j n early g
+      | inl early ↦ (kept.awaited at target w there stage).known j n early g
       | inr late ↦ found.before j n late lt g
     ];
     awaited = times-there w.on.items i place found.number;
     undecided = record {
-      stage = view_of found.slot.stage;
-      there = stage-there slots place found.slot found.there;
+      stage = view_of found.target.stage;
+      there = stage-there targets place found.target found.there;
       undecided = found.undecided;
     };
   }
 
-  pub answered-at : AreDecidedFrom slots w.on.items w.decided (length w.on.items) →
-      (on : List ℕ) × (slice_get (stages_of slots) at ≡ Some (Waiting on)) ×
-      ((i n : ℕ) → slice_get on i ≡ Some n → slice_get (stages_of slots) n ≡ Some Decided)
+  pub answered-at : AreDecidedFrom targets w.on.items w.decided (length w.on.items) →
+      (on : List ℕ) × (slice_get (stages_of targets) at ≡ Some (Waiting on)) ×
+      ((i n : ℕ) → slice_get on i ≡ Some n → slice_get (stages_of targets) n ≡ Some Decided)
   answered-at rest = (
     w.on.items,
     waits-on,
     λ i n g. elim (cases_lt i w.decided) [
-      | inl early ↦ (kept.awaited at slot w there stage).known i n early g
+      | inl early ↦ (kept.awaited at target w there stage).known i n early g
       | inr late ↦ rest i n late (slice_get_within w.on.items i n g) g
     ],
   )
 
 -- a target watches an undecided one that it waits for, and needn't be looked at any more
-module _ (slots : List Slot) (pending pending' : List ℕ) (at place : ℕ) (on : List ℕ) (old new : Slot) (kept : AreWaiters slots pending)
-    (there : slice_get slots place ≡ Some old) (open' : is_decided_slot old ≡ false) (stage : new.stage ≡ old.stage)
-    (more : new.watchers.items ≡ old.watchers.items ++ at ∷ []) (waits' : slice_get (stages_of slots) at ≡ Some (Waiting on))
+module _ (targets : List Target) (pending pending' : List ℕ) (at place : ℕ) (on : List ℕ) (old new : Target) (kept : AreWaiters targets pending)
+    (there : slice_get targets place ≡ Some old) (open' : is_decided_target old ≡ false) (stage : new.stage ≡ old.stage)
+    (more : new.watchers.items ≡ old.watchers.items ++ at ∷ []) (waits' : slice_get (stages_of targets) at ≡ Some (Waiting on))
     (awaited' : 0 < times place on) (left : (k : ℕ) → (at ≡ k → ⊥) → 0 < times k pending → 0 < times k pending') where
   times-more : (k : ℕ) → times k new.watchers.items ≡ times k old.watchers.items + one-at k at
   times-more k = ap (times k) more ∙ times-push k at old.watchers.items
 
-  still : is_decided_slot new ≡ false
+  still : is_decided_target new ≡ false
   still = ap (λ s. is_decided (view_of s)) stage ∙ open'
 
-  on-is : (slot : Slot) (w : waits.Waiting) → slice_get slots at ≡ Some slot → slot.stage ≡ stages.Waiting w → on ≡ w.on.items
-  on-is slot w h is =
-      let both : Some (Waiting on) ≡ Some (Waiting w.on.items) = sym waits' ∙ stage-there slots at slot h ∙ ap Some (ap view_of is) in
+  on-is : (target : Target) (w : waits.Waiting) → slice_get targets at ≡ Some target → target.stage ≡ stages.Waiting w → on ≡ w.on.items
+  on-is target w h is =
+      let both : Some (Waiting on) ≡ Some (Waiting w.on.items) = sym waits' ∙ stage-there targets at target h ∙ ap Some (ap view_of is) in
       cc
 
-  own-watched : (on' : List ℕ) → on ≡ on' → IsWatched (slice_set slots place new) at on'
+  own-watched : (on' : List ℕ) → on ≡ on' → IsWatched (slice_set targets place new) at on'
   own-watched on' same = record {
     at = place;
     other = new;
-    there = get-same slots place old new there;
+    there = get-same targets place old new there;
     undecided = still;
     awaited = subst (λ xs. 0 < times place xs) same awaited';
     listed = omega (arith, times-more at, at-same at at refl);
   }
 
-  others' : (k : ℕ) (slot : Slot) (w : waits.Waiting) → slice_get slots k ≡ Some slot → slot.stage ≡ stages.Waiting w → 0 < times k pending →
-      (0 < times k pending') ⊎ IsWatched (slice_set slots place new) k w.on.items
-  others' k slot w h is p = elim (cases_eq at k) [
-    | inl same ↦ inr (subst (λ j. IsWatched (slice_set slots place new) j w.on.items) same
-        (own-watched w.on.items (on-is slot w (subst (λ j. slice_get slots j ≡ Some slot) (sym same) h) is)))
+  others' : (k : ℕ) (target : Target) (w : waits.Waiting) → slice_get targets k ≡ Some target → target.stage ≡ stages.Waiting w → 0 < times k pending →
+      (0 < times k pending') ⊎ IsWatched (slice_set targets place new) k w.on.items
+  others' k target w h is p = elim (cases_eq at k) [
+    | inl same ↦ inr (subst (λ j. IsWatched (slice_set targets place new) j w.on.items) same
+        (own-watched w.on.items (on-is target w (subst (λ j. slice_get targets j ≡ Some target) (sym same) h) is)))
     | inr apart ↦ inl (left k apart p)
   ]
 
-  grown-watched : (k : ℕ) (on' : List ℕ) → IsWatched slots k on' → IsWatched (slice_set slots place new) k on'
+  grown-watched : (k : ℕ) (on' : List ℕ) → IsWatched targets k on' → IsWatched (slice_set targets place new) k on'
   grown-watched k on' by = elim (cases_eq place by.at) [
     | inl here ↦
-        let both : Some old ≡ Some by.other = sym there ∙ subst (λ j. slice_get slots j ≡ Some by.other) (sym here) by.there in
+        let both : Some old ≡ Some by.other = sym there ∙ subst (λ j. slice_get targets j ≡ Some by.other) (sym here) by.there in
         let eq : old ≡ by.other = cc in
-        let listed' : 0 < times k old.watchers.items = subst (λ (s : Slot). 0 < times k s.watchers.items) (sym eq) by.listed in
+        let listed' : 0 < times k old.watchers.items = subst (λ (s : Target). 0 < times k s.watchers.items) (sym eq) by.listed in
         record {
           at = place;
           other = new;
-          there = get-same slots place old new there;
+          there = get-same targets place old new there;
           undecided = still;
           awaited = subst (λ j. 0 < times j on') (sym here) by.awaited;
           listed = omega (arith, times-more k, listed');
@@ -387,43 +387,43 @@ module _ (slots : List Slot) (pending pending' : List ℕ) (at place : ℕ) (on 
     | inr apart ↦ record {
       at = by.at;
       other = by.other;
-      there = get-other slots place by.at new apart ∙ by.there;
+      there = get-other targets place by.at new apart ∙ by.there;
       undecided = by.undecided;
       awaited = by.awaited;
       listed = by.listed;
     }
   ]
 
-  pub watch-waiters : AreWaiters (slice_set slots place new) pending'
+  pub watch-waiters : AreWaiters (slice_set targets place new) pending'
   watch-waiters =
-      let seen-as = stages-same slots place old new there (ap view_of stage) in
-      waiters-changed slots pending pending' place old new kept (record {
+      let seen-as = stages-same targets place old new there (ap view_of stage) in
+      waiters-changed targets pending pending' place old new kept (record {
         there = there;
         stays = λ d. absurd (both_ways _ open' d);
         awaited = λ w e.
             let before = kept.awaited place old w there (sym stage ∙ e) in
             record {
-              seen = λ i n g. omega (arith, before.seen i n g, length-set slots place new);
+              seen = λ i n g. omega (arith, before.seen i n g, length-set targets place new);
               known = λ i n lt g. ap (λ ss. slice_get ss n) seen-as ∙ before.known i n lt g;
             };
         own = λ w e. elim (kept.watched place old w there (sym stage ∙ e)) [
           | inl p ↦ others' place old w there (sym stage ∙ e) p
           | inr by ↦ inr (grown-watched place w.on.items by)
         ];
-        others = λ k slot w n g e p. others' k slot w g e p;
+        others = λ k target w n g e p. others' k target w g e p;
         watchers = λ k h f. inl (omega (arith, times-more k, h), still);
       })
 
 -- a target that doesn't wait needn't be looked at
-pub stray-waiters : (slots : List Slot) (pending pending' : List ℕ) (at : ℕ) → AreWaiters slots pending →
-    ((on : List ℕ) → slice_get (stages_of slots) at ≡ Some (Waiting on) → ⊥) →
-    ((k : ℕ) → (at ≡ k → ⊥) → 0 < times k pending → 0 < times k pending') → AreWaiters slots pending'
-stray-waiters slots pending pending' at kept none left = record {
+pub stray-waiters : (targets : List Target) (pending pending' : List ℕ) (at : ℕ) → AreWaiters targets pending →
+    ((on : List ℕ) → slice_get (stages_of targets) at ≡ Some (Waiting on) → ⊥) →
+    ((k : ℕ) → (at ≡ k → ⊥) → 0 < times k pending → 0 < times k pending') → AreWaiters targets pending'
+stray-waiters targets pending pending' at kept none left = record {
   awaited = kept.awaited;
-  watched = λ k slot w there is. elim (kept.watched k slot w there is) [
+  watched = λ k target w there is. elim (kept.watched k target w there is) [
     | inl p ↦ elim (cases_eq at k) [
-      | inl same ↦ absurd (none w.on.items (subst (λ j. slice_get (stages_of slots) j ≡ Some (Waiting w.on.items)) (sym same)
-          (stage-there slots k slot there ∙ ap Some (ap view_of is))))
+      | inl same ↦ absurd (none w.on.items (subst (λ j. slice_get (stages_of targets) j ≡ Some (Waiting w.on.items)) (sym same)
+          (stage-there targets k target there ∙ ap Some (ap view_of is))))
       | inr apart ↦ inl (left k apart p)
     ]
     | inr by ↦ inr by
@@ -431,14 +431,14 @@ stray-waiters slots pending pending' at kept none left = record {
 }
 
 -- a target is taken in hand, and needn't be looked at any more
-pub hand-waiters : (slots : List Slot) (pending pending' : List ℕ) (at : ℕ) (old new : Slot) → AreWaiters slots pending → slice_get slots at ≡ Some old →
-    is_decided_slot old ≡ false → new.stage ≡ stages.InHand → new.watchers ≡ old.watchers →
-    ((k : ℕ) → (at ≡ k → ⊥) → 0 < times k pending → 0 < times k pending') → AreWaiters (slice_set slots at new) pending'
-hand-waiters slots pending pending' at old new kept there open' stage same left = waiters-changed slots pending pending' at old new kept (record {
+pub hand-waiters : (targets : List Target) (pending pending' : List ℕ) (at : ℕ) (old new : Target) → AreWaiters targets pending → slice_get targets at ≡ Some old →
+    is_decided_target old ≡ false → new.stage ≡ stages.InHand → new.watchers ≡ old.watchers →
+    ((k : ℕ) → (at ≡ k → ⊥) → 0 < times k pending → 0 < times k pending') → AreWaiters (slice_set targets at new) pending'
+hand-waiters targets pending pending' at old new kept there open' stage same left = waiters-changed targets pending pending' at old new kept (record {
   there = there;
   stays = λ d. absurd (both_ways _ open' d);
   awaited = λ w e. absurd (in-hand-waits w (sym stage ∙ e));
   own = λ w e. absurd (in-hand-waits w (sym stage ∙ e));
-  others = λ k slot w n g e p. inl (left k n p);
+  others = λ k target w n g e p. inl (left k n p);
   watchers = λ k h f. inl (subst (λ (v : Vec ℕ Global). 0 < times k v.items) (sym same) h, ap (λ s. is_decided (view_of s)) stage);
 })

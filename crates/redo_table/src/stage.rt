@@ -1,6 +1,6 @@
 //! How far a target has come.
 ghost use Rattle.std.specs.Prelude.{◌≡◌};
-ghost use Rattle.redo_table.specs.inside.Slots.{is_decided_slot};
+ghost use Rattle.redo_table.specs.inside.Targets.{is_decided_target};
 
 /// How far a target has come.
 #[derive(Drop)]
@@ -24,15 +24,15 @@ pub struct Waiting {
 
 /// A target, with the numbers of those that are looked at again once it is decided.
 #[derive(Drop)]
-pub struct Slot {
+pub struct Target {
     pub stage: Stage,
     pub watchers: Vec<u32>,
 }
 
-impl Slot {
+impl Target {
     /// Whether the target is decided.
     pub(crate) fn is_decided(&self) -> bool
-        ensures { result ≡ is_decided_slot self.now }
+        ensures { result ≡ is_decided_target self.now }
     {
         matches!(self.stage, Stage::Decided)
     }

@@ -2,12 +2,12 @@
 ghost use Rattle.std.specs.Prelude.{◌≡◌, ◌⊎◌, ◌↔◌, ℕ, ◌+◌, ◌<◌, ◌^◌, List, [], ◌∷◌, ◌++◌, Some, OnOk, OnErr, IfOk, IfSome, IfNone};
 ghost use Rattle.std.specs.Prelude.{IsTrue};
 ghost use Rattle.std.specs.Prelude.{length, slice_get, slice_set, true, false};
-ghost use Rattle.redo_table.specs.Table.{EachLacks, IsAnswered};
-ghost use Rattle.redo_table.specs.Table.StageView.{Out, InHand, Decided, Waiting as Waits};
-ghost use Rattle.redo_table.specs.inside.Slots.{AreDecidedFrom, IsLackingAt, IsUndecided, LacksAt, IsLook};
-ghost use Rattle.redo_table.specs.inside.Slots.{view_of, is_plain};
+ghost use Rattle.redo_table.specs.Schedule.{EachLacks, IsAnswered};
+ghost use Rattle.redo_table.specs.Schedule.StageView.{Out, InHand, Decided, Waiting as Waits};
+ghost use Rattle.redo_table.specs.inside.Targets.{AreDecidedFrom, IsLackingAt, IsUndecided, LacksAt, IsLook};
+ghost use Rattle.redo_table.specs.inside.Targets.{view_of, is_plain};
 
-use crate::stage::{Slot, Stage, Waiting};
+use crate::stage::{Target, Stage, Waiting};
 use std::alloc::{AllocError, Global};
 use std::marker::Model;
 use std::mem;
@@ -15,19 +15,19 @@ use std::mem;
 /// The targets, and whom each waits for. In a contract it is the stage of each, and the numbers to be looked at again.
 #[derive(Drop)]
 pub(crate) struct Waiters {
-    slots: Vec<Slot>,
+    targets: Vec<Target>,
     /// The numbers to be looked at: among them is each target that waits and that watches no other.
     pending: Vec<u32>,
 }
 
 impl Model for Waiters {
-    ghost use Rattle.redo_table.specs.inside.Slots.{WaitersView, stages_of, AreWaiters};
+    ghost use Rattle.redo_table.specs.inside.Targets.{WaitersView, stages_of, AreWaiters};
 
     ghost Value = { WaitersView };
 
-    ghost view = { λ w. record { stages = stages_of w.slots.items; pending = w.pending.items } };
+    ghost view = { λ w. record { stages = stages_of w.targets.items; pending = w.pending.items } };
 
-    ghost invariant = { λ w. AreWaiters w.slots.items w.pending.items };
+    ghost invariant = { λ w. AreWaiters w.targets.items w.pending.items };
 }
 
 /// A target that waited, with the numbers of what it waited for.
@@ -49,14 +49,14 @@ enum Looked {
 }
 
 /// The first undecided target among these numbers, from index `from` on: its index and its number.
-fn next_lacking(slots: &[Slot], on: &[u32], from: usize) -> Option<(usize, usize)>
-    requires { (i n : ℕ) → slice_get on.now i ≡ Some n → n < length slots.now }
-    ensures found { IfSome result (λ f. IsLackingAt slots.now on.now from f.0 f.1) }
-    ensures none { IfNone result (AreDecidedFrom slots.now on.now from (length on.now)) }
+fn next_lacking(targets: &[Target], on: &[u32], from: usize) -> Option<(usize, usize)>
+    requires { (i n : ℕ) → slice_get on.now i ≡ Some n → n < length targets.now }
+    ensures found { IfSome result (λ f. IsLackingAt targets.now on.now from f.0 f.1) }
+    ensures none { IfNone result (AreDecidedFrom targets.now on.now from (length on.now)) }
 {
     for i in from..on.len() {
         let at = on[i] as usize;
-        if !slots[at].is_decided() {
+        if !targets[at].is_decided() {
             return Some((i, at));
         }
     }
@@ -69,7 +69,7 @@ impl Waiters {
         ensures stages { result.stages ≡ [] }
     {
         Waiters {
-            slots: Vec::new(alloc),
+            targets: Vec::new(alloc),
             pending: Vec::new(alloc),
         }
     }
@@ -78,7 +78,7 @@ impl Waiters {
     pub(crate) fn len(&self) -> usize
         ensures { result ≡ length self.now.stages }
     {
-        self.slots.len()
+        self.targets.len()
     }
 
     /// Whether a target is decided.
@@ -86,7 +86,7 @@ impl Waiters {
         requires { at < length self.now.stages }
         ensures { IsTrue result ↔ (slice_get self.now.stages at ≡ Some Decided) }
     {
-        self.slots[at as usize].is_decided()
+        self.targets[at as usize].is_decided()
     }
 
     /// Whether a target is out.
@@ -94,7 +94,7 @@ impl Waiters {
         requires { at < length self.now.stages }
         ensures { IsTrue result ↔ (slice_get self.now.stages at ≡ Some Out) }
     {
-        matches!(self.slots[at as usize].stage, Stage::Out)
+        matches!(self.targets[at as usize].stage, Stage::Out)
     }
 
     /// Whether some target is to be looked at again.
@@ -110,8 +110,8 @@ impl Waiters {
         ensures added { OnOk result (self.new.stages ≡ self.old.stages ++ InHand ∷ []) }
         ensures err { OnErr result (self.new ≡ self.old) }
     {
-        let watchers = Vec::new(*self.slots.allocator());
-        self.slots.push(Slot {
+        let watchers = Vec::new(*self.targets.allocator());
+        self.targets.push(Target {
             stage: Stage::InHand,
             watchers,
         })?;
@@ -124,7 +124,7 @@ impl Waiters {
         requires plain { is_plain stage ≡ true }
         ensures { self.new.stages ≡ slice_set self.old.stages at (view_of stage) }
     {
-        self.slots[at as usize].stage = stage;
+        self.targets[at as usize].stage = stage;
     }
 
     /// Decides a target. What watches it is to be looked at again.
@@ -133,9 +133,9 @@ impl Waiters {
         ensures decided { OnOk result (self.new.stages ≡ slice_set self.old.stages at Decided) }
         ensures err { OnErr result (self.new.stages ≡ self.old.stages) }
     {
-        let slot = &mut self.slots[at as usize];
-        self.pending.append(&mut slot.watchers)?;
-        slot.stage = Stage::Decided;
+        let target = &mut self.targets[at as usize];
+        self.pending.append(&mut target.watchers)?;
+        target.stage = Stage::Decided;
         Ok(())
     }
 
@@ -147,7 +147,7 @@ impl Waiters {
         ensures err { OnErr result (self.new.stages ≡ self.old.stages) }
     {
         self.pending.push(at)?;
-        self.slots[at as usize].stage = Stage::Waiting(Waiting { on, decided: 0 });
+        self.targets[at as usize].stage = Stage::Waiting(Waiting { on, decided: 0 });
         Ok(())
     }
 
@@ -155,13 +155,13 @@ impl Waiters {
     fn look_at(&self, at: u32) -> Looked
         ensures { IsLook self.now.stages at result }
     {
-        let Some(slot) = self.slots.get(at as usize) else {
+        let Some(target) = self.targets.get(at as usize) else {
             return Looked::Stray;
         };
-        let Stage::Waiting(waiting) = &slot.stage else {
+        let Stage::Waiting(waiting) = &target.stage else {
             return Looked::Stray;
         };
-        match next_lacking(&self.slots, &waiting.on, waiting.decided) {
+        match next_lacking(&self.targets, &waiting.on, waiting.decided) {
             Some((decided, place)) => Looked::Lacks { decided, place },
             None => Looked::Answered,
         }
@@ -172,8 +172,8 @@ impl Waiters {
         requires { (place : ℕ) × LacksAt self.old.stages at decided place }
         ensures { self.new ≡ self.old }
     {
-        let slot = &mut self.slots[at as usize];
-        let Stage::Waiting(waiting) = &mut slot.stage else {
+        let target = &mut self.targets[at as usize];
+        let Stage::Waiting(waiting) = &mut target.stage else {
             unreachable!()
         };
         waiting.decided = decided;
@@ -193,12 +193,12 @@ impl Waiters {
         match self.look_at(at) {
             Looked::Lacks { decided, place } => {
                 self.note_decided(at, decided);
-                self.slots[place].watchers.push(at)?;
+                self.targets[place].watchers.push(at)?;
                 let _ = self.pending.pop();
                 Ok(None)
             }
             Looked::Answered => {
-                let before = mem::replace(&mut self.slots[at as usize].stage, Stage::InHand);
+                let before = mem::replace(&mut self.targets[at as usize].stage, Stage::InHand);
                 let _ = self.pending.pop();
                 match before {
                     Stage::Waiting(Waiting { on, decided: _ }) => Ok(Some(Answered { at, on })),

@@ -3,10 +3,10 @@ use Rattle.std.specs.Prelude.{◌≡◌, ◌⊎◌, ℕ, ◌+◌, ◌<◌, ◌�
 use Rattle.std.specs.Prelude.{None, IsNone, if◌then◌else◌, map, length, filter, slice_get, slice_set}
 use Rattle.std.specs.Prelude.{count_by, unwrap_or, Box}
 use Rattle.std.specs.declared.alloc.Global.{Global}
-use Rattle.redo_table.specs.Table.{StageView, TableView, with_stage, with_target, stage_at, times, NoneDue, IsOpen}
-use Rattle.redo_table.specs.Table.{IsFirstDue, IsAnswered, EachLacks, IsQueue, IsEnqueued}
-use Rattle.redo_table.specs.Table.StageView.{Due as AtDue, Ready as AtReady, Out as AtOut, InHand as AtHand}
-use Rattle.redo_table.specs.Table.StageView.{Waiting as AtWaiting, Decided as AtDecided}
+use Rattle.redo_table.specs.Schedule.{StageView, ScheduleView, with_stage, with_target, stage_at, times, NoneDue, IsOpen}
+use Rattle.redo_table.specs.Schedule.{IsFirstDue, IsAnswered, EachLacks, IsQueue, IsEnqueued}
+use Rattle.redo_table.specs.Schedule.StageView.{Due as AtDue, Ready as AtReady, Out as AtOut, InHand as AtHand}
+use Rattle.redo_table.specs.Schedule.StageView.{Waiting as AtWaiting, Decided as AtDecided}
 use Rattle.redo_build.specs.Rules.{Ask, Rules, Extends, operands}
 use Rattle.redo_rules.specs.Build.{GivenView, rules_for, sources_for}
 use Rattle.redo_core.specs.inside.Works.{IsUnreadWork, all_asked, found_as, told_in, AddsFact, IsJobOf, GoesOn}
@@ -241,7 +241,7 @@ abbrev pub IsTableOf : GivenView → Table → Type 0
 IsTableOf given t = IsTable (rules_for given) given t.targets t.slots.items t.schedule.stages
 
 -- a schedule between two events: each that waits lacks something, none is in hand, and all that is ready is queued
-pub record IsResting (s : TableView) : Type 0 where
+pub record IsResting (s : ScheduleView) : Type 0 where
   pub lacks : EachLacks s.stages
   pub put_back : (k : ℕ) → stage_at s k ≡ Some AtHand → ⊥
   pub queue : IsQueue s
@@ -415,7 +415,7 @@ IsFed given t at on = (slot : Slot) × (begun : Box Begun Global) × IsFedAs giv
 
 -- the target waited for these numbers, which are decided, and the schedule has just put it in hand
 pub record IsAnsweredAt (given : GivenView) (t : Table) (at : ℕ) (on : List ℕ) : Type 0 where
-  pub before : TableView
+  pub before : ScheduleView
   pub table : IsTable (rules_for given) given t.targets t.slots.items before.stages
   pub standing : IsStandingTable given t
   pub answered : IsAnswered before.stages at on

@@ -1,6 +1,6 @@
 -- The lists of the targets that are ready and due.
 use Rattle.std.specs.Prelude.{◌≡◌, ℕ, ◌+◌, ◌<◌, ◌^◌, Bool, cond, List, Option, Some, None, length, slice_get, count_by}
-use Rattle.redo_table.specs.Table.{StageView, is_due, is_ready, is_out, times}
+use Rattle.redo_table.specs.Schedule.{StageView, is_due, is_ready, is_out, times}
 
 -- one if there is a stage that passes the test
 abbrev pub one_if : (StageView → Bool) → Option StageView → ℕ

@@ -1,12 +1,12 @@
 use Rattle.std.proofs.Common.{◌≡◌, ◌<◌, inl, inr, length, slice_get, slice_index_or, Some, arith, sym, ap, subst, ◌∙◌}
 use Rattle.std.proofs.lemmas.Bool.{cases_lt}
-use Rattle.redo_table.specs.inside.Slots.{stages_of}
-use Rattle.redo_table.specs.Table.StageView.{Decided}
-use Rattle.redo_table.proofs.SlotLemmas.{read-there, stage-there, decided-is, index-there}
+use Rattle.redo_table.specs.inside.Targets.{stages_of}
+use Rattle.redo_table.specs.Schedule.StageView.{Decided}
+use Rattle.redo_table.proofs.TargetLemmas.{read-there, stage-there, decided-is, index-there}
 use Rattle.redo_table.proofs.waits.next_lacking.Goals as goal
 
-pub bounds-slots-at : goal.bounds-slots-at
-bounds-slots-at c =
+pub bounds-targets-at : goal.bounds-targets-at
+bounds-targets-at c =
     let below : c.loop-i.i < length c.args.on.now = omega arith in
     let here = c.requires c.loop-i.i (slice_index_or c.args.on.now c.loop-i.i 0) (index-there c.args.on.now c.loop-i.i 0 below) in
     omega (arith, here)
@@ -17,11 +17,11 @@ returns-then-not-is_decided-clause-found c =
     let n = slice_index_or c.args.on.now c.loop-i.i 0 in
     let here = c.requires c.loop-i.i n (index-there c.args.on.now c.loop-i.i 0 below) in
     record {
-      slot = c.index-slots-at.result;
+      target = c.index-targets-at.result;
       after = omega arith;
       before = c.loop-i.invariant;
       number = index-there c.args.on.now c.loop-i.i 0 below;
-      there = read-there c.args.slots.now n c.index-slots-at.result here c.index-slots-at.is;
+      there = read-there c.args.targets.now n c.index-targets-at.result here c.index-targets-at.is;
       undecided = sym (c.if-not-is_decided.ensures);
     }
 
@@ -37,8 +37,8 @@ loop-i-preserved c = λ k m after' before' at.
           let here = c.requires c.loop-i.i n there in
           let both : Some m ≡ Some n = sym (subst (λ j. slice_get c.args.on.now j ≡ Some m) same at) ∙ there in
           let is : n ≡ m = cc in
-          subst (λ j. slice_get (stages_of c.args.slots.now) j ≡ Some Decided) is
-          (stage-there c.args.slots.now n c.index-slots-at.result (read-there c.args.slots.now n c.index-slots-at.result here c.index-slots-at.is)
+          subst (λ j. slice_get (stages_of c.args.targets.now) j ≡ Some Decided) is
+          (stage-there c.args.targets.now n c.index-targets-at.result (read-there c.args.targets.now n c.index-targets-at.result here c.index-targets-at.is)
           ∙ ap Some (decided-is _ (sym c.if-not-is_decided.ensures)))
     ]
 

@@ -1,5 +1,5 @@
 use Rattle.std.proofs.Common.{◌≡◌, ◌<◌, cond, map, is_some, length, slice_get, Some, sym, ap, subst, ◌∙◌, refl}
-use Rattle.redo_table.specs.Table.{TableView}
+use Rattle.redo_table.specs.Schedule.{ScheduleView}
 use Rattle.redo_core.specs.inside.Slots.{IsKept, path_at, state_of}
 use Rattle.redo_core.proofs.SlotLemmas.{slice_get-item}
 use Rattle.redo_core.proofs.TakeLemmas.{found_job, taken_state, work_taken, running}
@@ -55,7 +55,7 @@ pub returns-clause-ok : goal.returns-clause-ok
 returns-clause-ok c =
     let d = (goal.at-returns-clause-ok c).After-replace in
     let b = d.self.inside in
-    let ready = ap (λ (x : TableView). x.ready) c.take-at.ensures.taken in
+    let ready = ap (λ (x : ScheduleView). x.ready) c.take-at.ensures.taken in
     rw (← c.self.view_is) (rw (c.replace.ensures.after, ready)
     (ap (λ s. record { given = b.build; state = s; stopped = b.stopped })
     (taken_state b (kept d) d.args.which d.take-at.result d.index_mut-slot.result.now d.take-at.ensures.number d.take-at.ensures.was (there d))))

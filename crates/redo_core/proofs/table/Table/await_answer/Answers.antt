@@ -1,6 +1,6 @@
 use Rattle.std.proofs.Common.{◌≡◌, ◌+◌, ◌++◌, ◌∷◌, [], refl, sym, ap, ◌∙◌, Some}
-use Rattle.redo_table.specs.Table.{with_stage}
-use Rattle.redo_table.specs.Table.StageView.{Waiting as Waits}
+use Rattle.redo_table.specs.Schedule.{with_stage}
+use Rattle.redo_table.specs.Schedule.StageView.{Waiting as Waits}
 use Rattle.std.proofs.lemmas.Result.{on_ok_weaker}
 use Rattle.redo_core.specs.declared.table.Slot.{Slot}
 use Rattle.redo_core.specs.declared.table.Stage.TheVariants.{Checking}

@@ -1,7 +1,7 @@
 use Rattle.std.proofs.Common.{◌≡◌, refl, sym, ap, subst, ◌∙◌}
 use Rattle.redo_names.proofs.PathLemmas.{put-new}
-use Rattle.redo_table.specs.Table.{StageView, with_stage, with_target}
-use Rattle.redo_table.specs.Table.StageView.{Due as AtDue, Ready as AtReady, Decided as AtDecided}
+use Rattle.redo_table.specs.Schedule.{StageView, with_stage, with_target}
+use Rattle.redo_table.specs.Schedule.StageView.{Due as AtDue, Ready as AtReady, Decided as AtDecided}
 use Rattle.redo_core.specs.inside.Slots.{first_stage}
 use Rattle.redo_core.specs.declared.table.Table.{Table}
 use Rattle.redo_core.proofs.EnterSteps.{pushed-stage}

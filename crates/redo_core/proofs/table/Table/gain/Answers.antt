@@ -3,7 +3,7 @@ use Rattle.redo_build.specs.Rules.{Ask}
 use Rattle.redo_core.specs.inside.Slots.{IsToldBy}
 use Rattle.redo_core.specs.Views.{told_by}
 use Rattle.redo_core.specs.inside.Works.{told_in}
-use Rattle.redo_table.proofs.SlotLemmas.{index-there}
+use Rattle.redo_table.proofs.TargetLemmas.{index-there}
 use Rattle.redo_core.proofs.GainSteps.{gains-step}
 use Rattle.redo_core.proofs.table.Table.gain.Goals as goal
 

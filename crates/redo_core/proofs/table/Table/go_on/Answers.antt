@@ -1,6 +1,6 @@
 use Rattle.std.proofs.Common.{◌≡◌, ◌<◌, length, slice_get, Some, rules}
 use Rattle.std.proofs.lemmas.Result.{on_ok_weaker}
-use Rattle.redo_table.proofs.SlotLemmas.{index-there}
+use Rattle.redo_table.proofs.TargetLemmas.{index-there}
 use Rattle.redo_core.proofs.GoOnSteps.{answered-below, answered-check, answered-else, answered-fed, answered-in_hand, answered-long}
 use Rattle.redo_core.proofs.GoOnSteps.{made_ready-gone_on, resumed-gone_on}
 use Rattle.redo_core.proofs.SlotLemmas.{slice_get-item}

@@ -1,5 +1,5 @@
 use Rattle.std.proofs.Common.{refl, sym, subst}
-use Rattle.redo_table.specs.Table.{TableView, NoneDue}
+use Rattle.redo_table.specs.Schedule.{ScheduleView, NoneDue}
 use Rattle.redo_core.specs.inside.Slots.{IsDrawnFrom}
 use Rattle.redo_core.proofs.LookLemmas.{looked-less, looked-more, rest-same}
 use Rattle.redo_core.proofs.table.Table.look_ahead.Goals as goal
@@ -51,5 +51,5 @@ returns-clause-ok c = record {
 
 pub returns-clause-none_due : goal.returns-clause-none_due
 returns-clause-none_due c =
-    let P : TableView → Type 0 = NoneDue in
+    let P : ScheduleView → Type 0 = NoneDue in
     subst P (sym c.in_default.ensures.none.1) c.in_default.ensures.none.0

@@ -12,7 +12,7 @@ use Rattle.redo_core.specs.declared.table.Slot.{Slot}
 use Rattle.redo_core.specs.declared.table.Stage.TheVariants.{Ready}
 use Rattle.redo_core.proofs.SlotLemmas.{slice_get-item, slice_get-below_some}
 use Rattle.redo_core.proofs.TableLemmas.{set-twice}
-use Rattle.redo_table.proofs.SlotLemmas.{get-same}
+use Rattle.redo_table.proofs.TargetLemmas.{get-same}
 use Rattle.redo_core.proofs.MakeReadySteps.{fed-here, gain-decided, fed-work}
 use Rattle.redo_core.proofs.table.Table.make_ready.Goals as goal
 use Rattle.redo_core.proofs.table.Table.make_ready.Goals.{After-replace-stage}

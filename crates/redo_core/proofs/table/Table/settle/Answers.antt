@@ -1,6 +1,6 @@
 use Rattle.std.proofs.Common.{◌≡◌, ℕ, List, sym, subst}
-use Rattle.redo_table.specs.Table.{IsAnswered, with_stage}
-use Rattle.redo_table.specs.Table.StageView.{InHand}
+use Rattle.redo_table.specs.Schedule.{IsAnswered, with_stage}
+use Rattle.redo_table.specs.Schedule.StageView.{InHand}
 use Rattle.redo_core.specs.inside.Slots.{IsAnsweredAt}
 use Rattle.redo_core.proofs.GoOnSteps.{settling-answered, settling-fewer, settling-more}
 use Rattle.redo_core.proofs.table.Table.settle.Goals as goal

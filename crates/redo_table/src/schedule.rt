@@ -1,9 +1,9 @@
-//! The table of the targets, by their numbers.
+//! The schedule of a build, by the numbers of its targets.
 ghost use Rattle.std.specs.Prelude.{◌≡◌, ◌↔◌, ℕ, ◌+◌, ◌<◌, ◌^◌, Some, OnOk, IfOk, IfSome, IfNone, IsTrue};
 ghost use Rattle.std.specs.Prelude.{count_by, length, remove, slice_get};
-ghost use Rattle.redo_table.specs.Table.{no_targets, with_target, with_stage, stage_at, is_out};
-ghost use Rattle.redo_table.specs.Table.{IsOpen, NoneDue, IsFirstDue, IsEnqueued, IsQueue, EachLacks, IsAnswered};
-ghost use Rattle.redo_table.specs.Table.StageView.{Due, Ready, Out, InHand, Decided, Waiting as Waits};
+ghost use Rattle.redo_table.specs.Schedule.{no_targets, with_target, with_stage, stage_at, is_out};
+ghost use Rattle.redo_table.specs.Schedule.{IsOpen, NoneDue, IsFirstDue, IsEnqueued, IsQueue, EachLacks, IsAnswered};
+ghost use Rattle.redo_table.specs.Schedule.StageView.{Due, Ready, Out, InHand, Decided, Waiting as Waits};
 
 use crate::stage::Stage;
 use crate::waits::{Answered, Waiters};
@@ -14,7 +14,7 @@ use std::marker::Model;
 /// The targets that have been seen. In a contract it is the stage of each, in order of first sight, and the queue of
 /// those that may be taken.
 #[derive(Drop)]
-pub struct Table {
+pub struct Schedule {
     waits: Waiters,
     /// The queue.
     ready: VecDeque<u32>,
@@ -25,10 +25,10 @@ pub struct Table {
     out: usize,
 }
 
-impl Model for Table {
-    ghost use Rattle.redo_table.specs.Table.{TableView};
+impl Model for Schedule {
+    ghost use Rattle.redo_table.specs.Schedule.{ScheduleView};
 
-    ghost Value = { TableView };
+    ghost Value = { ScheduleView };
 
     ghost use Rattle.redo_table.specs.inside.Listed.{IsListed};
 
@@ -37,12 +37,12 @@ impl Model for Table {
     ghost invariant = { λ t. IsListed t.waits.stages t.ready.items t.newly_ready.items t.due.keys t.out };
 }
 
-impl Table {
+impl Schedule {
     /// No targets. Needs no memory.
-    pub fn new(alloc: Global) -> Table
+    pub fn new(alloc: Global) -> Schedule
         ensures { result ≡ no_targets }
     {
-        Table {
+        Schedule {
             waits: Waiters::new(alloc),
             ready: VecDeque::new(alloc),
             newly_ready: VecDeque::new(alloc),

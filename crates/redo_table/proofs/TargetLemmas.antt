@@ -1,14 +1,14 @@
--- A list in which one item is another, and the stages of slots.
+-- A list in which one item is another, and the stages of targets.
 use Rattle.std.proofs.Common.{◌≡◌, ◌⊎◌, inl, inr, ℕ, zero, suc, ◌+◌, ◌<◌, Bool, true, cond, List, [], ◌∷◌, ◌++◌}
 use Rattle.std.proofs.Common.{Some, length, slice_get, slice_set, slice_index_or, refl, sym, ap, subst, ◌∙◌, arith, count_by}
 use Rattle.std.proofs.lemmas.List.Sums.{sum_by-cons, sum_by-append}
 use Rattle.std.proofs.lemmas.Option.{slice_get_read}
-use Rattle.redo_table.specs.Table.{StageView, is_decided}
-use Rattle.redo_table.specs.Table.StageView.{Due, Ready, Out, InHand, Waiting, Decided}
-use Rattle.redo_table.specs.inside.Slots.{view_of, stages_of}
+use Rattle.redo_table.specs.Schedule.{StageView, is_decided}
+use Rattle.redo_table.specs.Schedule.StageView.{Due, Ready, Out, InHand, Waiting, Decided}
+use Rattle.redo_table.specs.inside.Targets.{view_of, stages_of}
 use Rattle.redo_table.specs.declared.stage.Stage.{Stage}
 use Rattle.redo_table.specs.declared.stage.Stage.TheVariants as stages
-use Rattle.redo_table.specs.declared.stage.Slot.{Slot}
+use Rattle.redo_table.specs.declared.stage.Target.{Target}
 use Rattle.redo_table.specs.declared.stage.Waiting as waits
 
 pub get-same : {X : Type 0} (xs : List X) (i : ℕ) (x y : X) → slice_get xs i ≡ Some x → slice_get (slice_set xs i y) i ≡ Some y
@@ -63,42 +63,42 @@ there-below [] k lt = absurd (omega (arith, lt))
 there-below (x ∷ xs) zero lt = (x, refl)
 there-below (x ∷ xs) (suc k) lt = there-below xs k (omega (arith, lt))
 
-pub stages-set : (slots : List Slot) (at : ℕ) (new : Slot) → stages_of (slice_set slots at new) ≡ slice_set (stages_of slots) at (view_of new.stage)
+pub stages-set : (targets : List Target) (at : ℕ) (new : Target) → stages_of (slice_set targets at new) ≡ slice_set (stages_of targets) at (view_of new.stage)
 stages-set [] at new = refl
 stages-set (x ∷ xs) zero new = refl
 stages-set (x ∷ xs) (suc at) new = ap (λ ss. view_of x.stage ∷ ss) (stages-set xs at new)
 
--- a slot whose stage stays
-pub stages-same : (slots : List Slot) (at : ℕ) (old new : Slot) → slice_get slots at ≡ Some old → view_of new.stage ≡ view_of old.stage →
-    stages_of (slice_set slots at new) ≡ stages_of slots
+-- a target whose stage stays
+pub stages-same : (targets : List Target) (at : ℕ) (old new : Target) → slice_get targets at ≡ Some old → view_of new.stage ≡ view_of old.stage →
+    stages_of (slice_set targets at new) ≡ stages_of targets
 stages-same [] at old new h e = refl
 stages-same (x ∷ xs) zero old new h e = let same : x ≡ old = cc in
-    ap (λ s. s ∷ stages_of xs) (e ∙ sym (ap (λ (y : Slot). view_of y.stage) same))
+    ap (λ s. s ∷ stages_of xs) (e ∙ sym (ap (λ (y : Target). view_of y.stage) same))
 stages-same (x ∷ xs) (suc at) old new h e = ap (λ ss. view_of x.stage ∷ ss) (stages-same xs at old new h e)
 
-pub stages-push : (slots : List Slot) (new : Slot) → stages_of (slots ++ new ∷ []) ≡ stages_of slots ++ view_of new.stage ∷ []
+pub stages-push : (targets : List Target) (new : Target) → stages_of (targets ++ new ∷ []) ≡ stages_of targets ++ view_of new.stage ∷ []
 stages-push [] new = refl
 stages-push (x ∷ xs) new = ap (λ ss. view_of x.stage ∷ ss) (stages-push xs new)
 
-pub stages-length : (slots : List Slot) → length (stages_of slots) ≡ length slots
+pub stages-length : (targets : List Target) → length (stages_of targets) ≡ length targets
 stages-length [] = refl
 stages-length (x ∷ xs) = ap suc (stages-length xs)
 
-pub stage-there : (slots : List Slot) (k : ℕ) (slot : Slot) → slice_get slots k ≡ Some slot → slice_get (stages_of slots) k ≡ Some (view_of slot.stage)
-stage-there [] k slot h = cc
-stage-there (x ∷ xs) zero slot h = let same : x ≡ slot = cc in ap (λ (y : Slot). Some (view_of y.stage)) same
-stage-there (x ∷ xs) (suc k) slot h = stage-there xs k slot h
+pub stage-there : (targets : List Target) (k : ℕ) (target : Target) → slice_get targets k ≡ Some target → slice_get (stages_of targets) k ≡ Some (view_of target.stage)
+stage-there [] k target h = cc
+stage-there (x ∷ xs) zero target h = let same : x ≡ target = cc in ap (λ (y : Target). Some (view_of y.stage)) same
+stage-there (x ∷ xs) (suc k) target h = stage-there xs k target h
 
-pub slot-there : (slots : List Slot) (k : ℕ) (stage : StageView) → slice_get (stages_of slots) k ≡ Some stage →
-    (slot : Slot) × (slice_get slots k ≡ Some slot) × (view_of slot.stage ≡ stage)
-slot-there [] k stage h = cc
-slot-there (x ∷ xs) zero stage h = (x, refl, cc)
-slot-there (x ∷ xs) (suc k) stage h = slot-there xs k stage h
+pub target-there : (targets : List Target) (k : ℕ) (stage : StageView) → slice_get (stages_of targets) k ≡ Some stage →
+    (target : Target) × (slice_get targets k ≡ Some target) × (view_of target.stage ≡ stage)
+target-there [] k stage h = cc
+target-there (x ∷ xs) zero stage h = (x, refl, cc)
+target-there (x ∷ xs) (suc k) stage h = target-there xs k stage h
 
--- the slot that was read has the stage that the view has
-pub view-there : (slots : List Slot) (k : ℕ) (slot : Slot) (stage : StageView) → slice_get slots k ≡ Some slot → slice_get (stages_of slots) k ≡ Some stage →
-    view_of slot.stage ≡ stage
-view-there slots k slot stage h v = let both : Some (view_of slot.stage) ≡ Some stage = sym (stage-there slots k slot h) ∙ v in cc
+-- the target that was read has the stage that the view has
+pub view-there : (targets : List Target) (k : ℕ) (target : Target) (stage : StageView) → slice_get targets k ≡ Some target → slice_get (stages_of targets) k ≡ Some stage →
+    view_of target.stage ≡ stage
+view-there targets k target stage h v = let both : Some (view_of target.stage) ≡ Some stage = sym (stage-there targets k target h) ∙ v in cc
 
 pub decided-is : (s : StageView) → is_decided s ≡ true → s ≡ Decided
 decided-is Due h = cc

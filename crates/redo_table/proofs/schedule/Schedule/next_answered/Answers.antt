@@ -1,5 +1,5 @@
 use Rattle.redo_table.proofs.ListedLemmas.{answered-listed}
-use Rattle.redo_table.proofs.table.Table.next_answered.Goals as goal
+use Rattle.redo_table.proofs.schedule.Schedule.next_answered.Goals as goal
 
 pub invariant_of-self-in-Some : goal.invariant_of-self-in-Some
 invariant_of-self-in-Some c =

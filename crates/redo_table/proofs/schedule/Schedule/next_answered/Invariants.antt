@@ -1,6 +1,6 @@
 use Rattle.std.proofs.Common.{◌≡◌, length}
 use Rattle.redo_table.specs.inside.Listed.{IsListed}
-use Rattle.redo_table.proofs.table.Table.next_answered.Given as goal
+use Rattle.redo_table.proofs.schedule.Schedule.next_answered.Given as goal
 
 abbrev pub invariant-loop-self : goal.invariant-loop-self
 invariant-loop-self l =

@@ -1,8 +1,8 @@
 use Rattle.std.proofs.Common.{List, slice_set, ap, ◌∙◌, subst}
-use Rattle.redo_table.specs.Table.{TableView, StageView, IsFirstDue}
-use Rattle.redo_table.specs.Table.StageView.{InHand}
+use Rattle.redo_table.specs.Schedule.{ScheduleView, StageView, IsFirstDue}
+use Rattle.redo_table.specs.Schedule.StageView.{InHand}
 use Rattle.redo_table.proofs.ListedLemmas.{draw-listed, first-due, drawn-there, less-all}
-use Rattle.redo_table.proofs.table.Table.next_due.Goals as goal
+use Rattle.redo_table.proofs.schedule.Schedule.next_due.Goals as goal
 
 pub invariant_of-self-2 : goal.invariant_of-self-2
 invariant_of-self-2 c =
@@ -21,7 +21,7 @@ returns-clause-some c =
       first = first-due t.waits.stages t.ready.items t.newly_ready.items t.due.keys t.out c.self.invariant at rest is
           (less-all at rest c.in_ok-at.ensures.all_above);
     } in
-    let G : List StageView → TableView = λ ss. record { stages = ss; ready = t.ready.items } in (
+    let G : List StageView → ScheduleView = λ ss. record { stages = ss; ready = t.ready.items } in (
       subst (λ v. IsFirstDue v at) c.self.view_is first,
-      ap G c.put.ensures ∙ ap (λ (v : TableView). record v { stages = slice_set v.stages at InHand }) c.self.view_is,
+      ap G c.put.ensures ∙ ap (λ (v : ScheduleView). record v { stages = slice_set v.stages at InHand }) c.self.view_is,
     )

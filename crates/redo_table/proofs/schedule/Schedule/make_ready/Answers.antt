@@ -1,11 +1,11 @@
 use Rattle.std.proofs.Common.{◌≡◌, slice_get, Some, sym, subst}
-use Rattle.redo_table.specs.Table.{TableView}
-use Rattle.redo_table.specs.Table.StageView.{InHand}
+use Rattle.redo_table.specs.Schedule.{ScheduleView}
+use Rattle.redo_table.specs.Schedule.StageView.{InHand}
 use Rattle.redo_table.proofs.ListedLemmas.{ready-listed}
-use Rattle.redo_table.proofs.table.Table.make_ready.Goals as goal
+use Rattle.redo_table.proofs.schedule.Schedule.make_ready.Goals as goal
 
 pub invariant_of-self-2 : goal.invariant_of-self-2
 invariant_of-self-2 c =
     let t = c.self.inside in
-    let there = subst (λ (v : TableView). slice_get v.stages c.args.at ≡ Some InHand) (sym c.self.view_is) c.requires in
+    let there = subst (λ (v : ScheduleView). slice_get v.stages c.args.at ≡ Some InHand) (sym c.self.view_is) c.requires in
     rw (c.put.ensures, c.in_ok-push_back.ensures.items) (ready-listed t.waits.stages t.ready.items t.newly_ready.items t.due.keys t.out c.self.invariant c.args.at there)

@@ -1,7 +1,7 @@
 use Rattle.std.proofs.Common.{subst}
-use Rattle.redo_table.specs.Table.{IsQueue}
+use Rattle.redo_table.specs.Schedule.{IsQueue}
 use Rattle.redo_table.proofs.ListedLemmas.{queued-there, queued-once}
-use Rattle.redo_table.proofs.table.Table.is_queue.Goals as goal
+use Rattle.redo_table.proofs.schedule.Schedule.is_queue.Goals as goal
 
 pub returns : goal.returns
 returns c =

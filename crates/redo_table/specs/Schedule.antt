@@ -11,22 +11,22 @@ pub data StageView : Type 0 where
   Ready : StageView
   -- its job was taken
   Out : StageView
-  -- the owner of the table has it in hand
+  -- the owner of the schedule has it in hand
   InHand : StageView
   -- it waits for the targets with these numbers
   Waiting : (on : List ℕ) → StageView
   Decided : StageView
 
 -- the stages in order of first sight, and the numbers of those that may be taken, in the order of the queue
-pub record TableView : Type 0 where
+pub record ScheduleView : Type 0 where
   pub stages : List StageView
   pub ready : List ℕ
 
-abbrev pub no_targets : TableView
+abbrev pub no_targets : ScheduleView
 no_targets = record { stages = []; ready = [] }
 
 -- the stage of the target with this number, if there is one
-abbrev pub stage_at : TableView → ℕ → Option StageView
+abbrev pub stage_at : ScheduleView → ℕ → Option StageView
 stage_at t k = slice_get t.stages k
 
 abbrev pub is_due : StageView → Bool
@@ -62,22 +62,22 @@ is_decided (Waiting on) = false
 is_decided Decided = true
 
 -- one target more
-abbrev pub with_target : TableView → StageView → TableView
+abbrev pub with_target : ScheduleView → StageView → ScheduleView
 with_target t stage = record t { stages = t.stages ++ stage ∷ [] }
 
 -- the target with this number in another stage
-abbrev pub with_stage : TableView → ℕ → StageView → TableView
+abbrev pub with_stage : ScheduleView → ℕ → StageView → ScheduleView
 with_stage t k stage = record t { stages = slice_set t.stages k stage }
 
 -- the target is out or in hand, so it may be decided or may wait
-abbrev pub IsOpen : TableView → ℕ → Type 0
+abbrev pub IsOpen : ScheduleView → ℕ → Type 0
 IsOpen t k = (stage_at t k ≡ Some Out) ⊎ (stage_at t k ≡ Some InHand)
 
-abbrev pub NoneDue : TableView → Type 0
+abbrev pub NoneDue : ScheduleView → Type 0
 NoneDue t = (k : ℕ) → stage_at t k ≡ Some Due → ⊥
 
 -- the target is the first, by first sight, that is due
-pub record IsFirstDue (t : TableView) (at : ℕ) : Type 0 where
+pub record IsFirstDue (t : ScheduleView) (at : ℕ) : Type 0 where
   pub due : stage_at t at ≡ Some Due
   pub first : (k : ℕ) → k < at → stage_at t k ≡ Some Due → ⊥
 
@@ -102,12 +102,12 @@ abbrev pub times : ℕ → List ℕ → ℕ
 times k = count_by (nat_eq k)
 
 -- the queue has ready targets alone, each once
-pub record IsQueue (t : TableView) : Type 0 where
+pub record IsQueue (t : ScheduleView) : Type 0 where
   pub are_ready : (k : ℕ) → 0 < times k t.ready → stage_at t k ≡ Some Ready
   pub once : (k : ℕ) → times k t.ready ≤ 1
 
 -- the ready targets that weren't in the queue stand behind the others, in order of first sight
-pub record IsEnqueued (old new : TableView) : Type 0 where
+pub record IsEnqueued (old new : ScheduleView) : Type 0 where
   pub stages : new.stages ≡ old.stages
   pub more : List ℕ
   pub behind : new.ready ≡ old.ready ++ more

@@ -1,13 +1,13 @@
 use Rattle.std.proofs.Common.{◌≡◌, ℕ, ◌<◌, length, slice_get, slice_index_or, Some, sym, subst}
-use Rattle.redo_table.specs.Table.{TableView}
-use Rattle.redo_table.specs.declared.table.Table.TheInside.{Inside}
+use Rattle.redo_table.specs.Schedule.{ScheduleView}
+use Rattle.redo_table.specs.declared.schedule.Schedule.TheInside.{Inside}
 use Rattle.redo_table.proofs.ListedLemmas.{take-listed}
-use Rattle.redo_table.proofs.SlotLemmas.{read-there}
-use Rattle.redo_table.proofs.table.Table.take.Goals as goal
+use Rattle.redo_table.proofs.TargetLemmas.{read-there}
+use Rattle.redo_table.proofs.schedule.Schedule.take.Goals as goal
 
-at-index : (t : Inside) (v : TableView) (which at : ℕ) → record { stages = t.waits.stages; ready = t.ready.items } ≡ v → which < length v.ready →
+at-index : (t : Inside) (v : ScheduleView) (which at : ℕ) → record { stages = t.waits.stages; ready = t.ready.items } ≡ v → which < length v.ready →
     at ≡ slice_index_or t.ready.items which at → slice_get t.ready.items which ≡ Some at
-at-index t v which at is lt read = read-there t.ready.items which at (subst (λ (u : TableView). which < length u.ready) (sym is) lt) read
+at-index t v which at is lt read = read-there t.ready.items which at (subst (λ (u : ScheduleView). which < length u.ready) (sym is) lt) read
 
 pub invariant_of-self : goal.invariant_of-self
 invariant_of-self c =
@@ -17,5 +17,5 @@ invariant_of-self c =
 
 pub returns-clause-number : goal.returns-clause-number
 returns-clause-number c =
-    subst (λ (v : TableView). slice_get v.ready c.args.which ≡ Some c.in-Some.at) c.self.view_is
+    subst (λ (v : ScheduleView). slice_get v.ready c.args.which ≡ Some c.in-Some.at) c.self.view_is
     (at-index c.self.inside c.args.self.now c.args.which c.in-Some.at c.self.view_is c.requires c.in-Some.ensures.value)

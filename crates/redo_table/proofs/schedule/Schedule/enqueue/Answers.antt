@@ -1,7 +1,7 @@
 use Rattle.std.proofs.Common.{ap, subst, ◌∙◌, ◌++◌, refl, IsPermutation}
-use Rattle.redo_table.specs.Table.{TableView, IsEnqueued}
+use Rattle.redo_table.specs.Schedule.{ScheduleView, IsEnqueued}
 use Rattle.redo_table.proofs.ListedLemmas.{sorted-listed, enqueued-listed, sorted-once, sorted-ascends, are-more}
-use Rattle.redo_table.proofs.table.Table.enqueue.Goals as goal
+use Rattle.redo_table.proofs.schedule.Schedule.enqueue.Goals as goal
 
 pub invariant_of-self : goal.invariant_of-self
 invariant_of-self c =
@@ -28,7 +28,7 @@ returns c =
     let shuffled = subst (λ xs. IsPermutation xs sorted) c.make_contiguous.ensures.value c.sort_unstable.ensures.permutation in
     let filled = c.make_contiguous.ensures.writes_back sorted (c.sort_unstable.ensures.len ∙ c.make_contiguous.ensures.len) in
     let once = sorted-once t.waits.stages t.ready.items t.newly_ready.items t.due.keys sorted t.out c.self.invariant shuffled in
-    let new : TableView = record { stages = t.waits.stages; ready = c.append.new.self.items } in
+    let new : ScheduleView = record { stages = t.waits.stages; ready = c.append.new.self.items } in
     let done : IsEnqueued (record { stages = t.waits.stages; ready = t.ready.items }) new = record {
       stages = refl;
       more = sorted;
