@@ -245,8 +245,8 @@ module _ (given : GivenView) (p : List ℕ) where
   s = sources_for given
 
   -- a target that is in no check
-  pub begin-none : (rules_for given).has_rule p ≡ true → checks_for given p ≡ None → IsBegunBehind given p [] nothing_known
-  begin-none rule none =
+  pub check-none : (rules_for given).has_rule p ≡ true → checks_for given p ≡ None → IsBegunBehind given p [] nothing_known
+  check-none rule none =
       let w = world_of given.past.sources given.limits in
       none-behind given p nothing_known none (λ b. own-again w p (found_of given.past.sources p) b rule)
 
@@ -258,8 +258,8 @@ module _ (given : GivenView) (p : List ℕ) where
       record { made = r; there = there; check = k.check ∙ ap (λ x. Some (check_by (last_run_of given.past) x)) same; once = is.once }
 
   -- an entry falls before one asks
-  pub begin-falls : (n : ℕ) (k : IsInCheck given p n) → FallsBehind (sources_for given) k.made.entries 0 → IsBegunBehind given p [] nothing_known
-  begin-falls n k f =
+  pub check-falls : (n : ℕ) (k : IsInCheck given p n) → FallsBehind (sources_for given) k.made.entries 0 → IsBegunBehind given p [] nothing_known
+  check-falls n k f =
       let es = k.made.entries in
       let l = slice_get_within es f.at f.entry f.there in
       let none : asked_by s (take f.at es) ++ asks s f.entry ≡ [] =
@@ -268,8 +268,8 @@ module _ (given : GivenView) (p : List ℕ) where
       (stood-on s nothing_known es 0 f.at (stood-none s nothing_known es) (omega (arith, l)) f.alone) f.there f.fallen (ap asking (sym none))
 
   -- or the check is due
-  pub begin-due : (c : Check) (k : IsInCheck given p c.number) → IsWalkedTo (sources_for given) k.made.entries 0 c.stood → c.asked ≡ [] → (a : Ask) → IsDueCheck given p a c
-  begin-due c k w none a =
+  pub check-due : (c : Check) (k : IsInCheck given p c.number) → IsWalkedTo (sources_for given) k.made.entries 0 c.stood → c.asked ≡ [] → (a : Ask) → IsDueCheck given p a c
+  check-due c k w none a =
       let es = k.made.entries in
       let same : es ≡ entries_in given c = sym (ap entries_of_record k.there) in
       record {

@@ -12,8 +12,8 @@ use Rattle.redo_table.specs.Schedule.{StageView, ScheduleView, with_stage, with_
 use Rattle.redo_table.specs.Schedule.StageView.{Due as AtDue, Ready as AtReady, InHand as AtHand, Decided as AtDecided}
 use Rattle.redo_table.proofs.TargetLemmas.{push-before, push-cases}
 use Rattle.redo_core.specs.inside.Slots.{outcomes_at_limit, table_entries, entries_from, slot_entries, slot_entry, stage_deps}
-use Rattle.redo_core.specs.inside.Slots.{stage_outcome, path_at, is_stage_out, Fits, Agrees, AreAgreed, first_stage}
-use Rattle.redo_core.specs.inside.Slots.{AllFit, IsTable, IsTableOf, IsBegun, IsPushed, IsEnteredInto, IsFull}
+use Rattle.redo_core.specs.inside.Slots.{stage_outcome, path_at, is_stage_out, Fits, Agrees, AreAgreed, first_in_schedule}
+use Rattle.redo_core.specs.inside.Slots.{AllFit, IsTable, IsTableOf, IsFirstStage, IsPushed, IsEnteredInto, IsFull}
 use Rattle.redo_core.specs.declared.table.Slot.{Slot}
 use Rattle.redo_core.specs.declared.table.Table.{Table}
 use Rattle.redo_core.specs.declared.table.Stage.{Stage}
@@ -23,7 +23,7 @@ use Rattle.redo_build.proofs.PathLemmas.{is_among-true, is_among-from}
 use Rattle.redo_build.proofs.SeenLemmas.{outcomes_of-entry, outcomes_of-at, entry_of-entered_old}
 use Rattle.redo_core.proofs.SlotLemmas.{paths_of-slots, slice_get-below_some, slice_get-from}
 use Rattle.redo_core.proofs.TableLemmas.{Fits-more}
-use Rattle.redo_core.proofs.BeginLemmas.{unruled-same}
+use Rattle.redo_core.proofs.FirstStageLemmas.{unruled-same}
 use Rattle.redo_record.specs.declared.deps.Dep.{Dep}
 use Rattle.redo_record.specs.declared.outcome.Outcome.{Outcome}
 
@@ -45,32 +45,32 @@ entry-unruled : (r : Rules) (p : List ℕ) (o : Outcome) → r.has_rule p ≡ fa
     new_entry r p ≡ record { path = p; looks = 0; turn = 0; deps = (r.progress p nothing_known).deps; outcome = Some o; is_out = false }
 entry-unruled r p o h is = rw (h, is) refl
 
-begun-entry : (given : GivenView) (a : Ask) (p : List ℕ) (stage : Stage) → IsBegun given p stage →
+stage-entry : (given : GivenView) (a : Ask) (p : List ℕ) (stage : Stage) → IsFirstStage given p stage →
     record { path = p; looks = 0; turn = 0; deps = stage_deps (rules_for given) a p 0 stage; outcome = stage_outcome stage; is_out = is_stage_out stage } ≡ new_entry (rules_for given) p
-begun-entry given a p (Due held) h =
+stage-entry given a p (Due held) h =
     let E : List Dep → Entry = λ ds. record { path = p; looks = 0; turn = 0; deps = ds; outcome = None; is_out = false } in
     ap E h.1 ∙ sym (entry-ruled (rules_for given) p h.2)
-begun-entry given a p (Checking awaiting) h = absurd h
-begun-entry given a p (Waiting begun) h = absurd h
-begun-entry given a p (Ready work) h =
+stage-entry given a p (Checking awaiting) h = absurd h
+stage-entry given a p (Waiting begun) h = absurd h
+stage-entry given a p (Ready work) h =
     let E : List Dep → Entry = λ ds. record { path = p; looks = 0; turn = 0; deps = ds; outcome = None; is_out = false } in
     ap E h.1 ∙ sym (entry-ruled (rules_for given) p h.2)
-begun-entry given a p Out h = absurd h
-begun-entry given a p (Decided fact) h =
+stage-entry given a p Out h = absurd h
+stage-entry given a p (Decided fact) h =
     let E : Progress → Entry = λ x. record { path = p; looks = 0; turn = 0; deps = x.deps; outcome = Some fact.value.outcome; is_out = false } in
     ap E (sym (unruled-same given p a h.2)) ∙ sym (entry-unruled (rules_for given) p fact.value.outcome h.2 h.3)
 
-begun-fits : (given : GivenView) (a : Ask) (p : List ℕ) (stage : Stage) → IsBegun given p stage → Fits (rules_for given) a given p 0 stage
-begun-fits given a p (Due held) h = h.0 a
-begun-fits given a p (Checking awaiting) h = absurd h
-begun-fits given a p (Waiting begun) h = absurd h
-begun-fits given a p (Ready work) h = (
+stage-fits : (given : GivenView) (a : Ask) (p : List ℕ) (stage : Stage) → IsFirstStage given p stage → Fits (rules_for given) a given p 0 stage
+stage-fits given a p (Due held) h = h.0 a
+stage-fits given a p (Checking awaiting) h = absurd h
+stage-fits given a p (Waiting begun) h = absurd h
+stage-fits given a p (Ready work) h = (
   h.0,
   λ q m none. let P : List Dep → Type 0 = λ ds. IsAmong (operands (rules_for given) ds) q in absurd (subst P h.1 m),
   h.3 (only (operands (rules_for given) work.deps) a),
 )
-begun-fits given a p Out h = absurd h
-begun-fits given a p (Decided fact) h = (h.0, h.1)
+stage-fits given a p Out h = absurd h
+stage-fits given a p (Decided fact) h = (h.0, h.1)
 
 -- a target that was added and put into a stage
 pub pushed-stage : (s : ScheduleView) (n : ℕ) (stage : StageView) → n ≡ length s.stages → with_stage (with_target s AtHand) n stage ≡ with_target s stage
@@ -81,15 +81,15 @@ pushed-stage s n stage is = ap (λ ss. record s { stages = ss }) (ap (λ k. slic
     set-last (x ∷ xs) = ap (λ ys. x ∷ ys) (set-last xs)
 
 -- the schedule has a path at first sight where its slot is: due, ready or decided
-begun-agrees : (given : GivenView) (ps : List (List ℕ)) (p : List ℕ) (stage : Stage) → IsBegun given p stage →
-    Agrees (rules_for given) ps stage (first_stage stage) ×
-    ((first_stage stage ≡ AtDue) ⊎ ((first_stage stage ≡ AtReady) ⊎ (first_stage stage ≡ AtDecided)))
-begun-agrees given ps p (Due held) h = (refl, inl refl)
-begun-agrees given ps p (Checking awaiting) h = absurd h
-begun-agrees given ps p (Waiting begun) h = absurd h
-begun-agrees given ps p (Ready work) h = (refl, inr (inl refl))
-begun-agrees given ps p Out h = absurd h
-begun-agrees given ps p (Decided fact) h = (refl, inr (inr refl))
+stage-agrees : (given : GivenView) (ps : List (List ℕ)) (p : List ℕ) (stage : Stage) → IsFirstStage given p stage →
+    Agrees (rules_for given) ps stage (first_in_schedule stage) ×
+    ((first_in_schedule stage ≡ AtDue) ⊎ ((first_in_schedule stage ≡ AtReady) ⊎ (first_in_schedule stage ≡ AtDecided)))
+stage-agrees given ps p (Due held) h = (refl, inl refl)
+stage-agrees given ps p (Checking awaiting) h = absurd h
+stage-agrees given ps p (Waiting begun) h = absurd h
+stage-agrees given ps p (Ready work) h = (refl, inr (inl refl))
+stage-agrees given ps p Out h = absurd h
+stage-agrees given ps p (Decided fact) h = (refl, inr (inr refl))
 
 -- a slot and its stage behind the others, with more paths
 agreed-push : (r : Rules) (ps us : List (List ℕ)) (slots : List Slot) (stages : List StageView) (new : Slot) (s : StageView) →
@@ -140,7 +140,7 @@ module _ (given : GivenView) (t u : Table) (p : List ℕ) (table : IsTableOf giv
   abbrev es : List Entry
   es = table_entries given t
 
-  begun : IsBegun given p w.new.stage
+  begun : IsFirstStage given p w.new.stage
   begun = w.begun
 
   new-entry : slot_entry (rules_for given) (outcomes_at_limit given) p w.new ≡ new_entry (rules_for given) p
@@ -148,7 +148,7 @@ module _ (given : GivenView) (t u : Table) (p : List ℕ) (table : IsTableOf giv
       let P : ℕ → ℕ → Type 0 = λ m n. record { path = p; looks = m; turn = n; deps = stage_deps r a p (m + n) w.new.stage; outcome = stage_outcome w.new.stage; is_out = is_stage_out w.new.stage } ≡ new_entry r p in
       let Q : ℕ → Type 0 = λ m. P m 0 in
       let R : ℕ → Type 0 = λ n. P w.new.looks n in
-      subst R (sym w.turn) (subst Q (sym w.looks) (begun-entry given a p w.new.stage w.begun))
+      subst R (sym w.turn) (subst Q (sym w.looks) (stage-entry given a p w.new.stage w.begun))
 
   pushed : entries_from (rules_for given) given.limits.targets (t.targets ++ p ∷ []) (t.slots.items ++ w.new ∷ []) ≡ entered (rules_for given) (table_entries given t) (p ∷ [])
   pushed =
@@ -174,17 +174,17 @@ module _ (given : GivenView) (t u : Table) (p : List ℕ) (table : IsTableOf giv
             let P : List ℕ → Type 0 = λ q. Fits r b given q x.turn x.stage in
             let Q : Slot → Type 0 = λ y. Fits r b given p y.turn y.stage in
             let R : ℕ → Type 0 = λ n. Fits r b given p n w.new.stage in
-            subst P (sym path) (subst Q here.1 (subst R (sym w.turn) (begun-fits given b p w.new.stage w.begun)))
+            subst P (sym path) (subst Q here.1 (subst R (sym w.turn) (stage-fits given b p w.new.stage w.begun)))
         | inr old ↦
             let path = path_at-old t.targets p k (omega (arith, slice_get-below_some t.slots.items k x old, table.one_each)) in
             let P : List ℕ → Type 0 = λ q. Fits r b given q x.turn x.stage in
             subst P (sym path) (Fits-more given (outcomes_of es) b (path_at t.targets k) x.turn x.stage more (table.fits k x old))
       ]
 
-  first-agrees : Agrees (rules_for given) (t.targets ++ p ∷ []) w.new.stage (first_stage w.new.stage)
-  first-agrees = (begun-agrees given (t.targets ++ p ∷ []) p w.new.stage w.begun).0
+  first-agrees : Agrees (rules_for given) (t.targets ++ p ∷ []) w.new.stage (first_in_schedule w.new.stage)
+  first-agrees = (stage-agrees given (t.targets ++ p ∷ []) p w.new.stage w.begun).0
 
-  table-push : IsTable (rules_for given) given (t.targets ++ p ∷ []) (t.slots.items ++ w.new ∷ []) (t.schedule.stages ++ first_stage w.new.stage ∷ [])
+  table-push : IsTable (rules_for given) given (t.targets ++ p ∷ []) (t.slots.items ++ w.new ∷ []) (t.schedule.stages ++ first_in_schedule w.new.stage ∷ [])
   table-push =
       let len : length (t.slots.items ++ w.new ∷ []) ≡ length t.slots.items + 1 = length-append t.slots.items (w.new ∷ []) in
       let keys : length (t.targets ++ p ∷ []) ≡ length t.targets + 1 = length-append t.targets (p ∷ []) in
@@ -193,17 +193,17 @@ module _ (given : GivenView) (t u : Table) (p : List ℕ) (table : IsTableOf giv
         within_limit = omega (arith, len, room);
         few = table.few;
         fits = fits-push;
-        agreed = agreed-push r t.targets (t.targets ++ p ∷ []) t.slots.items t.schedule.stages w.new (first_stage w.new.stage) table.agreed
+        agreed = agreed-push r t.targets (t.targets ++ p ∷ []) t.slots.items t.schedule.stages w.new (first_in_schedule w.new.stage) table.agreed
             (λ k q h. push-before t.targets k p q h) first-agrees;
       }
 
-  stage-push : u.schedule.stages ≡ t.schedule.stages ++ first_stage w.new.stage ∷ []
+  stage-push : u.schedule.stages ≡ t.schedule.stages ++ first_in_schedule w.new.stage ∷ []
   stage-push = ap (λ (x : ScheduleView). x.stages) w.schedule
 
   stages-fresh : (k : ℕ) (s : StageView) → slice_get u.schedule.stages k ≡ Some s →
       (slice_get t.schedule.stages k ≡ Some s) ⊎ ((s ≡ AtDue) ⊎ ((s ≡ AtReady) ⊎ (s ≡ AtDecided)))
-  stages-fresh k s h = elim (push-cases t.schedule.stages k (first_stage w.new.stage) s (sym (ap (λ ss. slice_get ss k) stage-push) ∙ h)) [
-    | inl here ↦ inr (elim (begun-agrees given t.targets p w.new.stage w.begun).1 [
+  stages-fresh k s h = elim (push-cases t.schedule.stages k (first_in_schedule w.new.stage) s (sym (ap (λ ss. slice_get ss k) stage-push) ∙ h)) [
+    | inl here ↦ inr (elim (stage-agrees given t.targets p w.new.stage w.begun).1 [
       | inl due ↦ inl (sym here.1 ∙ due)
       | inr other ↦ elim other [ inl ready ↦ inr (inl (sym here.1 ∙ ready)) | inr decided ↦ inr (inr (sym here.1 ∙ decided)) ]
     ])
@@ -217,7 +217,7 @@ module _ (given : GivenView) (t u : Table) (p : List ℕ) (table : IsTableOf giv
     ready = ap (λ (x : ScheduleView). x.ready) w.schedule;
     keys_kept = λ k q h. rw w.keys (push-before t.targets k p q h);
     slots_kept = λ k x h. rw w.slots (push-before t.slots.items k w.new x h);
-    stages_kept = λ k s h. rw stage-push (push-before t.schedule.stages k (first_stage w.new.stage) s h);
+    stages_kept = λ k s h. rw stage-push (push-before t.schedule.stages k (first_in_schedule w.new.stage) s h);
     fresh = stages-fresh;
   }
 

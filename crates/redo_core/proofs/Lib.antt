@@ -18,8 +18,8 @@ pub mod EnterSteps
 pub mod PutSteps
 pub mod StopLemmas
 pub mod FactLemmas
-pub mod BeginLemmas
-pub mod BegunLemmas
+pub mod FirstStageLemmas
+pub mod ScriptLemmas
 pub mod MakeReadySteps
 pub mod GainSteps
 pub mod ResumeSteps

@@ -202,7 +202,7 @@ fn all_shown(alloc: Global, entries: &[BookEntry]) -> Result<Deps, AllocError>
 impl Check {
     /// The check of a target with a rule, which is due. `None` if the target isn't in check, or if an entry falls
     /// before one asks for a path: its script is begun at once.
-    pub(crate) fn begin(
+    pub(crate) fn of(
         alloc: Global,
         given: &Given,
         target: &Path,

@@ -12,7 +12,7 @@
 //! hands in.
 //!
 //! - `laws`: what a board has taken, as the contract of a function that does nothing.
-//! - `board`: the board; `table`, `moves` and `begin` are its inside, and `same` compares by value; `opening`: why none
+//! - `board`: the board; `table`, `moves` and `first` are its inside, and `same` compares by value; `opening`: why none
 //!   was opened.
 //! - `check`: how far the check of a target has come; `moves` makes the looks.
 //! - `work`, `facts`, `fact`: a job on its way to a worker and back, and the decided targets that it knows; `scripts`:
@@ -21,13 +21,13 @@
 //! - `finish`: the report of a quiet board, which [`board::Board::finish`] completes by the new book.
 #![tactic(auto)]
 
-mod begin;
 pub mod board;
 mod build;
 mod check;
 pub mod fact;
 mod facts;
 mod finish;
+mod first;
 mod given;
 pub mod laws;
 mod moves;

@@ -5,7 +5,7 @@ ghost use Rattle.redo_script.specs.Texts.{script_in};
 ghost use Rattle.redo_step.specs.Parsed.{parsed_of};
 ghost use Rattle.redo_which.specs.Rule.{Rule as IsRule, found_of};
 ghost use Rattle.redo_which.specs.Views.{arguments_view};
-ghost use Rattle.redo_core.specs.inside.Scripts.{IsBegunJob};
+ghost use Rattle.redo_core.specs.inside.Scripts.{IsFirstJob};
 
 use crate::given::Given;
 use redo_path::Path;
@@ -110,7 +110,7 @@ pub(crate) fn may_loop_long(text: &[u8]) -> bool {
 
 /// Reads the script of a target and makes its job, and says whether loops may make it take long. The .do file that the
 /// search found is a file of the tree.
-pub(crate) fn begun(
+pub(crate) fn job_of(
     alloc: Global,
     given: &Arc<Given>,
     target: Path,
@@ -118,7 +118,7 @@ pub(crate) fn begun(
 ) -> Result<(Job, bool), AllocError>
     requires { found_of (arc_value given.now).past.sources target ≡
         IsRule rule.do_file rule.missing (arguments_view rule.args) }
-    ensures { IfOk result (λ begun. IsBegunJob (arc_value given.now) target begun.0) }
+    ensures { IfOk result (λ read. IsFirstJob (arc_value given.now) target read.0) }
 {
     let tree = Arc::try_clone(given.sources())?;
     let Some(text) = tree.file(&rule.do_file) else {

@@ -6,14 +6,14 @@ ghost use Rattle.redo_table.specs.Schedule.{stage_at};
 ghost use Rattle.redo_table.specs.Schedule.StageView.{InHand};
 ghost use Rattle.redo_core.specs.inside.Slots.{IsDecidedNumber, GainsOne, is_stage_decided, is_stage_out};
 ghost use Rattle.redo_core.specs.inside.Slots.{IsOutSlotAt, IsTableOf, IsStandingTable};
-ghost use Rattle.redo_core.specs.inside.Slots.{IsMadeReadyAt, IsFed, IsBegun, IsPushed, AreEnqueued};
+ghost use Rattle.redo_core.specs.inside.Slots.{IsMadeReadyAt, IsFed, IsFirstStage, IsPushed, AreEnqueued};
 ghost use Rattle.redo_core.specs.inside.Slots.{IsEnteredInto, IsFull, IsDecidedAt, IsParkedAt};
 ghost use Rattle.redo_core.specs.inside.Slots.{IsOutThere, Gains, IsAnsweredCheck, IsAnsweredAt, IsGoneOnAt, IsSettled};
 ghost use Rattle.redo_core.specs.inside.Slots.{IsResumedAt, GoesOnWith, IsFallen, AreSeen};
 ghost use Rattle.redo_core.specs.inside.Slots.{decided_slots, IsAskedAt, IsTakenOut, IsDueThere};
 ghost use Rattle.redo_core.specs.inside.Works.{known_in};
 
-use crate::begin::begin;
+use crate::first::first_stage;
 use crate::board::Stop;
 use crate::build::Build;
 use crate::check::Check;
@@ -273,7 +273,7 @@ impl Table {
         requires table { IsTableOf build.now self.old }
         ensures { OnOk result (IsPushed build.now self.old self.new path.now) }
     {
-        let stage = begin(self.allocator(), path, build, self.slots.len())?;
+        let stage = first_stage(self.allocator(), path, build, self.slots.len())?;
         let at = self.schedule.add()?;
         match &stage {
             Stage::Due(_) => self.schedule.make_due(at)?,

@@ -12,7 +12,7 @@ ghost use Rattle.redo_core.specs.inside.Ends.{IsEndAt};
 use crate::fact::Fact;
 use crate::facts::{Facts, has_file_of, is_any_large};
 use crate::given::Given;
-use crate::scripts::{begun, may_loop_long};
+use crate::scripts::{job_of, may_loop_long};
 use redo_path::Path;
 use redo_record::{Deps, Outcome};
 use redo_step::{Job, Step, more_answers};
@@ -248,7 +248,7 @@ impl Work {
                     rule,
                     facts,
                 } = Box::into_inner(unread);
-                let (job, loops_long) = begun(alloc, &given, target, rule)?;
+                let (job, loops_long) = job_of(alloc, &given, target, rule)?;
                 advance_job(given, number, job, facts, loops_long)
             }
             ScriptStage::Begun(begun) => {

@@ -34,7 +34,7 @@ IsScriptOf given (Unread unread) =
 IsScriptOf given (Begun begun) = IsWorkWith given begun.value.job begun.value.facts
 
 -- the job of a target before its first statement; with what its check has learned it is a work
-pub record IsBegunJob (given : GivenView) (target : List ℕ) (job : JobView) : Type 0 where
+pub record IsFirstJob (given : GivenView) (target : List ℕ) (job : JobView) : Type 0 where
   pub of_target : job.target ≡ target
   pub at_first : job.turn ≡ 0
   pub none_recorded : job_deps job ≡ []

@@ -450,39 +450,39 @@ is_waiting (AtWaiting on) = true
 is_waiting AtDecided = false
 
 -- the first stage of a path
-abbrev pub IsBegun : GivenView → List ℕ → Stage → Type 0
-IsBegun given p (Due held) =
+abbrev pub IsFirstStage : GivenView → List ℕ → Stage → Type 0
+IsFirstStage given p (Due held) =
     ((a : Ask) → IsDueWith (rules_for given) a given p 0 held.value) × (held.value.check.asked ≡ []) ×
     ((rules_for given).has_rule p ≡ true)
-IsBegun given p (Checking awaiting) = ⊥
-IsBegun given p (Waiting begun) = ⊥
-IsBegun given p (Ready work) =
+IsFirstStage given p (Checking awaiting) = ⊥
+IsFirstStage given p (Waiting begun) = ⊥
+IsFirstStage given p (Ready work) =
     IsParked given p 0 work × (work.deps ≡ []) × ((rules_for given).has_rule p ≡ true) ×
     ((a : Ask) → (rules_for given).begins p a ≡ true)
-IsBegun given p Out = ⊥
-IsBegun given p (Decided fact) =
+IsFirstStage given p Out = ⊥
+IsFirstStage given p (Decided fact) =
     (fact.value.given ≡ given) × (fact.value.target ≡ p) ×
     ((rules_for given).has_rule p ≡ false) ×
     (((rules_for given).progress p nothing_known).outcome ≡ Some fact.value.outcome)
 
 -- where the schedule has a path at first sight
-abbrev pub first_stage : Stage → StageView
-first_stage (Due held) = AtDue
-first_stage (Checking awaiting) = AtHand
-first_stage (Waiting begun) = AtHand
-first_stage (Ready work) = AtReady
-first_stage Out = AtHand
-first_stage (Decided fact) = AtDecided
+abbrev pub first_in_schedule : Stage → StageView
+first_in_schedule (Due held) = AtDue
+first_in_schedule (Checking awaiting) = AtHand
+first_in_schedule (Waiting begun) = AtHand
+first_in_schedule (Ready work) = AtReady
+first_in_schedule Out = AtHand
+first_in_schedule (Decided fact) = AtDecided
 
 -- a new path has a slot behind the others
 pub record IsPushed (given : GivenView) (t u : Table) (p : List ℕ) : Type 0 where
   pub new : Slot
-  pub begun : IsBegun given p new.stage
+  pub begun : IsFirstStage given p new.stage
   pub looks : new.looks ≡ 0
   pub turn : new.turn ≡ 0
   pub keys : u.targets ≡ t.targets ++ p ∷ []
   pub slots : u.slots.items ≡ t.slots.items ++ new ∷ []
-  pub schedule : u.schedule ≡ with_target t.schedule (first_stage new.stage)
+  pub schedule : u.schedule ≡ with_target t.schedule (first_in_schedule new.stage)
 
 -- the table shows the entries with these paths entered
 pub record AreEnteredInto (given : GivenView) (t u : Table) (ps : List (List ℕ)) : Type 0 where

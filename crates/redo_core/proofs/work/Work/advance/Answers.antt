@@ -5,7 +5,7 @@ use Rattle.redo_record.specs.declared.outcome.Outcome.{Outcome}
 use Rattle.redo_build.specs.Lacking.{lacking_under}
 use Rattle.redo_rules.specs.Build.{GivenView, rules_for}
 use Rattle.redo_core.specs.Views.{told_by}
-use Rattle.redo_core.proofs.BegunLemmas.{begun-shows, unread-shows, unread-work}
+use Rattle.redo_core.proofs.ScriptLemmas.{begun-shows, unread-shows, unread-work}
 use Rattle.redo_core.proofs.work.Work.advance.Goals as goal
 
 pub advance_job-requires : goal.advance_job-requires

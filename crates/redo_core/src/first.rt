@@ -1,7 +1,7 @@
 //! What a path is at first sight.
 ghost use Rattle.std.specs.Prelude.{◌≡◌, ◌<◌, IfOk};
 ghost use Rattle.redo_which.specs.Rule.{found_of};
-ghost use Rattle.redo_core.specs.inside.Slots.{IsBegun};
+ghost use Rattle.redo_core.specs.inside.Slots.{IsFirstStage};
 ghost use Rattle.redo_core.specs.inside.Works.{found_as};
 
 use crate::build::Build;
@@ -17,14 +17,14 @@ use std::alloc::{AllocError, Global};
 use std::sync::Arc;
 
 /// The first stage of a path, which is the target of this number: decided if it has no rule, else in check or ready.
-pub(crate) fn begin(
+pub(crate) fn first_stage(
     alloc: Global,
     path: &Path,
     build: &Build,
     number: usize,
 ) -> Result<Stage, AllocError>
     requires { number < build.now.limits.targets }
-    ensures { IfOk result (IsBegun build.now path.now) }
+    ensures { IfOk result (IsFirstStage build.now path.now) }
 {
     let (outcome, deps) = match lookup::find(alloc, build.given().sources(), path)? {
         Found::Rule(rule) => return ruled(alloc, path, build, rule),
@@ -46,10 +46,10 @@ pub(crate) fn begin(
 /// ready. Its script is read when it is advanced.
 fn ruled(alloc: Global, path: &Path, build: &Build, rule: Rule) -> Result<Stage, AllocError>
     requires { found_of build.now.past.sources path.now ≡ found_as rule }
-    ensures { IfOk result (IsBegun build.now path.now) }
+    ensures { IfOk result (IsFirstStage build.now path.now) }
 {
     let facts = Facts::new(alloc);
-    if let Some(check) = Check::begin(alloc, build.given(), path)? {
+    if let Some(check) = Check::of(alloc, build.given(), path)? {
         let held = Box::new(alloc, InCheck { rule, check, facts })?;
         return Ok(Stage::Due(held));
     }

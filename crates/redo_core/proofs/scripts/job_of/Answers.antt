@@ -5,9 +5,9 @@ use Rattle.redo_tree.specs.Tree.{file_at}
 use Rattle.redo_script.specs.Texts.{script_in}
 use Rattle.redo_which.specs.Views.{arguments_view}
 use Rattle.redo_rules.specs.Build.{GivenView}
-use Rattle.redo_core.proofs.BegunLemmas.{begun-is}
+use Rattle.redo_core.proofs.ScriptLemmas.{begun-is}
 use Rattle.redo_core.proofs.JobLemmas.{found_file}
-use Rattle.redo_core.proofs.scripts.begun.Goals as goal
+use Rattle.redo_core.proofs.scripts.job_of.Goals as goal
 
 pub unreachable-requires : goal.unreachable-requires
 unreachable-requires c =

@@ -8,9 +8,9 @@ use Rattle.redo_core.specs.inside.Checking.{IsBegunBehind, IsDueCheck}
 use Rattle.redo_core.specs.inside.Slots.{IsDueWith}
 use Rattle.redo_core.specs.declared.check.Check.{Check}
 use Rattle.redo_core.specs.declared.table.InCheck.{InCheck}
-use Rattle.redo_core.proofs.BeginLemmas.{begun-at-once, begun-due, begun-unread, ruled}
-use Rattle.redo_core.proofs.begin.ruled.Goals as goal
-use Rattle.redo_core.proofs.begin.ruled.Goals.{In_default}
+use Rattle.redo_core.proofs.FirstStageLemmas.{first-at-once, first-due, first-unread, ruled}
+use Rattle.redo_core.proofs.first.ruled.Goals as goal
+use Rattle.redo_core.proofs.first.ruled.Goals.{In_default}
 
 pub returns-in-Some : goal.returns-in-Some
 returns-in-Some c =
@@ -22,7 +22,7 @@ returns-in-Some c =
     let held : InCheck = record { rule = c.args.rule; check = c.in-Some.check; facts = c.new-facts.result } in
     let H : InCheck → Type 0 = λ h. ((a : Ask) → IsDueWith (rules_for given) a given p 0 h) × (h.check.asked ≡ []) in
     let both = subst H (sym c.in_ok-held.ensures.ok) (
-      begun-due given p held c.requires c.new-facts.ensures.empty c.new-facts.ensures.asked due.0 due.1,
+      first-due given p held c.requires c.new-facts.ensures.empty c.new-facts.ensures.asked due.0 due.1,
       due.0,
     ) in
     (both.0, both.1, ruled given p c.args.rule c.requires)
@@ -35,7 +35,7 @@ behind c =
 
 pub unread-requires : goal.unread-requires
 unread-requires c =
-    rw (c.in_ok-own.ensures, c.in_ok-target.ensures.cases) (begun-unread c.args.build.now c.args.path.now c.args.rule c.new-facts.result c.requires
+    rw (c.in_ok-own.ensures, c.in_ok-target.ensures.cases) (first-unread c.args.build.now c.args.path.now c.args.rule c.new-facts.result c.requires
     c.new-facts.ensures.empty c.new-facts.ensures.asked (behind (goal.at-unread-requires c).In_default))
 
 pub returns : goal.returns
@@ -48,5 +48,5 @@ returns c =
       ),
       ap (λ (w : WorkView). w.deps) is ∙ c.new-facts.ensures.asked,
       ruled c.args.build.now c.args.path.now c.args.rule c.requires,
-      begun-at-once c.args.build.now c.args.path.now (behind (goal.at-returns c).In_default),
+      first-at-once c.args.build.now c.args.path.now (behind (goal.at-returns c).In_default),
     )

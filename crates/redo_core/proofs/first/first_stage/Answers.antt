@@ -1,7 +1,7 @@
 use Rattle.std.proofs.Common.{rules, ◌≡◌, Some, sym, ap, ◌∙◌}
 use Rattle.std.specs.Arc.{arc_value}
-use Rattle.redo_core.proofs.BeginLemmas.{unruled-fact, unruled-outcome}
-use Rattle.redo_core.proofs.begin.begin.Goals as goal
+use Rattle.redo_core.proofs.FirstStageLemmas.{unruled-fact, unruled-outcome}
+use Rattle.redo_core.proofs.first.first_stage.Goals as goal
 
 pub of-fact-requires : goal.of-fact-requires
 of-fact-requires c =

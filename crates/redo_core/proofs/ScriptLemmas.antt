@@ -15,7 +15,7 @@ use Rattle.redo_which.specs.Rule.{Found, Rule, found_of}
 use Rattle.redo_which.specs.Views.{arguments_view}
 use Rattle.redo_rules.specs.Build.{GivenView}
 use Rattle.redo_core.specs.Views.{WorkView}
-use Rattle.redo_core.specs.inside.Scripts.{IsBegunJob, IsScriptOf, script_deps, script_known, script_target, script_turn}
+use Rattle.redo_core.specs.inside.Scripts.{IsFirstJob, IsScriptOf, script_deps, script_known, script_target, script_turn}
 use Rattle.redo_core.specs.inside.Works.{IsUnreadWork, IsWorkWith, found_as, known_in}
 use Rattle.redo_core.specs.declared.work.Begun.{Begun as BegunScript}
 use Rattle.redo_core.specs.declared.work.ScriptStage.{ScriptStage}
@@ -44,13 +44,13 @@ begun-work given target rule parsed is_found script fits found facts unread = re
 pub begun-is : (given : GivenView) (own : Tree) (limits : LimitsView) (target : List ℕ) (rule : FoundRule) (parsed : Parsed) (job : JobView) →
     own ≡ given.past.sources → limits ≡ given.limits → found_of given.past.sources target ≡ Rule rule.do_file rule.missing (arguments_view rule.args) →
     parsed_of parsed ≡ script_in (unwrap_or (file_at given.past.sources rule.do_file) []) →
-    job ≡ begun own target rule parsed limits → ((ask : Answers) → IsFit job ask) → IsBegunJob given target job
+    job ≡ begun own target rule parsed limits → ((ask : Answers) → IsFit job ask) → IsFirstJob given target job
 begun-is given own limits target rule parsed job same bounds found script is fits =
     let J : Tree → LimitsView → JobView = λ t l. begun t target rule parsed l in
     let at : job ≡ J given.past.sources given.limits = is ∙ ap (λ t. J t limits) same ∙ ap (J given.past.sources) bounds in
     let F : JobView → Type 0 = λ j. (ask : Answers) → IsFit j ask in
     let fits' = subst F at fits in
-    let P : JobView → Type 0 = IsBegunJob given target in
+    let P : JobView → Type 0 = IsFirstJob given target in
     subst P (sym at) (record {
       of_target = refl;
       at_first = refl;
@@ -62,7 +62,7 @@ begun-is given own limits target rule parsed job same bounds found script is fit
 
 -- an unread script that was begun is a work
 pub unread-work : (given : GivenView) (unread : Box UnreadScript Global) → IsScriptOf given (Unread unread) →
-    (own : UnreadScript) → own ≡ unread.value → (job : JobView) → IsBegunJob given own.target job → IsWorkWith given job own.facts
+    (own : UnreadScript) → own ≡ unread.value → (job : JobView) → IsFirstJob given own.target job → IsWorkWith given job own.facts
 unread-work given unread is own same job begun =
     let P : UnreadScript → Type 0 = λ u. IsUnreadWork given u.target (found_as u.rule) u.facts in
     begun.is_work (found_as own.rule) own.facts (subst P (sym same) is)

@@ -78,10 +78,10 @@ none-only : (given : GivenView) (asked : List Dep) (a : Ask) → asked ≡ [] �
 none-only given asked a none q = ap (λ ds. only (operands (rules_for given) ds) a q) none
 
 -- a check that is due asked for nothing yet
-pub begun-due : (given : GivenView) (p : List ℕ) (held : InCheck) → found_of given.past.sources p ≡ found_as held.rule → known_in held.facts ≡ [] →
+pub first-due : (given : GivenView) (p : List ℕ) (held : InCheck) → found_of given.past.sources p ≡ found_as held.rule → known_in held.facts ≡ [] →
     held.facts.asked ≡ [] → held.check.asked ≡ [] → ((a : Ask) → IsDueCheck given p a held.check) →
     (a : Ask) → IsDueWith (rules_for given) a given p 0 held
-begun-due given p held found known behind asked due a = record {
+first-due given p held found known behind asked due a = record {
   is_held = record { found = found; at_first = refl; none_behind = behind };
   is_due = due a;
   answered = λ q m none. none-asked given held.check.asked asked q m;
@@ -89,9 +89,9 @@ begun-due given p held found known behind asked due a = record {
 }
 
 -- a script that isn't in check, or whose check fell at once, has what a work needs
-pub begun-unread : (given : GivenView) (p : List ℕ) (rule : FoundRule) (facts : Facts) → found_of given.past.sources p ≡ found_as rule → known_in facts ≡ [] →
+pub first-unread : (given : GivenView) (p : List ℕ) (rule : FoundRule) (facts : Facts) → found_of given.past.sources p ≡ found_as rule → known_in facts ≡ [] →
     facts.asked ≡ [] → IsBegunBehind given p [] nothing_known → IsUnreadWork given p (found_as rule) facts
-begun-unread given p rule facts found known asked behind =
+first-unread given p rule facts found known asked behind =
     let r = rules_for given in
     let first : IsWork r p 0 [] = record {
       depth = 0;
@@ -112,5 +112,5 @@ begun-unread given p rule facts found known asked behind =
     }
 
 -- whatever is known
-pub begun-at-once : (given : GivenView) (p : List ℕ) → IsBegunBehind given p [] nothing_known → (a : Ask) → (rules_for given).begins p a ≡ true
-begun-at-once given p behind a = behind.begins a (λ q m. absurd m)
+pub first-at-once : (given : GivenView) (p : List ℕ) → IsBegunBehind given p [] nothing_known → (a : Ask) → (rules_for given).begins p a ≡ true
+first-at-once given p behind a = behind.begins a (λ q m. absurd m)
