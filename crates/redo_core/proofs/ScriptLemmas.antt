@@ -19,7 +19,7 @@ use Rattle.redo_core.specs.inside.Scripts.{IsFirstJob, IsScriptOf, script_deps, 
 use Rattle.redo_core.specs.inside.Works.{IsUnreadWork, IsWorkWith, found_as, known_in}
 use Rattle.redo_core.specs.declared.work.Begun.{Begun as BegunScript}
 use Rattle.redo_core.specs.declared.work.ScriptStage.{ScriptStage}
-use Rattle.redo_core.specs.declared.work.ScriptStage.TheVariants.{Begun, Unread}
+use Rattle.redo_core.specs.declared.work.ScriptStage.TheVariants.{Unread}
 use Rattle.redo_core.specs.declared.work.Unread.{Unread as UnreadScript}
 use Rattle.redo_core.specs.declared.facts.Facts.{Facts}
 
@@ -77,21 +77,12 @@ work_of given script = record {
   known = script_known script;
 }
 
-module _ (given : GivenView) (script : ScriptStage) (view : WorkView) (is : work_of given script ≡ view)
-    (Q : GivenView → List ℕ → List (List ℕ × Outcome) → Type 0) where
-  pub unread-shows : (unread : Box UnreadScript Global) → script ≡ Unread unread → (own : UnreadScript) → own ≡ unread.value →
-      (job : JobView) → job.target ≡ own.target → Q given job.target (known_in own.facts) → Q view.given view.target view.known
-  unread-shows unread at own same job target h =
-      let V : WorkView → Type 0 = λ w. Q w.given w.target w.known in
-      let S : ScriptStage → Type 0 = λ s. Q given (script_target s) (script_known s) in
-      let U : UnreadScript → Type 0 = λ u. Q given u.target (known_in u.facts) in
-      let T : List ℕ → Type 0 = λ x. Q given x (known_in own.facts) in
-      subst V is (subst S (sym at) (subst U same (subst T target h)))
-
-  pub begun-shows : (begun : Box BegunScript Global) → script ≡ Begun begun → (own : BegunScript) → own ≡ begun.value →
-      Q given own.job.target (known_in own.facts) → Q view.given view.target view.known
-  begun-shows begun at own same h =
-      let V : WorkView → Type 0 = λ w. Q w.given w.target w.known in
-      let S : ScriptStage → Type 0 = λ s. Q given (script_target s) (script_known s) in
-      let B : BegunScript → Type 0 = λ b. Q given b.job.target (known_in b.facts) in
-      subst V is (subst S (sym at) (subst B same h))
+-- what is so of the script that was begun is so of the work
+pub begun-shows : (given : GivenView) (script : ScriptStage) (view : WorkView) → work_of given script ≡ view → (begun : BegunScript) →
+    begun.job.target ≡ script_target script → known_in begun.facts ≡ script_known script →
+    (Q : GivenView → List ℕ → List (List ℕ × Outcome) → Type 0) → Q given begun.job.target (known_in begun.facts) → Q view.given view.target view.known
+begun-shows given script view is begun target known Q h =
+    let V : WorkView → Type 0 = λ w. Q w.given w.target w.known in
+    let T : List ℕ → Type 0 = λ x. Q given x (script_known script) in
+    let K : List (List ℕ × Outcome) → Type 0 = Q given begun.job.target in
+    subst V is (subst T target (subst K known h))

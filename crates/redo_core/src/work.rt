@@ -1,5 +1,5 @@
 //! Jobs on their way to a worker and back.
-ghost use Rattle.std.specs.Prelude.{◌≡◌, ◌↔◌, [], Some, None, MatchOption, is_some, option_copied, IfOk, IsTrue};
+ghost use Rattle.std.specs.Prelude.{◌≡◌, ◌↔◌, [], None, MatchOption, is_some, option_copied, true, IfOk, IsTrue};
 ghost use Rattle.std.specs.Arc.{arc_value};
 ghost use Rattle.redo_build.specs.Lacking.{lacking_under};
 ghost use Rattle.redo_record.specs.Answers.{file_in};
@@ -7,7 +7,9 @@ ghost use Rattle.redo_rules.specs.Build.{rules_for};
 ghost use Rattle.redo_core.specs.Views.{told_by};
 ghost use Rattle.redo_core.specs.inside.Works.{IsUnreadWork, IsWorkWith, HoldsOutcomes, all_asked, found_as, known_in};
 ghost use Rattle.redo_core.specs.inside.Works.{told_in};
-ghost use Rattle.redo_core.specs.inside.Ends.{IsEndAt};
+ghost use Rattle.redo_core.specs.inside.Decided.{IsDecided};
+ghost use Rattle.redo_core.specs.inside.Ends.{IsEndAt, end_progress};
+ghost use Rattle.redo_core.specs.inside.Scripts.{IsScriptOf, script_known, script_target, script_turn};
 
 use crate::fact::Fact;
 use crate::facts::{Facts, has_file_of, is_any_large};
@@ -15,7 +17,7 @@ use crate::given::Given;
 use crate::scripts::{job_of, may_loop_long};
 use redo_path::Path;
 use redo_record::{Deps, Outcome};
-use redo_step::{Job, Step, more_answers};
+use redo_step::{Done, Job, Step, more_answers};
 use redo_which::Rule;
 use std::alloc::{AllocError, Global};
 use std::marker::Model;
@@ -240,7 +242,30 @@ impl Work {
             number,
             script,
         } = self;
-        match script {
+        let begun = script.into_begun(&given)?;
+        let target = begun.job.target().clone()?;
+        let turn = begun.job.turn();
+        let end = begun.advance(&given, &target)?;
+        Ok(Piece {
+            given,
+            number,
+            target,
+            turn,
+            end,
+        })
+    }
+}
+
+impl ScriptStage {
+    /// The script as far as it has come. One that is unread is read.
+    fn into_begun(self, given: &Arc<Given>) -> Result<Begun, AllocError>
+        requires { IsScriptOf (arc_value given.now) self }
+        ensures work { IfOk result (λ begun. IsWorkWith (arc_value given.now) begun.job begun.facts) }
+        ensures target { IfOk result (λ begun. begun.job.target ≡ script_target self) }
+        ensures turn { IfOk result (λ begun. begun.job.turn ≡ script_turn self) }
+        ensures known { IfOk result (λ begun. known_in begun.facts ≡ script_known self) }
+    {
+        match self {
             ScriptStage::Unread(unread) => {
                 let alloc = *Box::allocator(&unread);
                 let Unread {
@@ -248,16 +273,50 @@ impl Work {
                     rule,
                     facts,
                 } = Box::into_inner(unread);
-                let (job, loops_long) = job_of(alloc, &given, target, rule)?;
-                advance_job(given, number, job, facts, loops_long)
-            }
-            ScriptStage::Begun(begun) => {
-                let Begun {
+                let (job, loops_long) = job_of(alloc, given, target, rule)?;
+                Ok(Begun {
                     job,
                     facts,
                     loops_long,
-                } = Box::into_inner(begun);
-                advance_job(given, number, job, facts, loops_long)
+                })
+            }
+            ScriptStage::Begun(begun) => Ok(Box::into_inner(begun)),
+        }
+    }
+}
+
+impl Begun {
+    /// Advances the script of a target with the facts of all that it asked for.
+    fn advance(self, given: &Given, target: &Path) -> Result<End, AllocError>
+        requires work { IsWorkWith given.now self.job self.facts }
+        requires target { target.now ≡ self.job.target }
+        ensures end { IfOk result (IsEndAt given.now self.job.target self.job.turn) }
+        ensures progress { IfOk result (λ end. end_progress end ≡
+            (rules_for given.now).progress self.job.target (told_in self.facts)) }
+    {
+        let Begun {
+            job,
+            facts,
+            loops_long,
+        } = self;
+        let alloc = facts.allocator();
+        match job.advance(&facts)? {
+            Step::Ended(done) => {
+                let fact = fact_of(alloc, given, target, done)?;
+                Ok(End::Ended(fact, facts.into_asked()))
+            }
+            Step::Asks { job, paths } => {
+                // By this law the paths are those that the declared entries lack.
+                more_answers();
+                let begun = Box::new(
+                    alloc,
+                    Begun {
+                        job,
+                        facts,
+                        loops_long,
+                    },
+                )?;
+                Ok(End::Stopped { begun, paths })
             }
         }
     }
@@ -272,55 +331,23 @@ fn keep_digest(given: &Given, outcome: &mut Outcome)
     }
 }
 
-/// Advances a job with the facts of all that it asked for.
-fn advance_job(
-    given: Arc<Given>,
-    number: u32,
-    job: Job,
-    facts: Facts,
-    loops_long: bool,
-) -> Result<Piece, AllocError>
-    requires { IsWorkWith (arc_value given) job facts }
-    ensures place { IfOk result (λ p. (p.given ≡ arc_value given) × (p.target ≡ job.target) ×
-        (p.turn ≡ job.turn)) }
-    ensures progress { IfOk result (λ p. p.progress ≡
-        (rules_for (arc_value given)).progress job.target (told_in facts)) }
-    ensures ended { IfOk result (λ p. (p.progress.outcome ≡ None → ⊥) ↔
-        (lacking_under (rules_for (arc_value given)) job.target (told_in facts) ≡ [])) }
+/// The fact of a target whose script has ended.
+fn fact_of(alloc: Global, given: &Given, target: &Path, done: Done) -> Result<Fact, AllocError>
+    requires { IsDecided given.now target.now done.outcome done.deps true }
+    ensures { IfOk result (λ fact. fact ≡
+        record {
+          given = given.now;
+          target = target.now;
+          outcome = done.outcome;
+          deps = done.deps;
+          begun = true;
+        }) }
 {
-    let alloc = facts.allocator();
-    let turn = job.turn();
-    let target = job.target().clone()?;
-    let end = match job.advance(&facts)? {
-        Step::Ended(done) => {
-            let path = target.clone()?;
-            let deps = Arc::new(alloc, done.deps)?;
-            let mut outcome = done.outcome;
-            keep_digest(&given, &mut outcome);
-            let fact = Fact::of(&given, path, outcome, deps, true);
-            End::Ended(fact, facts.into_asked())
-        }
-        Step::Asks { job, paths } => {
-            // By this law the paths are those that the declared entries lack.
-            more_answers();
-            let begun = Box::new(
-                alloc,
-                Begun {
-                    job,
-                    facts,
-                    loops_long,
-                },
-            )?;
-            End::Stopped { begun, paths }
-        }
-    };
-    Ok(Piece {
-        given,
-        number,
-        target,
-        turn,
-        end,
-    })
+    let Done { mut outcome, deps } = done;
+    keep_digest(given, &mut outcome);
+    let target = target.clone()?;
+    let deps = Arc::new(alloc, deps)?;
+    Ok(Fact::of(given, target, outcome, deps, true))
 }
 
 impl Piece {
