@@ -12,12 +12,13 @@ use Rattle.redo_rules.specs.Build.{GivenView, rules_for}
 use Rattle.redo_table.specs.Schedule.{StageView, EachLacks, IsQueue, stage_at, times}
 use Rattle.redo_table.specs.Schedule.StageView.{InHand as AtHand, Ready as AtReady}
 use Rattle.redo_table.proofs.NumberLemmas.{times-append}
-use Rattle.redo_core.specs.inside.Slots.{outcomes_at_limit, AreEnqueued, IsPutBackThere, IsResting, IsTakenIn, IsTableOf, path_at, table_entries, table_state}
+use Rattle.redo_core.specs.inside.Slots.{AreEnqueued, IsPutBackThere, IsResting, IsTakenIn, IsTableOf, path_at, table_entries, table_state}
 use Rattle.redo_core.specs.declared.table.Slot.{Slot}
 use Rattle.redo_core.specs.declared.table.Table.{Table}
+use Rattle.redo_core.proofs.EntryLemmas.{keys-distinct}
 use Rattle.redo_core.proofs.NewlyReadyLemmas.{newly_ready-paths}
 use Rattle.redo_core.proofs.PlaceLemmas.{IsPlace, increasing-ascends, place-times}
-use Rattle.redo_core.proofs.SlotLemmas.{slice_get-below_some, slice_get-from, paths_of-slots}
+use Rattle.redo_core.proofs.SlotLemmas.{slice_get-below_some, slice_get-from}
 
 module _ (given : GivenView) (request : List (List ℕ)) (t u : Table) (table : IsTableOf given t)
     (standing : AreStanding (rules_for given) request (table_entries given t))
@@ -26,9 +27,7 @@ module _ (given : GivenView) (request : List (List ℕ)) (t u : Table) (table : 
   r = rules_for given
 
   distinct : AreDistinct t.targets
-  distinct =
-      let P : List (List ℕ) → Type 0 = AreDistinct in
-      subst P (paths_of-slots r (outcomes_at_limit given) t.targets t.slots.items table.one_each) standing.distinct
+  distinct = keys-distinct given t t.schedule.stages table request standing
 
   slots : u.slots.items ≡ t.slots.items
   slots = ap (λ (v : Vec Slot Global). v.items) w.slots

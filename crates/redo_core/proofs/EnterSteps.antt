@@ -1,5 +1,5 @@
 -- Entering a path that is new.
-use Rattle.std.proofs.Common.{slice_get, slice_set, ◌≡◌, ℕ, suc, ◌+◌, ◌<◌, ◌≤◌, true, false, ◌⊎◌, inl, inr, List, []}
+use Rattle.std.proofs.Common.{slice_get, slice_set, ◌≡◌, ℕ, ◌+◌, ◌<◌, ◌≤◌, true, false, ◌⊎◌, inl, inr, List, []}
 use Rattle.std.proofs.Common.{◌∷◌, ◌++◌, length, length-append, Some, None, refl, sym, ap, subst}
 use Rattle.std.proofs.Common.{◌∙◌, arith}
 use Rattle.std.proofs.lemmas.Bool.{cases_Bool}
@@ -21,7 +21,7 @@ use Rattle.redo_core.specs.declared.table.Stage.TheVariants.{Due, Checking, Wait
 use Rattle.redo_core.proofs.NumberLemmas.{agrees-kept}
 use Rattle.redo_build.proofs.PathLemmas.{is_among-true, is_among-from}
 use Rattle.redo_build.proofs.SeenLemmas.{outcomes_of-entry, outcomes_of-at, entry_of-entered_old}
-use Rattle.redo_core.proofs.SlotLemmas.{paths_of-slots, slice_get-below_some, slice_get-from}
+use Rattle.redo_core.proofs.SlotLemmas.{length-slots, paths_of-slots, slice_get-below_some, slice_get-from}
 use Rattle.redo_core.proofs.TableLemmas.{Fits-more}
 use Rattle.redo_core.proofs.FirstStageLemmas.{unruled-same}
 use Rattle.redo_record.specs.declared.deps.Dep.{Dep}
@@ -123,12 +123,6 @@ path_at-end ps p = rw (get-push_end ps p) refl
 not-among : (ps : List (List ℕ)) (p : List ℕ) → (IsAmong ps p → ⊥) → is_among ps p ≡ false
 not-among ps p out = elim (cases_Bool (is_among ps p)) [ inl t ↦ absurd (out (is_among-true ps p t)) | inr f ↦ f ]
 
-slots-length : (r : Rules) (a : Ask) (ps : List (List ℕ)) (slots : List Slot) → length slots ≡ length ps → length (slot_entries r a ps slots) ≡ length slots
-slots-length r a [] [] h = refl
-slots-length r a [] (slot ∷ slots) h = absurd (omega arith)
-slots-length r a (p ∷ ps) [] h = refl
-slots-length r a (p ∷ ps) (slot ∷ slots) h = ap suc (slots-length r a ps slots (omega arith))
-
 module _ (given : GivenView) (t u : Table) (p : List ℕ) (table : IsTableOf given t)
     (room : length t.slots.items < given.limits.targets) (out : IsAmong t.targets p → ⊥) (w : IsPushed given t u p) where
   abbrev r : Rules
@@ -140,15 +134,12 @@ module _ (given : GivenView) (t u : Table) (p : List ℕ) (table : IsTableOf giv
   abbrev es : List Entry
   es = table_entries given t
 
-  begun : IsFirstStage given p w.new.stage
-  begun = w.begun
-
   new-entry : slot_entry (rules_for given) (outcomes_at_limit given) p w.new ≡ new_entry (rules_for given) p
   new-entry =
       let P : ℕ → ℕ → Type 0 = λ m n. record { path = p; looks = m; turn = n; deps = stage_deps r a p (m + n) w.new.stage; outcome = stage_outcome w.new.stage; is_out = is_stage_out w.new.stage } ≡ new_entry r p in
       let Q : ℕ → Type 0 = λ m. P m 0 in
       let R : ℕ → Type 0 = λ n. P w.new.looks n in
-      subst R (sym w.turn) (subst Q (sym w.looks) (stage-entry given a p w.new.stage w.begun))
+      subst R (sym w.turn) (subst Q (sym w.looks) (stage-entry given a p w.new.stage w.first))
 
   pushed : entries_from (rules_for given) given.limits.targets (t.targets ++ p ∷ []) (t.slots.items ++ w.new ∷ []) ≡ entered (rules_for given) (table_entries given t) (p ∷ [])
   pushed =
@@ -174,7 +165,7 @@ module _ (given : GivenView) (t u : Table) (p : List ℕ) (table : IsTableOf giv
             let P : List ℕ → Type 0 = λ q. Fits r b given q x.turn x.stage in
             let Q : Slot → Type 0 = λ y. Fits r b given p y.turn y.stage in
             let R : ℕ → Type 0 = λ n. Fits r b given p n w.new.stage in
-            subst P (sym path) (subst Q here.1 (subst R (sym w.turn) (stage-fits given b p w.new.stage w.begun)))
+            subst P (sym path) (subst Q here.1 (subst R (sym w.turn) (stage-fits given b p w.new.stage w.first)))
         | inr old ↦
             let path = path_at-old t.targets p k (omega (arith, slice_get-below_some t.slots.items k x old, table.one_each)) in
             let P : List ℕ → Type 0 = λ q. Fits r b given q x.turn x.stage in
@@ -182,7 +173,7 @@ module _ (given : GivenView) (t u : Table) (p : List ℕ) (table : IsTableOf giv
       ]
 
   first-agrees : Agrees (rules_for given) (t.targets ++ p ∷ []) w.new.stage (first_in_schedule w.new.stage)
-  first-agrees = (stage-agrees given (t.targets ++ p ∷ []) p w.new.stage w.begun).0
+  first-agrees = (stage-agrees given (t.targets ++ p ∷ []) p w.new.stage w.first).0
 
   table-push : IsTable (rules_for given) given (t.targets ++ p ∷ []) (t.slots.items ++ w.new ∷ []) (t.schedule.stages ++ first_in_schedule w.new.stage ∷ [])
   table-push =
@@ -203,7 +194,7 @@ module _ (given : GivenView) (t u : Table) (p : List ℕ) (table : IsTableOf giv
   stages-fresh : (k : ℕ) (s : StageView) → slice_get u.schedule.stages k ≡ Some s →
       (slice_get t.schedule.stages k ≡ Some s) ⊎ ((s ≡ AtDue) ⊎ ((s ≡ AtReady) ⊎ (s ≡ AtDecided)))
   stages-fresh k s h = elim (push-cases t.schedule.stages k (first_in_schedule w.new.stage) s (sym (ap (λ ss. slice_get ss k) stage-push) ∙ h)) [
-    | inl here ↦ inr (elim (stage-agrees given t.targets p w.new.stage w.begun).1 [
+    | inl here ↦ inr (elim (stage-agrees given t.targets p w.new.stage w.first).1 [
       | inl due ↦ inl (sym here.1 ∙ due)
       | inr other ↦ elim other [ inl ready ↦ inr (inl (sym here.1 ∙ ready)) | inr decided ↦ inr (inr (sym here.1 ∙ decided)) ]
     ])
@@ -255,7 +246,7 @@ full given t p table out h =
       arith,
       h,
       length-append es (new_entry (rules_for given) p ∷ []),
-      slots-length (rules_for given) a t.targets t.slots.items table.one_each,
+      length-slots (rules_for given) a t.targets t.slots.items table.one_each,
     ))
 
 -- what was entered is within the limit
@@ -267,7 +258,7 @@ entered-room given t u p entered many =
       arith,
       many,
       ap length entered.entries,
-      slots-length r (outcomes_at_limit given) u.targets u.slots.items entered.table.one_each,
+      length-slots r (outcomes_at_limit given) u.targets u.slots.items entered.table.one_each,
       entered.table.within_limit,
     )
 
@@ -277,7 +268,7 @@ pub room-left : (given : GivenView) (t : Table) (p : List ℕ) → IsTableOf giv
 room-left given t p table room many =
     let r = rules_for given in
     let es = table_entries given t in
-    let len = slots-length r (outcomes_at_limit given) t.targets t.slots.items table.one_each in
+    let len = length-slots r (outcomes_at_limit given) t.targets t.slots.items table.one_each in
     elim (cases_Bool (is_among (paths_of es) p)) [
       | inl old ↦ let few = rw old at many in omega (arith, few, len, room)
       | inr new ↦ let few = rw new at many in omega (arith, few, len, room, length-append es (new_entry r p ∷ []))

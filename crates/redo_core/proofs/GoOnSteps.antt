@@ -24,9 +24,10 @@ use Rattle.redo_core.specs.declared.table.Stage.{Stage}
 use Rattle.redo_core.specs.declared.table.Stage.TheVariants.{Due, Checking, Waiting, Ready, Out, Decided}
 use Rattle.redo_core.specs.declared.table.Table.{Table}
 use Rattle.redo_core.proofs.AgreeLemmas.{agreed-slot, agrees-decided}
+use Rattle.redo_core.proofs.EntryLemmas.{keys-distinct, path-there}
 use Rattle.redo_core.proofs.SlotLemmas.{slice_get-below_some}
 use Rattle.redo_core.proofs.TableLemmas.{set-twice}
-use Rattle.redo_core.proofs.TableSteps.{distinct_keys, entries-same, parked_fed, parked_ready, path_there, table-same}
+use Rattle.redo_core.proofs.TableSteps.{entries-same, parked_fed, parked_ready, table-same}
 
 -- what waits in the schedule waits in its slot
 waits-so : (r : Rules) (ps : List (List ℕ)) (stage : Stage) (on : List ℕ) → Agrees r ps stage (AtWaiting on) →
@@ -130,8 +131,8 @@ module _ (given : GivenView) (t : Table) (at : ℕ) (on : List ℕ) (answered : 
             record {
               there = there;
               was = is;
-              distinct = distinct_keys given t stages answered.table answered.standing;
-              path = path_there given t stages answered.table answered.standing at slot there;
+              distinct = keys-distinct given t stages answered.table answered.standing.0 answered.standing.1;
+              path = path-there given t stages answered.table at slot there;
               number = subst P same alone.2;
               decided = decided 0 place first;
               fits = answered.table.fits;
@@ -167,19 +168,14 @@ module _ (given : GivenView) (t : Table) (at : ℕ) (on : List ℕ) (answered : 
       let b = outcomes_at_limit given in
       let p = path_at t.targets at in
       let asked = all_asked f.begun.value.job f.begun.value.facts in
-      let E : ℕ → ℕ → List Dep → Entry = λ m n ds. record { path = p; looks = m; turn = n; deps = ds; outcome = None; is_out = false } in
-      let one : slot_entry r b p f.new ≡ E f.new.looks f.new.turn f.work.deps = rw f.is refl in
-      let two : slot_entry r b p f.old ≡ E f.old.looks f.old.turn asked = rw f.was refl in
-      let mid : E f.new.looks f.new.turn f.work.deps ≡ E f.old.looks f.old.turn asked =
-      ap (λ m. E m f.new.turn f.work.deps) f.looks ∙ ap (λ n. E f.old.looks n f.work.deps) f.turn ∙ ap (E f.old.looks f.old.turn) f.same.3 in
-      let A : Stage → Type 0 = λ st. Agrees r t.targets st AtReady in
+      let E : List Dep → Entry = λ ds. record { path = p; looks = f.old.looks; turn = f.old.turn; deps = ds; outcome = None; is_out = false } in
+      let was : slot_entry r b p f.old ≡ E asked = rw f.was refl in
       let F : Stage → Type 0 = Fits r a given p f.old.turn in
       let waits : IsWaitingWith r a given p f.old.turn f.begun.value = subst F f.was (answered.table.fits at f.old f.there) in
-      let parts : IsParked given p f.new.turn f.work = (f.same.0, f.same.1 ∙ waits.of_target, f.same.2 ∙ waits.at_turn ∙ sym f.turn) in
+      let parts : IsParked given p f.old.turn f.work = (f.same.0, f.same.1 ∙ waits.of_target, f.same.2 ∙ waits.at_turn) in
       let D : List Dep → Type 0 = λ ds. AllAnswered r a ds × (r.begins p (only (operands r ds) a) ≡ true) in
       let both = subst D (sym f.same.3) (answered-ready f.old f.there f.begun f.was) in
-      let N : Stage → Type 0 = Fits r a given p f.new.turn in
-      gone-on u f.old f.new AtReady f.there (one ∙ mid ∙ sym two) (subst A (sym f.is) refl) (subst N (sym f.is) (parts, both.0, both.1))
+      gone-on u f.old (record f.old { stage = Ready f.work }) AtReady f.there (ap E f.same.3 ∙ sym was) refl (parts, both.0, both.1)
       f.targets f.slots f.schedule (inr refl)
 
   pub resumed-gone_on : (u : Table) → IsResumedAt given t u at → IsGoneOnAt given t u at
@@ -187,16 +183,15 @@ module _ (given : GivenView) (t : Table) (at : ℕ) (on : List ℕ) (answered : 
       let b = outcomes_at_limit given in
       let p = path_at t.targets at in
       let asked = f.awaiting.held.value.check.asked in
-      let next = next-agrees r t.targets f.new.stage f.is_open in
-      let E : ℕ → ℕ → List Dep → Option Outcome → Bool → Entry = λ m n ds o is_out.
-      record { path = p; looks = m; turn = n; deps = ds; outcome = o; is_out = is_out } in
-      let new : slot_entry r b p f.new ≡ E f.new.looks f.new.turn asked None false =
-      ap (λ ds. E f.new.looks f.new.turn ds (stage_outcome f.new.stage) (is_stage_out f.new.stage)) f.deps ∙
-      ap (λ o. E f.new.looks f.new.turn asked o (is_stage_out f.new.stage)) next.1 ∙ ap (E f.new.looks f.new.turn asked None) next.2 in
-      let old : slot_entry r b p f.old ≡ E f.old.looks f.old.turn asked None false = rw f.was refl in
-      gone-on u f.old f.new (next_stage f.new.stage) f.there
-      (new ∙ ap (λ m. E m f.new.turn asked None false) f.looks ∙ ap (λ n. E f.old.looks n asked None false) f.turn ∙ sym old)
-      next.0 f.fits f.targets f.slots f.schedule (next-is f.new.stage)
+      let next = next-agrees r t.targets f.stage f.is_open in
+      let E : List Dep → Option Outcome → Bool → Entry = λ ds o is_out.
+      record { path = p; looks = f.old.looks; turn = f.old.turn; deps = ds; outcome = o; is_out = is_out } in
+      let new : slot_entry r b p (record f.old { stage = f.stage }) ≡ E asked None false =
+      ap (λ ds. E ds (stage_outcome f.stage) (is_stage_out f.stage)) f.deps ∙
+      ap (λ o. E asked o (is_stage_out f.stage)) next.1 ∙ ap (E asked None) next.2 in
+      let old : slot_entry r b p f.old ≡ E asked None false = rw f.was refl in
+      gone-on u f.old (record f.old { stage = f.stage }) (next_stage f.stage) f.there (new ∙ sym old) next.0 f.fits f.targets f.slots f.schedule
+      (next-is f.stage)
 
 pub settling-none : (given : GivenView) (t : Table) → IsTable (rules_for given) given t.targets t.slots.items t.schedule.stages → IsSettling given t t
 settling-none given t table = record { table = table; entries = refl; targets = refl; ready = refl; in_hand = λ k h. h }

@@ -1,6 +1,6 @@
 -- A piece that is handed in leaves the board in the state that the schedule says.
-use Rattle.std.proofs.Common.{slice_get, ◌≡◌, ℕ, ◌<◌, ◌≤◌, List, [], length, Option, Some, None, refl, sym, ap, subst}
-use Rattle.std.proofs.Common.{◌∙◌, arith}
+use Rattle.std.proofs.Common.{◌≡◌, ℕ, ◌<◌, List, length, Option, Some, None, refl, sym, ap, subst}
+use Rattle.std.proofs.Common.{◌∙◌}
 use Rattle.redo_build.specs.Outcomes.{IsTooMany}
 use Rattle.redo_build.specs.Schedule.{Entry, Event, State, entry_of, happens, IsOutAt}
 use Rattle.redo_build.specs.Schedule.Event.{Hand_in}
@@ -16,16 +16,15 @@ use Rattle.redo_core.specs.declared.board.Stop.TheVariants.{TooMany, Memory}
 use Rattle.redo_core.specs.inside.Ends.{IsEndAt}
 use Rattle.redo_core.specs.inside.Slots.{outcomes_at_limit, rules_inside, state_of, path_at, slot_entry, is_stage_out, IsKept, IsOutSlotAt}
 use Rattle.redo_core.specs.inside.Slots.{MayTakeIn, IsAtRest, IsLookedOn, IsMovedOn, IsTakenIn, state_after, table_state}
-use Rattle.redo_record.specs.Paths.{AreDistinct}
 use Rattle.redo_build.proofs.SoundLemmas.{IsSound, happens-sound}
 use Rattle.redo_build.proofs.QuietLemmas.{is_part}
-use Rattle.redo_core.proofs.LookedLemmas.{reached-sound}
+use Rattle.redo_core.proofs.EntryLemmas.{entry-there, rest-sound}
 use Rattle.redo_core.specs.declared.board.Board.TheInside.{Inside}
 use Rattle.redo_core.specs.declared.table.Table.{Table}
-use Rattle.redo_core.specs.declared.table.Stage.TheVariants.{Out}
 use Rattle.redo_core.specs.declared.work.End.{End}
+use Rattle.redo_core.proofs.GainSteps.{out-stage}
 use Rattle.redo_core.proofs.LookLemmas.{none_due}
-use Rattle.redo_core.proofs.SlotLemmas.{entry_of-slots, paths_of-slots, slice_get-below_some, slice_get-from}
+use Rattle.redo_core.proofs.SlotLemmas.{entry_of-slots}
 use Rattle.redo_core.proofs.MakeReadySteps.{slot-of-path}
 use Rattle.redo_core.proofs.TakeLemmas.{distinct-inside, reached-more}
 
@@ -35,25 +34,18 @@ module _ (given : GivenView) (t : Table) (at : ℕ) (end : End) (may : MayTakeIn
   before = table_state given t
 
   before-sound : IsSound (rules_for given) given.request before
-  before-sound = reached-sound (rules_for given) (lawful_for given) given.request before may.at_rest.reached
+  before-sound = rest-sound given t may.at_rest
 
   abbrev out-slot : Entry
   out-slot = slot_entry (rules_for given) (outcomes_at_limit given) (path_at t.targets at) may.slot
 
   was-out : IsOutAt before (path_at t.targets at) may.slot.turn
-  was-out =
-      let r = rules_for given in
-      let a = outcomes_at_limit given in
-      let D : List (List ℕ) → Type 0 = AreDistinct in
-      let distinct = subst D (paths_of-slots r a t.targets t.slots.items may.at_rest.table.one_each) before-sound.standing.distinct in
-      let found = slice_get-from t.targets at (omega (arith, may.at_rest.table.one_each, slice_get-below_some t.slots.items at may.slot may.there)) in
-      let is : path_at t.targets at ≡ found.0 = rw found.1 refl in
-      record {
-        entry = out-slot;
-        at = entry_of-slots r a t.targets t.slots.items at (path_at t.targets at) may.slot distinct (found.1 ∙ ap Some (sym is)) may.there;
-        is_out = ap is_stage_out may.is_out;
-        at_turn = refl;
-      }
+  was-out = record {
+    entry = out-slot;
+    at = entry-there given t t.schedule.stages may.at_rest.table given.request before-sound.standing at may.slot may.there;
+    is_out = ap is_stage_out may.is_out;
+    at_turn = refl;
+  }
 
   pub taken-in-rest : (u : Table) → IsTakenIn given (state_after given Script t at) u → IsAtRest given u
   taken-in-rest u taken =
@@ -140,14 +132,6 @@ stranger b kept target turn none out =
       is_out = out-stage found.1.stage (sym (ap (λ (x : Entry). x.is_out) found.4) ∙ out.is_out);
       at_turn = sym (ap (λ (x : Entry). x.turn) found.4) ∙ out.at_turn;
     })
-  where
-    out-stage : (stage : Rattle.redo_core.specs.declared.table.Stage.Stage) → is_stage_out stage ≡ Rattle.std.proofs.Common.true → stage ≡ Out
-    out-stage (Rattle.redo_core.specs.declared.table.Stage.TheVariants.Due held) h = cc
-    out-stage (Rattle.redo_core.specs.declared.table.Stage.TheVariants.Checking a) h = cc
-    out-stage (Rattle.redo_core.specs.declared.table.Stage.TheVariants.Waiting p) h = cc
-    out-stage (Rattle.redo_core.specs.declared.table.Stage.TheVariants.Ready w) h = cc
-    out-stage Out h = refl
-    out-stage (Rattle.redo_core.specs.declared.table.Stage.TheVariants.Decided f) h = cc
 
 pub none-stopped : (o : Option Stop) → ((s : Stop) → o ≡ Some s → ⊥) → o ≡ None
 none-stopped None h = refl

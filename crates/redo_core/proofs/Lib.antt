@@ -9,6 +9,7 @@ pub mod NumberLemmas
 pub mod AgreeLemmas
 pub mod WaitedLemmas
 pub mod HoldingLemmas
+pub mod EntryLemmas
 pub mod LookLemmas
 pub mod LookedLemmas
 pub mod TakeLemmas
@@ -25,6 +26,7 @@ pub mod GainSteps
 pub mod ResumeSteps
 pub mod GoOnSteps
 pub mod EnterAllLemmas
+pub mod EnteredLemmas
 pub mod ConcludeSteps
 pub mod TakeInLemmas
 pub mod TakenSteps

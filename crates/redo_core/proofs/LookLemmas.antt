@@ -31,10 +31,10 @@ use Rattle.redo_core.specs.inside.Slots.{outcomes_at_limit, Fits, IsAtRest, IsDr
 use Rattle.redo_core.specs.inside.Slots.{is_stage_waiting, path_at, rounds_of, slot_entries, slot_entry, stage_deps}
 use Rattle.redo_core.specs.inside.Slots.{IsLookedOn, IsLookedOnce, stage_outcome, table_state}
 use Rattle.redo_core.proofs.AgreeLemmas.{agreed-slot, agreed-stage, agrees-due, due-agrees}
-use Rattle.redo_core.proofs.LookedLemmas.{reached-sound}
+use Rattle.redo_core.proofs.EntryLemmas.{path-there, rest-distinct, rest-sound}
 use Rattle.redo_core.proofs.NewlyReadyLemmas.{among-map, distinct-place, due-begins}
 use Rattle.redo_core.proofs.PlaceLemmas.{place-times}
-use Rattle.redo_core.proofs.SlotLemmas.{paths_of-slots, slice_get-below_some, slice_get-from}
+use Rattle.redo_core.proofs.SlotLemmas.{length-slots}
 use Rattle.redo_core.proofs.WaitedLemmas.{waited-lacks}
 
 -- The first entry that passes a test, by the slots
@@ -79,18 +79,11 @@ module _ (given : GivenView) (t : Table) (rest : IsAtRest given t) where
   s = table_state given t
 
   distinct : AreDistinct t.targets
-  distinct =
-      let P : List (List ℕ) → Type 0 = AreDistinct in
-      subst P (paths_of-slots r a t.targets t.slots.items rest.table.one_each)
-      (reached-sound r (lawful_for given) given.request s rest.reached).standing.distinct
+  distinct = rest-distinct given t rest
 
   key-at : (k : ℕ) (slot : Slot) → slice_get t.slots.items k ≡ Some slot →
       slice_get t.targets k ≡ Some (path_at t.targets k)
-  key-at k slot there =
-      let found = slice_get-from t.targets k
-      (omega (arith, rest.table.one_each, slice_get-below_some t.slots.items k slot there)) in
-      let is : path_at t.targets k ≡ found.0 = rw found.1 refl in
-      found.1 ∙ ap Some (sym is)
+  key-at = path-there given t t.schedule.stages rest.table
 
   -- what lacks an answer isn't due
   not-fed : (p : List ℕ) (slot : Slot) → ((q : List ℕ) × IsAmong (operands r (slot_entry r a p slot).deps) q ×
@@ -246,20 +239,13 @@ looked-last : (q : Rules) (n : ℕ) (x : State) → looked_once q (looked q n x)
 looked-last q zero x = refl
 looked-last q (suc n) x = looked-last q n (looked_once q x)
 
-slots-length : (q : Rules) (b : Ask) (ps : List (List ℕ)) (slots : List Slot) → length slots ≡ length ps →
-    length (slot_entries q b ps slots) ≡ length slots
-slots-length q b [] [] h = refl
-slots-length q b [] (slot ∷ slots) h = absurd (omega arith)
-slots-length q b (p ∷ ps) [] h = refl
-slots-length q b (p ∷ ps) (slot ∷ slots) h = ap suc (slots-length q b ps slots (omega arith))
-
 -- a table at rest has no more entries than the limit allows
 rest-few : (given : GivenView) (t : Table) → IsAtRest given t →
     length (table_state given t).entries ≤ given.limits.targets
 rest-few given t rest = omega (
   arith,
   rest.table.within_limit,
-  slots-length (rules_for given) (outcomes_at_limit given) t.targets t.slots.items
+  length-slots (rules_for given) (outcomes_at_limit given) t.targets t.slots.items
       rest.table.one_each,
 )
 
@@ -294,7 +280,7 @@ looked-less given whole drawn u at is_drawn once =
     let limit : ℕ = given.limits.targets in
     let S : Table → State = table_state given in
     let lawful = lawful_for given in
-    let sound = reached-sound q lawful given.request (S whole) is_drawn.at_rest.reached in
+    let sound = rest-sound given whole is_drawn.at_rest in
     let found = drawn-first given whole drawn at is_drawn in
     let e : Entry = slot_entry q (outcome_at q limit) (path_at whole.targets at) found.slot in
     let open' = first-open q lawful given.request (S whole) sound e found.first in

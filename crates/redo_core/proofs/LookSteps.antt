@@ -1,5 +1,5 @@
 -- A look at the check that is due first: it is taken out of the table, and what it comes to is put back.
-use Rattle.std.proofs.Common.{map, slice_get, slice_set, ◌≡◌, ℕ, ◌+◌, ◌<◌, Bool, true, false, inl, inr}
+use Rattle.std.proofs.Common.{map, slice_get, slice_set, ◌≡◌, ℕ, ◌<◌, Bool, true, false, inl, inr}
 use Rattle.std.proofs.Common.{List, [], ◌∷◌, ◌++◌, length, length-set, Option, Some, None, refl, sym, ap}
 use Rattle.std.proofs.Common.{subst, ◌∙◌, arith, bytes_eq, Global, Vec}
 use Rattle.std.specs.Prelude.{Box}
@@ -10,39 +10,36 @@ use Rattle.redo_record.specs.declared.outcome.Outcome.{Outcome}
 use Rattle.redo_record.specs.Paths.{IsAmong, AreDistinct, is_among}
 use Rattle.redo_record.specs.Progress.{Progress}
 use Rattle.redo_build.specs.Rules.{Ask, Rules, AreLawful, Extends, operands}
-use Rattle.redo_build.specs.Outcomes.{outcome_at, IsTooMany}
+use Rattle.redo_build.specs.Outcomes.{IsTooMany}
 use Rattle.redo_build.specs.Schedule.{Entry, State, advanced, enqueued, entered, entry_of, handed_in, happens}
 use Rattle.redo_build.specs.Schedule.{moved_on, new_entry, only, outcomes_of, paths_of, put, sent_out}
 use Rattle.redo_build.specs.Schedule.{IsDueAt}
 use Rattle.redo_build.specs.Schedule.Event.{Look}
 use Rattle.redo_build.specs.Schedule.Phase.{Check}
 use Rattle.redo_build.specs.Looking.{first_due, looked_once}
-use Rattle.redo_build.specs.inside.Standing.{decided_count}
-use Rattle.redo_build.proofs.DepthLemmas.{deeper}
 use Rattle.redo_build.proofs.LookingLemmas.{first-look, first-open}
 use Rattle.redo_build.proofs.QuietLemmas.{is_part}
-use Rattle.redo_build.proofs.SeenLemmas.{decided_count-length, entry_of-put_same, paths_of-put}
-use Rattle.redo_build.proofs.SoundLemmas.{IsSound, happens-sound, opening-sound, run-sound}
-use Rattle.redo_build.proofs.StandingLemmas.{outcomes_of-deep}
-use Rattle.redo_build.proofs.TurnBoundLemmas.{turn-below}
-use Rattle.redo_build.proofs.TurnLemmas.{Extends-trans'}
+use Rattle.redo_build.proofs.SeenLemmas.{entry_of-put_same, paths_of-put}
+use Rattle.redo_build.proofs.SoundLemmas.{IsSound, happens-sound}
 use Rattle.redo_rules.specs.Build.{GivenView, rules_for}
 use Rattle.redo_rules.proofs.Public.{lawful_for}
 use Rattle.redo_table.specs.Schedule.{ScheduleView, IsQueue, stage_at, times, with_stage}
 use Rattle.redo_table.specs.Schedule.StageView.{Due as AtDue, Ready as AtReady, InHand as AtHand}
 use Rattle.redo_table.proofs.TargetLemmas.{get-other, get-same, set-cases}
 use Rattle.redo_core.specs.Views.{IsReached}
-use Rattle.redo_core.specs.inside.Slots.{outcomes_at_limit, Agrees, Fits, IsAtRest, IsDueWith, IsOutThere, IsTable}
-use Rattle.redo_core.specs.inside.Slots.{IsTableOf, MayLook, entries_from, is_stage_out}
+use Rattle.redo_core.specs.inside.Slots.{outcomes_at_limit, Fits, IsAtRest, IsDueWith, IsOutThere, IsTable}
+use Rattle.redo_core.specs.inside.Slots.{IsTableOf, MayLook, entries_from}
 use Rattle.redo_core.specs.inside.Slots.{path_at, rounds_of, slot_entry, stage_deps, stage_outcome, state_after}
 use Rattle.redo_core.specs.inside.Slots.{table_entries, table_state}
 use Rattle.redo_core.specs.declared.table.InCheck.{InCheck}
 use Rattle.redo_core.specs.declared.table.Slot.{Slot}
 use Rattle.redo_core.specs.declared.table.Stage.{Stage}
+use Rattle.redo_core.specs.declared.table.Stage.TheVariants.{Out}
 use Rattle.redo_core.specs.declared.table.Table.{Table}
 use Rattle.redo_core.proofs.AgreeLemmas.{agreed-set}
+use Rattle.redo_core.proofs.EntryLemmas.{entries-few, entry-there, known-deep, path-there, rest-distinct, rest-sound, rounds-few}
 use Rattle.redo_core.proofs.LookLemmas.{drawn-first}
-use Rattle.redo_core.proofs.SlotLemmas.{deps_deep, entry_of-slots, paths_of-slots, slice_get-below_some, slice_get-from}
+use Rattle.redo_core.proofs.SlotLemmas.{deps_deep, slice_get-below_some}
 use Rattle.redo_core.proofs.SlotLemmas.{slot_entries-set}
 use Rattle.redo_core.proofs.TableLemmas.{fits-set, only-alike, outcomes-kept}
 
@@ -103,36 +100,6 @@ put-put (x ∷ es) y z same =
           ap (λ xs. put xs z) (put-there x y es f) ∙ put-there x z (put es y) other ∙ ap (λ xs. x ∷ xs) (put-put es y z same) ∙ sym (put-there x z es other)
     ]
 
--- the table at rest
-module _ (given : GivenView) (w : Table) (rest : IsAtRest given w) where
-  abbrev r : Rules
-  r = rules_for given
-
-  abbrev a : Ask
-  a = outcomes_at_limit given
-
-  abbrev es : List Entry
-  es = table_entries given w
-
-  abbrev s : State
-  s = table_state given w
-
-  pub rest-sound : IsSound (rules_for given) given.request (table_state given w)
-  rest-sound =
-      let P : State → Type 0 = IsSound r given.request in
-      subst P (sym rest.reached.ends) (run-sound r (lawful_for given) given.request _ rest.reached.events (opening-sound r (lawful_for given) given.request) rest.reached.all_open)
-
-  pub rest-distinct : AreDistinct w.targets
-  rest-distinct =
-      let P : List (List ℕ) → Type 0 = AreDistinct in
-      subst P (paths_of-slots r a w.targets w.slots.items rest.table.one_each) rest-sound.standing.distinct
-
-  rest-key : (k : ℕ) → k < length w.slots.items → slice_get w.targets k ≡ Some (path_at w.targets k)
-  rest-key k h =
-      let found = slice_get-from w.targets k (omega (arith, rest.table.one_each, h)) in
-      let is : path_at w.targets k ≡ found.0 = rw found.1 refl in
-      found.1 ∙ ap Some (sym is)
-
 -- its check is taken out
 module _ (given : GivenView) (u : Table) (at : ℕ) (held : Box InCheck Global) (may : MayLook given u at held) where
   abbrev rl : Rules
@@ -154,7 +121,7 @@ module _ (given : GivenView) (u : Table) (at : ℕ) (held : Box InCheck Global) 
   old = may.taken.old
 
   abbrev new : Slot
-  new = may.taken.new
+  new = record may.taken.old { stage = Out }
 
   abbrev ew : List Entry
   ew = table_entries given may.whole
@@ -184,12 +151,12 @@ module _ (given : GivenView) (u : Table) (at : ℕ) (held : Box InCheck Global) 
   below = slice_get-below_some w.slots.items at old there
 
   pub look-key : slice_get may.whole.targets at ≡ Some (path_at may.whole.targets at)
-  look-key = rest-key given w rest at below
+  look-key = path-there given w w.schedule.stages rest.table at old there
 
   pub look-targets : u.targets ≡ may.whole.targets
   look-targets = may.taken.targets ∙ may.is_drawn.targets
 
-  look-slots : u.slots.items ≡ slice_set may.whole.slots.items at may.taken.new
+  look-slots : u.slots.items ≡ slice_set may.whole.slots.items at (record may.taken.old { stage = Out })
   look-slots = may.taken.slots ∙ ap (λ (v : Vec Slot Global). slice_set v.items at new) may.is_drawn.slots
 
   look-schedule : u.schedule ≡ with_stage may.whole.schedule at AtHand
@@ -211,7 +178,7 @@ module _ (given : GivenView) (u : Table) (at : ℕ) (held : Box InCheck Global) 
 
   entry-w : entry_of (table_entries given may.whole) (path_at may.whole.targets at) ≡
       Some (slot_entry (rules_for given) (outcomes_at_limit given) (path_at may.whole.targets at) may.taken.old)
-  entry-w = entry_of-slots rl al w.targets w.slots.items at p old distinct look-key there
+  entry-w = entry-there given w w.schedule.stages rest.table given.request sound.standing at old there
 
   e-fed : (q : List ℕ) → IsAmong (operands (rules_for given) (stage_deps (rules_for given) (outcomes_at_limit given) (path_at may.whole.targets at) (rounds_of may.taken.old) may.taken.old.stage)) q →
       outcomes_of (table_entries given may.whole) q ≡ None → ⊥
@@ -233,25 +200,20 @@ module _ (given : GivenView) (u : Table) (at : ℕ) (held : Box InCheck Global) 
   look-happens = first-look rl lawful given.request sw sound e first
 
   -- the table without it
-  new-open : stage_outcome may.taken.new.stage ≡ None
-  new-open = rw may.taken.is refl
-
-  kept-outcomes : (q : List ℕ) → outcomes_of (entries_from (rules_for given) given.limits.targets may.whole.targets (slice_set may.whole.slots.items at may.taken.new)) q ≡
+  kept-outcomes : (q : List ℕ) → outcomes_of (entries_from (rules_for given) given.limits.targets may.whole.targets (slice_set may.whole.slots.items at (record may.taken.old { stage = Out }))) q ≡
       outcomes_of (table_entries given may.whole) q
-  kept-outcomes q = outcomes-kept rl lawful lim w.targets w.slots.items at p old new distinct look-key there (new-open ∙ sym old-open) q
+  kept-outcomes q = outcomes-kept rl lawful lim w.targets w.slots.items at p old new distinct look-key there (sym old-open) q
 
   pub look-table : IsTableOf given u
   look-table =
       let len = length-set w.slots.items at new in
       let more : Extends rl (outcomes_of ew) (outcomes_of (entries_from rl lim w.targets (slice_set w.slots.items at new))) = λ q o source h. kept-outcomes q ∙ h in
-      let F : Stage → Type 0 = λ st. Fits rl (outcomes_of (entries_from rl lim w.targets (slice_set w.slots.items at new))) given p new.turn st in
-      let A : Stage → Type 0 = λ st. Agrees rl w.targets st AtHand in
       let raw : IsTable rl given w.targets (slice_set w.slots.items at new) (slice_set w.schedule.stages at AtHand) = record {
         one_each = len ∙ rest.table.one_each;
         within_limit = omega (arith, len, rest.table.within_limit);
         few = rest.table.few;
-        fits = fits-set rl lawful lim w.targets w.slots.items at p old new distinct look-key there given refl more rest.table.fits (subst F (sym may.taken.is) tt);
-        agreed = agreed-set rl w.targets w.slots.items w.schedule.stages rest.table.agreed at old new AtHand there (subst A (sym may.taken.is) (inr refl));
+        fits = fits-set rl lawful lim w.targets w.slots.items at p old new distinct look-key there given refl more rest.table.fits tt;
+        agreed = agreed-set rl w.targets w.slots.items w.schedule.stages rest.table.agreed at old new AtHand there (inr refl);
       } in
       rw (look-targets, look-slots, look-stages) raw
 
@@ -285,35 +247,28 @@ module _ (given : GivenView) (u : Table) (at : ℕ) (held : Box InCheck Global) 
   pub look-path : path_at u.targets at ≡ path_at may.whole.targets at
   look-path = ap (λ ps. path_at ps at) look-targets
 
-  pub look-there : slice_get u.slots.items at ≡ Some may.taken.new
+  pub look-there : slice_get u.slots.items at ≡ Some (record may.taken.old { stage = Out })
   look-there = ap (λ xs. slice_get xs at) look-slots ∙ get-same w.slots.items at old new there
 
   pub look-out : IsOutThere u at
   look-out =
-      let under = turn-below rl lawful given.request ew sound.standing p e entry-w old-open e-fed in
-      let paths = ap length (paths_of-slots rl al w.targets w.slots.items rest.table.one_each) in
-      let looks = may.taken.looks in
-      let turn = may.taken.turn in
       let in_hand = get-same w.schedule.stages at AtDue AtHand may.is_drawn.first.due in (
         inr (ap (λ ss. slice_get ss at) look-stages ∙ in_hand),
         (
           new,
           look-there,
-          may.taken.is,
-          omega (arith, under, paths, rest.table.one_each, rest.table.within_limit, rest.table.few, looks, turn),
+          refl,
+          rounds-few given w w.schedule.stages rest.table given.request sound.standing p e entry-w old-open e-fed,
           omega (arith, below, rest.table.within_limit, rest.table.few),
         ),
       )
 
-  sent : slot_entry (rules_for given) (outcomes_at_limit given) (path_at may.whole.targets at) may.taken.new ≡
+  sent : slot_entry (rules_for given) (outcomes_at_limit given) (path_at may.whole.targets at) (record may.taken.old { stage = Out }) ≡
       sent_out (slot_entry (rules_for given) (outcomes_at_limit given) (path_at may.whole.targets at) may.taken.old)
   sent =
-      let paths = ap length (paths_of-slots rl al w.targets w.slots.items rest.table.one_each) in
-      let deep = deps_deep rl lawful given.request ew sound.standing lim (omega (arith, paths, rest.table.one_each, rest.table.within_limit)) p e entry-w old-open in
-      let M : ℕ → ℕ → Stage → Entry = λ k n st. record { path = p; looks = k; turn = n; deps = stage_deps rl al p (k + n) st; outcome = stage_outcome st; is_out = is_stage_out st } in
+      let deep = deps_deep rl lawful given.request ew sound.standing lim (entries-few given w w.schedule.stages rest.table) p e entry-w old-open in
       let E : List Dep → Option Outcome → Entry = λ ds o. record { path = p; looks = old.looks; turn = old.turn; deps = ds; outcome = o; is_out = true } in
-      ap (λ k. M k new.turn new.stage) may.taken.looks ∙ ap (λ n. M old.looks n new.stage) may.taken.turn ∙ ap (M old.looks old.turn) may.taken.is
-      ∙ ap (λ ds. E ds None) (sym deep) ∙ ap (E (stage_deps rl al p (rounds_of old) old.stage)) (sym old-open)
+      ap (λ ds. E ds None) (sym deep) ∙ ap (E (stage_deps rl al p (rounds_of old) old.stage)) (sym old-open)
 
   pub look-entries : table_entries given u ≡
       put (table_entries given may.whole) (sent_out (slot_entry (rules_for given) (outcomes_at_limit given) (path_at may.whole.targets at) may.taken.old))
@@ -402,9 +357,5 @@ module _ (given : GivenView) (u : Table) (at : ℕ) (held : Box InCheck Global) 
       let A : List Dep → Progress = λ ds. rl.progress p (only (operands rl ds) (outcomes_of ew)) in
       ap A e-deps
 
-  -- all that is decided is the build's at the limit
   pub look-deep : Extends (rules_for given) (outcomes_of (table_entries given may.whole)) (outcomes_at_limit given)
-  look-deep =
-      let paths = ap length (paths_of-slots rl al w.targets w.slots.items rest.table.one_each) in
-      Extends-trans' rl (outcomes_of ew) (outcome_at rl (decided_count ew)) (outcomes_at_limit given) (outcomes_of-deep rl lawful given.request ew sound.standing)
-      (deeper rl lawful (decided_count ew) lim (omega (arith, decided_count-length ew, paths, rest.table.one_each, rest.table.within_limit)))
+  look-deep = known-deep given w w.schedule.stages rest.table given.request sound.standing

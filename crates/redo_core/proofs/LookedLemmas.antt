@@ -29,7 +29,7 @@ length-paths : (es : List Entry) → length (paths_of es) ≡ length es
 length-paths [] = refl
 length-paths (e ∷ es) = ap suc (length-paths es)
 
-length-put : (es : List Entry) (e : Entry) → length (put es e) ≡ length es
+pub length-put : (es : List Entry) (e : Entry) → length (put es e) ≡ length es
 length-put es e = sym (length-paths (put es e)) ∙ ap length (paths_of-put es e) ∙ length-paths es
 
 handed-longer : (r : Rules) (phase : Phase) (s : State) (o : Option Entry) →

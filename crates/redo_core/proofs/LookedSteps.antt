@@ -1,6 +1,6 @@
 -- What a look comes to: the target is kept, or its check asks for the next path.
-use Rattle.std.proofs.Common.{map, slice_get, ◌≡◌, ℕ, suc, ◌+◌, ◌<◌, Bool, true, false, ◌⊎◌, inl, inr, List, [], ◌∷◌, ◌++◌, length}
-use Rattle.std.proofs.Common.{Option, Some, None, refl, sym, ap, subst, ◌∙◌, arith, Global}
+use Rattle.std.proofs.Common.{map, slice_get, ◌≡◌, ℕ, ◌+◌, ◌<◌, false, ◌⊎◌, inl, inr, List, [], ◌∷◌, ◌++◌, length}
+use Rattle.std.proofs.Common.{Some, None, refl, sym, ap, subst, ◌∙◌, Global}
 use Rattle.std.specs.Prelude.{Box, ◌&&◌}
 use Rattle.std.proofs.lemmas.Bool.{cases_Bool, both_ways, and_right}
 use Rattle.redo_record.specs.declared.deps.Dep.{Dep}
@@ -11,12 +11,11 @@ use Rattle.redo_record.specs.Entries.{is_entered, with_entry}
 use Rattle.redo_record.specs.Paths.{IsAmong, AreDistinct, is_among}
 use Rattle.redo_record.specs.Progress.{Progress}
 use Rattle.redo_build.specs.Rules.{Ask, Rules, AreLawful, Extends, operands}
-use Rattle.redo_build.specs.Schedule.{Entry, advanced, entered, moved_on, only, outcomes_of, paths_of, put}
+use Rattle.redo_build.specs.Schedule.{Entry, advanced, entered, moved_on, only, outcomes_of, put}
 use Rattle.redo_build.specs.Schedule.Phase.{Check as In_check}
 use Rattle.redo_build.specs.inside.Standing.{AreStanding}
 use Rattle.redo_build.proofs.DepthLemmas.{cases_Option, ended_stays, operand-target}
-use Rattle.redo_build.proofs.PathLemmas.{is_among-true, is_among-from, with_new-distinct}
-use Rattle.redo_build.proofs.SeenLemmas.{entry_of-entered_old, outcomes_of-at, outcomes_of-entry, paths_of-entered}
+use Rattle.redo_build.proofs.PathLemmas.{is_among-true, is_among-from}
 use Rattle.redo_build.proofs.TurnLemmas.{only-Extends, only-among, Extends-trans'}
 use Rattle.redo_skip.specs.Checks.{built, shown}
 use Rattle.redo_tree.specs.Tree.{file_at}
@@ -26,22 +25,25 @@ use Rattle.redo_core.specs.Views.{FactView}
 use Rattle.redo_core.specs.inside.Checking.{IsWaitingCheck, asks_next, entries_in}
 use Rattle.redo_core.specs.inside.Decided.{IsDecided}
 use Rattle.redo_table.specs.Schedule.{ScheduleView, stage_at}
-use Rattle.redo_table.specs.Schedule.StageView.{Out as AtOut, InHand as AtHand, Waiting as AtWaiting}
+use Rattle.redo_table.specs.Schedule.StageView.{InHand as AtHand, Waiting as AtWaiting}
 use Rattle.redo_core.specs.inside.Slots.{outcomes_at_limit, AreEnteredInto, IsAskedAt, IsCheckingWith, IsConcludedAt, IsOutThere, IsPutBackThere, MayConclude}
 use Rattle.redo_core.specs.inside.Slots.{IsSettled, IsStandingTable, IsTableOf}
-use Rattle.redo_core.specs.inside.Slots.{MayLook, concluded_entry, path_at, rounds_of, slot_entry, stage_deps, stage_outcome, is_stage_out}
+use Rattle.redo_core.specs.inside.Slots.{MayLook, concluded_entry, path_at, slot_entry}
 use Rattle.redo_core.specs.inside.Slots.{state_after, table_entries}
 use Rattle.redo_core.specs.declared.table.InCheck.{InCheck}
 use Rattle.redo_core.specs.declared.table.Slot.{Slot}
-use Rattle.redo_core.specs.declared.table.Stage.{Stage}
+use Rattle.redo_core.specs.declared.table.Stage.TheVariants.{Checking, Out}
 use Rattle.redo_core.specs.declared.table.Table.{Table}
 use Rattle.redo_core.proofs.CheckingLemmas.{due-asks, due-kept, due-waits, waiting-moves}
 use Rattle.redo_core.proofs.EnterAllLemmas.{entered-seen, operands-append}
 use Rattle.redo_core.proofs.PutSteps.{asked-table, put-entries, put-none_in_hand}
-use Rattle.redo_core.proofs.SlotLemmas.{paths_of-slots, slice_get-below_some}
+use Rattle.redo_core.proofs.ConcludeSteps.{conclude-may, conclude-put}
+use Rattle.redo_core.proofs.EnteredLemmas.{entered-distinct, entered-in_hand, entered-known, entered-number, entered-out, entered-path}
+use Rattle.redo_core.proofs.EntryLemmas.{entry-paths}
+use Rattle.redo_core.proofs.LookedLemmas.{length-put}
 use Rattle.redo_core.proofs.TakeInLemmas.{all-entered}
-use Rattle.redo_core.proofs.LookSteps.{fits, look-after_entries, look-alone, look-deep, look-distinct, look-key, look-known, look-out}
-use Rattle.redo_core.proofs.LookSteps.{look-outcomes, look-path, look-seen, look-sound, look-table, look-targets, look-there}
+use Rattle.redo_core.proofs.LookSteps.{fits, look-after_entries, look-alone, look-deep, look-distinct, look-known, look-out}
+use Rattle.redo_core.proofs.LookSteps.{look-outcomes, look-path, look-seen, look-sound, look-table, look-there}
 
 -- the operands of entries to which one was added
 entry-cases : (r : Rules) (ds : List Dep) (d : Dep) (x : List ℕ) → IsAmong (operands r (with_entry ds d.kind d.path)) x →
@@ -142,51 +144,25 @@ module _ (given : GivenView) (u : Table) (at : ℕ) (held : Box InCheck Global) 
         )
 
     module _ (fact : FactView) (of_given : fact.given ≡ given) (of_target : fact.target ≡ (path_at may.whole.targets at)) (of_outcome : fact.outcome ≡ Built (file_at given.past.tree (path_at may.whole.targets at))) where
-      kept-after : put (table_entries given u) (concluded_entry given (path_at may.whole.targets at) may.taken.new fact) ≡ (state_after given In_check u at).entries
+      kept-after : put (table_entries given u) (concluded_entry given (path_at u.targets at) (record may.taken.old { stage = Out }) fact) ≡ (state_after given In_check u at).entries
       kept-after =
-          let M : ℕ → ℕ → List Dep → Outcome → Entry = λ k n ds o. record { path = p; looks = k; turn = n; deps = ds; outcome = Some o; is_out = false } in
+          let M : List Dep → Outcome → Entry = λ ds o. record { path = p; looks = may.taken.old.looks; turn = may.taken.old.turn; deps = ds; outcome = Some o; is_out = false } in
           let N : Progress → List Entry = λ n. put (entered r eu (operands r n.deps)) (moved_on In_check e n) in
-          let ds : List Dep = (r.progress p al).deps in
-          let file : Outcome = Built (file_at given.past.tree p) in
           let seen = entered-seen r eu (operands r asked) (look-seen given u at held may) in
-          ap (λ k. put eu (M k may.taken.new.turn ds fact.outcome)) may.taken.looks
-          ∙ ap (λ n. put eu (M may.taken.old.looks n ds fact.outcome)) may.taken.turn
-          ∙ ap (λ xs. put eu (M may.taken.old.looks may.taken.old.turn xs fact.outcome)) (ap (λ (x : Progress). x.deps) kept-end)
-          ∙ ap (λ o. put eu (M may.taken.old.looks may.taken.old.turn asked o)) of_outcome
-          ∙ sym (ap (λ xs. put xs (M may.taken.old.looks may.taken.old.turn asked file)) seen)
+          ap (λ q. put eu (concluded_entry given q (record may.taken.old { stage = Out }) fact)) (look-path given u at held may)
+          ∙ ap (λ xs. put eu (M xs fact.outcome)) (ap (λ (x : Progress). x.deps) kept-end)
+          ∙ ap (λ o. put eu (M asked o)) of_outcome
+          ∙ sym (ap (λ xs. put xs (M asked (Built (file_at given.past.tree p)))) seen)
           ∙ sym (ap N kept-now) ∙ sym (look-after_entries given u at held may)
 
       pub kept-may : MayConclude given u at fact
       kept-may =
-          let S : List Entry → Type 0 = AreStanding r given.request in
-          record {
-            table = look-table given u at held may;
-            distinct = look-distinct given u at held may;
-            is_out = look-out given u at held may;
-            alone = look-alone given u at held may;
-            of_build = (of_given, of_target ∙ sym (look-path given u at held may));
-            request = given.request;
-            standing = λ slot there.
-                let both : Some slot ≡ Some may.taken.new = sym there ∙ look-there given u at held may in
-                let same : slot ≡ may.taken.new = cc in
-                let Q : Slot → Type 0 = λ x. S (put eu (concluded_entry given p x fact)) in
-                let R : List ℕ → Type 0 = λ q. S (put eu (concluded_entry given q slot fact)) in
-                subst R (sym (look-path given u at held may)) (subst Q (sym same) (subst S (sym kept-after) (look-sound given u at held may).standing));
-          }
+          conclude-may given u at fact (record may.taken.old { stage = Out }) (look-there given u at held may) (state_after given In_check u at) kept-after
+          (look-table given u at held may) (look-distinct given u at held may) (look-out given u at held may) (look-alone given u at held may)
+          (of_given, of_target ∙ sym (look-path given u at held may)) given.request (look-sound given u at held may).standing
 
       pub kept-put : (v : Table) → IsConcludedAt given u v at fact → IsPutBackThere given (state_after given In_check u at) u v
-      kept-put v c =
-          let both : Some c.slot ≡ Some may.taken.new = sym c.there ∙ look-there given u at held may in
-          let same : c.slot ≡ may.taken.new = cc in
-          record {
-            table = c.table;
-            entries = c.entries ∙ ap (λ q. put eu (concluded_entry given q c.slot fact)) (look-path given u at held may)
-                ∙ ap (λ (x : Slot). put eu (concluded_entry given p x fact)) same ∙ kept-after;
-            ready = c.ready;
-            keys_kept = λ k q h. rw c.targets h;
-            lacks = c.lacks;
-            put_back = c.put_back;
-          }
+      kept-put = conclude-put given u at fact (record may.taken.old { stage = Out }) (look-there given u at held may) (state_after given In_check u at) kept-after
 
   -- the next entry asks for a path
   module _ (q : List ℕ) (next : asks_next given held.value.check ≡ Some q) where
@@ -217,10 +193,6 @@ module _ (given : GivenView) (u : Table) (at : ℕ) (held : Box InCheck Global) 
         let m : Entry = record { path = p; looks = may.taken.old.looks + 1; turn = may.taken.old.turn; deps = more; outcome = None; is_out = false } in
         sym (ap (λ xs. put xs m) asked-enters) ∙ sym (ap N asked-now) ∙ sym (look-after_entries given u at held may)
 
-    length-put : (xs : List Entry) (x : Entry) → length (put xs x) ≡ length xs
-    length-put [] x = refl
-    length-put (y ∷ xs) x = elim (cases_Bool (Rattle.std.proofs.Common.bytes_eq y.path x.path)) [ inl t' ↦ rw t' refl | inr f ↦ rw f (ap suc (length-put xs x)) ]
-
     pub asked-length : length (entered (rules_for given) (table_entries given u) (q ∷ [])) ≡ length (state_after given In_check u at).entries
     asked-length = sym (length-put (entered r eu (q ∷ [])) (record { path = p; looks = may.taken.old.looks + 1; turn = may.taken.old.turn; deps = more; outcome = None; is_out = false })) ∙ ap length asked-after
 
@@ -236,43 +208,27 @@ module _ (given : GivenView) (u : Table) (at : ℕ) (held : Box InCheck Global) 
 
     module _ (v : Table) (place : ℕ) (a : AreEnteredInto given u v (q ∷ [])) (number : slice_get v.targets place ≡ Some q) where
       pub asked-out : IsOutThere v at
-      asked-out =
-          let out = look-out given u at held may in (
-            elim out.0 [ inl is ↦ inl (a.stages_kept at AtOut is) | inr is ↦ inr (a.stages_kept at AtHand is) ],
-            (out.1.0, a.slots_kept at out.1.0 out.1.1, out.1.2, out.1.3, out.1.4),
-          )
+      asked-out = entered-out given u v (q ∷ []) (look-table given u at held may) a at (look-out given u at held may)
 
       pub asked-seen : place < length v.schedule.stages
-      asked-seen = omega (arith, a.table.one_each, a.table.agreed.one_each, slice_get-below_some v.targets place q number)
+      asked-seen = entered-number given u v (q ∷ []) (look-table given u at held may) a place q number
 
       -- it alone is in hand
       asked-alone : (k : ℕ) → stage_at v.schedule k ≡ Some AtHand → at ≡ k
-      asked-alone k h = elim (a.fresh k AtHand h) [
-        | inl old ↦ look-alone given u at held may k old
-        | inr new ↦ absurd (elim new as (λ _. ⊥) [
-          | inl due ↦ cc
-          | inr other ↦ elim other as (λ _. ⊥) [ inl ready ↦ cc | inr decided ↦ cc ]
-        ])
-      ]
+      asked-alone k h = look-alone given u at held may k (entered-in_hand given u v (q ∷ []) (look-table given u at held may) a k h)
 
       asked-path : path_at v.targets at ≡ path_at may.whole.targets at
-      asked-path =
-          let T : List (List ℕ) → Type 0 = λ ps. slice_get ps at ≡ Some p in
-          rw (a.keys_kept at p (subst T (sym (look-targets given u at held may)) (look-key given u at held may))) refl
+      asked-path = entered-path given u v (q ∷ []) (look-table given u at held may) a at _ (look-there given u at held may) ∙ look-path given u at held may
 
       asked-distinct : AreDistinct v.targets
       asked-distinct =
+          let table = look-table given u at held may in
           let D : List (List ℕ) → Type 0 = AreDistinct in
-          let before = subst D (sym (paths_of-slots r al u.targets u.slots.items (look-table given u at held may).one_each)) (look-distinct given u at held may) in
-          let paths = ap paths_of a.entries ∙ paths_of-entered r eu (q ∷ []) in
-          subst D (paths_of-slots r al v.targets v.slots.items a.table.one_each) (subst D (sym paths) (with_new-distinct (paths_of eu) (q ∷ []) before))
+          entered-distinct given u v (q ∷ []) table a (subst D (sym (entry-paths given u u.schedule.stages table)) (look-distinct given u at held may))
 
       -- answers stay
       asked-more : Extends (rules_for given) (outcomes_of (table_entries given may.whole)) (outcomes_of (table_entries given v))
-      asked-more x o source h =
-          let S : List Entry → Type 0 = λ xs. outcomes_of xs x ≡ Some o in
-          let old = outcomes_of-entry eu x o (look-outcomes given u at held may x ∙ h) in
-          subst S (sym a.entries) (outcomes_of-at (entered r eu (q ∷ [])) x old.0 (entry_of-entered_old r eu (q ∷ []) x old.0 old.1) ∙ old.2)
+      asked-more x o source h = entered-known given u v (q ∷ []) (look-table given u at held may) a x o (look-outcomes given u at held may x ∙ h)
 
       asked-same : (x : List ℕ) → IsAmong (operands (rules_for given) held.value.check.asked) x → outcomes_of (table_entries given may.whole) x ≡ outcomes_of (table_entries given v) x
       asked-same x m = elim (cases_Option (outcomes_of ew x)) [
@@ -282,15 +238,9 @@ module _ (given : GivenView) (u : Table) (at : ℕ) (held : Box InCheck Global) 
 
       module _ (w : Table) (held' : Box InCheck Global) (is : held'.value ≡ record held.value { check = record held.value.check { asked = with_entry held.value.check.asked kinds.Change q } })
           (d : IsAskedAt v w at (record { held = held'; path = q }) place) where
-        slot-old : d.old ≡ may.taken.new
+        slot-old : d.old ≡ record may.taken.old { stage = Out }
         slot-old =
-            let both : Some d.old ≡ Some may.taken.new = sym d.put_back.there ∙ a.slots_kept at may.taken.new (look-there given u at held may) in cc
-
-        turn-same : d.new.turn ≡ may.taken.old.turn
-        turn-same = d.turn ∙ ap (λ (x : Slot). x.turn) slot-old ∙ may.taken.turn
-
-        looks-same : d.new.looks ≡ may.taken.old.looks + 1
-        looks-same = d.looks ∙ ap (λ (x : Slot). x.looks + 1) slot-old ∙ ap (λ n. n + 1) may.taken.looks
+            let both : Some d.old ≡ Some (record may.taken.old { stage = Out }) = sym d.put_back.there ∙ a.slots_kept at _ (look-there given u at held may) in cc
 
         checking-raw : IsCheckingWith (rules_for given) (outcomes_of (table_entries given v)) given (path_at may.whole.targets at) may.taken.old.turn
             (record { held = record held' { value = record held.value { check = record held.value.check { asked = with_entry held.value.check.asked kinds.Change q } } }; path = q })
@@ -320,24 +270,21 @@ module _ (given : GivenView) (u : Table) (at : ℕ) (held : Box InCheck Global) 
               ];
             }
 
-        checking : IsCheckingWith (rules_for given) (outcomes_of (table_entries given v)) given (path_at v.targets at) d.new.turn (record { held = held'; path = q })
+        checking : IsCheckingWith (rules_for given) (outcomes_of (table_entries given v)) given (path_at v.targets at) d.old.turn (record { held = held'; path = q })
         checking =
             let C : List ℕ → ℕ → Box InCheck Global → Type 0 = λ x n h. IsCheckingWith r (outcomes_of (table_entries given v)) given x n (record { held = h; path = q }) in
-            let X : List ℕ → Type 0 = λ x. C x d.new.turn held' in
+            let X : List ℕ → Type 0 = λ x. C x d.old.turn held' in
             let Y : ℕ → Type 0 = λ n. C p n held' in
             let Z : InCheck → Type 0 = λ h. C p may.taken.old.turn (record held' { value = h }) in
-            subst X (sym asked-path) (subst Y (sym turn-same) (subst Z (sym is) checking-raw))
+            subst X (sym asked-path) (subst Y (sym (ap (λ (x : Slot). x.turn) slot-old)) (subst Z (sym is) checking-raw))
 
         asked-moved : table_entries given w ≡ (state_after given In_check u at).entries
         asked-moved =
-            let put-in = put-entries given v w a.table asked-distinct at d.old d.new (AtWaiting (place ∷ [])) d.put_back in
-            let M : List ℕ → ℕ → ℕ → List Dep → Entry = λ x k n ds. record { path = x; looks = k; turn = n; deps = ds; outcome = None; is_out = false } in
-            let T : Stage → Entry = λ st. record { path = path_at v.targets at; looks = d.new.looks; turn = d.new.turn; deps = stage_deps r al (path_at v.targets at) (rounds_of d.new) st; outcome = stage_outcome st; is_out = is_stage_out st } in
-            let deps : held'.value.check.asked ≡ more = ap (λ (h : InCheck). h.check.asked) is in
-            let entry' : slot_entry r al (path_at v.targets at) d.new ≡ M p (may.taken.old.looks + 1) may.taken.old.turn more =
-            ap T d.stage ∙ ap (λ x. M x d.new.looks d.new.turn held'.value.check.asked) asked-path ∙ ap (λ k. M p k d.new.turn held'.value.check.asked) looks-same
-            ∙ ap (λ n. M p (may.taken.old.looks + 1) n held'.value.check.asked) turn-same ∙ ap (M p (may.taken.old.looks + 1) may.taken.old.turn) deps in
-            put-in ∙ ap (put (table_entries given v)) entry' ∙ ap (λ xs. put xs (M p (may.taken.old.looks + 1) may.taken.old.turn more)) a.entries ∙ asked-after
+            let put-in = put-entries given v w a.table asked-distinct at d.old (record d.old { looks = d.old.looks + 1; stage = Checking (record { held = held'; path = q }) }) (AtWaiting (place ∷ [])) d.put_back in
+            let Y : Slot → Entry = λ y. record { path = path_at v.targets at; looks = y.looks + 1; turn = y.turn; deps = held'.value.check.asked; outcome = None; is_out = false } in
+            let M : List ℕ → List Dep → Entry = λ x ds. record { path = x; looks = may.taken.old.looks + 1; turn = may.taken.old.turn; deps = ds; outcome = None; is_out = false } in
+            let entry' = ap Y slot-old ∙ ap (λ x. M x held'.value.check.asked) asked-path ∙ ap (λ (h : InCheck). M p h.check.asked) is in
+            put-in ∙ ap (put (table_entries given v)) entry' ∙ ap (λ xs. put xs (M p more)) a.entries ∙ asked-after
 
         pub asked-table' : IsTableOf given w
         asked-table' = asked-table given v w a.table asked-distinct at (record { held = held'; path = q }) place d checking number
@@ -355,6 +302,7 @@ module _ (given : GivenView) (u : Table) (at : ℕ) (held : Box InCheck Global) 
           ready = settled.0.ready ∙ ap (λ (y : ScheduleView). y.ready) d.put_back.schedule ∙ a.ready;
           keys_kept = λ k y h. rw (settled.0.targets, d.put_back.targets) (a.keys_kept k y h);
           lacks = settled.1;
-          put_back = λ k h. put-none_in_hand given v w a.table asked-distinct at d.old d.new (AtWaiting (place ∷ [])) d.put_back
+          put_back = λ k h. put-none_in_hand given v w a.table asked-distinct at d.old (record d.old { looks = d.old.looks + 1; stage = Checking (record { held = held'; path = q }) })
+              (AtWaiting (place ∷ [])) d.put_back
               (λ e. let bad : AtWaiting (place ∷ []) ≡ AtHand = e in cc) asked-alone k (settled.0.in_hand k h);
         }

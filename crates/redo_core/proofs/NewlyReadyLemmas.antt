@@ -29,7 +29,8 @@ use Rattle.redo_core.specs.declared.table.Stage.TheVariants.{Due, Checking, Wait
 use Rattle.redo_build.proofs.PathLemmas.{is_among-true, is_among-from, IsAmong-same}
 use Rattle.redo_build.proofs.QueueLemmas.{slice_get-among}
 use Rattle.redo_build.proofs.SoundLemmas.{may_run-parts, lacks_none-true}
-use Rattle.redo_core.proofs.SlotLemmas.{slice_get-from, slice_get-below_some, ready-job}
+use Rattle.redo_core.proofs.EntryLemmas.{path-below}
+use Rattle.redo_core.proofs.SlotLemmas.{length-slots, slice_get-below_some, ready-job}
 use Rattle.redo_core.proofs.PlaceLemmas.{AscendFrom, IsPlace, filter-places, place-times, times-place}
 use Rattle.redo_record.specs.declared.deps.Dep.{Dep}
 
@@ -67,12 +68,6 @@ none-lacks f (q ∷ qs) h =
       | inr some ↦ rw (some.1, rest) refl
     ]
 
-length-slots : (r : Rules) (a : Ask) (ps : List (List ℕ)) (slots : List Slot) → length slots ≡ length ps → length (slot_entries r a ps slots) ≡ length slots
-length-slots r a [] [] h = refl
-length-slots r a [] (slot ∷ slots) h = absurd (omega arith)
-length-slots r a (p ∷ ps) [] h = refl
-length-slots r a (p ∷ ps) (slot ∷ slots) h = ap suc (length-slots r a ps slots (omega arith))
-
 -- the script of a target isn't begun while its check can go on
 pub due-begins : (given : GivenView) (p : List ℕ) (a : Ask) (c : Check) → IsDueCheck given p a c →
     (rules_for given).begins p (only (operands (rules_for given) c.asked) a) ≡ false
@@ -92,12 +87,6 @@ module _ (given : GivenView) (t : Table) (more : List ℕ) (table : IsTableOf gi
 
   abbrev s : State
   s = state_from (rules_for given) given.limits.targets t.targets t.slots.items t.schedule.ready
-
-  key-at : (k : ℕ) → k < length t.slots.items → slice_get t.targets k ≡ Some (path_at t.targets k)
-  key-at k h =
-      let found = slice_get-from t.targets k (omega (arith, table.one_each, h)) in
-      let is : path_at t.targets k ≡ found.0 = rw found.1 refl in
-      found.1 ∙ ap Some (sym is)
 
   -- a number with a stage is one of a slot
   staged-below : (k : ℕ) → stage_at t.schedule k ≡ Some AtReady → k < length t.slots.items
@@ -123,7 +112,7 @@ module _ (given : GivenView) (t : Table) (more : List ℕ) (table : IsTableOf gi
         | inl yes' ↦ absurd (
             let at = among-map (path_at t.targets) t.schedule.ready e.path (is_among-true s.ready e.path yes') in
             let same : at.0 ≡ i = distinct-place t.targets at.0 i p distinct
-            (key-at at.0 (staged-below at.0 (queue.are_ready at.0 (place-times t.schedule.ready at.0 at.1))) ∙ ap Some (at.2 ∙ path)) found.3 in
+            (path-below given t t.schedule.stages table at.0 (staged-below at.0 (queue.are_ready at.0 (place-times t.schedule.ready at.0 at.1))) ∙ ap Some (at.2 ∙ path)) found.3 in
             let Q : ℕ → Type 0 = IsPlace t.schedule.ready in
             omega (arith, is_more.1, place-times t.schedule.ready i (subst Q same at.1)))
         | inr f ↦ f

@@ -1,5 +1,5 @@
 -- Putting back what a target that was out came to.
-use Rattle.std.proofs.Common.{slice_get, slice_set, ◌≡◌, ℕ, inl, inr, List, []}
+use Rattle.std.proofs.Common.{slice_get, slice_set, ◌≡◌, ℕ, ◌+◌, inl, inr, List, []}
 use Rattle.std.proofs.Common.{◌∷◌, length-set, Some, None, refl, sym, ap, subst, ◌∙◌, arith}
 use Rattle.std.proofs.Common.{Global}
 use Rattle.std.specs.Prelude.{Box}
@@ -11,9 +11,10 @@ use Rattle.redo_rules.proofs.Public.{lawful_for}
 use Rattle.redo_table.specs.Schedule.{StageView, ScheduleView, stage_at}
 use Rattle.redo_table.specs.Schedule.StageView.{InHand as AtHand, Waiting as AtWaiting, Decided as AtDecided}
 use Rattle.redo_table.proofs.TargetLemmas.{set-cases}
+use Rattle.redo_sync.specs.Shown.{Shown}
 use Rattle.redo_core.specs.Views.{FactView}
 use Rattle.redo_core.specs.inside.Slots.{outcomes_at_limit, table_entries, entries_from, slot_entry, stage_outcome, path_at, Agrees, AreNumbers, Fits}
-use Rattle.redo_core.specs.inside.Slots.{IsTable, IsTableOf, IsPutBack, IsDecidedAt, IsDecidedStage, IsParkedAt, IsParkedStage}
+use Rattle.redo_core.specs.inside.Slots.{IsTable, IsTableOf, IsPutBack, IsDecidedAt, IsParkedAt}
 use Rattle.redo_core.specs.inside.Slots.{IsWaitingWith, IsAskedAt, IsCheckingWith}
 use Rattle.redo_core.specs.inside.Works.{waited_by}
 use Rattle.redo_core.specs.declared.work.Begun.{Begun}
@@ -21,29 +22,11 @@ use Rattle.redo_core.specs.declared.table.Awaiting.{Awaiting}
 use Rattle.redo_core.specs.declared.table.Slot.{Slot}
 use Rattle.redo_core.specs.declared.table.Table.{Table}
 use Rattle.redo_core.specs.declared.table.Stage.{Stage}
-use Rattle.redo_core.specs.declared.table.Stage.TheVariants.{Due, Checking, Waiting, Ready, Out, Decided}
+use Rattle.redo_core.specs.declared.table.Stage.TheVariants.{Checking, Waiting, Decided}
 use Rattle.redo_core.proofs.AgreeLemmas.{agreed-set, agreed-stage}
-use Rattle.redo_core.proofs.SlotLemmas.{slot_entries-set, slice_get-from, slice_get-below_some}
+use Rattle.redo_core.proofs.EntryLemmas.{path-there}
+use Rattle.redo_core.proofs.SlotLemmas.{slot_entries-set}
 use Rattle.redo_core.proofs.TableLemmas.{Fits-more, fits-set, outcomes-more}
-
--- the stage of a target that is decided
-decided-stage : (fact : FactView) (given : GivenView) (ps : List (List ℕ)) (p : List ℕ) (turn : ℕ) (stage : Stage) → IsDecidedStage fact stage →
-    (fact.given ≡ given) → (fact.target ≡ p) → Agrees (rules_for given) ps stage AtDecided × ((a : Ask) → Fits (rules_for given) a given p turn stage)
-decided-stage fact given ps p turn (Due held) h a b = absurd h
-decided-stage fact given ps p turn (Checking awaiting) h a b = absurd h
-decided-stage fact given ps p turn (Waiting begun) h a b = absurd h
-decided-stage fact given ps p turn (Ready work) h a b = absurd h
-decided-stage fact given ps p turn Out h a b = absurd h
-decided-stage fact given ps p turn (Decided held) h a b =
-    (refl, λ _. (ap (λ (f : FactView). f.given) h ∙ a, ap (λ (f : FactView). f.target) h ∙ b))
-
-parked-is : (begun : Box Begun Global) (stage : Stage) → IsParkedStage begun stage → stage ≡ Waiting begun
-parked-is begun (Due held) h = absurd h
-parked-is begun (Checking awaiting) h = absurd h
-parked-is begun (Waiting held) h = ap Waiting h
-parked-is begun (Ready work) h = absurd h
-parked-is begun Out h = absurd h
-parked-is begun (Decided held) h = absurd h
 
 module _ (given : GivenView) (t u : Table) (table : IsTableOf given t) (distinct : AreDistinct t.targets) (at : ℕ) where
   abbrev r : Rules
@@ -51,10 +34,7 @@ module _ (given : GivenView) (t u : Table) (table : IsTableOf given t) (distinct
 
   module _ (old new : Slot) (s : StageView) (w : IsPutBack t u at old new s) where
     put_path : slice_get t.targets at ≡ Some (path_at t.targets at)
-    put_path =
-        let found = slice_get-from t.targets at (omega (arith, table.one_each, slice_get-below_some t.slots.items at old w.there)) in
-        let is : path_at t.targets at ≡ found.0 = rw found.1 refl in
-        found.1 ∙ ap Some (sym is)
+    put_path = path-there given t t.schedule.stages table at old w.there
 
     put-more : Extends r (outcomes_of (table_entries given t)) (outcomes_of (entries_from r given.limits.targets t.targets (slice_set t.slots.items at new)))
     put-more =
@@ -93,30 +73,21 @@ module _ (given : GivenView) (t u : Table) (table : IsTableOf given t) (distinct
         ]
 
   -- a target that is decided
-  pub decided-table : (fact : FactView) (d : IsDecidedAt t u at fact) → fact.given ≡ given → fact.target ≡ path_at t.targets at → IsTableOf given u
-  decided-table fact d one two =
-      let h = decided-stage fact given t.targets (path_at t.targets at) d.new.turn d.new.stage d.stage one two in
-      put-table d.old d.new AtDecided d.put_back h.0 (λ a more. h.1 a)
+  pub decided-table : (fact : Shown FactView) (d : IsDecidedAt t u at fact) → fact.value.given ≡ given → fact.value.target ≡ path_at t.targets at → IsTableOf given u
+  decided-table fact d one two = put-table d.old (record d.old { stage = Decided fact }) AtDecided d.put_back refl (λ a more. (one, two))
 
   -- a job that is parked again
   pub parked-table : (begun : Box Begun Global) (on : List ℕ) (d : IsParkedAt t u at begun on) →
-      IsWaitingWith (rules_for given) (outcomes_of (table_entries given t)) given (path_at t.targets at) d.new.turn begun.value →
+      IsWaitingWith (rules_for given) (outcomes_of (table_entries given t)) given (path_at t.targets at) (d.old.turn + 1) begun.value →
       AreNumbers t.targets on (waited_by (rules_for given) begun.value) → IsTableOf given u
   parked-table begun on d waits are =
-      let a = outcomes_of (table_entries given t) in
-      let is = parked-is begun d.new.stage d.stage in
-      let A : Stage → Type 0 = λ st. Agrees r t.targets st (AtWaiting on) in
-      put-table d.old d.new (AtWaiting on) d.put_back (subst A (sym is) (on, refl, are)) (λ b more.
-      let F : Stage → Type 0 = Fits r b given (path_at t.targets at) d.new.turn in
-      subst F (sym is) (Fits-more given a b (path_at t.targets at) d.new.turn (Waiting begun) more waits))
+      put-table d.old (record d.old { turn = d.old.turn + 1; stage = Waiting begun }) (AtWaiting on) d.put_back (on, refl, are)
+      (λ b more. Fits-more given (outcomes_of (table_entries given t)) b (path_at t.targets at) (d.old.turn + 1) (Waiting begun) more waits)
 
   -- a check that waits now
   pub asked-table : (awaiting : Awaiting) (place : ℕ) (d : IsAskedAt t u at awaiting place) →
-      IsCheckingWith (rules_for given) (outcomes_of (table_entries given t)) given (path_at t.targets at) d.new.turn awaiting →
+      IsCheckingWith (rules_for given) (outcomes_of (table_entries given t)) given (path_at t.targets at) d.old.turn awaiting →
       slice_get t.targets place ≡ Some awaiting.path → IsTableOf given u
   asked-table awaiting place d checks number =
-      let a = outcomes_of (table_entries given t) in
-      let A : Stage → Type 0 = λ st. Agrees r t.targets st (AtWaiting (place ∷ [])) in
-      put-table d.old d.new (AtWaiting (place ∷ [])) d.put_back (subst A (sym d.stage) (place, refl, number)) (λ b more.
-      let F : Stage → Type 0 = Fits r b given (path_at t.targets at) d.new.turn in
-      subst F (sym d.stage) (Fits-more given a b (path_at t.targets at) d.new.turn (Checking awaiting) more checks))
+      put-table d.old (record d.old { looks = d.old.looks + 1; stage = Checking awaiting }) (AtWaiting (place ∷ [])) d.put_back (place, refl, number)
+      (λ b more. Fits-more given (outcomes_of (table_entries given t)) b (path_at t.targets at) d.old.turn (Checking awaiting) more checks)

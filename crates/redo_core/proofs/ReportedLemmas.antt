@@ -40,12 +40,13 @@ use Rattle.redo_core.proofs.OrderLemmas.{AreSorted, sorted-ascending, placed-sor
 use Rattle.redo_core.proofs.OrderLemmas.{placed-first, placed-second}
 use Rattle.redo_build.proofs.PathLemmas.{filter-from, filter-passes}
 use Rattle.redo_build.proofs.QueueLemmas.{slice_get-among}
+use Rattle.redo_build.proofs.QueueLemmas.{filter-keeps}
 use Rattle.redo_core.proofs.RowLemmas.{IsItem, item-contained, contained-item, all_rows, of_item, path_row, row_path}
-use Rattle.redo_core.proofs.RowLemmas.{begun-from, begun-sorted, begun-to, file_row, files_sorted, filter-among, row_file}
+use Rattle.redo_core.proofs.RowLemmas.{begun-from, begun-sorted, begun-to, file_row, files_sorted, row_file}
 use Rattle.redo_core.proofs.RowLemmas.{rows-all}
 use Rattle.redo_core.proofs.ShownLemmas.{IsOfBuild, LacksOne, stage-shown}
 use Rattle.redo_core.proofs.SlotLemmas.{paths_of-slots, entry_of-slots, out_count-slots}
-use Rattle.redo_core.proofs.TakeLemmas.{distinct-inside, shows-inside, sound-inside, view_of}
+use Rattle.redo_core.proofs.TakeLemmas.{distinct-inside, no_paths, shows-inside, sound-inside, view_of}
 
 source-outcome : (r : Rules) (n : ℕ) (p : List ℕ) → r.is_source p ≡ true → outcome_at r n p ≡ Some Is_source
 source-outcome r zero p s = rw s refl
@@ -88,7 +89,7 @@ module _ (given : GivenView) (t : Table) (s : State)
   reported-key p m = placed-first (placed [] t.targets) (sources_among given.past.sources given.request) p (placed-second [] t.targets p m)
 
   reported-source : (p : List ℕ) → IsAmong given.request p → is_some (file_at given.past.sources p) ≡ true → IsAmong (reported_paths given.past.sources given.request t) p
-  reported-source p m source = placed-second (placed [] t.targets) (sources_among given.past.sources given.request) p (filter-among (λ q. is_some (file_at given.past.sources q)) given.request p m source)
+  reported-source p m source = placed-second (placed [] t.targets) (sources_among given.past.sources given.request) p (filter-keeps (λ q. is_some (file_at given.past.sources q)) given.request p m source)
 
   abbrev IsRight : Row → Type 0
   IsRight row = (row.outcome ≡ final_outcome (rules_for given) given.limits.targets row.path) × (arc_value row.deps ≡ deps_of (rules_for given) given.limits.targets row.path)
@@ -297,10 +298,6 @@ module _ (b : Inside) (kept : IsKept b) (quiet : IsQuiet (state_of b)) where
   pub report-inside : (report : Report) → IsReportOf b.build b.table report → IsReport (rules_inside b) b.build.request b.build.limits.targets report
   report-inside report made = is-report b.build b.table (state_of b) refl (shows-inside b kept quiet)
       kept.at_rest.table kept.at_rest.resting.lacks (distinct-inside b kept) target-keys report made
-
-no_paths : (ps : List (List ℕ)) → length ps ≡ 0 → ps ≡ []
-no_paths [] h = refl
-no_paths (p ∷ ps) h = absurd (omega (arith, h))
 
 none_stopped : {A : Type 0} (o : Option A) → IsNone o → is_some o ≡ false
 none_stopped None h = refl

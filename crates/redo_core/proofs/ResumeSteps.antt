@@ -16,19 +16,14 @@ use Rattle.redo_build.proofs.HandoverLemmas.{taken-deep}
 use Rattle.redo_build.proofs.TurnLemmas.{only-among}
 use Rattle.redo_rules.specs.Build.{GivenView, rules_for}
 use Rattle.redo_rules.proofs.Public.{lawful_for}
-use Rattle.redo_table.specs.Schedule.{with_stage}
-use Rattle.redo_table.specs.Schedule.StageView.{Due as AtDue, Ready as AtReady}
-use Rattle.redo_table.proofs.TargetLemmas.{get-same}
 use Rattle.redo_core.specs.Views.{FactView, WorkView}
 use Rattle.redo_core.specs.inside.Checking.{IsBegunBehind, IsDueCheck, IsWaitingCheck}
 use Rattle.redo_record.specs.declared.outcome.Outcome.{Outcome}
-use Rattle.std.specs.Prelude.{Box, IfOk, Result, Ok, Err}
-use Rattle.std.specs.declared.alloc.Global.{Global}
-use Rattle.redo_core.specs.declared.work.Work.{Work}
+use Rattle.std.specs.Prelude.{IfOk, Result, Ok, Err}
 use Rattle.redo_core.specs.inside.Works.{AddsFact, found_as, told_in}
 use Rattle.redo_core.specs.inside.Slots.{outcomes_at_limit, AllAnswered, Fits, IsAnsweredCheck, IsAnsweredAs, IsCheckingWith}
 use Rattle.redo_core.specs.inside.Slots.{GainsOne, GoesOnWith, IsDecidedNumber, IsDueWith, IsFactAt, IsFallen, IsParked}
-use Rattle.redo_core.specs.inside.Slots.{IsResumedAt, path_at, rounds_of}
+use Rattle.redo_core.specs.inside.Slots.{path_at, rounds_of}
 use Rattle.redo_core.specs.inside.Slots.{is_stage_decided}
 use Rattle.redo_core.specs.inside.Slots.{slot_entry, stage_deps, stage_outcome, table_entries}
 use Rattle.redo_core.specs.declared.check.Check.{Check}
@@ -37,11 +32,11 @@ use Rattle.redo_core.specs.declared.table.Awaiting.{Awaiting}
 use Rattle.redo_core.specs.declared.table.InCheck.{InCheck}
 use Rattle.redo_core.specs.declared.table.Slot.{Slot}
 use Rattle.redo_core.specs.declared.table.Stage.{Stage}
-use Rattle.redo_core.specs.declared.table.Stage.TheVariants.{Due, Checking, Ready, Out}
+use Rattle.redo_core.specs.declared.table.Stage.TheVariants.{Checking, Out}
 use Rattle.redo_core.specs.declared.table.Table.{Table}
 use Rattle.redo_core.proofs.CheckingLemmas.{behind-moves, number-within, waiting-asked}
 use Rattle.redo_core.proofs.SlotLemmas.{entry_of-slots}
-use Rattle.redo_core.proofs.TableLemmas.{answered-alike, only-alike, set-twice}
+use Rattle.redo_core.proofs.TableLemmas.{answered-alike, only-alike}
 use Rattle.redo_core.proofs.MakeReadySteps.{fact-kept, number-kept}
 
 module _ (given : GivenView) (t : Table) (at place : ℕ) (slot : Slot) (awaiting : Awaiting) where
@@ -262,66 +257,3 @@ module _ (given : GivenView) (t : Table) (at place : ℕ) (slot : Slot) (awaitin
       AllAnswered (rules_for given) (outcomes_of (table_entries given t)) work.deps ×
       ((rules_for given).begins (path_at t.targets at) (only (operands (rules_for given) work.deps) (outcomes_of (table_entries given t))) ≡ true)
   held-ready no' = resumed-ready given t at place slot awaiting answer u gone out slots gains.0 gains.1 facts gains.2 held rule own asked (behind no')
-
--- a check that was taken out for its answer is put back
-module _ (given : GivenView) (t : Table) (at : ℕ) (slot : Slot) (awaiting : Awaiting) (there : slice_get t.slots.items at ≡ Some slot) (was : slot.stage ≡ Checking awaiting)
-    (gone : Slot) (looks : gone.looks ≡ slot.looks) (turn : gone.turn ≡ slot.turn)
-    (found : Slot) (again : slice_get (slice_set t.slots.items at gone) at ≡ Some found)
-    (u : Table) (targets : u.targets ≡ t.targets) where
-  same-slot : gone ≡ found
-  same-slot =
-      let both : Some gone ≡ Some found = sym (get-same t.slots.items at slot gone there) ∙ again in
-      cc
-
-  back-turn : found.turn ≡ slot.turn
-  back-turn = ap (λ (y : Slot). y.turn) (sym same-slot) ∙ turn
-
-  back-looks : found.looks ≡ slot.looks
-  back-looks = ap (λ (y : Slot). y.looks) (sym same-slot) ∙ looks
-
-  pub due-again : (held : Box InCheck Global) →
-      IsDueWith (rules_for given) (outcomes_of (table_entries given t)) given (path_at t.targets at) slot.turn held.value →
-      held.value.check.asked ≡ awaiting.held.value.check.asked →
-      u.slots.items ≡ slice_set (slice_set t.slots.items at gone) at (record { looks = found.looks; turn = found.turn; stage = Due held }) →
-      u.schedule ≡ with_stage t.schedule at AtDue → IsResumedAt given t u at
-  due-again held fits asked slots schedule =
-      let F : ℕ → Type 0 = λ n. IsDueWith (rules_for given) (outcomes_of (table_entries given t)) given (path_at t.targets at) n held.value in
-      record {
-        old = slot;
-        new = record { looks = found.looks; turn = found.turn; stage = Due held };
-        awaiting = awaiting;
-        there = there;
-        was = was;
-        is_open = inl refl;
-        fits = subst F (sym back-turn) fits;
-        deps = asked;
-        looks = back-looks;
-        turn = back-turn;
-        targets = targets;
-        slots = slots ∙ set-twice t.slots.items at gone (record { looks = found.looks; turn = found.turn; stage = Due held });
-        schedule = schedule;
-      }
-
-  pub ready-now : (work : Work) →
-      IsParked given (path_at t.targets at) slot.turn work × AllAnswered (rules_for given) (outcomes_of (table_entries given t)) work.deps ×
-      ((rules_for given).begins (path_at t.targets at) (only (operands (rules_for given) work.deps) (outcomes_of (table_entries given t))) ≡ true) →
-      work.deps ≡ awaiting.held.value.check.asked →
-      u.slots.items ≡ slice_set (slice_set t.slots.items at gone) at (record { looks = found.looks; turn = found.turn; stage = Ready work }) →
-      u.schedule ≡ with_stage t.schedule at AtReady → IsResumedAt given t u at
-  ready-now work fits asked slots schedule =
-      let F : ℕ → Type 0 = λ n. IsParked given (path_at t.targets at) n work in
-      record {
-        old = slot;
-        new = record { looks = found.looks; turn = found.turn; stage = Ready work };
-        awaiting = awaiting;
-        there = there;
-        was = was;
-        is_open = inr refl;
-        fits = (subst F (sym back-turn) fits.0, fits.1, fits.2);
-        deps = asked;
-        looks = back-looks;
-        turn = back-turn;
-        targets = targets;
-        slots = slots ∙ set-twice t.slots.items at gone (record { looks = found.looks; turn = found.turn; stage = Ready work });
-        schedule = schedule;
-      }

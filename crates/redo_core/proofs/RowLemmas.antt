@@ -1,6 +1,6 @@
 -- What the rows of a report say together, and their paths in order.
 use Rattle.std.proofs.Common.{◌≡◌, ℕ, zero, suc, ◌<◌, Bool, true, false, ◌⊎◌, inl, inr, List, [], ◌∷◌, ◌++◌, length}
-use Rattle.std.proofs.Common.{map, filter, if◌then◌else◌, Some, None, refl, sym, ap, subst, ◌∙◌, arith}
+use Rattle.std.proofs.Common.{map, if◌then◌else◌, Some, None, refl, sym, ap, subst, ◌∙◌, arith}
 use Rattle.std.proofs.lemmas.Bool.{cases_Bool}
 use Rattle.std.proofs.lemmas.Grind.{flat_map-append}
 use Rattle.std.proofs.lemmas.List.{append-nil, append_assoc}
@@ -64,16 +64,6 @@ path_row (row ∷ rows) p m = elim m [
 pub row_path : (rows : List Row) (row : Row) → IsItem rows row → IsAmong (map (λ row. row.path) rows) row.path
 row_path [] row m = absurd m
 row_path (x ∷ rows) row m = elim m [ inl here ↦ inl (ap (λ (y : Row). y.path) here) | inr later ↦ inr (row_path rows row later) ]
-
-pub filter-among : (f : List ℕ → Bool) (ps : List (List ℕ)) (p : List ℕ) → IsAmong ps p → f p ≡ true → IsAmong (filter f ps) p
-filter-among f [] p m t = absurd m
-filter-among f (x ∷ ps) p m t = elim (cases_Bool (f x)) [
-  | inl passes ↦ rw passes (elim m [ inl here ↦ inl here | inr later ↦ inr (filter-among f ps p later t) ])
-  | inr out ↦ rw out (elim m [
-    | inl here ↦ let bad : false ≡ true = sym out ∙ ap f here ∙ t in cc
-    | inr later ↦ filter-among f ps p later t
-  ])
-]
 
 -- One row more
 

@@ -1,12 +1,12 @@
 -- What a table keeps while what waits goes on.
 use Rattle.std.proofs.Common.{slice_get, slice_set, ◌≡◌, ℕ, zero, suc, true, false}
-use Rattle.std.proofs.Common.{◌⊎◌, inl, inr, List, [], ◌∷◌, length, length-set, Global}
+use Rattle.std.proofs.Common.{◌⊎◌, inl, inr, List, [], ◌∷◌, length-set, Global}
 use Rattle.std.proofs.Common.{Some, None, refl, sym, ap, subst, ◌∙◌, arith}
 use Rattle.std.specs.Prelude.{is_none, Box}
-use Rattle.redo_record.specs.Paths.{IsAmong, AreDistinct}
+use Rattle.redo_record.specs.Paths.{IsAmong}
 use Rattle.redo_build.specs.Rules.{Ask, Rules, AreLawful, Extends, operands}
 use Rattle.redo_build.specs.Outcomes.{outcome_at}
-use Rattle.redo_build.specs.Schedule.{Entry, known_to, only, outcome_of, outcomes_of, entry_of}
+use Rattle.redo_build.specs.Schedule.{Entry, known_to, only, outcome_of, outcomes_of}
 use Rattle.redo_rules.specs.Build.{GivenView, rules_for}
 use Rattle.redo_rules.proofs.Public.{lawful_for}
 use Rattle.redo_table.specs.Schedule.{StageView}
@@ -22,7 +22,6 @@ use Rattle.redo_core.specs.declared.table.Stage.TheVariants.{Due, Checking, Wait
 use Rattle.redo_build.proofs.PathLemmas.{filter-from}
 use Rattle.redo_build.proofs.QueueLemmas.{filter-keeps}
 use Rattle.redo_build.proofs.HandoverLemmas.{taken-work, taken-deep}
-use Rattle.redo_build.proofs.TurnBoundLemmas.{turn-below}
 use Rattle.redo_build.specs.inside.Turns.{IsWork}
 use Rattle.redo_build.proofs.DepthLemmas.{cases_Option}
 use Rattle.redo_core.proofs.AgreeLemmas.{agreed-set}
@@ -30,7 +29,8 @@ use Rattle.redo_core.proofs.NumberLemmas.{numbers-path, among-place}
 use Rattle.redo_core.proofs.AllAskedLemmas.{asked-cases, asked-second, first-alike, told-alike}
 use Rattle.redo_core.proofs.TableLemmas.{fits-set}
 use Rattle.redo_core.proofs.JobLemmas.{asked_of_job, asked_by_job}
-use Rattle.redo_core.proofs.SlotLemmas.{entry_of-slots, paths_of-slots, slice_get-from, slice_get-below_some}
+use Rattle.redo_core.proofs.EntryLemmas.{entry-there, keys-distinct, path-there, rounds-few}
+use Rattle.redo_core.proofs.SlotLemmas.{entry_of-slots}
 use Rattle.redo_record.specs.declared.deps.Dep.{Dep}
 
 pub open-outcome : (stage : Stage) → is_stage_decided stage ≡ false → stage_outcome stage ≡ None
@@ -131,24 +131,9 @@ module _ (given : GivenView) (t : Table) (stages : List StageView) (table : IsTa
   lawful : AreLawful (rules_for given)
   lawful = lawful_for given
 
-  pub distinct_keys : AreDistinct t.targets
-  distinct_keys =
-      let P : List (List ℕ) → Type 0 = AreDistinct in
-      subst P (paths_of-slots r (outcomes_at_limit given) t.targets t.slots.items table.one_each) standing.1.distinct
-
-  pub path_there : (at : ℕ) (slot : Slot) → slice_get t.slots.items at ≡ Some slot → slice_get t.targets at ≡ Some (path_at t.targets at)
-  path_there at slot there =
-      let found = slice_get-from t.targets at (omega (arith, table.one_each, slice_get-below_some t.slots.items at slot there)) in
-      let is : path_at t.targets at ≡ found.0 = rw found.1 refl in
-      found.1 ∙ ap Some (sym is)
-
-  pub entry_there : (at : ℕ) (slot : Slot) → slice_get t.slots.items at ≡ Some slot →
-      entry_of (table_entries given t) (path_at t.targets at) ≡ Some (slot_entry (rules_for given) (outcomes_at_limit given) (path_at t.targets at) slot)
-  entry_there at slot there = entry_of-slots r (outcomes_at_limit given) t.targets t.slots.items at (path_at t.targets at) slot distinct_keys (path_there at slot there) there
-
   pub decided-known : (q : List ℕ) → IsDecidedSlot t q → outcomes_of (table_entries given t) q ≡ None → ⊥
   decided-known q d none =
-      let here = ap outcome_of (entry_of-slots r (outcomes_at_limit given) t.targets t.slots.items d.at q d.slot distinct_keys d.path d.there) in
+      let here = ap outcome_of (entry_of-slots r (outcomes_at_limit given) t.targets t.slots.items d.at q d.slot (keys-distinct given t stages table standing.0 standing.1) d.path d.there) in
       decided-outcome d.slot.stage d.decided (sym here ∙ none)
 
   -- a parked job, where all that it waits for is decided
@@ -189,28 +174,27 @@ module _ (given : GivenView) (t : Table) (stages : List StageView) (table : IsTa
           let S : List Dep → Type 0 = λ ds. r.begins (path_at t.targets at) (only (operands r ds) (outcomes_of es)) ≡ true in
           let starts : r.begins e.path (known_to r es e) ≡ true = subst S (sym parked_deps) parked_ready.1 in
           let work : IsWork r (path_at t.targets at) slot.turn e.deps =
-          taken-work r lawful standing.0 es standing.1 (path_at t.targets at) e (entry_there at slot there) parked_open entry_answered starts in
+          taken-work r lawful standing.0 es standing.1 (path_at t.targets at) e (entry-there given t stages table standing.0 standing.1 at slot there) parked_open entry_answered starts in
           let W : Type 0 = (work' : IsWork r begun.value.job.target begun.value.job.turn (all_asked begun.value.job begun.value.facts)) × Extends r (outcomes_of es) (outcome_at r work'.depth) in
           let A : List Dep → Type 0 = λ ds. (work' : IsWork r (path_at t.targets at) slot.turn ds) × Extends r (outcomes_of es) (outcome_at r work'.depth) in
           let B : List ℕ → Type 0 = λ p. (work' : IsWork r p slot.turn (all_asked begun.value.job begun.value.facts)) × Extends r (outcomes_of es) (outcome_at r work'.depth) in
           let C : ℕ → Type 0 = λ k. (work' : IsWork r begun.value.job.target k (all_asked begun.value.job begun.value.facts)) × Extends r (outcomes_of es) (outcome_at r work'.depth) in
           let deep : W = subst C (sym parked_fits.at_turn) (subst B (sym parked_fits.of_target) (subst A parked_deps
-          (taken-deep r lawful standing.0 es standing.1 (path_at t.targets at) e (entry_there at slot there) parked_open entry_answered starts))) in
-          let below = turn-below r lawful standing.0 es standing.1 (path_at t.targets at) e (entry_there at slot there) parked_open entry_answered in
-          let paths = ap length (paths_of-slots r (outcomes_at_limit given) t.targets t.slots.items table.one_each) in (
+          (taken-deep r lawful standing.0 es standing.1 (path_at t.targets at) e (entry-there given t stages table standing.0 standing.1 at slot there) parked_open entry_answered starts))) in
+          let few = rounds-few given t stages table standing.0 standing.1 (path_at t.targets at) e (entry-there given t stages table standing.0 standing.1 at slot there) parked_open entry_answered in (
             slot,
             begun,
             record {
               there = there;
               was = is;
-              distinct = distinct_keys;
+              distinct = keys-distinct given t stages table standing.0 standing.1;
               waits = parked_fits;
               fits = table.fits;
               numbered = numbered;
               decided = decided;
               is_work = deep.0;
               deep = deep.1;
-              few = omega (arith, below, paths, parked_fits.at_turn, table.one_each, table.within_limit, table.few);
+              few = omega (arith, few, parked_fits.at_turn);
             },
           )
 
@@ -219,7 +203,7 @@ module _ (given : GivenView) (t : Table) (stages : List StageView) (table : IsTa
       (same : slot_entry (rules_for given) (outcomes_at_limit given) (path_at t.targets at) new ≡
       slot_entry (rules_for given) (outcomes_at_limit given) (path_at t.targets at) old) where
     pub entries-same : entries_from (rules_for given) given.limits.targets t.targets (slice_set t.slots.items at new) ≡ table_entries given t
-    entries-same = slot_entries-same r (outcomes_at_limit given) t.targets t.slots.items at (path_at t.targets at) old new (path_there at old there) there same
+    entries-same = slot_entries-same r (outcomes_at_limit given) t.targets t.slots.items at (path_at t.targets at) old new (path-there given t stages table at old there) there same
 
     pub table-same : (s : StageView) → Agrees (rules_for given) t.targets new.stage s →
         Fits (rules_for given) (outcomes_of (table_entries given t)) given (path_at t.targets at) new.turn new.stage →
@@ -232,7 +216,7 @@ module _ (given : GivenView) (t : Table) (stages : List StageView) (table : IsTa
           one_each = len ∙ table.one_each;
           within_limit = omega (arith, len, table.within_limit);
           few = table.few;
-          fits = fits-set r lawful given.limits.targets t.targets t.slots.items at (path_at t.targets at) old new distinct_keys (path_there at old there) there given refl
+          fits = fits-set r lawful given.limits.targets t.targets t.slots.items at (path_at t.targets at) old new (keys-distinct given t stages table standing.0 standing.1) (path-there given t stages table at old there) there given refl
               (subst P (sym entries-same) (λ q o s' h. h)) table.fits (subst F (sym entries-same) fit);
           agreed = agreed-set r t.targets t.slots.items stages table.agreed at old new s there agrees;
         }

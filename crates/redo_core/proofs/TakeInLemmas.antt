@@ -1,7 +1,7 @@
 -- What a handed in piece does to the table is what the schedule says.
-use Rattle.std.proofs.Common.{map, slice_get, ◌≡◌, ℕ, zero, suc, ◌+◌, ◌<◌, max, Bool, true, false, cond}
-use Rattle.std.proofs.Common.{◌&&◌, ◌⊎◌, inl, inr, List, [], ◌∷◌, ◌++◌, length, filter}
-use Rattle.std.proofs.Common.{Option, Some, None, refl, sym, ap, subst, ◌∙◌, arith, Global}
+use Rattle.std.proofs.Common.{map, slice_get, ◌≡◌, ℕ, suc, ◌+◌, ◌<◌, max, true, false}
+use Rattle.std.proofs.Common.{inl, inr, List, [], ◌∷◌, length}
+use Rattle.std.proofs.Common.{Some, None, refl, sym, ap, subst, ◌∙◌, arith, Global}
 use Rattle.std.proofs.lemmas.Bool.{cases_Bool, cases_lt}
 use Rattle.redo_record.specs.declared.deps.Dep.{Dep}
 use Rattle.redo_record.specs.declared.deps.DepKind.TheVariants.{Change}
@@ -27,11 +27,11 @@ use Rattle.redo_core.specs.inside.Checking.{IsBegunBehind}
 use Rattle.redo_core.specs.inside.Ends.{end_progress}
 use Rattle.redo_core.specs.inside.Slots.{outcomes_at_limit, rounds_of, table_entries, table_state, slot_entry, stage_deps, stage_outcome}
 use Rattle.redo_core.specs.inside.Slots.{is_stage_out, path_at, AreNumbers, IsWaitingWith}
-use Rattle.redo_core.specs.inside.Slots.{AreEnteredInto, IsParkedStage, IsParkedAt, MayConclude, IsConcludedAt, concluded_entry}
+use Rattle.redo_core.specs.inside.Slots.{AreEnteredInto, IsParkedAt, MayConclude, IsConcludedAt, concluded_entry}
 use Rattle.redo_core.specs.inside.Slots.{IsOutThere, MayTakeIn, IsPutBackThere, state_after}
 use Rattle.redo_core.specs.inside.Slots.{Agrees, AreSeen, IsSettled, IsStandingTable, IsTableOf}
-use Rattle.redo_table.specs.Schedule.{IsOpen, ScheduleView, stage_at}
-use Rattle.redo_table.specs.Schedule.StageView.{Out as AtOut, InHand as AtHand, Waiting as AtWaiting}
+use Rattle.redo_table.specs.Schedule.{IsOpen, ScheduleView}
+use Rattle.redo_table.specs.Schedule.StageView.{InHand as AtHand, Waiting as AtWaiting}
 use Rattle.redo_core.proofs.AgreeLemmas.{agreed-stage}
 use Rattle.redo_core.proofs.NumberLemmas.{numbers-number}
 use Rattle.std.specs.Prelude.{Box, is_none}
@@ -39,37 +39,25 @@ use Rattle.std.specs.declared.vec.Vec.{Vec}
 use Rattle.redo_core.specs.declared.work.Begun.{Begun}
 use Rattle.redo_core.specs.declared.table.Slot.{Slot}
 use Rattle.redo_core.specs.declared.table.Stage.{Stage}
-use Rattle.redo_core.specs.declared.table.Stage.TheVariants.{Due, Checking, Waiting, Ready, Out, Decided}
+use Rattle.redo_core.specs.declared.table.Stage.TheVariants.{Waiting}
 use Rattle.redo_core.specs.declared.table.Table.{Table}
 use Rattle.redo_core.specs.declared.work.End.{End}
 use Rattle.redo_core.specs.declared.work.End.TheVariants.{Ended, Stopped}
-use Rattle.redo_build.proofs.PathLemmas.{is_among-true, with_new-second, with_new-distinct}
+use Rattle.redo_build.proofs.PathLemmas.{is_among-true, with_new-second}
 use Rattle.redo_build.proofs.DepthLemmas.{cases_Option, ended_stays, operand-target, deeper}
-use Rattle.redo_build.proofs.SeenLemmas.{decided_count-length, outcomes_of-at, outcomes_of-entry, paths_of-entered, entry_of-entered_old}
+use Rattle.redo_build.proofs.SeenLemmas.{paths_of-entered}
 use Rattle.redo_core.proofs.JobLemmas.{found_sources}
 use Rattle.redo_build.proofs.TurnLemmas.{asked-more, only-some, only-Extends, deps_at_turn-more, Extends-trans'}
-use Rattle.redo_build.proofs.TurnBoundLemmas.{turn-below}
 use Rattle.redo_build.proofs.StandingLemmas.{outcomes_of-deep}
-use Rattle.redo_build.proofs.SoundLemmas.{IsSound, opening-sound, run-sound, happens-sound, out-parts}
+use Rattle.redo_build.proofs.SoundLemmas.{IsSound, happens-sound, out-parts}
 use Rattle.redo_build.proofs.HandoverLemmas.{looks_agree, piece-advanced}
-use Rattle.redo_core.proofs.SlotLemmas.{entry_of-slots, paths_of-slots, slice_get-from, slice_get-below_some}
+use Rattle.redo_core.proofs.ConcludeSteps.{conclude-may, conclude-put}
+use Rattle.redo_core.proofs.EnteredLemmas.{entered-distinct, entered-in_hand, entered-known, entered-number, entered-out, entered-path}
+use Rattle.redo_core.proofs.EntryLemmas.{entry-there, known-deep, rest-distinct, rest-sound, rounds-few}
+use Rattle.redo_core.proofs.LookedLemmas.{length-put}
+use Rattle.redo_core.proofs.SlotLemmas.{slice_get-below_some}
 use Rattle.redo_core.proofs.PutSteps.{put-entries, put-none_in_hand, parked-table}
 use Rattle.redo_core.proofs.EnterAllLemmas.{entered-append, entered-passed, entered-seen, operands-append}
-
-parked-shows : (r : Rules) (a : Ask) (begun : Box Begun Global) (p : List ℕ) (slot : Slot) → IsParkedStage begun slot.stage →
-    slot_entry r a p slot ≡ record { path = p; looks = slot.looks; turn = slot.turn; deps = all_asked begun.value.job begun.value.facts; outcome = None; is_out = false }
-parked-shows r a begun p slot h = by-stage slot.looks slot.turn slot.stage h
-  where
-    by-stage : (looks turn : ℕ) (stage : Stage) → IsParkedStage begun stage →
-        ◌≡◌ {A = Entry} (record { path = p; looks = looks; turn = turn; deps = stage_deps r a p (looks + turn) stage; outcome = stage_outcome stage; is_out = is_stage_out stage })
-        (record { path = p; looks = looks; turn = turn; deps = all_asked begun.value.job begun.value.facts; outcome = None; is_out = false })
-    by-stage looks turn (Due held) h' = absurd h'
-    by-stage looks turn (Checking awaiting) h' = absurd h'
-    by-stage looks turn (Waiting held) h' =
-        let E : Box Begun Global → Entry = λ x. record { path = p; looks = looks; turn = turn; deps = all_asked x.value.job x.value.facts; outcome = None; is_out = false } in ap E h'
-    by-stage looks turn (Ready work) h' = absurd h'
-    by-stage looks turn Out h' = absurd h'
-    by-stage looks turn (Decided held) h' = absurd h'
 
 job_deps-stopped : (job : JobView) (n : ℕ) → job.turn ≡ suc n → job_deps job ≡ record_so_far job
 job_deps-stopped job n e = rw e refl
@@ -118,23 +106,10 @@ module _ (given : GivenView) (t : Table) (at : ℕ) (end : End) (may : MayTakeIn
   lawful = lawful_for given
 
   sound : IsSound (rules_for given) given.request (table_state given t)
-  sound =
-      let P : State → Type 0 = IsSound r given.request in
-      subst P (sym may.at_rest.reached.ends) (run-sound r lawful given.request _ may.at_rest.reached.events (opening-sound r lawful given.request) may.at_rest.reached.all_open)
+  sound = rest-sound given t may.at_rest
 
-  pub keys_distinct : AreDistinct t.targets
-  keys_distinct =
-      let P : List (List ℕ) → Type 0 = AreDistinct in
-      subst P (paths_of-slots r (outcomes_at_limit given) t.targets t.slots.items may.at_rest.table.one_each) sound.standing.distinct
-
-  pub key-there : slice_get t.targets at ≡ Some (path_at t.targets at)
-  key-there =
-      let found = slice_get-from t.targets at (omega (arith, may.at_rest.table.one_each, slice_get-below_some t.slots.items at may.slot may.there)) in
-      let is : path_at t.targets at ≡ found.0 = rw found.1 refl in
-      found.1 ∙ ap Some (sym is)
-
-  entry-there : entry_of (table_entries given t) (path_at t.targets at) ≡ Some (slot_entry (rules_for given) (outcomes_at_limit given) (path_at t.targets at) may.slot)
-  entry-there = entry_of-slots r (outcomes_at_limit given) t.targets t.slots.items at target may.slot keys_distinct key-there may.there
+  entry-at : entry_of (table_entries given t) (path_at t.targets at) ≡ Some (slot_entry (rules_for given) (outcomes_at_limit given) (path_at t.targets at) may.slot)
+  entry-at = entry-there given t t.schedule.stages may.at_rest.table given.request sound.standing at may.slot may.there
 
   e-out : is_stage_out may.slot.stage ≡ true
   e-out = ap is_stage_out may.is_out
@@ -145,18 +120,18 @@ module _ (given : GivenView) (t : Table) (at : ℕ) (end : End) (may : MayTakeIn
   e-fed : (q : List ℕ) → IsAmong (operands (rules_for given) (stage_deps (rules_for given) (outcomes_at_limit given) (path_at t.targets at) (rounds_of may.slot) may.slot.stage)) q →
       outcomes_of (table_entries given t) q ≡ None → ⊥
   e-fed q m none =
-      let fed = sound.queued.out_fed target e entry-there e-out in
-      let both : Some fed.0 ≡ Some e = sym fed.1 ∙ entry-there in
+      let fed = sound.queued.out_fed target e entry-at e-out in
+      let both : Some fed.0 ≡ Some e = sym fed.1 ∙ entry-at in
       let same : fed.0 ≡ e = cc in
       let P : Entry → Type 0 = λ x. IsAmong (operands r x.deps) q in
       fed.3 q (subst P (sym same) m) none
 
   now-is : end_progress end ≡ advanced (rules_for given) (table_entries given t) (slot_entry (rules_for given) (outcomes_at_limit given) (path_at t.targets at) may.slot)
-  now-is = piece-advanced r lawful given.request es sound.standing target e entry-there e-open e-fed
-      (out-parts r lawful given.request s sound target e entry-there e-out).2 (end_progress end) may.is_end.is_piece
+  now-is = piece-advanced r lawful given.request es sound.standing target e entry-at e-open e-fed
+      (out-parts r lawful given.request s sound target e entry-at e-out).2 (end_progress end) may.is_end.is_piece
 
   open-event : IsOutAt (table_state given t) (path_at t.targets at) may.slot.turn
-  open-event = record { entry = e; at = entry-there; is_out = e-out; at_turn = refl }
+  open-event = record { entry = e; at = entry-at; is_out = e-out; at_turn = refl }
 
   pub after-sound : IsSound (rules_for given) given.request (state_after given Script t at)
   after-sound = happens-sound r lawful given.request s (Hand_in target may.slot.turn) sound open-event
@@ -169,7 +144,7 @@ module _ (given : GivenView) (t : Table) (at : ℕ) (end : End) (may : MayTakeIn
   unfolding moved
   after-state =
       let N : Progress → State = λ now. enqueued r (record { entries = put (entered r es (operands r now.deps)) (moved_on Script e now); ready = map (path_at t.targets) t.schedule.ready }) in
-      let first : state_after given Script t at ≡ N (advanced r es e) = rw entry-there refl in
+      let first : state_after given Script t at ≡ N (advanced r es e) = rw entry-at refl in
       first ∙ ap N (sym now-is)
 
   pub after-entries : (state_after given Script t at).entries ≡ moved
@@ -188,17 +163,11 @@ module _ (given : GivenView) (t : Table) (at : ℕ) (end : End) (may : MayTakeIn
   small = omega (arith, slice_get-below_some t.slots.items at may.slot may.there, may.at_rest.table.within_limit, may.at_rest.table.few)
 
   few-rounds : rounds_of may.slot < 65536
-  few-rounds =
-      let below = turn-below r lawful given.request es sound.standing target e entry-there e-open e-fed in
-      let paths = ap length (paths_of-slots r (outcomes_at_limit given) t.targets t.slots.items may.at_rest.table.one_each) in
-      omega (arith, below, paths, may.at_rest.table.one_each, may.at_rest.table.within_limit, may.at_rest.table.few)
+  few-rounds = rounds-few given t t.schedule.stages may.at_rest.table given.request sound.standing target e entry-at e-open e-fed
 
   -- what is decided is the build's at the limit
   deep-limit : Extends (rules_for given) (outcomes_of (table_entries given t)) (outcomes_at_limit given)
-  deep-limit =
-      let paths = ap length (paths_of-slots r (outcomes_at_limit given) t.targets t.slots.items may.at_rest.table.one_each) in
-      Extends-trans' r (outcomes_of es) (outcome_at r (decided_count es)) (outcomes_at_limit given) (outcomes_of-deep r lawful given.request es sound.standing)
-      (deeper r lawful (decided_count es) given.limits.targets (omega (arith, decided_count-length es, paths, may.at_rest.table.one_each, may.at_rest.table.within_limit)))
+  deep-limit = known-deep given t t.schedule.stages may.at_rest.table given.request sound.standing
 
   -- a script that ended asked for what is decided alone
   module _ (fact : FactView) (asked : List Dep) (ended : end ≡ Ended fact asked) where
@@ -212,7 +181,7 @@ module _ (given : GivenView) (t : Table) (at : ℕ) (end : End) (may : MayTakeIn
         let D : Progress → Type 0 = λ x. IsAmong (operands r x.deps) q in
         let asked' = subst D fact-now m in
         elim (cases_Bool (is_among (operands r e.deps) q)) [
-          | inl yes' ↦ sound.standing.closed target q e entry-there (is_among-true (operands r e.deps) q yes')
+          | inl yes' ↦ sound.standing.closed target q e entry-at (is_among-true (operands r e.deps) q yes')
           | inr no' ↦ absurd ((lawful.each target).answered q ask fact.outcome outcome asked' (rw no' refl))
         ]
 
@@ -238,33 +207,12 @@ module _ (given : GivenView) (t : Table) (at : ℕ) (end : End) (may : MayTakeIn
     pub may-conclude : MayConclude given t at fact
     may-conclude =
         let P : End → Type 0 = λ x. Rattle.redo_core.specs.inside.Ends.IsEndOf given may.is_end.is_piece.depth may.is_end.is_piece.looks target may.slot.turn x in
-        let S : List Entry → Type 0 = AreStanding r given.request in
-        record {
-          table = may.at_rest.table;
-          distinct = keys_distinct;
-          is_out = (open-there, (may.slot, may.there, may.is_out, few-rounds, small));
-          alone = λ k h. absurd (may.at_rest.resting.put_back k h);
-          of_build = subst P ended may.is_end.is_end;
-          request = given.request;
-          standing = λ slot there.
-              let both : Some slot ≡ Some may.slot = sym there ∙ may.there in
-              let same : slot ≡ may.slot = cc in
-              let Q : Slot → Type 0 = λ x. S (put es (concluded_entry given target x fact)) in
-              subst Q (sym same) (subst S (sym concluded-after) after-sound.standing);
-        }
+        conclude-may given t at fact may.slot may.there (state_after given Script t at) concluded-after may.at_rest.table (rest-distinct given t may.at_rest)
+        (open-there, (may.slot, may.there, may.is_out, few-rounds, small)) (λ k h. absurd (may.at_rest.resting.put_back k h))
+        (subst P ended may.is_end.is_end) given.request after-sound.standing
 
     pub concluded-put : (u : Table) → IsConcludedAt given t u at fact → IsPutBackThere given (state_after given Script t at) t u
-    concluded-put u c =
-        let both : Some c.slot ≡ Some may.slot = sym c.there ∙ may.there in
-        let same : c.slot ≡ may.slot = cc in
-        record {
-          table = c.table;
-          entries = c.entries ∙ ap (λ (x : Slot). put es (concluded_entry given target x fact)) same ∙ concluded-after;
-          ready = c.ready;
-          keys_kept = λ k p h. rw c.targets h;
-          lacks = c.lacks;
-          put_back = c.put_back;
-        }
+    concluded-put = conclude-put given t at fact may.slot may.there (state_after given Script t at) concluded-after
 
   -- a script that stopped
   module _ (begun : Box Begun Global) (paths : Vec (List ℕ) Global) (stopped : end ≡ Stopped begun paths) where
@@ -285,15 +233,15 @@ module _ (given : GivenView) (t : Table) (at : ℕ) (end : End) (may : MayTakeIn
         (stage_deps (rules_for given) (outcomes_at_limit given) (path_at t.targets at) (rounds_of may.slot) may.slot.stage ≡
         deps_at_turn (rules_for given) (path_at t.targets at) (outcomes_of (table_entries given t)) (rounds (slot_entry (rules_for given) (outcomes_at_limit given) (path_at t.targets at) may.slot)))
     way =
-        let w = sound.standing.under_way target e entry-there e-open in (w.came, w.is)
+        let w = sound.standing.under_way target e entry-at e-open in (w.came, w.is)
 
     deep : Extends (rules_for given) (outcomes_of (table_entries given t)) (outcome_at (rules_for given) (decided_count (table_entries given t)))
     deep = outcomes_of-deep r lawful given.request es sound.standing
 
     begun-here : IsBegunAt (rules_for given) (path_at t.targets at) (outcomes_of (table_entries given t)) may.slot.looks
     begun-here =
-        let w = sound.standing.under_way target e entry-there e-open in
-        let starts = (out-parts r lawful given.request s sound target e entry-there e-out).2 in
+        let w = sound.standing.under_way target e entry-at e-open in
+        let starts = (out-parts r lawful given.request s sound target e entry-at e-out).2 in
         record {
           in_check = w.in_check;
           begun = elim (cases_lt 0 may.slot.turn) [
@@ -364,7 +312,7 @@ module _ (given : GivenView) (t : Table) (at : ℕ) (end : End) (may : MayTakeIn
         let none = sources_alone (rules_for given).is_source (found_deps begun.value.job) (found_sources given begun.value.job is_stopped.is_job) in
         let checked = entered-seen r es (operands r begun.value.facts.asked) (λ q m. elim (cases_Option (told_in begun.value.facts q)) [
           | inl lost ↦ absurd (is_stopped.checked q m lost)
-          | inr some ↦ sound.standing.closed target q e entry-there (held-known q some.0 some.1).0
+          | inr some ↦ sound.standing.closed target q e entry-at (held-known q some.0 some.1).0
         ]) in
         let whole = all-entered r es begun.value.facts.asked (record_so_far begun.value.job)
         ∙ ap (λ xs. entered r xs (operands r (record_so_far begun.value.job))) checked
@@ -372,7 +320,7 @@ module _ (given : GivenView) (t : Table) (at : ℕ) (end : End) (may : MayTakeIn
         let seen = entered-passed r (λ q. is_none (told_in begun.value.facts q)) es (operands r begun.value.job.state.entries) (λ q m known.
         elim (cases_Option (told_in begun.value.facts q)) [
           | inl lost ↦ absurd (let bad = rw lost at known in cc)
-          | inr some ↦ sound.standing.closed target q e entry-there (held-known q some.0 some.1).0
+          | inr some ↦ sound.standing.closed target q e entry-at (held-known q some.0 some.1).0
         ]) in
         let E : End → List Entry = λ x. entered r es (operands r (end_progress x).deps) in
         seen ∙ sym (ap E stopped ∙ whole)
@@ -382,55 +330,27 @@ module _ (given : GivenView) (t : Table) (at : ℕ) (end : End) (may : MayTakeIn
     after-length =
         let wide = entered r es (operands r (end_progress end).deps) in
         ap length enters-same ∙ sym (ap length after-entries ∙ length-put wide (moved_on Script e (end_progress end)))
-      where
-        length-put : (xs : List Entry) (x : Entry) → length (put xs x) ≡ length xs
-        length-put [] x = refl
-        length-put (y ∷ xs) x = elim (cases_Bool (Rattle.std.proofs.Common.bytes_eq y.path x.path)) [ inl t' ↦ rw t' refl | inr f ↦ rw f (ap suc (length-put xs x)) ]
 
     module _ (v : Table) (a : AreEnteredInto given t v (waited_by (rules_for given) begun.value)) where
       there-still : slice_get v.slots.items at ≡ Some may.slot
       there-still = a.slots_kept at may.slot may.there
 
       pub out-still : IsOutThere v at
-      out-still = (
-        elim open-there [ inl out ↦ inl (a.stages_kept at AtOut out) | inr hand ↦ inr (a.stages_kept at AtHand hand) ],
-        (may.slot, there-still, may.is_out, few-rounds, small),
-      )
-
-      -- entering leaves nothing in hand
-      none-still : (k : ℕ) → stage_at v.schedule k ≡ Some AtHand → ⊥
-      none-still k h = elim (a.fresh k AtHand h) as (λ _. ⊥) [
-        | inl old ↦ may.at_rest.resting.put_back k old
-        | inr new ↦ elim new as (λ _. ⊥) [
-          | inl due ↦ cc
-          | inr other ↦ elim other as (λ _. ⊥) [ inl ready ↦ cc | inr decided ↦ cc ]
-        ]
-      ]
+      out-still = entered-out given t v (waited_by r begun.value) may.at_rest.table a at (open-there, (may.slot, may.there, may.is_out, few-rounds, small))
 
       pub are-seen : (ns : List ℕ) → AreNumbers v.targets ns (waited_by (rules_for given) begun.value) → AreSeen v ns
       are-seen ns are i n h =
           let path = numbers-number v.targets ns (waited_by r begun.value) i n are h in
-          omega (arith, a.table.one_each, a.table.agreed.one_each, slice_get-below_some v.targets n path.0 path.2)
+          entered-number given t v (waited_by r begun.value) may.at_rest.table a n path.0 path.2
 
       path-still : path_at v.targets at ≡ path_at t.targets at
-      path-still = rw (a.keys_kept at target key-there) refl
+      path-still = entered-path given t v (waited_by r begun.value) may.at_rest.table a at may.slot may.there
 
       wider-entries : table_entries given v ≡ entered (rules_for given) (table_entries given t) (operands (rules_for given) (end_progress end).deps)
       wider-entries = a.entries ∙ enters-same
 
       wider-distinct : AreDistinct v.targets
-      wider-distinct =
-          let P : List (List ℕ) → Type 0 = AreDistinct in
-          let paths = ap paths_of a.entries ∙ paths_of-entered r es (waited_by r begun.value) in
-          let keys = paths_of-slots r (outcomes_at_limit given) v.targets v.slots.items a.table.one_each in
-          subst P keys (subst P (sym paths) (with_new-distinct (paths_of es) (waited_by r begun.value) sound.standing.distinct))
-
-      wider-known : (q : List ℕ) (o : Outcome) → outcomes_of (table_entries given t) q ≡ Some o → outcomes_of (table_entries given v) q ≡ Some o
-      wider-known q o h =
-          let P : List Entry → Type 0 = λ xs. outcomes_of xs q ≡ Some o in
-          let old = outcomes_of-entry es q o h in
-          subst P (sym a.entries) (outcomes_of-at (entered r es (waited_by r begun.value)) q old.0
-          (entry_of-entered_old r es (waited_by r begun.value) q old.0 old.1) ∙ old.2)
+      wider-distinct = entered-distinct given t v (waited_by r begun.value) may.at_rest.table a sound.standing.distinct
 
       one-more : begun.value.job.turn ≡ suc may.slot.turn
       one-more = omega (arith, is_stopped.at_turn)
@@ -452,20 +372,17 @@ module _ (given : GivenView) (t : Table) (at : ℕ) (end : End) (may : MayTakeIn
         old-there : d.old ≡ may.slot
         old-there = let both : Some d.old ≡ Some may.slot = sym d.put_back.there ∙ there-still in cc
 
-        new-turn : d.new.turn ≡ may.slot.turn + 1
-        new-turn = d.turn ∙ ap (λ (y : Slot). y.turn + 1) old-there
+        new-turn : d.old.turn + 1 ≡ may.slot.turn + 1
+        new-turn = ap (λ (y : Slot). y.turn + 1) old-there
 
-        new-looks : d.new.looks ≡ may.slot.looks
-        new-looks = d.looks ∙ ap (λ (y : Slot). y.looks) old-there
-
-        waits : IsWaitingWith (rules_for given) (outcomes_of (table_entries given v)) given (path_at v.targets at) d.new.turn
+        waits : IsWaitingWith (rules_for given) (outcomes_of (table_entries given v)) given (path_at v.targets at) (d.old.turn + 1)
             begun.value
         waits = record {
           is_job = is_stopped.is_job;
           of_target = is_stopped.of_target ∙ sym path-still;
           at_turn = is_stopped.at_turn ∙ sym new-turn;
           stopped = omega (arith, new-turn);
-          told = λ q o h. (asked-still q o h, wider-known q o (held-known q o h).1);
+          told = λ q o h. (asked-still q o h, entered-known given t v (waited_by r begun.value) may.at_rest.table a q o (held-known q o h).1);
           behind = (let B : List ℕ → Type 0 = λ p. IsBegunBehind given p begun.value.facts.asked (told_in begun.value.facts) in subst B (sym path-still) is_stopped.behind);
           checked = is_stopped.checked;
           own = (let B : List ℕ → Type 0 = λ p. (sources_for given).progress p (told_in begun.value.facts) ≡ record { outcome = None; deps = record_so_far begun.value.job } in subst B (sym path-still) is_stopped.own);
@@ -475,14 +392,12 @@ module _ (given : GivenView) (t : Table) (at : ℕ) (end : End) (may : MayTakeIn
         parked-moved : table_entries given u ≡ moved
         unfolding moved
         parked-moved =
-            let put-in = put-entries given v u a.table wider-distinct at d.old d.new (AtWaiting on) d.put_back in
-            let shows = parked-shows r (outcomes_at_limit given) begun (path_at v.targets at) d.new d.stage in
-            let M : List ℕ → ℕ → ℕ → List Dep → Entry = λ p k n ds. record { path = p; looks = k; turn = n; deps = ds; outcome = None; is_out = false } in
-            let asked = all_asked begun.value.job begun.value.facts in
-            let entry' = shows ∙ ap (λ p. M p d.new.looks d.new.turn asked) path-still ∙ ap (λ k. M target k d.new.turn asked) new-looks
-            ∙ ap (λ n. M target may.slot.looks n asked) new-turn ∙ ap (M target may.slot.looks (may.slot.turn + 1)) job-record in
-            let N : End → Type 0 = λ x. M target may.slot.looks (may.slot.turn + 1) (end_progress x).deps ≡ moved_on Script e (end_progress x) in
-            let last : M target may.slot.looks (may.slot.turn + 1) (end_progress end).deps ≡ moved_on Script e (end_progress end) = subst N (sym stopped) refl in
+            let put-in = put-entries given v u a.table wider-distinct at d.old (record d.old { turn = d.old.turn + 1; stage = Waiting begun }) (AtWaiting on) d.put_back in
+            let Y : Slot → Entry = λ y. record { path = path_at v.targets at; looks = y.looks; turn = y.turn + 1; deps = all_asked begun.value.job begun.value.facts; outcome = None; is_out = false } in
+            let M : List ℕ → List Dep → Entry = λ p ds. record { path = p; looks = may.slot.looks; turn = may.slot.turn + 1; deps = ds; outcome = None; is_out = false } in
+            let entry' = ap Y old-there ∙ ap (λ p. M p (all_asked begun.value.job begun.value.facts)) path-still ∙ ap (M target) job-record in
+            let N : End → Type 0 = λ x. M target (end_progress x).deps ≡ moved_on Script e (end_progress x) in
+            let last : M target (end_progress end).deps ≡ moved_on Script e (end_progress end) = subst N (sym stopped) refl in
             put-in ∙ ap (put (table_entries given v)) (entry' ∙ last) ∙ ap (λ xs. put xs (moved_on Script e (end_progress end))) wider-entries
 
         pub suspended-table : IsTableOf given u
@@ -501,6 +416,7 @@ module _ (given : GivenView) (t : Table) (at : ℕ) (end : End) (may : MayTakeIn
           ready = settled.0.ready ∙ ap (λ (y : ScheduleView). y.ready) d.put_back.schedule ∙ a.ready;
           keys_kept = λ k p h. rw (settled.0.targets, d.put_back.targets) (a.keys_kept k p h);
           lacks = settled.1;
-          put_back = λ k h. put-none_in_hand given v u a.table wider-distinct at d.old d.new (AtWaiting on) d.put_back
-              (λ e. let bad : AtWaiting on ≡ AtHand = e in cc) (λ j g. absurd (none-still j g)) k (settled.0.in_hand k h);
+          put_back = λ k h. put-none_in_hand given v u a.table wider-distinct at d.old (record d.old { turn = d.old.turn + 1; stage = Waiting begun }) (AtWaiting on) d.put_back
+              (λ e. let bad : AtWaiting on ≡ AtHand = e in cc)
+              (λ j g. absurd (may.at_rest.resting.put_back j (entered-in_hand given t v (waited_by r begun.value) may.at_rest.table a j g))) k (settled.0.in_hand k h);
         }

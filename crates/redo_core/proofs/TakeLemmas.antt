@@ -2,7 +2,7 @@
 use Rattle.std.proofs.Common.{Bool, true, false, not, suc, ◌++◌, map, Vec, Global, length-set, ◌≡◌, ℕ, ◌<◌}
 use Rattle.std.proofs.Common.{◌≤◌, true, false, cond, inl, inr, List, [], ◌∷◌, length, Option, Some, None}
 use Rattle.std.proofs.Common.{is_some, slice_get, slice_set, remove, refl, sym, ap, subst, ◌∙◌, arith}
-use Rattle.redo_build.specs.Rules.{Rules, operands, AreLawful, Ask}
+use Rattle.redo_build.specs.Rules.{Rules, operands, AreLawful}
 use Rattle.redo_record.specs.Paths.{AreDistinct}
 use Rattle.redo_rules.specs.Build.{rules_for}
 use Rattle.redo_rules.proofs.Public.{lawful_for}
@@ -18,7 +18,7 @@ use Rattle.redo_build.specs.Schedule.{outcomes_of, only, IsQuiet}
 use Rattle.redo_build.specs.Schedule.Event.{Take}
 use Rattle.redo_core.specs.inside.Slots.{outcomes_at_limit, rounds_of, stage_outcome, rules_inside, state_of, state_from, slot_entry, path_at}
 use Rattle.redo_core.specs.inside.Slots.{AllAnswered, IsKept, IsBoard, IsParked, IsResting}
-use Rattle.redo_core.specs.inside.Slots.{IsTable, stage_deps, slot_entries}
+use Rattle.redo_core.specs.inside.Slots.{IsTable, stage_deps}
 use Rattle.redo_build.specs.Outcomes.{outcome_at}
 use Rattle.redo_core.proofs.TableLemmas.{fits-set, outcomes-more}
 use Rattle.redo_core.specs.Views.{jobs_out, ready_count, rules_on, told_by, BoardView, WorkView, IsReached, IsWorkTaken}
@@ -29,25 +29,23 @@ use Rattle.redo_core.specs.declared.table.Stage.TheVariants.{Ready, Out}
 use Rattle.redo_core.specs.declared.work.Work.{Work}
 use Rattle.redo_core.proofs.HoldingLemmas.{same-answers}
 use Rattle.redo_core.proofs.LookLemmas.{none_due}
-use Rattle.redo_core.proofs.LookedLemmas.{reached-sound}
+use Rattle.redo_core.proofs.EntryLemmas.{entries-few, rest-distinct, rest-sound}
 use Rattle.redo_build.specs.Looking.{NoneDue}
 use Rattle.redo_build.proofs.QuietLemmas.{is_part, shows}
 use Rattle.redo_build.specs.Theorems.{IsPartOfBuild, ShowsBuild}
 use Rattle.redo_build.proofs.TurnBoundLemmas.{turn-below}
 use Rattle.redo_build.proofs.SoundLemmas.{IsSound}
 use Rattle.redo_core.proofs.SlotLemmas.{slice_get-below_some, slice_get-from, slice_get-map, ready-job, entry}
-use Rattle.redo_core.proofs.SlotLemmas.{state_taken, paths_of-slots}
+use Rattle.redo_core.proofs.SlotLemmas.{length-slots, state_taken}
 
 pub sound-inside : (b : Inside) → IsKept b → IsSound (rules_inside b) b.build.request (state_of b)
-sound-inside b kept = reached-sound (rules_inside b) (lawful_for b.build) b.build.request (state_of b) kept.at_rest.reached
+sound-inside b kept = rest-sound b.build b.table kept.at_rest
 
 abbrev lawful_inside : (b : Inside) → AreLawful (rules_inside b)
 lawful_inside b = lawful_for b.build
 
 pub distinct-inside : (b : Inside) → IsKept b → AreDistinct b.table.targets
-distinct-inside b kept =
-    let P : List (List ℕ) → Type 0 = AreDistinct in
-    subst P (paths_of-slots (rules_inside b) (outcomes_at_limit b.build) b.table.targets b.table.slots.items kept.at_rest.table.one_each) (sound-inside b kept).standing.distinct
+distinct-inside b kept = rest-distinct b.build b.table kept.at_rest
 
 module _ (b : Inside) (kept : IsKept b) (which at : ℕ) (slot : Slot)
     (first : slice_get b.table.schedule.ready which ≡ Some at) (staged : stage_at b.table.schedule at ≡ Some AtReady)
@@ -247,22 +245,15 @@ turn_small b kept which at slot first staged there work is =
     let below = turn-below r (lawful_for b.build) b.build.request (state_of b).entries sound.standing path.0 fed.0 fed.1 fed.2 fed.3 in
     let turn = ap (λ (x : Entry). x.turn) entry_is in
     let work_turn = ap (λ (w : WorkView). w.turn) same in
-    let paths = ap length (paths_of-slots r (outcomes_at_limit b.build) b.table.targets b.table.slots.items kept.at_rest.table.one_each) in
-    omega (arith, below, turn, work_turn, job.2.2, paths, kept.at_rest.table.one_each, kept.at_rest.table.within_limit)
+    omega (arith, below, turn, work_turn, job.2.2, entries-few b.build b.table b.table.schedule.stages kept.at_rest.table)
 
 -- what a running board keeps is a part of its build
 pub part-inside : (b : Inside) → IsKept b → IsPartOfBuild (rules_inside b) b.build.request b.build.limits.targets (state_of b)
 part-inside b kept = is_part (rules_inside b) (lawful_for b.build) b.build.request (state_of b) (sound-inside b kept) b.build.limits.targets
 
-slots-length : (r : Rules) (a : Ask) (ps : List (List ℕ)) (slots : List Slot) → length slots ≡ length ps → length (slot_entries r a ps slots) ≡ length slots
-slots-length r a [] [] h = refl
-slots-length r a [] (slot ∷ slots) h = absurd (omega arith)
-slots-length r a (p ∷ ps) [] h = refl
-slots-length r a (p ∷ ps) (slot ∷ slots) h = ap suc (slots-length r a ps slots (omega arith))
-
 -- a running board has no more entries than the limit allows
 pub length-entries : (b : Inside) → IsKept b → length (state_of b).entries ≤ b.build.limits.targets
-length-entries b kept = omega (arith, kept.at_rest.table.within_limit, slots-length (rules_inside b) (outcomes_at_limit b.build) b.table.targets b.table.slots.items kept.at_rest.table.one_each)
+length-entries b kept = omega (arith, kept.at_rest.table.within_limit, length-slots (rules_inside b) (outcomes_at_limit b.build) b.table.targets b.table.slots.items kept.at_rest.table.one_each)
 
 -- between two calls no check can go on
 pub none_due-inside : (b : Inside) → IsKept b → NoneDue (rules_inside b) (state_of b)
@@ -278,7 +269,7 @@ shows-inside b kept quiet =
 abbrev pub view_of : Inside → BoardView
 view_of b = record { given = b.build; state = state_of b; stopped = b.stopped }
 
-no_paths : (ps : List (List ℕ)) → length ps ≡ 0 → ps ≡ []
+pub no_paths : (ps : List (List ℕ)) → length ps ≡ 0 → ps ≡ []
 no_paths [] h = refl
 no_paths (p ∷ ps) h = absurd (omega arith)
 

@@ -26,7 +26,7 @@ use Rattle.redo_build.proofs.QueueLemmas.{slice_get-among}
 use Rattle.redo_build.proofs.SoundLemmas.{IsSound, opening-sound}
 use Rattle.redo_build.proofs.StillLemmas.{AllOpen-behind, run-behind, takes-looks}
 use Rattle.redo_core.proofs.LookedLemmas.{reached-sound, shown-none_due}
-use Rattle.redo_core.proofs.TakeLemmas.{run-append, AllOpen-append}
+use Rattle.redo_core.proofs.TakeLemmas.{run-append, AllOpen-append, no_paths}
 
 -- what one more event takes stands behind the others
 takes-append : (r : Rules) (events : List Event) (event : Event) (s : State) →
@@ -124,10 +124,6 @@ on-board : {A : Type 0} (stopped : Option A) (n : ℕ) → IsNone stopped → co
 on-board None n on h = h
 on-board (Some stop) n on h = cc
 
-no-paths : (ps : List (List ℕ)) → length ps ≡ 0 → ps ≡ []
-no-paths [] h = refl
-no-paths (p ∷ ps) h = absurd (omega arith)
-
 -- once a board is quiet, what was taken at turn 0 is what its report says was begun
 pub taken-begun : (b : BoardView) (taken : List ((List ℕ) × ℕ)) (report : Report) → HasTaken b taken → IsQuietBoard b →
     ShowsBuild (rules_on b) b.given.request b.given.limits.targets b.state →
@@ -138,7 +134,7 @@ taken-begun b taken report had quiet shown told p =
     let events = had.reached.events in
     let Q : State → Type 0 = IsQuiet in
     let still : IsQuiet b.state = (
-      no-paths b.state.ready (on-board b.stopped (length b.state.ready) quiet.0 quiet.1),
+      no_paths b.state.ready (on-board b.stopped (length b.state.ready) quiet.0 quiet.1),
       on-board b.stopped (out_count b.state) quiet.0 quiet.2,
     ) in
     let D : State → Type 0 = NoneDue r in

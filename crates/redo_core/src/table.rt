@@ -306,7 +306,7 @@ impl Table {
     /// Decides a target that was out.
     pub(crate) fn decide(&mut self, at: usize, fact: Known<Fact>) -> Result<(), AllocError>
         requires { IsOutThere self.old at }
-        ensures { OnOk result (IsDecidedAt self.old self.new at fact.value) }
+        ensures { OnOk result (IsDecidedAt self.old self.new at fact) }
     {
         let slot = &mut self.slots[at];
         slot.stage = Stage::Decided(fact);

@@ -329,18 +329,14 @@ Gains t ns old new = GainsBelow t ns old new (length ns)
 -- one parked job is ready now
 pub record IsMadeReadyAt (given : GivenView) (t u : Table) (at : ℕ) : Type 0 where
   pub old : Slot
-  pub new : Slot
   pub begun : Box Begun Global
   pub work : Work
   pub there : slice_get t.slots.items at ≡ Some old
   pub was : old.stage ≡ Waiting begun
-  pub is : new.stage ≡ Ready work
-  pub looks : new.looks ≡ old.looks
-  pub turn : new.turn ≡ old.turn
   pub same : (work.given ≡ given) × (work.target ≡ begun.value.job.target) × (work.turn ≡ begun.value.job.turn) ×
       (work.deps ≡ all_asked begun.value.job begun.value.facts)
   pub targets : u.targets ≡ t.targets
-  pub slots : u.slots.items ≡ slice_set t.slots.items at new
+  pub slots : u.slots.items ≡ slice_set t.slots.items at (record old { stage = Ready work })
   pub schedule : u.schedule ≡ with_stage t.schedule at AtReady
 
 -- where the schedule has a target that goes on
@@ -350,19 +346,17 @@ next_stage stage = if is_stage_due stage then AtDue else AtReady
 -- the check of a slot has the answer that it waited for: it can go on, or its target is ready
 pub record IsResumedAt (given : GivenView) (t u : Table) (at : ℕ) : Type 0 where
   pub old : Slot
-  pub new : Slot
   pub awaiting : Awaiting
+  pub stage : Stage
   pub there : slice_get t.slots.items at ≡ Some old
   pub was : old.stage ≡ Checking awaiting
-  pub is_open : (is_stage_due new.stage ≡ true) ⊎ (is_stage_ready new.stage ≡ true)
-  pub fits : Fits (rules_for given) (outcomes_of (table_entries given t)) given (path_at t.targets at) new.turn new.stage
-  pub deps : stage_deps (rules_for given) (outcomes_at_limit given) (path_at t.targets at) (rounds_of new) new.stage ≡
+  pub is_open : (is_stage_due stage ≡ true) ⊎ (is_stage_ready stage ≡ true)
+  pub fits : Fits (rules_for given) (outcomes_of (table_entries given t)) given (path_at t.targets at) old.turn stage
+  pub deps : stage_deps (rules_for given) (outcomes_at_limit given) (path_at t.targets at) (rounds_of old) stage ≡
       awaiting.held.value.check.asked
-  pub looks : new.looks ≡ old.looks
-  pub turn : new.turn ≡ old.turn
   pub targets : u.targets ≡ t.targets
-  pub slots : u.slots.items ≡ slice_set t.slots.items at new
-  pub schedule : u.schedule ≡ with_stage t.schedule at (next_stage new.stage)
+  pub slots : u.slots.items ≡ slice_set t.slots.items at (record old { stage = stage })
+  pub schedule : u.schedule ≡ with_stage t.schedule at (next_stage stage)
 
 -- a check goes on or falls with the answer of a decided target
 pub record GoesOnWith (given : GivenView) (t : Table) (place : ℕ) (old new : Check) (stands : Bool) : Type 0 where
@@ -477,7 +471,7 @@ first_in_schedule (Decided fact) = AtDecided
 -- a new path has a slot behind the others
 pub record IsPushed (given : GivenView) (t u : Table) (p : List ℕ) : Type 0 where
   pub new : Slot
-  pub begun : IsFirstStage given p new.stage
+  pub first : IsFirstStage given p new.stage
   pub looks : new.looks ≡ 0
   pub turn : new.turn ≡ 0
   pub keys : u.targets ≡ t.targets ++ p ∷ []
@@ -513,24 +507,6 @@ pub record AreEnqueued (t u : Table) : Type 0 where
   pub targets : u.targets ≡ t.targets
   pub slots : u.slots ≡ t.slots
 
--- the stage holds this fact
-abbrev pub IsDecidedStage : FactView → Stage → Type 0
-IsDecidedStage fact (Due held) = ⊥
-IsDecidedStage fact (Checking awaiting) = ⊥
-IsDecidedStage fact (Waiting begun) = ⊥
-IsDecidedStage fact (Ready work) = ⊥
-IsDecidedStage fact Out = ⊥
-IsDecidedStage fact (Decided held) = held.value ≡ fact
-
--- the stage holds this job
-abbrev pub IsParkedStage : Box Begun Global → Stage → Type 0
-IsParkedStage begun (Due held) = ⊥
-IsParkedStage begun (Checking awaiting) = ⊥
-IsParkedStage begun (Waiting held) = held ≡ begun
-IsParkedStage begun (Ready work) = ⊥
-IsParkedStage begun Out = ⊥
-IsParkedStage begun (Decided held) = ⊥
-
 -- one slot that was out has another stage, and so has the schedule
 pub record IsPutBack (t u : Table) (at : ℕ) (old new : Slot) (s : StageView) : Type 0 where
   pub there : slice_get t.slots.items at ≡ Some old
@@ -540,31 +516,20 @@ pub record IsPutBack (t u : Table) (at : ℕ) (old new : Slot) (s : StageView) :
   pub schedule : u.schedule ≡ with_stage t.schedule at s
 
 -- a target is decided
-pub record IsDecidedAt (t u : Table) (at : ℕ) (fact : FactView) : Type 0 where
+pub record IsDecidedAt (t u : Table) (at : ℕ) (fact : Shown FactView) : Type 0 where
   pub old : Slot
-  pub new : Slot
-  pub put_back : IsPutBack t u at old new AtDecided
-  pub stage : IsDecidedStage fact new.stage
-  pub looks : new.looks ≡ old.looks
-  pub turn : new.turn ≡ old.turn
+  pub put_back : IsPutBack t u at old (record old { stage = Decided fact }) AtDecided
 
 -- a job is parked at its next turn, and waits for these numbers
 pub record IsParkedAt (t u : Table) (at : ℕ) (begun : Box Begun Global) (on : List ℕ) : Type 0 where
   pub old : Slot
-  pub new : Slot
-  pub put_back : IsPutBack t u at old new (AtWaiting on)
-  pub stage : IsParkedStage begun new.stage
-  pub looks : new.looks ≡ old.looks
-  pub turn : new.turn ≡ old.turn + 1
+  pub put_back : IsPutBack t u at old (record old { turn = old.turn + 1; stage = Waiting begun }) (AtWaiting on)
 
 -- the check of a target that was taken out for a look waits for the target of the number `place`
 pub record IsAskedAt (t u : Table) (at : ℕ) (awaiting : Awaiting) (place : ℕ) : Type 0 where
   pub old : Slot
-  pub new : Slot
-  pub put_back : IsPutBack t u at old new (AtWaiting (place ∷ []))
-  pub stage : new.stage ≡ Checking awaiting
-  pub looks : new.looks ≡ old.looks + 1
-  pub turn : new.turn ≡ old.turn
+  pub put_back : IsPutBack t u at old (record old { looks = old.looks + 1; stage = Checking awaiting })
+      (AtWaiting (place ∷ []))
 
 -- the slot is out, and the schedule has it out or in hand
 abbrev pub IsOutThere : Table → ℕ → Type 0
@@ -659,14 +624,10 @@ IsDueThere t at =
 -- the check at the number is taken out of the table
 pub record IsTakenOut (t u : Table) (at : ℕ) (held : Box InCheck Global) : Type 0 where
   pub old : Slot
-  pub new : Slot
   pub there : slice_get t.slots.items at ≡ Some old
   pub was : old.stage ≡ Due held
-  pub is : new.stage ≡ Out
-  pub looks : new.looks ≡ old.looks
-  pub turn : new.turn ≡ old.turn
   pub targets : u.targets ≡ t.targets
-  pub slots : u.slots.items ≡ slice_set t.slots.items at new
+  pub slots : u.slots.items ≡ slice_set t.slots.items at (record old { stage = Out })
   pub schedule : u.schedule ≡ t.schedule
 
 -- the table is one from which a check is taken out for a look, and the check is due

@@ -25,7 +25,7 @@ returns c =
     let k = rw (c.in_ok-clone.ensures.cases, first.0) at c.in_ok-insert.ensures.paths in
     record {
       new = record { looks = 0; turn = 0; stage = c.in_ok-stage.stage };
-      begun = c.in_ok-stage.ensures;
+      first = c.in_ok-stage.ensures;
       looks = refl;
       turn = refl;
       keys = k ∙ put-new t.targets c.args.path.now c.requires.new;

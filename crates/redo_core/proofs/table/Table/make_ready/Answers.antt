@@ -11,8 +11,7 @@ use Rattle.redo_core.specs.Views.{WorkView}
 use Rattle.redo_core.specs.declared.table.Slot.{Slot}
 use Rattle.redo_core.specs.declared.table.Stage.TheVariants.{Ready}
 use Rattle.redo_core.proofs.SlotLemmas.{slice_get-item, slice_get-below_some}
-use Rattle.redo_core.proofs.TableLemmas.{set-twice}
-use Rattle.redo_table.proofs.TargetLemmas.{get-same}
+use Rattle.redo_core.proofs.TableLemmas.{put-again}
 use Rattle.redo_core.proofs.MakeReadySteps.{fed-here, gain-decided, fed-work}
 use Rattle.redo_core.proofs.table.Table.make_ready.Goals as goal
 use Rattle.redo_core.proofs.table.Table.make_ready.Goals.{After-replace-stage}
@@ -64,18 +63,12 @@ returns c =
     let len = length-set t.slots.items c.args.at (gone d) in
     let again = slice_get-item (slice_set t.slots.items c.args.at (gone d)) c.args.at c.index_mut-slot-2.result.now
     (omega (arith, len, slice_get-below_some t.slots.items c.args.at slot (there d))) c.index_mut-slot-2.ensures.value in
-    let both : Some (gone d) ≡ Some c.index_mut-slot-2.result.now = sym (get-same t.slots.items c.args.at slot (gone d) (there d)) ∙ again in
-    let same : gone d ≡ c.index_mut-slot-2.result.now = cc in
     on_ok_weaker c.make_ready.result (λ now. record {
       old = slot;
-      new = record { looks = c.index_mut-slot-2.result.now.looks; turn = c.index_mut-slot-2.result.now.turn; stage = Ready c.of.result };
       begun = c.in-Waiting.begun;
       work = c.of.result;
       there = there d;
       was = sym c.replace-stage.ensures.value ∙ c.in-Waiting.is;
-      is = refl;
-      looks = ap (λ (y : Slot). y.looks) (sym same);
-      turn = ap (λ (y : Slot). y.turn) (sym same);
       same = (
         ap (λ (w : WorkView). w.given) c.of.ensures ∙ c.in_ok-own.ensures,
         ap (λ (w : WorkView). w.target) c.of.ensures ∙ ap (λ (b : Begun). b.job.target) c.deref_mut.ensures.value,
@@ -84,6 +77,7 @@ returns c =
             ap (λ (b : Begun). all_asked b.job b.facts) c.deref_mut.ensures.value,
       );
       targets = refl;
-      slots = set-twice t.slots.items c.args.at (gone d) _;
+      slots = put-again t.slots.items c.args.at slot (gone d) c.index_mut-slot-2.result.now (there d)
+          (ap (λ st. record slot { stage = st }) c.replace-stage.ensures.after) again (Ready c.of.result);
       schedule = now;
     }) c.make_ready.ensures

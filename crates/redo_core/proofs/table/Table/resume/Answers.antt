@@ -1,4 +1,4 @@
-use Rattle.std.proofs.Common.{ℕ, List, ◌≡◌, ◌<◌, refl, sym, ap, subst, ◌∙◌, slice_set, length, Some, length-set, arith, rules}
+use Rattle.std.proofs.Common.{ℕ, List, ◌≡◌, ◌<◌, refl, sym, ap, subst, ◌∙◌, inl, inr, slice_set, length, Some, length-set, arith, rules}
 use Rattle.std.specs.Box.{with_value}
 use Rattle.std.specs.Vec.{with_item}
 use Rattle.std.proofs.lemmas.Result.{on_ok_weaker}
@@ -9,7 +9,8 @@ use Rattle.redo_core.specs.declared.table.Slot.{Slot}
 use Rattle.redo_core.specs.declared.table.Stage.TheVariants.{Due, Ready}
 use Rattle.redo_core.specs.declared.table.Table.{Table}
 use Rattle.redo_core.proofs.SlotLemmas.{slice_get-item, slice_get-below_some}
-use Rattle.redo_core.proofs.ResumeSteps.{answer-there, answered-here, check-within, due-again, held-due, held-fallen, held-ready, ready-now}
+use Rattle.redo_core.proofs.ResumeSteps.{answer-there, answered-here, check-within, held-due, held-fallen, held-ready}
+use Rattle.redo_core.proofs.TableLemmas.{put-again}
 use Rattle.redo_core.proofs.table.Table.resume.Goals as goal
 use Rattle.redo_core.proofs.table.Table.resume.Goals.{After-replace-stage, In-Checking, In_ok-stands}
 
@@ -82,15 +83,21 @@ returns-then-stands c =
     let rule = ap (λ (h : InCheck). h.rule) c.deref_mut.ensures.value in
     let again = slice_get-item (slice_set t.slots.items c.args.at (gone d)) c.args.at c.index_mut-then-stands.result.now (within f) c.index_mut-then-stands.ensures.value in
     let box = with_value awaiting.held (held e) in
-    let u : Table = record t {
-      slots = with_item (left d).slots c.args.at (record { looks = c.index_mut-then-stands.result.now.looks; turn = c.index_mut-then-stands.result.now.turn; stage = Due box });
-      schedule = c.make_due.new.self;
-    } in
-    on_ok_weaker c.make_due.result (λ now. due-again given t c.args.at slot awaiting answered.there answered.was (gone d) refl refl
-    c.index_mut-then-stands.result.now again u refl box
-    (held-due given t c.args.at c.args.place slot awaiting answered (left d) (gone d) c.replace-stage.ensures.after refl
-    c.gain_one.new.facts (gains e) c.goes_on.new.check c.in_ok-stands.stands (goes e) (held e) rule refl refl c.if-stands.true)
-    (goes e).asked refl now) c.make_due.ensures
+    on_ok_weaker c.make_due.result (λ now. record {
+      old = slot;
+      awaiting = awaiting;
+      stage = Due box;
+      there = answered.there;
+      was = answered.was;
+      is_open = inl refl;
+      fits = held-due given t c.args.at c.args.place slot awaiting answered (left d) (gone d) c.replace-stage.ensures.after refl
+          c.gain_one.new.facts (gains e) c.goes_on.new.check c.in_ok-stands.stands (goes e) (held e) rule refl refl c.if-stands.true;
+      deps = (goes e).asked;
+      targets = refl;
+      slots = put-again t.slots.items c.args.at slot (gone d) c.index_mut-then-stands.result.now answered.there
+          (ap (λ st. record slot { stage = st }) c.replace-stage.ensures.after) again (Due box);
+      schedule = now;
+    }) c.make_due.ensures
 
 pub at-requires : goal.at-requires
 at-requires c =
@@ -134,13 +141,19 @@ returns c =
     let work = c.in_ok-work.work in
     let is = c.in_ok-work.ensures in
     let deps = ap (λ (x : WorkView). x.deps) is in
-    let u : Table = record t {
-      slots = with_item (left d).slots c.args.at (record { looks = c.index_mut-2.result.now.looks; turn = c.index_mut-2.result.now.turn; stage = Ready work });
-      schedule = c.make_ready.new.self;
-    } in
-    on_ok_weaker c.make_ready.result (λ now. ready-now given t c.args.at slot awaiting answered.there answered.was (gone d) refl refl
-    c.index_mut-2.result.now again u refl work
-    (held-ready given t c.args.at c.args.place slot awaiting answered (left d) (gone d) c.replace-stage.ensures.after refl
-    c.gain_one.new.facts (gains e) c.goes_on.new.check c.in_ok-stands.stands (goes e) (held e) rule refl refl c.if-stands.false
-    work (ap (λ (x : WorkView). x.given) is) (ap (λ (x : WorkView). x.target) is ∙ c.in_ok-target.ensures.cases ∙ path) (ap (λ (x : WorkView). x.turn) is) deps)
-    (deps ∙ (goes e).asked) refl now) c.make_ready.ensures
+    on_ok_weaker c.make_ready.result (λ now. record {
+      old = slot;
+      awaiting = awaiting;
+      stage = Ready work;
+      there = answered.there;
+      was = answered.was;
+      is_open = inr refl;
+      fits = held-ready given t c.args.at c.args.place slot awaiting answered (left d) (gone d) c.replace-stage.ensures.after refl
+          c.gain_one.new.facts (gains e) c.goes_on.new.check c.in_ok-stands.stands (goes e) (held e) rule refl refl c.if-stands.false
+          work (ap (λ (x : WorkView). x.given) is) (ap (λ (x : WorkView). x.target) is ∙ c.in_ok-target.ensures.cases ∙ path) (ap (λ (x : WorkView). x.turn) is) deps;
+      deps = deps ∙ (goes e).asked;
+      targets = refl;
+      slots = put-again t.slots.items c.args.at slot (gone d) c.index_mut-2.result.now answered.there
+          (ap (λ st. record slot { stage = st }) c.replace-stage.ensures.after) again (Ready work);
+      schedule = now;
+    }) c.make_ready.ensures
