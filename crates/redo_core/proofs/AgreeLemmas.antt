@@ -27,12 +27,8 @@ module _ (r : Rules) (ps : List (List ℕ)) where
   agrees-decided (Decided fact) s h is = refl
 
   pub decided-agrees : (stage : Stage) (s : StageView) → Agrees r ps stage s → is_stage_decided stage ≡ true → s ≡ AtDecided
-  decided-agrees (Due held) s h is = cc
-  decided-agrees (Checking awaiting) s h is = cc
-  decided-agrees (Waiting begun) s h is = cc
-  decided-agrees (Ready work) s h is = cc
-  decided-agrees Out s h is = cc
   decided-agrees (Decided fact) s h is = h
+  decided-agrees _ s h is = cc
 
   pub agrees-ready : (stage : Stage) (s : StageView) → Agrees r ps stage s → s ≡ AtReady → is_stage_ready stage ≡ true
   agrees-ready (Due held) s h is = let bad : AtDue ≡ AtReady = sym h ∙ is in cc
@@ -46,12 +42,8 @@ module _ (r : Rules) (ps : List (List ℕ)) where
   agrees-ready (Decided fact) s h is = let bad : AtDecided ≡ AtReady = sym h ∙ is in cc
 
   pub ready-agrees : (stage : Stage) (s : StageView) → Agrees r ps stage s → is_stage_ready stage ≡ true → s ≡ AtReady
-  ready-agrees (Due held) s h is = cc
-  ready-agrees (Checking awaiting) s h is = cc
-  ready-agrees (Waiting begun) s h is = cc
   ready-agrees (Ready work) s h is = h
-  ready-agrees Out s h is = cc
-  ready-agrees (Decided fact) s h is = cc
+  ready-agrees _ s h is = cc
 
   pub agrees-due : (stage : Stage) (s : StageView) → Agrees r ps stage s → s ≡ AtDue → is_stage_due stage ≡ true
   agrees-due (Due held) s h is = refl
@@ -66,27 +58,19 @@ module _ (r : Rules) (ps : List (List ℕ)) where
 
   pub due-agrees : (stage : Stage) (s : StageView) → Agrees r ps stage s → is_stage_due stage ≡ true → s ≡ AtDue
   due-agrees (Due held) s h is = h
-  due-agrees (Checking awaiting) s h is = cc
-  due-agrees (Waiting begun) s h is = cc
-  due-agrees (Ready work) s h is = cc
-  due-agrees Out s h is = cc
-  due-agrees (Decided fact) s h is = cc
+  due-agrees _ s h is = cc
 
   -- what isn't in hand is out where its slot is
   out-agrees : (stage : Stage) (s : StageView) → Agrees r ps stage s → (s ≡ AtHand → ⊥) → is_out s ≡ is_stage_out stage
-  out-agrees (Due held) s h apart = ap is_out h
   out-agrees (Checking awaiting) s h apart = ap is_out h.1
   out-agrees (Waiting begun) s h apart = ap is_out h.1
-  out-agrees (Ready work) s h apart = ap is_out h
   out-agrees Out s h apart = elim h [ inl out ↦ ap is_out out | inr hand ↦ absurd (apart hand) ]
-  out-agrees (Decided fact) s h apart = ap is_out h
+  out-agrees _ s h apart = ap is_out h
 
   -- as many stages are out as slots, where none is in hand
   pub out-same : (slots : List Slot) (stages : List StageView) → AreAgreed r ps slots stages →
       ((k : ℕ) → slice_get stages k ≡ Some AtHand → ⊥) → count_by is_out stages ≡ length (filter (λ slot. is_stage_out slot.stage) slots)
   out-same [] [] agreed none = refl
-  out-same [] (s ∷ ss) agreed none = absurd (omega (arith, agreed.one_each))
-  out-same (x ∷ xs) [] agreed none = absurd (omega (arith, agreed.one_each))
   out-same (x ∷ xs) (s ∷ ss) agreed none =
       let rest = out-same xs ss (record {
         one_each = omega (arith, agreed.one_each);
@@ -98,6 +82,7 @@ module _ (r : Rules) (ps : List (List ℕ)) where
         | inl t ↦ rw t (omega (arith, rest, one, ap {B = ℕ} (λ b. cond b 1 0) (same ∙ t)))
         | inr f ↦ rw f (omega (arith, rest, one, ap {B = ℕ} (λ b. cond b 1 0) (same ∙ f)))
       ]
+  out-same _ _ agreed none = absurd (omega (arith, agreed.one_each))
 
   module _ (slots : List Slot) (stages : List StageView) (agreed : AreAgreed r ps slots stages) where
     pub agreed-slot : (k : ℕ) (s : StageView) → slice_get stages k ≡ Some s →

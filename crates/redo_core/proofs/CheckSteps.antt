@@ -12,7 +12,7 @@ use Rattle.std.specs.Str.{bytes_eq}
 use Rattle.redo_names.specs.Paths.{with_path}
 use Rattle.redo_script.specs.Texts.{script_in}
 use Rattle.redo_tree.specs.Tree.{file_at}
-use Rattle.redo_which.specs.Rule.{Found, Source, Directory, NoDirectory, NoRule, Rule, found_of}
+use Rattle.redo_which.specs.Rule.{Found, Rule, found_of}
 use Rattle.redo_record.specs.declared.deps.Dep.{Dep}
 use Rattle.redo_record.specs.declared.outcome.Outcome.{Outcome}
 use Rattle.redo_record.specs.Entries.{AreOnce, is_entered, same_kind, search_deps, with_all, with_entries, with_entry}
@@ -68,9 +68,8 @@ or-more (q ∷ qs) x p = elim (bytes_eq q p) as (λ b. (b || is_among (qs ++ x �
 ]
 
 kept-or : (a b : Bool) → (b ≡ true → a ≡ true) → a ≡ (a || b)
-kept-or true b h = refl
 kept-or false true h = h refl
-kept-or false false h = refl
+kept-or _ _ h = refl
 
 with-path-tells : (qs : List (List ℕ)) (x p : List ℕ) → is_among (with_path qs x) p ≡ (is_among qs p || bytes_eq x p)
 with-path-tells qs x p = elim (cases_Bool (is_among qs x)) [
@@ -107,14 +106,9 @@ read-record rs book n x same is within read =
 
 same-shown : (d e : BookEntry) → same_entry d e ≡ false → is_entered (shown e ∷ []) (shown d).kind (shown d).path ≡ false
 same-shown (Change s p) (Change t q) h = rw h refl
-same-shown (Change s p) (Create q) h = refl
-same-shown (Change s p) Always h = refl
-same-shown (Create p) (Change t q) h = refl
 same-shown (Create p) (Create q) h = rw h refl
-same-shown (Create p) Always h = refl
-same-shown Always (Change t q) h = refl
-same-shown Always (Create q) h = refl
 same-shown Always Always h = absurd cc
+same-shown _ _ h = refl
 
 entered-first : (e : Dep) (es : List Dep) (d : Dep) → is_entered (e ∷ []) d.kind d.path ≡ false → is_entered es d.kind d.path ≡ false → is_entered (e ∷ es) d.kind d.path ≡ false
 entered-first e es d = by (same_kind d.kind e.kind && bytes_eq d.path e.path) (is_entered es d.kind d.path)
@@ -233,12 +227,9 @@ script-again setting missing do_file (Ok script) ask =
     put-in (by_script setting (search_deps missing do_file) (Ok script) ask).deps (script_once missing do_file (end_state (meaning setting ask script)).entries)
 
 own-again : (w : World) (p : List ℕ) (f : Found) (b : Ask) → is_rule f ≡ true → with_all [] (progress_in w p f b).deps ≡ (progress_in w p f b).deps
-own-again w p Source b h = absurd cc
-own-again w p Directory b h = absurd cc
-own-again w p NoDirectory b h = absurd cc
-own-again w p (NoRule missing) b h = absurd cc
 own-again w p (Rule do_file missing a) b h =
     script-again (setting_by w.tree w.found w.limit p a) missing do_file (script_in (unwrap_or (file_at w.tree do_file) [])) b
+own-again w p _ b h = absurd cc
 
 module _ (given : GivenView) (p : List ℕ) where
   abbrev s : Sources

@@ -17,7 +17,7 @@ use Rattle.redo_core.specs.inside.Slots.{AllFit, IsTable, IsTableOf, IsFirstStag
 use Rattle.redo_core.specs.declared.table.Slot.{Slot}
 use Rattle.redo_core.specs.declared.table.Table.{Table}
 use Rattle.redo_core.specs.declared.table.Stage.{Stage}
-use Rattle.redo_core.specs.declared.table.Stage.TheVariants.{Due, Checking, Waiting, Ready, Out, Decided}
+use Rattle.redo_core.specs.declared.table.Stage.TheVariants.{Due, Ready, Decided}
 use Rattle.redo_core.proofs.NumberLemmas.{agrees-kept}
 use Rattle.redo_build.proofs.PathLemmas.{is_among-true, is_among-from}
 use Rattle.redo_build.proofs.SeenLemmas.{outcomes_of-entry, outcomes_of-at, entry_of-entered_old}
@@ -34,9 +34,8 @@ get-push_end (z ∷ xs) x = get-push_end xs x
 slot_entries-push : (r : Rules) (a : Ask) (ps : List (List ℕ)) (slots : List Slot) (p : List ℕ) (slot : Slot) → length slots ≡ length ps →
     slot_entries r a (ps ++ p ∷ []) (slots ++ slot ∷ []) ≡ slot_entries r a ps slots ++ slot_entry r a p slot ∷ []
 slot_entries-push r a [] [] p slot h = refl
-slot_entries-push r a [] (s ∷ slots) p slot h = absurd (omega arith)
-slot_entries-push r a (q ∷ ps) [] p slot h = absurd (omega arith)
 slot_entries-push r a (q ∷ ps) (s ∷ slots) p slot h = ap (λ es. slot_entry r a q s ∷ es) (slot_entries-push r a ps slots p slot (omega arith))
+slot_entries-push r a _ _ p slot h = absurd (omega arith)
 
 entry-ruled : (r : Rules) (p : List ℕ) → r.has_rule p ≡ true → new_entry r p ≡ record { path = p; looks = 0; turn = 0; deps = []; outcome = None; is_out = false }
 entry-ruled r p h = rw h refl
@@ -50,27 +49,23 @@ stage-entry : (given : GivenView) (a : Ask) (p : List ℕ) (stage : Stage) → I
 stage-entry given a p (Due held) h =
     let E : List Dep → Entry = λ ds. record { path = p; looks = 0; turn = 0; deps = ds; outcome = None; is_out = false } in
     ap E h.1 ∙ sym (entry-ruled (rules_for given) p h.2)
-stage-entry given a p (Checking awaiting) h = absurd h
-stage-entry given a p (Waiting begun) h = absurd h
 stage-entry given a p (Ready work) h =
     let E : List Dep → Entry = λ ds. record { path = p; looks = 0; turn = 0; deps = ds; outcome = None; is_out = false } in
     ap E h.1 ∙ sym (entry-ruled (rules_for given) p h.2)
-stage-entry given a p Out h = absurd h
 stage-entry given a p (Decided fact) h =
     let E : Progress → Entry = λ x. record { path = p; looks = 0; turn = 0; deps = x.deps; outcome = Some fact.value.outcome; is_out = false } in
     ap E (sym (unruled-same given p a h.2)) ∙ sym (entry-unruled (rules_for given) p fact.value.outcome h.2 h.3)
+stage-entry given a p _ h = absurd h
 
 stage-fits : (given : GivenView) (a : Ask) (p : List ℕ) (stage : Stage) → IsFirstStage given p stage → Fits (rules_for given) a given p 0 stage
 stage-fits given a p (Due held) h = h.0 a
-stage-fits given a p (Checking awaiting) h = absurd h
-stage-fits given a p (Waiting begun) h = absurd h
 stage-fits given a p (Ready work) h = (
   h.0,
   λ q m none. let P : List Dep → Type 0 = λ ds. IsAmong (operands (rules_for given) ds) q in absurd (subst P h.1 m),
   h.3 (only (operands (rules_for given) work.deps) a),
 )
-stage-fits given a p Out h = absurd h
 stage-fits given a p (Decided fact) h = (h.0, h.1)
+stage-fits given a p _ h = absurd h
 
 -- a target that was added and put into a stage
 pub pushed-stage : (s : ScheduleView) (n : ℕ) (stage : StageView) → n ≡ length s.stages → with_stage (with_target s AtHand) n stage ≡ with_target s stage
@@ -85,11 +80,9 @@ stage-agrees : (given : GivenView) (ps : List (List ℕ)) (p : List ℕ) (stage 
     Agrees (rules_for given) ps stage (first_in_schedule stage) ×
     ((first_in_schedule stage ≡ AtDue) ⊎ ((first_in_schedule stage ≡ AtReady) ⊎ (first_in_schedule stage ≡ AtDecided)))
 stage-agrees given ps p (Due held) h = (refl, inl refl)
-stage-agrees given ps p (Checking awaiting) h = absurd h
-stage-agrees given ps p (Waiting begun) h = absurd h
 stage-agrees given ps p (Ready work) h = (refl, inr (inl refl))
-stage-agrees given ps p Out h = absurd h
 stage-agrees given ps p (Decided fact) h = (refl, inr (inr refl))
+stage-agrees given ps p _ h = absurd h
 
 -- a slot and its stage behind the others, with more paths
 agreed-push : (r : Rules) (ps us : List (List ℕ)) (slots : List Slot) (stages : List StageView) (new : Slot) (s : StageView) →

@@ -15,17 +15,13 @@ use Rattle.redo_core.specs.declared.facts.Facts.{Facts}
 use Rattle.redo_core.specs.declared.table.Table.{Table}
 use Rattle.redo_core.specs.declared.table.Slot.{Slot}
 use Rattle.redo_core.specs.declared.table.Stage.{Stage}
-use Rattle.redo_core.specs.declared.table.Stage.TheVariants.{Due, Checking, Waiting, Ready, Out, Decided}
+use Rattle.redo_core.specs.declared.table.Stage.TheVariants.{Out, Decided}
 use Rattle.redo_core.proofs.FactLemmas.{insert-told, first_of, lookup-append, map-push, either-way}
 use Rattle.redo_build.proofs.DepthLemmas.{cases_Option}
 
 pub decided-fact : (stage : Stage) → is_stage_decided stage ≡ true → (fact : Shown FactView) × (stage ≡ Decided fact)
-decided-fact (Due d) h = cc
-decided-fact (Checking c) h = cc
-decided-fact (Waiting p) h = cc
-decided-fact (Ready w) h = cc
-decided-fact Out h = cc
 decided-fact (Decided f) h = (f, refl)
+decided-fact _ h = cc
 
 -- a fact that was put to the others, behind some of them
 pub adds-fact : (fact : FactView) (old new : Facts) (ks ms : List (List ℕ × Outcome)) → new.asked ≡ old.asked →
@@ -135,9 +131,5 @@ gains-step t ns old mid new i n get before one = record {
 }
 
 pub out-stage : (stage : Stage) → is_stage_out stage ≡ true → stage ≡ Out
-out-stage (Due d) h = cc
-out-stage (Checking c) h = cc
-out-stage (Waiting p) h = cc
-out-stage (Ready w) h = cc
 out-stage Out h = refl
-out-stage (Decided f) h = cc
+out-stage _ h = cc

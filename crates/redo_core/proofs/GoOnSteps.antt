@@ -46,19 +46,12 @@ waits-so r ps (Decided fact) on h w c = let bad : AtWaiting on ≡ AtDecided = h
 next-agrees : (r : Rules) (ps : List (List ℕ)) (stage : Stage) → (is_stage_due stage ≡ true) ⊎ (is_stage_ready stage ≡ true) →
     Agrees r ps stage (next_stage stage) × (stage_outcome stage ≡ None) × (is_stage_out stage ≡ false)
 next-agrees r ps (Due held) h = (refl, refl, refl)
-next-agrees r ps (Checking awaiting) h = elim h [ inl t ↦ cc | inr t ↦ cc ]
-next-agrees r ps (Waiting begun) h = elim h [ inl t ↦ cc | inr t ↦ cc ]
 next-agrees r ps (Ready work) h = (refl, refl, refl)
-next-agrees r ps Out h = elim h [ inl t ↦ cc | inr t ↦ cc ]
-next-agrees r ps (Decided fact) h = elim h [ inl t ↦ cc | inr t ↦ cc ]
+next-agrees r ps _ h = elim h [ inl t ↦ cc | inr t ↦ cc ]
 
 next-is : (stage : Stage) → (next_stage stage ≡ AtDue) ⊎ (next_stage stage ≡ AtReady)
 next-is (Due held) = inl refl
-next-is (Checking awaiting) = inr refl
-next-is (Waiting begun) = inr refl
-next-is (Ready work) = inr refl
-next-is Out = inr refl
-next-is (Decided fact) = inr refl
+next-is _ = inr refl
 
 module _ (given : GivenView) (t : Table) (at : ℕ) (on : List ℕ) (answered : IsAnsweredAt given t at on) where
   abbrev r : Rules

@@ -1,5 +1,5 @@
 -- Which checks can go on: those whose targets are due, the first by first sight first.
-use Rattle.std.proofs.Common.{slice_get, ◌≡◌, ℕ, zero, suc, ◌<◌, Bool, true, false, inl, inr, List, [], ◌∷◌}
+use Rattle.std.proofs.Common.{slice_get, ◌≡◌, ℕ, zero, suc, ◌<◌, Bool, true, false, inl, inr, List, ◌∷◌}
 use Rattle.std.proofs.Common.{find, length, Option, Some, None, is_none, Global, Vec, refl, sym, ap, subst, ◌∙◌, arith, ◌≤◌}
 use Rattle.std.specs.Prelude.{Box}
 use Rattle.std.proofs.lemmas.Bool.{cases_Bool, both_ways, and_from, and_parts, not-true, not_from_false}
@@ -25,7 +25,7 @@ use Rattle.redo_table.specs.Schedule.StageView.{Due as AtDue, Ready as AtReady}
 use Rattle.redo_core.specs.declared.table.InCheck.{InCheck}
 use Rattle.redo_core.specs.declared.table.Slot.{Slot}
 use Rattle.redo_core.specs.declared.table.Stage.{Stage}
-use Rattle.redo_core.specs.declared.table.Stage.TheVariants.{Due, Checking, Waiting, Ready, Out, Decided}
+use Rattle.redo_core.specs.declared.table.Stage.TheVariants.{Due, Ready, Out, Decided}
 use Rattle.redo_core.specs.declared.table.Table.{Table}
 use Rattle.redo_core.specs.inside.Slots.{outcomes_at_limit, Fits, IsAtRest, IsDrawnFrom, IsDueThere, is_stage_due, is_stage_out}
 use Rattle.redo_core.specs.inside.Slots.{is_stage_waiting, path_at, rounds_of, slot_entries, slot_entry, stage_deps}
@@ -46,17 +46,14 @@ module _ (r : Rules) (a : Ask) (test : Entry → Bool) where
   find-none : (ps : List (List ℕ)) (slots : List Slot) →
       ((k : ℕ) (p : List ℕ) (slot : Slot) → slice_get ps k ≡ Some p → slice_get slots k ≡ Some slot →
       passes p slot ≡ false) → find test (slot_entries r a ps slots) ≡ None
-  find-none [] slots none = refl
-  find-none (p ∷ ps) [] none = refl
   find-none (p ∷ ps) (slot ∷ slots) none =
       rw (none 0 p slot refl refl) (find-none ps slots (λ k q x h g. none (suc k) q x h g))
+  find-none _ _ none = refl
 
   find-first : (ps : List (List ℕ)) (slots : List Slot) (at : ℕ) (p : List ℕ) (slot : Slot) → slice_get ps at ≡ Some p →
       slice_get slots at ≡ Some slot → passes p slot ≡ true →
       ((k : ℕ) (q : List ℕ) (x : Slot) → k < at → slice_get ps k ≡ Some q → slice_get slots k ≡ Some x →
       passes q x ≡ false) → find test (slot_entries r a ps slots) ≡ Some (slot_entry r a p slot)
-  find-first [] slots at p slot h g here before = cc
-  find-first (q ∷ ps) [] at p slot h g here before = cc
   find-first (q ∷ ps) (x ∷ slots) zero p slot h g here before =
       let path : q ≡ p = cc in
       let same : x ≡ slot = cc in
@@ -67,6 +64,7 @@ module _ (r : Rules) (a : Ask) (test : Entry → Bool) where
   find-first (q ∷ ps) (x ∷ slots) (suc at) p slot h g here before =
       rw (before 0 q x (omega arith) refl refl)
       (find-first ps slots at p slot h g here (λ k y z less u v. before (suc k) y z (omega (arith, less)) u v))
+  find-first _ _ at p slot h g here before = cc
 
 module _ (given : GivenView) (t : Table) (rest : IsAtRest given t) where
   abbrev r : Rules
@@ -117,8 +115,6 @@ module _ (given : GivenView) (t : Table) (rest : IsAtRest given t) where
       subst B (sym deps) (due-begins given p (outcomes_of s.entries) held.value.check fits.is_due) in
       and_from _ _ (and_from _ _ (and_from _ _ (and_from _ _ (subst O (sym is) refl) fed)
       (not_from_false _ (subst I (sym is) refl))) (not_from_false _ (apart refl))) (not_from_false _ quiet)
-  by-stage p slot (Checking awaiting) is fits waits apart = not-fed p slot (waits refl)
-  by-stage p slot (Waiting begun) is fits waits apart = not-fed p slot (waits refl)
   by-stage p slot (Ready work) is fits waits apart = elim (cases_Bool (is_due r s (slot_entry r a p slot))) [
     | inl due ↦ absurd (
         let e : Entry = slot_entry r a p slot in
@@ -145,6 +141,7 @@ module _ (given : GivenView) (t : Table) (rest : IsAtRest given t) where
         sym (ap stage_outcome is) ∙ parts.0 in cc)
     | inr f ↦ f
   ]
+  by-stage p slot _ is fits waits apart = not-fed p slot (waits refl)
 
   due-stage : (k : ℕ) (p : List ℕ) (slot : Slot) → slice_get t.targets k ≡ Some p → slice_get t.slots.items k ≡ Some slot →
       is_due r s (slot_entry r a p slot) ≡ is_stage_due slot.stage
@@ -219,11 +216,7 @@ drawn-first given whole t at drawn =
 
 due-held : (stage : Stage) → is_stage_due stage ≡ true → (held : Box InCheck Global) × (stage ≡ Due held)
 due-held (Due held) h = (held, refl)
-due-held (Checking awaiting) h = cc
-due-held (Waiting begun) h = cc
-due-held (Ready work) h = cc
-due-held Out h = cc
-due-held (Decided fact) h = cc
+due-held _ h = cc
 
 -- its check is there to be taken out
 pub drawn-there : (given : GivenView) (whole t : Table) (at : ℕ) → IsDrawnFrom given whole t at → IsDueThere t at

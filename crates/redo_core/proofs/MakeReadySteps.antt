@@ -1,5 +1,5 @@
 -- A job that waited takes over the facts of what it waited for and is made a work.
-use Rattle.std.proofs.Common.{slice_get, slice_set, ◌≡◌, ℕ, zero, suc, false, inl, inr, List, [], ◌∷◌}
+use Rattle.std.proofs.Common.{slice_get, slice_set, ◌≡◌, ℕ, zero, suc, false, inl, inr, List, ◌∷◌}
 use Rattle.std.proofs.Common.{Some, None, refl, sym, ap, subst, ◌∙◌, arith, bytes_eq, Global}
 use Rattle.std.proofs.lemmas.Bool.{cases_Bool, both_ways}
 use Rattle.std.proofs.lemmas.Slice.Eq.{bytes_eq-Decides}
@@ -45,8 +45,6 @@ use Rattle.redo_core.specs.Views.{FactView}
 -- the slot of an entry
 pub slot-of-path : (r : Rules) (a : Ask) (ps : List (List ℕ)) (slots : List Slot) (q : List ℕ) (e : Entry) → entry_of (slot_entries r a ps slots) q ≡ Some e →
     (k : ℕ) × (slot : Slot) × (slice_get ps k ≡ Some q) × (slice_get slots k ≡ Some slot) × (e ≡ slot_entry r a q slot)
-slot-of-path r a [] slots q e h = cc
-slot-of-path r a (p ∷ ps) [] q e h = cc
 slot-of-path r a (p ∷ ps) (s ∷ slots) q e h = elim (cases_Bool (bytes_eq p q)) [
   | inl t ↦
       let path : p ≡ q = (bytes_eq-Decides p q).0 t in
@@ -57,6 +55,7 @@ slot-of-path r a (p ∷ ps) (s ∷ slots) q e h = elim (cases_Bool (bytes_eq p q
       let found = slot-of-path r a ps slots q e (rw f at h) in
       (suc found.0, found.1, found.2, found.3, found.4)
 ]
+slot-of-path r a _ _ q e h = cc
 
 -- while an undecided slot is out, what is decided stays so
 pub number-kept : (t u : Table) (at : ℕ) (slot gone : Slot) → slice_get t.slots.items at ≡ Some slot → is_stage_decided slot.stage ≡ false →

@@ -43,10 +43,9 @@ distinct-place (x ∷ ps) (suc i) (suc j) p d h g = ap suc (distinct-place ps i 
 
 pub slot-of-entry : (r : Rules) (a : Ask) (ps : List (List ℕ)) (slots : List Slot) (i : ℕ) (e : Entry) → slice_get (slot_entries r a ps slots) i ≡ Some e →
     (slot : Slot) × (p : List ℕ) × (slice_get slots i ≡ Some slot) × (slice_get ps i ≡ Some p) × (slot_entry r a p slot ≡ e)
-slot-of-entry r a [] slots i e h = cc
-slot-of-entry r a (p ∷ ps) [] i e h = cc
 slot-of-entry r a (p ∷ ps) (s ∷ slots) zero e h = (s, p, refl, refl, (cc))
 slot-of-entry r a (p ∷ ps) (s ∷ slots) (suc i) e h = slot-of-entry r a ps slots i e h
+slot-of-entry r a _ _ i e h = cc
 
 pub among-map : (f : ℕ → List ℕ) (xs : List ℕ) (p : List ℕ) → IsAmong (map f xs) p → (k : ℕ) × IsPlace xs k × (f k ≡ p)
 among-map f [] p m = absurd m

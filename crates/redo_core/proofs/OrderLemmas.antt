@@ -28,9 +28,8 @@ AreSorted [] = Unit {0}
 AreSorted (p ∷ ps) = IsBefore p ps × AreSorted ps
 
 pub sorted-ascending : (ps : List (List ℕ)) → AreSorted ps → AreAscending ps
-sorted-ascending [] s = tt
-sorted-ascending (p ∷ []) s = tt
 sorted-ascending (p ∷ q ∷ ps) s = (s.0 q (inl refl), sorted-ascending (q ∷ ps) s.1)
+sorted-ascending _ s = tt
 
 insert-from : (ks : List (List ℕ)) (p q : List ℕ) → IsAmong (insert_key (slice_cmp nat_cmp) ks p) q → (p ≡ q) ⊎ IsAmong ks q
 insert-from [] p q m = m

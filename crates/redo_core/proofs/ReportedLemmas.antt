@@ -33,7 +33,7 @@ use Rattle.redo_report.specs.declared.report.Report.{Report}
 use Rattle.redo_report.specs.declared.report.Row.{Row}
 use Rattle.redo_core.specs.declared.table.Slot.{Slot}
 use Rattle.redo_core.specs.declared.table.Stage.{Stage}
-use Rattle.redo_core.specs.declared.table.Stage.TheVariants.{Due, Checking, Waiting, Ready, Out, Decided}
+use Rattle.redo_core.specs.declared.table.Stage.TheVariants.{Due, Checking, Waiting, Ready, Out}
 use Rattle.redo_core.specs.declared.table.Table.{Table}
 use Rattle.redo_core.proofs.CheckingLemmas.{number-within}
 use Rattle.redo_core.proofs.OrderLemmas.{AreSorted, sorted-ascending, placed-sorted, placed-from}
@@ -99,12 +99,9 @@ module _ (given : GivenView) (t : Table) (s : State)
       (is_stage_waiting stage ≡ true → (q : List ℕ) ×
       IsAmong (operands r (stage_deps r (outcomes_at_limit given) p turn stage)) q × (outcomes_of es q ≡ None)) →
       LacksOne r (outcomes_of es) p stage
-  lacks-one p turn (Due held) w = tt
   lacks-one p turn (Checking awaiting) w = w refl
   lacks-one p turn (Waiting begun) w = w refl
-  lacks-one p turn (Ready work) w = tt
-  lacks-one p turn Out w = tt
-  lacks-one p turn (Decided fact) w = tt
+  lacks-one p turn _ w = tt
 
   target-shown : (row : Row) (bit : Bool) (is : IsTargetRow given t row bit) →
       IsOfBuild given row.path is.slot.stage row.outcome (arc_value row.deps) bit ×
@@ -250,11 +247,9 @@ module _ (given : GivenView) (t : Table) (s : State)
 
 settled-stage : (stage : Stage) → (is_stage_ready stage ≡ true → ⊥) → (is_stage_due stage ≡ true → ⊥) → (is_stage_out stage ≡ true → ⊥) → is_settled stage ≡ true
 settled-stage (Due held) ready due out = absurd (due refl)
-settled-stage (Checking awaiting) ready due out = refl
-settled-stage (Waiting begun) ready due out = refl
 settled-stage (Ready work) ready due out = absurd (ready refl)
 settled-stage Out ready due out = absurd (out refl)
-settled-stage (Decided fact) ready due out = refl
+settled-stage _ ready due out = refl
 
 none-queued : (f : ℕ → List ℕ) (xs : List ℕ) (k : ℕ) → map f xs ≡ [] → 0 < times k xs → ⊥
 none-queued f [] k e m = absurd (omega (arith, m, times-nil k))
@@ -326,12 +321,8 @@ report-view b invariant view is quiet report made =
     subst V is (report-inside b (invariant q.0) q.1 report made)
 
 told-stage : (r : Rules) (a : Ask) (given : GivenView) (p : List ℕ) (turn : ℕ) (stage : Stage) → Fits r a given p turn stage → IsTold given stage
-told-stage r a given p turn (Due held) fits = tt
 told-stage r a given p turn (Checking awaiting) fits = number-within given p awaiting.held.value.check.number fits.waits.in_check
-told-stage r a given p turn (Waiting begun) fits = tt
-told-stage r a given p turn (Ready work) fits = tt
-told-stage r a given p turn Out fits = tt
-told-stage r a given p turn (Decided fact) fits = tt
+told-stage r a given p turn _ fits = tt
 
 -- the checks of a board's table that wait are of records in its book
 pub told-inside : (b : Inside) → IsKept b → AllTold b.build b.table

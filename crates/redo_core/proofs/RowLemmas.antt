@@ -1,6 +1,6 @@
 -- What the rows of a report say together, and their paths in order.
 use Rattle.std.proofs.Common.{◌≡◌, ℕ, zero, suc, ◌<◌, Bool, true, false, ◌⊎◌, inl, inr, List, [], ◌∷◌, ◌++◌, length}
-use Rattle.std.proofs.Common.{map, if◌then◌else◌, Some, None, refl, sym, ap, subst, ◌∙◌, arith}
+use Rattle.std.proofs.Common.{map, if◌then◌else◌, Some, refl, sym, ap, subst, ◌∙◌, arith}
 use Rattle.std.proofs.lemmas.Bool.{cases_Bool}
 use Rattle.std.proofs.lemmas.Grind.{flat_map-append}
 use Rattle.std.proofs.lemmas.List.{append-nil, append_assoc}
@@ -17,7 +17,7 @@ use Rattle.std.specs.Prelude.{All, Contains, slice_index_or}
 use Rattle.std.specs.declared.cmp.Ordering.{Ordering}
 use Rattle.std.specs.declared.cmp.Ordering.TheVariants.{Less}
 use Rattle.redo_record.specs.declared.outcome.Outcome.{Outcome}
-use Rattle.redo_record.specs.declared.outcome.Outcome.TheVariants.{Source, Built, Failed, Cyclic}
+use Rattle.redo_record.specs.declared.outcome.Outcome.TheVariants.{Built}
 use Rattle.redo_record.specs.Paths.{IsAmong}
 use Rattle.redo_core.specs.declared.table.Table.{Table}
 use Rattle.redo_core.specs.inside.Reported.{AreRowsOf, IsRowOf, file_of, placed, row_files, row_begun}
@@ -71,19 +71,17 @@ module _ (given : GivenView) (t : Table) where
   pub rows-added : (rows : List Row) (bits : List Bool) (row : Row) (bit : Bool) → AreRowsOf given t rows bits → IsRowOf given t row bit →
       AreRowsOf given t (rows ++ row ∷ []) (bits ++ bit ∷ [])
   rows-added [] [] row bit h is = (is, tt)
-  rows-added [] (b ∷ bits) row bit h is = absurd h
-  rows-added (x ∷ rows) [] row bit h is = absurd h
   rows-added (x ∷ rows) (b ∷ bits) row bit h is = (h.0, rows-added rows bits row bit h.1 is)
+  rows-added _ _ row bit h is = absurd h
 
   pub begun-added : (rows : List Row) (bits : List Bool) (row : Row) (bit : Bool) → AreRowsOf given t rows bits →
       row_begun (rows ++ row ∷ []) (bits ++ bit ∷ []) ≡ row_begun rows bits ++ (if bit then row.path ∷ [] else [])
   begun-added [] [] row bit h = append-nil (if bit then row.path ∷ [] else [])
-  begun-added [] (b ∷ bits) row bit h = absurd h
-  begun-added (x ∷ rows) [] row bit h = absurd h
   begun-added (x ∷ rows) (b ∷ bits) row bit h =
       let first : List (List ℕ) = if b then x.path ∷ [] else [] in
       ap (λ ps. first ++ ps) (begun-added rows bits row bit h.1)
       ∙ sym (append_assoc first (row_begun rows bits) (if bit then row.path ∷ [] else []))
+  begun-added _ _ row bit h = absurd h
 
   -- what is true of each row
   pub rows-all : (Q : Row → Type 0) (rows : List Row) (bits : List Bool) → AreRowsOf given t rows bits →
@@ -121,16 +119,14 @@ module _ (given : GivenView) (t : Table) where
   ]
 
 begun-paths : (rows : List Row) (bits : List Bool) (p : List ℕ) → IsAmong (row_begun rows bits) p → IsAmong (map (λ row. row.path) rows) p
-begun-paths [] bits p m = absurd m
-begun-paths (x ∷ rows) [] p m = absurd m
 begun-paths (x ∷ rows) (true ∷ bits) p m = elim m [ inl here ↦ inl here | inr later ↦ inr (begun-paths rows bits p later) ]
 begun-paths (x ∷ rows) (false ∷ bits) p m = inr (begun-paths rows bits p m)
+begun-paths _ _ p m = absurd m
 
 pub begun-sorted : (rows : List Row) (bits : List Bool) → AreSorted (map (λ row. row.path) rows) → AreSorted (row_begun rows bits)
-begun-sorted [] bits s = tt
-begun-sorted (x ∷ rows) [] s = tt
 begun-sorted (x ∷ rows) (true ∷ bits) s = (λ q m. s.0 q (begun-paths rows bits q m), begun-sorted rows bits s.1)
 begun-sorted (x ∷ rows) (false ∷ bits) s = begun-sorted rows bits s.1
+begun-sorted _ _ s = tt
 
 pub files-added : (rows : List Row) (row : Row) → row_files (rows ++ row ∷ []) ≡ row_files rows ++ file_of row.path row.outcome
 files-added rows row =
@@ -222,18 +218,12 @@ module _ {X : Type 0} (key : X → List ℕ) where
 -- Files
 
 file_paths : (p : List ℕ) (o : Outcome) (fs : List (List ℕ × List ℕ)) (q : List ℕ) → IsAmong (map (λ f. f.0) (file_of p o ++ fs)) q → (p ≡ q) ⊎ IsAmong (map (λ f. f.0) fs) q
-file_paths p Source fs q m = inr m
-file_paths p (Built None) fs q m = inr m
 file_paths p (Built (Some bytes)) fs q m = m
-file_paths p (Failed why) fs q m = inr m
-file_paths p Cyclic fs q m = inr m
+file_paths p _ fs q m = inr m
 
 file_sorted : (p : List ℕ) (o : Outcome) (fs : List (List ℕ × List ℕ)) → IsBefore p (map (λ f. f.0) fs) → AreSorted (map (λ f. f.0) fs) → AreSorted (map (λ f. f.0) (file_of p o ++ fs))
-file_sorted p Source fs b s = s
-file_sorted p (Built None) fs b s = s
 file_sorted p (Built (Some bytes)) fs b s = (b, s)
-file_sorted p (Failed why) fs b s = s
-file_sorted p Cyclic fs b s = s
+file_sorted p _ fs b s = s
 
 files_paths : (rows : List Row) (q : List ℕ) → IsAmong (map (λ f. f.0) (row_files rows)) q → IsAmong (map (λ row. row.path) rows) q
 files_paths [] q m = absurd m
@@ -247,21 +237,15 @@ files_sorted [] s = tt
 files_sorted (row ∷ rows) s = file_sorted row.path row.outcome (row_files rows) (λ q m. s.0 q (files_paths rows q m)) (files_sorted rows s.1)
 
 file_cases : (p : List ℕ) (o : Outcome) (fs : List (List ℕ × List ℕ)) (f : List ℕ × List ℕ) → IsItem (file_of p o ++ fs) f → ((o ≡ Built (Some f.1)) × (p ≡ f.0)) ⊎ IsItem fs f
-file_cases p Source fs f m = inr m
-file_cases p (Built None) fs f m = inr m
 file_cases p (Built (Some bytes)) fs f m = elim m [
   | inl here ↦ inl (ap (λ (x : List ℕ × List ℕ). Built (Some x.1)) here, ap (λ (x : List ℕ × List ℕ). x.0) here)
   | inr later ↦ inr later
 ]
-file_cases p (Failed why) fs f m = inr m
-file_cases p Cyclic fs f m = inr m
+file_cases p _ fs f m = inr m
 
 file_later : (p : List ℕ) (o : Outcome) (fs : List (List ℕ × List ℕ)) (f : List ℕ × List ℕ) → IsItem fs f → IsItem (file_of p o ++ fs) f
-file_later p Source fs f m = m
-file_later p (Built None) fs f m = m
 file_later p (Built (Some bytes)) fs f m = inr m
-file_later p (Failed why) fs f m = m
-file_later p Cyclic fs f m = m
+file_later p _ fs f m = m
 
 -- each file is that of a row
 pub file_row : (rows : List Row) (f : List ℕ × List ℕ) → IsItem (row_files rows) f → (row : Row) × IsItem rows row × (row.outcome ≡ Built (Some f.1)) × (row.path ≡ f.0)

@@ -26,7 +26,7 @@ use Rattle.redo_core.specs.inside.Works.{all_asked, job_deps, told_in}
 use Rattle.redo_core.specs.declared.table.Awaiting.{Awaiting}
 use Rattle.redo_core.specs.declared.work.Begun.{Begun}
 use Rattle.redo_core.specs.declared.table.Stage.{Stage}
-use Rattle.redo_core.specs.declared.table.Stage.TheVariants.{Due, Checking, Waiting, Ready, Out, Decided}
+use Rattle.redo_core.specs.declared.table.Stage.TheVariants.{Checking, Waiting, Decided}
 use Rattle.redo_core.proofs.CheckingLemmas.{waiting-shows}
 use Rattle.redo_core.proofs.AllAskedLemmas.{asked-cases, told-alike}
 
@@ -71,13 +71,10 @@ pub record IsOfBuild (given : GivenView) (p : List ℕ) (stage : Stage) (outcome
 
 -- a target asked for a path that has no outcome, if it waits
 abbrev pub LacksOne : Rules → Ask → List ℕ → Stage → Type 0
-LacksOne r a p (Due held) = Unit {0}
 LacksOne r a p (Checking awaiting) = (q : List ℕ) × IsAmong (operands r awaiting.held.value.check.asked) q × (a q ≡ None)
 LacksOne r a p (Waiting begun) =
     (q : List ℕ) × IsAmong (operands r (all_asked begun.value.job begun.value.facts)) q × (a q ≡ None)
-LacksOne r a p (Ready work) = Unit {0}
-LacksOne r a p Out = Unit {0}
-LacksOne r a p (Decided fact) = Unit {0}
+LacksOne r a p _ = Unit {0}
 
 module _ (given : GivenView) (p : List ℕ) (a : Ask)
     (records : (rules_for given).recorded p a ≡ record_of (rules_for given) given.limits.targets p)
@@ -154,14 +151,12 @@ module _ (given : GivenView) (p : List ℕ) (a : Ask)
   pub stage-shown : (turn : ℕ) (stage : Stage) (o : Outcome) (deps : List Dep) (begun : Bool) → Fits (rules_for given) a given p turn stage →
       IsShown given stage o deps → IsBegunAs stage begun → LacksOne (rules_for given) a p stage →
       stage_outcome stage ≡ outcomes_at_limit given p → IsOfBuild given p stage o deps begun
-  stage-shown turn (Due held) o deps begun fits shown is lacks known = absurd shown
   stage-shown turn (Checking awaiting) o deps begun fits shown is lacks known = checking-right turn awaiting fits o deps begun shown is lacks
   stage-shown turn (Waiting held) o deps begun fits shown is lacks known = waiting-right turn held fits o deps begun shown is lacks
-  stage-shown turn (Ready work) o deps begun fits shown is lacks known = absurd shown
-  stage-shown turn Out o deps begun fits shown is lacks known = absurd shown
   stage-shown turn (Decided fact) o deps begun fits shown is lacks known =
       let G : GivenView → Type 0 = λ g. IsDecided g fact.value.target fact.value.outcome fact.value.deps fact.value.begun in
       let T : List ℕ → Type 0 = λ x. IsDecided given x fact.value.outcome fact.value.deps fact.value.begun in
       let of_build : IsDecided given p fact.value.outcome fact.value.deps fact.value.begun = subst T fits.1 (subst G fits.0 is.1) in
       let right = decided-right fact.value.outcome fact.value.deps fact.value.begun of_build (sym known) in
       record { outcome_is = shown.0; deps_is = shown.1 ∙ right.0; begun_is = is.0 ∙ right.1 }
+  stage-shown turn _ o deps begun fits shown is lacks known = absurd shown

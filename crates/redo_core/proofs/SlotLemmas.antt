@@ -34,11 +34,10 @@ use Rattle.std.proofs.lemmas.Slice.Eq.{bytes_eq-Decides}
 pub out_count-slots : (r : Rules) (a : Ask) (ps : List (List ℕ)) (slots : List Slot) → length slots ≡ length ps →
     length (filter (λ e. e.is_out) (slot_entries r a ps slots)) ≡ length (filter (λ slot. is_stage_out slot.stage) slots)
 out_count-slots r a [] [] h = refl
-out_count-slots r a [] (slot ∷ slots) h = absurd (omega arith)
-out_count-slots r a (p ∷ ps) [] h = absurd (omega arith)
 out_count-slots r a (p ∷ ps) (slot ∷ slots) h =
     let rest = out_count-slots r a ps slots (omega arith) in
     elim (cases_Bool (is_stage_out slot.stage)) [ inl t ↦ rw t (ap suc rest) | inr f ↦ rw f rest ]
+out_count-slots r a _ _ h = absurd (omega arith)
 
 decided-outcome : (stage : Stage) → is_some (stage_outcome stage) ≡ is_stage_decided stage
 decided-outcome (Due held) = refl
@@ -51,8 +50,6 @@ decided-outcome (Decided fact) = refl
 decided-slots : (r : Rules) (a : Ask) (ps : List (List ℕ)) (slots : List Slot) → length slots ≡ length ps →
     length (filter (λ e. is_some e.outcome) (slot_entries r a ps slots)) ≡ length (filter (λ slot. is_stage_decided slot.stage) slots)
 decided-slots r a [] [] h = refl
-decided-slots r a [] (slot ∷ slots) h = absurd (omega arith)
-decided-slots r a (p ∷ ps) [] h = absurd (omega arith)
 decided-slots r a (p ∷ ps) (slot ∷ slots) h =
     let rest = decided-slots r a ps slots (omega arith) in
     let same = decided-outcome slot.stage in
@@ -60,6 +57,7 @@ decided-slots r a (p ∷ ps) (slot ∷ slots) h =
       | inl t ↦ rw (same, t) (ap suc rest)
       | inr f ↦ rw (same, f) rest
     ]
+decided-slots r a _ _ h = absurd (omega arith)
 
 -- as many entries have an outcome as slots are decided
 pub decided_count-slots : (r : Rules) (a : Ask) (ps : List (List ℕ)) (slots : List Slot) → length slots ≡ length ps →
@@ -72,9 +70,8 @@ decided_count-slots r a ps slots h =
 pub length-slots : (r : Rules) (a : Ask) (ps : List (List ℕ)) (slots : List Slot) → length slots ≡ length ps →
     length (slot_entries r a ps slots) ≡ length slots
 length-slots r a [] [] h = refl
-length-slots r a [] (slot ∷ slots) h = absurd (omega arith)
-length-slots r a (p ∷ ps) [] h = absurd (omega arith)
 length-slots r a (p ∷ ps) (slot ∷ slots) h = ap suc (length-slots r a ps slots (omega arith))
+length-slots r a _ _ h = absurd (omega arith)
 
 pub IsNone-from : {A : Type 0} (o : Option A) → is_some o ≡ false → IsNone o
 IsNone-from None h = search rules
@@ -88,8 +85,6 @@ paths_of-slots r a (p ∷ ps) (slot ∷ slots) h = ap (λ x. p ∷ x) (paths_of-
 
 pub entry_of-slots : (r : Rules) (a : Ask) (ps : List (List ℕ)) (slots : List Slot) (i : ℕ) (p : List ℕ) (slot : Slot) → AreDistinct ps →
     slice_get ps i ≡ Some p → slice_get slots i ≡ Some slot → entry_of (slot_entries r a ps slots) p ≡ Some (slot_entry r a p slot)
-entry_of-slots r a [] slots i p slot d here there = cc
-entry_of-slots r a (q ∷ ps) [] i p slot d here there = cc
 entry_of-slots r a (q ∷ ps) (s ∷ slots) zero p slot d here there =
     let path : q ≡ p = cc in
     let is : s ≡ slot = cc in
@@ -99,12 +94,11 @@ entry_of-slots r a (q ∷ ps) (s ∷ slots) (suc i) p slot d here there = elim (
   | inl t ↦ absurd (d.0 (IsAmong-same ps p q (sym ((bytes_eq-Decides q p).0 t)) (slice_get-among ps i p here)))
   | inr f ↦ rw f (entry_of-slots r a ps slots i p slot d.1 here there)
 ]
+entry_of-slots r a _ _ i p slot d here there = cc
 
 pub slot_entries-set : (r : Rules) (a : Ask) (ps : List (List ℕ)) (slots : List Slot) (i : ℕ) (p : List ℕ) (slot new : Slot) → AreDistinct ps →
     slice_get ps i ≡ Some p → slice_get slots i ≡ Some slot →
     slot_entries r a ps (slice_set slots i new) ≡ put (slot_entries r a ps slots) (slot_entry r a p new)
-slot_entries-set r a [] slots i p slot new d here there = cc
-slot_entries-set r a (q ∷ ps) [] i p slot new d here there = cc
 slot_entries-set r a (q ∷ ps) (s ∷ slots) zero p slot new d here there =
     let path : q ≡ p = cc in
     let same : bytes_eq q p ≡ true = (bytes_eq-Decides q p).1 path in
@@ -113,6 +107,7 @@ slot_entries-set r a (q ∷ ps) (s ∷ slots) (suc i) p slot new d here there = 
   | inl t ↦ absurd (d.0 (IsAmong-same ps p q (sym ((bytes_eq-Decides q p).0 t)) (slice_get-among ps i p here)))
   | inr f ↦ rw f (ap (λ x. slot_entry r a q s ∷ x) (slot_entries-set r a ps slots i p slot new d.1 here there))
 ]
+slot_entries-set r a _ _ i p slot new d here there = cc
 
 pub map-remove : (f : ℕ → List ℕ) (xs : List ℕ) (i : ℕ) → map f (remove xs i) ≡ remove (map f xs) i
 map-remove f [] zero = refl
@@ -139,12 +134,8 @@ slice_get-from (y ∷ xs) (suc i) h = slice_get-from xs i (omega arith)
 pub ready-job : (r : Rules) (a : Ask) (given : GivenView) (p : List ℕ) (turn : ℕ) (stage : Stage) → Fits r a given p turn stage →
     is_stage_ready stage ≡ true → (work : Work) × (stage ≡ Ready work) × IsParked given p turn work × AllAnswered r a work.deps ×
     (r.begins p (only (operands r work.deps) a) ≡ true)
-ready-job r a given p turn (Due held) h t = cc
-ready-job r a given p turn (Checking awaiting) h t = cc
 ready-job r a given p turn (Ready work) h t = (work, refl, h.0, h.1, h.2)
-ready-job r a given p turn (Waiting work) h t = cc
-ready-job r a given p turn Out h t = cc
-ready-job r a given p turn (Decided fact) h t = cc
+ready-job r a given p turn _ h t = cc
 
 -- the entry of a slot stopped at each of its looks and turns
 pub slot-rounds : (r : Rules) (a : Ask) (p : List ℕ) (slot : Slot) → rounds (slot_entry r a p slot) ≡ rounds_of slot

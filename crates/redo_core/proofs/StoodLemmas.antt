@@ -104,8 +104,7 @@ module _ (s : Sources) where
     | inl t ↦ absurd (fixed (standing-asked s nothing_known state q t))
     | inr f ↦ rw f refl
   ]
-  unasked (Create q) fixed = refl
-  unasked Always fixed = refl
+  unasked _ fixed = refl
 
   -- and does so whatever is known
   pub always : (e : BookEntry) (v : Standing) → standing s nothing_known e ≡ v → (v ≡ lacks → ⊥) → (a : Ask) → standing s a e ≡ v
@@ -178,8 +177,7 @@ module _ (s : Sources) where
   other-path : (e : BookEntry) (state : State) (q : List ℕ) → same_entry e (Change state q) ≡ false → IsAmong (asks s e) q → ⊥
   other-path (Change state' x) state q other m =
       let same : bytes_eq x q ≡ true = (bytes_eq-Decides x q).1 (asks-among s state' x q m).0 in cc
-  other-path (Create x) state q other m = m
-  other-path Always state q other m = m
+  other-path _ state q other m = m
 
   pub new-path : (es : List BookEntry) (n : ℕ) (state : State) (q : List ℕ) → IsDistinct same_entry es → slice_get es n ≡ Some (Change state q) → IsAmong (asked_by s (take n es)) q → ⊥
   unfolding IsDistinct

@@ -9,7 +9,7 @@ use Rattle.redo_script.specs.Syntax.{Command, write, test, change, create, alway
 use Rattle.redo_script.specs.Syntax.{Condition, Script, finish, simple, choice, loop}
 use Rattle.redo_record.specs.declared.deps.Dep.{Dep}
 use Rattle.redo_record.specs.declared.deps.DepKind.{DepKind}
-use Rattle.redo_record.specs.declared.deps.DepKind.TheVariants.{Change, Create, Always}
+use Rattle.redo_record.specs.declared.deps.DepKind.TheVariants.{Change}
 use Rattle.redo_record.specs.declared.outcome.Why.TheVariants as why
 use Rattle.redo_record.specs.Answers.{Ask}
 use Rattle.redo_record.specs.Entries.{is_entered, with_entries}
@@ -18,7 +18,7 @@ use Rattle.redo_record.specs.Progress.{changed as change_of, changes}
 use Rattle.redo_step.specs.Begins.{AreKnown, Begins}
 use Rattle.redo_step.specs.Declaring.{any_failed, changed, created, declaring, lacking, lacks, waited}
 use Rattle.redo_step.specs.Reach.{Keeps}
-use Rattle.redo_step.specs.Runs.{State, End, exited, faulted, stopped, Run, goes, ends, end_state, start}
+use Rattle.redo_step.specs.Runs.{State, End, faulted, stopped, Run, goes, ends, end_state, start}
 use Rattle.redo_step.specs.Setting.{Setting, with_value}
 use Rattle.redo_step.specs.Statements.{chosen, command_run, condition_result, looped, meaning, run, then_run, turns}
 use Rattle.redo_step.specs.Statements.{with_state, with_status}
@@ -44,8 +44,6 @@ lacked setting ask es = filter (lacks setting ask) (changes es)
 module _ (f : Path → Bool) where
   in-entry : (k : DepKind) (q : Path) (es : List Dep) (p : Path) → is_among (filter f (changes es)) p ≡ (f p && is_entered es Change p) →
       is_among (filter f (changes (record { kind = k; path = q } ∷ es))) p ≡ (f p && is_entered (record { kind = k; path = q } ∷ es) Change p)
-  in-entry Create q es p h = h
-  in-entry Always q es p h = h
   in-entry Change q es p h = elim (cases_Bool (bytes_eq p q)) [
     | inl same ↦
         let is : p ≡ q = (bytes_eq-Decides p q).0 same in
@@ -58,6 +56,7 @@ module _ (f : Path → Bool) where
         let back : bytes_eq q p ≡ false = nat_list_eq_equiv.symm q p ∙ other in
         elim (cases_Bool (f q)) [ inl t ↦ rw (t, other, back) h | inr n ↦ rw (n, other) h ]
   ]
+  in-entry _ q es p h = h
 
   nothing-in : (b : Bool) → false ≡ (b && false)
   nothing-in true = refl
@@ -131,9 +130,8 @@ module _ (setting : Setting) (ask : Ask) where
 -- What a run from entries with all answers comes to: it goes on with all answers, it has ended, or it stops for want of
 -- what its entries lack.
 abbrev pub TellsEnd : Setting → Ask → End → State → Type 0
-TellsEnd setting ask (exited n) t = Unit {0}
-TellsEnd setting ask (faulted w) t = Unit {0}
 TellsEnd setting ask (stopped ps) t = ps ≡ lacked setting ask t.entries
+TellsEnd setting ask _ t = Unit {0}
 
 abbrev pub Tells : Setting → Ask → Run → Type 0
 Tells setting ask (goes t) = AreKnown setting ask t.entries
@@ -157,9 +155,8 @@ module _ (law : MoreAnswers) (setting : Setting) (ask : Ask) where
   no-stop s ps known b = both_ways _ (known.known b.lacking.0 b.lacking.1) b.lacking.2
 
   end-tells : (e : End) (s : State) → AreKnown setting ask s.entries → Begins setting ask ask (ends e s) (ends e s) → Tells setting ask (ends e s)
-  end-tells (exited n) s known b = tt
-  end-tells (faulted w) s known b = tt
   end-tells (stopped ps) s known b = absurd (no-stop s ps known b)
+  end-tells _ s known b = tt
 
   then-finish : (r : Run) → then_run r (run setting ask finish) ≡ r
   unfolding run
@@ -172,8 +169,7 @@ module _ (law : MoreAnswers) (setting : Setting) (ask : Ask) where
 
   status-stops : (r : Result Bool End) (s t : State) (e : End) → with_status r s ≡ ends e t → t ≡ s
   status-stops (Ok true) s t e h = absurd cc
-  status-stops (Ok false) s t e h = cc
-  status-stops (Err w) s t e h = cc
+  status-stops _ s t e h = cc
 
   created-stops : (r : Result (List Path) End) (s t : State) (e : End) → created r s ≡ ends e t → t ≡ s
   created-stops (Ok qs) s t e h = absurd cc
@@ -194,10 +190,7 @@ module _ (law : MoreAnswers) (setting : Setting) (ask : Ask) where
   command-stops line (test x) s t ps h = inl (status-stops _ s t (stopped ps) h)
   command-stops line (change ws) s t ps h = changed-stops line _ s t ps h
   command-stops line (create ws) s t ps h = inl (created-stops _ s t (stopped ps) h)
-  command-stops line always s t ps h = absurd cc
-  command-stops line always_true s t ps h = absurd cc
-  command-stops line always_false s t ps h = absurd cc
-  command-stops line (exit n) s t ps h = absurd cc
+  command-stops line _ s t ps h = absurd cc
 
   stop-tells : (s t : State) (ps : List Path) → AreKnown setting ask s.entries → Begins setting ask ask (ends (stopped ps) t) (ends (stopped ps) t) → StopsAt setting ask s ps t → ps ≡ lacked setting ask t.entries
   stop-tells s t ps known b (inl same) = absurd (let B : State → Type 0 = λ u. Begins setting ask ask (ends (stopped ps) u) (ends (stopped ps) u) in no-stop s ps known (subst B same b))
@@ -207,9 +200,8 @@ module _ (law : MoreAnswers) (setting : Setting) (ask : Ask) where
 
   run-alone : (s : State) (r : Run) → AreKnown setting ask s.entries → Begins setting ask ask r r → ((t : State) (ps : List Path) → r ≡ ends (stopped ps) t → StopsAt setting ask s ps t) → Tells setting ask r
   run-alone s (goes t) known b at = b.1
-  run-alone s (ends (exited n) t) known b at = tt
-  run-alone s (ends (faulted w) t) known b at = tt
   run-alone s (ends (stopped ps) t) known b at = stop-tells s t ps known b (at t ps refl)
+  run-alone s _ known b at = tt
 
   command-tells : (line : ℕ) (c : Command) (s : State) → AreKnown setting ask s.entries → Tells setting ask (command_run setting ask line c s)
   unfolding run
@@ -246,9 +238,8 @@ module _ (law : MoreAnswers) (setting : Setting) (ask : Ask) where
 -- What is known in a turn of a loop is known round it.
 turn-tells : (setting : Setting) (ask : Ask) (name value : List ℕ) (r : Run) → Tells (with_value setting name value) ask r → Tells setting ask r
 turn-tells setting ask name value (goes t) h = record { known = h.known }
-turn-tells setting ask name value (ends (exited n) t) h = tt
-turn-tells setting ask name value (ends (faulted w) t) h = tt
 turn-tells setting ask name value (ends (stopped ps) t) h = h
+turn-tells setting ask name value _ h = tt
 
 pub run-tells : MoreAnswers → (setting : Setting) (ask : Ask) (c : Script) (s : State) → AreKnown setting ask s.entries → Tells setting ask (run setting ask c s)
 unfolding run

@@ -18,7 +18,7 @@ use Rattle.redo_core.specs.inside.Checking.{TellsAlike}
 use Rattle.redo_core.specs.declared.table.Slot.{Slot}
 use Rattle.redo_core.specs.declared.table.Table.{Table}
 use Rattle.redo_core.specs.declared.table.Stage.{Stage}
-use Rattle.redo_core.specs.declared.table.Stage.TheVariants.{Due, Checking, Waiting, Ready, Out, Decided}
+use Rattle.redo_core.specs.declared.table.Stage.TheVariants.{Due, Checking, Waiting, Ready, Out}
 use Rattle.redo_build.proofs.DepthLemmas.{cases_Option, operand-target}
 use Rattle.redo_core.proofs.SlotLemmas.{entry_of-slots, slice_get-below_some, slice_get-item, slot_entries-set}
 use Rattle.std.proofs.lemmas.Slice.Eq.{bytes_eq-Decides}
@@ -29,12 +29,11 @@ pub get-set_cases : (xs : List Slot) (at i : ℕ) (new found : Slot) → slice_g
     ((i ≡ at) × (new ≡ found)) ⊎ ((i ≡ at → ⊥) × (slice_get xs i ≡ Some found))
 get-set_cases [] at i new found h = cc
 get-set_cases (x ∷ xs) zero zero new found h = inl (refl, (cc))
-get-set_cases (x ∷ xs) zero (suc i) new found h = inr ((λ e. absurd (omega arith)), h)
-get-set_cases (x ∷ xs) (suc at) zero new found h = inr ((λ e. absurd (omega arith)), h)
 get-set_cases (x ∷ xs) (suc at) (suc i) new found h = elim (get-set_cases xs at i new found h) [
   | inl here ↦ inl (ap suc here.0, here.1)
   | inr old ↦ inr ((λ e. old.0 (let f : i ≡ at = omega arith in f)), old.1)
 ]
+get-set_cases (x ∷ xs) _ _ new found h = inr ((λ e. absurd (omega arith)), h)
 
 -- with more answers those to these entries stay as they are
 pub answered-alike : (r : Rules) (lawful : AreLawful r) (a b : Ask) (ds : List Dep) → Extends r a b → AllAnswered r a ds → TellsAlike r ds a b
@@ -106,8 +105,7 @@ Fits-more given a b p turn (Ready work) more h =
     let alike = answered-alike r lawful a b work.deps more h.1 in
     let here : Extends r (only qs a) (only qs b) = λ q o source some. sym (only-alike qs a b alike q) ∙ some in
     (h.0, answered-more r lawful a b work.deps more h.1, lawful.begins_stays p (only qs a) (only qs b) here h.2)
-Fits-more given a b p turn Out more h = h
-Fits-more given a b p turn (Decided fact) more h = h
+Fits-more given a b p turn _ more h = h
 
 module _ (r : Rules) (lawful : AreLawful r) (n : ℕ) (ps : List (List ℕ)) (slots : List Slot) (at : ℕ) (p : List ℕ) (old new : Slot) (distinct : AreDistinct ps)
     (path : slice_get ps at ≡ Some p) (there : slice_get slots at ≡ Some old) where
@@ -158,9 +156,8 @@ module _ (r : Rules) (lawful : AreLawful r) (n : ℕ) (ps : List (List ℕ)) (sl
 
 -- an item that is replaced twice
 pub set-twice : {X : Type 0} (xs : List X) (at : ℕ) (x y : X) → slice_set (slice_set xs at x) at y ≡ slice_set xs at y
-set-twice [] at x y = refl
-set-twice (z ∷ xs) zero x y = refl
 set-twice (z ∷ xs) (suc at) x y = ap (λ ys. z ∷ ys) (set-twice xs at x y)
+set-twice _ _ x y = refl
 
 -- the slot that the code finds at the number of a target that is out
 pub out-slot : (t : Table) (at : ℕ) (found : Slot) → IsOutThere t at → found ≡ slice_index_or t.slots.items at found →

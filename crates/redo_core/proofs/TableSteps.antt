@@ -1,6 +1,6 @@
 -- What a table keeps while what waits goes on.
 use Rattle.std.proofs.Common.{slice_get, slice_set, ◌≡◌, ℕ, zero, suc, true, false}
-use Rattle.std.proofs.Common.{◌⊎◌, inl, inr, List, [], ◌∷◌, length-set, Global}
+use Rattle.std.proofs.Common.{◌⊎◌, inl, inr, List, ◌∷◌, length-set, Global}
 use Rattle.std.proofs.Common.{Some, None, refl, sym, ap, subst, ◌∙◌, arith}
 use Rattle.std.specs.Prelude.{is_none, Box}
 use Rattle.redo_record.specs.Paths.{IsAmong}
@@ -34,12 +34,8 @@ use Rattle.redo_core.proofs.SlotLemmas.{entry_of-slots}
 use Rattle.redo_record.specs.declared.deps.Dep.{Dep}
 
 pub open-outcome : (stage : Stage) → is_stage_decided stage ≡ false → stage_outcome stage ≡ None
-open-outcome (Due d) h = refl
-open-outcome (Checking c) h = refl
-open-outcome (Waiting p) h = refl
-open-outcome (Ready w) h = refl
-open-outcome Out h = refl
 open-outcome (Decided f) h = cc
+open-outcome _ h = refl
 
 decided-outcome : (stage : Stage) → is_stage_decided stage ≡ true → stage_outcome stage ≡ None → ⊥
 decided-outcome (Due d) h n = cc
@@ -52,8 +48,6 @@ decided-outcome (Decided f) h n = cc
 slot_entries-same : (r : Rules) (a : Ask) (ps : List (List ℕ)) (slots : List Slot) (i : ℕ) (p : List ℕ) (old new : Slot) →
     slice_get ps i ≡ Some p → slice_get slots i ≡ Some old → slot_entry r a p new ≡ slot_entry r a p old →
     slot_entries r a ps (slice_set slots i new) ≡ slot_entries r a ps slots
-slot_entries-same r a [] slots i p old new here there same = refl
-slot_entries-same r a (q ∷ ps) [] i p old new here there same = refl
 slot_entries-same r a (q ∷ ps) (s ∷ slots) zero p old new here there same =
     let path : q ≡ p = cc in
     let is : s ≡ old = cc in
@@ -63,6 +57,7 @@ slot_entries-same r a (q ∷ ps) (s ∷ slots) zero p old new here there same =
     ap (λ e. e ∷ slot_entries r a ps slots) (subst B (sym path) (subst A (sym is) same))
 slot_entries-same r a (q ∷ ps) (s ∷ slots) (suc i) p old new here there same =
     ap (λ es. slot_entry r a q s ∷ es) (slot_entries-same r a ps slots i p old new here there same)
+slot_entries-same r a _ _ i p old new here there same = refl
 
 -- what is waited for was asked for
 pub waited-declared : (r : Rules) (begun : Begun) (q : List ℕ) → IsAmong (waited_by r begun) q → IsAmong (operands r begun.job.state.entries) q

@@ -15,7 +15,7 @@ use Rattle.redo_core.specs.inside.Works.{waited_by}
 use Rattle.redo_core.specs.declared.table.Slot.{Slot}
 use Rattle.redo_core.specs.declared.table.Table.{Table}
 use Rattle.redo_core.specs.declared.table.Stage.{Stage}
-use Rattle.redo_core.specs.declared.table.Stage.TheVariants.{Due, Checking, Waiting, Ready, Out, Decided}
+use Rattle.redo_core.specs.declared.table.Stage.TheVariants.{Checking, Waiting}
 use Rattle.redo_core.proofs.AgreeLemmas.{agreed-stage, decided-agrees}
 use Rattle.redo_core.proofs.CheckingLemmas.{waiting-asked}
 use Rattle.redo_core.proofs.NumberLemmas.{numbers-number}
@@ -48,7 +48,6 @@ module _ (given : GivenView) (t : Table) (stages : List StageView) (table : IsTa
   module _ (k : ℕ) (slot : Slot) (there : slice_get t.slots.items k ≡ Some slot) where
     by-stage : (stage : Stage) → slot.stage ≡ stage → is_stage_waiting stage ≡ true →
         (q : List ℕ) × IsAmong (operands r (stage_deps r (outcomes_at_limit given) (path_at t.targets k) (rounds_of slot) stage)) q × (a q ≡ None)
-    by-stage (Due held) is waits = cc
     by-stage (Checking awaiting) is waits =
         let p = path_at t.targets k in
         let s = agreed-stage r t.targets t.slots.items stages table.agreed k slot there in
@@ -76,9 +75,7 @@ module _ (given : GivenView) (t : Table) (stages : List StageView) (table : IsTa
           waited_asked given a p slot.turn begun.value fits path.0 (slice_get-among (waited_by r begun.value) lack.i path.0 path.1),
           undecided lack.k path.0 path.2 lack.undecided,
         )
-    by-stage (Ready work) is waits = cc
-    by-stage Out is waits = cc
-    by-stage (Decided fact) is waits = cc
+    by-stage _ is waits = cc
 
     pub waited-lacks : is_stage_waiting slot.stage ≡ true → (q : List ℕ) ×
         IsAmong (operands (rules_for given) (stage_deps (rules_for given) (outcomes_at_limit given) (path_at t.targets k) (rounds_of slot) slot.stage)) q ×

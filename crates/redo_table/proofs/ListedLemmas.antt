@@ -3,7 +3,7 @@ use Rattle.std.proofs.Common.{◌≡◌, inl, inr, ℕ, zero, suc, ◌+◌, ◌<
 use Rattle.std.proofs.Common.{Option, Some, None, length, slice_get, slice_set, refl, sym, ap, subst, ◌∙◌, arith, length-set, length-append, remove, ◌-◌, All, slice_index, ◌↔◌}
 use Rattle.std.proofs.lemmas.Bool.{cases_Bool}
 use Rattle.redo_table.specs.Schedule.{StageView, is_due, is_ready, is_out, times}
-use Rattle.redo_table.specs.Schedule.StageView.{Due, Ready, Out, InHand, Waiting, Decided}
+use Rattle.redo_table.specs.Schedule.StageView.{Due, Ready, Out, InHand, Waiting}
 use Rattle.redo_table.specs.inside.Listed.{one_if, IsListed}
 use Rattle.std.specs.BTreeSet.{insert_key}
 use Rattle.std.specs.BTreeMap.Range.{IsLtBy}
@@ -19,20 +19,12 @@ use Rattle.redo_table.proofs.TargetLemmas.{index-there}
 use Rattle.redo_table.proofs.TargetLemmas.{get-same, get-other, cases_eq, count-set, count-push}
 
 pub ready-is : (s : StageView) → is_ready s ≡ true → s ≡ Ready
-ready-is Due h = cc
 ready-is Ready h = refl
-ready-is Out h = cc
-ready-is InHand h = cc
-ready-is (Waiting on) h = cc
-ready-is Decided h = cc
+ready-is _ h = cc
 
 pub due-is : (s : StageView) → is_due s ≡ true → s ≡ Due
 due-is Due h = refl
-due-is Ready h = cc
-due-is Out h = cc
-due-is InHand h = cc
-due-is (Waiting on) h = cc
-due-is Decided h = cc
+due-is _ h = cc
 
 -- a count of one tells of a stage that passes
 pub one-there : (test : StageView → Bool) (o : Option StageView) → 0 < one_if test o → (s : StageView) × (o ≡ Some s) × (test s ≡ true)
@@ -53,9 +45,8 @@ one-most test (Some s) = elim (cases_Bool (test s)) [
 push-one : (test : StageView → Bool) (stages : List StageView) (k : ℕ) → test InHand ≡ false →
     one_if test (slice_get stages k) ≡ one_if test (slice_get (stages ++ InHand ∷ []) k)
 push-one test [] zero none = sym (ap {B = ℕ} (λ b. cond b 1 0) none)
-push-one test [] (suc k) none = refl
-push-one test (s ∷ ss) zero none = refl
 push-one test (s ∷ ss) (suc k) none = push-one test ss k none
+push-one test _ _ none = refl
 
 module _ (stages : List StageView) (ready newly_ready due : List ℕ) (out : ℕ) (kept : IsListed stages ready newly_ready due out) where
   pub queued-there : (k : ℕ) → 0 < times k ready → slice_get stages k ≡ Some Ready

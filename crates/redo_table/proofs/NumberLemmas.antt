@@ -46,9 +46,8 @@ unfolding at
 times-remove k xs i d lt = sum_by-remove (λ y. cond (nat_eq k y) 1 0) xs i d lt
 
 pub index-is : (xs : List ℕ) (i k d : ℕ) → slice_get xs i ≡ Some k → slice_index_or xs i d ≡ k
-index-is [] i k d h = cc
-index-is (x ∷ xs) zero k d h = cc
 index-is (x ∷ xs) (suc i) k d h = index-is xs i k d h
+index-is _ _ k d h = cc
 
 -- the number at an index is taken out
 pub times-taken : (j : ℕ) (xs : List ℕ) (i k : ℕ) → slice_get xs i ≡ Some k → times j (remove xs i) + at j k ≡ times j xs
@@ -90,9 +89,8 @@ times-insert k (x ∷ ks) p none =
 
 last-is : (ys : List ℕ) (x d n : ℕ) → n ≡ length ys → slice_index_or (ys ++ x ∷ []) n d ≡ x
 last-is [] x d zero h = refl
-last-is [] x d (suc n) h = absurd (omega (arith, h))
-last-is (y ∷ ys) x d zero h = absurd (omega (arith, h))
 last-is (y ∷ ys) x d (suc n) h = last-is ys x d n (omega (arith, h))
+last-is _ x d _ h = absurd (omega (arith, h))
 
 -- the numbers that are left when the last one is taken off
 pub popped : (xs ys : List ℕ) (r : Option ℕ) (n last : ℕ) → xs ≡ ys ++ option_to_list r → n ≡ length xs - 1 → last ≡ slice_index_or xs n last →

@@ -4,7 +4,7 @@ use Rattle.std.proofs.Common.{Some, length, slice_get, slice_set, slice_index_or
 use Rattle.std.proofs.lemmas.List.Sums.{sum_by-cons, sum_by-append}
 use Rattle.std.proofs.lemmas.Option.{slice_get_read}
 use Rattle.redo_table.specs.Schedule.{StageView, is_decided}
-use Rattle.redo_table.specs.Schedule.StageView.{Due, Ready, Out, InHand, Waiting, Decided}
+use Rattle.redo_table.specs.Schedule.StageView.{Waiting, Decided}
 use Rattle.redo_table.specs.inside.Targets.{view_of, stages_of}
 use Rattle.redo_table.specs.declared.stage.Stage.{Stage}
 use Rattle.redo_table.specs.declared.stage.Stage.TheVariants as stages
@@ -17,17 +17,14 @@ get-same (z ∷ xs) zero x y h = refl
 get-same (z ∷ xs) (suc i) x y h = get-same xs i x y h
 
 pub get-other : {X : Type 0} (xs : List X) (i k : ℕ) (y : X) → (i ≡ k → ⊥) → slice_get (slice_set xs i y) k ≡ slice_get xs k
-get-other [] i k y n = refl
 get-other (z ∷ xs) zero zero y n = absurd (n refl)
-get-other (z ∷ xs) zero (suc k) y n = refl
-get-other (z ∷ xs) (suc i) zero y n = refl
 get-other (z ∷ xs) (suc i) (suc k) y n = get-other xs i k y (λ e. n (ap suc e))
+get-other _ _ _ y n = refl
 
 pub cases_eq : (i k : ℕ) → (i ≡ k) ⊎ (i ≡ k → ⊥)
 cases_eq zero zero = inl refl
-cases_eq zero (suc k) = inr (λ e. omega (arith, e))
-cases_eq (suc i) zero = inr (λ e. omega (arith, e))
 cases_eq (suc i) (suc k) = elim (cases_eq i k) [ inl same ↦ inl (ap suc same) | inr other ↦ inr (λ e. other (omega (arith, e))) ]
+cases_eq _ _ = inr (λ e. omega (arith, e))
 
 -- an item is the one that was set, or was there before
 pub set-cases : {X : Type 0} (xs : List X) (i k : ℕ) (x y z : X) → slice_get xs i ≡ Some x → slice_get (slice_set xs i y) k ≡ Some z →
@@ -64,9 +61,8 @@ there-below (x ∷ xs) zero lt = (x, refl)
 there-below (x ∷ xs) (suc k) lt = there-below xs k (omega (arith, lt))
 
 pub stages-set : (targets : List Target) (at : ℕ) (new : Target) → stages_of (slice_set targets at new) ≡ slice_set (stages_of targets) at (view_of new.stage)
-stages-set [] at new = refl
-stages-set (x ∷ xs) zero new = refl
 stages-set (x ∷ xs) (suc at) new = ap (λ ss. view_of x.stage ∷ ss) (stages-set xs at new)
+stages-set _ _ new = refl
 
 -- a target whose stage stays
 pub stages-same : (targets : List Target) (at : ℕ) (old new : Target) → slice_get targets at ≡ Some old → view_of new.stage ≡ view_of old.stage →
@@ -101,21 +97,13 @@ pub view-there : (targets : List Target) (k : ℕ) (target : Target) (stage : St
 view-there targets k target stage h v = let both : Some (view_of target.stage) ≡ Some stage = sym (stage-there targets k target h) ∙ v in cc
 
 pub decided-is : (s : StageView) → is_decided s ≡ true → s ≡ Decided
-decided-is Due h = cc
-decided-is Ready h = cc
-decided-is Out h = cc
-decided-is InHand h = cc
-decided-is (Waiting on) h = cc
 decided-is Decided h = refl
+decided-is _ h = cc
 
 -- a stage that is seen as one that waits is one
 pub waiting-is : (stage : Stage) (on : List ℕ) → view_of stage ≡ Waiting on → (w : waits.Waiting) × (stage ≡ stages.Waiting w) × (w.on.items ≡ on)
-waiting-is stages.Due on h = cc
-waiting-is stages.Ready on h = cc
-waiting-is stages.Out on h = cc
-waiting-is stages.InHand on h = cc
 waiting-is (stages.Waiting w) on h = (w, refl, cc)
-waiting-is stages.Decided on h = cc
+waiting-is _ on h = cc
 
 -- how many pass a test, when one of them becomes another
 pub count-set : {X : Type 0} (test : X → Bool) (xs : List X) (i : ℕ) (old new : X) → slice_get xs i ≡ Some old →

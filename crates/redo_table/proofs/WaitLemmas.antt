@@ -201,12 +201,8 @@ same-waiters targets pending at old new kept there stage same =
     })
 
 pub plain-open : (stage : Stage) → is_plain stage ≡ true → is_decided (view_of stage) ≡ false
-plain-open stages.Due h = refl
-plain-open stages.Ready h = refl
-plain-open stages.Out h = refl
-plain-open stages.InHand h = refl
-plain-open (stages.Waiting w) h = refl
 plain-open stages.Decided h = cc
+plain-open _ h = refl
 
 in-hand-waits : (w : waits.Waiting) → stages.InHand ≡ stages.Waiting w → ⊥
 in-hand-waits w e = cc

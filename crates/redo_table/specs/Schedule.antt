@@ -31,35 +31,19 @@ stage_at t k = slice_get t.stages k
 
 abbrev pub is_due : StageView → Bool
 is_due Due = true
-is_due Ready = false
-is_due Out = false
-is_due InHand = false
-is_due (Waiting on) = false
-is_due Decided = false
+is_due _ = false
 
 abbrev pub is_ready : StageView → Bool
-is_ready Due = false
 is_ready Ready = true
-is_ready Out = false
-is_ready InHand = false
-is_ready (Waiting on) = false
-is_ready Decided = false
+is_ready _ = false
 
 abbrev pub is_out : StageView → Bool
-is_out Due = false
-is_out Ready = false
 is_out Out = true
-is_out InHand = false
-is_out (Waiting on) = false
-is_out Decided = false
+is_out _ = false
 
 abbrev pub is_decided : StageView → Bool
-is_decided Due = false
-is_decided Ready = false
-is_decided Out = false
-is_decided InHand = false
-is_decided (Waiting on) = false
 is_decided Decided = true
+is_decided _ = false
 
 -- one target more
 abbrev pub with_target : ScheduleView → StageView → ScheduleView

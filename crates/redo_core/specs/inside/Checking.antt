@@ -7,7 +7,7 @@ use Rattle.redo_record.specs.declared.deps.Dep.{Dep}
 use Rattle.redo_record.specs.Entries.{with_all}
 use Rattle.redo_record.specs.Paths.{IsAmong}
 use Rattle.redo_book.specs.declared.book.BookEntry.{BookEntry}
-use Rattle.redo_book.specs.declared.book.BookEntry.TheVariants.{Change, Create, Always}
+use Rattle.redo_book.specs.declared.book.BookEntry.TheVariants.{Change}
 use Rattle.redo_book.specs.Book.{Record, same_entry}
 use Rattle.redo_build.specs.Rules.{Ask, Rules, operands}
 use Rattle.redo_build.specs.Schedule.{nothing_known}
@@ -80,14 +80,12 @@ entries_in given c = entries_of_record (slice_get given.past.book c.number)
 -- the path of a `change`
 abbrev pub path_of_entry : BookEntry → Option (List ℕ)
 path_of_entry (Change state q) = Some q
-path_of_entry (Create q) = None
-path_of_entry Always = None
+path_of_entry _ = None
 
 -- the recorded state of a `change`
 abbrev pub state_of_entry : BookEntry → Option State
 state_of_entry (Change state q) = Some state
-state_of_entry (Create q) = None
-state_of_entry Always = None
+state_of_entry _ = None
 
 -- the path that a check asks for next when it is due; none if all its entries stand
 abbrev pub asks_next : GivenView → Check → Option (List ℕ)

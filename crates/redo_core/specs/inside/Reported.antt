@@ -1,5 +1,5 @@
 -- How a report is made of a table whose targets wait or are decided.
-use Rattle.std.specs.Prelude.{◌≡◌, ◌⊎◌, Bool, true, false, ℕ, List, [], ◌∷◌, ◌++◌, ◌<◌, length, Option, Some, None}
+use Rattle.std.specs.Prelude.{◌≡◌, ◌⊎◌, Bool, true, false, ℕ, List, [], ◌∷◌, ◌++◌, ◌<◌, length, Option, Some}
 use Rattle.std.specs.Prelude.{MatchOption, filter, flat_map, fold, is_some, map, slice_get, if◌then◌else◌}
 use Rattle.std.specs.Arc.{arc_value}
 use Rattle.std.specs.Borrow.{Bor}
@@ -10,7 +10,7 @@ use Rattle.redo_tree.specs.Tree.{Tree, file_at}
 use Rattle.redo_step.specs.JobView.{record_so_far}
 use Rattle.redo_record.specs.declared.deps.Dep.{Dep}
 use Rattle.redo_record.specs.declared.outcome.Outcome.{Outcome}
-use Rattle.redo_record.specs.declared.outcome.Outcome.TheVariants.{Source, Built, Failed, Cyclic}
+use Rattle.redo_record.specs.declared.outcome.Outcome.TheVariants.{Source, Built, Cyclic}
 use Rattle.redo_record.specs.Paths.{IsAmong}
 use Rattle.redo_report.specs.declared.report.Report.{Report}
 use Rattle.redo_report.specs.declared.report.Row.{Row}
@@ -19,7 +19,7 @@ use Rattle.redo_core.specs.inside.Checking.{seen_entries}
 use Rattle.redo_core.specs.inside.Decided.{IsDecided}
 use Rattle.redo_core.specs.declared.table.Slot.{Slot}
 use Rattle.redo_core.specs.declared.table.Stage.{Stage}
-use Rattle.redo_core.specs.declared.table.Stage.TheVariants.{Due, Checking, Waiting, Ready, Out, Decided}
+use Rattle.redo_core.specs.declared.table.Stage.TheVariants.{Checking, Waiting, Decided}
 use Rattle.redo_core.specs.declared.table.Table.{Table}
 
 -- these paths with more of them at their places in path order, each once
@@ -44,21 +44,17 @@ IsNumberOf targets p at = MatchOption at (IsAmong targets p → ⊥) (λ k. slic
 -- what a target comes to if nothing more can happen: one that waits is cyclic, and one that waits in its check shows
 -- the entries that it has looked at
 abbrev pub IsShown : GivenView → Stage → Outcome → List Dep → Type 0
-IsShown given (Due held) outcome deps = ⊥
 IsShown given (Checking awaiting) outcome deps =
     (outcome ≡ Cyclic) × (deps ≡ seen_entries given awaiting.held.value.check)
 IsShown given (Waiting begun) outcome deps = (outcome ≡ Cyclic) × (deps ≡ record_so_far begun.value.job)
-IsShown given (Ready work) outcome deps = ⊥
-IsShown given Out outcome deps = ⊥
 IsShown given (Decided fact) outcome deps = (outcome ≡ fact.value.outcome) × (deps ≡ fact.value.deps)
+IsShown given _ outcome deps = ⊥
 
 abbrev pub is_settled : Stage → Bool
-is_settled (Due held) = false
 is_settled (Checking awaiting) = true
 is_settled (Waiting begun) = true
-is_settled (Ready work) = false
-is_settled Out = false
 is_settled (Decided fact) = true
+is_settled _ = false
 
 -- each target waits or is decided
 abbrev pub AllSettled : Table → Type 0
@@ -66,12 +62,8 @@ AllSettled t = (k : ℕ) (slot : Slot) → slice_get t.slots.items k ≡ Some sl
 
 -- a check that waits is of a record in the book
 abbrev pub IsTold : GivenView → Stage → Type 0
-IsTold given (Due held) = Unit {0}
 IsTold given (Checking awaiting) = awaiting.held.value.check.number < length given.past.book
-IsTold given (Waiting begun) = Unit {0}
-IsTold given (Ready work) = Unit {0}
-IsTold given Out = Unit {0}
-IsTold given (Decided fact) = Unit {0}
+IsTold given _ = Unit {0}
 
 abbrev pub AllTold : GivenView → Table → Type 0
 AllTold given t = (k : ℕ) (slot : Slot) → slice_get t.slots.items k ≡ Some slot → IsTold given slot.stage
@@ -79,14 +71,12 @@ AllTold given t = (k : ℕ) (slot : Slot) → slice_get t.slots.items k ≡ Some
 -- whether the script of a target was begun: it was if the script waits, and wasn't if the check waits; else the fact
 -- says it
 abbrev pub IsBegunAs : Stage → Bool → Type 0
-IsBegunAs (Due held) begun = ⊥
 IsBegunAs (Checking awaiting) begun = begun ≡ false
 IsBegunAs (Waiting held) begun = begun ≡ true
-IsBegunAs (Ready work) begun = ⊥
-IsBegunAs Out begun = ⊥
 IsBegunAs (Decided fact) begun =
     (begun ≡ fact.value.begun) ×
     IsDecided fact.value.given fact.value.target fact.value.outcome fact.value.deps fact.value.begun
+IsBegunAs _ begun = ⊥
 
 -- the row is that of a target of the table
 pub record IsTargetRow (given : GivenView) (t : Table) (row : Row) (is_begun : Bool) : Type 0 where
@@ -109,27 +99,22 @@ IsRowOf given t row is_begun = IsTargetRow given t row is_begun ⊎ IsSourceRow 
 
 -- the file that a row's target was built with
 abbrev pub file_of : List ℕ → Outcome → List (List ℕ × List ℕ)
-file_of path Source = []
-file_of path (Built None) = []
 file_of path (Built (Some bytes)) = (path, bytes) ∷ []
-file_of path (Failed why) = []
-file_of path Cyclic = []
+file_of path _ = []
 
 abbrev pub row_files : List Row → List (List ℕ × List ℕ)
 row_files rows = flat_map (λ row. file_of row.path row.outcome) rows
 
 -- the paths of the rows whose scripts were begun, as the bits beside them say
 abbrev pub row_begun : List Row → List Bool → List (List ℕ)
-row_begun [] bits = []
-row_begun (row ∷ rows) [] = []
 row_begun (row ∷ rows) (bit ∷ bits) = (if bit then row.path ∷ [] else []) ++ row_begun rows bits
+row_begun _ _ = []
 
 -- rows, each with whether its target's script was begun
 abbrev pub AreRowsOf : GivenView → Table → List Row → List Bool → Type 0
 AreRowsOf given t [] [] = Unit {0}
-AreRowsOf given t [] (bit ∷ bits) = ⊥
-AreRowsOf given t (row ∷ rows) [] = ⊥
 AreRowsOf given t (row ∷ rows) (bit ∷ bits) = IsRowOf given t row bit × AreRowsOf given t rows bits
+AreRowsOf given t _ _ = ⊥
 
 -- a row was added, with its file if it was built with one, and its path if its script was begun
 pub record AddsRow (row : Row) (is_begun : Bool) (old new : Report) : Type 0 where

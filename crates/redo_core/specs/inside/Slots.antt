@@ -42,20 +42,12 @@ use Rattle.redo_record.specs.declared.deps.Dep.{Dep}
 use Rattle.redo_record.specs.declared.outcome.Outcome.{Outcome}
 
 abbrev pub stage_outcome : Stage → Option Outcome
-stage_outcome (Due held) = None
-stage_outcome (Checking awaiting) = None
-stage_outcome (Waiting begun) = None
-stage_outcome (Ready work) = None
-stage_outcome Out = None
 stage_outcome (Decided fact) = Some fact.value.outcome
+stage_outcome _ = None
 
 abbrev pub is_stage_out : Stage → Bool
-is_stage_out (Due held) = false
-is_stage_out (Checking awaiting) = false
-is_stage_out (Waiting begun) = false
-is_stage_out (Ready work) = false
 is_stage_out Out = true
-is_stage_out (Decided fact) = false
+is_stage_out _ = false
 
 -- how often a target stopped, in its check and in its script
 abbrev pub rounds_of : Slot → ℕ
@@ -86,9 +78,8 @@ slot_entry r a p slot = record {
 }
 
 abbrev pub slot_entries : Rules → Ask → List (List ℕ) → List Slot → List Entry
-slot_entries r a [] slots = []
-slot_entries r a (p ∷ ps) [] = []
 slot_entries r a (p ∷ ps) (slot ∷ slots) = slot_entry r a p slot ∷ slot_entries r a ps slots
+slot_entries r a _ _ = []
 
 abbrev pub path_at : List (List ℕ) → ℕ → List ℕ
 path_at ps i = unwrap_or (slice_get ps i) []
@@ -126,9 +117,8 @@ IsParked given p turn work = (work.given ≡ given) × (work.target ≡ p) × (w
 -- the numbers are those of the paths, one for one
 abbrev pub AreNumbers : List (List ℕ) → List ℕ → List (List ℕ) → Type 0
 AreNumbers ps [] [] = Unit {0}
-AreNumbers ps [] (q ∷ qs) = ⊥
-AreNumbers ps (n ∷ ns) [] = ⊥
 AreNumbers ps (n ∷ ns) (q ∷ qs) = (slice_get ps n ≡ Some q) × AreNumbers ps ns qs
+AreNumbers ps _ _ = ⊥
 
 -- everything that these entries wait for has an answer
 abbrev pub AllAnswered : Rules → Ask → List Dep → Type 0
@@ -201,28 +191,17 @@ pub record AreAgreed (r : Rules) (ps : List (List ℕ)) (slots : List Slot) (sta
       Agrees r ps slot.stage s
 
 abbrev pub is_stage_ready : Stage → Bool
-is_stage_ready (Due held) = false
-is_stage_ready (Checking awaiting) = false
-is_stage_ready (Waiting begun) = false
 is_stage_ready (Ready work) = true
-is_stage_ready Out = false
-is_stage_ready (Decided fact) = false
+is_stage_ready _ = false
 
 abbrev pub is_stage_waiting : Stage → Bool
-is_stage_waiting (Due held) = false
 is_stage_waiting (Checking awaiting) = true
 is_stage_waiting (Waiting begun) = true
-is_stage_waiting (Ready work) = false
-is_stage_waiting Out = false
-is_stage_waiting (Decided fact) = false
+is_stage_waiting _ = false
 
 abbrev pub is_stage_due : Stage → Bool
 is_stage_due (Due held) = true
-is_stage_due (Checking awaiting) = false
-is_stage_due (Waiting begun) = false
-is_stage_due (Ready work) = false
-is_stage_due Out = false
-is_stage_due (Decided fact) = false
+is_stage_due _ = false
 
 abbrev pub AllFit : Rules → ℕ → GivenView → List (List ℕ) → List Slot → Type 0
 AllFit r depth given ps slots = (k : ℕ) (slot : Slot) → slice_get slots k ≡ Some slot →
@@ -264,12 +243,8 @@ pub record IsBoard (b : Inside) : Type 0 where
   pub too_many : b.stopped ≡ Some TooMany → IsTooMany (rules_inside b) b.build.request b.build.limits.targets
 
 abbrev pub is_stage_decided : Stage → Bool
-is_stage_decided (Due held) = false
-is_stage_decided (Checking awaiting) = false
-is_stage_decided (Waiting begun) = false
-is_stage_decided (Ready work) = false
-is_stage_decided Out = false
 is_stage_decided (Decided fact) = true
+is_stage_decided _ = false
 
 -- how many slots are decided
 abbrev pub decided_slots : List Slot → ℕ
@@ -436,37 +411,29 @@ IsSettled given t u = IsSettling given t u × EachLacks u.schedule.stages
 
 -- a stage in which a target waits, of which settling leaves fewer
 abbrev pub is_waiting : StageView → Bool
-is_waiting AtDue = false
-is_waiting AtReady = false
-is_waiting AtOut = false
-is_waiting AtHand = false
 is_waiting (AtWaiting on) = true
-is_waiting AtDecided = false
+is_waiting _ = false
 
 -- the first stage of a path
 abbrev pub IsFirstStage : GivenView → List ℕ → Stage → Type 0
 IsFirstStage given p (Due held) =
     ((a : Ask) → IsDueWith (rules_for given) a given p 0 held.value) × (held.value.check.asked ≡ []) ×
     ((rules_for given).has_rule p ≡ true)
-IsFirstStage given p (Checking awaiting) = ⊥
-IsFirstStage given p (Waiting begun) = ⊥
 IsFirstStage given p (Ready work) =
     IsParked given p 0 work × (work.deps ≡ []) × ((rules_for given).has_rule p ≡ true) ×
     ((a : Ask) → (rules_for given).begins p a ≡ true)
-IsFirstStage given p Out = ⊥
 IsFirstStage given p (Decided fact) =
     (fact.value.given ≡ given) × (fact.value.target ≡ p) ×
     ((rules_for given).has_rule p ≡ false) ×
     (((rules_for given).progress p nothing_known).outcome ≡ Some fact.value.outcome)
+IsFirstStage given p _ = ⊥
 
 -- where the schedule has a path at first sight
 abbrev pub first_in_schedule : Stage → StageView
 first_in_schedule (Due held) = AtDue
-first_in_schedule (Checking awaiting) = AtHand
-first_in_schedule (Waiting begun) = AtHand
 first_in_schedule (Ready work) = AtReady
-first_in_schedule Out = AtHand
 first_in_schedule (Decided fact) = AtDecided
+first_in_schedule _ = AtHand
 
 -- a new path has a slot behind the others
 pub record IsPushed (given : GivenView) (t u : Table) (p : List ℕ) : Type 0 where

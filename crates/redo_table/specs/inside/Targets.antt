@@ -24,12 +24,9 @@ stages_of = map (λ target. view_of target.stage)
 
 -- in this stage a target neither waits nor is decided
 abbrev pub is_plain : Stage → Bool
-is_plain stages.Due = true
-is_plain stages.Ready = true
-is_plain stages.Out = true
-is_plain stages.InHand = true
 is_plain (stages.Waiting w) = false
 is_plain stages.Decided = false
+is_plain _ = true
 
 abbrev pub is_decided_target : Target → Bool
 is_decided_target target = is_decided (view_of target.stage)

@@ -9,11 +9,10 @@ both false b h = cc
 
 same_texts : (xs ys : List (List ℕ)) → pointwise (pointwise nat_eq) xs ys ≡ true → xs ≡ ys
 same_texts [] [] h = refl
-same_texts [] (y ∷ ys) h = cc
-same_texts (x ∷ xs) [] h = cc
 same_texts (x ∷ xs) (y ∷ ys) h =
     let k = both (pointwise nat_eq x y) (pointwise (pointwise nat_eq) xs ys) h in
     λ i. same_text x y (sym k.0) i ∷ same_texts xs ys k.1 i
+same_texts _ _ h = cc
 
 pub returns : goal.returns
 returns c = (
