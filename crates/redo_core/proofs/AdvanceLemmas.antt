@@ -11,7 +11,7 @@ use Rattle.redo_record.specs.Progress.{Progress, changes}
 use Rattle.redo_tree.specs.Tree.{Tree, file_at}
 use Rattle.redo_step.specs.Setting.{Setting, is_rule, setting_by}
 use Rattle.redo_step.specs.Reach.{Keeps}
-use Rattle.redo_step.specs.JobView.{JobView, job_setting, progress_of, record_so_far, IsFit}
+use Rattle.redo_step.specs.JobView.{JobView, job_setting, progress_of, record_so_far}
 use Rattle.redo_step.specs.Job.{AsksFor, EndsAs, with_rest}
 use Rattle.redo_record.specs.Paths.{IsAmong}
 use Rattle.redo_build.specs.Rules.{Ask, Rules, AreLawful, asked_under, operands}
@@ -34,7 +34,7 @@ use Rattle.redo_build.proofs.HandoverLemmas.{piece-begun, piece-fact}
 use Rattle.redo_core.proofs.AllAskedLemmas.{asked-first}
 use Rattle.redo_core.proofs.JobLemmas.{job_progress}
 use Rattle.redo_record.specs.Entries.{with_all}
-use Rattle.redo_core.proofs.StopLemmas.{MoreAnswers, keeps-itself, stopped-lacks}
+use Rattle.redo_core.proofs.StopLemmas.{MoreAnswers, stopped-lacks}
 use Rattle.redo_build.proofs.TurnLemmas.{only-among, only-some}
 
 -- What lacks
@@ -96,10 +96,6 @@ module _ (given : GivenView) (job : JobView) (facts : Facts) (work : IsWorkWith 
   has-all : (q : List ℕ) → IsAmong (operands (rules_for given) (all_asked job facts)) q → told_in facts q ≡ None → ⊥
   has-all q asked none =
       work.is_work.fed q asked (sym (only-among (operands r (all_asked job facts)) (outcome_at r work.is_work.depth) q asked) ∙ sym (work.exact q) ∙ none)
-
-  -- it can go on
-  pub work-fits : IsFit job (told_in facts)
-  work-fits = work.goes_on (told_in facts) (keeps-itself (job_setting job) job.state.entries (told_in facts))
 
   -- how far the target comes with what the work holds is how far it comes at its turn
   at-turn : (rules_for given).progress job.target (told_in facts) ≡ progress_at_turn (rules_for given) job.target (outcome_at (rules_for given) work.is_work.depth) (work.is_work.looks + job.turn)
@@ -184,12 +180,6 @@ module _ (given : GivenView) (job : JobView) (facts : Facts) (work : IsWorkWith 
             is_end = (of_given, of_target);
           })
 
-      -- what an end says is how far the target comes with what the work holds
-      pub ended-progress : end_progress (Ended fact asked) ≡ (rules_for given).progress job.target (told_in facts)
-      ended-progress =
-          ap (λ ds. end_progress (Ended fact ds)) first ∙
-          work-progress (record { outcome = Some fact.outcome; deps = fact.deps }) (ends ∙ rw (outcome, deps) refl)
-
   module _ (later : JobView) (paths : List (List ℕ)) (asks : AsksFor (told_in facts) job later paths) where
     still_job : IsJobOf given later
     still_job =
@@ -239,11 +229,6 @@ module _ (given : GivenView) (job : JobView) (facts : Facts) (work : IsWorkWith 
           is_piece = rw is (advanced-piece (record { outcome = None; deps = record_so_far later }) asks.progress);
           is_end = (rw is advanced-stopped, same ∙ rw is (paths-are loops law));
         }
-
-    pub asks-progress : (loops : Bool) (begun : Box Begun Global) (lacks : Vec (List ℕ) Global) →
-        begun.value ≡ record { job = later; facts = facts; loops_long = loops } →
-        end_progress (Stopped begun lacks) ≡ (rules_for given).progress job.target (told_in facts)
-    asks-progress loops begun lacks is = rw is (work-progress (record { outcome = None; deps = record_so_far later }) asks.progress)
 
   -- what the piece says has an outcome exactly where the work lacks nothing
   pub end-lacks : (end : End) → end_progress end ≡ (rules_for given).progress job.target (told_in facts) →

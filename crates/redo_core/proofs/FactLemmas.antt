@@ -1,6 +1,6 @@
 -- What facts tell.
 use Rattle.std.proofs.Common.{◌≡◌, ℕ, List, [], ◌∷◌, ◌++◌, Bool, Option, Some, None, inl, inr, map, cond, refl, sym, ap}
-use Rattle.std.proofs.Common.{◌∙◌, bytes_eq, zero, suc, ◌+◌, ◌<◌, ◌≤◌, length, drop, slice_index_or, arith}
+use Rattle.std.proofs.Common.{◌∙◌, bytes_eq, zero, suc, ◌+◌, ◌<◌, length, drop, slice_index_or, arith}
 use Rattle.std.specs.Map.{lookup}
 use Rattle.std.specs.Prelude.{option_map}
 use Rattle.std.proofs.lemmas.Bool.{cases_Bool, both_ways}
@@ -64,9 +64,3 @@ left-answers fs i x p below is =
     let rest = lookup (bytes_eq p) (few_known (drop (i + 1) fs)) in
     ap (λ xs. lookup (bytes_eq p) (few_known xs)) (drop-item fs i x below ∙ ap (λ y. y ∷ drop (i + 1) fs) (sym is)) ∙
     ap (λ b. cond b (Some x.value.outcome) rest) (either-way target p)
-
-pub none-left : (fs : List (Shown FactView)) (i : ℕ) → length fs ≤ i → drop i fs ≡ []
-none-left [] zero h = refl
-none-left [] (suc i) h = refl
-none-left (f ∷ fs) zero h = absurd (omega arith)
-none-left (f ∷ fs) (suc i) h = none-left fs i (omega arith)

@@ -110,7 +110,3 @@ first-unread given p rule facts found known asked behind =
       exact = work.1;
       behind = subst B (sym asked) (behind-moves given p [] nothing_known (told_in facts) behind (λ q m. absurd m));
     }
-
--- whatever is known
-pub first-at-once : (given : GivenView) (p : List ℕ) → IsBegunBehind given p [] nothing_known → (a : Ask) → (rules_for given).begins p a ≡ true
-first-at-once given p behind a = behind.begins a (λ q m. absurd m)

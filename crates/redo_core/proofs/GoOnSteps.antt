@@ -14,7 +14,7 @@ use Rattle.redo_table.specs.Schedule.StageView.{Waiting as AtWaiting, Decided as
 use Rattle.redo_table.proofs.TargetLemmas.{count-set, get-same, set-cases}
 use Rattle.redo_core.specs.inside.Slots.{outcomes_at_limit, Agrees, AllAnswered, AreNumbers, Fits, IsAnsweredAt, IsAnsweredCheck, IsDecidedNumber}
 use Rattle.redo_core.specs.inside.Slots.{IsFed, IsGoneOnAt, IsMadeReadyAt, IsParked, IsResumedAt, IsSettling, IsStandingTable}
-use Rattle.redo_core.specs.inside.Slots.{IsWaitingWith, IsTable, is_stage_due, is_stage_out, is_stage_ready, is_waiting, next_stage}
+use Rattle.redo_core.specs.inside.Slots.{IsWaitingWith, is_stage_due, is_stage_out, is_stage_ready, is_waiting, next_stage}
 use Rattle.redo_core.specs.inside.Slots.{path_at, slot_entry, stage_outcome, table_entries}
 use Rattle.redo_core.specs.inside.Works.{all_asked, waited_by}
 use Rattle.redo_core.specs.declared.work.Begun.{Begun}
@@ -185,9 +185,6 @@ module _ (given : GivenView) (t : Table) (at : ℕ) (on : List ℕ) (answered : 
       let old : slot_entry r b p f.old ≡ E asked None false = rw f.was refl in
       gone-on u f.old (record f.old { stage = f.stage }) (next_stage f.stage) f.there (new ∙ sym old) next.0 f.fits f.targets f.slots f.schedule
       (next-is f.stage)
-
-pub settling-none : (given : GivenView) (t : Table) → IsTable (rules_for given) given t.targets t.slots.items t.schedule.stages → IsSettling given t t
-settling-none given t table = record { table = table; entries = refl; targets = refl; ready = refl; in_hand = λ k h. h }
 
 -- one target more went on
 module _ (given : GivenView) (t mid : Table) (settling : IsSettling given t mid) (at : ℕ) (on : List ℕ) (answered : IsAnswered mid.schedule.stages at on) where

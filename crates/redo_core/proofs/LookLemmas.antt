@@ -284,14 +284,3 @@ looked-less given whole drawn u at is_drawn once =
     let few : length (happens q (S whole) (Look e.path)).entries ≤ limit =
     (let L : State → Type 0 = λ x. length x.entries ≤ limit in subst L state (rest-few given u once.at_rest)) in
     subst P (sym state) (look-left q lawful given.request (S whole) sound e.path limit open' few)
-
--- a table that is as it was is at rest
-pub rest-same : (given : GivenView) (t u : Table) → IsAtRest given t → u.targets ≡ t.targets → u.slots ≡ t.slots →
-    u.schedule ≡ t.schedule → IsAtRest given u
-rest-same given t u rest targets slots schedule =
-    let items : u.slots.items ≡ t.slots.items = ap (λ (v : Vec Slot Global). v.items) slots in
-    record {
-      reached = rw (targets, items, schedule) rest.reached;
-      table = rw (targets, items, schedule) rest.table;
-      resting = rw schedule rest.resting;
-    }

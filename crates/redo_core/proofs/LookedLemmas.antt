@@ -1,6 +1,6 @@
 -- What so many looks lead to: a state that is reached, with as many jobs out and no more takes left; and a state that
 -- shows the build leaves nothing to look at.
-use Rattle.std.proofs.Common.{◌≡◌, ℕ, zero, suc, ◌≤◌, inl, inr, List, [], ◌∷◌, ◌++◌, length, Option, Some, None}
+use Rattle.std.proofs.Common.{◌≡◌, ℕ, zero, suc, ◌≤◌, inl, inr, List, [], ◌∷◌, length, Option, Some, None}
 use Rattle.std.proofs.Common.{true, refl, sym, ap, subst, ◌∙◌, arith}
 use Rattle.std.proofs.lemmas.Bool.{cases_Bool, and_parts}
 use Rattle.redo_record.specs.Paths.{IsAmong}
@@ -8,8 +8,8 @@ use Rattle.redo_record.specs.Progress.{Progress}
 use Rattle.redo_record.specs.declared.deps.Dep.{Dep}
 use Rattle.redo_build.specs.Rules.{Ask, Rules, AreLawful, operands}
 use Rattle.redo_build.specs.Outcomes.{outcome_at}
-use Rattle.redo_build.specs.Schedule.{Entry, State, Phase, AllOpen, advanced, entered, entry_of, handed_in, happens}
-use Rattle.redo_build.specs.Schedule.{is_able_to_go_on, is_due, moved_on, opening, paths_of, put, run}
+use Rattle.redo_build.specs.Schedule.{Entry, State, Phase, advanced, entered, entry_of, handed_in, happens}
+use Rattle.redo_build.specs.Schedule.{is_able_to_go_on, is_due, moved_on, opening, paths_of, put}
 use Rattle.redo_build.specs.Schedule.Event.{Look}
 use Rattle.redo_build.specs.Schedule.Phase.{Check}
 use Rattle.redo_build.specs.Looking.{NoneDue, first_due, looked, looked_once}
@@ -18,11 +18,10 @@ use Rattle.redo_build.specs.Theorems.{ShowsBuild}
 use Rattle.redo_build.proofs.CountLemmas.{look-left}
 use Rattle.redo_build.proofs.DepthLemmas.{cases_Option, outcome_at-step, settled}
 use Rattle.redo_build.proofs.DueLemmas.{none-due-from}
-use Rattle.redo_build.proofs.LookingLemmas.{first-look, first-open, looks-lead}
+use Rattle.redo_build.proofs.LookingLemmas.{first-look, first-open}
 use Rattle.redo_build.proofs.SeenLemmas.{entered-longer, entry_of-among, outcomes_of-at, paths_of-put}
 use Rattle.redo_build.proofs.SoundLemmas.{IsSound, happens-sound, is_able_to_go_on-parts, lacks_none-true}
 use Rattle.redo_build.proofs.SoundLemmas.{opening-sound, run-sound}
-use Rattle.redo_build.proofs.StillLemmas.{AllOpen-behind, run-behind}
 use Rattle.redo_core.specs.Views.{IsReached}
 
 length-paths : (es : List Entry) → length (paths_of es) ≡ length es
@@ -53,18 +52,6 @@ module _ (r : Rules) (lawful : AreLawful r) (request : List (List ℕ)) where
       subst P (sym reached.ends)
       (run-sound r lawful request (opening r request) reached.events
       (opening-sound r lawful request) reached.all_open)
-
-  pub reached-looked : (looks : ℕ) (s : State) → IsReached r request s → IsReached r request (looked r looks s)
-  reached-looked looks s reached =
-      let first : State = opening r request in
-      let led = looks-lead r lawful request looks s (reached-sound s reached) in
-      let P : State → Type 0 = λ x. AllOpen r x led.looks in
-      record {
-        events = reached.events ++ led.looks;
-        all_open =
-            AllOpen-behind r reached.events led.looks first reached.all_open (subst P reached.ends led.all_open);
-        ends = led.is ∙ ap (run r led.looks) reached.ends ∙ sym (run-behind r reached.events led.looks first);
-      }
 
   -- looks leave no more to take
   pub looked-left : (limit looks : ℕ) (s : State) → IsSound r request s → length (looked r looks s).entries ≤ limit →

@@ -19,7 +19,7 @@ use Rattle.redo_build.proofs.CountLemmas.{opening-left, opening-out}
 use Rattle.redo_build.proofs.StillLemmas.{looked-count}
 use Rattle.redo_table.specs.Schedule.{StageView, ScheduleView, EachLacks, NoneDue, no_targets, stage_at}
 use Rattle.redo_table.specs.Schedule.StageView.{Due as AtDue, Ready as AtReady, InHand as AtHand, Waiting as AtWaiting, Decided as AtDecided}
-use Rattle.redo_core.specs.inside.Slots.{IsAtRest, IsKept, table_entries, table_state, targets_in}
+use Rattle.redo_core.specs.inside.Slots.{IsKept, table_entries, table_state, targets_in}
 use Rattle.redo_core.specs.inside.Slots.{AreEnteredInto, AreEnqueued, IsFirstTable, IsLookedOn, rules_inside, state_of}
 use Rattle.redo_core.proofs.LookLemmas.{none_due}
 use Rattle.redo_core.proofs.LookedLemmas.{looked-left, looked-longer}
@@ -105,14 +105,6 @@ first-is given t u v keys slots schedule a w =
       | inl due ↦ cc
       | inr other ↦ elim other as (λ _. ⊥) [ inl is ↦ cc | inr decided ↦ cc ]
     ])
-
--- the first table is at rest
-pub first-at_rest : (given : GivenView) (t : Table) → IsFirstTable given t → IsAtRest given t
-first-at_rest given t first = record {
-  reached = record { events = []; all_open = tt; ends = first.state };
-  table = first.table;
-  resting = first.resting;
-}
 
 -- what a board has come to that was opened and has looked ahead
 module _ (b : Inside) (t : Table) (first : IsFirstTable b.build t) (ahead : IsLookedOn b.build t b.table) (none : NoneDue b.table.schedule) where

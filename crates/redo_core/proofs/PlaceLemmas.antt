@@ -44,10 +44,6 @@ ascends-from n (x ∷ xs) all least = (
 pub increasing-ascends : (xs : List ℕ) → IsStrictlyIncreasing xs → AscendFrom 0 xs
 increasing-ascends xs up = ascends-from 0 xs (AllPairs-from_increasing xs up) (λ d some. omega arith)
 
-from_later : (n m : ℕ) (is : List ℕ) → n ≤ m → AscendFrom m is → AscendFrom n is
-from_later n m [] h a = tt
-from_later n m (i ∷ is) h a = (omega (arith, a.0), a.1)
-
 below_none : (n : ℕ) (is : List ℕ) (k : ℕ) → k < n → AscendFrom n is → IsPlace is k → ⊥
 below_none n [] k h a m = m
 below_none n (i ∷ is) k h a m = elim m [

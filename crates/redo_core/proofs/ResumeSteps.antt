@@ -235,9 +235,6 @@ module _ (given : GivenView) (t : Table) (at place : ℕ) (slot : Slot) (awaitin
   known : outcomes_of (table_entries given t) awaiting.path ≡ Some goes.fact.value.outcome
   known = answer-known given t at place slot awaiting answer u gone out slots goes.fact goes.there
 
-  pub held-asked : held.check.asked ≡ awaiting.held.value.check.asked
-  held-asked = asked
-
   pub held-due : stands ≡ true → IsDueWith (rules_for given) (outcomes_of (table_entries given t)) given (path_at t.targets at) slot.turn held
   held-due yes' =
       let a = outcomes_of (table_entries given t) in

@@ -1,5 +1,5 @@
 -- What changes of single slots keep.
-use Rattle.std.proofs.Common.{slice_get, slice_index_or, slice_set, ◌≡◌, ℕ, zero, suc, ◌⊎◌, inl, inr, List, []}
+use Rattle.std.proofs.Common.{slice_get, slice_set, ◌≡◌, ℕ, zero, suc, ◌⊎◌, inl, inr, List, []}
 use Rattle.std.proofs.Common.{◌∷◌, Some, None, refl, sym, ap, subst, ◌∙◌, arith, bytes_eq}
 use Rattle.std.proofs.lemmas.Bool.{cases_Bool, both_ways}
 use Rattle.redo_record.specs.Paths.{IsAmong, AreDistinct, is_among}
@@ -12,15 +12,14 @@ use Rattle.redo_rules.proofs.Public.{lawful_for}
 use Rattle.redo_rules.specs.Build.{GivenView, rules_for}
 use Rattle.redo_table.proofs.TargetLemmas.{get-same}
 use Rattle.redo_core.specs.inside.Slots.{entries_from, slot_entry, stage_outcome, path_at}
-use Rattle.redo_core.specs.inside.Slots.{Fits, AllAnswered, AllFit, IsOutThere}
+use Rattle.redo_core.specs.inside.Slots.{Fits, AllAnswered, AllFit}
 use Rattle.redo_core.specs.inside.Works.{all_asked}
 use Rattle.redo_core.specs.inside.Checking.{TellsAlike}
 use Rattle.redo_core.specs.declared.table.Slot.{Slot}
-use Rattle.redo_core.specs.declared.table.Table.{Table}
 use Rattle.redo_core.specs.declared.table.Stage.{Stage}
 use Rattle.redo_core.specs.declared.table.Stage.TheVariants.{Due, Checking, Waiting, Ready, Out}
 use Rattle.redo_build.proofs.DepthLemmas.{cases_Option, operand-target}
-use Rattle.redo_core.proofs.SlotLemmas.{entry_of-slots, slice_get-below_some, slice_get-item, slot_entries-set}
+use Rattle.redo_core.proofs.SlotLemmas.{entry_of-slots, slot_entries-set}
 use Rattle.std.proofs.lemmas.Slice.Eq.{bytes_eq-Decides}
 use Rattle.redo_build.proofs.PathLemmas.{is_among-true}
 use Rattle.redo_core.proofs.CheckingLemmas.{due-moves, waiting-moves}
@@ -158,15 +157,6 @@ module _ (r : Rules) (lawful : AreLawful r) (n : ℕ) (ps : List (List ℕ)) (sl
 pub set-twice : {X : Type 0} (xs : List X) (at : ℕ) (x y : X) → slice_set (slice_set xs at x) at y ≡ slice_set xs at y
 set-twice (z ∷ xs) (suc at) x y = ap (λ ys. z ∷ ys) (set-twice xs at x y)
 set-twice _ _ x y = refl
-
--- the slot that the code finds at the number of a target that is out
-pub out-slot : (t : Table) (at : ℕ) (found : Slot) → IsOutThere t at → found ≡ slice_index_or t.slots.items at found →
-    (slice_get t.slots.items at ≡ Some found) × (found.stage ≡ Out)
-out-slot t at found (open', out) is =
-    let there = slice_get-item t.slots.items at found (slice_get-below_some t.slots.items at out.0 out.1) is in
-    let both : Some out.0 ≡ Some found = sym out.1 ∙ there in
-    let same : found ≡ out.0 = cc in
-    (there, ap (λ (y : Slot). y.stage) same ∙ out.2)
 
 -- a slot whose stage was taken out for a while, and that is written again
 pub put-again : (slots : List Slot) (at : ℕ) (slot gone found : Slot) → slice_get slots at ≡ Some slot → gone ≡ record slot { stage = Out } →

@@ -13,12 +13,12 @@ ghost use Rattle.redo_core.specs.inside.Slots.{IsResumedAt, GoesOnWith, IsFallen
 ghost use Rattle.redo_core.specs.inside.Slots.{decided_slots, IsAskedAt, IsTakenOut, IsDueThere};
 ghost use Rattle.redo_core.specs.inside.Works.{known_in};
 
-use crate::first::first_stage;
 use crate::board::Stop;
 use crate::build::Build;
 use crate::check::Check;
 use crate::fact::Fact;
 use crate::facts::Facts;
+use crate::first::first_stage;
 use crate::work::{Begun, Work};
 use redo_names::PathSet;
 use redo_path::Path;

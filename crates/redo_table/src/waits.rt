@@ -7,7 +7,7 @@ ghost use Rattle.redo_table.specs.Schedule.StageView.{Out, InHand, Decided, Wait
 ghost use Rattle.redo_table.specs.inside.Targets.{AreDecidedFrom, IsLackingAt, IsUndecided, LacksAt, IsLook};
 ghost use Rattle.redo_table.specs.inside.Targets.{view_of, is_plain};
 
-use crate::stage::{Target, Stage, Waiting};
+use crate::stage::{Stage, Target, Waiting};
 use std::alloc::{AllocError, Global};
 use std::marker::Model;
 use std::mem;

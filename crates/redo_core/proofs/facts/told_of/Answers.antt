@@ -1,9 +1,9 @@
-use Rattle.std.proofs.Common.{◌≡◌, ◌+◌, cond, drop, bytes_eq, Option, Some, sym, ap, ◌∙◌, arith}
+use Rattle.std.proofs.Common.{◌≡◌, ◌+◌, cond, drop, bytes_eq, Option, Some, sym, ap, ◌∙◌}
 use Rattle.std.specs.Map.{lookup}
 use Rattle.redo_record.specs.declared.outcome.Outcome.{Outcome}
 use Rattle.redo_core.specs.Views.{FactView}
 use Rattle.redo_core.specs.inside.Works.{few_known}
-use Rattle.redo_core.proofs.FactLemmas.{left-answers, none-left}
+use Rattle.redo_core.proofs.FactLemmas.{left-answers}
 use Rattle.redo_core.proofs.facts.told_of.Goals as goal
 use Rattle.redo_core.proofs.facts.told_of.Goals.{After-eq}
 
@@ -29,8 +29,3 @@ loop-fact-preserved c =
     let found = here d in
     let no' = sym c.eq.ensures ∙ c.if-eq.false in
     rw no' at found
-
-pub returns : goal.returns
-returns c =
-    let none = none-left c.args.facts.now c.loop-fact.fact-index (omega (arith, c.loop-fact-test.false)) in
-    sym (c.loop-fact.invariant ∙ ap (λ xs. lookup (bytes_eq c.args.path.now) (few_known xs)) none)

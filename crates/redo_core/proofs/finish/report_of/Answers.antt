@@ -1,17 +1,10 @@
 use Rattle.std.proofs.Common.{◌≡◌, ◌++◌, ◌∷◌, [], ◌+◌, ◌<◌, ℕ, List, Option, Bor, length, map, drop, if◌then◌else◌}
-use Rattle.std.proofs.Common.{slice_index_or, sym, ap, subst, ◌∙◌, arith}
+use Rattle.std.proofs.Common.{sym, ap, subst, ◌∙◌, arith}
 use Rattle.std.proofs.lemmas.List.{append_assoc, drop_more, map-append}
-use Rattle.redo_core.specs.inside.Reported.{AreRowsOf, IsNumberOf, file_of, listed_paths, row_begun, row_files}
+use Rattle.redo_core.specs.inside.Reported.{AreRowsOf, file_of, listed_paths, row_begun, row_files}
 use Rattle.redo_report.specs.declared.report.Row.{Row}
 use Rattle.redo_core.proofs.RowLemmas.{rows-added, files-added, begun-added}
 use Rattle.redo_core.proofs.finish.report_of.Goals as goal
-
-pub row_of-requires-clause-number : goal.row_of-requires-clause-number
-row_of-requires-clause-number c =
-    let P : Bor (List ℕ) × Option ℕ → Type 0 = λ e. IsNumberOf c.args.table.now.targets e.0.now e.1 in
-    let Q : List (Bor (List ℕ) × Option ℕ) → Type 0 = λ es. (k : ℕ) (d : Bor (List ℕ) × Option ℕ) → k < length es → P (slice_index_or es k d) in
-    let numbers : Q c.deref-path-items.result.now = subst Q (sym c.deref-path-items.ensures.value) c.in_ok-listed.ensures.numbers in
-    subst P (sym c.loop-path-item.is) (numbers c.loop-path.path-index c.loop-path-item.result (omega (arith, c.loop-path-test.true, c.loop-path.auto.path-index-end)))
 
 pub loop-path-preserved : goal.loop-path-preserved
 loop-path-preserved c =

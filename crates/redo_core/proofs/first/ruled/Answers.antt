@@ -1,14 +1,13 @@
-use Rattle.std.proofs.Common.{◌≡◌, [], Option, sym, ap, subst, ◌∙◌}
+use Rattle.std.proofs.Common.{◌≡◌, [], Option, sym, subst}
 use Rattle.std.specs.Prelude.{IfSome, IfNone}
 use Rattle.redo_build.specs.Rules.{Ask}
 use Rattle.redo_build.specs.Schedule.{nothing_known}
 use Rattle.redo_rules.specs.Build.{GivenView, rules_for}
-use Rattle.redo_core.specs.Views.{WorkView}
 use Rattle.redo_core.specs.inside.Checking.{IsBegunBehind, IsDueCheck}
 use Rattle.redo_core.specs.inside.Slots.{IsDueWith}
 use Rattle.redo_core.specs.declared.check.Check.{Check}
 use Rattle.redo_core.specs.declared.table.InCheck.{InCheck}
-use Rattle.redo_core.proofs.FirstStageLemmas.{first-at-once, first-due, first-unread, ruled}
+use Rattle.redo_core.proofs.FirstStageLemmas.{first-due, first-unread, ruled}
 use Rattle.redo_core.proofs.first.ruled.Goals as goal
 use Rattle.redo_core.proofs.first.ruled.Goals.{In_default}
 
@@ -37,16 +36,3 @@ pub unread-requires : goal.unread-requires
 unread-requires c =
     rw (c.in_ok-own.ensures, c.in_ok-target.ensures.cases) (first-unread c.args.build.now c.args.path.now c.args.rule c.new-facts.result c.requires
     c.new-facts.ensures.empty c.new-facts.ensures.asked (behind (goal.at-unread-requires c).In_default))
-
-pub returns : goal.returns
-returns c =
-    let is = c.in_ok-work.ensures in (
-      (
-        ap (λ (w : WorkView). w.given) is ∙ c.in_ok-own.ensures,
-        ap (λ (w : WorkView). w.target) is ∙ c.in_ok-target.ensures.cases,
-        ap (λ (w : WorkView). w.turn) is,
-      ),
-      ap (λ (w : WorkView). w.deps) is ∙ c.new-facts.ensures.asked,
-      ruled c.args.build.now c.args.path.now c.args.rule c.requires,
-      first-at-once c.args.build.now c.args.path.now (behind (goal.at-returns c).In_default),
-    )

@@ -15,11 +15,6 @@ report_of-requires-clause-settled c =
     let quiet = quiet-inside c.self.inside c.args.self c.self.view_is c.requires in
     settled-inside c.self.inside (c.self.invariant.kept quiet.0) quiet.1
 
-pub report_of-requires-clause-one_each : goal.report_of-requires-clause-one_each
-report_of-requires-clause-one_each c =
-    let quiet = quiet-inside c.self.inside c.args.self c.self.view_is c.requires in
-    (c.self.invariant.kept quiet.0).at_rest.table.one_each
-
 pub report_of-requires-clause-told : goal.report_of-requires-clause-told
 report_of-requires-clause-told c =
     let quiet = quiet-inside c.self.inside c.args.self c.self.view_is c.requires in

@@ -5,7 +5,7 @@ use Rattle.redo_core.specs.inside.Slots.{IsKept, state_of}
 use Rattle.redo_core.specs.declared.board.Board.TheInside.{Inside}
 use Rattle.redo_core.proofs.GivenLemmas.{given-of, no-book, at-limit}
 use Rattle.redo_core.proofs.TakeLemmas.{part-inside, length-entries}
-use Rattle.redo_core.proofs.OpeningLemmas.{first-at_rest, opened-kept, opened-left, opened-looked, opened-out, opening-many}
+use Rattle.redo_core.proofs.OpeningLemmas.{opened-kept, opened-left, opened-looked, opened-out, opening-many}
 use Rattle.redo_core.proofs.board.Board.over.Goals as goal
 use Rattle.redo_core.proofs.board.Board.over.Goals.{In_ok-look_ahead, In_ok-build}
 
@@ -25,14 +25,6 @@ given c = given-of c.args.past.tree c.args.request.now c.args.limits c.args.past
 -- the limits are those of the caller
 limits : (c : In_ok-build) → c.in_ok-build.build.limits ≡ c.args.limits
 limits c = ap (λ (g : GivenView). g.limits) (c.in_ok-build.ensures ∙ c.in_ok-given.ensures)
-
-pub look_ahead-requires : goal.look_ahead-requires
-look_ahead-requires c = first-at_rest c.in_ok-build.build c.in_ok-table.table c.in_ok-table.ensures.ok
-
-pub returns-in_err-table-clause-book : goal.returns-in_err-table-clause-book
-returns-in_err-table-clause-book c = λ n is.
-    let made = rw is at c.from_residual-in_err-table.ensures in
-    absurd (no-book c.in_err-table.field-0.0 n made.1)
 
 pub returns-in_err-table-clause-too_many : goal.returns-in_err-table-clause-too_many
 returns-in_err-table-clause-too_many c = λ is.

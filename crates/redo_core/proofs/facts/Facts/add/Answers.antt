@@ -14,11 +14,3 @@ returns-in_ok-insert-in-Some c =
     adds-more c.args.fact c.args.self.now _ refl refl
     (more-told c.args.fact c.in_ok-target.target key (more_known c.args.self.now.more) c.deref_mut.result.now c.insert.new.self
     (rw c.in-Some.is (rw c.deref_mut.ensures.value refl)) c.in_ok-insert-in-Some.ensures.updates)
-
-pub returns-in_ok-insert-in-None : goal.returns-in_ok-insert-in-None
-returns-in_ok-insert-in-None c =
-    let key : c.in_ok-target.target ≡ c.args.fact.value.target =
-    c.in_ok-target.ensures.cases ∙ c.target.ensures ∙ ap (λ (f : FactView). f.target) c.read.ensures in
-    adds-more c.args.fact c.args.self.now _ refl refl
-    (more-told c.args.fact c.in_ok-target.target key (more_known c.args.self.now.more) c.deref_mut-in-None.result.now c.insert-in-None.new.self
-    (rw c.in-None.is (rw (c.deref_mut-in-None.ensures.value, c.in_ok-more-in-None.ensures.ok, c.new.ensures) refl)) c.in_ok-insert-in-None.ensures.updates)

@@ -7,9 +7,6 @@ use Rattle.redo_table.proofs.TargetLemmas.{index-there}
 use Rattle.redo_core.proofs.GainSteps.{gains-step}
 use Rattle.redo_core.proofs.table.Table.gain.Goals as goal
 
-pub gain_one-requires : goal.gain_one-requires
-gain_one-requires c = c.requires c.loop-at.at-index _ (index-there c.args.operands.now c.loop-at.at-index 0 c.loop-at-test.true)
-
 pub loop-at-preserved : goal.loop-at-preserved
 loop-at-preserved c =
     gains-step c.args.self.now c.args.operands.now c.reserve.new.self c.loop-at.facts c.gain_one.new.facts c.loop-at.at-index _

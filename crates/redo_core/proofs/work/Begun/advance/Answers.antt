@@ -1,10 +1,7 @@
 use Rattle.std.proofs.Common.{ap, refl, ◌∙◌}
 use Rattle.redo_core.specs.Views.{FactView}
-use Rattle.redo_core.proofs.AdvanceLemmas.{ended-end, fact-parts, stopped-end, work-fits}
+use Rattle.redo_core.proofs.AdvanceLemmas.{ended-end, fact-parts, stopped-end}
 use Rattle.redo_core.proofs.work.Begun.advance.Goals as goal
-
-pub advance-requires-clause-fits : goal.advance-requires-clause-fits
-advance-requires-clause-fits c = work-fits c.args.given.now c.args.self.job c.args.self.facts c.requires.work
 
 pub fact_of-requires : goal.fact_of-requires
 fact_of-requires c =
