@@ -150,6 +150,13 @@ impl Marks {
     }
 }
 
+/// What the threads share.
+#[derive(Drop)]
+struct Shared<'s, R> {
+    rt: &'s R,
+    marks: &'s Marks,
+}
+
 /// Takes a share of the jobs, and marks each.
 fn take_share<R: Wait>(rt: &R, taker: JobTaker<Ticket>, marks: &Marks) -> JobTaker<Ticket>
     ensures { result.relay ≡ taker.relay }
@@ -203,9 +210,8 @@ type Hand = PromisedHandle<JobTaker<Ticket>, SameRelay>;
 /// Starts a thread for each taker of a source.
 fn start_all<'s, E, R: Threads + Wait + Sync>(
     scope: &Scope<'s, E>,
-    rt: &'s R,
+    shared: Shared<'s, R>,
     alloc: Global,
-    marks: &'s Marks,
     source: &JobSource<Ticket>,
     takers: Vec<JobTaker<Ticket>>,
 ) -> Result<Vec<Hand>, AllocError>
@@ -214,6 +220,7 @@ fn start_all<'s, E, R: Threads + Wait + Sync>(
         (length hands.items ≡ length takers.items)
         × All (λ h. h.promise.0.value.relay ≡ source.now.relay) hands.items) }
 {
+    let Shared { rt, marks } = shared;
     let mut hands = Vec::new(alloc);
     'takers: for taker in takers {
         let promise = SameRelay(Snapshot::of(&taker));
@@ -261,7 +268,8 @@ fn run<'s, E, R: Threads + Wait + Sync>(
     ensures own { IfOk result (λ e. All (λ t. t.relay ≡ e.source.relay) e.takers.items) }
 {
     let Ends { mut source, takers } = ends;
-    let started = start_all(scope, rt, alloc, marks, &source, takers);
+    let shared = Shared { rt, marks };
+    let started = start_all(scope, shared, alloc, &source, takers);
     let given = give_all(alloc, &mut source);
     marks.all_given.store(true, SeqCst);
     given?;
