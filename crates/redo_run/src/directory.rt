@@ -109,22 +109,29 @@ where
     }
 }
 
+/// A place where a run wants a file or nothing.
+#[derive(Drop)]
+struct FilePlace {
+    path: Path,
+    /// What is said of anything else there.
+    no_file: Said,
+}
+
 /// Refuses a directory in which something stands in the place of the book or of the journal that is no file of the tree. A
 /// run without its book would take each file for a source. The cause names the place.
 fn check_place<D: WorkDir>(
     dir: &D,
     alloc: Global,
     tree: &Tree,
-    place: &Path,
-    no_file: Said,
+    place: &FilePlace,
     cause: &mut Cause,
 ) -> Result<(), RunDirFault>
-    ensures refused { IfErr result (HasNoPlace (D.leads dir.now) (D.refuses dir.now) tree.now place.now) }
+    ensures refused { IfErr result (HasNoPlace (D.leads dir.now) (D.refuses dir.now) tree.now place.now.path) }
 {
-    match is_blocked(dir, alloc, tree, place) {
+    match is_blocked(dir, alloc, tree, &place.path) {
         Ok(false) => Ok(()),
         Ok(true) => {
-            cause.note(place, no_file);
+            cause.note(&place.path, place.no_file);
             Err(RunDirFault::Load)
         }
         Err(fault) => Err(unread(cause, fault)),
@@ -146,10 +153,16 @@ where
     ensures unread { IfErr result (IsUnread (D.lists dir.now) (D.leads dir.now) (D.refuses dir.now)) }
 {
     let (tree, passed) = load(rt, alloc, dir, workers, cause)?;
-    let book = book_path_of(alloc)?;
-    check_place(dir, alloc, &tree, &book, Said::NoFile, cause)?;
-    let journal = journal_path(alloc)?;
-    check_place(dir, alloc, &tree, &journal, Said::NoJournalFile, cause)?;
+    let book = FilePlace {
+        path: book_path_of(alloc)?,
+        no_file: Said::NoFile,
+    };
+    check_place(dir, alloc, &tree, &book, cause)?;
+    let journal = FilePlace {
+        path: journal_path(alloc)?,
+        no_file: Said::NoJournalFile,
+    };
+    check_place(dir, alloc, &tree, &journal, cause)?;
     Ok((tree, passed))
 }
 
