@@ -4,7 +4,7 @@ use Rattle.std.specs.Prelude.{All}
 use Rattle.std.proofs.Math.ListN.{get_or-append, get_or-map}
 use Rattle.std.proofs.Math.Seq.{get_or-append_seam}
 use Rattle.std.proofs.lemmas.List.{length-append, length-map}
-use Rattle.std.proofs.lemmas.List.Elements.{All-append, All-cons, All-nil}
+use Rattle.std.proofs.lemmas.List.Elements.{All-append, All-cons, All-map, All-nil}
 use Rattle.redo_sync.specs.Relay.{RelayId, Source, Taker}
 use Rattle.redo_run.specs.inside.Workers.{IsManned, AreAllTakers}
 
@@ -37,25 +37,28 @@ module _ (relay : RelayId) (count : ℕ) where
       let P : List RelayId → Type 0 = IsManned relay count idle in
       subst P (sym none) record { count = omega (arith, all); idle_own = own; promised_own = All-nil IsRelay }
 
-  -- takers that have promised relays have them
-  kept : (back : List Taker) (promised : List RelayId) → map relay_of back ≡ promised → All IsRelay promised → All HasRelay back
-  kept back promised same all k d below =
-      let long : length back ≡ length promised = sym (length-map back relay_of) ∙ ap length same in
-      subst IsRelay (sym (ap (λ l. get_or l k (relay_of d)) same) ∙ get_or-map relay_of back k d)
+  -- takers whose relays are all this one have it
+  kept : (takers : List Taker) (relays : List RelayId) → map relay_of takers ≡ relays → All IsRelay relays → All HasRelay takers
+  kept takers relays same all k d below =
+      let long : length takers ≡ length relays = sym (length-map takers relay_of) ∙ ap length same in
+      subst IsRelay (sym (ap (λ l. get_or l k (relay_of d)) same) ∙ get_or-map relay_of takers k d)
       (all k (relay_of d) (subst (λ n. k < n) long below))
 
-  -- those that came back, those that weren't started and the owner's are all takers of the source
-  pub all_back : (back idle : List Taker) (own : Taker) (promised : List RelayId) (source : Source) → map relay_of back ≡ promised →
-      IsManned relay count idle promised → own.relay ≡ relay → source.relay ≡ relay → count + 1 ≡ source.takers →
-      AreAllTakers source ((back ++ idle) ++ own ∷ [])
-  all_back back idle own promised source same m e of many =
-      let all = m.count in let a = length-append back idle in let b = length-append (back ++ idle) (own ∷ []) in
-      let c : length back ≡ length promised = sym (length-map back relay_of) ∙ ap length same in
-      let each : All HasRelay ((back ++ idle) ++ own ∷ []) =
-      All-append HasRelay (back ++ idle) (own ∷ []) (All-append HasRelay back idle (kept back promised same m.promised_own) m.idle_own)
+  -- those of workers that were started and of those that weren't, and the owner's, are all takers of the source
+  pub all_back : (takers idle : List Taker) (own : Taker) (promised : List RelayId) (source : Source) →
+      map relay_of takers ≡ promised ++ map relay_of idle → IsManned relay count idle promised → own.relay ≡ relay →
+      source.relay ≡ relay → count + 1 ≡ source.takers → AreAllTakers source (takers ++ own ∷ [])
+  all_back takers idle own promised source same m e of many =
+      let all = m.count in let a = length-append promised (map relay_of idle) in let b = length-append takers (own ∷ []) in
+      let c = length-map idle relay_of in
+      let d : length takers ≡ length (promised ++ map relay_of idle) = sym (length-map takers relay_of) ∙ ap length same in
+      let relays : All IsRelay (promised ++ map relay_of idle) =
+      All-append IsRelay promised (map relay_of idle) m.promised_own (All-map IsRelay relay_of idle m.idle_own) in
+      let each : All HasRelay (takers ++ own ∷ []) =
+      All-append HasRelay takers (own ∷ []) (kept takers (promised ++ map relay_of idle) same relays)
       (All-cons HasRelay own [] e (All-nil HasRelay)) in (
-        omega (arith, all, a, b, c, many),
-        λ k d below. each k d below ∙ sym of,
+        omega (arith, all, a, b, c, d, many),
+        λ k t below. each k t below ∙ sym of,
       )
 
 -- of takers that a relay was made with, the last and the others

@@ -1,11 +1,11 @@
 //! The workers of a build, started and not.
 
-ghost use Rattle.std.specs.Prelude.{◌≡◌, ◌≤◌, ◌+◌, ◌*◌, length, map, OnOk, ℕ};
+ghost use Rattle.std.specs.Prelude.{◌≡◌, ◌≤◌, ◌+◌, ◌*◌, ◌++◌, [], IfOk, length, map, OnOk, ℕ, vec_capacity};
 ghost use Rattle.redo_crew.specs.Word.{most_workers, out_for_each, places};
 ghost use Rattle.redo_sync.specs.Relay.{RelayId};
 ghost use Rattle.redo_run.specs.inside.Workers.{IsManned};
 
-use crate::crew::{Advance, OwnTaker, Shared, WorkerHandle, work};
+use crate::crew::{Advance, OwnTaker, Shared, WorkerHandle, join_all, work};
 use crate::observer::Observer;
 use crossbeam_channel::{Receiver, Sender};
 use redo_crew::{Crew, Looking, OUT_FOR_EACH, PLACES};
@@ -35,17 +35,72 @@ pub(crate) struct Pool<'r, 's, E, J: Numbered + Drop, M: Drop, R, O> {
 }
 
 /// A channel for pieces: with a place for each job that may be out, so that no sender waits.
-pub(crate) fn channel<M: Drop>(alloc: Global) -> Result<(Sender<M>, Receiver<M>), AllocError> {
+fn channel<M: Drop>(alloc: Global) -> Result<(Sender<M>, Receiver<M>), AllocError> {
     crossbeam_channel::bounded(alloc, PLACES as usize)
 }
 
 /// How many jobs may be out with so many workers: there is a place for the piece of each.
-pub(crate) fn most_out(workers: usize) -> usize
+fn most_out(workers: usize) -> usize
     requires { workers ≤ most_workers }
     ensures each { result ≡ workers * out_for_each }
     ensures room { result ≤ places }
 {
     workers * OUT_FOR_EACH as usize
+}
+
+impl<'r, 's, E, J: Numbered + Drop, M: Drop, R: Threads + Wait, O> Pool<'r, 's, E, J, M, R, O> {
+    /// The workers with these takers, of which none is started.
+    pub fn new(
+        scope: &'r Scope<'s, E>,
+        shared: Shared<'s, R, O>,
+        alloc: Global,
+        takers: Vec<JobTaker<J>>,
+    ) -> Result<Pool<'r, 's, E, J, M, R, O>, AllocError>
+        requires few { length takers.items ≤ most_workers }
+        ensures idle { IfOk result (λ pool. pool.idle.items ≡ takers.items) }
+        ensures none_started { IfOk result (λ pool. pool.handles.items ≡ []) }
+        ensures most_out { IfOk result (λ pool. pool.most_out ≡ length takers.items * out_for_each) }
+    {
+        let Shared { rt, observer, crew } = shared;
+        let (sender, pieces) = channel(alloc)?;
+        let most_out = most_out(takers.len());
+        Ok(Pool {
+            scope,
+            rt,
+            observer,
+            crew,
+            sender,
+            pieces,
+            idle: takers,
+            handles: Vec::new(alloc),
+            most_out,
+        })
+    }
+
+    /// Tells the workers that the run is over, and waits for all of them to end. Returns their takers in `back`, which
+    /// has room for them, and behind them those of the workers that weren't started.
+    pub fn end(self, back: Vec<JobTaker<J>>) -> Result<Vec<JobTaker<J>>, AllocError>
+        requires none { back.items ≡ [] }
+        requires room { length self.handles.items ≤ vec_capacity back }
+        ensures all { IfOk result (λ takers. map (λ t. t.relay) takers.items ≡
+            map (λ h. h.promise.0.value.relay) self.entry.handles.items ++ map (λ t. t.relay) self.entry.idle.items) }
+    {
+        let Pool {
+            scope: _,
+            rt,
+            observer: _,
+            crew,
+            sender: _,
+            pieces: _,
+            mut idle,
+            handles,
+            most_out: _,
+        } = self;
+        crew.end(rt);
+        let mut takers = join_all(rt, handles, back);
+        takers.append(&mut idle)?;
+        Ok(takers)
+    }
 }
 
 impl<

@@ -15,14 +15,14 @@ ghost use Rattle.redo_sync.specs.Relay.{SharesOut, taken_by};
 ghost use Rattle.redo_run.specs.Skipping.{IsSoundOn, IsUnsafeOn};
 ghost use Rattle.redo_run.specs.inside.Workers.{AreOtherTakers, IsAnswerTo, NeedsMany};
 
-use crate::crew::{Shared, join_all};
+use crate::crew::Shared;
 use crate::ended::{EndedBuild, hand_out};
 use crate::laws::keeping_is_sound;
 use crate::observer::Observer;
 use crate::of_build::{BuildBrand, JobOf};
 use crate::owner::{Owner, never, own};
 use crate::pace::Pace;
-use crate::pool::{Pool, channel, most_out};
+use crate::pool::Pool;
 use crate::run_fault::RunFault;
 use redo_build::laws::counts_tell;
 use redo_core::board::{Board, Stop};
@@ -90,36 +90,11 @@ fn run_crew<'s, E, B: BuildBrand + Send + Sync + 's, R: Threads + Wait + Sync, O
     ensures too_many { result ≡ Err Stop.TooMany → NeedsMany owner }
 {
     let back = Vec::with_capacity(alloc, takers.len())?;
-    let Shared { rt, observer, crew } = shared;
-    let (sender, pieces) = channel(alloc)?;
-    let most_out = most_out(takers.len());
-    let mut pool = Pool {
-        scope,
-        rt,
-        observer,
-        crew,
-        sender,
-        pieces,
-        idle: takers,
-        handles: Vec::new(alloc),
-        most_out,
-    };
+    let mut pool = Pool::new(scope, shared, alloc, takers)?;
     let ended = own(&mut owner, &mut pool);
-    crew.end(rt);
-    let Pool {
-        scope: _,
-        rt: _,
-        observer: _,
-        crew: _,
-        sender: _,
-        pieces: _,
-        mut idle,
-        handles,
-        most_out: _,
-    } = pool;
-    let mut takers = join_all(rt, handles, back);
+    let takers = pool.end(back);
     ended?;
-    takers.append(&mut idle)?;
+    let mut takers = takers?;
     let Owner {
         board,
         source,
