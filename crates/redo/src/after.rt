@@ -26,6 +26,16 @@ pub(crate) struct After<'a> {
     pub(crate) milliseconds: Option<u64>,
 }
 
+/// What a build came to.
+#[derive(Drop)]
+pub(crate) struct Built<'a> {
+    /// The tree that was built.
+    pub(crate) tree: &'a Tree,
+    pub(crate) report: &'a Report,
+    /// Whether every requested path is a source or built.
+    pub(crate) good: bool,
+}
+
 impl After<'_> {
     /// Whether nothing is to be said.
     pub(crate) fn is_silent(&self) -> bool {
@@ -93,17 +103,15 @@ fn say_summary<H: Runtime>(rt: &H, after: &After<'_>, summary: Summary, millisec
     };
 }
 
-/// Says what is to be said of a build over this tree, with this report. Returns whether nothing is stale that is to be
-/// refused.
+/// Says what is to be said of what a build came to. Returns whether nothing is stale that is to be refused.
 pub(crate) fn say_after<H: Runtime + Threads + Sync>(
     rt: &H,
     alloc: Global,
     after: &After<'_>,
-    tree: &Tree,
-    report: &Report,
+    built: &Built<'_>,
 ) -> Result<bool, Fault> {
-    let build = after.build;
-    let past = Past::open_by(rt, alloc, build.options.workers, tree.clone()?)?;
+    let (build, report) = (after.build, built.report);
+    let past = Past::open_by(rt, alloc, build.options.workers, built.tree.clone()?)?;
     if build.explained {
         say(rt, &explain(alloc, &past, &build.options.targets, report)?);
     }
@@ -118,7 +126,7 @@ pub(crate) fn say_after<H: Runtime + Threads + Sync>(
         note_book_above(rt, alloc, after, dir)?;
     }
     if let Some(milliseconds) = after.milliseconds {
-        say_summary(rt, after, Summary::of(report, tree), milliseconds);
+        say_summary(rt, after, Summary::of(report, built.tree), milliseconds);
     }
     Ok(!build.strict || notes.is_empty())
 }

@@ -2,7 +2,7 @@
 
 ghost use Rattle.std.specs.Prelude.{◌≡◌, false};
 
-use crate::after::{After, say_after};
+use crate::after::{After, Built, say_after};
 use crate::formats::print_report;
 use crate::options::{BuildOptions, Format, Input, Storing};
 use crate::passing::note_names;
@@ -87,8 +87,13 @@ fn end_over_bundle<H: Runtime + Threads + Sync>(
         Ok(report) => report,
         Err(_) => return Ok(is_fine(after, Err(Fault::Memory))? && good),
     };
-    print_report(rt, alloc, after.build, &tree, &report, good)?;
-    Ok(is_fine(after, say_after(rt, alloc, after, &tree, &report))? && good)
+    let built = Built {
+        tree: &tree,
+        report: &report,
+        good,
+    };
+    print_report(rt, alloc, after.build, &built)?;
+    Ok(is_fine(after, say_after(rt, alloc, after, &built))? && good)
 }
 
 /// Says what is to be said of a build over a directory, and returns whether all went well.
@@ -99,7 +104,12 @@ fn end_over_dir<H: Runtime + Threads + Sync>(
     run: DirRun,
 ) -> Result<bool, Fault> {
     let good = run.exit == Exit::Good;
-    print_report(rt, alloc, after.build, &run.tree, &run.report, good)?;
+    let built = Built {
+        tree: &run.tree,
+        report: &run.report,
+        good,
+    };
+    print_report(rt, alloc, after.build, &built)?;
     note_passed(rt, run.passed);
     if let (true, Input::Directory(dir)) = (run.passed != 0, &after.build.input) {
         note_names(rt, alloc, after.voice, dir, &run.tree);
@@ -107,7 +117,7 @@ fn end_over_dir<H: Runtime + Threads + Sync>(
     let fine = if after.is_silent() {
         true
     } else {
-        is_fine(after, say_after(rt, alloc, after, &run.tree, &run.report))?
+        is_fine(after, say_after(rt, alloc, after, &built))?
     };
     // Forgotten as above.
     mem::forget(run);

@@ -1,5 +1,6 @@
 //! Reports in other forms than their own.
 
+use crate::after::Built;
 use crate::options::{BuildOptions, Format};
 use crate::status;
 use crate::status::Fault;
@@ -85,26 +86,24 @@ fn as_json(
     json(alloc, past, report, &told)
 }
 
-/// Prints the report of a build over a tree, where it is wanted in another form than its own. `good` tells whether every
-/// requested path is a source or built.
+/// Prints the report of a build, where it is wanted in another form than its own.
 pub(crate) fn print_report<H: Runtime + Threads + Sync>(
     rt: &H,
     alloc: Global,
     build: &BuildOptions,
-    tree: &Tree,
-    report: &Report,
-    good: bool,
+    built: &Built<'_>,
 ) -> Result<(), Fault> {
+    let (report, status) = (built.report, status::of_good(built.good));
     let text = match build.format {
         Format::Report => return Ok(()),
         Format::Json => {
-            let past = past_of(rt, alloc, build, tree)?;
-            as_json(alloc, build, &past, report, status::of_good(good))?
+            let past = past_of(rt, alloc, build, built.tree)?;
+            as_json(alloc, build, &past, report, status)?
         }
         Format::Dot(with_rules) => dot(alloc, report, with_rules)?,
         Format::Html => {
-            let past = past_of(rt, alloc, build, tree)?;
-            as_page(alloc, build, &past, report, status::of_good(good))?
+            let past = past_of(rt, alloc, build, built.tree)?;
+            as_page(alloc, build, &past, report, status)?
         }
     };
     Ok(write_all(&mut Plain::new(io::writer(rt)), &text)?)
