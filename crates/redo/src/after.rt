@@ -1,8 +1,9 @@
 //! What is said on standard error behind the report of a build.
 
 use crate::above::{has_book, levels_to_book};
+use crate::actions::BuildOptions;
 use crate::diagnosing::say_diagnoses;
-use crate::options::{BuildOptions, Format, Input, Storing};
+use crate::options::{Format, Input, Storing};
 use crate::status::Fault;
 use crate::summary::{Counted, Summary};
 use crate::voice::Voice;

@@ -2,9 +2,10 @@
 
 ghost use Rattle.std.specs.Prelude.{◌≡◌, false};
 
+use crate::actions::BuildOptions;
 use crate::after::{After, Built, say_after};
 use crate::formats::print_report;
-use crate::options::{BuildOptions, Format, Input, Storing};
+use crate::options::{Format, Input, Storing};
 use crate::passing::note_names;
 use crate::progress::Progress;
 use crate::status::Fault;

@@ -1,6 +1,7 @@
 //! The cause behind a message, which `-v` adds if it is known.
 
-use crate::options::{Action, TARGETS};
+use crate::actions::Action;
+use crate::options::TARGETS;
 use crate::status::Fault;
 use bstr::BStr;
 use redo_bundle::BundleFault;

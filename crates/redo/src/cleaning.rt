@@ -1,5 +1,6 @@
 //! The clean of a directory.
 
+use crate::actions::Cleaning;
 use crate::status::Fault;
 use crate::{lock, note_passed};
 use redo_bundle::{Plain, write_all};
@@ -66,28 +67,26 @@ fn clean_by_plan<D: WorkDir, H: Runtime>(
     }
 }
 
-/// Cleans a directory, which so many threads read; in a dry run, prints what would become of it.
+/// Cleans a directory; in a dry run, prints what would become of it.
 pub(crate) fn clean_dir<H: Runtime + Threads + Sync>(
     rt: &H,
     alloc: Global,
-    dir: &str,
-    workers: usize,
-    dry_run: bool,
+    cleaning: &Cleaning,
     cause: &mut Cause,
 ) -> Result<bool, Fault>
 where
     H::File: Send + Lockable,
     H::Dir: Send,
 {
-    let passed = if dry_run {
-        let dir = SystemDir::new(rt, alloc, dir);
-        let (plan, passed) = plan_of(rt, alloc, &dir, workers, cause)?;
+    let passed = if cleaning.dry_run {
+        let dir = SystemDir::new(rt, alloc, &cleaning.dir);
+        let (plan, passed) = plan_of(rt, alloc, &dir, cleaning.workers, cause)?;
         print(rt, &planned_text(alloc, &plan)?)?;
         passed
     } else {
-        let lock = lock(rt, alloc, dir, cause)?;
-        let mut dir = SystemDir::locked(rt, alloc, dir, &lock, false);
-        let (plan, passed) = plan_of(rt, alloc, &dir, workers, cause)?;
+        let lock = lock(rt, alloc, &cleaning.dir, cause)?;
+        let mut dir = SystemDir::locked(rt, alloc, &cleaning.dir, &lock, false);
+        let (plan, passed) = plan_of(rt, alloc, &dir, cleaning.workers, cause)?;
         clean_by_plan(rt, alloc, &mut dir, &plan, cause)?;
         passed
     };

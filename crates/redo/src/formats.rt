@@ -1,7 +1,8 @@
 //! Reports in other forms than their own.
 
+use crate::actions::BuildOptions;
 use crate::after::Built;
-use crate::options::{BuildOptions, Format};
+use crate::options::Format;
 use crate::status;
 use crate::status::Fault;
 use redo_bundle::{Plain, write_all};

@@ -6,6 +6,7 @@
 ghost use Rattle.std.specs.Prelude.{◌≡◌, false};
 
 mod above;
+mod actions;
 mod after;
 mod building;
 mod causes;
@@ -25,9 +26,10 @@ mod unpacking;
 mod version;
 mod voice;
 
+use actions::{Action, Call};
 use clap::error::ErrorKind;
 use clap::{ArgMatches, Error};
-use options::{Action, Call, Input, Refusal};
+use options::{Input, Refusal};
 use progress::Progress;
 use redo_bundle::Plain;
 use redo_dir::{DirLock, LockFault, Lockable, SystemDir, lock_dir};
@@ -167,15 +169,11 @@ where
     match &call.action {
         Action::Build(build) => building::build(rt, alloc, build, call.voice, progress, cause),
         Action::Whichdo(target, input) => list(rt, alloc, target, input, cause),
-        Action::Ask(question, input, workers) => {
-            queries::ask(rt, alloc, question, input, *workers, cause)
-        }
+        Action::Ask(query) => queries::ask(rt, alloc, query, cause),
         Action::OutOfDate(listing) => queries::list_out_of_date(rt, alloc, listing, cause),
-        Action::Pack(dir, workers) => packing::pack_dir(rt, alloc, dir, *workers, cause),
+        Action::Pack(packing) => packing::pack_dir(rt, alloc, packing, cause),
         Action::Unpack(dir) => unpacking::unpack_into(rt, alloc, dir, cause),
-        Action::Clean(dir, workers, dry_run) => {
-            cleaning::clean_dir(rt, alloc, dir, *workers, *dry_run, cause)
-        }
+        Action::Clean(cleaning) => cleaning::clean_dir(rt, alloc, cleaning, cause),
     }
 }
 

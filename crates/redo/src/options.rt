@@ -3,13 +3,12 @@
 ghost use Rattle.std.specs.Prelude.{◌≤◌, ◌<◌};
 
 use crate::above::Here;
+use crate::actions::{Action, BuildOptions, Cleaning, Listing, Packing, Query};
 use crate::commands;
 use crate::version::VERSION;
-use crate::voice::Voice;
 use clap::builder::ValueParser;
 use clap::{Arg, ArgAction, ArgMatches, Command, value_parser};
 use redo_path::{Path, PathFault, resolve};
-use redo_query::Question;
 use redo_run::Options;
 use redo_step::Limits;
 use std::alloc::{AllocError, AllocFailed, Global};
@@ -59,90 +58,6 @@ pub(crate) enum Format {
     Dot(bool),
     /// A page for a browser.
     Html,
-}
-
-/// A build, and what is said of it.
-#[derive(Drop)]
-pub(crate) struct BuildOptions {
-    pub(crate) options: Options,
-    pub(crate) input: Input,
-    pub(crate) storing: Storing,
-    pub(crate) format: Format,
-    /// Whether each begun script is told with the reason for which it was begun.
-    pub(crate) explained: bool,
-    /// Whether a stale file is a failure.
-    pub(crate) strict: bool,
-}
-
-/// Of which run what is out of date is listed, and how.
-#[derive(Drop)]
-pub(crate) struct Listing {
-    /// What the run requests; nothing, where the list is for every run.
-    pub(crate) targets: Vec<Path>,
-    pub(crate) input: Input,
-    /// How many threads read the tree.
-    pub(crate) workers: usize,
-    pub(crate) format: Format,
-}
-
-/// What the command line asks for.
-#[derive(Drop)]
-pub(crate) struct Call {
-    pub(crate) action: Action,
-    pub(crate) voice: Voice,
-}
-
-/// What is to be done.
-#[derive(Drop)]
-pub(crate) enum Action {
-    Build(BuildOptions),
-    Whichdo(Path, Input),
-    /// A question to the book of a tree, which is read by so many threads.
-    Ask(Question, Input, usize),
-    /// What is out of date is printed.
-    OutOfDate(Listing),
-    /// A directory is printed as a bundle. So many threads read it.
-    Pack(String, usize),
-    /// A bundle on standard input becomes a directory.
-    Unpack(String),
-    /// What the last run left in a directory is removed. So many threads read it, and in a dry run nothing is removed.
-    Clean(String, usize, bool),
-}
-
-impl Action {
-    /// The directory that is read, if one is.
-    pub(crate) fn directory(&self) -> &str {
-        match self {
-            Action::Build(
-                BuildOptions {
-                    input: Input::Directory(dir),
-                    ..
-                },
-            )
-            | Action::Whichdo(_, Input::Directory(dir))
-            | Action::Ask(_, Input::Directory(dir), _)
-            | Action::OutOfDate(
-                Listing {
-                    input: Input::Directory(dir),
-                    ..
-                },
-            )
-            | Action::Pack(dir, _)
-            | Action::Unpack(dir)
-            | Action::Clean(dir, _, _) => dir,
-            _ => "",
-        }
-    }
-
-    /// Whether files are stored before anything is printed.
-    pub(crate) fn stores_first(&self) -> bool {
-        match self {
-            Action::Build(build) => {
-                matches!(build.input, Input::Directory(_)) && build.storing != Storing::Nothing
-            }
-            _ => false,
-        }
-    }
 }
 
 /// Why the command line is refused, apart from what its parser refuses.
@@ -354,13 +269,20 @@ pub(crate) fn action_of(
 ) -> Result<Action, Refusal> {
     let Here { top, below } = here;
     if matches.get_flag("pack") {
-        return Ok(Action::Pack(top, workers(matches)));
+        return Ok(Action::Pack(Packing {
+            dir: top,
+            workers: workers(matches),
+        }));
     }
     if matches.get_flag("unpack") {
         return Ok(Action::Unpack(top));
     }
     if matches.get_flag("clean") {
-        return Ok(Action::Clean(top, workers(matches), matches.get_flag("dry-run")));
+        return Ok(Action::Clean(Cleaning {
+            dir: top,
+            workers: workers(matches),
+            dry_run: matches.get_flag("dry-run"),
+        }));
     }
     let input = if matches.get_flag("bundle") {
         Input::Bundle
@@ -379,7 +301,11 @@ pub(crate) fn action_of(
         }));
     }
     match commands::question_of(alloc, matches, &below)? {
-        Some(question) => Ok(Action::Ask(question, input, workers(matches))),
+        Some(question) => Ok(Action::Ask(Query {
+            question,
+            input,
+            workers: workers(matches),
+        })),
         None => Ok(Action::Build(build_of(alloc, matches, input, &below)?)),
     }
 }

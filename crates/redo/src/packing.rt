@@ -1,5 +1,6 @@
 //! A directory as a bundle.
 
+use crate::actions::Packing;
 use crate::status::Fault;
 use crate::{buffered, flush, note_passed};
 use redo_bundle::Plain;
@@ -12,20 +13,19 @@ use std::io;
 use std::rt::Runtime;
 use std::thread::Threads;
 
-/// Prints a directory as a bundle. So many threads read it.
+/// Prints a directory as a bundle.
 pub(crate) fn pack_dir<H: Runtime + Threads + Sync>(
     rt: &H,
     alloc: Global,
-    dir: &str,
-    workers: usize,
+    packing: &Packing,
     cause: &mut Cause,
 ) -> Result<bool, Fault>
 where
     H::File: Send,
     H::Dir: Send,
 {
-    let dir = SystemDir::new(rt, alloc, dir);
-    let (tree, passed) = load(rt, alloc, &dir, workers, cause)?;
+    let dir = SystemDir::new(rt, alloc, &packing.dir);
+    let (tree, passed) = load(rt, alloc, &dir, packing.workers, cause)?;
     print(rt, alloc, &tree)?;
     note_passed(rt, passed);
     Ok(true)

@@ -1,8 +1,9 @@
 //! Questions to the book of the last run.
 
+use crate::actions::{Listing, Query};
 use crate::lists::list_in;
 use crate::note_passed;
-use crate::options::{Input, Listing};
+use crate::options::Input;
 use crate::status::Fault;
 use bstr::BStr;
 use redo_bundle::{Plain, read_bundle_by_line, write_all};
@@ -11,7 +12,7 @@ use redo_mend::mend;
 use redo_ood::out_of_date;
 use redo_past::Past;
 use redo_path::Path;
-use redo_query::{Answer, Question, answer_to};
+use redo_query::{Answer, answer_to};
 use redo_run::{Cause, load_with_book};
 use redo_tree::Tree;
 use std::alloc::Global;
@@ -49,18 +50,16 @@ where
 pub(crate) fn ask<H: Runtime + Threads + Sync>(
     rt: &H,
     alloc: Global,
-    question: &Question,
-    input: &Input,
-    workers: usize,
+    query: &Query,
     cause: &mut Cause,
 ) -> Result<bool, Fault>
 where
     H::File: Send,
     H::Dir: Send,
 {
-    let (tree, passed) = load(rt, alloc, input, workers, cause)?;
-    let past = Past::open_by(rt, alloc, workers, tree)?;
-    match answer_to(alloc, &past, question)? {
+    let (tree, passed) = load(rt, alloc, &query.input, query.workers, cause)?;
+    let past = Past::open_by(rt, alloc, query.workers, tree)?;
+    match answer_to(alloc, &past, &query.question)? {
         Answer::Lines(text) => {
             let mut writer = Plain::new(io::writer(rt));
             write_all(&mut writer, &text)?;
