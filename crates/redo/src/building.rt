@@ -13,7 +13,7 @@ use crate::voice::Voice;
 use crate::{buffered, flush, lock, note_passed};
 use redo_bundle::Plain;
 use redo_dir::{Lockable, SystemDir};
-use redo_run::{BundleRun, Cause, DirRun, Exit, preview_dir, run_bundle, run_dir};
+use redo_run::{BundleRun, Cause, DirRun, Exit, Host, preview_dir, run_bundle, run_dir};
 use std::alloc::Global;
 use std::io::{BufWriter, Write};
 use std::rt::Runtime;
@@ -30,11 +30,9 @@ enum Run {
 
 /// Builds targets, and returns whether all went well.
 pub(crate) fn build<H: Runtime + Threads + Wait + Sync>(
-    rt: &H,
-    alloc: Global,
+    host: &Host<'_, H, Progress<'_>>,
     build: &BuildOptions,
     voice: Voice,
-    progress: &Progress<'_>,
     cause: &mut Cause,
 ) -> Result<bool, Fault>
 where
@@ -42,21 +40,21 @@ where
     H::Dir: Send,
 {
     let outcome = match build.format {
-        Format::Report => build_and_write(rt, alloc, build, io::writer(rt), progress, cause),
+        Format::Report => build_and_write(host, build, io::writer(host.rt), cause),
         // The report is made of what the build returns.
         Format::Json | Format::Dot(_) | Format::Html => {
-            build_and_write(rt, alloc, build, io::sink(), progress, cause)
+            build_and_write(host, build, io::sink(), cause)
         }
     };
-    progress.clear();
+    host.observer.clear();
     let after = After {
         build,
         voice,
-        milliseconds: progress.milliseconds(),
+        milliseconds: host.observer.milliseconds(),
     };
     match outcome? {
-        Run::OverBundle(run) => end_over_bundle(rt, alloc, &after, run),
-        Run::OverDir(run) => end_over_dir(rt, alloc, &after, run),
+        Run::OverBundle(run) => end_over_bundle(host.rt, host.alloc, &after, run),
+        Run::OverDir(run) => end_over_dir(host.rt, host.alloc, &after, run),
     }
 }
 
@@ -127,19 +125,17 @@ fn end_over_dir<H: Runtime + Threads + Sync>(
 
 /// Builds targets, and writes the whole report to a stream.
 fn build_and_write<H: Runtime + Threads + Wait + Sync, W: Write + Drop>(
-    rt: &H,
-    alloc: Global,
+    host: &Host<'_, H, Progress<'_>>,
     build: &BuildOptions,
     stream: W,
-    progress: &Progress<'_>,
     cause: &mut Cause,
 ) -> Result<Run, Fault>
 where
     H::File: Send + Lockable,
     H::Dir: Send,
 {
-    let mut writer = Plain::new(buffered(alloc, stream)?);
-    let outcome = build_to(rt, alloc, build, &mut writer, progress, cause);
+    let mut writer = Plain::new(buffered(host.alloc, stream)?);
+    let outcome = build_to(host, build, &mut writer, cause);
     // After a failed write the rest isn't tried again, as it would be if the buffer were dropped.
     let (_stream, _unwritten) = writer.stream.into_parts();
     outcome
@@ -147,11 +143,9 @@ where
 
 /// Builds targets, and writes the whole report.
 fn build_to<H: Runtime + Threads + Wait + Sync, W: Write + Drop>(
-    rt: &H,
-    alloc: Global,
+    host: &Host<'_, H, Progress<'_>>,
     build: &BuildOptions,
     writer: &mut Plain<BufWriter<W>>,
-    progress: &Progress<'_>,
     cause: &mut Cause,
 ) -> Result<Run, Fault>
 where
@@ -161,14 +155,10 @@ where
 {
     let run = match &build.input {
         Input::Bundle => {
-            let mut reader = Plain::new(rt.reader());
-            let options = &build.options;
-            let run = run_bundle(rt, alloc, &mut reader, writer, options, progress, cause)?;
-            Run::OverBundle(run)
+            let mut reader = Plain::new(host.rt.reader());
+            Run::OverBundle(run_bundle(host, &mut reader, writer, &build.options, cause)?)
         }
-        Input::Directory(dir) => {
-            Run::OverDir(build_dir(rt, alloc, dir, build, writer, progress, cause)?)
-        }
+        Input::Directory(dir) => Run::OverDir(build_dir(host, dir, build, writer, cause)?),
     };
     flush(&mut writer.stream)?;
     Ok(run)
@@ -176,12 +166,10 @@ where
 
 /// Builds the targets of a directory.
 fn build_dir<H: Runtime + Threads + Wait + Sync, W: Write + Drop>(
-    rt: &H,
-    alloc: Global,
+    host: &Host<'_, H, Progress<'_>>,
     dir: &str,
     build: &BuildOptions,
     writer: &mut Plain<BufWriter<W>>,
-    progress: &Progress<'_>,
     cause: &mut Cause,
 ) -> Result<DirRun, Fault>
 where
@@ -191,11 +179,11 @@ where
 {
     let options = &build.options;
     if build.storing == Storing::Nothing {
-        let dir = SystemDir::new(rt, alloc, dir);
-        return Ok(preview_dir(rt, alloc, &dir, writer, options, progress, cause)?);
+        let dir = SystemDir::new(host.rt, host.alloc, dir);
+        return Ok(preview_dir(host, &dir, writer, options, cause)?);
     }
-    let lock = lock(rt, alloc, dir, cause)?;
+    let lock = lock(host.rt, host.alloc, dir, cause)?;
     let synced = build.storing == Storing::Synced;
-    let mut dir = SystemDir::locked(rt, alloc, dir, &lock, synced);
-    Ok(run_dir(rt, alloc, &mut dir, writer, options, progress, cause)?)
+    let mut dir = SystemDir::locked(host.rt, host.alloc, dir, &lock, synced);
+    Ok(run_dir(host, &mut dir, writer, options, cause)?)
 }

@@ -34,7 +34,7 @@ use progress::Progress;
 use redo_bundle::Plain;
 use redo_dir::{DirLock, LockFault, Lockable, SystemDir, lock_dir};
 use redo_path::Path;
-use redo_run::{Cause, Said, whichdo_bundle, whichdo_dir};
+use redo_run::{Cause, Host, Said, whichdo_bundle, whichdo_dir};
 use status::Fault;
 use std::alloc::Global;
 use std::io::{BufWriter, IsTerminal, Write};
@@ -56,7 +56,12 @@ fn main(rt: HostRuntime) -> ExitCode {
     };
     let mut cause = Cause::new(alloc);
     let progress = Progress::new(&rt, call.voice.progress);
-    match run(&rt, alloc, &call, &progress, &mut cause) {
+    let host = Host {
+        rt: &rt,
+        alloc,
+        observer: &progress,
+    };
+    match run(&host, &call, &mut cause) {
         Ok(good) => ExitCode::from(status::of_good(good)),
         Err(fault) => {
             let _shown = eprintln!(rt; "redo: {fault}");
@@ -156,19 +161,18 @@ fn show_cause<E: Drop>(rt: &HostRuntime, cause: Result<Option<String>, E>) {
 
 /// Does what was asked for, and returns whether all went well.
 fn run<H: Runtime + Threads + Wait + Sync>(
-    rt: &H,
-    alloc: Global,
+    host: &Host<'_, H, Progress<'_>>,
     call: &Call,
-    progress: &Progress<'_>,
     cause: &mut Cause,
 ) -> Result<bool, Fault>
 where
     H::File: Send + Lockable,
     H::Dir: Send,
 {
+    let (rt, alloc) = (host.rt, host.alloc);
     match &call.action {
-        Action::Build(build) => building::build(rt, alloc, build, call.voice, progress, cause),
-        Action::Whichdo(target, input) => list(rt, alloc, target, input, cause),
+        Action::Build(build) => building::build(host, build, call.voice, cause),
+        Action::Whichdo(target, input) => list(host, target, input, cause),
         Action::Ask(query) => queries::ask(rt, alloc, query, cause),
         Action::OutOfDate(listing) => queries::list_out_of_date(rt, alloc, listing, cause),
         Action::Pack(packing) => packing::pack_dir(rt, alloc, packing, cause),
@@ -210,8 +214,7 @@ pub(crate) fn flush<S: Write + Drop>(writer: &mut BufWriter<S>) -> Result<(), Fa
 
 /// Lists a target's candidates, and returns whether one of them is a file.
 fn list<H: Runtime + Threads + Sync>(
-    rt: &H,
-    alloc: Global,
+    host: &Host<'_, H, Progress<'_>>,
     target: &Path,
     input: &Input,
     cause: &mut Cause,
@@ -220,16 +223,16 @@ where
     H::File: Send,
     H::Dir: Send,
 {
-    let mut writer = Plain::new(io::writer(rt));
+    let mut writer = Plain::new(io::writer(host.rt));
     match input {
         Input::Bundle => {
-            let mut reader = Plain::new(rt.reader());
-            Ok(whichdo_bundle(alloc, &mut reader, &mut writer, target, cause)?)
+            let mut reader = Plain::new(host.rt.reader());
+            Ok(whichdo_bundle(host.alloc, &mut reader, &mut writer, target, cause)?)
         }
         Input::Directory(dir) => {
-            let dir = SystemDir::new(rt, alloc, dir);
-            let (found, passed) = whichdo_dir(rt, alloc, &dir, &mut writer, target, cause)?;
-            note_passed(rt, passed);
+            let dir = SystemDir::new(host.rt, host.alloc, dir);
+            let (found, passed) = whichdo_dir(host, &dir, &mut writer, target, cause)?;
+            note_passed(host.rt, passed);
             Ok(found)
         }
     }

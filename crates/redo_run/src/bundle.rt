@@ -8,7 +8,7 @@ use crate::candidates::text_of_search;
 use crate::exit::exit_after;
 use crate::request::requested;
 use crate::workers::{build_over, past_of};
-use crate::{Cause, Exit, Observer, Options, RunIoFault};
+use crate::{Cause, Exit, Host, Observer, Options, RunIoFault};
 use redo_bundle::{ByteIn, ByteOut, read_bundle_by_line, write_all};
 use redo_past::RunReport;
 use redo_path::Path;
@@ -37,12 +37,10 @@ pub struct BundleRun {
 /// and flush it afterwards. What is returned holds all memory of the run. A program that ends with the run may forget
 /// it, rather than free it piece by piece.
 pub fn run_bundle<H: Threads + Wait + Sync, R: ByteIn, W: ByteOut, O: Observer>(
-    rt: &H,
-    alloc: Global,
+    host: &Host<'_, H, O>,
     reader: &mut R,
     writer: &mut W,
     options: &Options,
-    observer: &O,
     cause: &mut Cause,
 ) -> Result<BundleRun, RunIoFault>
     requires reader { R.has_failed reader.old ≡ false }
@@ -56,21 +54,13 @@ pub fn run_bundle<H: Threads + Wait + Sync, R: ByteIn, W: ByteOut, O: Observer>(
     ensures device { IsErrOf result RunIoFault.Device ↔ (W.has_failed writer.new ≡ true) }
     ensures memory { IsErrOf result (RunIoFault.Bundle bundle_faults.Memory) → ⊥ }
 {
-    let tree = read_bundle_by_line(alloc, reader, &mut cause.header)?;
-    let request = requested(alloc, &options.targets)?;
-    let past = past_of(rt, alloc, tree, options.workers)?;
+    let tree = read_bundle_by_line(host.alloc, reader, &mut cause.header)?;
+    let request = requested(host.alloc, &options.targets)?;
+    let past = past_of(host.rt, host.alloc, tree, options.workers)?;
     let tree = Arc::try_clone(past.tree())?;
-    let report = build_over(
-        rt,
-        alloc,
-        past,
-        &request,
-        options.limits,
-        options.workers,
-        observer,
-    )?;
-    let exit = exit_after(alloc, &report, &request)?;
-    report.write(alloc, writer)?;
+    let report = build_over(host, past, &request, options.limits, options.workers)?;
+    let exit = exit_after(host.alloc, &report, &request)?;
+    report.write(host.alloc, writer)?;
     Ok(BundleRun { exit, tree, report })
 }
 

@@ -16,7 +16,7 @@ use crate::exit::exit_after;
 use crate::request::requested;
 use crate::storing::{Plan, carry_out, to_store};
 use crate::workers::{build_over, past_of};
-use crate::{Cause, Exit, Observer, Options, RunDirFault, Said};
+use crate::{Cause, Exit, Host, Observer, Options, RunDirFault, Said};
 use redo_bundle::{ByteOut, write_all};
 use redo_dir::{LoadFault, Seen, WorkDir, journal_path, load_dir};
 use redo_mend::{Mended, mend};
@@ -176,30 +176,20 @@ struct Built {
 
 /// Builds the targets of a tree.
 fn build<H: Threads + Wait + Sync, O: Observer>(
-    rt: &H,
-    alloc: Global,
+    host: &Host<'_, H, O>,
     tree: Tree,
     options: &Options,
-    observer: &O,
 ) -> Result<Built, RunDirFault>
     ensures built { IfOk result (λ built. IsBuilt tree options.now built.report built.exit) }
     ensures tree { IfOk result (λ built. arc_value built.tree ≡ tree) }
     ensures refused { IfErr result (IsUnbuilt tree options.now) }
 {
-    let request = requested(alloc, &options.targets)?;
-    let past = past_of(rt, alloc, tree, options.workers)?;
+    let request = requested(host.alloc, &options.targets)?;
+    let past = past_of(host.rt, host.alloc, tree, options.workers)?;
     let tree = Arc::try_clone(past.tree())?;
-    let report = build_over(
-        rt,
-        alloc,
-        past,
-        &request,
-        options.limits,
-        options.workers,
-        observer,
-    )?;
-    let exit = exit_after(alloc, &report, &request)?;
-    let report = report.into_report(alloc)?;
+    let report = build_over(host, past, &request, options.limits, options.workers)?;
+    let exit = exit_after(host.alloc, &report, &request)?;
+    let report = report.into_report(host.alloc)?;
     Ok(Built { tree, report, exit })
 }
 
@@ -212,11 +202,9 @@ struct Foreseen {
 
 /// Reads a directory, mends its tree, builds the targets, and plans what a run stores. The directory stays as it is.
 fn foresee<H: Threads + Wait + Sync, D: WorkDir + Sync, O: Observer>(
-    rt: &H,
-    alloc: Global,
+    host: &Host<'_, H, O>,
     dir: &D,
     options: &Options,
-    observer: &O,
     cause: &mut Cause,
 ) -> Result<Foreseen, RunDirFault>
 where
@@ -224,11 +212,11 @@ where
     ensures foreseen { IfOk result (IsForeseen (D.lists dir.now) (D.leads dir.now) options.now) }
     ensures fault { IfErr result (IsUnforeseen (D.lists dir.now) (D.leads dir.now) (D.refuses dir.now) options.now) }
 {
-    let (tree, passed) = load_with_book(rt, alloc, dir, options.workers, cause)?;
-    let over = has_book(alloc, &tree)?;
-    let Mended { tree, left } = mend(rt, alloc, options.workers, tree)?;
-    let Built { tree, report, exit } = build(rt, alloc, tree, options, observer)?;
-    let new = to_store(alloc, &tree, &report.files)?;
+    let (tree, passed) = load_with_book(host.rt, host.alloc, dir, options.workers, cause)?;
+    let over = has_book(host.alloc, &tree)?;
+    let Mended { tree, left } = mend(host.rt, host.alloc, options.workers, tree)?;
+    let Built { tree, report, exit } = build(host, tree, options)?;
+    let new = to_store(host.alloc, &tree, &report.files)?;
     let plan = Plan { left, over, new };
     let run = DirRun {
         exit,
@@ -255,12 +243,10 @@ where
 /// The report goes out in many small pieces: hand in a writer with a buffer, and flush it afterwards. A program that
 /// ends with the run may forget what it returns, rather than free it piece by piece.
 pub fn run_dir<H: Threads + Wait + Sync, D: WorkDir + Sync, W: ByteOut, O: Observer>(
-    rt: &H,
-    alloc: Global,
+    host: &Host<'_, H, O>,
     dir: &mut D,
     writer: &mut W,
     options: &Options,
-    observer: &O,
     cause: &mut Cause,
 ) -> Result<DirRun, RunDirFault>
 where
@@ -273,20 +259,18 @@ where
     ensures untouched { IsUnwritten result writer.old writer.new }
     ensures device { IsErrOf result RunDirFault.Device ↔ (W.has_failed writer.new ≡ true) }
 {
-    let Foreseen { run, plan } = foresee(rt, alloc, dir, options, observer, cause)?;
-    carry_out(rt, alloc, dir, options.workers, &run.tree, &plan, cause)?;
+    let Foreseen { run, plan } = foresee(host, dir, options, cause)?;
+    carry_out(host.rt, host.alloc, dir, options.workers, &run.tree, &plan, cause)?;
     write_report(writer, &run.report, false)?;
     Ok(run)
 }
 
 /// Writes the report that [`run_dir`] would write, and leaves the directory as it is: a run to try out.
 pub fn preview_dir<H: Threads + Wait + Sync, D: WorkDir + Sync, W: ByteOut, O: Observer>(
-    rt: &H,
-    alloc: Global,
+    host: &Host<'_, H, O>,
     dir: &D,
     writer: &mut W,
     options: &Options,
-    observer: &O,
     cause: &mut Cause,
 ) -> Result<DirRun, RunDirFault>
 where
@@ -302,16 +286,15 @@ where
     let Foreseen {
         run: preview,
         plan: _,
-    } = foresee(rt, alloc, dir, options, observer, cause)?;
+    } = foresee(host, dir, options, cause)?;
     write_report(writer, &preview.report, false)?;
     Ok(preview)
 }
 
 /// Reads a directory with all that is below it, and writes the candidates for a target's rule, as `whichdo_bundle`
 /// does. Answers whether one of them is a file, and how many names were passed over.
-pub fn whichdo_dir<T: Threads + Sync, D: WorkDir + Sync, W: ByteOut>(
-    rt: &T,
-    alloc: Global,
+pub fn whichdo_dir<H: Threads + Sync, D: WorkDir + Sync, W: ByteOut, O>(
+    host: &Host<'_, H, O>,
     dir: &D,
     writer: &mut W,
     target: &Path,
@@ -326,9 +309,9 @@ where
     ensures untouched { IsUnwritten result writer.old writer.new }
     ensures device { IsErrOf result RunDirFault.Device ↔ (W.has_failed writer.new ≡ true) }
 {
-    let (tree, passed) = load(rt, alloc, dir, 1, cause)?;
-    let found = search(alloc, &tree, target)?;
-    let text = text_of_search(alloc, &found)?;
+    let (tree, passed) = load(host.rt, host.alloc, dir, 1, cause)?;
+    let found = search(host.alloc, &tree, target)?;
+    let text = text_of_search(host.alloc, &found)?;
     write_all(writer, &text)?;
     Ok((found.chosen.is_some(), passed))
 }

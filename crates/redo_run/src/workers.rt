@@ -17,6 +17,7 @@ ghost use Rattle.redo_run.specs.inside.Workers.{AreOtherTakers, IsAnswerTo, Need
 
 use crate::crew::Shared;
 use crate::ended::{EndedBuild, hand_out};
+use crate::host::Host;
 use crate::laws::keeping_is_sound;
 use crate::observer::Observer;
 use crate::of_build::{BuildBrand, JobOf};
@@ -148,11 +149,9 @@ fn run_in_scope<B: BuildBrand + Send + Sync, R: Threads + Wait + Sync, O: Observ
 
 /// Runs a build that was opened. The caller's thread is one of the workers, so it needs one thread fewer.
 fn run_build<B: BuildBrand + Send + Sync, R: Threads + Wait + Sync, O: Observer>(
-    rt: &R,
-    alloc: Global,
+    host: &Host<'_, R, O>,
     board: Board,
     workers: usize,
-    observer: &O,
 ) -> Result<(RunReport, Ledger<JobOf<B>>), Stop>
     requires of_build { IsGiven B.tree B.request B.limits board.given }
     requires running { IsNone board.stopped }
@@ -161,7 +160,7 @@ fn run_build<B: BuildBrand + Send + Sync, R: Threads + Wait + Sync, O: Observer>
     requires few { workers ≤ 64 }
     ensures { IsAnswerTo B.tree B.request B.limits result }
 {
-    let (source, mut takers) = relay(alloc, workers)?;
+    let (source, mut takers) = relay(host.alloc, workers)?;
     let Some(taker) = takers.pop() else {
         unreachable!()
     };
@@ -173,12 +172,12 @@ fn run_build<B: BuildBrand + Send + Sync, R: Threads + Wait + Sync, O: Observer>
     };
     let crew = Crew::new((workers - 1) as u8);
     let shared = Shared {
-        rt,
-        observer,
+        rt: host.rt,
+        observer: host.observer,
         crew: &crew,
     };
-    let ended = run_in_scope(shared, alloc, owner, takers)?;
-    answer_of(rt, alloc, ended, workers)
+    let ended = run_in_scope(shared, host.alloc, owner, takers)?;
+    answer_of(host.rt, host.alloc, ended, workers)
 }
 
 /// What a run takes over from the last one. At most `threads` threads digest the files that the book has digests of.
@@ -205,13 +204,11 @@ pub(crate) fn past_of<R: Threads + Sync>(
 /// The ledger is of jobs of this build by its type, which names the tree, the request and the limits: each job that it
 /// counts held a work that a board of this build gave.
 pub fn build_many<B: BuildBrand + Send + Sync, R: Threads + Wait + Sync, O: Observer>(
-    rt: &R,
-    alloc: Global,
+    host: &Host<'_, R, O>,
     tree: Tree,
     request: &[Path],
     limits: Limits,
     workers: usize,
-    observer: &O,
 ) -> Result<(Report, Ledger<JobOf<B>>), RunFault>
     requires of_build { (B.tree ≡ tree) × (B.request ≡ request.now) × (B.limits ≡ limits) }
     requires some { 1 ≤ workers }
@@ -225,22 +222,18 @@ pub fn build_many<B: BuildBrand + Send + Sync, R: Threads + Wait + Sync, O: Obse
     ensures too_many { result ≡ Err RunFault.TooMany → NeedsTooMany tree request.now limits }
     ensures only_unsafe { result ≡ Err RunFault.TooMany → IsUnsafeOn tree request.now limits }
 {
-    let past = past_of(rt, alloc, tree, workers)?;
-    let (report, ledger) = build_by::<B, R, O>(
-        rt, alloc, past, request, limits, workers, observer,
-    )?;
-    Ok((report.into_report(alloc)?, ledger))
+    let past = past_of(host.rt, host.alloc, tree, workers)?;
+    let (report, ledger) = build_by::<B, R, O>(host, past, request, limits, workers)?;
+    Ok((report.into_report(host.alloc)?, ledger))
 }
 
 /// The same as [`build_many`], over a past. The new book has no text yet.
 fn build_by<B: BuildBrand + Send + Sync, R: Threads + Wait + Sync, O: Observer>(
-    rt: &R,
-    alloc: Global,
+    host: &Host<'_, R, O>,
     past: Past,
     request: &[Path],
     limits: Limits,
     workers: usize,
-    observer: &O,
 ) -> Result<(RunReport, Ledger<JobOf<B>>), RunFault>
     requires of_build { (B.tree ≡ past.tree) × (B.request ≡ request.now) × (B.limits ≡ limits) }
     requires some { 1 ≤ workers }
@@ -257,19 +250,17 @@ fn build_by<B: BuildBrand + Send + Sync, R: Threads + Wait + Sync, O: Observer>(
     what_was_taken();
     keeping_is_sound();
     past.tree().is_tree();
-    let board = Board::over(alloc, past, request, limits)?;
-    Ok(run_build::<B, R, O>(rt, alloc, board, workers, observer)?)
+    let board = Board::over(host.alloc, past, request, limits)?;
+    Ok(run_build::<B, R, O>(host, board, workers)?)
 }
 
 /// The report alone, without the ledger.
 fn report_by<B: BuildBrand + Send + Sync, R: Threads + Wait + Sync, O: Observer>(
-    rt: &R,
-    alloc: Global,
+    host: &Host<'_, R, O>,
     past: Past,
     request: &[Path],
     limits: Limits,
     workers: usize,
-    observer: &O,
 ) -> Result<RunReport, RunFault>
     requires of_build { (B.tree ≡ past.tree) × (B.request ≡ request.now) × (B.limits ≡ limits) }
     requires some { 1 ≤ workers }
@@ -280,7 +271,7 @@ fn report_by<B: BuildBrand + Send + Sync, R: Threads + Wait + Sync, O: Observer>
     ensures too_many { result ≡ Err RunFault.TooMany → NeedsTooMany past.tree request.now limits }
     ensures only_unsafe { result ≡ Err RunFault.TooMany → IsUnsafeOn past.tree request.now limits }
 {
-    match build_by::<B, R, O>(rt, alloc, past, request, limits, workers, observer) {
+    match build_by::<B, R, O>(host, past, request, limits, workers) {
         Ok((report, _ledger)) => Ok(report),
         Err(fault) => Err(fault),
     }
@@ -289,13 +280,11 @@ fn report_by<B: BuildBrand + Send + Sync, R: Threads + Wait + Sync, O: Observer>
 /// Builds as [`build_many`] does, over what a run before has left, and answers the report alone, with the new book not
 /// as text yet.
 pub(crate) fn build_over<R: Threads + Wait + Sync, O: Observer>(
-    rt: &R,
-    alloc: Global,
+    host: &Host<'_, R, O>,
     past: Past,
     request: &[Path],
     limits: Limits,
     workers: usize,
-    observer: &O,
 ) -> Result<RunReport, RunFault>
     requires some { 1 ≤ workers }
     requires few { workers ≤ 64 }
@@ -305,5 +294,5 @@ pub(crate) fn build_over<R: Threads + Wait + Sync, O: Observer>(
     ensures too_many { result ≡ Err RunFault.TooMany → NeedsTooMany past.tree request.now limits }
     ensures only_unsafe { result ≡ Err RunFault.TooMany → IsUnsafeOn past.tree request.now limits }
 {
-    report_by::<Brand, R, O>(rt, alloc, past, request, limits, workers, observer)
+    report_by::<Brand, R, O>(host, past, request, limits, workers)
 }

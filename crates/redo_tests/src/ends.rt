@@ -5,7 +5,7 @@ ghost use Rattle.std.specs.Prelude.{◌≡◌, None, false};
 
 use crate::trees::{limits_of, paths_of};
 use redo_bundle::{Broken, ByteOut, Plain};
-use redo_run::{Cause, Exit, NoObserver, Options, RunIoFault, run_bundle};
+use redo_run::{Cause, Exit, Host, NoObserver, Options, RunIoFault, run_bundle};
 use std::alloc::Global;
 use std::sync::Wait;
 use std::test::Fail;
@@ -71,13 +71,16 @@ fn run_to<R: Threads + Wait + Sync, W: ByteOut>(
         workers: 1,
         limits: limits_of(1)?,
     };
-    match run_bundle(
+    let host = Host {
         rt,
         alloc,
+        observer: &NoObserver,
+    };
+    match run_bundle(
+        &host,
         &mut Plain::new(HELLO.as_bytes()),
         writer,
         &options,
-        &NoObserver,
         &mut Cause::new(alloc),
     ) {
         Ok(run) => Ok(Ok(run.exit)),

@@ -11,7 +11,7 @@ use redo_core::opening::OpenFault;
 use redo_core::work::{Piece, Work};
 use redo_path::Path;
 use redo_report::{Report, report_text};
-use redo_run::{NoObserver, RunFault, build_one};
+use redo_run::{Host, NoObserver, RunFault, build_one};
 use redo_sync::{Cells, JobTaker, Numbered, Taken, relay};
 use redo_tree::Tree;
 use std::alloc::Global;
@@ -73,20 +73,17 @@ fn one_thread_answers_as_ever_or_is_out_of_memory(rt: HostRuntime) -> Result<(),
 #[test]
 fn four_workers_answer_as_ever_or_are_out_of_memory(rt: HostRuntime) -> Result<(), Fail> {
     let alloc = rt.alloc();
+    let host = Host {
+        rt: &rt,
+        alloc,
+        observer: &NoObserver,
+    };
     let mut was_refused = false;
     for (rule, bundle, words, expected) in BUILDS {
         let request = paths_of(alloc, words)?;
         let tree = tree_of(alloc, bundle)?;
         let limits = limits_of(100)?;
-        let found = built_by::<Brand, HostRuntime, NoObserver>(
-            &rt,
-            alloc,
-            tree,
-            &request,
-            limits,
-            4,
-            &NoObserver,
-        );
+        let found = built_by::<Brand, HostRuntime, NoObserver>(&host, tree, &request, limits, 4);
         let report = found.map(|(report, _none_left)| report);
         assert!(rt;
             is_answer(alloc, report, expected, &mut was_refused)?,

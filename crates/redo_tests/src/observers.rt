@@ -5,7 +5,7 @@ use redo_bundle::Plain;
 use redo_core::board::Board;
 use redo_path::Path;
 use redo_report::report_text;
-use redo_run::{Cause, Exit, Observer, Options, run_bundle};
+use redo_run::{Cause, Exit, Host, Observer, Options, run_bundle};
 use std::alloc::{AllocError, Global};
 use std::marker::Brand;
 use std::sync::atomic::AtomicU64;
@@ -71,13 +71,16 @@ fn both_must_be_inside_a_run(rt: HostRuntime) -> Result<(), Fail> {
             workers: 2,
             limits: limits_of(3)?,
         };
-        let outcome = run_bundle(
-            &rt,
+        let host = Host {
+            rt: &rt,
             alloc,
+            observer: &pair,
+        };
+        let outcome = run_bundle(
+            &host,
             &mut Plain::new(two(alloc)?.as_slice()),
             &mut Plain::new(Vec::new(alloc)),
             &options,
-            &pair,
             &mut Cause::new(alloc),
         );
         let exit = match outcome {
@@ -171,10 +174,14 @@ fn each_job_enters_once_and_no_more_are_inside_than_workers(rt: HostRuntime) -> 
         let request = paths_of(alloc, "top")?;
         let tree = tree_of(alloc, DIAMOND)?;
         let limits = limits_of(4)?;
-        let built = built_by::<Brand, HostRuntime, Crowd>(
-            &rt, alloc, tree, &request, limits, workers, &crowd,
-        );
-        let (report, none_left) = built?;
+        let host = Host {
+            rt: &rt,
+            alloc,
+            observer: &crowd,
+        };
+        let (report, none_left) = built_by::<Brand, HostRuntime, Crowd>(
+            &host, tree, &request, limits, workers,
+        )?;
         let text = report_text(alloc, &report, false)?;
         assert_eq!(rt;
             text.as_slice(),

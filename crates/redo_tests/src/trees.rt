@@ -6,7 +6,7 @@ ghost use Rattle.redo_bundle.specs.Bundle.{HasSmallFiles};
 use redo_bundle::{Plain, read_bundle};
 use redo_path::{Path, resolve};
 use redo_report::Report;
-use redo_run::{BuildBrand, Observer, RunFault, build_many};
+use redo_run::{BuildBrand, Host, Observer, RunFault, build_many};
 use redo_step::Limits;
 use redo_tree::Tree;
 use std::alloc::Global;
@@ -67,20 +67,16 @@ pub(crate) fn limits_of(targets: u32) -> Result<Limits, Fail> {
 /// A build by so many workers: its report, and whether no job is left. The type names the build in the contract of
 /// `build_many`, and stands in no type that comes back, so a test may pick it.
 pub(crate) fn built_by<B: BuildBrand + Send + Sync, R: Threads + Wait + Sync, O: Observer>(
-    rt: &R,
-    alloc: Global,
+    host: &Host<'_, R, O>,
     tree: Tree,
     request: &[Path],
     limits: Limits,
     workers: usize,
-    observer: &O,
 ) -> Result<(Report, bool), RunFault>
     requires of_build { (B.tree ≡ tree) × (B.request ≡ request.now) × (B.limits ≡ limits) }
     requires some { 1 ≤ workers }
     requires few { workers ≤ 64 }
 {
-    let (report, ledger) = build_many::<B, R, O>(
-        rt, alloc, tree, request, limits, workers, observer,
-    )?;
+    let (report, ledger) = build_many::<B, R, O>(host, tree, request, limits, workers)?;
     Ok((report, ledger.left().is_empty()))
 }

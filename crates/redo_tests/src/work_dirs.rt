@@ -5,7 +5,7 @@ use crate::trees::{limits_of, paths_of};
 use redo_bundle::Plain;
 use redo_dir::Change;
 use redo_path::{Path, resolve};
-use redo_run::{Cause, Exit, NoObserver, Options, RunDirFault, run_dir};
+use redo_run::{Cause, Exit, Host, NoObserver, Options, RunDirFault, run_dir};
 use redo_tree::Content;
 use std::alloc::Global;
 use std::sync::Wait;
@@ -52,17 +52,14 @@ fn ran<H: Threads + Wait + Sync>(
         workers: workers.clamp(1, 64),
         limits: limits_of(9)?,
     };
-    let mut writer = Plain::new(Vec::new(alloc));
-    let mut cause = Cause::new(alloc);
-    let outcome = run_dir(
+    let host = Host {
         rt,
         alloc,
-        dir,
-        &mut writer,
-        &options,
-        &NoObserver,
-        &mut cause,
-    );
+        observer: &NoObserver,
+    };
+    let mut writer = Plain::new(Vec::new(alloc));
+    let mut cause = Cause::new(alloc);
+    let outcome = run_dir(&host, dir, &mut writer, &options, &mut cause);
     Ok(outcome.map(|run| (run.exit, run.passed)))
 }
 
