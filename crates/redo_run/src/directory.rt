@@ -217,7 +217,12 @@ where
     let Mended { tree, left } = mend(host.rt, host.alloc, options.workers, tree)?;
     let Built { tree, report, exit } = build(host, tree, options)?;
     let new = to_store(host.alloc, &tree, &report.files)?;
-    let plan = Plan { left, over, new };
+    let plan = Plan {
+        left,
+        over,
+        new,
+        workers: options.workers,
+    };
     let run = DirRun {
         exit,
         passed,
@@ -260,7 +265,7 @@ where
     ensures device { IsErrOf result RunDirFault.Device ↔ (W.has_failed writer.new ≡ true) }
 {
     let Foreseen { run, plan } = foresee(host, dir, options, cause)?;
-    carry_out(host.rt, host.alloc, dir, options.workers, &run.tree, &plan, cause)?;
+    carry_out(host, dir, &run.tree, &plan, cause)?;
     write_report(writer, &run.report, false)?;
     Ok(run)
 }

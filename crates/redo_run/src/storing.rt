@@ -7,7 +7,7 @@ ghost use Rattle.redo_run.specs.inside.Storing.{IsPart, LeavesPart, StoresPart, 
 ghost use Rattle.redo_which.specs.Candidates.{book_path};
 
 use crate::dir_fault::of_left;
-use crate::{Cause, RunDirFault};
+use crate::{Cause, Host, RunDirFault};
 use redo_dir::{Left, ToStore, WorkDir, clear, store_by_journal};
 use redo_path::Path;
 use redo_tree::{Content, Tree};
@@ -104,6 +104,8 @@ pub(crate) struct Plan {
     /// Whether a file was listed in the book's place.
     pub over: bool,
     pub new: Option<ToStore>,
+    /// At most so many threads write.
+    pub workers: usize,
 }
 
 /// Clears away what a run has left that was broken off. Where it can't be, the cause names the file.
@@ -129,12 +131,10 @@ fn clear_left<D: WorkDir>(
     }
 }
 
-/// Stores files by at most N threads. Where one can't be stored, the cause names it.
-fn store<T: Threads + Sync, D: WorkDir + Sync>(
-    rt: &T,
-    alloc: Global,
+/// Stores the files that are planned to be. Where one can't be stored, the cause names it.
+fn store<H: Threads + Sync, D: WorkDir + Sync, O>(
+    host: &Host<'_, H, O>,
     dir: &mut D,
-    workers: usize,
     tree: &Tree,
     plan: &Plan,
     cause: &mut Cause,
@@ -148,7 +148,7 @@ where
     let Some(new) = &plan.new else {
         return Ok(());
     };
-    match store_by_journal(rt, dir, alloc, workers, tree, new) {
+    match store_by_journal(host.rt, dir, host.alloc, plan.workers, tree, new) {
         Ok(()) => Ok(()),
         Err(fault) => {
             cause.note_unstored(&new.files, fault);
@@ -159,11 +159,9 @@ where
 
 /// Does to a directory what is planned, over the tree that was built: first what has to be cleared away, then what is to
 /// be stored.
-pub(crate) fn carry_out<T: Threads + Sync, D: WorkDir + Sync>(
-    rt: &T,
-    alloc: Global,
+pub(crate) fn carry_out<H: Threads + Sync, D: WorkDir + Sync, O>(
+    host: &Host<'_, H, O>,
     dir: &mut D,
-    workers: usize,
     tree: &Tree,
     plan: &Plan,
     cause: &mut Cause,
@@ -174,6 +172,6 @@ where
     ensures part { IfErr result (IsPart (λ path kind. (d : D) × D.refuses d path kind)
         (steps_left plan.now) (steps_new tree.now plan.now) (D.done dir.old) (D.done dir.new)) }
 {
-    clear_left(dir, alloc, plan, cause)?;
-    store(rt, alloc, dir, workers, tree, plan, cause)
+    clear_left(dir, host.alloc, plan, cause)?;
+    store(host, dir, tree, plan, cause)
 }
