@@ -1,60 +1,43 @@
 -- What a run over a directory comes to, step by step.
-use Rattle.std.proofs.Common.{◌≡◌, ◌++◌, ◌<◌, ◌+◌, suc, ℕ, List, take, length, inl, inr, refl, Option}
+use Rattle.std.proofs.Common.{◌≡◌, ◌++◌, ◌<◌, ◌+◌, ℕ, List, inl, inr, refl, Option}
 use Rattle.std.specs.declared.io.ErrorKind.{ErrorKind}
 use Rattle.redo_dir.specs.Loaded.{IsLoaded}
 use Rattle.redo_dir.specs.Stored.{Step}
 use Rattle.redo_mend.specs.Mended.{MendsTo}
 use Rattle.redo_tree.specs.Tree.{Node, Tree}
-use Rattle.redo_run.specs.Directories.{FallsInPreview, IsFaultOf, IsUnbuilt, IsUnmended, IsUnread, Ran, steps_of}
+use Rattle.redo_run.specs.Directories.{FallsInPreview, IsFaultOf, IsUnbuilt, IsUnmended, IsUnread, Ran}
 use Rattle.redo_run.specs.Storing.{clearing, storing, to_store}
 use Rattle.redo_run.specs.inside.Foreseen.{IsUnforeseen}
 use Rattle.redo_run.specs.inside.Storing.{IsPart}
 use Rattle.redo_run.specs.declared.dir_fault.RunDirFault.{RunDirFault}
-use Rattle.redo_run.specs.declared.dir_fault.RunDirFault.TheVariants.{Load, Book, TooMany, Store, Journal, Left, Device, Memory}
+use Rattle.redo_run.specs.declared.dir_fault.RunDirFault.TheVariants.{Load, Book, TooMany, Store, Journal, Left, Memory}
 use Rattle.redo_run.specs.declared.options.Options.{Options}
 
 -- what each fault of a directory's build says
 module _ (lists : List ℕ → List (Option (List ℕ)) → Type 0) (leads : List ℕ → Option Node → Type 0) (refuses : List ℕ → ErrorKind → Type 0) (options : Options) where
   pub unread : (fault : RunDirFault) → IsUnread lists leads refuses fault → IsUnforeseen lists leads refuses options fault
   unread Load h = h
-  unread (Book n) h = absurd h
-  unread TooMany h = absurd h
-  unread (Store place) h = absurd h
-  unread Journal h = absurd h
-  unread Left h = absurd h
-  unread Device h = absurd h
   unread Memory h = tt
+  unread _ h = absurd h
 
   pub unmended : (loaded : Tree) (passed : ℕ) (fault : RunDirFault) → IsLoaded lists leads loaded passed → IsUnmended loaded fault → IsUnforeseen lists leads refuses options fault
-  unmended loaded passed Load l h = absurd h
   unmended loaded passed (Book n) l h = record { loaded = loaded; passed = passed; is_loaded = l; why = inl h }
-  unmended loaded passed TooMany l h = absurd h
-  unmended loaded passed (Store place) l h = absurd h
-  unmended loaded passed Journal l h = absurd h
-  unmended loaded passed Left l h = absurd h
-  unmended loaded passed Device l h = absurd h
   unmended loaded passed Memory l h = tt
+  unmended loaded passed _ l h = absurd h
 
   pub unbuilt : (loaded tree : Tree) (passed : ℕ) (fault : RunDirFault) → IsLoaded lists leads loaded passed → MendsTo loaded tree → IsUnbuilt tree options fault → IsUnforeseen lists leads refuses options fault
-  unbuilt loaded tree passed Load l m h = absurd h
   unbuilt loaded tree passed (Book n) l m h = record { loaded = loaded; passed = passed; is_loaded = l; why = inr (tree, m, h) }
   unbuilt loaded tree passed TooMany l m h = record { loaded = loaded; passed = passed; is_loaded = l; why = inr (tree, m, h) }
-  unbuilt loaded tree passed (Store place) l m h = absurd h
-  unbuilt loaded tree passed Journal l m h = absurd h
-  unbuilt loaded tree passed Left l m h = absurd h
-  unbuilt loaded tree passed Device l m h = absurd h
   unbuilt loaded tree passed Memory l m h = tt
+  unbuilt loaded tree passed _ l m h = absurd h
 
   -- a run that stores nothing tells the same
   pub in_preview : (fault : RunDirFault) → IsUnforeseen lists leads refuses options fault → FallsInPreview lists leads refuses options fault
   in_preview Load h = h
   in_preview (Book n) h = h
   in_preview TooMany h = h
-  in_preview (Store place) h = absurd h
-  in_preview Journal h = absurd h
-  in_preview Left h = absurd h
-  in_preview Device h = absurd h
   in_preview Memory h = tt
+  in_preview _ h = absurd h
 
 -- what was read, built and stored, and what each fault says of it
 module _ (lists : List ℕ → List (Option (List ℕ)) → Type 0) (leads : List ℕ → Option Node → Type 0) (refuses : List ℕ → ErrorKind → Type 0) (told : List ℕ → ErrorKind → Type 0) (options : Options) (before : List Step) where
@@ -63,18 +46,12 @@ module _ (lists : List ℕ → List (Option (List ℕ)) → Type 0) (leads : Lis
   unforeseen Load h = (h, refl)
   unforeseen (Book n) h = (h, refl)
   unforeseen TooMany h = (h, refl)
-  unforeseen (Store place) h = absurd h
-  unforeseen Journal h = absurd h
-  unforeseen Left h = absurd h
-  unforeseen Device h = absurd h
   unforeseen Memory h = inl refl
+  unforeseen _ h = absurd h
 
   pub undone_fault : (r : Ran lists leads options) (after : List Step) (fault : RunDirFault) → IsPart told (clearing r.loaded r.tree) (storing r.tree (to_store r.tree r.report.files.items)) before after fault → IsFaultOf lists leads refuses told options before after fault
-  undone_fault r after Load h = absurd h
-  undone_fault r after (Book n) h = absurd h
-  undone_fault r after TooMany h = absurd h
   undone_fault r after (Store place) h = (r, h)
   undone_fault r after Journal h = (r, h)
   undone_fault r after Left h = (r, h.0, h.1, h.2)
-  undone_fault r after Device h = absurd h
   undone_fault r after Memory h = inr (r, h.0, h.1)
+  undone_fault r after _ h = absurd h

@@ -1,6 +1,6 @@
 -- The steps by which a run clears away and stores, and what is known of one that wasn't done.
 use Rattle.std.proofs.Common.{◌≡◌, ◌<◌, ◌+◌, ◌∙◌, ℕ, zero, suc, Bool, List, [], ◌∷◌, ◌++◌, Option, Some, None, Err, ap, inl, inr}
-use Rattle.std.proofs.Common.{append_assoc, append-nil, arith, length, map, refl, subst, sym, take}
+use Rattle.std.proofs.Common.{append_assoc, arith, length, map, refl, subst, sym, take}
 use Rattle.std.proofs.lemmas.List.{map-append}
 use Rattle.std.proofs.Math.Seq.{take-append-add}
 use Rattle.std.specs.Option.{option_map_or}
@@ -125,26 +125,17 @@ stops_behind told left new before mid after k m s = record {
 }
 
 pub left_is_part : (told : List ℕ → ErrorKind → Type 0) (left new before after : List Step) (fault : RunDirFault) → LeavesPart told left before after fault → IsPart told left new before after fault
-left_is_part told left new before after run.Load h = absurd h
-left_is_part told left new before after (run.Book n) h = absurd h
-left_is_part told left new before after run.TooMany h = absurd h
-left_is_part told left new before after (run.Store place) h = absurd h
-left_is_part told left new before after run.Journal h = absurd h
 left_is_part told left new before after run.Left (count, less, s) = (count, less, stops_first told left new before after count s)
-left_is_part told left new before after run.Device h = absurd h
 left_is_part told left new before after run.Memory (count, e) = let some = take_some left new count in (some.0, e ∙ ap (λ xs. before ++ xs) (sym some.1))
+left_is_part told left new before after _ h = absurd h
 
 pub new_is_part : (told : List ℕ → ErrorKind → Type 0) (left new before mid after : List Step) (fault : RunDirFault) → mid ≡ before ++ left → StoresPart told new mid after fault → IsPart told left new before after fault
-new_is_part told left new before mid after run.Load m h = absurd h
-new_is_part told left new before mid after (run.Book n) m h = absurd h
-new_is_part told left new before mid after run.TooMany m h = absurd h
 new_is_part told left new before mid after (run.Store place) m h = stops_behind told left new before mid after (suc place) m h
 new_is_part told left new before mid after run.Journal m h =
     let same : length left + 0 ≡ length left = omega arith in
     subst (StopsAt told (left ++ new) before after) same (stops_behind told left new before mid after 0 m h)
-new_is_part told left new before mid after run.Left m h = absurd h
-new_is_part told left new before mid after run.Device m h = absurd h
 new_is_part told left new before mid after run.Memory m (count, e) = (length left + count, done_behind left new before mid after count m e)
+new_is_part told left new before mid after _ m h = absurd h
 
 -- what is planned to be cleared away is what a broken-off run has left
 pub left_is_cleared : (loaded mended : Tree) (over : Bool) (left : Option Left) → over ≡ is_some (file_at loaded book_path) → option_map (λ l. l.journal) left ≡ file_at loaded journal_path → IfSome left (λ l. l.book ≡ book_to_put loaded mended) → IfSome left (λ l. l.own.items ≡ own_files loaded mended) → option_map_or (λ l. steps_to_clear over l.book l.own.items) left [] ≡ clearing loaded mended

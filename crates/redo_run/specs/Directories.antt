@@ -1,7 +1,7 @@
 -- What a run over a directory comes to. What the directory holds is known to no contract: it has the tree by what it
 -- answered when it was listed and looked at.
-use Rattle.std.specs.Prelude.{◌≡◌, ◌↔◌, ◌++◌, ◌⊎◌, ◌+◌, ◌<◌, suc, Bool, true, false, IsTrue, IsSome, IsUtf8, ℕ, List, Option, Result}
-use Rattle.std.specs.Prelude.{Ok, Err, Some, None, length, take}
+use Rattle.std.specs.Prelude.{◌≡◌, ◌↔◌, ◌++◌, ◌⊎◌, ◌+◌, ◌<◌, suc, Bool, true, false, IsTrue, IsSome, ℕ, List, Option, Result}
+use Rattle.std.specs.Prelude.{Ok, Err, None, length, take}
 use Rattle.std.specs.Arc.{arc_value}
 use Rattle.std.specs.Io.KnownBytes.{Appends}
 use Rattle.std.specs.declared.io.ErrorKind.{ErrorKind}
@@ -39,26 +39,17 @@ pub record IsBuilt (tree : Tree) (options : Options) (report : Report) (exit : E
 -- why a tree isn't built: its book is refused for this line, or it needs too many targets; where keeping is safe, none
 -- does
 abbrev pub IsUnbuilt : Tree → Options → RunDirFault → Type 0
-IsUnbuilt tree options Load = ⊥
 IsUnbuilt tree options (Book n) = IsRefused tree n
 IsUnbuilt tree options TooMany =
     TreeNeedsTooMany tree (request_in options) options.limits × IsUnsafeOn tree (request_in options) options.limits
-IsUnbuilt tree options (Store place) = ⊥
-IsUnbuilt tree options Journal = ⊥
-IsUnbuilt tree options Left = ⊥
-IsUnbuilt tree options Device = ⊥
 IsUnbuilt tree options Memory = Unit {0}
+IsUnbuilt tree options _ = ⊥
 
 -- a tree isn't mended for this reason: its book is refused for this line
 abbrev pub IsUnmended : Tree → RunDirFault → Type 0
-IsUnmended tree Load = ⊥
 IsUnmended tree (Book n) = IsRefused tree n
-IsUnmended tree TooMany = ⊥
-IsUnmended tree (Store place) = ⊥
-IsUnmended tree Journal = ⊥
-IsUnmended tree Left = ⊥
-IsUnmended tree Device = ⊥
 IsUnmended tree Memory = Unit {0}
+IsUnmended tree _ = ⊥
 
 -- what was told to stand at this path is no file of the tree
 abbrev pub IsBlocked : (List ℕ → Option Node → Type 0) → Tree → List ℕ → Bool → Type 0
@@ -90,13 +81,8 @@ IsUnreadable lists leads refuses =
 -- a load fails for no other reason, or for want of memory
 abbrev pub IsUnread : (List ℕ → List (Option (List ℕ)) → Type 0) → (List ℕ → Option Node → Type 0) → (List ℕ → ErrorKind → Type 0) → RunDirFault → Type 0
 IsUnread lists leads refuses Load = IsUnreadable lists leads refuses
-IsUnread lists leads refuses (Book n) = ⊥
-IsUnread lists leads refuses TooMany = ⊥
-IsUnread lists leads refuses (Store place) = ⊥
-IsUnread lists leads refuses Journal = ⊥
-IsUnread lists leads refuses Left = ⊥
-IsUnread lists leads refuses Device = ⊥
 IsUnread lists leads refuses Memory = Unit {0}
+IsUnread lists leads refuses _ = ⊥
 
 -- a tree was loaded, mended and built
 pub record Ran (lists : List ℕ → List (Option (List ℕ)) → Type 0) (leads : List ℕ → Option Node → Type 0) (options : Options) : Type 0 where
@@ -144,11 +130,9 @@ abbrev pub FallsInPreview : (List ℕ → List (Option (List ℕ)) → Type 0) �
 FallsInPreview lists leads refuses options Load = IsUnreadable lists leads refuses
 FallsInPreview lists leads refuses options (Book n) = Stays lists leads options (Book n)
 FallsInPreview lists leads refuses options TooMany = Stays lists leads options TooMany
-FallsInPreview lists leads refuses options (Store place) = ⊥
-FallsInPreview lists leads refuses options Journal = ⊥
-FallsInPreview lists leads refuses options Left = ⊥
 FallsInPreview lists leads refuses options Device = Ran lists leads options
 FallsInPreview lists leads refuses options Memory = Unit {0}
+FallsInPreview lists leads refuses options _ = ⊥
 
 -- Why a run has no report, and which steps were done all the same. None is done before the build has answered.
 abbrev pub IsFaultOf : (List ℕ → List (Option (List ℕ)) → Type 0) → (List ℕ → Option Node → Type 0) → (List ℕ → ErrorKind → Type 0) → (List ℕ → ErrorKind → Type 0) → Options → List Step → List Step → RunDirFault → Type 0
@@ -179,22 +163,12 @@ pub record ListsTree (lists : List ℕ → List (Option (List ℕ)) → Type 0) 
 -- nothing was written, unless the call went well or the writer failed
 abbrev pub IsUnwritten : {A W : Type 0} → Result A RunDirFault → W → W → Type 0
 IsUnwritten (Ok x) old new = Unit {0}
-IsUnwritten (Err Load) old new = new ≡ old
-IsUnwritten (Err (Book n)) old new = new ≡ old
-IsUnwritten (Err TooMany) old new = new ≡ old
-IsUnwritten (Err (Store place)) old new = new ≡ old
-IsUnwritten (Err Journal) old new = new ≡ old
-IsUnwritten (Err Left) old new = new ≡ old
 IsUnwritten (Err Device) old new = Unit {0}
-IsUnwritten (Err Memory) old new = new ≡ old
+IsUnwritten _ old new = new ≡ old
 
 -- a list of candidates reads no book, builds and stores nothing, and has none of the faults of that
 abbrev pub FallsInList : (List ℕ → List (Option (List ℕ)) → Type 0) → (List ℕ → Option Node → Type 0) → (List ℕ → ErrorKind → Type 0) → RunDirFault → Type 0
 FallsInList lists leads refuses Load = IsUnreadable lists leads refuses
-FallsInList lists leads refuses (Book n) = ⊥
-FallsInList lists leads refuses TooMany = ⊥
-FallsInList lists leads refuses (Store place) = ⊥
-FallsInList lists leads refuses Journal = ⊥
-FallsInList lists leads refuses Left = ⊥
 FallsInList lists leads refuses Device = Unit {0}
 FallsInList lists leads refuses Memory = Unit {0}
+FallsInList lists leads refuses _ = ⊥

@@ -73,11 +73,8 @@ Explains options text old new (Err Memory) = Unit {0}
 -- nothing was written, unless the call went well or the writer failed
 abbrev pub IsUntouched : {A W : Type 0} → Result A RunIoFault → W → W → Type 0
 IsUntouched (Ok x) old new = Unit {0}
-IsUntouched (Err (Bundle fault)) old new = new ≡ old
-IsUntouched (Err (Book n)) old new = new ≡ old
-IsUntouched (Err TooMany) old new = new ≡ old
 IsUntouched (Err Device) old new = Unit {0}
-IsUntouched (Err Memory) old new = new ≡ old
+IsUntouched _ old new = new ≡ old
 
 -- the text is a bundle of a tree, and the writer took the list of the target's candidates, and nothing else
 pub record Lists (target text : List ℕ) (old new : Option (List ℕ)) (found : Bool) : Type 0 where

@@ -1,5 +1,5 @@
 -- What a run over a directory knows before it stores.
-use Rattle.std.specs.Prelude.{◌≡◌, Bool, ℕ, List, Option}
+use Rattle.std.specs.Prelude.{◌≡◌, ℕ, List, Option}
 use Rattle.std.specs.Arc.{arc_value}
 use Rattle.std.specs.declared.io.ErrorKind.{ErrorKind}
 use Rattle.redo_tree.specs.Tree.{Node, Tree}
@@ -11,7 +11,7 @@ use Rattle.redo_run.specs.inside.Storing.{steps_left, steps_new}
 use Rattle.redo_run.specs.declared.directory.Foreseen.{Foreseen}
 use Rattle.redo_run.specs.declared.options.Options.{Options}
 use Rattle.redo_run.specs.declared.dir_fault.RunDirFault.{RunDirFault}
-use Rattle.redo_run.specs.declared.dir_fault.RunDirFault.TheVariants.{Load, Book, TooMany, Store, Journal, Left, Device, Memory}
+use Rattle.redo_run.specs.declared.dir_fault.RunDirFault.TheVariants.{Load, Book, TooMany, Memory}
 
 -- a tree was loaded, mended and built, and what is planned are the steps by which that is stored
 pub record IsForeseen (lists : List ℕ → List (Option (List ℕ)) → Type 0) (leads : List ℕ → Option Node → Type 0) (options : Options) (f : Foreseen) : Type 0 where
@@ -27,8 +27,5 @@ abbrev pub IsUnforeseen : (List ℕ → List (Option (List ℕ)) → Type 0) →
 IsUnforeseen lists leads refuses options Load = IsUnreadable lists leads refuses
 IsUnforeseen lists leads refuses options (Book n) = Stays lists leads options (Book n)
 IsUnforeseen lists leads refuses options TooMany = Stays lists leads options TooMany
-IsUnforeseen lists leads refuses options (Store place) = ⊥
-IsUnforeseen lists leads refuses options Journal = ⊥
-IsUnforeseen lists leads refuses options Left = ⊥
-IsUnforeseen lists leads refuses options Device = ⊥
 IsUnforeseen lists leads refuses options Memory = Unit {0}
+IsUnforeseen lists leads refuses options _ = ⊥

@@ -3,16 +3,11 @@ use Rattle.std.specs.Prelude.{◌≡◌, ◌⊎◌, ℕ, List, Option, None}
 use Rattle.std.specs.declared.io.ErrorKind.{ErrorKind}
 use Rattle.redo_tree.specs.Tree.{Node, Tree, file_at}
 use Rattle.redo_run.specs.declared.dir_fault.RunDirFault.{RunDirFault}
-use Rattle.redo_run.specs.declared.dir_fault.RunDirFault.TheVariants.{Load, Book, TooMany, Store, Journal, Left, Device, Memory}
+use Rattle.redo_run.specs.declared.dir_fault.RunDirFault.TheVariants.{Load, Memory}
 
 -- a directory is refused for what stands at this path, or for a call that was refused
 abbrev pub HasNoPlace : (List ℕ → Option Node → Type 0) → (List ℕ → ErrorKind → Type 0) → Tree → List ℕ → RunDirFault → Type 0
 HasNoPlace leads refuses tree place Load =
     ((path : List ℕ) × (kind : ErrorKind) × refuses path kind) ⊎ ((file_at tree place ≡ None) × (node : Option Node) × leads place node)
-HasNoPlace leads refuses tree place (Book n) = ⊥
-HasNoPlace leads refuses tree place TooMany = ⊥
-HasNoPlace leads refuses tree place (Store n) = ⊥
-HasNoPlace leads refuses tree place Journal = ⊥
-HasNoPlace leads refuses tree place Left = ⊥
-HasNoPlace leads refuses tree place Device = ⊥
 HasNoPlace leads refuses tree place Memory = Unit {0}
+HasNoPlace leads refuses tree place _ = ⊥

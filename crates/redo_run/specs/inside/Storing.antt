@@ -1,5 +1,5 @@
 -- What a run over a directory stores, as its code has it.
-use Rattle.std.specs.Prelude.{◌≡◌, ◌+◌, ◌<◌, ◌++◌, suc, ℕ, List, [], Option, Some, None, length, take}
+use Rattle.std.specs.Prelude.{◌≡◌, ◌+◌, ◌<◌, ◌++◌, suc, ℕ, List, [], length, take}
 use Rattle.std.specs.Option.{option_map_or}
 use Rattle.std.specs.declared.io.ErrorKind.{ErrorKind}
 use Rattle.redo_tree.specs.Tree.{Tree}
@@ -9,7 +9,7 @@ use Rattle.redo_dir.specs.declared.journal.ToStore.{ToStore}
 use Rattle.redo_run.specs.Storing.{StopsAt}
 use Rattle.redo_run.specs.declared.storing.Plan.{Plan}
 use Rattle.redo_run.specs.declared.dir_fault.RunDirFault.{RunDirFault}
-use Rattle.redo_run.specs.declared.dir_fault.RunDirFault.TheVariants.{Load, Book, TooMany, Store, Journal, Left, Device, Memory}
+use Rattle.redo_run.specs.declared.dir_fault.RunDirFault.TheVariants.{Store, Journal, Left, Memory}
 
 -- the new book's text and the other files
 abbrev pub view_of : ToStore → List ℕ × List (List ℕ × List ℕ)
@@ -25,32 +25,20 @@ steps_new tree plan = option_map_or (λ new. steps_to_store tree new.book new.fi
 
 -- Why not all of these steps were done: the first of them were, by which something is cleared away, and others stored.
 abbrev pub IsPart : (List ℕ → ErrorKind → Type 0) → List Step → List Step → List Step → List Step → RunDirFault → Type 0
-IsPart told left new before after Load = ⊥
-IsPart told left new before after (Book n) = ⊥
-IsPart told left new before after TooMany = ⊥
 IsPart told left new before after (Store place) = StopsAt told (left ++ new) before after (length left + suc place)
 IsPart told left new before after Journal = StopsAt told (left ++ new) before after (length left)
 IsPart told left new before after Left = (count : ℕ) × (count < length left) × StopsAt told (left ++ new) before after count
-IsPart told left new before after Device = ⊥
 IsPart told left new before after Memory = (count : ℕ) × (after ≡ before ++ take count (left ++ new))
+IsPart told left new before after _ = ⊥
 
 -- the same where only those are done that clear something away, or only those that store
 abbrev pub LeavesPart : (List ℕ → ErrorKind → Type 0) → List Step → List Step → List Step → RunDirFault → Type 0
-LeavesPart told left before after Load = ⊥
-LeavesPart told left before after (Book n) = ⊥
-LeavesPart told left before after TooMany = ⊥
-LeavesPart told left before after (Store place) = ⊥
-LeavesPart told left before after Journal = ⊥
 LeavesPart told left before after Left = (count : ℕ) × (count < length left) × StopsAt told left before after count
-LeavesPart told left before after Device = ⊥
 LeavesPart told left before after Memory = (count : ℕ) × (after ≡ before ++ take count left)
+LeavesPart told left before after _ = ⊥
 
 abbrev pub StoresPart : (List ℕ → ErrorKind → Type 0) → List Step → List Step → List Step → RunDirFault → Type 0
-StoresPart told new before after Load = ⊥
-StoresPart told new before after (Book n) = ⊥
-StoresPart told new before after TooMany = ⊥
 StoresPart told new before after (Store place) = StopsAt told new before after (suc place)
 StoresPart told new before after Journal = StopsAt told new before after 0
-StoresPart told new before after Left = ⊥
-StoresPart told new before after Device = ⊥
 StoresPart told new before after Memory = (count : ℕ) × (after ≡ before ++ take count new)
+StoresPart told new before after _ = ⊥
