@@ -1,6 +1,6 @@
 //! The diagnoses of a report.
 
-ghost use Rattle.std.specs.Prelude.{◌≡◌, ◌++◌, All, IfOk, IfSome, None, OnOk, map, take};
+ghost use Rattle.std.specs.Prelude.{◌≡◌, ◌++◌, All, IfOk, IfSome, None, OnOk, Some, map, take};
 ghost use Rattle.redo_tree.specs.Tree.{file_at};
 ghost use Rattle.redo_diagnose.specs.Diagnoses.{AreFirst, IsIn, IsInSource, MarksIn, MarksSource};
 ghost use Rattle.redo_diagnose.specs.Diagnoses.{failures as failures_in};
@@ -19,8 +19,8 @@ use redo_record::{Outcome, Why};
 use redo_report::{Report, Row};
 use redo_step::Limits;
 use redo_tree::Tree;
+use redo_which::Found;
 use redo_which::lookup::find;
-use redo_which::{Found, Rule};
 use std::alloc::{AllocError, Global};
 
 /// A target that failed for a reason of its own.
@@ -122,9 +122,14 @@ impl Built<'_> {
         }
     }
 
-    /// Where the script of a target asks for what it waits for, which failed with this reason.
-    fn asked_in(&self, alloc: Global, target: &Path, why: Why) -> Result<Option<Place>, AllocError>
-        ensures { IfOk result (λ place. IfSome place (MarksIn (file_at self.now.sources.now))) }
+    /// The script of a target, and what it is given; `None` if there is none.
+    fn script_of<'s>(
+        &'s self,
+        alloc: Global,
+        target: &'s Path,
+    ) -> Result<Option<Failed<'s>>, AllocError>
+        ensures { IfOk result (λ found. IfSome found (λ failed.
+            file_at self.now.sources.now failed.rule.do_file ≡ Some failed.text.now)) }
     {
         let Found::Rule(rule) = find(alloc, self.sources, target)? else {
             return Ok(None);
@@ -132,34 +137,29 @@ impl Built<'_> {
         let Some(text) = self.sources.file(&rule.do_file) else {
             return Ok(None);
         };
-        let failed = Failed {
+        Ok(Some(Failed {
             sources: self.sources,
             target,
             rule,
             text,
             limits: self.limits,
-        };
-        failed.asked(alloc, &self.answers, why)
+        }))
     }
 
-    /// What is said of a target whose script has this text and failed with this reason.
-    fn of_text(
-        &self,
-        alloc: Global,
-        target: &Path,
-        rule: Rule,
-        text: &[u8],
-        why: Why,
-    ) -> Result<Remark, AllocError>
-        ensures { IfOk result (λ found. IfSome found.place (IsIn rule.do_file text.now why)) }
+    /// Where the script of a target asks for what it waits for, which failed with this reason.
+    fn asked_in(&self, alloc: Global, target: &Path, why: Why) -> Result<Option<Place>, AllocError>
+        ensures { IfOk result (λ place. IfSome place (MarksIn (file_at self.now.sources.now))) }
     {
-        let failed = Failed {
-            sources: self.sources,
-            target,
-            rule,
-            text,
-            limits: self.limits,
-        };
+        match self.script_of(alloc, target)? {
+            Some(failed) => failed.asked(alloc, &self.answers, why),
+            None => Ok(None),
+        }
+    }
+
+    /// What is said of a script that failed with this reason.
+    fn of_text(&self, alloc: Global, failed: &Failed<'_>, why: Why) -> Result<Remark, AllocError>
+        ensures { IfOk result (λ found. IfSome found.place (IsIn failed.now.rule.do_file failed.now.text.now why)) }
+    {
         match why {
             Why::Script(fault) => failed.fault(alloc, &fault),
             _ => failed.ended(alloc, &self.answers, why),
@@ -170,11 +170,8 @@ impl Built<'_> {
     fn of_script(&self, alloc: Global, target: &Path, why: Why) -> Result<Remark, AllocError>
         ensures { IfOk result (λ found. IfSome found.place (IsInSource (file_at self.now.sources.now) why)) }
     {
-        let Found::Rule(rule) = find(alloc, self.sources, target)? else {
-            return Ok(placeless(of_whole(alloc, why)?));
-        };
-        match self.sources.file(&rule.do_file) {
-            Some(text) => self.of_text(alloc, target, rule, text, why),
+        match self.script_of(alloc, target)? {
+            Some(failed) => self.of_text(alloc, &failed, why),
             None => Ok(placeless(of_whole(alloc, why)?)),
         }
     }

@@ -4,11 +4,12 @@
 //! script that can't be read it asks redo_script for the place of the fault; a script that failed while it ran is run again
 //! with the outcomes that the report has, and redo_step tells at which command and operand it ended. The crate stands on
 //! redo_record for outcomes, on redo_report for what was built, on redo_which and redo_tree for rules and
-//! sources, on redo_rings for rings, on redo_path for paths, and on `strsim` for names that are near.
+//! sources, on redo_rings for rings, on redo_path for paths, on `strsim` for names that are near, and on `itoa` for
+//! decimal numbers.
 //!
 //! - `diagnosis`: a diagnosis as data; `finding`: those of a report; `behind`: how many targets wait behind a failed one;
 //! - `answers`: the outcomes that a report has; `scripts`: a target's script, read and run again;
-//! - `places`: places in a script's text;
+//! - `places`: places in a script's text; `reasons`: why a target failed, in the words of a report, and in which line;
 //! - what is said: `said` (pieces), `bytes` (bytes that are refused), `commands` (their names and forms), `faults` (scripts
 //!   that can't be read), `ends` (scripts that failed), `missing` (targets without a script), `near` (names that are near);
 //! - `shown`: bytes as a reader may see them; `text`: the lines.
@@ -25,6 +26,7 @@ mod finding;
 mod missing;
 mod near;
 mod places;
+mod reasons;
 mod said;
 mod scripts;
 mod shown;
@@ -32,4 +34,5 @@ mod text;
 
 pub use diagnosis::{Diagnosed, Diagnosis, Place};
 pub use finding::diagnoses;
+pub use reasons::{line_named, why_text};
 pub use text::{text_of, text_of_rings};

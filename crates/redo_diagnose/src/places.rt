@@ -2,11 +2,10 @@
 
 ghost use Rattle.std.specs.Prelude.{◌≡◌, ◌+◌, ◌≤◌, IfOk, IfSome, length, option_copied};
 ghost use Rattle.redo_script.specs.Texts.{first_line as first_line_of};
-ghost use Rattle.redo_diagnose.specs.Diagnoses.{IsMark, line_named as line_in_words, rest_at};
+ghost use Rattle.redo_diagnose.specs.Diagnoses.{IsMark, rest_at};
 
 use crate::diagnosis::Place;
 use redo_path::Path;
-use redo_record::Why;
 use redo_script::Span;
 use std::alloc::{AllocError, Global};
 
@@ -39,26 +38,6 @@ fn first_line(alloc: Global, text: &[u8]) -> Result<Vec<u8>, AllocError>
         line.push(*byte)?;
     }
     Ok(line)
-}
-
-/// The line that a reason names, if it names one.
-pub(crate) fn line_named(why: Why) -> Option<u64>
-    ensures { result ≡ line_in_words why }
-{
-    match why {
-        Why::NoRule | Why::Directory | Why::NoDirectory | Why::Exit(_) | Why::BothOutputs => None,
-        Why::Script(fault) => Some(fault.line),
-        Why::Depends(line)
-        | Why::Unquoted(line)
-        | Why::Outside(line)
-        | Why::Undeclared(line)
-        | Why::Exists(line)
-        | Why::Buildable(line)
-        | Why::Direct(line)
-        | Why::Elsewhere(line)
-        | Why::TooLarge(line)
-        | Why::Format(line) => Some(line),
-    }
 }
 
 /// The number of the line, from 1, in which this byte of a text is.

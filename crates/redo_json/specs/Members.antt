@@ -11,10 +11,9 @@ use Rattle.redo_record.specs.declared.deps.DepKind.{DepKind}
 use Rattle.redo_record.specs.declared.deps.DepKind.TheVariants as kinds
 use Rattle.redo_record.specs.declared.outcome.Outcome.{Outcome}
 use Rattle.redo_record.specs.declared.outcome.Outcome.TheVariants as outcomes
-use Rattle.redo_record.specs.declared.outcome.Why.{Why}
-use Rattle.redo_record.specs.declared.outcome.Why.TheVariants as whys
 use Rattle.redo_report.specs.ReportText.{why_words}
 use Rattle.redo_report.specs.declared.report.Row.{Row}
+use Rattle.redo_diagnose.specs.Diagnoses.{line_named}
 use Rattle.redo_diagnose.specs.declared.diagnosis.Diagnosis.{Diagnosis}
 use Rattle.redo_diagnose.specs.declared.diagnosis.Place.{Place}
 use Rattle.redo_rings.specs.declared.ring.Ring.{Ring}
@@ -57,25 +56,6 @@ outcome_word (outcomes.Built file) false = codes "kept"
 outcome_word (outcomes.Failed why) begun = codes "failed"
 outcome_word outcomes.Cyclic begun = codes "cyclic"
 
--- the line of the script that a failure names, if it names one
-abbrev pub line_of : Why → Option ℕ
-line_of whys.NoRule = None
-line_of whys.Directory = None
-line_of whys.NoDirectory = None
-line_of (whys.Script fault) = Some fault.line
-line_of (whys.Exit status) = None
-line_of (whys.Depends line) = Some line
-line_of (whys.Unquoted line) = Some line
-line_of (whys.Outside line) = Some line
-line_of (whys.Undeclared line) = Some line
-line_of (whys.Exists line) = Some line
-line_of (whys.Buildable line) = Some line
-line_of (whys.Direct line) = Some line
-line_of (whys.Elsewhere line) = Some line
-line_of whys.BothOutputs = None
-line_of (whys.TooLarge line) = Some line
-line_of (whys.Format line) = Some line
-
 abbrev pub line_members : Option ℕ → List Token
 line_members None = []
 line_members (Some line) = number_member (codes "line") line
@@ -85,7 +65,7 @@ abbrev pub outcome_members : Outcome → List Token
 outcome_members outcomes.Source = []
 outcome_members (outcomes.Built None) = []
 outcome_members (outcomes.Built (Some bytes)) = number_member (codes "bytes") (length bytes)
-outcome_members (outcomes.Failed why) = text_member (codes "reason") (why_words why) ++ line_members (line_of why)
+outcome_members (outcomes.Failed why) = text_member (codes "reason") (why_words why) ++ line_members (line_named why)
 outcome_members outcomes.Cyclic = []
 
 -- where a script fails: its file, the line, what is meant there, and the line's text

@@ -13,8 +13,8 @@
 //! reads back as the same tokens. A value of `serde_json` sorts the members of an object by name and stands in memory
 //! whole, while here they stand in the order of the schema. The crate stands on redo_explain for reasons, on
 //! redo_diagnose and redo_rings for failures and rings, on redo_past, redo_report and redo_list for what is told, on
-//! redo_record, redo_script and redo_which for outcomes, entries and rules, on redo_book for the entries of the last
-//! run, on redo_tree for sources, on redo_path and redo_names for paths, and on `hex` and `itoa` for numbers as text.
+//! redo_record and redo_which for outcomes, entries and rules, on redo_book for the entries of the last run, on
+//! redo_tree for sources, on redo_path and redo_names for paths, and on `hex` for digests as text.
 //!
 //! - `told`: the text of a report; `list`: that of a list;
 //! - `rows`: a row; `outcomes`: how a target ended; `diagnoses`: what is wrong with it; `entries`: a record;

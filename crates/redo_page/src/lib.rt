@@ -9,12 +9,11 @@
 //! is there without the script, which adds a filter, an order and a picture. The policy in the head lets nothing else
 //! run, and nothing be fetched.
 //!
-//! The crate stands on redo_report, redo_record and redo_script for what is told, on redo_diagnose for failures, on
-//! redo_rings for rings, on redo_list for lists, on redo_path and redo_names for paths, and on `itoa` for decimal
-//! numbers.
+//! The crate stands on redo_report and redo_record for what is told, on redo_diagnose for failures, on redo_rings for
+//! rings, on redo_list for lists, on redo_path and redo_names for paths, and on `itoa` for decimal numbers.
 //!
 //! - `whole`: the page of a report, from `summary`, `failures`, `rings` and `rows`; `list`: the page of a list;
-//! - `links`: which row has a path, and which rows need it; `reasons`: why a target failed, in words;
+//! - `links`: which row has a path, and which rows need it;
 //! - `writer`: what is written, and how; `escape`: texts; `parts`: fixed parts, of which `head`, `middle` and `tail`
 //!   are long.
 #![tactic(auto)]
@@ -26,7 +25,6 @@ mod links;
 mod list;
 mod middle;
 mod parts;
-mod reasons;
 mod rings;
 mod rows;
 mod summary;

@@ -11,9 +11,9 @@ ghost use Rattle.redo_page.specs.inside.Links.{known_by};
 
 use crate::links::{Links, push_link, push_path};
 use crate::parts::{Part, RowPart, Tag, Word};
-use crate::reasons::why_text;
 use crate::summary::row_word;
 use crate::writer::Writer;
+use redo_diagnose::why_text;
 use redo_path::Path;
 use redo_record::{Dep, DepKind, Outcome, Record, Why};
 use redo_report::Row;

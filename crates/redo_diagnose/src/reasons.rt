@@ -1,7 +1,8 @@
-//! Why a target failed, in the words of a report.
+//! Why a target failed, in the words of a report, and in which line of its script.
 
 ghost use Rattle.std.specs.Prelude.{◌≡◌, IfOk, string_bytes};
 ghost use Rattle.redo_report.specs.ReportText.{reason_word, why_words, word_at as words_at};
+ghost use Rattle.redo_diagnose.specs.Diagnoses.{line_named as line_in_words};
 
 use itoa::Buffer;
 use redo_record::Why;
@@ -46,8 +47,8 @@ fn fault_words(alloc: Global, fault: ScriptFault) -> Result<String, AllocError>
     Ok(text)
 }
 
-/// Why a target failed, in words.
-pub(crate) fn why_text(alloc: Global, why: Why) -> Result<String, AllocError>
+/// Why a target failed, in the words of a report.
+pub fn why_text(alloc: Global, why: Why) -> Result<String, AllocError>
     ensures { IfOk result (λ text. string_bytes text ≡ why_words why) }
 {
     match why {
@@ -67,5 +68,25 @@ pub(crate) fn why_text(alloc: Global, why: Why) -> Result<String, AllocError>
         Why::BothOutputs => String::from_str(alloc, "both"),
         Why::TooLarge(line) => word_at(alloc, "toolarge", line),
         Why::Format(line) => word_at(alloc, "format", line),
+    }
+}
+
+/// The line of the script that a reason names, from 1, if it names one.
+pub fn line_named(why: Why) -> Option<u64>
+    ensures { result ≡ line_in_words why }
+{
+    match why {
+        Why::NoRule | Why::Directory | Why::NoDirectory | Why::Exit(_) | Why::BothOutputs => None,
+        Why::Script(fault) => Some(fault.line),
+        Why::Depends(line)
+        | Why::Unquoted(line)
+        | Why::Outside(line)
+        | Why::Undeclared(line)
+        | Why::Exists(line)
+        | Why::Buildable(line)
+        | Why::Direct(line)
+        | Why::Elsewhere(line)
+        | Why::TooLarge(line)
+        | Why::Format(line) => Some(line),
     }
 }
