@@ -26,9 +26,9 @@ use std::sync::atomic::{AtomicIn, Rule};
 const LOOKS: u32 = 100;
 
 /// The rule that the word keeps at each moment.
-struct Kept;
+struct WordRule;
 
-impl Rule for Kept {
+impl Rule for WordRule {
     ghost use Rattle.redo_crew.specs.Word.{IsKept, counts_of};
 
     ghost invariant = { λ word. IsKept (counts_of word) };
@@ -62,7 +62,7 @@ pub enum Offer {
 /// How many jobs wait, and which workers look for one.
 #[derive(Drop)]
 pub struct Crew {
-    word: AtomicIn<Kept>,
+    word: AtomicIn<WordRule>,
     bell: EventCount,
 }
 

@@ -18,18 +18,17 @@ use Rattle.redo_build.proofs.DepthLemmas.{cases_Option}
 use Rattle.redo_skip.specs.Sources.{Sources}
 use Rattle.redo_skip.specs.Checks.{Check, Checks, has_state, same_state}
 use Rattle.redo_skip.specs.NewBook.{LastRun, check_by, checks_of, is_valid}
-use Rattle.redo_skip.proofs.NewBookLemmas.{are-checks}
+use Rattle.redo_skip.proofs.NewBookLemmas.{are-checks, found-target}
 use Rattle.redo_past.specs.Past.{PastView, intact_record}
 use Rattle.redo_step.specs.Limits.{LimitsView}
 use Rattle.redo_rules.specs.Build.{GivenView, checks_for, is_free, last_run_of, sources_for}
 use Rattle.redo_why.proofs.ListedLemmas.{check-altered, check-intact}
-use Rattle.redo_why.proofs.ReasonLemmas.{found-target}
 use Rattle.redo_why.specs.Verdicts.{Verdicts, Drops, Unsure, holds_if, mark, mark_checked}
 use Rattle.redo_ood.specs.Listing.{run_over}
 use Rattle.redo_ood.specs.inside.Items.{item_if}
 use Rattle.redo_ood.specs.inside.Rows.{AreItems, AreRows, IsItem}
-use Rattle.redo_ood.specs.declared.verdicts.Item.{Item}
-use Rattle.redo_ood.specs.declared.verdicts.Item.TheVariants as items
+use Rattle.redo_ood.specs.declared.verdicts.RowItem.{RowItem}
+use Rattle.redo_ood.specs.declared.verdicts.RowItem.TheVariants as items
 use Rattle.redo_ood.specs.declared.verdicts.Row.{Row}
 
 -- Marks that don't go by verdicts
@@ -185,7 +184,7 @@ module _ (past : PastView) (request : List (List ℕ)) (limits : LimitsView) whe
 -- Lists of items and rows
 
 module _ (s : Sources) (k : Checks) (book : List Record) where
-  pub items-more : (es : List BookEntry) (is : List Item) (e : BookEntry) (i : Item) → AreItems s k book es is →
+  pub items-more : (es : List BookEntry) (is : List RowItem) (e : BookEntry) (i : RowItem) → AreItems s k book es is →
       IsItem s k book e i → AreItems s k book (es ++ e ∷ []) (is ++ i ∷ [])
   items-more [] [] e i are here = (here, tt)
   items-more [] (j ∷ is) e i are here = absurd are
@@ -199,7 +198,7 @@ module _ (s : Sources) (k : Checks) (book : List Record) where
   rows-more (x ∷ rs) [] r row are here = absurd are
   rows-more (x ∷ rs) (y ∷ rows) r row are here = (are.0, rows-more rs rows r row are.1 here)
 
-  pub items-length : (es : List BookEntry) (is : List Item) → AreItems s k book es is → length es ≡ length is
+  pub items-length : (es : List BookEntry) (is : List RowItem) → AreItems s k book es is → length es ≡ length is
   items-length [] [] are = refl
   items-length [] (i ∷ is) are = absurd are
   items-length (e ∷ es) [] are = absurd are

@@ -23,8 +23,8 @@ use Rattle.redo_ood.specs.inside.Lines.{HaveItems, Told, drop_in, listed_in, mar
 use Rattle.redo_ood.specs.inside.Lines.{told_of, told_open}
 use Rattle.redo_ood.specs.inside.Rows.{AreItems, AreRows, IsAt, IsItem, told_as}
 use Rattle.redo_ood.specs.inside.Verdicts.{AreVerdicts, Known, in_table}
-use Rattle.redo_ood.specs.declared.verdicts.Item.{Item}
-use Rattle.redo_ood.specs.declared.verdicts.Item.TheVariants as items
+use Rattle.redo_ood.specs.declared.verdicts.RowItem.{RowItem}
+use Rattle.redo_ood.specs.declared.verdicts.RowItem.TheVariants as items
 use Rattle.redo_ood.specs.declared.verdicts.Verdict.{Verdict as CodeVerdict}
 use Rattle.redo_ood.specs.declared.verdicts.Row.{Row}
 use Rattle.redo_ood.proofs.ItemLemmas.{items-length}
@@ -68,13 +68,13 @@ listed-tested tree target waited false true true t word same = same
 
 module _ (s : Sources) (k : Checks) (book : List Record) (known : Known) (v : Verdicts)
     (same : (j : ℕ) (q : List ℕ) (c : Check) → k q ≡ Some c → IsAt book q j → told_as (known j) ≡ v q) where
-  item-marked : (e : BookEntry) (i : Item) → IsItem s k book e i → mark_in known i ≡ mark s k v e
+  item-marked : (e : BookEntry) (i : RowItem) → IsItem s k book e i → mark_in known i ≡ mark s k v e
   item-marked e items.Holds is = sym (is v)
   item-marked e items.Drops is = sym (is v)
   item-marked e items.Unsure is = sym (is v)
   item-marked e (items.On j t) is = ap (mark_checked t) (same j is.path is.check is.in_check is.at) ∙ sym (is.marked v)
 
-  opened : (es : List BookEntry) (is : List Item) → AreItems s k book es is →
+  opened : (es : List BookEntry) (is : List RowItem) → AreItems s k book es is →
       Opened (open_in known es is) (verdict s k v es) (first_drop s k v es) (first_unsure s k v es) (first_waiting s k v es)
   opened [] [] are = refl
   opened [] (i ∷ is) are = absurd are
@@ -87,7 +87,7 @@ module _ (s : Sources) (k : Checks) (book : List Record) (known : Known) (v : Ve
       (opened-more e m (open_in known es is) (verdict s k v es) (first_drop s k v es) (first_unsure s k v es)
       (first_waiting s k v es) (opened es is are.1))
 
-  dropped : (es : List BookEntry) (is : List Item) → AreItems s k book es is → drop_in known es is ≡ first_drop s k v es
+  dropped : (es : List BookEntry) (is : List RowItem) → AreItems s k book es is → drop_in known es is ≡ first_drop s k v es
   dropped [] [] are = refl
   dropped [] (i ∷ is) are = absurd are
   dropped (e ∷ es) [] are = absurd are
@@ -95,7 +95,7 @@ module _ (s : Sources) (k : Checks) (book : List Record) (known : Known) (v : Ve
       ap (λ m. drop_by e m (drop_in known es is)) (item-marked e i are.0)
       ∙ ap (drop_by e (mark s k v e)) (dropped es is are.1)
 
-  entries-told : (tree : Tree) (target : List ℕ) (es : List BookEntry) (is : List Item) → AreItems s k book es is →
+  entries-told : (tree : Tree) (target : List ℕ) (es : List BookEntry) (is : List RowItem) → AreItems s k book es is →
       listed_told tree target (told_in known es is)
       ≡ listed_if tree target (first_waiting s k v es) (word_of_entries s k v es)
   entries-told tree target es is are =
@@ -118,7 +118,7 @@ module _ (given : GivenView) (rows : List Row) (table : List (Option CodeVerdict
   abbrev k : Checks
   k = checks_for given
 
-  record-told : (r : Record) (is : List Item) → AreItems s k given.past.book r.entries is →
+  record-told : (r : Record) (is : List RowItem) → AreItems s k given.past.book r.entries is →
       listed_told given.past.sources r.target (told_of given.past (in_table table) r is) ≡ listed_for given r
   record-told r is items =
       listed-tested given.past.sources r.target (first_waiting s k (verdicts_for given) r.entries)

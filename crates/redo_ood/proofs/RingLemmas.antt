@@ -11,10 +11,9 @@ use Rattle.redo_book.specs.Book.{Record, record_at}
 use Rattle.redo_book.specs.Intact.{is_intact}
 use Rattle.redo_skip.specs.Checks.{Check, Checks, has_state, is_asked, same_state, source_file}
 use Rattle.redo_skip.specs.NewBook.{LastRun, checks_of}
-use Rattle.redo_skip.proofs.NewBookLemmas.{are-checks, check-known}
+use Rattle.redo_skip.proofs.NewBookLemmas.{are-checks, check-known, found-target}
 use Rattle.redo_skip.specs.Sources.{Sources}
 use Rattle.redo_why.proofs.ListedLemmas.{check-altered}
-use Rattle.redo_why.proofs.ReasonLemmas.{found-target}
 use Rattle.redo_why.specs.OutOfDate.{Ring, entry_path, first_drop, first_unsure, word_by}
 use Rattle.redo_why.specs.Runs.{IsRecordInCheck, verdict_with}
 use Rattle.redo_why.specs.Verdicts.{Verdict, Keeps, Begins, Either, Verdicts, Mark, Holds, Drops, Unsure, Waits}

@@ -13,7 +13,7 @@ use Rattle.redo_why.specs.Verdicts.{Mark, Holds, Drops, Unsure, Waits}
 use Rattle.redo_ood.specs.inside.Lines.{HaveItems, drop_in, drops, holds, listed_in, mark_in, open_by, open_in, listed_told, told_of}
 use Rattle.redo_list.specs.Lists.{ListedView}
 use Rattle.redo_ood.specs.inside.Verdicts.{Known}
-use Rattle.redo_ood.specs.declared.verdicts.Item.{Item}
+use Rattle.redo_ood.specs.declared.verdicts.RowItem.{RowItem}
 use Rattle.redo_ood.specs.declared.verdicts.Row.{Row}
 
 module _ {X : Type 0} where
@@ -48,9 +48,9 @@ module _ {X Y : Type 0} where
 
 -- Entries
 
-module _ (v : Known) (es : List BookEntry) (is : List Item) (i : ℕ) (other : Item) (same : length es ≡ length is)
+module _ (v : Known) (es : List BookEntry) (is : List RowItem) (i : ℕ) (other : RowItem) (same : length es ≡ length is)
     (below : i < length es) where
-  abbrev item : Item
+  abbrev item : RowItem
   item = slice_index_or is i other
 
   open-next : open_in v (drop i es) (drop i is)

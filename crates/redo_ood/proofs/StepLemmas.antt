@@ -4,8 +4,8 @@ use Rattle.std.proofs.Common.{Option, Some, None, is_some, slice_get, slice_set,
 use Rattle.std.proofs.lemmas.Bool.{cases_lt, cases_eq}
 use Rattle.std.proofs.lemmas.List.{get_or-set_same, get_or-set_other, get_or_past, length-set}
 use Rattle.std.proofs.lemmas.Option.{slice_get_past, slice_get-get_or}
-use Rattle.redo_ood.specs.declared.verdicts.Item.{Item}
-use Rattle.redo_ood.specs.declared.verdicts.Item.TheVariants as items
+use Rattle.redo_ood.specs.declared.verdicts.RowItem.{RowItem}
+use Rattle.redo_ood.specs.declared.verdicts.RowItem.TheVariants as items
 use Rattle.redo_ood.specs.declared.verdicts.Verdict.{Verdict}
 use Rattle.redo_ood.specs.declared.verdicts.Verdict.TheVariants.{Keeps, Begins, Either}
 use Rattle.redo_ood.specs.declared.verdicts.Row.{Row}
@@ -37,13 +37,13 @@ by_verdict-grows false (Some Either) b rest more grows after x is =
     ap (λ o. by_verdict false o more) (grows Either refl) ∙ is
 
 module _ (v w : Known) (grows : (i : ℕ) → Grows (v i) (w i)) where
-  item-grows : (i : Item) (rest more : Option Verdict) → Grows rest more → Grows (by_item v i rest) (by_item w i more)
+  item-grows : (i : RowItem) (rest more : Option Verdict) → Grows rest more → Grows (by_item v i rest) (by_item w i more)
   item-grows items.Holds rest more after x is = after x is
   item-grows items.Drops rest more after x is = is
   item-grows items.Unsure rest more after x is = is
   item-grows (items.On n same) rest more after x is = by_verdict-grows same (v n) (w n) rest more (grows n) after x is
 
-  items-grow : (is : List Item) → Grows (of_items v is) (of_items w is)
+  items-grow : (is : List RowItem) → Grows (of_items v is) (of_items w is)
   items-grow [] x e = e
   items-grow (i ∷ is) x e = item-grows i (of_items v is) (of_items w is) (items-grow is) x e
 
@@ -67,11 +67,11 @@ known-more book n (suc m) h i x e = elim (cases_lt m n) [
 
 module _ (book : List Row) (v : Known) (reached : AreReached book v) where
   -- from some depth on an item is as by the verdicts
-  abbrev IsAsFrom : Item → ℕ → Type 0
+  abbrev IsAsFrom : RowItem → ℕ → Type 0
   IsAsFrom i n = (m : ℕ) → n ≤ m → (rest more : Option Verdict) → Grows rest more →
       Grows (by_item v i rest) (by_item (known_at book m) i more)
 
-  reach-item : (i : Item) → (n : ℕ) × IsAsFrom i n
+  reach-item : (i : RowItem) → (n : ℕ) × IsAsFrom i n
   reach-item items.Holds = (0, λ m h rest more after x is. after x is)
   reach-item items.Drops = (0, λ m h rest more after x is. is)
   reach-item items.Unsure = (0, λ m h rest more after x is. is)
@@ -91,7 +91,7 @@ module _ (book : List Row) (v : Known) (reached : AreReached book v) where
         )
   ]
 
-  reach-items : (is : List Item) (x : Verdict) → of_items v is ≡ Some x →
+  reach-items : (is : List RowItem) (x : Verdict) → of_items v is ≡ Some x →
       (n : ℕ) × (of_items (known_at book n) is ≡ Some x)
   reach-items [] x e = (0, e)
   reach-items (i ∷ is) x e =
@@ -227,7 +227,7 @@ module _ (book : List Row) (table : List (Option Verdict)) (sound : IsSound book
       (count-more table i x.0 (omega arith) nothing-there)
 
 -- the items of a record are its row's
-pub row-items : (book : List Row) (v : Known) (i : ℕ) (r : Row) (is : List Item) → i < length book →
+pub row-items : (book : List Row) (v : Known) (i : ℕ) (r : Row) (is : List RowItem) → i < length book →
     is ≡ (get_or book i r).items.items → of_items v is ≡ of_row v (slice_get book i)
 row-items book v i r is within same =
     ap (of_items v) same ∙ sym (ap (of_row v) (slice_get-get_or book i r within))

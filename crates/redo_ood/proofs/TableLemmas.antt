@@ -14,8 +14,8 @@ use Rattle.redo_why.specs.Verdicts.{Verdict, Keeps, Begins, Either, Verdicts, ma
 use Rattle.redo_why.specs.Verdicts.{verdict_checked, verdict_at}
 use Rattle.redo_why.specs.Runs.{verdict_with}
 use Rattle.redo_why.proofs.DeepLemmas.{grows-at, book-deep-enough}
-use Rattle.redo_ood.specs.declared.verdicts.Item.{Item}
-use Rattle.redo_ood.specs.declared.verdicts.Item.TheVariants as items
+use Rattle.redo_ood.specs.declared.verdicts.RowItem.{RowItem}
+use Rattle.redo_ood.specs.declared.verdicts.RowItem.TheVariants as items
 use Rattle.redo_ood.specs.declared.verdicts.Verdict.{Verdict as CodeVerdict}
 use Rattle.redo_ood.specs.declared.verdicts.Verdict.TheVariants as verdicts
 use Rattle.redo_ood.specs.declared.verdicts.Row.{Row}
@@ -40,7 +40,7 @@ told-some (Some x) y e = (x, refl)
 
 module _ (s : Sources) (k : Checks) (book : List Record) (known : Known) (v : Verdicts)
     (same : (j : ℕ) (q : List ℕ) (c : Check) → k q ≡ Some c → IsAt book q j → told_as (known j) ≡ v q) where
-  item-told : (e : BookEntry) (i : Item) (rest : Option CodeVerdict) → IsItem s k book e i →
+  item-told : (e : BookEntry) (i : RowItem) (rest : Option CodeVerdict) → IsItem s k book e i →
       told_as (by_item known i rest) ≡ verdict_by (mark s k v e) (told_as rest)
   item-told e items.Holds rest is = sym (ap (λ m. verdict_by m (told_as rest)) (is v))
   item-told e items.Drops rest is = sym (ap (λ m. verdict_by m (told_as rest)) (is v))
@@ -50,7 +50,7 @@ module _ (s : Sources) (k : Checks) (book : List Record) (known : Known) (v : Ve
       ∙ ap (λ o. verdict_by (mark_checked t o) (told_as rest)) (same j is.path is.check is.in_check is.at)
       ∙ sym (ap (λ m. verdict_by m (told_as rest)) (is.marked v))
 
-  items-told : (es : List BookEntry) (is : List Item) → AreItems s k book es is →
+  items-told : (es : List BookEntry) (is : List RowItem) → AreItems s k book es is →
       told_as (of_items known is) ≡ verdict s k v es
   items-told [] [] are = refl
   items-told [] (i ∷ is) are = absurd are

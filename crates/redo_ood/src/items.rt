@@ -10,7 +10,7 @@ ghost use Rattle.redo_rules.specs.Build.{is_free as is_free_in};
 ghost use Rattle.redo_ood.specs.inside.Items.{item_if};
 ghost use Rattle.redo_ood.specs.inside.Rows.{AreItems, AreRows, InRun, IsItem};
 
-use crate::verdicts::{Item, Row};
+use crate::verdicts::{Row, RowItem};
 use redo_book::{BookEntry, BookRecord};
 use redo_digest::Digest;
 use redo_names::PathSet;
@@ -40,10 +40,14 @@ fn is_free(alloc: Global, sources: &Tree, path: &Path) -> Result<bool, AllocErro
     }
 }
 
-fn holds_if(holds: bool) -> Item
+fn holds_if(holds: bool) -> RowItem
     ensures { result ≡ item_if holds }
 {
-    if holds { Item::Holds } else { Item::Drops }
+    if holds {
+        RowItem::Holds
+    } else {
+        RowItem::Drops
+    }
 }
 
 /// Whether a path is one of these.
@@ -55,18 +59,18 @@ pub(crate) fn has(paths: &PathSet, path: &Path) -> bool
 
 /// A `change` of a target with a rule. Its script is begun unless it is in check: it isn't requested, and is as the last
 /// run left it.
-fn target_item(past: &Past, requested: &PathSet, state: &Option<Digest>, path: &Path) -> Item
+fn target_item(past: &Past, requested: &PathSet, state: &Option<Digest>, path: &Path) -> RowItem
     requires source { file_at past.now.sources path.now ≡ None }
     requires script { is_do_file path.now ≡ false }
     requires rule { is_rule (found_of past.now.sources path.now) ≡ true }
     ensures { InRun past.now requested.now (λ s k book. IsItem s k book (Change state.now path.now) result) }
 {
     if has(requested, path) {
-        return Item::Unsure;
+        return RowItem::Unsure;
     }
     match past.intact(path) {
-        Some(number) => Item::On(number, has_state(past.tree().content(path), state)),
-        None => Item::Unsure,
+        Some(number) => RowItem::On(number, has_state(past.tree().content(path), state)),
+        None => RowItem::Unsure,
     }
 }
 
@@ -77,18 +81,18 @@ fn asked_item(
     requested: &PathSet,
     state: &Option<Digest>,
     path: &Path,
-) -> Result<Item, AllocError>
+) -> Result<RowItem, AllocError>
     requires { file_at past.now.sources path.now ≡ None }
     ensures { IfOk result (λ item.
         InRun past.now requested.now (λ s k book. IsItem s k book (Change state.now path.now) item)) }
 {
     if path.name().ends_with(b".do") {
-        return Ok(Item::Drops);
+        return Ok(RowItem::Drops);
     }
     if has_rule(alloc, past.sources(), path)? {
         Ok(target_item(past, requested, state, path))
     } else {
-        Ok(Item::Drops)
+        Ok(RowItem::Drops)
     }
 }
 
@@ -98,7 +102,7 @@ fn item_of(
     past: &Past,
     requested: &PathSet,
     entry: &BookEntry,
-) -> Result<Item, AllocError>
+) -> Result<RowItem, AllocError>
     ensures { IfOk result (λ item. InRun past.now requested.now (λ s k book. IsItem s k book entry.now item)) }
 {
     match entry {
@@ -107,7 +111,7 @@ fn item_of(
             None => Ok(asked_item(alloc, past, requested, state, path)?),
         },
         BookEntry::Create(path) => Ok(holds_if(is_free(alloc, past.sources(), path)?)),
-        BookEntry::Always => Ok(Item::Drops),
+        BookEntry::Always => Ok(RowItem::Drops),
     }
 }
 

@@ -1,6 +1,6 @@
 //! What is known of each record of a book before any script runs: its target is kept, is begun, or may be either.
 //!
-//! Records have numbers, and what the tree alone tells of their entries is known ([`Item`]). So what is left is to go from
+//! Records have numbers, and what the tree alone tells of their entries is known ([`RowItem`]). So what is left is to go from
 //! record to record. A record gets its verdict once those that it waits for have theirs; what is left without one at the end
 //! is in a ring, or waits for one.
 //!
@@ -19,7 +19,7 @@ use std::alloc::{AllocError, Global};
 
 /// How a recorded entry stands before any script runs.
 #[derive(Clone, Copy, Debug, PartialEq, Eq)]
-pub(crate) enum Item {
+pub(crate) enum RowItem {
     /// It is still so.
     Holds,
     /// It isn't so any more.
@@ -45,7 +45,7 @@ pub(crate) enum Verdict {
 /// The items of a record.
 #[derive(Drop)]
 pub(crate) struct Row {
-    pub(crate) items: Vec<Item>,
+    pub(crate) items: Vec<RowItem>,
 }
 
 /// The verdict of a record in a table.
@@ -59,14 +59,14 @@ pub(crate) fn verdict_at(table: &[Option<Verdict>], number: usize) -> Option<Ver
 }
 
 /// The verdict that an item leads to; none where it holds.
-fn ends(item: Item, table: &[Option<Verdict>]) -> Option<Option<Verdict>>
+fn ends(item: RowItem, table: &[Option<Verdict>]) -> Option<Option<Verdict>>
     ensures { (rest : Option VerdictView) → by_item (in_table table.now) item rest ≡ unwrap_or result rest }
 {
     match item {
-        Item::Holds => None,
-        Item::Drops => Some(Some(Verdict::Begins)),
-        Item::Unsure => Some(Some(Verdict::Either)),
-        Item::On(number, same) => match verdict_at(table, number) {
+        RowItem::Holds => None,
+        RowItem::Drops => Some(Some(Verdict::Begins)),
+        RowItem::Unsure => Some(Some(Verdict::Either)),
+        RowItem::On(number, same) => match verdict_at(table, number) {
             None => Some(None),
             Some(Verdict::Keeps) if same => None,
             Some(Verdict::Keeps) => Some(Some(Verdict::Begins)),
@@ -76,7 +76,7 @@ fn ends(item: Item, table: &[Option<Verdict>]) -> Option<Option<Verdict>>
 }
 
 /// The verdict of a record with these items, by those of other records so far.
-pub(crate) fn of_items(items: &[Item], table: &[Option<Verdict>]) -> Option<Verdict>
+pub(crate) fn of_items(items: &[RowItem], table: &[Option<Verdict>]) -> Option<Verdict>
     ensures { result ≡ verdict_of_items (in_table table.now) items.now }
 {
     for item in items {
@@ -164,7 +164,7 @@ fn next_waiting(
         let item = row.items[place];
         if let Some(verdict) = ends(item, table) {
             return match item {
-                Item::On(child, _) if verdict.is_none() && !is_seen(seen, child) => {
+                RowItem::On(child, _) if verdict.is_none() && !is_seen(seen, child) => {
                     Some((place, child))
                 }
                 _ => None,

@@ -9,7 +9,7 @@ ghost use Rattle.redo_ood.specs.inside.Lines.{told_in, told_of, word_as};
 ghost use Rattle.redo_ood.specs.inside.Verdicts.{in_table};
 
 use crate::items::has_rule;
-use crate::verdicts::{Item, Verdict, verdict_at};
+use crate::verdicts::{RowItem, Verdict, verdict_at};
 use redo_book::{BookEntry, BookRecord};
 use redo_past::{Past, has_state};
 use std::alloc::{AllocError, Global};
@@ -50,14 +50,14 @@ struct Open<'a> {
 }
 
 /// What is known of an entry, by the verdicts.
-fn mark_of(item: Item, table: &[Option<Verdict>]) -> Mark
+fn mark_of(item: RowItem, table: &[Option<Verdict>]) -> Mark
     ensures { mark_as result ≡ mark_in (in_table table.now) item }
 {
     match item {
-        Item::Holds => Mark::Holds,
-        Item::Drops => Mark::Drops,
-        Item::Unsure => Mark::Unsure,
-        Item::On(number, same) => match verdict_at(table, number) {
+        RowItem::Holds => Mark::Holds,
+        RowItem::Drops => Mark::Drops,
+        RowItem::Unsure => Mark::Unsure,
+        RowItem::On(number, same) => match verdict_at(table, number) {
             None => Mark::Waits,
             Some(Verdict::Keeps) if same => Mark::Holds,
             Some(Verdict::Keeps) => Mark::Drops,
@@ -81,7 +81,7 @@ fn is_dropped(mark: Mark) -> bool
 /// The first entry that isn't known to hold.
 fn first_open<'a>(
     entries: &'a [BookEntry],
-    items: &[Item],
+    items: &[RowItem],
     table: &[Option<Verdict>],
 ) -> Option<Open<'a>>
     requires { length entries.now ≡ length items.now }
@@ -100,7 +100,7 @@ fn first_open<'a>(
 /// The first entry that isn't so any more, also behind one that is unsure.
 fn first_drop<'a>(
     entries: &'a [BookEntry],
-    items: &[Item],
+    items: &[RowItem],
     table: &[Option<Verdict>],
 ) -> Option<&'a BookEntry>
     requires { length entries.now ≡ length items.now }
@@ -117,7 +117,7 @@ fn first_drop<'a>(
 /// What the entries of a record tell of a target with a rule that is as the last run left it.
 fn word_by<'a>(
     entries: &'a [BookEntry],
-    items: &[Item],
+    items: &[RowItem],
     table: &[Option<Verdict>],
 ) -> Option<Word<'a>>
     requires { length entries.now ≡ length items.now }
@@ -147,7 +147,7 @@ pub(crate) fn word_of<'a>(
     alloc: Global,
     past: &Past,
     made: &'a BookRecord,
-    items: &[Item],
+    items: &[RowItem],
     table: &[Option<Verdict>],
 ) -> Result<Option<Word<'a>>, AllocError>
     requires { length made.now.entries.items ≡ length items.now }

@@ -32,12 +32,12 @@ impl<T> Model for Cells<T> {
 /// of a cell that has been written: that cell, or the one that already had another value.
 #[derive(Drop)]
 pub struct Known<T> {
-    place: Place<T>,
+    location: Location<T>,
 }
 
 /// Where a value is stored.
 #[derive(Drop)]
-enum Place<T> {
+enum Location<T> {
     /// In the cell with this index.
     InCell {
         cells: Arc<Cells<T>>,
@@ -61,9 +61,9 @@ impl<T> Model for Known<T> {
 
     ghost Value = { Shown T };
 
-    ghost view = { λ k. shown_at k.place };
+    ghost view = { λ k. shown_at k.location };
 
-    ghost invariant = { λ k. IsPlaced k.place };
+    ghost invariant = { λ k. IsPlaced k.location };
 }
 
 impl<T: Drop> Cells<T> {
@@ -149,7 +149,7 @@ impl<T: Drop> Known<T> {
         let mut note = note;
         let knows = Knows::of(&mut note);
         Known {
-            place: Place::InCell {
+            location: Location::InCell {
                 cells,
                 index,
                 knows,
@@ -168,7 +168,7 @@ impl<T: Drop> Known<T> {
         let knows = Knows::of(&mut note);
         match Arc::new(alloc, Beside { value, knows }) {
             Ok(beside) => Ok(Known {
-                place: Place::Beside(beside),
+                location: Location::Beside(beside),
             }),
             Err(refused) => Err((refused.value.value, AllocError)),
         }
@@ -181,8 +181,8 @@ impl<T> Known<T> {
         ensures some { IsSome result ↔ IsSome self.now.cell }
         ensures known { IfSome result (λ n. (self.now.cell ≡ Some n.cell) × (n.known ≡ Some self.now.value)) }
     {
-        match &self.place {
-            Place::InCell {
+        match &self.location {
+            Location::InCell {
                 cells,
                 index,
                 knows,
@@ -191,7 +191,7 @@ impl<T> Known<T> {
                 knows.tell(&mut note);
                 Some(note)
             }
-            Place::Beside(_) => None,
+            Location::Beside(_) => None,
         }
     }
 
@@ -199,8 +199,8 @@ impl<T> Known<T> {
     pub fn read(&self) -> &T
         ensures { result.now ≡ self.now.value }
     {
-        match &self.place {
-            Place::InCell {
+        match &self.location {
+            Location::InCell {
                 cells,
                 index,
                 knows,
@@ -213,7 +213,7 @@ impl<T> Known<T> {
                     None => unreachable!(),
                 }
             }
-            Place::Beside(beside) => &beside.value,
+            Location::Beside(beside) => &beside.value,
         }
     }
 
@@ -233,9 +233,9 @@ impl<T> Known<T> {
         ensures cell { IsTrue result ↔ IsSome self.now.cell }
         ensures written { IfSome self.now.cell (λ c. c ≡ self.now.written) }
     {
-        match &self.place {
-            Place::InCell { .. } => true,
-            Place::Beside(_) => false,
+        match &self.location {
+            Location::InCell { .. } => true,
+            Location::Beside(_) => false,
         }
     }
 
@@ -243,8 +243,8 @@ impl<T> Known<T> {
     pub fn again(&self) -> Result<Known<T>, AllocError>
         ensures { IfOk result (λ k. k ≡ self.now) }
     {
-        match &self.place {
-            Place::InCell {
+        match &self.location {
+            Location::InCell {
                 cells,
                 index,
                 knows,
@@ -255,15 +255,15 @@ impl<T> Known<T> {
                 let cells = Arc::try_clone(cells)?;
                 let index = *index;
                 Ok(Known {
-                    place: Place::InCell {
+                    location: Location::InCell {
                         cells,
                         index,
                         knows,
                     },
                 })
             }
-            Place::Beside(beside) => Ok(Known {
-                place: Place::Beside(Arc::try_clone(beside)?),
+            Location::Beside(beside) => Ok(Known {
+                location: Location::Beside(Arc::try_clone(beside)?),
             }),
         }
     }

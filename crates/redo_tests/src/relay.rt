@@ -197,7 +197,7 @@ fn give_all(alloc: Global, source: &mut JobSource<Ticket>) -> Result<(), Fail>
     Ok(())
 }
 
-/// A thread hands back the taker that it was given.
+/// A thread handles back the taker that it was given.
 #[derive(Drop)]
 struct SameRelay(Snapshot<JobTaker<Ticket>>);
 
@@ -205,7 +205,7 @@ impl Promise<JobTaker<Ticket>> for SameRelay {
     ghost kept_by = { λ p t. t.relay ≡ p.0.value.relay };
 }
 
-type Hand = PromisedHandle<JobTaker<Ticket>, SameRelay>;
+type TakerHandle = PromisedHandle<JobTaker<Ticket>, SameRelay>;
 
 /// Starts a thread for each taker of a source.
 fn start_all<'s, E, R: Threads + Wait + Sync>(
@@ -214,19 +214,19 @@ fn start_all<'s, E, R: Threads + Wait + Sync>(
     alloc: Global,
     source: &JobSource<Ticket>,
     takers: Vec<JobTaker<Ticket>>,
-) -> Result<Vec<Hand>, AllocError>
+) -> Result<Vec<TakerHandle>, AllocError>
     requires { All (λ t. t.relay ≡ source.now.relay) takers.items }
-    ensures { IfOk result (λ hands.
-        (length hands.items ≡ length takers.items)
-        × All (λ h. h.promise.0.value.relay ≡ source.now.relay) hands.items) }
+    ensures { IfOk result (λ handles.
+        (length handles.items ≡ length takers.items)
+        × All (λ h. h.promise.0.value.relay ≡ source.now.relay) handles.items) }
 {
     let Shared { rt, marks } = shared;
-    let mut hands = Vec::new(alloc);
+    let mut handles = Vec::new(alloc);
     'takers: for taker in takers {
         let promise = SameRelay(Snapshot::of(&taker));
-        hands.push(scope.spawn_with(promise, move || take_share(rt, taker, marks))?)?;
+        handles.push(scope.spawn_with(promise, move || take_share(rt, taker, marks))?)?;
     }
-    Ok(hands)
+    Ok(handles)
 }
 
 /// The takers of a source, as their threads end.
@@ -234,15 +234,15 @@ fn join_all<R: Threads>(
     rt: &R,
     alloc: Global,
     source: &JobSource<Ticket>,
-    hands: Vec<Hand>,
+    handles: Vec<TakerHandle>,
 ) -> Result<Vec<JobTaker<Ticket>>, AllocError>
-    requires { All (λ h. h.promise.0.value.relay ≡ source.now.relay) hands.items }
+    requires { All (λ h. h.promise.0.value.relay ≡ source.now.relay) handles.items }
     ensures { IfOk result (λ takers.
-        (length takers.items ≡ length hands.items) × All (λ t. t.relay ≡ source.now.relay) takers.items) }
+        (length takers.items ≡ length handles.items) × All (λ t. t.relay ≡ source.now.relay) takers.items) }
 {
     let mut takers = Vec::new(alloc);
-    'hands: for hand in hands {
-        takers.push(hand.join(rt))?;
+    'handles: for handle in handles {
+        takers.push(handle.join(rt))?;
     }
     Ok(takers)
 }

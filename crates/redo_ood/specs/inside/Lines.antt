@@ -16,8 +16,8 @@ use Rattle.redo_ood.specs.Listing.{listed_if}
 use Rattle.redo_list.specs.Lists.{ListedView}
 use Rattle.redo_ood.specs.inside.Rows.{told_as}
 use Rattle.redo_ood.specs.inside.Verdicts.{Known}
-use Rattle.redo_ood.specs.declared.verdicts.Item.{Item}
-use Rattle.redo_ood.specs.declared.verdicts.Item.TheVariants as items
+use Rattle.redo_ood.specs.declared.verdicts.RowItem.{RowItem}
+use Rattle.redo_ood.specs.declared.verdicts.RowItem.TheVariants as items
 use Rattle.redo_ood.specs.declared.verdicts.Row.{Row}
 use Rattle.redo_ood.specs.declared.asked.Asked.{Asked}
 use Rattle.redo_ood.specs.declared.asked.Asked.TheVariants as askeds
@@ -48,7 +48,7 @@ drops Unsure = false
 drops Waits = false
 
 -- the mark of an item, by verdicts
-abbrev pub mark_in : Known → Item → Mark
+abbrev pub mark_in : Known → RowItem → Mark
 mark_in v items.Holds = Holds
 mark_in v items.Drops = Drops
 mark_in v items.Unsure = Unsure
@@ -62,7 +62,7 @@ open_by e Unsure rest = Some (e, Unsure)
 open_by e Waits rest = Some (e, Waits)
 
 -- the first entry that isn't known to hold
-abbrev pub open_in : Known → List BookEntry → List Item → Option (BookEntry × Mark)
+abbrev pub open_in : Known → List BookEntry → List RowItem → Option (BookEntry × Mark)
 open_in v [] is = None
 open_in v (e ∷ es) [] = None
 open_in v (e ∷ es) (i ∷ is) = open_by e (mark_in v i) (open_in v es is)
@@ -71,7 +71,7 @@ abbrev pub open_as : Open → BookEntry × Mark
 open_as o = (o.entry.now, mark_as o.mark)
 
 -- the first entry that drops
-abbrev pub drop_in : Known → List BookEntry → List Item → Option BookEntry
+abbrev pub drop_in : Known → List BookEntry → List RowItem → Option BookEntry
 drop_in v [] is = None
 drop_in v (e ∷ es) [] = None
 drop_in v (e ∷ es) (i ∷ is) = why.drop_by e (mark_in v i) (drop_in v es is)
@@ -101,11 +101,11 @@ told_open drop (Some (e, Unsure)) = Some (told_unsure e drop)
 told_open drop (Some (e, Waits)) = Some (why.Ring, entry_path e)
 
 -- by the entries of a record
-abbrev pub told_in : Known → List BookEntry → List Item → Option Told
+abbrev pub told_in : Known → List BookEntry → List RowItem → Option Told
 told_in v es is = told_open (drop_in v es is) (open_in v es is)
 
 -- of a record
-abbrev pub told_of : PastView → Known → Record → List Item → Option Told
+abbrev pub told_of : PastView → Known → Record → List RowItem → Option Told
 told_of past v r is =
     if is_some (file_at past.sources r.target) then None
     else if is_rule (found_of past.sources r.target) then

@@ -11,8 +11,8 @@ use Rattle.redo_past.specs.Past.{PastView}
 use Rattle.redo_rules.specs.Build.{checks_for, sources_for}
 use Rattle.redo_step.specs.Limits.{LimitsView}
 use Rattle.redo_ood.specs.Listing.{run_over}
-use Rattle.redo_ood.specs.declared.verdicts.Item.{Item}
-use Rattle.redo_ood.specs.declared.verdicts.Item.TheVariants as items
+use Rattle.redo_ood.specs.declared.verdicts.RowItem.{RowItem}
+use Rattle.redo_ood.specs.declared.verdicts.RowItem.TheVariants as items
 use Rattle.redo_ood.specs.declared.verdicts.Verdict.{Verdict as CodeVerdict}
 use Rattle.redo_ood.specs.declared.verdicts.Verdict.TheVariants as verdicts
 use Rattle.redo_ood.specs.declared.verdicts.Row.{Row}
@@ -43,14 +43,14 @@ pub record IsOn (s : Sources) (k : Checks) (book : List Record) (e : BookEntry) 
   pub marked : (v : Verdicts) → mark s k v e ≡ mark_checked same (v path)
 
 -- the item of an entry
-abbrev pub IsItem : Sources → Checks → List Record → BookEntry → Item → Type 0
+abbrev pub IsItem : Sources → Checks → List Record → BookEntry → RowItem → Type 0
 IsItem s k book e items.Holds = IsMarked s k e Holds
 IsItem s k book e items.Drops = IsMarked s k e Drops
 IsItem s k book e items.Unsure = IsMarked s k e Unsure
 IsItem s k book e (items.On i same) = IsOn s k book e i same
 
 -- each entry has its item
-abbrev pub AreItems : Sources → Checks → List Record → List BookEntry → List Item → Type 0
+abbrev pub AreItems : Sources → Checks → List Record → List BookEntry → List RowItem → Type 0
 AreItems s k book [] [] = Unit {0}
 AreItems s k book [] (i ∷ is) = ⊥
 AreItems s k book (e ∷ es) [] = ⊥

@@ -1,8 +1,8 @@
 -- Verdicts over numbered records, whose entries are marked as far as the tree tells.
 use Rattle.std.specs.Prelude.{◌≡◌, ℕ, zero, suc, Bool, true, false, List, [], ◌∷◌, Option, Some, None, length}
 use Rattle.std.specs.Prelude.{slice_get, slice_index_or}
-use Rattle.redo_ood.specs.declared.verdicts.Item.{Item}
-use Rattle.redo_ood.specs.declared.verdicts.Item.TheVariants as items
+use Rattle.redo_ood.specs.declared.verdicts.RowItem.{RowItem}
+use Rattle.redo_ood.specs.declared.verdicts.RowItem.TheVariants as items
 use Rattle.redo_ood.specs.declared.verdicts.Verdict.{Verdict}
 use Rattle.redo_ood.specs.declared.verdicts.Verdict.TheVariants.{Keeps, Begins, Either}
 use Rattle.redo_ood.specs.declared.verdicts.Row.{Row}
@@ -23,14 +23,14 @@ by_verdict false (Some Keeps) rest = Some Begins
 by_verdict same (Some Begins) rest = Some Either
 by_verdict same (Some Either) rest = Some Either
 
-abbrev pub by_item : Known → Item → Option Verdict → Option Verdict
+abbrev pub by_item : Known → RowItem → Option Verdict → Option Verdict
 by_item v items.Holds rest = rest
 by_item v items.Drops rest = Some Begins
 by_item v items.Unsure rest = Some Either
 by_item v (items.On n same) rest = by_verdict same (v n) rest
 
 -- of items, in order
-abbrev pub of_items : Known → List Item → Option Verdict
+abbrev pub of_items : Known → List RowItem → Option Verdict
 of_items v [] = Some Keeps
 of_items v (i ∷ is) = by_item v i (of_items v is)
 
