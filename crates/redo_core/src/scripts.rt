@@ -9,7 +9,7 @@ ghost use Rattle.redo_core.specs.inside.Scripts.{IsFirstJob};
 
 use crate::given::Given;
 use redo_path::Path;
-use redo_step::{Job, Parsed};
+use redo_step::{Job, JobInputs, Parsed};
 use redo_which::Rule;
 use std::alloc::{AllocError, Global};
 use std::marker::Model;
@@ -126,6 +126,13 @@ pub(crate) fn job_of(
     };
     let loops_long = may_loop_long(text);
     let parsed = script(alloc, given, &rule, text)?;
-    let job = Job::begin(alloc, tree, target, rule, parsed, given.limits())?;
+    let job = Job::begin(JobInputs {
+        alloc,
+        tree,
+        target,
+        rule,
+        parsed,
+        limits: given.limits(),
+    })?;
     Ok((job, loops_long))
 }

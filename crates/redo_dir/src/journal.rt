@@ -4,7 +4,7 @@ ghost use Rattle.std.specs.Prelude.{◌≡◌, ◌++◌, IfErr, map, take};
 ghost use Rattle.redo_dir.specs.Storing.{HasTextsByJournal, IsUnstoredByJournal, paths_to_store, steps_done, steps_to_store};
 
 use crate::faults::JournalFault;
-use crate::storing::store_files;
+use crate::storing::{Writers, store_files};
 use crate::unwritten::Unwritten;
 use crate::work_dir::WorkDir;
 use redo_path::Path;
@@ -25,10 +25,9 @@ pub struct ToStore {
 /// first, as the journal; once the files are stored, the journal becomes the book. Until then the old book stands, and
 /// the journal tells of the files that were stored already. After a fault it stays there, for the next run.
 pub fn store_by_journal<T: Threads + Sync, D: WorkDir + Sync>(
-    rt: &T,
+    writers: &Writers<'_, T>,
     dir: &mut D,
     alloc: Global,
-    workers: usize,
     tree: &Tree,
     new: &ToStore,
 ) -> Result<(), JournalFault>
@@ -43,7 +42,7 @@ where
     if let Err(error) = dir.journal(alloc, &new.book) {
         return Err(JournalFault::Journal(error.kind()));
     }
-    store_files(rt, dir, alloc, workers, tree, &new.files)?;
+    store_files(writers, dir, alloc, tree, &new.files)?;
     if let Err(error) = dir.finish(alloc) {
         let fault = Unwritten::of(error.kind()).at(new.files.len());
         return Err(JournalFault::File(fault));

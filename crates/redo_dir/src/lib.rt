@@ -34,6 +34,6 @@ pub use journal::{ToStore, store_by_journal};
 pub use loading::load_dir;
 pub use lock::{DirLock, LockFault, Lockable, lock_dir};
 pub use own::{Tag, journal_path};
-pub use storing::store_files;
+pub use storing::{Writers, store_files};
 pub use system::{SystemDir, SystemDraft};
 pub use work_dir::{Drafted, Seen, WorkDir};

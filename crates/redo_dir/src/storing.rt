@@ -14,6 +14,14 @@ use redo_tree::{Content, Tree};
 use std::alloc::Global;
 use std::thread::Threads;
 
+/// The threads that write files.
+#[derive(Drop)]
+pub struct Writers<'a, T> {
+    pub rt: &'a T,
+    /// How many write at most. The caller's is one of them; zero counts as one.
+    pub most: usize,
+}
+
 /// The draft of one file.
 fn draft_of<F: Drop>(tree: &Tree, path: &Path, content: &Content) -> Result<Draft<F>, Unwritten>
     ensures text { MeansText result path.now }
@@ -72,10 +80,9 @@ fn drafts_of<F: Drop>(
 /// Stores files together: writes all of them, and then gives them their names. Those before one of which no draft can
 /// be made are stored alone.
 fn store_front<T: Threads + Sync, D: WorkDir + Sync>(
-    rt: &T,
+    writers: &Writers<'_, T>,
     dir: &mut D,
     alloc: Global,
-    workers: usize,
     tree: &Tree,
     files: &[(Path, Content)],
 ) -> Result<(), Unwritten>
@@ -86,7 +93,8 @@ where
         tree.now files.now (D.done dir.old) (D.done dir.new) result }
 {
     let mut drafts = drafts_of(alloc, tree, files)?;
-    write_by(rt, dir, alloc, threads_for(workers, files), &mut drafts);
+    let threads = threads_for(writers.most, files);
+    write_by(writers.rt, dir, alloc, threads, &mut drafts);
     name_each(dir, drafts)
 }
 
@@ -97,15 +105,14 @@ where
 /// A file is written beside its place, under a temporary name, and then takes its place. So nobody reads half of it, a
 /// link that stood there is replaced and not written through, and a hard link of the old file keeps the old bytes.
 ///
-/// At most N threads write, of which the caller's is one; zero workers count as one. Where there is enough to do for
-/// several, a batch of files is written before the first of them takes its place, so a run that is killed may leave a
-/// batch of temporary files. No path is to lie below another of the list: there a fault may be of another kind, and a
-/// temporary file may stay behind a link that stood in the place of the upper one.
+/// Where there is enough to do for several threads, a batch of files is written before the first of them takes its
+/// place, so a run that is killed may leave a batch of temporary files. No path is to lie below another of the list:
+/// there a fault may be of another kind, and a temporary file may stay behind a link that stood in the place of the
+/// upper one.
 pub fn store_files<T: Threads + Sync, D: WorkDir + Sync>(
-    rt: &T,
+    writers: &Writers<'_, T>,
     dir: &mut D,
     alloc: Global,
-    workers: usize,
     tree: &Tree,
     files: &[(Path, Content)],
 ) -> Result<(), StoreFault>
@@ -117,7 +124,7 @@ where
     ensures refused { IfErr result
         (IsUnstored (λ path kind. (d : D) × D.refuses d path kind) (map (λ file. file.0) files.now)) }
 {
-    let most = match threads_for(workers, files) {
+    let most = match threads_for(writers.most, files) {
         1 => 1,
         _ => FILES_OF_A_BATCH,
     };
@@ -125,7 +132,7 @@ where
     let mut stored = 0;
     while stored < files.len() {
         let front = front_of(&files[stored..], most);
-        let outcome = store_front(rt, dir, alloc, workers, tree, front);
+        let outcome = store_front(writers, dir, alloc, tree, front);
         stored = dir.count() - before;
         if let Err(fault) = outcome {
             return Err(fault.at(stored));

@@ -15,7 +15,7 @@ use Rattle.redo_path.proofs.PartLemmas.{AllByRecursion-append}
 use Rattle.redo_path.proofs.ApartLemmas.{apart}
 use Rattle.redo_report.specs.declared.report.Row.{Row}
 use Rattle.redo_book.specs.Book.{Record, book_lines, text_of}
-use Rattle.redo_past.specs.declared.items.Item.{Item}
+use Rattle.redo_past.specs.declared.items.BookItem.{BookItem}
 use Rattle.redo_past.specs.NewBook.{is_built, row_at}
 use Rattle.redo_past.specs.Past.{PastView}
 use Rattle.redo_past.specs.inside.Books.{AreItems, AreRows, IsSound, StatesView, carries, has_built, item_text, record_in, record_text}
@@ -25,23 +25,23 @@ use Rattle.redo_past.proofs.OrderLemmas.{ascending-sorted, order}
 use Rattle.redo_past.proofs.RowLemmas.{was-found}
 
 -- an item more is a record more
-pub item-more : (states : StatesView) (list : List Item) (records : List Record) (item : Item) (r : Record) → AreItems states list records → record_in states item ≡ r → IsSound item → AreItems states (list ++ item ∷ []) (records ++ r ∷ [])
+pub item-more : (states : StatesView) (list : List BookItem) (records : List Record) (item : BookItem) (r : Record) → AreItems states list records → record_in states item ≡ r → IsSound item → AreItems states (list ++ item ∷ []) (records ++ r ∷ [])
 item-more states list records item r h is sound = record {
   are = map-append (record_in states) list (item ∷ []) ∙ ap (λ rs. rs ++ record_in states item ∷ []) h.are ∙ ap (λ q. records ++ q ∷ []) is;
   sound = AllByRecursion-append IsSound list (item ∷ []) h.sound (sound, tt);
 }
 
 -- and so where it is put behind the others
-pub item-pushed : (states : StatesView) (list new : List Item) (records all : List Record) (item : Item) (r : Record) → new ≡ list ++ item ∷ [] → AreItems states list records → record_in states item ≡ r → IsSound item → records ++ r ∷ [] ≡ all → AreItems states new all
+pub item-pushed : (states : StatesView) (list new : List BookItem) (records all : List Record) (item : BookItem) (r : Record) → new ≡ list ++ item ∷ [] → AreItems states list records → record_in states item ≡ r → IsSound item → records ++ r ∷ [] ≡ all → AreItems states new all
 item-pushed states list new records all item r pushed h is sound same =
     subst (λ xs. AreItems states xs all) (sym pushed) (subst (AreItems states (list ++ item ∷ [])) same (item-more states list records item r h is sound))
 
-same-texts : (states : StatesView) (list : List Item) → flat_map record_text (map (record_in states) list) ≡ flat_map (item_text states) list
+same-texts : (states : StatesView) (list : List BookItem) → flat_map record_text (map (record_in states) list) ≡ flat_map (item_text states) list
 same-texts states [] = refl
 same-texts states (item ∷ list) = ap (λ t. item_text states item ++ t) (same-texts states list)
 
 -- the text of the book of these records is that of the items, one after another, and the end
-pub items-text : (states : StatesView) (list : List Item) → text_of (book_lines (map (record_in states) list)) ≡ flat_map (item_text states) list ++ codes "end\n"
+pub items-text : (states : StatesView) (list : List BookItem) → text_of (book_lines (map (record_in states) list)) ≡ flat_map (item_text states) list ++ codes "end\n"
 items-text states list = book-text (map (record_in states) list) ∙ ap (λ t. t ++ codes "end\n") (same-texts states list)
 
 -- ---- one item more

@@ -13,7 +13,7 @@ ghost use Rattle.redo_past.specs.inside.Books.{states_after};
 ghost use Rattle.redo_past.specs.NewBook.{row_at};
 
 use crate::Past;
-use crate::items::Item;
+use crate::items::BookItem;
 use crate::old_records::OldRecord;
 use crate::records::is_built;
 use crate::rows::Rows;
@@ -69,7 +69,7 @@ pub(crate) fn carry<'a>(
     past: &Past,
     rows: &Rows<'_>,
     records: &[OldRecord<'a>],
-    items: &mut Vec<Item<'a>>,
+    items: &mut Vec<BookItem<'a>>,
 ) -> Result<(), AllocError>
     requires each { AllByRecursion IsRecord records.now }
     ensures { OnOk result ((known : List Record) → AreItems (states_after past.now rows.now) items.old.items known →
@@ -78,7 +78,7 @@ pub(crate) fn carry<'a>(
 {
     for old in records {
         if is_carried(alloc, past, rows, old.record())? {
-            items.push(Item::Carried(old.same()))?;
+            items.push(BookItem::Carried(old.same()))?;
         }
     }
     Ok(())
@@ -103,25 +103,14 @@ fn count_before(records: &[OldRecord<'_>], path: &Path) -> usize
     records.len()
 }
 
-/// Adds those of these old records that are carried and come before a path. Returns the records that don't come before
-/// it.
-pub(crate) fn carry_before<'o, 'a>(
-    alloc: Global,
-    past: &Past,
-    rows: &Rows<'_>,
+/// The records that come before a path, and the others.
+pub(crate) fn split_before<'o, 'a>(
     records: &'o [OldRecord<'a>],
     path: &Path,
-    items: &mut Vec<Item<'a>>,
-) -> Result<&'o [OldRecord<'a>], AllocError>
-    requires each { AllByRecursion IsRecord records.now }
+) -> (&'o [OldRecord<'a>], &'o [OldRecord<'a>])
     requires sorted { IsStrictlySortedBy (slice_cmp nat_cmp) (targets_of records.now) }
-    ensures known { OnOk result ((known : List Record) →
-        AreItems (states_after past.now rows.now) items.old.items known →
-        AreItems (states_after past.now rows.now) items.new.items (known ++
-        filter (carries past.now rows.now) (filter (is_before path.now) records.now))) }
-    ensures left { IfOk result (λ left. left.now ≡ filter (is_behind path.now) records.now) }
+    ensures front { result.0.now ≡ filter (is_before path.now) records.now }
+    ensures left { result.1.now ≡ filter (is_behind path.now) records.now }
 {
-    let (front, left) = records.split_at(count_before(records, path));
-    carry(alloc, past, rows, front, items)?;
-    Ok(left)
+    records.split_at(count_before(records, path))
 }

@@ -5,7 +5,7 @@ ghost use Rattle.redo_book.specs.Book.{IsBook, Record};
 ghost use Rattle.redo_past.specs.inside.Books.{AreItems, joined, new_records, states_after};
 
 use crate::Past;
-use crate::carrying::{carry, carry_before};
+use crate::carrying::{carry, split_before};
 use crate::old_records::{OldRecord, records_of};
 use crate::records::has_record;
 use crate::rows::Rows;
@@ -16,7 +16,7 @@ use std::alloc::{AllocError, Global};
 /// What a record of the new book is made of: the row of a target that was built, or a record of the last run that is
 /// carried, with its text.
 #[derive(Drop)]
-pub(crate) enum Item<'a> {
+pub(crate) enum BookItem<'a> {
     Built(&'a Row),
     Carried(OldRecord<'a>),
 }
@@ -40,7 +40,7 @@ pub(crate) fn items_of<'a>(
     alloc: Global,
     past: &'a Past,
     rows: &Rows<'a>,
-) -> Result<Vec<Item<'a>>, AllocError>
+) -> Result<Vec<BookItem<'a>>, AllocError>
     ensures { IfOk result (λ items.
         AreItems (states_after past.now rows.now) items.items (new_records past.now rows.now)) }
 {
@@ -50,9 +50,10 @@ pub(crate) fn items_of<'a>(
     let in_order = rows.in_order();
     for row in in_order {
         if has_record(row) {
-            left = carry_before(alloc, past, rows, left, &row.path, &mut items)?;
-            left = but_of(left, &row.path);
-            items.push(Item::Built(row))?;
+            let (front, behind) = split_before(left, &row.path);
+            carry(alloc, past, rows, front, &mut items)?;
+            left = but_of(behind, &row.path);
+            items.push(BookItem::Built(row))?;
         }
     }
     carry(alloc, past, rows, left, &mut items)?;

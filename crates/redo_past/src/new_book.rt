@@ -8,7 +8,7 @@ ghost use Rattle.redo_past.specs.inside.Books.{AreItems, new_records, new_text a
 ghost use Rattle.redo_past.specs.inside.Books.{states_after};
 
 use crate::Past;
-use crate::items::{Item, items_of};
+use crate::items::{BookItem, items_of};
 use crate::named::named_after;
 use crate::records::write_items;
 use crate::rows::Rows;
@@ -40,7 +40,7 @@ pub(crate) fn parts_of<'a>(
     alloc: Global,
     past: &'a Past,
     rows: Rows<'a>,
-) -> Result<(States<'a>, Vec<Item<'a>>), AllocError>
+) -> Result<(States<'a>, Vec<BookItem<'a>>), AllocError>
     ensures states { IfOk result (λ parts. parts.0 ≡ states_after past.now rows.entry) }
     ensures items { IfOk result (λ parts.
         AreItems (states_after past.now rows.entry) parts.1.items (new_records past.now rows.entry)) }
@@ -62,7 +62,7 @@ pub(crate) fn write_text<W: ByteOut>(
     out: &mut W,
     alloc: Global,
     states: &mut States<'_>,
-    items: &[Item<'_>],
+    items: &[BookItem<'_>],
 ) -> Result<(), Broken>
     requires { W.has_failed out.old ≡ false }
     ensures writes { Writes (W.held out.old) (W.held out.new) result

@@ -21,7 +21,7 @@ use crate::named::named_by;
 use crate::new_book::text_size;
 use crate::row_digests::with_row_digests;
 use crate::rows::{Rows, numbers_of};
-use crate::run_report::RunReport;
+use crate::run_report::{BookFile, RunReport};
 use redo_book::{Book, BookRecord, read_book};
 use redo_path::Path;
 use redo_report::{Report, Row};
@@ -351,6 +351,7 @@ impl Past {
         let empty = Content::new(Vec::new(alloc))?;
         let at = put_file(&mut files, book_path(alloc)?, empty)?;
         let report = Report { rows, files, begun };
-        Ok(RunReport::new(self.share()?, report, numbers, at, size))
+        let book = BookFile { at, size };
+        Ok(RunReport::new(self.share()?, report, numbers, book))
     }
 }

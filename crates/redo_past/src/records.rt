@@ -10,7 +10,7 @@ ghost use Rattle.redo_book.specs.Noted.{is_top as is_root};
 ghost use Rattle.redo_past.specs.NewBook.{is_built as was_built, record_of_row as record_for};
 ghost use Rattle.redo_past.specs.inside.Books.{StatesView, item_text, leaves_record, noted_text};
 
-use crate::items::Item;
+use crate::items::BookItem;
 use crate::states::{States, built_state};
 use redo_book::{write_always, write_change, write_create, write_target};
 use redo_bundle::{Broken, ByteOut, write_all};
@@ -192,7 +192,7 @@ fn write_item<'a, W: ByteOut>(
     out: &mut W,
     states: &mut States<'_>,
     lines: &mut MissingLines<'a>,
-    item: &Item<'a>,
+    item: &BookItem<'a>,
 ) -> Result<(), Broken>
     requires works { W.has_failed out.old ≡ false }
     requires front { lines.old.0 ≡ codes "create " }
@@ -202,8 +202,8 @@ fn write_item<'a, W: ByteOut>(
     ensures same { states.new ≡ states.old }
 {
     match item {
-        Item::Built(row) => write_built(out, states, lines, row),
-        Item::Carried(old) => write_all(out, old.text()),
+        BookItem::Built(row) => write_built(out, states, lines, row),
+        BookItem::Carried(old) => write_all(out, old.text()),
     }
 }
 
@@ -212,7 +212,7 @@ pub(crate) fn write_items<'a, W: ByteOut>(
     out: &mut W,
     states: &mut States<'_>,
     mut lines: MissingLines<'a>,
-    items: &[Item<'a>],
+    items: &[BookItem<'a>],
 ) -> Result<(), Broken>
     requires works { W.has_failed out.old ≡ false }
     requires front { lines.0 ≡ codes "create " }

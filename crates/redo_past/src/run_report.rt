@@ -8,7 +8,7 @@ ghost use Rattle.redo_which.specs.Candidates.{book_path as path_of_book};
 ghost use Rattle.redo_past.specs.inside.Books.{IsRunReport, record_in, with_book_text, with_new_book};
 
 use crate::Past;
-use crate::items::Item;
+use crate::items::BookItem;
 use crate::named::{LONG, long_bytes, named_after};
 use crate::new_book::{new_text, parts_of, write_text};
 use crate::past::book_path;
@@ -26,6 +26,15 @@ use std::thread::Threads;
 /// From so many bytes on, in long sources, digests are worth threads.
 const WORTH_THREADS: usize = 1 << 20;
 
+/// The file of the new book in a report.
+#[derive(Clone, Copy)]
+pub(crate) struct BookFile {
+    /// Its index among the files.
+    pub(crate) at: usize,
+    /// How many bytes its text has.
+    pub(crate) size: usize,
+}
+
 /// The report of a run with the new book among its files. The book may be long, so its text is made only as it is
 /// written. In a contract it is the report with that text.
 #[derive(Drop)]
@@ -35,10 +44,7 @@ pub struct RunReport {
     report: Report,
     /// The paths of its rows, each with the index of its row as its number.
     numbers: PathSet,
-    /// The index of the book among the files.
-    at: usize,
-    /// How many bytes the text of the book has.
-    size: usize,
+    book: BookFile,
 }
 
 impl Model for RunReport {
@@ -47,30 +53,23 @@ impl Model for RunReport {
 
     ghost Value = { Report };
 
-    ghost view = { λ r. with_new_book r.past r.report r.at };
+    ghost view = { λ r. with_new_book r.past r.report r.book.at };
 
-    ghost invariant = { λ r. IsRunReport r.past r.report r.numbers r.at r.size };
+    ghost invariant = { λ r. IsRunReport r.past r.report r.numbers r.book.at r.book.size };
 }
 
 impl RunReport {
     /// The report of a run over a past. `numbers` has the paths of the rows, each with the index of its row as its
-    /// number; `at` is the index of the new book among the files, and `size` is how many bytes its text has.
-    pub(crate) fn new(
-        past: Past,
-        report: Report,
-        numbers: PathSet,
-        at: usize,
-        size: usize,
-    ) -> RunReport
-        requires { IsRunReport past report numbers at size }
-        ensures { result ≡ with_new_book past report at }
+    /// number.
+    pub(crate) fn new(past: Past, report: Report, numbers: PathSet, book: BookFile) -> RunReport
+        requires { IsRunReport past report numbers book.at book.size }
+        ensures { result ≡ with_new_book past report book.at }
     {
         RunReport {
             past,
             report,
             numbers,
-            at,
-            size,
+            book,
         }
     }
 
@@ -103,8 +102,7 @@ impl RunReport {
             past,
             report,
             numbers,
-            at,
-            size,
+            book,
         } = self;
         let named = named_after(alloc, past.sources(), &report.rows)?;
         let past = past.with_digests_by(rt, alloc, threads, &named)?;
@@ -112,8 +110,7 @@ impl RunReport {
             past,
             report,
             numbers,
-            at,
-            size,
+            book,
         })
     }
 
@@ -125,12 +122,11 @@ impl RunReport {
             past,
             mut report,
             numbers,
-            at,
-            size,
+            book,
         } = self;
         let rows = Rows::new(&report.rows, &numbers);
-        let text = new_text(alloc, &past, rows, size)?;
-        report.files[at] = (book_path(alloc)?, Content::new(text)?);
+        let text = new_text(alloc, &past, rows, book.size)?;
+        report.files[book.at] = (book_path(alloc)?, Content::new(text)?);
         Ok(report)
     }
 
@@ -145,33 +141,32 @@ impl RunReport {
     {
         let rows = Rows::new(&self.report.rows, &self.numbers);
         let (mut states, items) = parts_of(alloc, &self.past, rows)?;
-        write_with_book(out, &self.report, self.at, self.size, &mut states, &items)?;
+        write_with_book(out, &self.report, self.book, &mut states, &items)?;
         Ok(())
     }
 }
 
-/// Writes a report with its files. The file at index `at` is the new book, made of these items.
+/// Writes a report with its files, one of which is the new book, made of these items.
 fn write_with_book<W: ByteOut>(
     out: &mut W,
     report: &Report,
-    at: usize,
-    size: usize,
+    book: BookFile,
     states: &mut States<'_>,
-    items: &[Item<'_>],
+    items: &[BookItem<'_>],
 ) -> Result<(), Broken>
     requires works { W.has_failed out.old ≡ false }
-    requires within { at < length report.now.files.items }
-    requires size { size ≡ length (text_of (book_lines (map (record_in states.old) items.now))) }
+    requires within { book.at < length report.now.files.items }
+    requires size { book.size ≡ length (text_of (book_lines (map (record_in states.old) items.now))) }
     ensures writes { Writes (W.held out.old) (W.held out.new) result
-        (report_text (with_book_text report.now at
+        (report_text (with_book_text report.now book.at
         (text_of (book_lines (map (record_in states.old) items.now)))) true) }
     ensures failed { W.has_failed out.new ≡ is_err result }
 {
     let alloc = *report.rows.allocator();
     write_head(out, report)?;
-    write_files(out, &report.files[..at])?;
-    write_book(out, alloc, size, states, items)?;
-    write_files(out, &report.files[at + 1..])?;
+    write_files(out, &report.files[..book.at])?;
+    write_book(out, alloc, book.size, states, items)?;
+    write_files(out, &report.files[book.at + 1..])?;
     write_end(out)
 }
 
@@ -181,7 +176,7 @@ fn write_book<W: ByteOut>(
     alloc: Global,
     size: usize,
     states: &mut States<'_>,
-    items: &[Item<'_>],
+    items: &[BookItem<'_>],
 ) -> Result<(), Broken>
     requires works { W.has_failed out.old ≡ false }
     requires size { size ≡ length (text_of (book_lines (map (record_in states.old) items.now))) }

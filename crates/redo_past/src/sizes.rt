@@ -8,7 +8,7 @@ ghost use Rattle.redo_book.specs.Book.{IsRecord, record_lines, text_of};
 ghost use Rattle.redo_past.specs.NewBook.{record_of_row as record_for};
 ghost use Rattle.redo_past.specs.inside.Books.{AreSized, IsSound, StatesView, item_text, record_in};
 
-use crate::items::Item;
+use crate::items::BookItem;
 use crate::records::is_top;
 use crate::states::{Files, has_made};
 use redo_book::{always_size, change_size, create_size, target_size};
@@ -135,7 +135,7 @@ fn built_size<'a>(
 fn item_size<'a>(
     files: &Files<'_>,
     lines: &mut MissingLines<'a>,
-    item: &Item<'a>,
+    item: &BookItem<'a>,
 ) -> Result<usize, AllocError>
     requires sound { IsSound item.now }
     requires front { lines.old.0 ≡ codes "create " }
@@ -144,8 +144,8 @@ fn item_size<'a>(
     ensures record { IfOk result (λ _. IsRecord (record_in files.now item.now)) }
 {
     match item {
-        Item::Built(row) => built_size(files, lines, row),
-        Item::Carried(old) => Ok(old.text().len()),
+        BookItem::Built(row) => built_size(files, lines, row),
+        BookItem::Carried(old) => Ok(old.text().len()),
     }
 }
 
@@ -153,7 +153,7 @@ fn item_size<'a>(
 pub(crate) fn items_size<'a>(
     alloc: Global,
     files: &Files<'_>,
-    items: &[Item<'a>],
+    items: &[BookItem<'a>],
 ) -> Result<usize, AllocError>
     requires { AllByRecursion IsSound items.now }
     ensures size { IfOk result (λ size. size ≡ length (flat_map (item_text files.now) items.now)) }

@@ -9,10 +9,10 @@ use Rattle.redo_record.specs.Paths.{IsAmong}
 use Rattle.redo_build.specs.Looking.{IsLookedOut, looked}
 use Rattle.redo_build.specs.Rules.{AreLawful, Rules, operands}
 use Rattle.redo_build.specs.Schedule.{Entry, State, entry_of, advanced, moved_on, entered, handed_in, happens, put}
-use Rattle.redo_build.specs.Schedule.{opening, run, sent_out, taken, AllOpen, Event, IsOpen, IsOutAt}
+use Rattle.redo_build.specs.Schedule.{opening, run, sent_out, taken, AllOpen, Event, IsOpen, IsOutAt, IsReached}
 use Rattle.redo_build.specs.Schedule.Event.{Take, Hand_in}
 use Rattle.redo_build.specs.Schedule.Phase.{Script}
-use Rattle.redo_core.specs.Views.{BoardView, PieceView, WorkView, IsHandedIn, IsReached, IsWorkTaken, after, jobs_out}
+use Rattle.redo_core.specs.Views.{BoardView, PieceView, WorkView, IsHandedIn, IsWorkTaken, after, jobs_out}
 use Rattle.redo_core.specs.Views.{ready_count, request_on, rules_on}
 use Rattle.redo_build.proofs.DepthLemmas.{cases_Option}
 use Rattle.redo_build.proofs.SeenLemmas.{entry_of-path, entry_of-among, entry_of-put_same, entry_of-put_other}

@@ -1,5 +1,6 @@
 -- The steps by which a run clears away and stores, and what is known of one that wasn't done.
-use Rattle.std.proofs.Common.{◌≡◌, ◌<◌, ◌+◌, ◌∙◌, ℕ, zero, suc, Bool, List, [], ◌∷◌, ◌++◌, Option, Some, None, Err, ap, inl, inr}
+use Rattle.std.proofs.lemmas.Option.{slice_get_within}
+use Rattle.std.proofs.Common.{◌≡◌, ◌+◌, ◌∙◌, ℕ, zero, suc, Bool, List, [], ◌∷◌, ◌++◌, Option, Some, None, Err, ap, inl, inr}
 use Rattle.std.proofs.Common.{append_assoc, arith, length, map, refl, subst, sym, take}
 use Rattle.std.proofs.lemmas.List.{map-append}
 use Rattle.std.proofs.Math.Seq.{take-append-add}
@@ -24,11 +25,6 @@ use Rattle.redo_run.specs.Storing.{StopsAt, clearing, path_of, storing, to_store
 use Rattle.redo_run.specs.inside.Storing.{IsPart, LeavesPart, StoresPart, view_of}
 use Rattle.redo_run.specs.declared.dir_fault.RunDirFault.{RunDirFault}
 use Rattle.redo_run.specs.declared.dir_fault.RunDirFault.TheVariants as run
-
-within : {A : Type 0} (xs : List A) (k : ℕ) (x : A) → slice_get xs k ≡ Some x → k < length xs
-within [] k x e = apart cc
-within (y ∷ ys) zero x e = omega arith
-within (y ∷ ys) (suc k) x e = let h = within ys k x e in omega (arith, h)
 
 get_first : (xs ys : List Step) (k : ℕ) (x : Step) → slice_get xs k ≡ Some x → slice_get (xs ++ ys) k ≡ Some x
 get_first [] ys k x e = apart cc
@@ -83,7 +79,7 @@ left_part told over book own before after (store.Device place kind) done (path, 
     let steps = steps_to_clear over book own in
     let at = subst (λ ps. slice_get ps place ≡ Some path) (sym (cleared_paths over book own)) e in
     let s = step_at steps place path at in
-    (place, within steps place s.0 s.1, refused_there told steps before after place path kind at done t)
+    (place, slice_get_within steps place s.0 s.1, refused_there told steps before after place path kind at done t)
 left_part told over book own before after (store.Name place) done h = absurd h
 left_part told over book own before after (store.Memory place) done h = (place, done)
 

@@ -1,6 +1,6 @@
 -- What a run over a directory stores, and the steps by which it does.
 use Rattle.std.specs.Prelude.{◌≡◌, ◌++◌, ◌&&◌, ◌⊎◌, Bool, not, IsUtf8, ℕ, List, [], ◌∷◌, Option, Some, None, bytes_eq, filter}
-use Rattle.std.specs.Prelude.{if◌then◌else◌, is_some, length, nat_eq, option_and_then, slice_get, take}
+use Rattle.std.specs.Prelude.{if◌then◌else◌, is_some, nat_eq, option_and_then, slice_get, take}
 use Rattle.std.specs.Cmp.Lexicographic.{pointwise}
 use Rattle.std.specs.Option.{option_eq, option_map_or}
 use Rattle.std.specs.declared.io.ErrorKind.{ErrorKind}

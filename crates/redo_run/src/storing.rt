@@ -8,7 +8,7 @@ ghost use Rattle.redo_which.specs.Candidates.{book_path};
 
 use crate::dir_fault::of_left;
 use crate::{Cause, Host, RunDirFault};
-use redo_dir::{Left, ToStore, WorkDir, clear, store_by_journal};
+use redo_dir::{Left, ToStore, WorkDir, Writers, clear, store_by_journal};
 use redo_path::Path;
 use redo_tree::{Content, Tree};
 use redo_which::BOOK;
@@ -148,7 +148,11 @@ where
     let Some(new) = &plan.new else {
         return Ok(());
     };
-    match store_by_journal(host.rt, dir, host.alloc, plan.workers, tree, new) {
+    let writers = Writers {
+        rt: host.rt,
+        most: plan.workers,
+    };
+    match store_by_journal(&writers, dir, host.alloc, tree, new) {
         Ok(()) => Ok(()),
         Err(fault) => {
             cause.note_unstored(&new.files, fault);

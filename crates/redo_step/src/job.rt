@@ -38,13 +38,16 @@ use std::sync::Arc;
 
 /// What a job is given for good: a target, its rule and script, and what the script's commands see.
 #[derive(Drop)]
-struct JobInputs {
-    alloc: Global,
-    tree: Arc<Tree>,
-    target: Path,
-    rule: Rule,
-    parsed: Arc<Parsed>,
-    limits: Limits,
+pub struct JobInputs {
+    /// Where the job takes its memory.
+    pub alloc: Global,
+    /// The sources.
+    pub tree: Arc<Tree>,
+    pub target: Path,
+    pub rule: Rule,
+    /// What reading the rule's script came to.
+    pub parsed: Arc<Parsed>,
+    pub limits: Limits,
 }
 
 impl JobInputs {
@@ -65,23 +68,35 @@ impl JobInputs {
         Shell { scene, answers }
     }
 
-    /// Runs the rest of the script from a place on. `kept` is the redo-ifchange that waited there.
+    /// Runs the rest of the script after a pause.
     fn resume<A: Answers>(
         &self,
         answers: &A,
         effects: &mut Effects,
         stmts: &[Stmt],
-        place: &StopPlace,
-        kept: Option<WaitingChange>,
+        pause: Pause<'_>,
     ) -> Result<RunEnd, AllocError>
-        requires { IsKept (stands_at place.now (job_inputs_setting self.now) (script_of stmts.now))
-            (state_of effects.old) kept }
+        requires { IsKept (stands_at pause.place.now (job_inputs_setting self.now) (script_of stmts.now))
+            (state_of effects.old) pause.kept }
         ensures { IfOk result (λ progress. Comes (job_inputs_setting self.now) (A.ask answers.now) (script_of stmts.now)
-            (left_at place.now (job_inputs_setting self.now) (script_of stmts.now))
+            (left_at pause.entry.place.now (job_inputs_setting self.now) (script_of stmts.now))
             (all_of (job_inputs_setting self.now) finish) (state_of effects.old) progress (state_of effects.new)) }
     {
-        resume(&self.shell(answers), effects, stmts, place, kept)
+        resume(
+            &self.shell(answers),
+            effects,
+            stmts,
+            pause.place,
+            pause.kept,
+        )
     }
+}
+
+/// Where a script goes on, and the redo-ifchange that waited there.
+#[derive(Drop)]
+struct Pause<'a> {
+    place: &'a StopPlace,
+    kept: Option<WaitingChange>,
 }
 
 /// A job's inputs, and how far its script has come.
@@ -156,25 +171,12 @@ pub enum Step {
 
 impl Job {
     /// A job before the first statement of its script.
-    pub fn begin(
-        alloc: Global,
-        tree: Arc<Tree>,
-        target: Path,
-        rule: Rule,
-        parsed: Arc<Parsed>,
-        limits: Limits,
-    ) -> Result<Job, AllocError>
-        ensures job { IfOk result (λ job. job ≡ begun (arc_value tree) target rule (arc_value parsed) limits) }
+    pub fn begin(inputs: JobInputs) -> Result<Job, AllocError>
+        ensures job { IfOk result (λ job. job ≡
+            begun (arc_value inputs.tree) inputs.target inputs.rule (arc_value inputs.parsed) inputs.limits) }
         ensures fits { IfOk result (λ job. (ask : AskOf) → IsFit job ask) }
     {
-        let inputs = JobInputs {
-            alloc,
-            tree,
-            target,
-            rule,
-            parsed,
-            limits,
-        };
+        let alloc = inputs.alloc;
         let effects = Effects {
             output: Vec::new(alloc),
             third: None,
@@ -247,7 +249,11 @@ impl Job {
                 return refused(state, fault);
             }
         };
-        match inputs.resume(answers, effects, &script.stmts, place, kept.take())? {
+        let pause = Pause {
+            place,
+            kept: kept.take(),
+        };
+        match inputs.resume(answers, effects, &script.stmts, pause)? {
             RunEnd::Finished => ended(state, Ending::Exited(0)),
             RunEnd::Ended(ending) => ended(state, ending),
             RunEnd::Stopped(paths, place, kept) => {

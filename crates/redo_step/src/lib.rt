@@ -44,7 +44,7 @@ mod writing;
 pub use answers::Answers;
 pub use ends::{AtFault, EndPlace, ScriptInputs, find_end};
 pub use halt::Ending;
-pub use job::{Done, Job, Step};
+pub use job::{Done, Job, JobInputs, Step};
 pub use laws::{
     agreeing_records, agreeing_runs, an_act_ends_its_run, followed_records, more_answers,
     next_operand, progress_is_lawful, same_rules, what_was_built_is_met,

@@ -17,8 +17,8 @@ use Rattle.redo_report.specs.declared.report.Row.{Row}
 use Rattle.redo_which.specs.Candidates.{book_path}
 use Rattle.redo_past.specs.NewBook.{is_built, notable, record_of_row, row_at, state_after}
 use Rattle.redo_past.specs.Past.{PastView}
-use Rattle.redo_past.specs.declared.items.Item.{Item}
-use Rattle.redo_past.specs.declared.items.Item.TheVariants as items
+use Rattle.redo_past.specs.declared.items.BookItem.{BookItem}
+use Rattle.redo_past.specs.declared.items.BookItem.TheVariants as items
 
 -- rows in path order
 abbrev pub AreRows : List Row → Type 0
@@ -110,21 +110,21 @@ abbrev pub BeginsWith : List ℕ → List ℕ → Type 0
 BeginsWith text front = (rest : List ℕ) × (text ≡ front ++ rest)
 
 -- the record that is made of an item
-abbrev pub record_in : StatesView → Item → Record
+abbrev pub record_in : StatesView → BookItem → Record
 record_in states (items.Built row) = record_of_row states.sources states.rows row.now
 record_in states (items.Carried r) = r
 
 -- the lines of that record
-abbrev pub item_text : StatesView → Item → List ℕ
+abbrev pub item_text : StatesView → BookItem → List ℕ
 item_text states item = text_of (record_lines (record_in states item))
 
 -- a book can have a record of the item
-abbrev pub IsSound : Item → Type 0
+abbrev pub IsSound : BookItem → Type 0
 IsSound (items.Built row) = row.now.path ≢ []
 IsSound (items.Carried r) = IsRecord r
 
 -- these records are made of the items
-pub record AreItems (states : StatesView) (list : List Item) (records : List Record) : Type 0 where
+pub record AreItems (states : StatesView) (list : List BookItem) (records : List Record) : Type 0 where
   pub are : map (record_in states) list ≡ records
   pub sound : AllByRecursion IsSound list
 

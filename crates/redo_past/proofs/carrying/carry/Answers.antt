@@ -2,7 +2,7 @@ use Rattle.std.proofs.Common.{◌≡◌, ◌∙◌, ◌++◌, ◌∷◌, ◌<◌
 use Rattle.std.proofs.Common.{length, subst, sym, take, take_all, Vec, Global}
 use Rattle.std.proofs.lemmas.List.{append-nil}
 use Rattle.redo_book.specs.Book.{IsRecord, Record}
-use Rattle.redo_past.specs.declared.items.Item.{Item}
+use Rattle.redo_past.specs.declared.items.BookItem.{BookItem}
 use Rattle.redo_past.specs.inside.Books.{AreItems, StatesView, carries}
 use Rattle.redo_past.proofs.ItemListLemmas.{all-at, item-pushed}
 use Rattle.redo_past.proofs.LoopLemmas.{kept-more}
@@ -27,13 +27,13 @@ loop-old-preserved c =
           let same : (known ++ kept) ++ x ∷ [] ≡ known ++ more =
           append_assoc known kept (x ∷ [])
           ∙ ap (λ rs. known ++ rs) (sym (step ∙ ap (λ b. kept ++ cond b (x ∷ []) []) told)) in
-          subst (λ (l : Vec Item Global). AreItems states l.items (known ++ more)) (sym w.items-is)
+          subst (λ (l : Vec BookItem Global). AreItems states l.items (known ++ more)) (sym w.items-is)
           (item-pushed states c.loop-old.items.items w.push.new.self.items (known ++ kept) (known ++ more) _ x w.in_ok-push.ensures.items (c.loop-old.invariant known are) w.same.ensures (subst IsRecord (sym w.same.ensures) is) same)
       | else-branch w ↦
           let told : keeps x ≡ false = ap keeps (sym c.record.ensures) ∙ sym c.in_ok-is_carried.ensures ∙ w.if-branch.false in
           let same : known ++ kept ≡ known ++ more =
           ap (λ rs. known ++ rs) (sym (step ∙ ap (λ b. kept ++ cond b (x ∷ []) []) told ∙ append-nil kept)) in
-          subst (λ (l : Vec Item Global). AreItems states l.items (known ++ more)) (sym w.items-is) (subst (AreItems states c.loop-old.items.items) same (c.loop-old.invariant known are))
+          subst (λ (l : Vec BookItem Global). AreItems states l.items (known ++ more)) (sym w.items-is) (subst (AreItems states c.loop-old.items.items) same (c.loop-old.invariant known are))
     ]
 
 pub returns : goal.returns

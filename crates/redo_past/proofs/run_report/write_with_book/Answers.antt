@@ -12,7 +12,7 @@ use Rattle.redo_past.proofs.run_report.write_with_book.Goals as goal
 pub returns-in_err-write_head-clause-writes : goal.returns-in_err-write_head-clause-writes
 returns-in_err-write_head-clause-writes g c =
     let report = c.args.report.now in
-    let at = c.args.at in
+    let at = c.args.book.at in
     let text = text_of (book_lines (map (record_in c.args.states.now) c.args.items.now)) in
     let head = head_text report in
     let before = flat_map file_text (take at report.files.items) in
@@ -27,7 +27,7 @@ returns-in_err-write_head-clause-writes g c =
 pub returns-in_err-write_files-clause-writes : goal.returns-in_err-write_files-clause-writes
 returns-in_err-write_files-clause-writes g c =
     let report = c.args.report.now in
-    let at = c.args.at in
+    let at = c.args.book.at in
     let text = text_of (book_lines (map (record_in c.args.states.now) c.args.items.now)) in
     let head = head_text report in
     let before = flat_map file_text (take at c.deref.result.now) in
@@ -42,7 +42,7 @@ returns-in_err-write_files-clause-writes g c =
 pub returns-in_err-write_book-clause-writes : goal.returns-in_err-write_book-clause-writes
 returns-in_err-write_book-clause-writes g c =
     let report = c.args.report.now in
-    let at = c.args.at in
+    let at = c.args.book.at in
     let text = text_of (book_lines (map (record_in c.args.states.now) c.args.items.now)) in
     let head = head_text report in
     let before = flat_map file_text (take at c.deref.result.now) in
@@ -57,7 +57,7 @@ returns-in_err-write_book-clause-writes g c =
 pub returns-in_err-write_files-2-clause-writes : goal.returns-in_err-write_files-2-clause-writes
 returns-in_err-write_files-2-clause-writes g c =
     let report = c.args.report.now in
-    let at = c.args.at in
+    let at = c.args.book.at in
     let text = text_of (book_lines (map (record_in c.args.states.now) c.args.items.now)) in
     let head = head_text report in
     let before = flat_map file_text (take at c.deref.result.now) in
@@ -71,7 +71,7 @@ returns-in_err-write_files-2-clause-writes g c =
 pub returns-clause-writes : goal.returns-clause-writes
 returns-clause-writes g c =
     let report = c.args.report.now in
-    let at = c.args.at in
+    let at = c.args.book.at in
     let text = text_of (book_lines (map (record_in c.args.states.now) c.args.items.now)) in
     let head = head_text report in
     let before = flat_map file_text (take at c.deref.result.now) in

@@ -1,4 +1,4 @@
-use Rattle.std.proofs.Common.{◌≡◌, ◌++◌, ◌∙◌, ℕ, List, ap, append_assoc, rules, subst, Err, Ok, Result}
+use Rattle.std.proofs.Common.{◌≡◌, ◌++◌, ℕ, List, rules, subst, Err, Ok, Result}
 use Rattle.std.specs.Prelude.{IfErr}
 use Rattle.std.specs.declared.io.ErrorKind.{ErrorKind}
 use Rattle.redo_dir.specs.Stored.{Step}

@@ -13,5 +13,5 @@ returns c =
     let path : c.in_ok-book_path.field-0 ≡ book_path = c.in_ok-book_path.ensures in
     let text : c.in_ok-new.field-0 ≡ new_text past report.rows.items = c.in_ok-new.ensures ∙ c.in_ok-text.ensures ∙ ap (new_text past) (c.new-rows.ensures ∙ c.deref.ensures.value) in
     let file : ◌≡◌ {A = File} (c.in_ok-book_path.field-0, c.in_ok-new.field-0) (book_path, new_text past report.rows.items) = λ i. (path i, text i) in
-    let P : File → Report = λ f. record { rows = report.rows; files = with_item report.files c.self.inside.at f; begun = report.begun } in
+    let P : File → Report = λ f. record { rows = report.rows; files = with_item report.files c.self.inside.book.at f; begun = report.begun } in
     ap P file ∙ c.self.view_is

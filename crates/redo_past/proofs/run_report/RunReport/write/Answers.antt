@@ -12,7 +12,7 @@ pub returns-in_err-write_with_book-clause-writes : goal.returns-in_err-write_wit
 returns-in_err-write_with_book-clause-writes g c =
     let past = c.self.inside.past in
     let report = c.self.inside.report in
-    let at = c.self.inside.at in
+    let at = c.self.inside.book.at in
     let states : StatesView = record { sources = past.sources; rows = report.rows.items } in
     let is : c.in_ok-states.states ≡ states =
     subst (λ (rs : List Row). c.in_ok-states.states ≡ record { sources = past.sources; rows = rs }) (c.new-rows.ensures ∙ c.deref.ensures.value) c.in_ok-states.ensures.states in
@@ -29,7 +29,7 @@ pub returns-clause-writes : goal.returns-clause-writes
 returns-clause-writes g c =
     let past = c.self.inside.past in
     let report = c.self.inside.report in
-    let at = c.self.inside.at in
+    let at = c.self.inside.book.at in
     let states : StatesView = record { sources = past.sources; rows = report.rows.items } in
     let is : c.in_ok-states.states ≡ states =
     subst (λ (rs : List Row). c.in_ok-states.states ≡ record { sources = past.sources; rows = rs }) (c.new-rows.ensures ∙ c.deref.ensures.value) c.in_ok-states.ensures.states in
