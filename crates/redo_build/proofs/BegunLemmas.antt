@@ -1,6 +1,6 @@
 -- The targets that are taken at turn 0 are those that have a rule and are begun.
 use Rattle.std.proofs.Common.{◌≡◌, ℕ, ◌<◌, ◌≤◌, ◌↔◌, true, false, ◌⊎◌, inl, inr, List, [], ◌∷◌, ◌++◌, length, Some}
-use Rattle.std.proofs.Common.{None, slice_get, option_and_then, refl, sym, ap, subst, ◌∙◌, arith, zero, suc}
+use Rattle.std.proofs.Common.{None, slice_get, option_and_then, sym, ap, subst, ◌∙◌, arith, zero, suc}
 use Rattle.std.proofs.lemmas.Bool.{cases_lt, both_ways}
 use Rattle.redo_record.specs.Paths.{IsAmong}
 use Rattle.redo_record.specs.declared.deps.Dep.{Dep}
@@ -17,16 +17,13 @@ use Rattle.redo_build.specs.inside.Turns.{deps_at_turn, begins_at}
 use Rattle.redo_build.specs.inside.Standing.{AreStanding, decided_count, rounds}
 use Rattle.redo_build.proofs.DepthLemmas.{cases_Option}
 use Rattle.redo_build.proofs.SeenLemmas.{entry_of-path, entry_of-among, among-entry_of, entry_of-entered_cases}
-use Rattle.redo_build.proofs.SeenLemmas.{decided_count-length}
+use Rattle.redo_build.proofs.SeenLemmas.{decided_count-length, length-paths, nowhere}
 use Rattle.redo_build.proofs.TurnLemmas.{only-Extends}
 use Rattle.redo_build.proofs.SoundLemmas.{IsSound, opening-sound, run-sound, happens-sound, nothing-standing}
 use Rattle.redo_build.proofs.QuietLemmas.{none-out, shows, never-due}
 use Rattle.redo_build.proofs.StartedLemmas.{IsStarted, IsStartedAt, AreRuled, decided-begins, new-started, new-ruled}
 use Rattle.redo_build.proofs.StartedLemmas.{take-of, take-on, take-now, take-from, take-ruled, hand-on, hand-from}
 use Rattle.redo_build.proofs.StartedLemmas.{hand-ruled, look-on, look-from, look-ruled}
-
-nowhere : (e : Entry) → None ≡ Some e → ⊥
-nowhere e h = cc
 
 taken-append : (xs ys : List ((List ℕ) × ℕ)) (p : List ℕ) (n : ℕ) → IsTaken (xs ++ ys) p n → IsTaken xs p n ⊎ IsTaken ys p n
 taken-append [] ys p n m = inr m
@@ -156,11 +153,7 @@ module _ (r : Rules) (lawful : AreLawful r) where
       shown = shows r lawful request end sound-end limit quiet looked few
 
       small : decided_count end.entries ≤ limit
-      small = omega (arith, few, decided_count-length end.entries, paths-length end.entries)
-        where
-          paths-length : (es : List Entry) → length (paths_of es) ≡ length es
-          paths-length [] = refl
-          paths-length (e ∷ es) = ap suc (paths-length es)
+      small = omega (arith, few, decided_count-length end.entries, length-paths end.entries)
 
       -- what was begun, is begun in the end
       started-begins : (p : List ℕ) → IsStartedAt r end.entries p → r.begins p (outcome_at r limit) ≡ true

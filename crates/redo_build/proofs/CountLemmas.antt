@@ -12,11 +12,15 @@ use Rattle.redo_build.specs.Schedule.{is_able_to_go_on, IsDueAt}
 use Rattle.redo_build.specs.Schedule.Event.{Take, Hand_in, Look}
 use Rattle.redo_build.specs.Schedule.Phase.{Check, Script}
 use Rattle.redo_build.specs.TakesLeft.{turns_left, turns_of, takes_left}
-use Rattle.redo_build.proofs.SeenLemmas.{paths_of-put, entry_of-path, entry_of-among, entry_of-put_same}
+use Rattle.redo_build.proofs.SeenLemmas.{length-paths, length-put, new-inside, entry_of-path, entry_of-among, entry_of-put_same}
 use Rattle.redo_build.proofs.SeenLemmas.{entry_of-entered_old, entered-longer}
 use Rattle.redo_build.proofs.QueueLemmas.{slice_get-among, slice_get-below}
 use Rattle.redo_build.proofs.SoundLemmas.{IsSound, due-parts, is_able_to_go_on-parts}
 use Rattle.redo_build.proofs.TurnBoundLemmas.{turn-below}
+
+none-from : {A : Type 0} (o : Option A) → is_some o ≡ false → o ≡ None
+none-from None h = refl
+none-from (Some x) h = cc
 
 -- a number for each entry, added up
 abbrev total : (Entry → ℕ) → List Entry → ℕ
@@ -37,13 +41,6 @@ total-put w (x ∷ es) new old h = elim (cases_Bool (bytes_eq x.path new.path)) 
 total-push : (w : Entry → ℕ) (es : List Entry) (x : Entry) → total w (es ++ x ∷ []) ≡ total w es + w x
 total-push w [] x = omega arith
 total-push w (y ∷ es) x = let rest = total-push w es x in omega (arith, rest)
-
-length-paths : (es : List Entry) → length (paths_of es) ≡ length es
-length-paths [] = refl
-length-paths (e ∷ es) = ap suc (length-paths es)
-
-length-put : (es : List Entry) (e : Entry) → length (put es e) ≡ length es
-length-put es e = sym (length-paths (put es e)) ∙ ap length (paths_of-put es e) ∙ length-paths es
 
 abbrev one_out : Entry → ℕ
 one_out e = cond e.is_out 1 0
@@ -77,16 +74,13 @@ left-push limit es x room =
     omega (arith, all, step, turns_left-most limit x, turns-total limit es, turns-total limit (es ++ x ∷ []), total-push (turns_left limit) es x)
 
 module _ (r : Rules) where
-  new-in : (p : List ℕ) → (new_entry r p).is_out ≡ false
-  new-in p = elim (cases_Bool (r.has_rule p)) [ inl t ↦ rw t refl | inr f ↦ rw f refl ]
-
   -- what is entered isn't out
   out-entered : (es : List Entry) (ps : List (List ℕ)) → total one_out (entered r es ps) ≡ total one_out es
   out-entered es [] = refl
   out-entered es (p ∷ ps) = elim (cases_Bool (is_among (paths_of es) p)) [
     | inl t ↦ rw t (out-entered es ps)
     | inr f ↦
-        let new : one_out (new_entry r p) ≡ 0 = rw (new-in p) refl in
+        let new : one_out (new_entry r p) ≡ 0 = rw (new-inside r p) refl in
         rw f (out-entered (es ++ new_entry r p ∷ []) ps ∙ (let more = total-push one_out es (new_entry r p) in omega (arith, more, new)))
   ]
 
@@ -260,10 +254,6 @@ module _ (r : Rules) (lawful : AreLawful r) (request : List (List ℕ)) (s : Sta
       let rest = ap (λ n. limit * (limit - n)) len in
       let whole = ap (left limit) there.entries in
       omega (arith, moved, before, after, rest, whole, inside, from, turns-total limit there.es, turns-total limit (put there.es there.new))
-    where
-      none-from : {A : Type 0} (o : Option A) → is_some o ≡ false → o ≡ None
-      none-from None h = refl
-      none-from (Some x) h = cc
 
   -- a look goes on with a check: an entry that is neither out nor decided is replaced
   record IsLookedThere (target : List ℕ) : Type 0 where
@@ -344,7 +334,3 @@ module _ (r : Rules) (lawful : AreLawful r) (request : List (List ℕ)) (s : Sta
       let whole = ap (left limit) there.entries in
       let sums = turns-total limit (put there.es there.new) in
       omega (arith, moved, after, rest, whole, inside, from, turns-total limit there.es, sums)
-    where
-      none-from : {A : Type 0} (o : Option A) → is_some o ≡ false → o ≡ None
-      none-from None h = refl
-      none-from (Some x) h = cc

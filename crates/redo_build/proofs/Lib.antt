@@ -5,11 +5,13 @@ pub mod DepthLemmas
 pub mod DueLemmas
 pub mod Examples
 pub mod HandoverLemmas
+pub mod LookedLemmas
 pub mod LookingLemmas
 pub mod OnceLemmas
 pub mod PathLemmas
 pub mod QueueLemmas
 pub mod QuietLemmas
+pub mod ReachedLemmas
 pub mod SeenLemmas
 pub mod SoundLemmas
 pub mod StandingLemmas

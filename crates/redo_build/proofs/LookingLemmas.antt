@@ -1,10 +1,10 @@
 -- The board's own looks: they are open, they come to an end, and there is one state that they lead to.
 use Rattle.std.proofs.Common.{◌≡◌, ℕ, zero, suc, ◌<◌, ◌≤◌, ◌↔◌, false, ◌⊎◌, inl, inr, List, [], ◌∷◌, length, find, None}
-use Rattle.std.proofs.Common.{refl, sym, ap, subst, ◌∙◌, arith, Some, Bool, true, ◌&&◌, ◌++◌, filter}
-use Rattle.std.proofs.lemmas.Bool.{cases_Bool, cases_lt, and_right}
+use Rattle.std.proofs.Common.{refl, sym, ap, subst, ◌∙◌, arith, Some}
+use Rattle.std.proofs.lemmas.Bool.{cases_lt, and_right}
 use Rattle.redo_build.specs.Rules.{Rules, AreLawful}
 use Rattle.redo_build.specs.Schedule.{Entry, State, happens, handed_in, is_able_to_go_on, is_due, known_to, run}
-use Rattle.redo_build.specs.Schedule.{IsDueAt, may_run, enqueued, paths_of}
+use Rattle.redo_build.specs.Schedule.{IsDueAt}
 use Rattle.redo_build.specs.Schedule.Event.{Look}
 use Rattle.redo_build.specs.Schedule.Phase.{Check}
 use Rattle.redo_build.specs.Looking.{first_due, NoneDue, looked_once, looked, IsLookedOut, Settles, IsLedOn}
@@ -52,32 +52,6 @@ module _ (r : Rules) where
     λ out. out.is ∙ none-still out.looks s (nothing-due all s),
     λ same. record { looks = 0; is = same; none_due = nothing-due all t },
   )
-
-  -- and what can go on may run
-  pub may_run-able : KeepsNothing r → (s : State) (e : Entry) → may_run r s e ≡ is_able_to_go_on r s e
-  may_run-able all s e =
-      let begun = all e.path (known_to r s.entries e) in
-      rw begun (and-true (is_able_to_go_on r s e))
-    where
-      and-true : (b : Bool) → (b && true) ≡ b
-      and-true true = refl
-      and-true false = refl
-
-  able-filtered : KeepsNothing r → (s : State) (es : List Entry) →
-      filter (may_run r s) es ≡ filter (is_able_to_go_on r s) es
-  able-filtered all s [] = refl
-  able-filtered all s (e ∷ es) =
-      let same = may_run-able all s e in
-      let rest = able-filtered all s es in
-      elim (cases_Bool (is_able_to_go_on r s e)) [
-        | inl t ↦ let may = same ∙ t in rw (may, t) (ap (λ xs. e ∷ xs) rest)
-        | inr f ↦ let may = same ∙ f in rw (may, f) rest
-      ]
-
-  pub enqueued-able : KeepsNothing r → (s : State) →
-      enqueued r s ≡ record s { ready = s.ready ++ paths_of (filter (is_able_to_go_on r s) s.entries) }
-  enqueued-able all s =
-      ap (λ es. record s { ready = s.ready ++ paths_of es }) (able-filtered all s s.entries)
 
 module _ (r : Rules) (lawful : AreLawful r) (request : List (List ℕ)) where
   module _ (s : State) (sound : IsSound r request s) (e : Entry) (first : first_due r s ≡ Some e) where

@@ -19,12 +19,6 @@ is_among-from (q ∷ qs) p m = elim m [
   | inr later ↦ or_right _ _ (is_among-from qs p later)
 ]
 
-pub among_cases : (ps : List (List ℕ)) (p : List ℕ) → IsAmong ps p ⊎ (IsAmong ps p → ⊥)
-among_cases ps p = elim (cases_Bool (is_among ps p)) [
-  | inl t ↦ inl (is_among-true ps p t)
-  | inr f ↦ inr (λ m. both_ways _ f (is_among-from ps p m))
-]
-
 pub IsAmong-left : (ps qs : List (List ℕ)) (p : List ℕ) → IsAmong ps p → IsAmong (ps ++ qs) p
 IsAmong-left [] qs p m = absurd m
 IsAmong-left (x ∷ ps) qs p m = elim m [ inl here ↦ inl here | inr later ↦ inr (IsAmong-left ps qs p later) ]

@@ -18,7 +18,7 @@ use Rattle.redo_build.proofs.PathLemmas.{within-length, is_among-true}
 use Rattle.redo_build.proofs.DepthLemmas.{cases_Option, deeper, ended_stays, outcome_at-step, outcome_at-zero}
 use Rattle.redo_build.proofs.DepthLemmas.{asked_at-grows, reached-within, reached-more, reached-distinct, settled}
 use Rattle.redo_build.proofs.SeenLemmas.{entry_of-path, outcomes_of-entry, entry_of-among, among-entry_of, outcomes_of-at}
-use Rattle.redo_build.proofs.SeenLemmas.{decided_count-length}
+use Rattle.redo_build.proofs.SeenLemmas.{decided_count-length, length-paths}
 use Rattle.redo_build.proofs.TurnLemmas.{only-Extends, only-among}
 use Rattle.redo_build.proofs.DueLemmas.{none-due}
 use Rattle.redo_build.proofs.SoundLemmas.{IsSound, lacks_none-from}
@@ -55,10 +55,6 @@ module _ (r : Rules) (lawful : AreLawful r) (request : List (List ℕ)) where
       ))
     ]
 
-    paths-length : (es : List Entry) → length (paths_of es) ≡ length es
-    paths-length [] = refl
-    paths-length (e ∷ es) = ap suc (paths-length es)
-
     decided-progress : (p : List ℕ) (e : Entry) (o : Outcome) → entry_of s.entries p ≡ Some e → e.outcome ≡ Some o →
         (n : ℕ) × (n < decided_count s.entries) × (r.progress p (outcome_at r n) ≡ record { outcome = Some o; deps = e.deps })
     decided-progress p e o at done =
@@ -87,7 +83,7 @@ module _ (r : Rules) (lawful : AreLawful r) (request : List (List ℕ)) where
     pub decided-declared : length s.entries ≤ limit → (p : List ℕ) (e : Entry) (o : Outcome) → entry_of s.entries p ≡ Some e → e.outcome ≡ Some o →
         (outcome_at r limit p ≡ Some o) × (e.deps ≡ declared_of r limit p)
     decided-declared few p e o at done =
-        let here = decided-at p e o at done limit (omega (arith, decided_count-length s.entries, paths-length s.entries)) in
+        let here = decided-at p e o at done limit (omega (arith, decided_count-length s.entries, length-paths s.entries)) in
         (here.0, sym (ap (λ (x : Progress). x.deps) here.1))
 
     -- what a decided target asked for is decided
@@ -115,7 +111,7 @@ module _ (r : Rules) (lawful : AreLawful r) (request : List (List ℕ)) where
       declared = decided-declared;
       recorded = decided-recorded;
       needed = sound.standing.needed;
-      too_many = λ many. too_many (omega (arith, paths-length s.entries, many));
+      too_many = λ many. too_many (omega (arith, length-paths s.entries, many));
     }
 
     -- a script that lacks an answer stays where it is under all that is decided
@@ -236,7 +232,7 @@ module _ (r : Rules) (lawful : AreLawful r) (request : List (List ℕ)) where
         needed-few = omega (
           arith,
           few,
-          paths-length s.entries,
+          length-paths s.entries,
           within-length (needed_at r request limit) (paths_of s.entries) (reached-distinct r lawful request limit limit) (needed-inside limit),
         )
 

@@ -1,5 +1,5 @@
 -- Lemmas on lists of entries.
-use Rattle.std.proofs.Common.{◌≡◌, ℕ, ◌+◌, ◌<◌, ◌≤◌, true, false, cond, ◌⊎◌, inl, inr, List, [], ◌∷◌, ◌++◌, length}
+use Rattle.std.proofs.Common.{◌≡◌, ℕ, suc, ◌+◌, ◌<◌, ◌≤◌, true, false, cond, ◌⊎◌, inl, inr, List, [], ◌∷◌, ◌++◌, length}
 use Rattle.std.proofs.Common.{Some, None, is_some, refl, sym, ap, ◌∙◌, arith, bytes_eq, length-append}
 use Rattle.std.proofs.lemmas.Bool.{cases_Bool, both_ways}
 use Rattle.std.proofs.lemmas.Slice.Eq.{bytes_eq-Decides}
@@ -15,6 +15,12 @@ use Rattle.redo_build.proofs.DepthLemmas.{cases_Option}
 pub phase_cases : (phase : Phase) → (phase ≡ Check) ⊎ (phase ≡ Script)
 phase_cases Check = inl refl
 phase_cases Script = inr refl
+
+pub new-inside : (r : Rules) (p : List ℕ) → (new_entry r p).is_out ≡ false
+new-inside r p = elim (cases_Bool (r.has_rule p)) [ inl t ↦ rw t refl | inr f ↦ rw f refl ]
+
+pub nowhere : (e : Entry) → None ≡ Some e → ⊥
+nowhere e h = cc
 
 pub entry_of-path : (es : List Entry) (p : List ℕ) (e : Entry) → entry_of es p ≡ Some e → e.path ≡ p
 entry_of-path [] p e h = cc
@@ -42,12 +48,6 @@ among-entry_of (x ∷ es) p m = elim (cases_Bool (bytes_eq x.path p)) [
   ]
 ]
 
-pub entry_of-none : (es : List Entry) (p : List ℕ) → (IsAmong (paths_of es) p → ⊥) → entry_of es p ≡ None
-entry_of-none es p out = elim (cases_Option (entry_of es p)) [
-  | inl none ↦ none
-  | inr some ↦ absurd (out (entry_of-among es p some.0 some.1))
-]
-
 -- a decided path has an entry
 pub outcomes_of-entry : (es : List Entry) (p : List ℕ) (o : Outcome) → outcomes_of es p ≡ Some o →
     (e : Entry) × (entry_of es p ≡ Some e) × (e.outcome ≡ Some o)
@@ -65,6 +65,13 @@ paths_of-put (x ∷ es) e = elim (cases_Bool (bytes_eq x.path e.path)) [
   | inl t ↦ rw t (ap (λ q. q ∷ paths_of es) (sym ((bytes_eq-Decides x.path e.path).0 t)))
   | inr f ↦ rw f (ap (λ ps. x.path ∷ ps) (paths_of-put es e))
 ]
+
+pub length-paths : (es : List Entry) → length (paths_of es) ≡ length es
+length-paths [] = refl
+length-paths (e ∷ es) = ap suc (length-paths es)
+
+pub length-put : (es : List Entry) (e : Entry) → length (put es e) ≡ length es
+length-put es e = sym (length-paths (put es e)) ∙ ap length (paths_of-put es e) ∙ length-paths es
 
 pub entry_of-put_same : (es : List Entry) (e : Entry) → IsAmong (paths_of es) e.path → entry_of (put es e) e.path ≡ Some e
 entry_of-put_same [] e m = absurd m
@@ -138,13 +145,13 @@ decided_count-put (x ∷ es) e old h open' = elim (cases_Bool (bytes_eq x.path e
   | inr f ↦ rw f (omega (arith, decided_count-put es e old (rw f at h) open'))
 ]
 
+pub paths_of-push : (es : List Entry) (e : Entry) → paths_of (es ++ e ∷ []) ≡ paths_of es ++ e.path ∷ []
+paths_of-push [] e = refl
+paths_of-push (x ∷ es) e = ap (λ ps. x.path ∷ ps) (paths_of-push es e)
+
 module _ (r : Rules) where
   pub new_entry-path : (p : List ℕ) → (new_entry r p).path ≡ p
   new_entry-path p = elim (cases_Bool (r.has_rule p)) [ inl t ↦ rw t refl | inr f ↦ rw f refl ]
-
-  paths_of-push : (es : List Entry) (e : Entry) → paths_of (es ++ e ∷ []) ≡ paths_of es ++ e.path ∷ []
-  paths_of-push [] e = refl
-  paths_of-push (x ∷ es) e = ap (λ ps. x.path ∷ ps) (paths_of-push es e)
 
   entry_of-push_old : (es : List Entry) (x e : Entry) (p : List ℕ) → entry_of es p ≡ Some e → entry_of (es ++ x ∷ []) p ≡ Some e
   entry_of-push_old [] x e p h = cc

@@ -10,8 +10,8 @@ use Rattle.redo_record.specs.Progress.{Progress}
 use Rattle.redo_record.specs.declared.outcome.Outcome.{Outcome}
 use Rattle.redo_build.specs.Rules.{Rules, AreLawful, Extends, operands, Ask}
 use Rattle.redo_build.specs.Outcomes.{outcome_at, requested_targets}
-use Rattle.redo_build.specs.Schedule.{Entry, State, Event, paths_of, entry_of, outcome_of, outcomes_of, only, entered}
-use Rattle.redo_build.specs.Schedule.{put, lacks_none, is_able_to_go_on, enqueued, opening, sent_out, new_entry, taken}
+use Rattle.redo_build.specs.Schedule.{Entry, State, Event, paths_of, entry_of, outcomes_of, only, entered}
+use Rattle.redo_build.specs.Schedule.{put, lacks_none, is_able_to_go_on, enqueued, opening, sent_out, taken}
 use Rattle.redo_build.specs.Schedule.{advanced, moved_on, handed_in, happens, IsOpen, run, AllOpen, known_to, may_run}
 use Rattle.redo_build.specs.Schedule.{is_due, Phase}
 use Rattle.redo_build.specs.Schedule.Event.{Take, Hand_in, Look}
@@ -20,9 +20,9 @@ use Rattle.redo_build.specs.inside.Standing.{AreStanding, IsNeeded, decided_coun
 use Rattle.redo_build.proofs.PathLemmas.{IsAmong-same, IsAmong-append, IsAmong-left, IsAmong-right, is_among-true}
 use Rattle.redo_build.proofs.PathLemmas.{is_among-from}
 use Rattle.redo_build.proofs.DepthLemmas.{cases_Option, operand-target, requested-target}
-use Rattle.redo_build.proofs.SeenLemmas.{entry_of-path, entry_of-among, among-entry_of, paths_of-put}
+use Rattle.redo_build.proofs.SeenLemmas.{entry_of-path, entry_of-among, paths_of-put}
 use Rattle.redo_build.proofs.SeenLemmas.{entry_of-entered_old, entry_of-entered_cases, entry_of-put_other}
-use Rattle.redo_build.proofs.SeenLemmas.{entry_of-put_same}
+use Rattle.redo_build.proofs.SeenLemmas.{entry_of-put_same, new-inside, nowhere}
 use Rattle.redo_build.proofs.QueueLemmas.{slice_get-among, slice_get-below, remove-cases, remove-from, remove-distinct}
 use Rattle.redo_build.proofs.QueueLemmas.{remove-gone, AreDistinct-append, paths_of-filter_from, paths_of-filter_to}
 use Rattle.redo_build.proofs.QueueLemmas.{paths_of-filter_distinct}
@@ -119,18 +119,19 @@ module _ (r : Rules) where
       let parts = is_able_to_go_on-parts s e last.0 in
       (parts.0, parts.1, parts.2, parts.3, last.1)
 
+-- where two asks tell alike of some paths, they do so of those alone
+pub only-same : (ps : List (List ℕ)) (a b : Ask) → ((q : List ℕ) → IsAmong ps q → a q ≡ b q) → (q : List ℕ) →
+    only ps a q ≡ only ps b q
+only-same ps a b same q = elim (cases_Bool (is_among ps q)) [
+  | inl t ↦ rw t (same q (is_among-true ps q t))
+  | inr f ↦ rw f refl
+]
+
 module _ (r : Rules) (lawful : AreLawful r) (request : List (List ℕ)) where
   only-more : (ps : List (List ℕ)) (a b : Ask) → Extends r a b → Extends r (only ps a) (only ps b)
   only-more ps a b more q o s e = elim (cases_Bool (is_among ps q)) [
     | inl t ↦ rw t (more q o s (rw t at e))
     | inr f ↦ absurd (let bad : None ≡ Some o = rw f at e in cc)
-  ]
-
-  pub only-same : (ps : List (List ℕ)) (a b : Ask) → ((q : List ℕ) → IsAmong ps q → a q ≡ b q) → (q : List ℕ) →
-      only ps a q ≡ only ps b q
-  only-same ps a b same q = elim (cases_Bool (is_among ps q)) [
-    | inl t ↦ rw t (same q (is_among-true ps q t))
-    | inr f ↦ rw f refl
   ]
 
   pub enqueued-sound : (s : State) → AreStanding r request s.entries →
@@ -202,18 +203,12 @@ module _ (r : Rules) (lawful : AreLawful r) (request : List (List ℕ)) where
     decided = λ p e o at done. absurd (nowhere e at);
     under_way = λ p e at open'. absurd (nowhere e at);
   }
-    where
-      nowhere : (e : Entry) → None ≡ Some e → ⊥
-      nowhere e h = cc
-
-  new-inside : (p : List ℕ) → (new_entry r p).is_out ≡ false
-  new-inside p = elim (cases_Bool (r.has_rule p)) [ inl t ↦ rw t refl | inr f ↦ rw f refl ]
 
   -- nothing is out that was only entered
   fresh : (ps : List (List ℕ)) (p : List ℕ) (e : Entry) → entry_of (entered r [] ps) p ≡ Some e → e.is_out ≡ false
   fresh ps p e at = elim (entry_of-entered_cases r [] ps p e at) [
     | inl old ↦ absurd (nowhere e old)
-    | inr new ↦ ap (λ (x : Entry). x.is_out) new.1 ∙ new-inside p
+    | inr new ↦ ap (λ (x : Entry). x.is_out) new.1 ∙ new-inside r p
   ]
     where
       nowhere : (x : Entry) → None ≡ Some x → ⊥
@@ -443,7 +438,7 @@ module _ (r : Rules) (lawful : AreLawful r) (request : List (List ℕ)) where
           let old = sym (entry_of-put_other wider (moved_on phase e (advanced r s.entries e)) q other) ∙ h in
           elim (entry_of-entered_cases r s.entries (operands r (advanced r s.entries e).deps) q x old) [
             | inl older ↦ (other, older)
-            | inr new ↦ absurd (both_ways _ (ap (λ (y : Entry). y.is_out) new.1 ∙ new-inside q) is_out)
+            | inr new ↦ absurd (both_ways _ (ap (λ (y : Entry). y.is_out) new.1 ∙ new-inside r q) is_out)
           ]
     ]
 
@@ -468,59 +463,6 @@ module _ (r : Rules) (lawful : AreLawful r) (request : List (List ℕ)) where
       where
         not_ready : (q : List ℕ) → IsAmong s.ready q → e.path ≡ q → ⊥
         not_ready q m same = not_queued (IsAmong-same s.ready q p (sym same ∙ out_path) m)
-
-    -- with all its answers before, no more answers let a check go on
-    still_in_check : (x : Entry) → ((q : List ℕ) → IsAmong (operands r x.deps) q → outcomes_of s.entries q ≡ None → ⊥) →
-        r.begins x.path (known_to r s.entries x) ≡ false → r.begins x.path (known_to r moved x) ≡ false
-    still_in_check x fed h = sym (begins-more r lawful x.path x.deps (outcomes_of s.entries) (outcomes_of moved)
-        (λ q o t k. moved_more q o t (wider_more q o t k)) fed) ∙ h
-
-    -- what goes on after the piece is the target itself, a path seen for the first time, or one that asked for the target
-    pub newly_ready-cases : (q : List ℕ) (x : Entry) →
-        entry_of (put (entered r s.entries (operands r (advanced r s.entries e).deps))
-        (moved_on phase e (advanced r s.entries e))) q ≡ Some x →
-        may_run r
-        (record {
-          entries = put (entered r s.entries (operands r (advanced r s.entries e).deps))
-              (moved_on phase e (advanced r s.entries e));
-          ready = s.ready;
-        }) x ≡ true →
-        (e.path ≡ q) ⊎ ((entry_of s.entries q ≡ None) ⊎ ((entry_of s.entries q ≡ Some x) × IsAmong (operands r x.deps) e.path))
-    unfolding moved wider
-    newly_ready-cases q x h free = elim (cases_Bool (bytes_eq e.path q)) [
-      | inl t ↦ inl ((bytes_eq-Decides e.path q).0 t)
-      | inr f ↦
-          let other : e.path ≡ q → ⊥ = λ same. both_ways _ f ((bytes_eq-Decides e.path q).1 same) in
-          let there = sym (entry_of-put_other wider (moved_on phase e (advanced r s.entries e)) q other) ∙ h in
-          elim (entry_of-entered_cases r s.entries (operands r (advanced r s.entries e).deps) q x there) [
-            | inl old ↦
-                let parts = may_run-parts r (record { entries = moved; ready = s.ready }) x free in
-                let path = entry_of-path s.entries q x old in
-                let waits = sound.others_wait q x old parts.0
-                (λ m. both_ways _ parts.3 (is_among-from s.ready x.path (IsAmong-same s.ready q x.path (sym path) m))) parts.2 in
-                elim waits [
-                  | inl lack ↦ inr (inr (
-                    old,
-                    elim (cases_Bool (bytes_eq e.path lack.0)) [
-                      | inl t ↦
-                          IsAmong-same (operands r x.deps) lack.0 e.path (sym ((bytes_eq-Decides e.path lack.0).0 t))
-                          lack.1
-                      | inr g ↦ absurd (
-                          let away : e.path ≡ lack.0 → ⊥ =
-                          λ same. both_ways _ g ((bytes_eq-Decides e.path lack.0).1 same) in
-                          let known = among-entry_of s.entries lack.0 (sound.standing.closed q lack.0 x old lack.1) in
-                          let now = entry_of-put_other wider (moved_on phase e (advanced r s.entries e)) lack.0 away
-                          ∙ wider_entry lack.0 known.0 known.1 in
-                          let none : outcomes_of moved lack.0 ≡ None = ap outcome_of now ∙ sym (ap outcome_of known.1)
-                          ∙ lack.2 in
-                          lacks_none-true r moved x parts.1 lack.0 lack.1 none)
-                    ],
-                  ))
-                  | inr due ↦ absurd (both_ways _ (still_in_check x due.0 due.1) parts.4)
-                ]
-            | inr new ↦ inr (inl new.0)
-          ]
-    ]
 
   -- of an entry that is out, or whose check can go on
   pub out-parts : (s : State) → IsSound r request s → (p : List ℕ) (e : Entry) → entry_of s.entries p ≡ Some e →

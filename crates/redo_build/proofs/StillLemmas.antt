@@ -6,7 +6,7 @@ use Rattle.std.proofs.lemmas.Bool.{cases_Bool, both_ways, and_parts, and_from, n
 use Rattle.std.proofs.lemmas.Slice.Eq.{bytes_eq-Decides}
 use Rattle.redo_record.specs.Paths.{is_among}
 use Rattle.redo_build.specs.Rules.{Rules, AreLawful, operands}
-use Rattle.redo_build.specs.Schedule.{Entry, State, Event, entry_of, outcomes_of, new_entry, entered, put, sent_out}
+use Rattle.redo_build.specs.Schedule.{Entry, State, Event, entry_of, outcomes_of, entered, put, sent_out}
 use Rattle.redo_build.specs.Schedule.{taken, advanced, moved_on, handed_in, happens, known_to, lacks_none}
 use Rattle.redo_build.specs.Schedule.{is_able_to_go_on, is_due, run, out_count, AllOpen, IsDueAt, IsOutAt}
 use Rattle.redo_build.specs.Schedule.Event.{Take, Hand_in, Look}
@@ -16,7 +16,7 @@ use Rattle.redo_build.specs.Takes.{place_of, takes}
 use Rattle.redo_build.proofs.PathLemmas.{is_among-true, is_among-from}
 use Rattle.redo_build.proofs.DepthLemmas.{cases_Option}
 use Rattle.redo_build.proofs.SeenLemmas.{entry_of-path, entry_of-among, entry_of-put_same, entry_of-put_other}
-use Rattle.redo_build.proofs.SeenLemmas.{entry_of-entered_old, entry_of-entered_cases}
+use Rattle.redo_build.proofs.SeenLemmas.{entry_of-entered_old, entry_of-entered_cases, new-inside}
 use Rattle.redo_build.proofs.QueueLemmas.{slice_get-among, slice_get-below, remove-cases}
 use Rattle.redo_build.proofs.DueLemmas.{none-due, none-due-from}
 use Rattle.redo_build.proofs.StandingLemmas.{sent-cases, sent-outcomes}
@@ -55,9 +55,6 @@ takes-looks r (Hand_in target turn ∷ events) looks s are =
 takes-looks r (Look target ∷ events) looks s are = takes-looks r events looks (happens r s (Look target)) are
 
 module _ (r : Rules) (lawful : AreLawful r) (request : List (List ℕ)) where
-  new-is_in : (p : List ℕ) → (new_entry r p).is_out ≡ false
-  new-is_in p = elim (cases_Bool (r.has_rule p)) [ inl t ↦ rw t refl | inr f ↦ rw f refl ]
-
   module _ (s : State) (sound : IsSound r request s) (target : List ℕ) (due : IsDueAt r s target) where
     abbrev asks : List (List ℕ)
     asks = operands r (advanced r s.entries due.entry).deps
@@ -115,7 +112,7 @@ module _ (r : Rules) (lawful : AreLawful r) (request : List (List ℕ)) where
               elim (entry_of-entered_cases r s.entries asks q out.entry before) [
                 | inl old ↦ record { entry = out.entry; at = old; is_out = out.is_out; at_turn = out.at_turn }
                 | inr fresh ↦ absurd (
-                    both_ways _ (ap (λ (x : Entry). x.is_out) fresh.1 ∙ new-is_in q) out.is_out)
+                    both_ways _ (ap (λ (x : Entry). x.is_out) fresh.1 ∙ new-inside r q) out.is_out)
               ]
         ]
 
@@ -198,7 +195,7 @@ module _ (r : Rules) (lawful : AreLawful r) (request : List (List ℕ)) where
         ]) in
         let known : r.begins x.path (known_to r then'.entries x) ≡ r.begins x.path (known_to r s.entries x) =
         lawful.begins_local x.path (known_to r then'.entries x) (known_to r s.entries x) (λ y m.
-        only-same r lawful request (operands r x.deps) (outcomes_of then'.entries) (outcomes_of s.entries)
+        only-same (operands r x.deps) (outcomes_of then'.entries) (outcomes_of s.entries)
         (λ z k. same z) y) in
         let begun : r.begins x.path (known_to r s.entries x) ≡ false = sym known ∙ not-true _ both.1 in
         let open_yet : is_none x.outcome ≡ true = rw parts.0 refl in

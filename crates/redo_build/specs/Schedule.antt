@@ -190,6 +190,12 @@ abbrev pub AllOpen : Rules → State → List Event → Type 0
 AllOpen r s [] = Unit {0}
 AllOpen r s (e ∷ es) = IsOpen r s e × AllOpen r (happens r s e) es
 
+-- open events lead from the opening to this state
+pub record IsReached (r : Rules) (request : List (List ℕ)) (s : State) : Type 0 where
+  pub events : List Event
+  pub all_open : AllOpen r (opening r request) events
+  pub ends : s ≡ run r events (opening r request)
+
 -- how many jobs are out
 abbrev pub out_count : State → ℕ
 out_count s = length (filter (λ e. e.is_out) s.entries)

@@ -34,7 +34,7 @@ use Rattle.redo_build.proofs.HandoverLemmas.{piece-begun, piece-fact}
 use Rattle.redo_core.proofs.AllAskedLemmas.{asked-first}
 use Rattle.redo_core.proofs.JobLemmas.{job_progress}
 use Rattle.redo_record.specs.Entries.{with_all}
-use Rattle.redo_core.proofs.StopLemmas.{MoreAnswers, stopped-lacks}
+use Rattle.redo_step.proofs.Public.{stop_lacks}
 use Rattle.redo_build.proofs.TurnLemmas.{only-among, only-some}
 
 -- What lacks
@@ -196,12 +196,12 @@ module _ (given : GivenView) (job : JobView) (facts : Facts) (work : IsWorkWith 
     still_set = ap job_setting asks.same
 
     -- it waits for the paths that it names
-    paths-are : (loops : Bool) → MoreAnswers → paths ≡ waited_by (rules_for given) (record { job = later; facts = facts; loops_long = loops })
+    paths-are : (loops : Bool) → paths ≡ waited_by (rules_for given) (record { job = later; facts = facts; loops_long = loops })
     unfolding setting_by
-    paths-are loops law =
+    paths-are loops =
         let known = told_in facts in
         let S : Tree → Type 0 = λ tree. paths ≡ filter (λ q. is_none (file_at tree q) && is_none (known q)) (changes later.state.entries) in
-        let own : S job.tree = stopped-lacks law (job_setting job) known asks.script paths later.state asks.lacks in
+        let own : S job.tree = stop_lacks (job_setting job) known asks.script paths later.state asks.lacks in
         subst S work.is_job.of_tree own ∙ no-sources (file_at given.past.sources) known (changes later.state.entries)
 
     -- a script that asks for more is at its next turn
@@ -220,14 +220,14 @@ module _ (given : GivenView) (job : JobView) (facts : Facts) (work : IsWorkWith 
         }
 
     -- it is the end of a piece that stopped
-    pub stopped-end : MoreAnswers → (loops : Bool) (begun : Box Begun Global) (lacks : Vec (List ℕ) Global) →
+    pub stopped-end : (loops : Bool) (begun : Box Begun Global) (lacks : Vec (List ℕ) Global) →
         begun.value ≡ record { job = later; facts = facts; loops_long = loops } → lacks.items ≡ paths →
         IsEndAt given job.target job.turn (Stopped begun lacks)
     unfolding advanced-piece
-    stopped-end law loops begun lacks is same =
+    stopped-end loops begun lacks is same =
         record {
           is_piece = rw is (advanced-piece (record { outcome = None; deps = record_so_far later }) asks.progress);
-          is_end = (rw is advanced-stopped, same ∙ rw is (paths-are loops law));
+          is_end = (rw is advanced-stopped, same ∙ rw is (paths-are loops));
         }
 
   -- what the piece says has an outcome exactly where the work lacks nothing

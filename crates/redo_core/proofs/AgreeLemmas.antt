@@ -12,7 +12,7 @@ use Rattle.redo_core.specs.inside.Slots.{Agrees, AreAgreed, is_stage_decided, is
 use Rattle.redo_core.specs.declared.table.Slot.{Slot}
 use Rattle.redo_core.specs.declared.table.Stage.{Stage}
 use Rattle.redo_core.specs.declared.table.Stage.TheVariants.{Due, Checking, Waiting, Ready, Out, Decided}
-use Rattle.redo_core.proofs.SlotLemmas.{slice_get-below_some}
+use Rattle.std.proofs.lemmas.Option.{slice_get_within}
 
 module _ (r : Rules) (ps : List (List ℕ)) where
   pub agrees-decided : (stage : Stage) (s : StageView) → Agrees r ps stage s → s ≡ AtDecided → is_stage_decided stage ≡ true
@@ -88,13 +88,13 @@ module _ (r : Rules) (ps : List (List ℕ)) where
     pub agreed-slot : (k : ℕ) (s : StageView) → slice_get stages k ≡ Some s →
         (slot : Slot) × (slice_get slots k ≡ Some slot) × Agrees r ps slot.stage s
     agreed-slot k s h =
-        let found = there-below slots k (omega (arith, agreed.one_each, slice_get-below_some stages k s h)) in
+        let found = there-below slots k (omega (arith, agreed.one_each, slice_get_within stages k s h)) in
         (found.0, found.1, agreed.each k found.0 s found.1 h)
 
     pub agreed-stage : (k : ℕ) (slot : Slot) → slice_get slots k ≡ Some slot →
         (s : StageView) × (slice_get stages k ≡ Some s) × Agrees r ps slot.stage s
     agreed-stage k slot h =
-        let found = there-below stages k (omega (arith, agreed.one_each, slice_get-below_some slots k slot h)) in
+        let found = there-below stages k (omega (arith, agreed.one_each, slice_get_within slots k slot h)) in
         (found.0, found.1, agreed.each k slot found.0 h found.1)
 
     -- one slot changes, and its stage with it

@@ -12,7 +12,7 @@ use Rattle.redo_build.proofs.QueueLemmas.{slice_get-among}
 use Rattle.redo_build.specs.Looking.{looked}
 use Rattle.redo_build.proofs.SoundLemmas.{IsSound, happens-sound}
 use Rattle.redo_build.proofs.StillLemmas.{looked-count}
-use Rattle.redo_core.proofs.LookedLemmas.{looked-left, looked-longer}
+use Rattle.redo_build.proofs.LookedLemmas.{looked-left, looked-longer}
 use Rattle.redo_core.proofs.TakeLemmas.{sound-inside, length-entries, view_of}
 
 module _ (b : Inside) (kept : IsKept b) (on : is_some b.stopped ≡ false) where

@@ -1,15 +1,13 @@
 -- The steps of a check: what is read of the book, and what a walk over entries leads to.
 use Rattle.std.proofs.Common.{◌≡◌, ◌∙◌, ◌+◌, ◌<◌, ◌≤◌, ℕ, zero, suc, Bool, true, false, not, ◌&&◌, ◌||◌, inl, inr, List, []}
 use Rattle.std.proofs.Common.{◌∷◌, ◌++◌, Option, Some, None, refl, sym, ap, subst, arith, length, map, take, slice_get}
-use Rattle.std.proofs.Common.{slice_index_or, is_some}
-use Rattle.std.proofs.lemmas.Bool.{cases_Bool, cases_lt}
+use Rattle.std.proofs.Common.{slice_index_or}
+use Rattle.std.proofs.lemmas.Bool.{cases_lt}
 use Rattle.std.proofs.lemmas.List.{append-nil, length-map, map-append, take_all, take_more}
 use Rattle.std.proofs.lemmas.Option.{slice_get-map, slice_get_past, slice_get_read, slice_get_within}
-use Rattle.std.proofs.lemmas.Slice.Eq.{bytes_eq-Decides}
 use Rattle.std.specs.List.{AllByRecursion, IsDistinct}
 use Rattle.std.specs.Prelude.{Err, IfSome, MatchOption, Ok, Result, if◌then◌else◌, option_and_then, option_map, unwrap_or}
 use Rattle.std.specs.Str.{bytes_eq}
-use Rattle.redo_names.specs.Paths.{with_path}
 use Rattle.redo_script.specs.Texts.{script_in}
 use Rattle.redo_tree.specs.Tree.{file_at}
 use Rattle.redo_which.specs.Rule.{Found, Rule, found_of}
@@ -17,7 +15,7 @@ use Rattle.redo_record.specs.declared.deps.Dep.{Dep}
 use Rattle.redo_record.specs.declared.outcome.Outcome.{Outcome}
 use Rattle.redo_record.specs.Entries.{AreOnce, is_entered, same_kind, search_deps, with_all, with_entries, with_entry}
 use Rattle.redo_record.specs.declared.deps.DepKind.TheVariants as kinds
-use Rattle.redo_record.specs.Paths.{IsAmong, is_among}
+use Rattle.redo_record.specs.Paths.{is_among}
 use Rattle.redo_record.proofs.OnceLemmas.{once-entries}
 use Rattle.redo_record.proofs.StoredLemmas.{once-with, put-in}
 use Rattle.redo_step.specs.Results.{by_script}
@@ -32,8 +30,6 @@ use Rattle.redo_book.specs.declared.book.BookRecord.{BookRecord}
 use Rattle.redo_book.specs.Book.{IsBook, IsRecord, Record, record_at, record_of, same_entry}
 use Rattle.redo_build.specs.Rules.{Ask}
 use Rattle.redo_build.specs.Schedule.{nothing_known}
-use Rattle.redo_build.proofs.PathLemmas.{is_among-from, is_among-true}
-use Rattle.redo_build.proofs.QueueLemmas.{slice_get-among}
 use Rattle.redo_digest.specs.Digest.{State}
 use Rattle.redo_book.specs.Intact.{is_intact}
 use Rattle.redo_past.specs.Past.{intact_record}
@@ -43,50 +39,14 @@ use Rattle.redo_skip.specs.Sources.{Sources}
 use Rattle.redo_rules.specs.Build.{GivenView, checks_for, last_run_of, rules_for, sources_for}
 use Rattle.redo_rules.specs.inside.Worlds.{World, progress_in, world_of}
 use Rattle.redo_core.specs.declared.check.Check.{Check}
-use Rattle.redo_core.specs.inside.Checking.{FallsBehind, HaveStood, IsBegunBehind, IsCheckedBy, IsDueCheck, IsInCheck}
-use Rattle.redo_core.specs.inside.Checking.{IsWaitingCheck, IsWalkedTo, StandAlone, asked_by, entries_in, entries_of_record}
+use Rattle.redo_skip.specs.inside.Stood.{HaveStood, StandAlone, asked_by}
+use Rattle.redo_core.specs.inside.Checking.{FallsBehind, IsBegunBehind, IsCheckedBy, IsDueCheck, IsInCheck}
+use Rattle.redo_core.specs.inside.Checking.{IsWaitingCheck, IsWalkedTo, entries_in, entries_of_record}
 use Rattle.redo_core.specs.inside.Checking.{state_of_entry}
-use Rattle.redo_core.proofs.CheckingLemmas.{falls-behind, none-behind, record-target}
-use Rattle.redo_core.proofs.StoodLemmas.{always, answered-path, asked-at, asked-on, asks-path, not-falling, plus-one}
-use Rattle.redo_core.proofs.StoodLemmas.{stood-more, stood-none, stood-on, unasked}
-
--- ---- paths that are requested
-
--- whether a number is found tells whether a path is one of these
-pub number-tells : (ps : List (List ℕ)) (p : List ℕ) (o : Option ℕ) → MatchOption o (IsAmong ps p → ⊥) (λ n. slice_get ps n ≡ Some p) → is_some o ≡ is_among ps p
-number-tells ps p None none = elim (cases_Bool (is_among ps p)) [
-  | inl t ↦ absurd (none (is_among-true ps p t))
-  | inr f ↦ sym f
-]
-number-tells ps p (Some n) found = sym (is_among-from ps p (slice_get-among ps n p found))
-
-or-more : (qs : List (List ℕ)) (x p : List ℕ) → is_among (qs ++ x ∷ []) p ≡ (is_among qs p || bytes_eq x p)
-or-more [] x p = elim (bytes_eq x p) as (λ b. (b || false) ≡ b) [ true ↦ refl | false ↦ refl ]
-or-more (q ∷ qs) x p = elim (bytes_eq q p) as (λ b. (b || is_among (qs ++ x ∷ []) p) ≡ ((b || is_among qs p) || bytes_eq x p)) [
-  | true ↦ refl
-  | false ↦ or-more qs x p
-]
-
-kept-or : (a b : Bool) → (b ≡ true → a ≡ true) → a ≡ (a || b)
-kept-or false true h = h refl
-kept-or _ _ h = refl
-
-with-path-tells : (qs : List (List ℕ)) (x p : List ℕ) → is_among (with_path qs x) p ≡ (is_among qs p || bytes_eq x p)
-with-path-tells qs x p = elim (cases_Bool (is_among qs x)) [
-  | inl t ↦
-      let kept : with_path qs x ≡ qs = rw t refl in
-      ap (λ ps. is_among ps p) kept ∙
-      kept-or (is_among qs p) (bytes_eq x p) (λ same. subst (λ y. is_among qs y ≡ true) ((bytes_eq-Decides x p).0 same) t)
-  | inr f ↦
-      let new : with_path qs x ≡ qs ++ x ∷ [] = rw f refl in
-      ap (λ ps. is_among ps p) new ∙ or-more qs x p
-]
-
--- one path more
-pub set-more : (ps qs : List (List ℕ)) (i : ℕ) (x p : List ℕ) → i < length ps → x ≡ slice_index_or ps i x → is_among qs p ≡ is_among (take i ps) p → is_among (with_path qs x) p ≡ is_among (take (i + 1) ps) p
-set-more ps qs i x p within is same =
-    with-path-tells qs x p ∙ ap (λ b. b || bytes_eq x p) same ∙ sym (or-more (take i ps) x p) ∙
-    ap (λ y. is_among (take i ps ++ y ∷ []) p) is ∙ ap (λ l. is_among l p) (sym (take_more ps i x within))
+use Rattle.redo_core.proofs.CheckingLemmas.{falls-behind, none-behind}
+use Rattle.redo_skip.proofs.NewBookLemmas.{found-target}
+use Rattle.redo_skip.proofs.StoodLemmas.{always, answered-path, asked-at, asked-on, asks-path, not-falling, plus-one}
+use Rattle.redo_skip.proofs.StoodLemmas.{stood-more, stood-none, stood-on, unasked}
 
 -- ---- records of the book
 
@@ -163,7 +123,7 @@ by-record given p (Some r) free rule of =
     ])
 
 intact-check : (given : GivenView) (p : List ℕ) → is_among given.request p ≡ false → (rules_for given).has_rule p ≡ true → checks_for given p ≡ option_map (check_by (last_run_of given.past)) (intact_record given.past p)
-intact-check given p free rule = by-record given p (record_at given.past.book p) free rule (λ r is. record-target given.past.book p r is)
+intact-check given p free rule = by-record given p (record_at given.past.book p) free rule (λ r is. found-target given.past.book p r is)
 
 slice_get_inside : (rs : List Record) (n : ℕ) → n < length rs → slice_get rs n ≡ None → ⊥
 slice_get_inside [] n l h = omega (arith, l)

@@ -1,4 +1,5 @@
 -- What the check of a target has come to, and what follows for the target.
+use Rattle.redo_skip.proofs.NewBookLemmas.{found-target}
 use Rattle.std.proofs.Common.{◌≡◌, ◌∙◌, ◌<◌, ℕ, true, false, not, ◌&&◌, inl, inr, List, [], ◌∷◌}
 use Rattle.std.proofs.Common.{◌++◌, Option, Some, None, refl, sym, ap, subst, length, map, take, slice_get}
 use Rattle.std.proofs.lemmas.Bool.{cases_Bool}
@@ -21,33 +22,21 @@ use Rattle.redo_skip.specs.Checks.{is_asked, lacks, progress_checked, progress_f
 use Rattle.redo_skip.specs.Checks.{shown, standing, stands}
 use Rattle.redo_skip.specs.NewBook.{check_by, is_valid}
 use Rattle.redo_skip.proofs.CheckLemmas.{begins_checked, is_fallen, not-or, standing-same}
-use Rattle.std.proofs.lemmas.Slice.Eq.{bytes_eq-Decides}
 use Rattle.std.specs.List.{IsDistinct}
 use Rattle.std.specs.Prelude.{MatchOption, if◌then◌else◌, option_and_then}
-use Rattle.std.specs.Str.{bytes_eq}
 use Rattle.redo_book.specs.Book.{same_entry}
 use Rattle.redo_skip.specs.Sources.{Sources}
 use Rattle.redo_tree.specs.Tree.{file_at}
 use Rattle.redo_rules.specs.Build.{GivenView, checks_for, last_run_of, rules_for, sources_for}
 use Rattle.redo_core.specs.declared.check.Check.{Check}
-use Rattle.redo_core.specs.inside.Checking.{HaveStood, IsBegunBehind, IsDueCheck, IsInCheck, IsWaitingCheck}
-use Rattle.redo_core.specs.inside.Checking.{TellsAlike, asked_by, asks_next, entries_in}
+use Rattle.redo_skip.specs.inside.Stood.{HaveStood, asked_by}
+use Rattle.redo_core.specs.inside.Checking.{IsBegunBehind, IsDueCheck, IsInCheck, IsWaitingCheck}
+use Rattle.redo_core.specs.inside.Checking.{TellsAlike, asks_next, entries_in}
 use Rattle.redo_core.specs.inside.Checking.{entries_of_record, path_of_entry, seen_entries}
-use Rattle.redo_core.proofs.StoodLemmas.{asked-in, asked-out, asked-target, asking-more}
-use Rattle.redo_core.proofs.StoodLemmas.{asks-target}
-use Rattle.redo_core.proofs.StoodLemmas.{asking-one, asks-path, behind, found-end, found-next, lacks-path, new-path}
-use Rattle.redo_core.proofs.StoodLemmas.{only-none, plus-one, stood-moves, take-at, take-end}
-
--- the record that is found is that of the target
-pub record-target : (book : List Record) (p : List ℕ) (r : Record) → record_at book p ≡ Some r → r.target ≡ p
-record-target [] p r h = absurd cc
-record-target (x ∷ book) p r h = elim (cases_Bool (bytes_eq x.target p)) [
-  | inl t ↦
-      let here : Some x ≡ Some r = rw t at h in
-      let is : x ≡ r = cc in
-      ap (λ y. y.target) (sym is) ∙ (bytes_eq-Decides x.target p).0 t
-  | inr f ↦ record-target book p r (rw f at h)
-]
+use Rattle.redo_skip.proofs.StoodLemmas.{asked-in, asked-out, asked-target, asking-more}
+use Rattle.redo_skip.proofs.StoodLemmas.{asks-target}
+use Rattle.redo_skip.proofs.StoodLemmas.{asking-one, asks-path, behind, found-end, found-next, lacks-path, new-path}
+use Rattle.redo_skip.proofs.StoodLemmas.{only-none, plus-one, stood-moves, take-at, take-end}
 
 module _ (given : GivenView) (p : List ℕ) where
   abbrev s : Sources
@@ -80,7 +69,7 @@ module _ (given : GivenView) (p : List ℕ) where
         | inl t ↦
             let same : Some (check_by (last_run_of given.past) r) ≡ Some (check_by (last_run_of given.past) k.made) = rw t at h in
             let one : check_by (last_run_of given.past) r ≡ check_by (last_run_of given.past) k.made = cc in
-            sym (ap (λ c. c.file) one) ∙ ap (file_at given.past.tree) (record-target given.past.book p r is)
+            sym (ap (λ c. c.file) one) ∙ ap (file_at given.past.tree) (found-target given.past.book p r is)
         | inr f ↦ let bad : None ≡ Some (check_by (last_run_of given.past) k.made) = rw f at h in absurd cc
       ]
 

@@ -1,5 +1,5 @@
 -- What is ready goes behind the queue, and the table shows what the schedule enqueues.
-use Rattle.std.proofs.Common.{map, ◌≡◌, ℕ, ◌+◌, ◌<◌, List, [], ◌∷◌, ◌++◌, Some}
+use Rattle.std.proofs.Common.{map, ◌≡◌, ℕ, ◌+◌, List, [], ◌∷◌, ◌++◌, Some}
 use Rattle.std.proofs.Common.{inl, inr, refl, sym, ap, subst, ◌∙◌}
 use Rattle.std.proofs.Common.{arith, Vec, Global}
 use Rattle.std.proofs.lemmas.Bool.{cases_lt}
@@ -18,7 +18,8 @@ use Rattle.redo_core.specs.declared.table.Table.{Table}
 use Rattle.redo_core.proofs.EntryLemmas.{keys-distinct}
 use Rattle.redo_core.proofs.NewlyReadyLemmas.{newly_ready-paths}
 use Rattle.redo_core.proofs.PlaceLemmas.{IsPlace, increasing-ascends, place-times}
-use Rattle.redo_core.proofs.SlotLemmas.{slice_get-below_some, slice_get-from}
+use Rattle.std.proofs.lemmas.Option.{slice_get_within}
+use Rattle.redo_table.proofs.TargetLemmas.{there-below}
 
 module _ (given : GivenView) (request : List (List ℕ)) (t u : Table) (table : IsTableOf given t)
     (standing : AreStanding (rules_for given) request (table_entries given t))
@@ -77,8 +78,8 @@ taken-in given request after es t u v table queue stands is same put w =
     let T : List Entry → List (List ℕ) → State = λ xs ps. record { entries = xs; ready = ps } in
     let names : map (path_at u.targets) u.schedule.ready ≡ map (path_at t.targets) t.schedule.ready =
     ap (map (path_at u.targets)) put.ready ∙ map-same (path_at u.targets) (path_at t.targets) t.schedule.ready (λ k m.
-    let staged = slice_get-below_some t.schedule.stages k AtReady (queue.are_ready k (place-times t.schedule.ready k m)) in
-    let found = slice_get-from t.targets k (omega (arith, table.one_each, table.agreed.one_each, staged)) in
+    let staged = slice_get_within t.schedule.stages k AtReady (queue.are_ready k (place-times t.schedule.ready k m)) in
+    let found = there-below t.targets k (omega (arith, table.one_each, table.agreed.one_each, staged)) in
     rw (put.keys_kept k found.0 found.1, found.1) refl) in
     let before : table_state given u ≡ T es (map (path_at t.targets) t.schedule.ready) =
     ap (λ xs. T xs (map (path_at u.targets) u.schedule.ready)) (put.entries ∙ same) ∙ ap (T es) names in

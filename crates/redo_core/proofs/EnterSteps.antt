@@ -1,4 +1,5 @@
 -- Entering a path that is new.
+use Rattle.redo_names.proofs.PathLemmas.{told-absent}
 use Rattle.std.proofs.Common.{slice_get, slice_set, ◌≡◌, ℕ, ◌+◌, ◌<◌, ◌≤◌, true, false, ◌⊎◌, inl, inr, List, []}
 use Rattle.std.proofs.Common.{◌∷◌, ◌++◌, length, length-append, Some, None, refl, sym, ap, subst}
 use Rattle.std.proofs.Common.{◌∙◌, arith}
@@ -10,7 +11,7 @@ use Rattle.redo_build.specs.Schedule.{Entry, only, outcomes_of, paths_of, entere
 use Rattle.redo_record.specs.Progress.{Progress}
 use Rattle.redo_table.specs.Schedule.{StageView, ScheduleView, with_stage, with_target}
 use Rattle.redo_table.specs.Schedule.StageView.{Due as AtDue, Ready as AtReady, InHand as AtHand, Decided as AtDecided}
-use Rattle.redo_table.proofs.TargetLemmas.{push-before, push-cases}
+use Rattle.redo_table.proofs.TargetLemmas.{push-before, push-cases, there-below}
 use Rattle.redo_core.specs.inside.Slots.{outcomes_at_limit, table_entries, entries_from, slot_entries, slot_entry, stage_deps}
 use Rattle.redo_core.specs.inside.Slots.{stage_outcome, path_at, is_stage_out, Fits, Agrees, AreAgreed, first_in_schedule}
 use Rattle.redo_core.specs.inside.Slots.{AllFit, IsTable, IsTableOf, IsFirstStage, IsPushed, IsEnteredInto, IsFull}
@@ -19,9 +20,10 @@ use Rattle.redo_core.specs.declared.table.Table.{Table}
 use Rattle.redo_core.specs.declared.table.Stage.{Stage}
 use Rattle.redo_core.specs.declared.table.Stage.TheVariants.{Due, Ready, Decided}
 use Rattle.redo_core.proofs.NumberLemmas.{agrees-kept}
-use Rattle.redo_build.proofs.PathLemmas.{is_among-true, is_among-from}
+use Rattle.redo_build.proofs.PathLemmas.{is_among-from}
 use Rattle.redo_build.proofs.SeenLemmas.{outcomes_of-entry, outcomes_of-at, entry_of-entered_old}
-use Rattle.redo_core.proofs.SlotLemmas.{length-slots, paths_of-slots, slice_get-below_some, slice_get-from}
+use Rattle.redo_core.proofs.SlotLemmas.{length-slots, paths_of-slots}
+use Rattle.std.proofs.lemmas.Option.{slice_get_within}
 use Rattle.redo_core.proofs.TableLemmas.{Fits-more}
 use Rattle.redo_core.proofs.FirstStageLemmas.{unruled-same}
 use Rattle.redo_record.specs.declared.deps.Dep.{Dep}
@@ -96,10 +98,10 @@ agreed-push r ps us slots stages new s agreed kept agrees = record {
           let P : Stage → Type 0 = λ stage. Agrees r us stage y in
           let Q : StageView → Type 0 = Agrees r us new.stage in
           subst P (ap (λ (z : Slot). z.stage) here.1) (subst Q now.1 agrees)
-      | inr old ↦ absurd (omega (arith, agreed.one_each, here.0, slice_get-below_some stages k y old))
+      | inr old ↦ absurd (omega (arith, agreed.one_each, here.0, slice_get_within stages k y old))
     ]
     | inr old ↦ elim (push-cases stages k s y h) [
-      | inl now ↦ absurd (omega (arith, agreed.one_each, now.0, slice_get-below_some slots k x old))
+      | inl now ↦ absurd (omega (arith, agreed.one_each, now.0, slice_get_within slots k x old))
       | inr was ↦ agrees-kept ps us kept r x.stage y (agreed.each k x y old was)
     ]
   ];
@@ -107,14 +109,11 @@ agreed-push r ps us slots stages new s agreed kept agrees = record {
 
 path_at-old : (ps : List (List ℕ)) (p : List ℕ) (k : ℕ) → k < length ps → path_at (ps ++ p ∷ []) k ≡ path_at ps k
 path_at-old ps p k h =
-    let found = slice_get-from ps k h in
+    let found = there-below ps k h in
     rw (push-before ps k p found.0 found.1, found.1) refl
 
 path_at-end : (ps : List (List ℕ)) (p : List ℕ) → path_at (ps ++ p ∷ []) (length ps) ≡ p
 path_at-end ps p = rw (get-push_end ps p) refl
-
-not-among : (ps : List (List ℕ)) (p : List ℕ) → (IsAmong ps p → ⊥) → is_among ps p ≡ false
-not-among ps p out = elim (cases_Bool (is_among ps p)) [ inl t ↦ absurd (out (is_among-true ps p t)) | inr f ↦ f ]
 
 module _ (given : GivenView) (t u : Table) (p : List ℕ) (table : IsTableOf given t)
     (room : length t.slots.items < given.limits.targets) (out : IsAmong t.targets p → ⊥) (w : IsPushed given t u p) where
@@ -138,7 +137,7 @@ module _ (given : GivenView) (t u : Table) (p : List ℕ) (table : IsTableOf giv
   pushed =
       let raw = slot_entries-push r a t.targets t.slots.items p w.new table.one_each in
       let no : is_among (paths_of es) p ≡ false = (let P : List (List ℕ) → Type 0 = λ xs. is_among xs p ≡ false in
-      subst P (sym (paths_of-slots r a t.targets t.slots.items table.one_each)) (not-among t.targets p out)) in
+      subst P (sym (paths_of-slots r a t.targets t.slots.items table.one_each)) (told-absent t.targets p out)) in
       raw ∙ ap (λ e. es ++ e ∷ []) new-entry ∙ sym (rw no refl)
 
   more : Extends (rules_for given) (outcomes_of (table_entries given t))
@@ -160,7 +159,7 @@ module _ (given : GivenView) (t u : Table) (p : List ℕ) (table : IsTableOf giv
             let R : ℕ → Type 0 = λ n. Fits r b given p n w.new.stage in
             subst P (sym path) (subst Q here.1 (subst R (sym w.turn) (stage-fits given b p w.new.stage w.first)))
         | inr old ↦
-            let path = path_at-old t.targets p k (omega (arith, slice_get-below_some t.slots.items k x old, table.one_each)) in
+            let path = path_at-old t.targets p k (omega (arith, slice_get_within t.slots.items k x old, table.one_each)) in
             let P : List ℕ → Type 0 = λ q. Fits r b given q x.turn x.stage in
             subst P (sym path) (Fits-more given (outcomes_of es) b (path_at t.targets k) x.turn x.stage more (table.fits k x old))
       ]
@@ -234,7 +233,7 @@ full given t p table out h =
     let a = outcomes_at_limit given in
     let es = table_entries given t in
     let P : List (List ℕ) → Type 0 = λ xs. is_among xs p ≡ false in
-    let no : is_among (paths_of es) p ≡ false = subst P (sym (paths_of-slots (rules_for given) a t.targets t.slots.items table.one_each)) (not-among t.targets p out) in
+    let no : is_among (paths_of es) p ≡ false = subst P (sym (paths_of-slots (rules_for given) a t.targets t.slots.items table.one_each)) (told-absent t.targets p out) in
     rw no (omega (
       arith,
       h,

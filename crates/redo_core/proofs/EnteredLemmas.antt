@@ -12,7 +12,7 @@ use Rattle.redo_core.specs.inside.Slots.{AreEnteredInto, IsOutThere, IsTableOf, 
 use Rattle.redo_core.specs.declared.table.Slot.{Slot}
 use Rattle.redo_core.specs.declared.table.Table.{Table}
 use Rattle.redo_core.proofs.EntryLemmas.{entry-paths, path-there}
-use Rattle.redo_core.proofs.SlotLemmas.{slice_get-below_some}
+use Rattle.std.proofs.lemmas.Option.{slice_get_within}
 
 module _ (given : GivenView) (t v : Table) (ps : List (List ℕ)) (table : IsTableOf given t) (a : AreEnteredInto given t v ps) where
   -- a target that is out stays so
@@ -52,4 +52,4 @@ module _ (given : GivenView) (t v : Table) (ps : List (List ℕ)) (table : IsTab
 
   -- the number of a path is one that the schedule has
   pub entered-number : (n : ℕ) (q : List ℕ) → slice_get v.targets n ≡ Some q → n < length v.schedule.stages
-  entered-number n q path = omega (arith, a.table.one_each, a.table.agreed.one_each, slice_get-below_some v.targets n q path)
+  entered-number n q path = omega (arith, a.table.one_each, a.table.agreed.one_each, slice_get_within v.targets n q path)

@@ -17,8 +17,10 @@ use Rattle.redo_table.specs.Schedule.{StageView}
 use Rattle.redo_core.specs.inside.Slots.{outcomes_at_limit, IsAtRest, IsTable, path_at, slot_entry, table_entries, table_state}
 use Rattle.redo_core.specs.declared.table.Slot.{Slot}
 use Rattle.redo_core.specs.declared.table.Table.{Table}
-use Rattle.redo_core.proofs.LookedLemmas.{reached-sound}
-use Rattle.redo_core.proofs.SlotLemmas.{entry_of-slots, paths_of-slots, slice_get-below_some, slice_get-from}
+use Rattle.redo_build.proofs.ReachedLemmas.{reached-sound}
+use Rattle.redo_core.proofs.SlotLemmas.{entry_of-slots, paths_of-slots}
+use Rattle.std.proofs.lemmas.Option.{slice_get_within}
+use Rattle.redo_table.proofs.TargetLemmas.{there-below}
 
 module _ (given : GivenView) (t : Table) (stages : List StageView) (table : IsTable (rules_for given) given t.targets t.slots.items stages) where
   abbrev es : List Entry
@@ -34,12 +36,12 @@ module _ (given : GivenView) (t : Table) (stages : List StageView) (table : IsTa
 
   pub path-below : (at : ℕ) → at < length t.slots.items → slice_get t.targets at ≡ Some (path_at t.targets at)
   path-below at below =
-      let found = slice_get-from t.targets at (omega (arith, table.one_each, below)) in
+      let found = there-below t.targets at (omega (arith, table.one_each, below)) in
       let is : path_at t.targets at ≡ found.0 = rw found.1 refl in
       found.1 ∙ ap Some (sym is)
 
   pub path-there : (at : ℕ) (slot : Slot) → slice_get t.slots.items at ≡ Some slot → slice_get t.targets at ≡ Some (path_at t.targets at)
-  path-there at slot there = path-below at (slice_get-below_some t.slots.items at slot there)
+  path-there at slot there = path-below at (slice_get_within t.slots.items at slot there)
 
   module _ (request : List (List ℕ)) (standing : AreStanding (rules_for given) request (table_entries given t)) where
     pub keys-distinct : AreDistinct t.targets

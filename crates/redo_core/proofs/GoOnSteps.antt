@@ -25,7 +25,7 @@ use Rattle.redo_core.specs.declared.table.Stage.TheVariants.{Due, Checking, Wait
 use Rattle.redo_core.specs.declared.table.Table.{Table}
 use Rattle.redo_core.proofs.AgreeLemmas.{agreed-slot, agrees-decided}
 use Rattle.redo_core.proofs.EntryLemmas.{keys-distinct, path-there}
-use Rattle.redo_core.proofs.SlotLemmas.{slice_get-below_some}
+use Rattle.std.proofs.lemmas.Option.{slice_get_within}
 use Rattle.redo_core.proofs.TableLemmas.{set-twice}
 use Rattle.redo_core.proofs.TableSteps.{entries-same, parked_fed, parked_ready, table-same}
 
@@ -64,7 +64,7 @@ module _ (given : GivenView) (t : Table) (at : ℕ) (on : List ℕ) (answered : 
   answered-slot = agreed-slot r t.targets t.slots.items stages answered.table.agreed at (AtWaiting on) answered.answered.waited
 
   pub answered-below : at < length t.slots.items
-  answered-below = slice_get-below_some t.slots.items at answered-slot.0 answered-slot.1
+  answered-below = slice_get_within t.slots.items at answered-slot.0 answered-slot.1
 
   pub answered-in_hand : stage_at t.schedule at ≡ Some AtHand
   answered-in_hand = ap (λ (s : ScheduleView). stage_at s at) answered.now ∙ get-same stages at (AtWaiting on) AtHand answered.answered.waited

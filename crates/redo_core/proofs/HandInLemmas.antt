@@ -2,14 +2,14 @@
 use Rattle.std.proofs.Common.{◌≡◌, ℕ, ◌<◌, List, length, Option, Some, None, refl, sym, ap, subst}
 use Rattle.std.proofs.Common.{◌∙◌}
 use Rattle.redo_build.specs.Outcomes.{IsTooMany}
-use Rattle.redo_build.specs.Schedule.{Entry, Event, State, entry_of, happens, IsOutAt}
+use Rattle.redo_build.specs.Schedule.{IsReached, Entry, Event, State, entry_of, happens, IsOutAt}
 use Rattle.redo_build.specs.Schedule.Event.{Hand_in}
 use Rattle.redo_build.specs.Schedule.Phase.{Script}
 use Rattle.redo_build.specs.Looking.{IsLookedOut, looked}
 use Rattle.redo_rules.specs.Build.{GivenView, rules_for}
 use Rattle.redo_rules.proofs.Public.{lawful_for}
 use Rattle.redo_table.specs.Schedule.{NoneDue}
-use Rattle.redo_core.specs.Views.{BoardView, IsReached, PieceView, rules_on}
+use Rattle.redo_core.specs.Views.{BoardView, PieceView, rules_on}
 use Rattle.redo_core.specs.Faults.{fault_of, IsSameBuild, RefusedRunning}
 use Rattle.redo_core.specs.declared.board.Stop.{Stop}
 use Rattle.redo_core.specs.declared.board.Stop.TheVariants.{TooMany, Memory}
@@ -26,7 +26,8 @@ use Rattle.redo_core.proofs.GainSteps.{out-stage}
 use Rattle.redo_core.proofs.LookLemmas.{none_due}
 use Rattle.redo_core.proofs.SlotLemmas.{entry_of-slots}
 use Rattle.redo_core.proofs.MakeReadySteps.{slot-of-path}
-use Rattle.redo_core.proofs.TakeLemmas.{distinct-inside, reached-more}
+use Rattle.redo_build.proofs.ReachedLemmas.{reached-more}
+use Rattle.redo_core.proofs.TakeLemmas.{distinct-inside}
 
 -- what was out is taken in: the table is at rest, or the build needs too many
 module _ (given : GivenView) (t : Table) (at : ℕ) (end : End) (may : MayTakeIn given t at end) where

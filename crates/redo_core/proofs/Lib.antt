@@ -11,13 +11,11 @@ pub mod WaitedLemmas
 pub mod HoldingLemmas
 pub mod EntryLemmas
 pub mod LookLemmas
-pub mod LookedLemmas
 pub mod TakeLemmas
 pub mod AllAskedLemmas
 pub mod TableSteps
 pub mod EnterSteps
 pub mod PutSteps
-pub mod StopLemmas
 pub mod FactLemmas
 pub mod FirstStageLemmas
 pub mod ScriptLemmas
@@ -32,7 +30,6 @@ pub mod TakeInLemmas
 pub mod TakenSteps
 pub mod NewlyReadyLemmas
 pub mod CheckSteps
-pub mod StoodLemmas
 pub mod EnqueueLemmas
 pub mod HandInLemmas
 pub mod LookSteps

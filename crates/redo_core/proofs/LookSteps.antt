@@ -19,14 +19,15 @@ use Rattle.redo_build.specs.Schedule.Phase.{Check}
 use Rattle.redo_build.specs.Looking.{first_due, looked_once}
 use Rattle.redo_build.proofs.LookingLemmas.{first-look, first-open}
 use Rattle.redo_build.proofs.QuietLemmas.{is_part}
-use Rattle.redo_build.proofs.SeenLemmas.{entry_of-put_same, paths_of-put}
-use Rattle.redo_build.proofs.SoundLemmas.{IsSound, happens-sound}
+use Rattle.redo_build.proofs.PathLemmas.{IsAmong-left}
+use Rattle.redo_build.proofs.SeenLemmas.{paths_of-push, entry_of-put_same, paths_of-put}
+use Rattle.redo_build.proofs.SoundLemmas.{IsSound, happens-sound, only-same}
 use Rattle.redo_rules.specs.Build.{GivenView, rules_for}
 use Rattle.redo_rules.proofs.Public.{lawful_for}
 use Rattle.redo_table.specs.Schedule.{ScheduleView, IsQueue, stage_at, times, with_stage}
 use Rattle.redo_table.specs.Schedule.StageView.{Due as AtDue, Ready as AtReady, InHand as AtHand}
 use Rattle.redo_table.proofs.TargetLemmas.{get-other, get-same, set-cases}
-use Rattle.redo_core.specs.Views.{IsReached}
+use Rattle.redo_build.specs.Schedule.{IsReached}
 use Rattle.redo_core.specs.inside.Slots.{outcomes_at_limit, Fits, IsAtRest, IsDueWith, IsOutThere, IsTable}
 use Rattle.redo_core.specs.inside.Slots.{IsTableOf, MayLook, entries_from}
 use Rattle.redo_core.specs.inside.Slots.{path_at, rounds_of, slot_entry, stage_deps, stage_outcome, state_after}
@@ -39,9 +40,10 @@ use Rattle.redo_core.specs.declared.table.Table.{Table}
 use Rattle.redo_core.proofs.AgreeLemmas.{agreed-set}
 use Rattle.redo_core.proofs.EntryLemmas.{entries-few, entry-there, known-deep, path-there, rest-distinct, rest-sound, rounds-few}
 use Rattle.redo_core.proofs.LookLemmas.{drawn-first}
-use Rattle.redo_core.proofs.SlotLemmas.{deps_deep, slice_get-below_some}
+use Rattle.redo_core.proofs.SlotLemmas.{deps_deep}
+use Rattle.std.proofs.lemmas.Option.{slice_get_within}
 use Rattle.redo_core.proofs.SlotLemmas.{slot_entries-set}
-use Rattle.redo_core.proofs.TableLemmas.{fits-set, only-alike, outcomes-kept}
+use Rattle.redo_core.proofs.TableLemmas.{fits-set, outcomes-kept}
 
 -- entering behind entries of which one is replaced
 put-append : (es : List Entry) (y z : Entry) → IsAmong (paths_of es) y.path → put es y ++ z ∷ [] ≡ put (es ++ z ∷ []) y
@@ -53,14 +55,6 @@ put-append (x ∷ es) y z m = elim (cases_Bool (bytes_eq x.path y.path)) [
     | inr later ↦ rw f (ap (λ xs. x ∷ xs) (put-append es y z later))
   ]
 ]
-
-among-push : (ps : List (List ℕ)) (p q : List ℕ) → IsAmong ps q → IsAmong (ps ++ p ∷ []) q
-among-push [] p q m = absurd m
-among-push (x ∷ ps) p q m = elim m [ inl here ↦ inl here | inr later ↦ inr (among-push ps p q later) ]
-
-paths-push : (es : List Entry) (z : Entry) → paths_of (es ++ z ∷ []) ≡ paths_of es ++ z.path ∷ []
-paths-push [] z = refl
-paths-push (x ∷ es) z = ap (λ ps. x.path ∷ ps) (paths-push es z)
 
 pub entered-put : (r : Rules) (es : List Entry) (y : Entry) (ps : List (List ℕ)) → IsAmong (paths_of es) y.path →
     entered r (put es y) ps ≡ put (entered r es ps) y
@@ -74,7 +68,7 @@ entered-put r es y (p ∷ ps) m =
       | inr f ↦
           let f' : is_among (paths_of (put es y)) p ≡ false = (let Q : List (List ℕ) → Type 0 = λ qs. P qs false in subst Q (sym (paths_of-put es y)) f) in
           let still : IsAmong (paths_of (es ++ new_entry r p ∷ [])) y.path =
-          (let A : List (List ℕ) → Type 0 = λ qs. IsAmong qs y.path in subst A (sym (paths-push es (new_entry r p))) (among-push (paths_of es) (new_entry r p).path y.path m)) in
+          (let A : List (List ℕ) → Type 0 = λ qs. IsAmong qs y.path in subst A (sym (paths_of-push es (new_entry r p))) (IsAmong-left (paths_of es) ((new_entry r p).path ∷ []) y.path m)) in
           rw (f, f') (ap (λ xs. entered r xs ps) (put-append es y (new_entry r p) m) ∙ entered-put r (es ++ new_entry r p ∷ []) y ps still)
     ]
 
@@ -148,7 +142,7 @@ module _ (given : GivenView) (u : Table) (at : ℕ) (held : Box InCheck Global) 
   there = sym (ap (λ (v : Vec Slot Global). slice_get v.items at) may.is_drawn.slots) ∙ may.taken.there
 
   below : at < length may.whole.slots.items
-  below = slice_get-below_some w.slots.items at old there
+  below = slice_get_within w.slots.items at old there
 
   pub look-key : slice_get may.whole.targets at ≡ Some (path_at may.whole.targets at)
   look-key = path-there given w w.schedule.stages rest.table at old there
@@ -295,7 +289,7 @@ module _ (given : GivenView) (u : Table) (at : ℕ) (held : Box InCheck Global) 
   pub look-now : advanced (rules_for given) (table_entries given u) (sent_out (slot_entry (rules_for given) (outcomes_at_limit given) (path_at may.whole.targets at) may.taken.old)) ≡
       advanced (rules_for given) (table_entries given may.whole) (slot_entry (rules_for given) (outcomes_at_limit given) (path_at may.whole.targets at) may.taken.old)
   look-now = (lawful.each p).local (only (operands rl e.deps) (outcomes_of (table_entries given u))) (only (operands rl e.deps) (outcomes_of ew))
-      (λ q m. only-alike (operands rl e.deps) (outcomes_of (table_entries given u)) (outcomes_of ew) (λ x n. look-outcomes x) q)
+      (λ q m. only-same (operands rl e.deps) (outcomes_of (table_entries given u)) (outcomes_of ew) (λ x n. look-outcomes x) q)
 
   abbrev now : Progress
   now = advanced (rules_for given) (table_entries given may.whole) (slot_entry (rules_for given) (outcomes_at_limit given) (path_at may.whole.targets at) may.taken.old)
@@ -337,7 +331,7 @@ module _ (given : GivenView) (u : Table) (at : ℕ) (held : Box InCheck Global) 
   pub look-reached : IsReached (rules_for given) given.request (state_after given Check u at)
   look-reached =
       let P : State → Type 0 = IsReached rl given.request in
-      subst P (sym (look-is ∙ look-happens)) (Rattle.redo_core.proofs.TakeLemmas.reached-more rl given.request sw (Look p) rest.reached look-open)
+      subst P (sym (look-is ∙ look-happens)) (Rattle.redo_build.proofs.ReachedLemmas.reached-more rl given.request sw (Look p) rest.reached look-open)
 
   pub look-many : given.limits.targets < length (state_after given Check u at).entries → IsTooMany (rules_for given) given.request given.limits.targets
   look-many many = (is_part rl lawful given.request (state_after given Check u at) look-sound lim).too_many many

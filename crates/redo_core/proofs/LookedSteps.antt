@@ -1,5 +1,5 @@
 -- What a look comes to: the target is kept, or its check asks for the next path.
-use Rattle.std.proofs.Common.{map, slice_get, ◌≡◌, ℕ, ◌+◌, ◌<◌, false, ◌⊎◌, inl, inr, List, [], ◌∷◌, ◌++◌, length}
+use Rattle.std.proofs.Common.{map, slice_get, ◌≡◌, ℕ, ◌+◌, ◌<◌, false, ◌⊎◌, inl, inr, List, [], ◌∷◌, length}
 use Rattle.std.proofs.Common.{Some, None, refl, sym, ap, subst, ◌∙◌, Global}
 use Rattle.std.specs.Prelude.{Box, ◌&&◌}
 use Rattle.std.proofs.lemmas.Bool.{cases_Bool, both_ways, and_right}
@@ -15,7 +15,7 @@ use Rattle.redo_build.specs.Schedule.{Entry, advanced, entered, moved_on, only, 
 use Rattle.redo_build.specs.Schedule.Phase.{Check as In_check}
 use Rattle.redo_build.specs.inside.Standing.{AreStanding}
 use Rattle.redo_build.proofs.DepthLemmas.{cases_Option, ended_stays, operand-target}
-use Rattle.redo_build.proofs.PathLemmas.{is_among-true, is_among-from}
+use Rattle.redo_build.proofs.PathLemmas.{IsAmong-append, IsAmong-left, is_among-true, is_among-from}
 use Rattle.redo_build.proofs.TurnLemmas.{only-Extends, only-among, Extends-trans'}
 use Rattle.redo_skip.specs.Checks.{built, shown}
 use Rattle.redo_tree.specs.Tree.{file_at}
@@ -40,7 +40,7 @@ use Rattle.redo_core.proofs.PutSteps.{asked-table, put-entries, put-none_in_hand
 use Rattle.redo_core.proofs.ConcludeSteps.{conclude-may, conclude-put}
 use Rattle.redo_core.proofs.EnteredLemmas.{entered-distinct, entered-in_hand, entered-known, entered-number, entered-out, entered-path}
 use Rattle.redo_core.proofs.EntryLemmas.{entry-paths}
-use Rattle.redo_core.proofs.LookedLemmas.{length-put}
+use Rattle.redo_build.proofs.SeenLemmas.{length-put}
 use Rattle.redo_core.proofs.TakeInLemmas.{all-entered}
 use Rattle.redo_core.proofs.LookSteps.{fits, look-after_entries, look-alone, look-deep, look-distinct, look-known, look-out}
 use Rattle.redo_core.proofs.LookSteps.{look-outcomes, look-path, look-seen, look-sound, look-table, look-there}
@@ -52,27 +52,16 @@ entry-cases r ds d x m = elim (cases_Bool (is_entered ds d.kind d.path)) [
   | inl t ↦ inl (rw t at m)
   | inr f ↦
       let A : List (List ℕ) → Type 0 = λ qs. IsAmong qs x in
-      append-cases (operands r ds) (operands r (d ∷ [])) x (subst A (operands-append r ds (d ∷ [])) (rw f at m))
+      IsAmong-append (operands r ds) (operands r (d ∷ [])) x (subst A (operands-append r ds (d ∷ [])) (rw f at m))
 ]
-  where
-    append-cases : (ps qs : List (List ℕ)) (y : List ℕ) → IsAmong (ps ++ qs) y → IsAmong ps y ⊎ IsAmong qs y
-    append-cases [] qs y n = inr n
-    append-cases (z ∷ ps) qs y n = elim n [
-      | inl here ↦ inl (inl here)
-      | inr later ↦ elim (append-cases ps qs y later) [ inl l ↦ inl (inr l) | inr k ↦ inr k ]
-    ]
 
 entry-keeps : (r : Rules) (ds : List Dep) (d : Dep) (x : List ℕ) → IsAmong (operands r ds) x → IsAmong (operands r (with_entry ds d.kind d.path)) x
 entry-keeps r ds d x m = elim (cases_Bool (is_entered ds d.kind d.path)) [
   | inl t ↦ rw t m
   | inr f ↦
       let A : List (List ℕ) → Type 0 = λ qs. IsAmong qs x in
-      rw f (subst A (sym (operands-append r ds (d ∷ []))) (append-left (operands r ds) (operands r (d ∷ [])) x m))
+      rw f (subst A (sym (operands-append r ds (d ∷ []))) (IsAmong-left (operands r ds) (operands r (d ∷ [])) x m))
 ]
-  where
-    append-left : (ps qs : List (List ℕ)) (y : List ℕ) → IsAmong ps y → IsAmong (ps ++ qs) y
-    append-left [] qs y n = absurd n
-    append-left (z ∷ ps) qs y n = elim n [ inl here ↦ inl here | inr later ↦ inr (append-left ps qs y later) ]
 
 module _ (given : GivenView) (u : Table) (at : ℕ) (held : Box InCheck Global) (may : MayLook given u at held) where
   abbrev r : Rules

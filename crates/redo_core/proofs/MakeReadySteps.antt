@@ -33,7 +33,8 @@ use Rattle.redo_build.proofs.PathLemmas.{is_among-true}
 use Rattle.redo_build.proofs.DepthLemmas.{cases_Option, operand-target}
 use Rattle.redo_core.proofs.JobLemmas.{asked_of_job, asked_by_job}
 use Rattle.redo_build.proofs.TurnLemmas.{only-among}
-use Rattle.redo_core.proofs.SlotLemmas.{entry_of-slots, slice_get-below_some}
+use Rattle.redo_core.proofs.SlotLemmas.{entry_of-slots}
+use Rattle.std.proofs.lemmas.Option.{slice_get_within}
 use Rattle.redo_core.proofs.TableLemmas.{get-set_cases}
 use Rattle.redo_table.proofs.TargetLemmas.{get-other}
 use Rattle.redo_core.proofs.TableSteps.{waited-declared, waited-place}
@@ -155,7 +156,7 @@ module _ (given : GivenView) (t : Table) (at : ℕ) (on : List ℕ) (slot : Slot
           let known = fact-known number.0 q fact.0 number.2 there in
           let target : List ℕ = fact.0.value.target in
           let lost : told_in facts target ≡ None = ap (told_in facts) known.0 ∙ none in
-          g.known place.0 number.0 fact.0 (slice_get-below_some on place.0 number.0 number.1) number.1 there lost
+          g.known place.0 number.0 fact.0 (slice_get_within on place.0 number.0 number.1) number.1 there lost
 
       -- and all that the check did
       complete : (q : List ℕ) → IsAmong (operands (rules_for given) (all_asked begun.value.job begun.value.facts)) q → told_in facts q ≡ None → ⊥

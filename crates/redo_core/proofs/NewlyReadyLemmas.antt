@@ -30,7 +30,8 @@ use Rattle.redo_build.proofs.PathLemmas.{is_among-true, is_among-from, IsAmong-s
 use Rattle.redo_build.proofs.QueueLemmas.{slice_get-among}
 use Rattle.redo_build.proofs.SoundLemmas.{may_run-parts, lacks_none-true}
 use Rattle.redo_core.proofs.EntryLemmas.{path-below}
-use Rattle.redo_core.proofs.SlotLemmas.{length-slots, slice_get-below_some, ready-job}
+use Rattle.redo_core.proofs.SlotLemmas.{length-slots, ready-job}
+use Rattle.std.proofs.lemmas.Option.{slice_get_within}
 use Rattle.redo_core.proofs.PlaceLemmas.{AscendFrom, IsPlace, filter-places, place-times, times-place}
 use Rattle.redo_record.specs.declared.deps.Dep.{Dep}
 
@@ -89,7 +90,7 @@ module _ (given : GivenView) (t : Table) (more : List ℕ) (table : IsTableOf gi
 
   -- a number with a stage is one of a slot
   staged-below : (k : ℕ) → stage_at t.schedule k ≡ Some AtReady → k < length t.slots.items
-  staged-below k h = omega (arith, slice_get-below_some t.schedule.stages k AtReady h, table.agreed.one_each)
+  staged-below k h = omega (arith, slice_get_within t.schedule.stages k AtReady h, table.agreed.one_each)
 
   make_ready-there : (i : ℕ) (e : Entry) → slice_get s.entries i ≡ Some e → 0 < times i more → may_run (rules_for given) s e ≡ true
   make_ready-there i e h m =

@@ -1,6 +1,5 @@
 -- Numbers of paths.
-use Rattle.std.proofs.Common.{slice_get, ◌≡◌, ℕ, zero, suc, inl, inr, List, [], ◌∷◌, ◌++◌, Some, refl, ap, subst}
-use Rattle.redo_record.specs.Paths.{IsAmong}
+use Rattle.std.proofs.Common.{slice_get, ◌≡◌, ℕ, zero, suc, List, [], ◌∷◌, ◌++◌, Some, refl, subst}
 use Rattle.redo_build.specs.Rules.{Rules}
 use Rattle.redo_table.specs.Schedule.{StageView}
 use Rattle.redo_core.specs.inside.Slots.{Agrees, AreNumbers}
@@ -45,10 +44,3 @@ module _ (ps : List (List ℕ)) where
     agrees-kept r (Checking awaiting) s h = (h.0, h.1, kept h.0 awaiting.path h.2)
     agrees-kept r (Waiting begun) s h = (h.0, h.1, numbers-kept h.0 (waited_by r begun.value) h.2)
     agrees-kept r _ s h = h
-
-pub among-place : (qs : List (List ℕ)) (q : List ℕ) → IsAmong qs q → (k : ℕ) × (slice_get qs k ≡ Some q)
-among-place [] q m = absurd m
-among-place (x ∷ qs) q m = elim m [
-  | inl here ↦ (zero, ap Some here)
-  | inr later ↦ let found = among-place qs q later in (suc found.0, found.1)
-]

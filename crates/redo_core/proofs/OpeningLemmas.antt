@@ -22,7 +22,7 @@ use Rattle.redo_table.specs.Schedule.StageView.{Due as AtDue, Ready as AtReady, 
 use Rattle.redo_core.specs.inside.Slots.{IsKept, table_entries, table_state, targets_in}
 use Rattle.redo_core.specs.inside.Slots.{AreEnteredInto, AreEnqueued, IsFirstTable, IsLookedOn, rules_inside, state_of}
 use Rattle.redo_core.proofs.LookLemmas.{none_due}
-use Rattle.redo_core.proofs.LookedLemmas.{looked-left, looked-longer}
+use Rattle.redo_build.proofs.LookedLemmas.{looked-left, looked-longer}
 use Rattle.redo_core.specs.declared.table.Table.{Table}
 use Rattle.redo_build.proofs.PathLemmas.{is_among-true, with_new-second}
 use Rattle.redo_build.proofs.SeenLemmas.{paths_of-entered, entered-longer}

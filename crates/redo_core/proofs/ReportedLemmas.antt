@@ -1,5 +1,5 @@
 -- A quiet board's table makes the report of its build.
-use Rattle.std.proofs.Common.{◌≡◌, ℕ, Bool, ◌&&◌, zero, suc, ◌<◌, true, false, ◌⊎◌, inl, inr, List, [], ◌∷◌, length, map}
+use Rattle.std.proofs.Common.{◌≡◌, ℕ, Bool, ◌&&◌, zero, suc, ◌<◌, true, false, inl, inr, List, [], ◌∷◌, length, map}
 use Rattle.std.proofs.Common.{filter, Option, Some, None, IsNone, Result, Ok, Err, IfOk, is_some, slice_get, refl, sym}
 use Rattle.std.proofs.Common.{ap, subst, ◌∙◌, arith}
 use Rattle.std.specs.Arc.{arc_value}
@@ -12,7 +12,7 @@ use Rattle.redo_record.specs.declared.outcome.Outcome.TheVariants.{Built, Cyclic
 use Rattle.redo_rules.specs.Build.{GivenView, rules_for}
 use Rattle.redo_build.specs.Outcomes.{outcome_at, needed_at, final_outcome, record_of}
 use Rattle.redo_record.specs.Paths.{IsAmong, AreDistinct}
-use Rattle.redo_core.specs.inside.Reported.{reported_paths, placed, sources_among, row_files, row_begun}
+use Rattle.redo_core.specs.inside.Reported.{row_files, row_begun}
 use Rattle.redo_core.specs.inside.Reported.{IsTold, AllTold, IsTargetRow, IsSourceRow, IsRowOf, IsReportOf}
 use Rattle.redo_core.specs.inside.Reported.{is_settled, AllSettled}
 use Rattle.redo_report.specs.Reports.{AreAscending, IsReport, row_paths, deps_of}
@@ -36,12 +36,10 @@ use Rattle.redo_core.specs.declared.table.Stage.{Stage}
 use Rattle.redo_core.specs.declared.table.Stage.TheVariants.{Due, Checking, Waiting, Ready, Out}
 use Rattle.redo_core.specs.declared.table.Table.{Table}
 use Rattle.redo_core.proofs.CheckingLemmas.{number-within}
-use Rattle.redo_core.proofs.OrderLemmas.{AreSorted, sorted-ascending, placed-sorted, placed-from}
-use Rattle.redo_core.proofs.OrderLemmas.{placed-first, placed-second}
-use Rattle.redo_build.proofs.PathLemmas.{filter-from, filter-passes}
+use Rattle.redo_core.proofs.OrderLemmas.{AreSorted, ascending-sorted, sorted-ascending}
 use Rattle.redo_build.proofs.QueueLemmas.{slice_get-among}
-use Rattle.redo_build.proofs.QueueLemmas.{filter-keeps}
-use Rattle.redo_core.proofs.RowLemmas.{IsItem, item-contained, contained-item, all_rows, of_item, path_row, row_path}
+use Rattle.redo_past.proofs.ItemLemmas.{IsItem, item-contained, contained-item, of-item}
+use Rattle.redo_core.proofs.RowLemmas.{all_rows, path_row, row_path}
 use Rattle.redo_core.proofs.RowLemmas.{begun-from, begun-sorted, begun-to, file_row, files_sorted, row_file}
 use Rattle.redo_core.proofs.RowLemmas.{rows-all}
 use Rattle.redo_core.proofs.ShownLemmas.{IsOfBuild, LacksOne, stage-shown}
@@ -77,19 +75,6 @@ module _ (given : GivenView) (t : Table) (s : State)
 
   needed-key : (p : List ℕ) → IsAmong (needed_at (rules_for given) given.request given.limits.targets) p → IsAmong t.targets p
   needed-key p m = let P : List (List ℕ) → Type 0 = λ ps. IsAmong ps p in subst P keys ((shows.members p).1 m)
-
-  -- a reported path is a needed target or a requested source
-  reported-from : (p : List ℕ) → IsAmong (reported_paths given.past.sources given.request t) p → IsAmong t.targets p ⊎ (IsAmong given.request p × (is_some (file_at given.past.sources p) ≡ true))
-  reported-from p m = elim (placed-from (placed [] t.targets) (sources_among given.past.sources given.request) p m) [
-    | inl first ↦ elim (placed-from [] t.targets p first) [ inl none ↦ absurd none | inr key ↦ inl key ]
-    | inr source ↦ inr (filter-from (λ q. is_some (file_at given.past.sources q)) given.request p source, filter-passes (λ q. is_some (file_at given.past.sources q)) given.request p source)
-  ]
-
-  reported-key : (p : List ℕ) → IsAmong t.targets p → IsAmong (reported_paths given.past.sources given.request t) p
-  reported-key p m = placed-first (placed [] t.targets) (sources_among given.past.sources given.request) p (placed-second [] t.targets p m)
-
-  reported-source : (p : List ℕ) → IsAmong given.request p → is_some (file_at given.past.sources p) ≡ true → IsAmong (reported_paths given.past.sources given.request t) p
-  reported-source p m source = placed-second (placed [] t.targets) (sources_among given.past.sources given.request) p (filter-keeps (λ q. is_some (file_at given.past.sources q)) given.request p m source)
 
   abbrev IsRight : Row → Type 0
   IsRight row = (row.outcome ≡ final_outcome (rules_for given) given.limits.targets row.path) × (arc_value row.deps ≡ deps_of (rules_for given) given.limits.targets row.path)
@@ -157,29 +142,20 @@ module _ (given : GivenView) (t : Table) (s : State)
   row-begun row is bit (inr other) = absurd (other.absent (needed-key row.path is.0))
 
   module _ (report : Report) (made : IsReportOf given t report) where
-    row-reported : (row : Row) → IsItem report.rows.items row → IsAmong (reported_paths given.past.sources given.request t) row.path
-    row-reported row m = let P : List (List ℕ) → Type 0 = λ ps. IsAmong ps row.path in subst P made.paths (row_path report.rows.items row m)
-
-    reported-row : (p : List ℕ) → IsAmong (reported_paths given.past.sources given.request t) p → IsAmong (row_paths report) p
-    reported-row p m = let P : List (List ℕ) → Type 0 = λ ps. IsAmong ps p in subst P (sym made.paths) m
-
-    row-cases : (p : List ℕ) → IsAmong (row_paths report) p → IsAmong t.targets p ⊎ (IsAmong given.request p × (is_some (file_at given.past.sources p) ≡ true))
-    row-cases p m = reported-from p (let P : List (List ℕ) → Type 0 = λ ps. IsAmong ps p in subst P made.paths m)
-
     right : AllByRecursion IsRight report.rows.items
     right = rows-all given t IsRight report.rows.items made.bits made.rows (λ row bit m is. elim is [
       | inl target ↦ target-right row bit target
-      | inr other ↦ elim (reported-from row.path (row-reported row m)) [
+      | inr other ↦ elim ((made.paths.members row.path).0 (row_path report.rows.items row m)) [
         | inl key ↦ absurd (other.absent key)
         | inr source ↦ source-right row bit source.1 other
       ]
     ])
 
     right-row : (row : Row) → IsItem report.rows.items row → IsRight row
-    right-row row m = of_item IsRight report.rows.items row right m
+    right-row row m = of-item IsRight report.rows.items row right m
 
     built-needed : (p bytes : List ℕ) → IsAmong (row_paths report) p → final_outcome (rules_for given) given.limits.targets p ≡ Built (Some bytes) → IsAmong (needed_at (rules_for given) given.request given.limits.targets) p
-    built-needed p bytes m built = elim (row-cases p m) [
+    built-needed p bytes m built = elim ((made.paths.members p).0 m) [
       | inl key ↦ key-needed p key
       | inr source ↦
           let is : final_outcome r given.limits.targets p ≡ Is_source = ap (λ (o : Option Outcome). unwrap_or o Cyclic) (source-outcome r given.limits.targets p source.1) in
@@ -200,13 +176,13 @@ module _ (given : GivenView) (t : Table) (s : State)
 
     file-to : (p bytes : List ℕ) → IsAmong (needed_at (rules_for given) given.request given.limits.targets) p → final_outcome (rules_for given) given.limits.targets p ≡ Built (Some bytes) → IsItem (row_files report.rows.items) (p, bytes)
     file-to p bytes m built =
-        let found = path_row report.rows.items p (reported-row p (reported-key p (needed-key p m))) in
+        let found = path_row report.rows.items p ((made.paths.members p).1 (inl (needed-key p m))) in
         let is : found.0.outcome ≡ Built (Some bytes) = (right-row found.0 found.1).0 ∙ ap (final_outcome r given.limits.targets) found.2 ∙ built in
         let P : List ℕ → Type 0 = λ x. IsItem (row_files report.rows.items) (x, bytes) in
         subst P found.2 (row_file report.rows.items found.0 bytes found.1 is)
 
     sorted : AreSorted (row_paths report)
-    sorted = let P : List (List ℕ) → Type 0 = AreSorted in subst P (sym made.paths) (placed-sorted (placed [] t.targets) (sources_among given.past.sources given.request) (placed-sorted [] t.targets tt))
+    sorted = ascending-sorted (row_paths report) made.paths.ordered
 
     pub is-report : IsReport (rules_for given) given.request given.limits.targets report
     is-report =
@@ -215,8 +191,8 @@ module _ (given : GivenView) (t : Table) (s : State)
         record {
           within = shows.within;
           rows = λ p. (
-            λ m. elim (row-cases p m) [ inl key ↦ inl (key-needed p key) | inr source ↦ inr source ],
-            λ m. elim m [ inl needed ↦ reported-row p (reported-key p (needed-key p needed)) | inr source ↦ reported-row p (reported-source p source.0 source.1) ],
+            λ m. elim ((made.paths.members p).0 m) [ inl key ↦ inl (key-needed p key) | inr source ↦ inr source ],
+            λ m. (made.paths.members p).1 (elim m [ inl needed ↦ inl (needed-key p needed) | inr source ↦ inr source ]),
           );
           outcomes = all_rows IsRight report.rows.items right;
           files = λ p bytes. (
@@ -233,12 +209,12 @@ module _ (given : GivenView) (t : Table) (s : State)
                 begun-from given t IsBegunPath report.rows.items made.bits made.rows (λ row i is. begun-row row is) p (subst G made.begun m),
             λ m.
                 let G : List (List ℕ) → Type 0 = λ ps. IsAmong ps p in
-                let found = path_row report.rows.items p (reported-row p (reported-key p (needed-key p m.0))) in
+                let found = path_row report.rows.items p ((made.paths.members p).1 (inl (needed-key p m.0))) in
                 let there : IsBegunPath found.0.path = subst IsBegunPath (sym found.2) m in
                 let H : List ℕ → Type 0 = λ x. IsAmong (row_begun report.rows.items made.bits) x in
                 subst G (sym made.begun) (subst H found.2 (begun-to given t report.rows.items made.bits made.rows found.0 found.1 (row-begun found.0 there))),
           );
-          rows_ordered = sorted-ascending (row_paths report) sorted;
+          rows_ordered = made.paths.ordered;
           files_ordered = subst A (sym made.files) (sorted-ascending (map (λ file. file.0) (row_files report.rows.items)) (files_sorted report.rows.items sorted));
           begun_ordered = subst B (sym made.begun) (sorted-ascending (row_begun report.rows.items made.bits) (begun-sorted report.rows.items made.bits sorted));
         }

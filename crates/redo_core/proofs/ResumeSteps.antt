@@ -36,7 +36,8 @@ use Rattle.redo_core.specs.declared.table.Stage.TheVariants.{Checking, Out}
 use Rattle.redo_core.specs.declared.table.Table.{Table}
 use Rattle.redo_core.proofs.CheckingLemmas.{behind-moves, number-within, waiting-asked}
 use Rattle.redo_core.proofs.SlotLemmas.{entry_of-slots}
-use Rattle.redo_core.proofs.TableLemmas.{answered-alike, only-alike}
+use Rattle.redo_core.proofs.TableLemmas.{answered-alike}
+use Rattle.redo_build.proofs.SoundLemmas.{only-same}
 use Rattle.redo_core.proofs.MakeReadySteps.{fact-kept, number-kept}
 
 module _ (given : GivenView) (t : Table) (at place : ℕ) (slot : Slot) (awaiting : Awaiting) where
@@ -188,7 +189,7 @@ module _ (given : GivenView) (t : Table) (at place : ℕ) (slot : Slot) (awaitin
               resumed-fallen = record {
                 is_found = found;
                 is_work = deep.0;
-                exact = λ q. exact-held q ∙ only-alike (operands r held.check.asked) a (outcome_at r deep.0.depth)
+                exact = λ q. exact-held q ∙ only-same (operands r held.check.asked) a (outcome_at r deep.0.depth)
                     (answered-alike r (lawful_for given) a (outcome_at r deep.0.depth) held.check.asked deep.1 answered-held) q;
                 behind = behind-moves given p held.check.asked a (told_in held.facts) behind-held
                     (λ q m. sym (exact-held q ∙ only-among (operands r held.check.asked) a q m));

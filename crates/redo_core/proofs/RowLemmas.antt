@@ -1,6 +1,6 @@
 -- What the rows of a report say together, and their paths in order.
-use Rattle.std.proofs.Common.{◌≡◌, ℕ, zero, suc, ◌<◌, Bool, true, false, ◌⊎◌, inl, inr, List, [], ◌∷◌, ◌++◌, length}
-use Rattle.std.proofs.Common.{map, if◌then◌else◌, Some, refl, sym, ap, subst, ◌∙◌, arith}
+use Rattle.std.proofs.Common.{◌≡◌, ℕ, Bool, true, false, ◌⊎◌, inl, inr, List, [], ◌∷◌, ◌++◌}
+use Rattle.std.proofs.Common.{map, if◌then◌else◌, Some, refl, sym, ap, subst, ◌∙◌}
 use Rattle.std.proofs.lemmas.Bool.{cases_Bool}
 use Rattle.std.proofs.lemmas.Grind.{flat_map-append}
 use Rattle.std.proofs.lemmas.List.{append-nil, append_assoc}
@@ -13,46 +13,26 @@ use Rattle.std.specs.Cmp.Lexicographic.{on_texts, slice_cmp}
 use Rattle.std.specs.List.{AllByRecursion, dedup, dedup_from}
 use Rattle.std.specs.List.Sorted.{IsPermutation, IsSorted, IsStrictlySortedBy}
 use Rattle.std.specs.Ordering.{nat_cmp, eq_by_cmp}
-use Rattle.std.specs.Prelude.{All, Contains, slice_index_or}
+use Rattle.std.specs.Prelude.{All, ◌↔◌, is_some}
 use Rattle.std.specs.declared.cmp.Ordering.{Ordering}
 use Rattle.std.specs.declared.cmp.Ordering.TheVariants.{Less}
 use Rattle.redo_record.specs.declared.outcome.Outcome.{Outcome}
 use Rattle.redo_record.specs.declared.outcome.Outcome.TheVariants.{Built}
 use Rattle.redo_record.specs.Paths.{IsAmong}
 use Rattle.redo_core.specs.declared.table.Table.{Table}
-use Rattle.redo_core.specs.inside.Reported.{AreRowsOf, IsRowOf, file_of, placed, row_files, row_begun}
+use Rattle.redo_core.specs.inside.Reported.{AreRowsOf, IsRowOf, file_of, row_files, row_begun, sources_among}
 use Rattle.redo_report.specs.declared.report.Row.{Row}
 use Rattle.redo_rules.specs.Build.{GivenView}
-use Rattle.redo_core.proofs.OrderLemmas.{IsBefore, AreSorted, placed-from, placed-second, placed-sorted, sorted-unique}
+use Rattle.redo_core.proofs.OrderLemmas.{IsBefore, AreSorted, sorted-ascending}
+use Rattle.redo_build.proofs.PathLemmas.{IsAmong-append, IsAmong-left, IsAmong-right, filter-from, filter-passes}
+use Rattle.redo_build.proofs.QueueLemmas.{filter-keeps}
+use Rattle.redo_past.proofs.ItemLemmas.{IsItem, contained-item, item-contained}
+use Rattle.redo_report.specs.Reports.{AreAscending}
+use Rattle.redo_tree.specs.Tree.{Tree, file_at}
 
-module _ {X : Type 0} where
-  -- the item is one of these
-  abbrev pub IsItem : List X → X → Type 0
-  IsItem [] x = ⊥
-  IsItem (y ∷ ys) x = (y ≡ x) ⊎ IsItem ys x
-
-  pub item-contained : (xs : List X) (x : X) → IsItem xs x → Contains xs x
-  item-contained [] x m = absurd m
-  item-contained (y ∷ ys) x m = elim m [
-    | inl here ↦ (zero, omega arith, here)
-    | inr later ↦ let rest = item-contained ys x later in (suc rest.0, omega (arith, rest.1), rest.2)
-  ]
-
-  at-item : (xs : List X) (x : X) (k : ℕ) → k < length xs → slice_index_or xs k x ≡ x → IsItem xs x
-  at-item [] x k below e = absurd (omega arith)
-  at-item (y ∷ ys) x zero below e = inl e
-  at-item (y ∷ ys) x (suc k) below e = inr (at-item ys x k (omega (arith, below)) e)
-
-  pub contained-item : (xs : List X) (x : X) → Contains xs x → IsItem xs x
-  contained-item xs x c = at-item xs x c.0 c.1 c.2
-
-  pub all_rows : (P : X → Type 0) (xs : List X) → AllByRecursion P xs → All P xs
-  all_rows P [] h = All-nil P
-  all_rows P (x ∷ xs) h = All-cons P x xs h.0 (all_rows P xs h.1)
-
-  pub of_item : (P : X → Type 0) (xs : List X) (x : X) → AllByRecursion P xs → IsItem xs x → P x
-  of_item P [] x h m = absurd m
-  of_item P (y ∷ ys) x h m = elim m [ inl here ↦ subst P here h.0 | inr later ↦ of_item P ys x h.1 later ]
+pub all_rows : {X : Type 0} (P : X → Type 0) (xs : List X) → AllByRecursion P xs → All P xs
+all_rows P [] h = All-nil P
+all_rows P (x ∷ xs) h = All-cons P x xs h.0 (all_rows P xs h.1)
 
 pub path_row : (rows : List Row) (p : List ℕ) → IsAmong (map (λ row. row.path) rows) p → (row : Row) × IsItem rows row × (row.path ≡ p)
 path_row [] p m = absurd m
@@ -201,19 +181,34 @@ module _ {X : Type 0} (key : X → List ℕ) where
   same_key : (x y : X) → eq_by_cmp by_key x y ≡ true → key x ≡ key y
   same_key x y e = (bytes_eq-Decides (key x) (key y)).0 (sym (is_eq-slice_cmp (key x) (key y)) ∙ e)
 
-  -- what a sort by the keys leaves has them in path order, where doubles are passed over
-  pub listed-once : (same : X → X → Bool) → ((x y : X) → same x y ≡ eq_by_cmp by_key x y) → (xs ys : List X) → IsPermutation xs ys → IsSorted by_key ys →
-      map key (dedup same ys) ≡ placed [] (map key xs)
-  listed-once same ties xs ys permuted sorted =
-      let alike : (x y : X) → same x y ≡ true → key x ≡ key y = λ x y t. same_key x y (sym (ties x y) ∙ t) in
-      sorted-unique (map key (dedup same ys)) (placed [] (map key xs))
-      (keys-sorted (dedup same ys) (IsStrictlySortedBy-dedup (on_texts key) ties ys sorted))
-      (placed-sorted [] (map key xs) tt)
-      (λ p m. placed-second [] (map key xs) p (permuted-among ys xs p (IsPermutation-sym xs ys permuted) (keys-kept same alike ys p m)))
-      (λ p m. elim (placed-from [] (map key xs) p m) [
-        | inl none ↦ absurd none
-        | inr there ↦ kept-keys same alike ys p (permuted-among xs ys p permuted there)
-      ])
+  module _ (same : X → X → Bool) (ties : (x y : X) → same x y ≡ eq_by_cmp by_key x y) where
+    -- what a sort leaves without doubles has the same keys
+    pub listed-among : (xs ys : List X) → IsPermutation xs ys → (p : List ℕ) → IsAmong (map key (dedup same ys)) p ↔ IsAmong (map key xs) p
+    listed-among xs ys permuted p =
+        let alike : (x y : X) → same x y ≡ true → key x ≡ key y = λ x y t. same_key x y (sym (ties x y) ∙ t) in (
+          λ m. permuted-among ys xs p (IsPermutation-sym xs ys permuted) (keys-kept same alike ys p m),
+          λ m. kept-keys same alike ys p (permuted-among xs ys p permuted m),
+        )
+
+    -- and has them in path order
+    pub listed-ascending : (ys : List X) → IsSorted by_key ys → AreAscending (map key (dedup same ys))
+    listed-ascending ys sorted =
+        sorted-ascending (map key (dedup same ys)) (keys-sorted (dedup same ys) (IsStrictlySortedBy-dedup (on_texts key) ties ys sorted))
+
+-- the targets and the sources among these are those that a report has
+pub reported-from : (tree : Tree) (request targets : List (List ℕ)) (p : List ℕ) → IsAmong (targets ++ sources_among tree request) p →
+    IsAmong targets p ⊎ (IsAmong request p × (is_some (file_at tree p) ≡ true))
+reported-from tree request targets p m = elim (IsAmong-append targets (sources_among tree request) p m) [
+  | inl target ↦ inl target
+  | inr source ↦ let f : List ℕ → Bool = λ q. is_some (file_at tree q) in inr (filter-from f request p source, filter-passes f request p source)
+]
+
+pub reported-to : (tree : Tree) (request targets : List (List ℕ)) (p : List ℕ) → IsAmong targets p ⊎ (IsAmong request p × (is_some (file_at tree p) ≡ true)) →
+    IsAmong (targets ++ sources_among tree request) p
+reported-to tree request targets p m = elim m [
+  | inl target ↦ IsAmong-left targets (sources_among tree request) p target
+  | inr source ↦ IsAmong-right targets (sources_among tree request) p (filter-keeps (λ q. is_some (file_at tree q)) request p source.0 source.1)
+]
 
 -- Files
 

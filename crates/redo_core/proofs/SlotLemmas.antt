@@ -1,6 +1,6 @@
 -- How the slots stand for the entries.
-use Rattle.std.proofs.Common.{map, remove, slice_get, slice_set, slice_index_or, option_and_then, ◌≡◌, ℕ, zero, suc}
-use Rattle.std.proofs.Common.{◌<◌, ◌≤◌, true, false, inl, inr, List, [], ◌∷◌, length, filter, Option, Some, None}
+use Rattle.std.proofs.Common.{map, remove, slice_get, slice_set, option_and_then, ◌≡◌, ℕ, zero, suc}
+use Rattle.std.proofs.Common.{◌≤◌, true, false, inl, inr, List, [], ◌∷◌, length, filter, Option, Some, None}
 use Rattle.std.proofs.Common.{is_some, IsNone, rules, refl, sym, ap, subst, ◌∙◌, arith, bytes_eq}
 use Rattle.std.specs.Prelude.{count_by}
 use Rattle.std.proofs.lemmas.Bool.{cases_Bool}
@@ -120,16 +120,6 @@ slice_get-map f [] i x h = cc
 slice_get-map f (y ∷ xs) zero x h = let is : y ≡ x = cc in ap (λ z. Some (f z)) is
 slice_get-map f (y ∷ xs) (suc i) x h = slice_get-map f xs i x h
 
-pub slice_get-item : {A : Type 0} (xs : List A) (i : ℕ) (x : A) → i < length xs → x ≡ slice_index_or xs i x → slice_get xs i ≡ Some x
-slice_get-item [] i x h e = absurd (omega arith)
-slice_get-item (y ∷ xs) zero x h e = ap Some (sym e)
-slice_get-item (y ∷ xs) (suc i) x h e = slice_get-item xs i x (omega arith) e
-
-pub slice_get-from : {A : Type 0} (xs : List A) (i : ℕ) → i < length xs → (x : A) × (slice_get xs i ≡ Some x)
-slice_get-from [] i h = absurd (omega arith)
-slice_get-from (y ∷ xs) zero h = (y, refl)
-slice_get-from (y ∷ xs) (suc i) h = slice_get-from xs i (omega arith)
-
 -- a ready slot has its job
 pub ready-job : (r : Rules) (a : Ask) (given : GivenView) (p : List ℕ) (turn : ℕ) (stage : Stage) → Fits r a given p turn stage →
     is_stage_ready stage ≡ true → (work : Work) × (stage ≡ Ready work) × IsParked given p turn work × AllAnswered r a work.deps ×
@@ -205,8 +195,3 @@ module _ (r : Rules) (lawful : AreLawful r) (n : ℕ) (request : List (List ℕ)
       (ap (λ es. record { entries = es; ready = map (path_at ps) (remove ready which) }) entries ∙
       ap (λ q. record { entries = put (slot_entries r (outcome_at r n) ps slots) (sent_out (slot_entry r (outcome_at r n) p slot)); ready = q })
       (map-remove (path_at ps) ready which)))
-
-pub slice_get-below_some : {A : Type 0} (xs : List A) (i : ℕ) (x : A) → slice_get xs i ≡ Some x → i < length xs
-slice_get-below_some [] i x h = cc
-slice_get-below_some (y ∷ xs) zero x h = omega arith
-slice_get-below_some (y ∷ xs) (suc i) x h = omega (arith, slice_get-below_some xs i x h)

@@ -1,4 +1,5 @@
 -- What changes of single slots keep.
+use Rattle.redo_build.proofs.SoundLemmas.{only-same}
 use Rattle.std.proofs.Common.{slice_get, slice_set, ◌≡◌, ℕ, zero, suc, ◌⊎◌, inl, inr, List, []}
 use Rattle.std.proofs.Common.{◌∷◌, Some, None, refl, sym, ap, subst, ◌∙◌, arith, bytes_eq}
 use Rattle.std.proofs.lemmas.Bool.{cases_Bool, both_ways}
@@ -45,13 +46,6 @@ answered-alike r lawful a b ds more all q m = elim (cases_Option (a q)) [
 pub answered-more : (r : Rules) (lawful : AreLawful r) (a b : Ask) (ds : List Dep) → Extends r a b → AllAnswered r a ds → AllAnswered r b ds
 answered-more r lawful a b ds more all q m none = all q m (answered-alike r lawful a b ds more all q m ∙ none)
 
--- where two asks tell alike of some paths, they do so of those alone
-pub only-alike : (qs : List (List ℕ)) (a b : Ask) → ((q : List ℕ) → IsAmong qs q → a q ≡ b q) → (q : List ℕ) → only qs a q ≡ only qs b q
-only-alike qs a b alike q = elim (cases_Bool (is_among qs q)) [
-  | inl t ↦ rw t (alike q (is_among-true qs q t))
-  | inr f ↦ rw f refl
-]
-
 pub Fits-more : (given : GivenView) (a b : Ask) (p : List ℕ) (turn : ℕ) (stage : Stage) → Extends (rules_for given) a b →
     Fits (rules_for given) a given p turn stage → Fits (rules_for given) b given p turn stage
 Fits-more given a b p turn (Due held) more h =
@@ -62,7 +56,7 @@ Fits-more given a b p turn (Due held) more h =
       is_held = h.is_held;
       is_due = due-moves given p a b held.value.check h.is_due alike;
       answered = answered-more r lawful a b held.value.check.asked more h.answered;
-      exact = λ q. h.exact q ∙ only-alike (operands r held.value.check.asked) a b alike q;
+      exact = λ q. h.exact q ∙ only-same (operands r held.value.check.asked) a b alike q;
     }
 Fits-more given a b p turn (Checking awaiting) more h =
     let r = rules_for given in
@@ -102,7 +96,7 @@ Fits-more given a b p turn (Ready work) more h =
     let lawful = lawful_for given in
     let qs = operands r work.deps in
     let alike = answered-alike r lawful a b work.deps more h.1 in
-    let here : Extends r (only qs a) (only qs b) = λ q o source some. sym (only-alike qs a b alike q) ∙ some in
+    let here : Extends r (only qs a) (only qs b) = λ q o source some. sym (only-same qs a b alike q) ∙ some in
     (h.0, answered-more r lawful a b work.deps more h.1, lawful.begins_stays p (only qs a) (only qs b) here h.2)
 Fits-more given a b p turn _ more h = h
 

@@ -25,7 +25,8 @@ use Rattle.redo_build.proofs.HandoverLemmas.{taken-work, taken-deep}
 use Rattle.redo_build.specs.inside.Turns.{IsWork}
 use Rattle.redo_build.proofs.DepthLemmas.{cases_Option}
 use Rattle.redo_core.proofs.AgreeLemmas.{agreed-set}
-use Rattle.redo_core.proofs.NumberLemmas.{numbers-path, among-place}
+use Rattle.redo_core.proofs.NumberLemmas.{numbers-path}
+use Rattle.redo_names.proofs.PathLemmas.{among-place}
 use Rattle.redo_core.proofs.AllAskedLemmas.{asked-cases, asked-second, first-alike, told-alike}
 use Rattle.redo_core.proofs.TableLemmas.{fits-set}
 use Rattle.redo_core.proofs.JobLemmas.{asked_of_job, asked_by_job}

@@ -54,8 +54,8 @@ use Rattle.redo_build.proofs.HandoverLemmas.{looks_agree, piece-advanced}
 use Rattle.redo_core.proofs.ConcludeSteps.{conclude-may, conclude-put}
 use Rattle.redo_core.proofs.EnteredLemmas.{entered-distinct, entered-in_hand, entered-known, entered-number, entered-out, entered-path}
 use Rattle.redo_core.proofs.EntryLemmas.{entry-there, known-deep, rest-distinct, rest-sound, rounds-few}
-use Rattle.redo_core.proofs.LookedLemmas.{length-put}
-use Rattle.redo_core.proofs.SlotLemmas.{slice_get-below_some}
+use Rattle.redo_build.proofs.SeenLemmas.{length-put}
+use Rattle.std.proofs.lemmas.Option.{slice_get_within}
 use Rattle.redo_core.proofs.PutSteps.{put-entries, put-none_in_hand, parked-table}
 use Rattle.redo_core.proofs.EnterAllLemmas.{entered-append, entered-passed, entered-seen, operands-append}
 
@@ -160,7 +160,7 @@ module _ (given : GivenView) (t : Table) (at : ℕ) (end : End) (may : MayTakeIn
       ]
 
   small : at < 65536
-  small = omega (arith, slice_get-below_some t.slots.items at may.slot may.there, may.at_rest.table.within_limit, may.at_rest.table.few)
+  small = omega (arith, slice_get_within t.slots.items at may.slot may.there, may.at_rest.table.within_limit, may.at_rest.table.few)
 
   few-rounds : rounds_of may.slot < 65536
   few-rounds = rounds-few given t t.schedule.stages may.at_rest.table given.request sound.standing target e entry-at e-open e-fed

@@ -1,5 +1,5 @@
 -- What `take` finds on a board.
-use Rattle.std.proofs.Common.{Bool, true, false, not, suc, ◌++◌, map, Vec, Global, length-set, ◌≡◌, ℕ, ◌<◌}
+use Rattle.std.proofs.Common.{Bool, true, false, not, suc, map, Vec, Global, length-set, ◌≡◌, ℕ, ◌<◌}
 use Rattle.std.proofs.Common.{◌≤◌, true, false, cond, inl, inr, List, [], ◌∷◌, length, Option, Some, None}
 use Rattle.std.proofs.Common.{is_some, slice_get, slice_set, remove, refl, sym, ap, subst, ◌∙◌, arith}
 use Rattle.redo_build.specs.Rules.{Rules, operands, AreLawful}
@@ -10,10 +10,11 @@ use Rattle.redo_table.specs.Schedule.{StageView, ScheduleView, EachLacks, IsQueu
 use Rattle.redo_table.specs.Schedule.StageView.{Due as AtDue, Ready as AtReady, Out as AtOut, InHand as AtHand}
 use Rattle.redo_table.specs.Schedule.StageView.{Waiting as AtWaiting, Decided as AtDecided}
 use Rattle.redo_table.proofs.NumberLemmas.{at-other, times-taken}
-use Rattle.redo_table.proofs.TargetLemmas.{set-cases}
+use Rattle.redo_table.proofs.TargetLemmas.{set-cases, there-below}
 use Rattle.redo_core.proofs.AgreeLemmas.{agreed-set, agrees-ready}
 use Rattle.redo_build.proofs.QueueLemmas.{slice_get-among}
-use Rattle.redo_build.specs.Schedule.{Entry, State, Event, IsOpen, AllOpen, entry_of, opening, run, happens}
+use Rattle.redo_build.proofs.ReachedLemmas.{reached-more}
+use Rattle.redo_build.specs.Schedule.{IsReached, Entry, State, entry_of, happens}
 use Rattle.redo_build.specs.Schedule.{outcomes_of, only, IsQuiet}
 use Rattle.redo_build.specs.Schedule.Event.{Take}
 use Rattle.redo_core.specs.inside.Slots.{outcomes_at_limit, rounds_of, stage_outcome, rules_inside, state_of, state_from, slot_entry, path_at}
@@ -21,7 +22,7 @@ use Rattle.redo_core.specs.inside.Slots.{AllAnswered, IsKept, IsBoard, IsParked,
 use Rattle.redo_core.specs.inside.Slots.{IsTable, stage_deps}
 use Rattle.redo_build.specs.Outcomes.{outcome_at}
 use Rattle.redo_core.proofs.TableLemmas.{fits-set, outcomes-more}
-use Rattle.redo_core.specs.Views.{jobs_out, ready_count, rules_on, told_by, BoardView, WorkView, IsReached, IsWorkTaken}
+use Rattle.redo_core.specs.Views.{jobs_out, ready_count, rules_on, told_by, BoardView, WorkView, IsWorkTaken}
 use Rattle.redo_core.specs.inside.Works.{HoldsOutcomes}
 use Rattle.redo_core.specs.declared.board.Board.TheInside.{Inside}
 use Rattle.redo_core.specs.declared.table.Slot.{Slot}
@@ -35,7 +36,8 @@ use Rattle.redo_build.proofs.QuietLemmas.{is_part, shows}
 use Rattle.redo_build.specs.Theorems.{IsPartOfBuild, ShowsBuild}
 use Rattle.redo_build.proofs.TurnBoundLemmas.{turn-below}
 use Rattle.redo_build.proofs.SoundLemmas.{IsSound}
-use Rattle.redo_core.proofs.SlotLemmas.{slice_get-below_some, slice_get-from, slice_get-map, ready-job, entry}
+use Rattle.redo_core.proofs.SlotLemmas.{slice_get-map, ready-job, entry}
+use Rattle.std.proofs.lemmas.Option.{slice_get_within}
 use Rattle.redo_core.proofs.SlotLemmas.{length-slots, state_taken}
 
 pub sound-inside : (b : Inside) → IsKept b → IsSound (rules_inside b) b.build.request (state_of b)
@@ -51,10 +53,10 @@ module _ (b : Inside) (kept : IsKept b) (which at : ℕ) (slot : Slot)
     (first : slice_get b.table.schedule.ready which ≡ Some at) (staged : stage_at b.table.schedule at ≡ Some AtReady)
     (there : slice_get b.table.slots.items at ≡ Some slot) where
   here : at < length b.table.targets
-  here = omega (arith, slice_get-below_some b.table.slots.items at slot there, kept.at_rest.table.one_each)
+  here = omega (arith, slice_get_within b.table.slots.items at slot there, kept.at_rest.table.one_each)
 
   pub found_path : (p : List ℕ) × (slice_get b.table.targets at ≡ Some p)
-  found_path = slice_get-from b.table.targets at here
+  found_path = there-below b.table.targets at here
 
   pub found_job : (work : Work) × (slot.stage ≡ Ready work) × IsParked b.build (path_at b.table.targets at) slot.turn work ×
       AllAnswered (rules_inside b) (outcomes_of (state_of b).entries) work.deps
@@ -119,25 +121,6 @@ running (Some x) n which h = absurd (omega arith)
 pub length-map : (f : ℕ → List ℕ) (xs : List ℕ) → length (map f xs) ≡ length xs
 length-map f [] = refl
 length-map f (x ∷ xs) = ap suc (length-map f xs)
-
-pub run-append : (r : Rules) (events : List Event) (event : Event) (s : State) → run r (events ++ event ∷ []) s ≡ happens r (run r events s) event
-run-append r [] event s = refl
-run-append r (e ∷ events) event s = run-append r events event (happens r s e)
-
-pub AllOpen-append : (r : Rules) (events : List Event) (event : Event) (s : State) → AllOpen r s events → IsOpen r (run r events s) event →
-    AllOpen r s (events ++ event ∷ [])
-AllOpen-append r [] event s all open' = (open', tt)
-AllOpen-append r (e ∷ events) event s all open' = (all.0, AllOpen-append r events event (happens r s e) all.1 open')
-
--- one more open event leads to a state that is reached
-pub reached-more : (r : Rules) (request : List (List ℕ)) (s : State) (event : Event) → IsReached r request s → IsOpen r s event →
-    IsReached r request (happens r s event)
-reached-more r request s event reached open' = record {
-  events = reached.events ++ event ∷ [];
-  all_open = AllOpen-append r reached.events event (opening r request) reached.all_open
-      (let P : State → Type 0 = λ x. IsOpen r x event in subst P reached.ends open');
-  ends = ap (λ x. happens r x event) reached.ends ∙ sym (run-append r reached.events event (opening r request));
-}
 
 module _ (b : Inside) (kept : IsKept b) (which at : ℕ) (slot : Slot)
     (first : slice_get b.table.schedule.ready which ≡ Some at) (staged : stage_at b.table.schedule at ≡ Some AtReady)
@@ -217,7 +200,7 @@ module _ (b : Inside) (kept : IsKept b) (which at : ℕ) (slot : Slot)
 
 -- what is staged has a slot
 pub staged-below : (b : Inside) → IsKept b → (at : ℕ) → stage_at b.table.schedule at ≡ Some AtReady → at < length b.table.slots.items
-staged-below b kept at staged = omega (arith, slice_get-below_some b.table.schedule.stages at AtReady staged, kept.at_rest.table.agreed.one_each)
+staged-below b kept at staged = omega (arith, slice_get_within b.table.schedule.stages at AtReady staged, kept.at_rest.table.agreed.one_each)
 
 pub below_items : (b : Inside) (which : ℕ) → which < cond (is_some b.stopped) 0 (length (map (path_at b.table.targets) b.table.schedule.ready)) → which < length b.table.schedule.ready
 below_items b which h = below_count b.stopped h

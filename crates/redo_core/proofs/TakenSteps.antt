@@ -1,12 +1,11 @@
 -- What a board has taken, one event further, and in the end.
-use Rattle.std.proofs.Common.{◌≡◌, ℕ, ◌<◌, cond, is_some, length, List, [], ◌∷◌, ◌++◌, Option, Some, None, slice_get}
-use Rattle.std.proofs.Common.{true, option_and_then, append_assoc, append-nil, refl, sym, ap, subst, ◌∙◌, arith}
+use Rattle.std.proofs.Common.{◌≡◌, ℕ, ◌<◌, cond, is_some, length, List, [], ◌∷◌, ◌++◌, Option, Some, None}
+use Rattle.std.proofs.Common.{true, option_and_then, append-nil, refl, sym, ap, subst, ◌∙◌, arith}
 use Rattle.std.specs.Prelude.{IsNone}
 use Rattle.redo_record.specs.Paths.{IsAmong}
-use Rattle.redo_build.specs.Rules.{Rules}
-use Rattle.redo_build.specs.Schedule.{Entry, State, Event, IsOpen, IsQuiet, entry_of, happens, opening, out_count, paths_of}
+use Rattle.redo_build.specs.Schedule.{Entry, State, Event, IsOpen, IsQuiet, entry_of, opening, out_count, paths_of}
 use Rattle.redo_build.specs.Schedule.{AllOpen, outcomes_of, run}
-use Rattle.redo_build.specs.Schedule.Event.{Take, Hand_in, Look}
+use Rattle.redo_build.specs.Schedule.Event.{Take, Hand_in}
 use Rattle.redo_build.specs.Takes.{takes, place_of, AreBegun, AreCountedOnce, AreOnce, IsTaken}
 use Rattle.redo_build.specs.Theorems.{ShowsBuild}
 use Rattle.redo_report.specs.Reports.{IsReport}
@@ -25,19 +24,9 @@ use Rattle.redo_build.proofs.OnceLemmas.{takes-once}
 use Rattle.redo_build.proofs.QueueLemmas.{slice_get-among}
 use Rattle.redo_build.proofs.SoundLemmas.{IsSound, opening-sound}
 use Rattle.redo_build.proofs.StillLemmas.{AllOpen-behind, run-behind, takes-looks}
-use Rattle.redo_core.proofs.LookedLemmas.{reached-sound, shown-none_due}
-use Rattle.redo_core.proofs.TakeLemmas.{run-append, AllOpen-append, no_paths}
-
--- what one more event takes stands behind the others
-takes-append : (r : Rules) (events : List Event) (event : Event) (s : State) →
-    takes r (events ++ event ∷ []) s ≡ takes r events s ++ takes r (event ∷ []) (run r events s)
-takes-append r [] event s = refl
-takes-append r (Take which ∷ events) event s =
-    let here = place_of (option_and_then (entry_of s.entries) (slice_get s.ready which)) in
-    let next = happens r s (Take which) in
-    ap (λ xs. here ++ xs) (takes-append r events event next) ∙ sym (append_assoc here (takes r events next) (takes r (event ∷ []) (run r events next)))
-takes-append r (Hand_in target turn ∷ events) event s = takes-append r events event (happens r s (Hand_in target turn))
-takes-append r (Look target ∷ events) event s = takes-append r events event (happens r s (Look target))
+use Rattle.redo_build.proofs.LookedLemmas.{shown-none_due}
+use Rattle.redo_build.proofs.ReachedLemmas.{reached-more, reached-sound, takes-append}
+use Rattle.redo_core.proofs.TakeLemmas.{no_paths}
 
 below-length : {A : Type 0} (stopped : Option A) (n which : ℕ) → which < cond (is_some stopped) 0 n → which < n
 below-length None n which h = h
@@ -50,14 +39,9 @@ taken-more b taken more event had open' one =
     let r = rules_on b in
     let first = opening r b.given.request in
     let events = had.reached.events in
-    let P : State → Type 0 = λ s. IsOpen r s event in
     let there : takes r (event ∷ []) (run r events first) ≡ more = ap (takes r (event ∷ [])) (sym had.reached.ends) ∙ one in
     record {
-      reached = record {
-        events = events ++ event ∷ [];
-        all_open = AllOpen-append r events event first had.reached.all_open (subst P had.reached.ends open');
-        ends = ap (λ s. happens r s event) had.reached.ends ∙ sym (run-append r events event first);
-      };
+      reached = reached-more r b.given.request b.state event had.reached open';
       is = ap (λ xs. xs ++ more) had.is ∙ ap (λ xs. takes r events first ++ xs) (sym there) ∙ sym (takes-append r events event first);
     }
 

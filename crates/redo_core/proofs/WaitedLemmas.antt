@@ -19,7 +19,9 @@ use Rattle.redo_core.specs.declared.table.Stage.TheVariants.{Checking, Waiting}
 use Rattle.redo_core.proofs.AgreeLemmas.{agreed-stage, decided-agrees}
 use Rattle.redo_core.proofs.CheckingLemmas.{waiting-asked}
 use Rattle.redo_core.proofs.NumberLemmas.{numbers-number}
-use Rattle.redo_core.proofs.SlotLemmas.{entry_of-slots, slice_get-from, slice_get-below_some}
+use Rattle.redo_core.proofs.SlotLemmas.{entry_of-slots}
+use Rattle.std.proofs.lemmas.Option.{slice_get_within}
+use Rattle.redo_table.proofs.TargetLemmas.{there-below}
 use Rattle.redo_core.proofs.TableSteps.{open-outcome, waited_asked}
 
 alone-is : (n i k : ℕ) → slice_get (n ∷ []) i ≡ Some k → k ≡ n
@@ -37,7 +39,7 @@ module _ (given : GivenView) (t : Table) (stages : List StageView) (table : IsTa
   -- what isn't decided has no outcome
   undecided : (n : ℕ) (q : List ℕ) → slice_get t.targets n ≡ Some q → (slice_get stages n ≡ Some AtDecided → ⊥) → a q ≡ None
   undecided n q path apart =
-      let slot = slice_get-from t.slots.items n (omega (arith, table.one_each, slice_get-below_some t.targets n q path)) in
+      let slot = there-below t.slots.items n (omega (arith, table.one_each, slice_get_within t.targets n q path)) in
       let stage = agreed-stage r t.targets t.slots.items stages table.agreed n slot.0 slot.1 in
       let entry = entry_of-slots r (outcomes_at_limit given) t.targets t.slots.items n q slot.0 distinct path slot.1 in
       elim (cases_Bool (is_stage_decided slot.0.stage)) [

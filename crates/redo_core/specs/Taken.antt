@@ -1,7 +1,7 @@
 -- What a board has taken.
 use Rattle.std.specs.Prelude.{◌≡◌, ℕ, List}
-use Rattle.redo_build.specs.Schedule.{opening}
-use Rattle.redo_core.specs.Views.{BoardView, IsReached, request_on, rules_on}
+use Rattle.redo_build.specs.Schedule.{IsReached, opening}
+use Rattle.redo_core.specs.Views.{BoardView, request_on, rules_on}
 use Rattle.redo_build.specs.Takes.{takes}
 
 -- the run that led to the board's state took these, in this order

@@ -4,7 +4,7 @@ use Rattle.std.specs.Prelude.{bytes_eq, count_by}
 use Rattle.std.specs.Map.{lookup}
 use Rattle.redo_record.specs.Progress.{Progress}
 use Rattle.redo_build.specs.Rules.{Ask, Rules, operands}
-use Rattle.redo_build.specs.Schedule.{Entry, State, Event, AllOpen, entry_of, outcomes_of, only, opening, run, happens}
+use Rattle.redo_build.specs.Schedule.{Entry, State, Event, entry_of, outcomes_of, only, opening, happens}
 use Rattle.redo_build.specs.Schedule.{out_count}
 use Rattle.redo_build.specs.Schedule.Event.{Hand_in}
 use Rattle.redo_build.specs.Looking.{IsLookedOut}
@@ -75,12 +75,6 @@ seen_count b = if is_some b.stopped then 0 else length b.state.entries
 -- how many of them are decided
 abbrev pub decided_count : BoardView → ℕ
 decided_count b = if is_some b.stopped then 0 else count_by (λ e. is_some e.outcome) b.state.entries
-
--- a run of open events leads from the opening to this state
-pub record IsReached (r : Rules) (request : List (List ℕ)) (s : State) : Type 0 where
-  pub events : List Event
-  pub all_open : AllOpen r (opening r request) events
-  pub ends : s ≡ run r events (opening r request)
 
 -- the board of a build that is given this, before the first event
 abbrev pub opened : GivenView → BoardView

@@ -2,7 +2,7 @@
 ghost use Rattle.std.specs.Prelude.{◌≡◌, ◌++◌, [], true, All, IfOk, OnOk, length};
 ghost use Rattle.std.specs.Arc.{arc_value};
 ghost use Rattle.redo_record.specs.declared.outcome.Outcome.TheVariants.{Source};
-ghost use Rattle.redo_core.specs.inside.Reported.{placed, sources_among, listed_paths, IsNumberOf, is_settled, IsShown};
+ghost use Rattle.redo_core.specs.inside.Reported.{AreReported, sources_among, listed_paths, IsNumberOf, is_settled, IsShown};
 ghost use Rattle.redo_core.specs.inside.Reported.{IsBegunAs, IsRowOf, IsTold, AllSettled, AllTold, AddsRow, IsReportOf};
 
 use crate::given::Given;
@@ -43,8 +43,8 @@ fn in_order<'a>(
     request: &'a [Path],
     targets: &'a PathSet,
 ) -> Result<Vec<(&'a Path, Option<usize>)>, AllocError>
-    ensures paths { IfOk result (λ listed. listed_paths listed.items ≡
-        placed (placed [] targets.now) (sources_among tree.now request.now)) }
+    ensures paths { IfOk result (λ listed.
+        AreReported tree.now request.now targets.now (listed_paths listed.items)) }
     ensures numbers { IfOk result (λ listed. All (λ e. IsNumberOf targets.now e.0.now e.1) listed.items) }
 {
     let mut listed = numbered(alloc, targets.as_slice())?;

@@ -17,7 +17,7 @@ use crate::given::Given;
 use crate::scripts::{job_of, may_loop_long};
 use redo_path::Path;
 use redo_record::{Deps, Outcome};
-use redo_step::{Done, Job, Step, more_answers};
+use redo_step::{Done, Job, Step};
 use redo_which::Rule;
 use std::alloc::{AllocError, Global};
 use std::marker::Model;
@@ -306,8 +306,6 @@ impl Begun {
                 Ok(End::Ended(fact, facts.into_asked()))
             }
             Step::Asks { job, paths } => {
-                // By this law the paths are those that the declared entries lack.
-                more_answers();
                 let begun = Box::new(
                     alloc,
                     Begun {

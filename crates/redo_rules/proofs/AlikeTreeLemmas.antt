@@ -5,7 +5,6 @@ use Rattle.std.specs.Prelude.{is_none, unwrap_or}
 use Rattle.std.specs.List.{AllByRecursion}
 use Rattle.std.specs.Str.{bytes_eq}
 use Rattle.std.proofs.lemmas.Bool.{both_ways, or_cases, or_left, or_right}
-use Rattle.std.proofs.lemmas.Slice.Eq.{bytes_eq-Decides}
 use Rattle.redo_script.specs.declared.fault.ScriptFault.{ScriptFault}
 use Rattle.redo_script.specs.Syntax.{Script}
 use Rattle.redo_script.specs.Texts.{script_in}
@@ -21,6 +20,7 @@ use Rattle.redo_record.specs.declared.outcome.Outcome.TheVariants as outcomes
 use Rattle.redo_record.specs.Entries.{is_entered, same_kind, search_deps, with_entry, with_entries}
 use Rattle.redo_record.specs.Paths.{IsAmong, Path}
 use Rattle.redo_record.specs.Progress.{Progress}
+use Rattle.redo_record.proofs.EntryLemmas.{bytes_eq-refl, same_kind-refl}
 use Rattle.redo_record.proofs.Public.{entered_operand, one_entered, search_enters, whole_first, whole_second}
 use Rattle.redo_build.specs.Rules.{Ask, asked_under}
 use Rattle.redo_step.specs.Agreeing as script
@@ -39,16 +39,8 @@ use Rattle.redo_rules.proofs.LawfulTreeLemmas.{fit_found}
 
 -- Entries
 
-bytes-same : (p : Path) → bytes_eq p p ≡ true
-bytes-same p = (bytes_eq-Decides p p).1 refl
-
-kind-same : (k : DepKind) → same_kind k k ≡ true
-kind-same kinds.Change = refl
-kind-same kinds.Create = refl
-kind-same kinds.Always = refl
-
 pub entered-here : (d : Dep) (ds : List Dep) → is_entered (d ∷ ds) d.kind d.path ≡ true
-entered-here d ds = rw (kind-same d.kind, bytes-same d.path) refl
+entered-here d ds = rw (same_kind-refl d.kind, bytes_eq-refl d.path) refl
 
 pub entered-later : (d : Dep) (ds : List Dep) (k : DepKind) (p : Path) → is_entered ds k p ≡ true →
     is_entered (d ∷ ds) k p ≡ true

@@ -1,5 +1,5 @@
 -- What a run over a directory comes to, step by step.
-use Rattle.std.proofs.Common.{◌≡◌, ◌++◌, ◌<◌, ◌+◌, ℕ, List, inl, inr, refl, Option}
+use Rattle.std.proofs.Common.{ℕ, List, inl, inr, refl, Option}
 use Rattle.std.specs.declared.io.ErrorKind.{ErrorKind}
 use Rattle.redo_dir.specs.Loaded.{IsLoaded}
 use Rattle.redo_dir.specs.Stored.{Step}

@@ -4,40 +4,17 @@ use Rattle.std.proofs.Common.{◌∷◌, map, filter, refl, sym, ap, subst, ◌�
 use Rattle.std.specs.Prelude.{All, flat_map}
 use Rattle.std.specs.List.{list_any}
 use Rattle.std.proofs.lemmas.Bool.{cases_Bool, both_ways}
-use Rattle.std.proofs.lemmas.Slice.Eq.{bytes_eq-Decides}
-use Rattle.std.proofs.lemmas.Map.Text.{is_eq-slice_cmp}
 use Rattle.std.specs.Arc.{arc_value}
-use Rattle.std.specs.Cmp.Lexicographic.{slice_cmp}
-use Rattle.std.specs.Ordering.{nat_cmp, is_eq}
 use Rattle.redo_build.specs.Outcomes.{asked_at, final_outcome, needed_at, reached_in, requested_targets}
-use Rattle.redo_record.specs.Paths.{IsAmong}
-use Rattle.redo_core.specs.inside.Reported.{placed}
+use Rattle.redo_record.specs.Paths.{IsAmong, is_among, with_new}
 use Rattle.redo_report.specs.Reports.{IsReport, deps_of, row_paths}
 use Rattle.redo_build.specs.Rules.{Rules}
 use Rattle.redo_report.specs.declared.report.Report.{Report}
 use Rattle.redo_report.specs.declared.report.Row.{Row}
-use Rattle.redo_core.proofs.OrderLemmas.{placed-from, placed-second}
-use Rattle.redo_build.proofs.PathLemmas.{with_new-first, with_new-second}
+use Rattle.redo_build.proofs.QueueLemmas.{filter-keeps}
+use Rattle.redo_build.proofs.PathLemmas.{is_among-from, is_among-true, with_new-cases, with_new-first, with_new-second}
 use Rattle.redo_run.specs.declared.exit.Exit.TheVariants.{Good, SomeFailed}
-use Rattle.redo_run.specs.Exits.{AllAreMade, IsExit, fails, is_made, is_listed}
-
--- a listed path is among the keys
-listed-among : (keys : List (List ℕ)) (p : List ℕ) → is_listed keys p ≡ true → IsAmong keys p
-listed-among [] p h = cc
-listed-among (q ∷ keys) p h = elim (cases_Bool (is_eq (slice_cmp nat_cmp p q))) [
-  | inl t ↦ inl (sym ((bytes_eq-Decides p q).0 (sym (is_eq-slice_cmp p q) ∙ t)))
-  | inr f ↦ inr (listed-among keys p (rw f at h))
-]
-
-among-listed : (keys : List (List ℕ)) (p : List ℕ) → IsAmong keys p → is_listed keys p ≡ true
-among-listed [] p m = absurd m
-among-listed (q ∷ keys) p m = elim m [
-  | inl here ↦ let is : is_eq (slice_cmp nat_cmp p q) ≡ true = is_eq-slice_cmp p q ∙ (bytes_eq-Decides p q).1 (sym here) in rw is refl
-  | inr later ↦ elim (cases_Bool (is_eq (slice_cmp nat_cmp p q))) [
-    | inl t ↦ rw t refl
-    | inr f ↦ rw f (among-listed keys p later)
-  ]
-]
+use Rattle.redo_run.specs.Exits.{AllAreMade, IsExit, fails, is_made}
 
 module _ (P : Row → Type 0) (f : Row → Bool) where
   -- one of the rows passes
@@ -66,20 +43,10 @@ module _ (r : Rules) (request : List (List ℕ)) where
   reached-requested n zero p m = m
   reached-requested n (suc steps) p m = with_new-first (reached_in r request n steps) (flat_map (asked_at r n) (reached_in r request n steps)) p (reached-requested n steps p m)
 
-  among-filter : (f : List ℕ → Bool) (ps : List (List ℕ)) (p : List ℕ) → IsAmong ps p → f p ≡ true → IsAmong (filter f ps) p
-  among-filter f [] p m h = absurd m
-  among-filter f (q ∷ ps) p m h = elim (cases_Bool (f q)) [
-    | inl t ↦ rw t (elim m [ inl here ↦ inl here | inr later ↦ inr (among-filter f ps p later h) ])
-    | inr out ↦ elim m [
-      | inl here ↦ absurd (let F : List ℕ → Type 0 = λ x. f x ≡ false in both_ways _ (subst F here out) h)
-      | inr later ↦ rw out (among-filter f ps p later h)
-    ]
-  ]
-
   requested-needed : (n : ℕ) (p : List ℕ) → IsAmong request p → r.is_source p ≡ false → IsAmong (needed_at r request n) p
   requested-needed n p m target =
       reached-requested n n p (with_new-second [] (filter (λ q. not (r.is_source q)) request) p
-      (among-filter (λ q. not (r.is_source q)) request p m (rw target refl)))
+      (filter-keeps (λ q. not (r.is_source q)) request p m (rw target refl)))
 
 module _ (r : Rules) (limit : ℕ) (request : List (List ℕ)) (report : Report) (is : IsReport r request limit report) where
   -- the row is the truth
@@ -87,7 +54,7 @@ module _ (r : Rules) (limit : ℕ) (request : List (List ℕ)) (report : Report)
   IsTrueRow row = (row.outcome ≡ final_outcome r limit row.path) × (arc_value row.deps ≡ deps_of r limit row.path)
 
   abbrev keys : List (List ℕ)
-  keys = placed [] request
+  keys = with_new [] request
 
   has-row : (p : List ℕ) → IsAmong request p → IsAmong (row_paths report) p
   has-row p m = elim (cases_Bool (r.is_source p)) [
@@ -100,7 +67,7 @@ module _ (r : Rules) (limit : ℕ) (request : List (List ℕ)) (report : Report)
     λ _ p m.
         let found = none-passes IsTrueRow (fails keys) report.rows.items is.outcomes none p (has-row p m) in
         let F : List ℕ → Type 0 = λ x. IsAmong keys x in
-        let listed = among-listed keys found.0.path (subst F (sym found.3) (placed-second [] request p m)) in
+        let listed = is_among-from keys found.0.path (subst F (sym found.3) (with_new-second [] request p m)) in
         let outcome : found.0.outcome ≡ final_outcome r limit p = found.1.0 ∙ ap (final_outcome r limit) found.3 in
         elim (cases_Bool (is_made found.0.outcome)) [
           | inl t ↦ sym (ap is_made outcome) ∙ t
@@ -109,7 +76,7 @@ module _ (r : Rules) (limit : ℕ) (request : List (List ℕ)) (report : Report)
     λ _. refl,
   )
     where
-      unlisted : (row : Row) → is_made row.outcome ≡ false → is_listed keys row.path ≡ true → fails keys row ≡ false → ⊥
+      unlisted : (row : Row) → is_made row.outcome ≡ false → is_among keys row.path ≡ true → fails keys row ≡ false → ⊥
       unlisted row f listed h = let now = rw (f, listed) at h in cc
 
   pub exit-failed : list_any (fails keys) report.rows.items ≡ true → IsExit r limit request SomeFailed
@@ -124,8 +91,8 @@ module _ (r : Rules) (limit : ℕ) (request : List (List ℕ)) (report : Report)
       bad row outcome h all = elim (cases_Bool (is_made row.outcome)) [
         | inl t ↦ (let now = rw t at h in cc)
         | inr f ↦
-            let listed : is_listed keys row.path ≡ true = rw f at h in
-            elim (placed-from [] request row.path (listed-among keys row.path listed)) [
+            let listed : is_among keys row.path ≡ true = rw f at h in
+            elim (with_new-cases [] request row.path (is_among-true keys row.path listed)) [
               | inl none ↦ absurd none
               | inr m ↦ both_ways _ f (ap is_made outcome ∙ all row.path m)
             ]

@@ -1,6 +1,6 @@
 -- Keeping is safe over a small tree with a book of two records, as two runs one after another leave it: the premises of
 -- what is promised where it is safe can be met.
-use Rattle.std.proofs.Common.{◌≡◌, ◌≤◌, ℕ, ◌⊎◌, inl, inr, List, [], ◌∷◌, ◌++◌, Option, Some, None, length, refl, sym, subst}
+use Rattle.std.proofs.Common.{◌≡◌, ◌≤◌, ℕ, ◌⊎◌, inl, inr, List, [], ◌∷◌, ◌++◌, Some, None, length, refl, sym, subst}
 use Rattle.std.proofs.Common.{◌∙◌, arith, bytes_eq}
 use Rattle.std.proofs.lemmas.Bool.{cases_Bool}
 use Rattle.std.specs.Prelude.{codes}
@@ -20,7 +20,6 @@ use Rattle.redo_build.specs.Rules.{Ask, Rules}
 use Rattle.redo_step.specs.Path.{resolved}
 use Rattle.redo_step.specs.Statements.{meaning, run}
 use Rattle.redo_step.specs.Setting.{setting_by}
-use Rattle.redo_skip.specs.Sources.{Sources}
 use Rattle.redo_skip.specs.Truth.{AreApart, IsWitness}
 use Rattle.redo_rules.specs.Build.{GivenView, plain_rules_for, sources_for}
 use Rattle.redo_rules.specs.TreeSources.{IsTrueOfTrees, IsUnconfused}

@@ -24,7 +24,7 @@ use Rattle.redo_step.specs.Limits.{LimitsView}
 use Rattle.redo_tree.specs.Tree.{IsTree, Tree, file_at, without}
 use Rattle.redo_which.specs.Candidates.{book_path}
 use Rattle.redo_past.specs.NewBook.{with_file}
-use Rattle.redo_past.specs.Past.{IsPast, PastView, set_aside}
+use Rattle.redo_past.specs.Past.{IsPast, set_aside}
 use Rattle.redo_past.proofs.ItemLemmas.{IsItem, contained-item, item-contained}
 use Rattle.redo_past.proofs.OrderLemmas.{ascending-sorted, same-list}
 use Rattle.redo_past.proofs.PastLemmas.{all-sources}

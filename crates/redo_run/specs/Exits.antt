@@ -1,10 +1,7 @@
 -- Whether a run went well.
 use Rattle.std.specs.Prelude.{◌≡◌, ◌↔◌, Bool, true, false, not, ◌&&◌, ℕ, List}
-use Rattle.std.specs.Cmp.Lexicographic.{slice_cmp}
-use Rattle.std.specs.List.{list_any}
-use Rattle.std.specs.Ordering.{nat_cmp, is_eq}
 use Rattle.redo_build.specs.Outcomes.{final_outcome}
-use Rattle.redo_record.specs.Paths.{IsAmong}
+use Rattle.redo_record.specs.Paths.{IsAmong, is_among}
 use Rattle.redo_build.specs.Rules.{Rules}
 use Rattle.redo_rules.specs.Build.{GivenView, rules_for}
 use Rattle.redo_report.specs.declared.report.Row.{Row}
@@ -32,10 +29,6 @@ IsExit r limit request exit = (exit ≡ Good) ↔ AllAreMade r limit request
 abbrev pub IsExitOf : GivenView → Exit → Type 0
 IsExitOf given exit = IsExit (rules_for given) given.limits.targets given.request exit
 
--- the path is one of the keys
-abbrev pub is_listed : List (List ℕ) → List ℕ → Bool
-is_listed keys p = list_any (λ q. is_eq (slice_cmp nat_cmp p q)) keys
-
--- the row is of a listed path, and is neither source nor built
+-- the row is of one of these paths, and is neither source nor built
 abbrev pub fails : List (List ℕ) → Row → Bool
-fails keys row = not (is_made row.outcome) && is_listed keys row.path
+fails paths row = not (is_made row.outcome) && is_among paths row.path

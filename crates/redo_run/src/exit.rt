@@ -2,17 +2,17 @@
 
 ghost use Rattle.std.specs.Prelude.{◌≡◌, [], IfOk};
 ghost use Rattle.std.specs.List.{list_any};
+ghost use Rattle.redo_record.specs.Paths.{is_among, with_new};
 ghost use Rattle.redo_rules.specs.Build.{GivenView};
 ghost use Rattle.redo_rules.specs.Results.{IsResult};
-ghost use Rattle.redo_core.specs.inside.Reported.{placed};
 ghost use Rattle.redo_run.specs.Exits.{IsExitOf, fails, is_made};
 
+use redo_names::PathSet;
 use redo_past::RunReport;
 use redo_path::Path;
 use redo_record::Outcome;
 use redo_report::Row;
 use std::alloc::{AllocError, Global};
-use std::collections::BTreeSet;
 
 /// Whether every requested path is a source or built.
 #[derive(Clone, Copy, Debug, PartialEq, Eq)]
@@ -29,21 +29,28 @@ fn is_made_by(outcome: &Outcome) -> bool
 }
 
 /// The set of some paths.
-fn set_of(alloc: Global, paths: &[Path]) -> Result<BTreeSet<Path>, AllocError>
-    ensures { IfOk result (λ set. set.keys ≡ placed [] paths.now) }
+fn set_of(alloc: Global, paths: &[Path]) -> Result<PathSet, AllocError>
+    ensures { IfOk result (λ set. set ≡ with_new [] paths.now) }
 {
-    let mut set = BTreeSet::new(alloc);
+    let mut set = PathSet::new(alloc);
     for path in paths {
         set.insert(path.clone()?)?;
     }
     Ok(set)
 }
 
-/// Whether one of these paths has a row that is neither source nor built.
-fn has_failed(wanted: &BTreeSet<Path>, rows: &[Row]) -> bool
-    ensures { result ≡ list_any (fails wanted.now.keys) rows.now }
+/// Whether a path is in a set.
+fn contains(set: &PathSet, path: &Path) -> bool
+    ensures { result ≡ is_among set.now path.now }
 {
-    rows.iter().any(|row| !is_made_by(&row.outcome) && wanted.contains(&row.path))
+    set.number_of(path).is_some()
+}
+
+/// Whether one of these paths has a row that is neither source nor built.
+fn has_failed(wanted: &PathSet, rows: &[Row]) -> bool
+    ensures { result ≡ list_any (fails wanted.now) rows.now }
+{
+    rows.iter().any(|row| !is_made_by(&row.outcome) && contains(wanted, &row.path))
 }
 
 /// Whether every requested path is a source or built.

@@ -6,3 +6,4 @@ pub mod NeededLemmas
 pub mod NewBookLemmas
 pub mod SkipExamples
 pub mod SkipLemmas
+pub mod StoodLemmas

@@ -96,7 +96,7 @@ module _ (s : Sources) (a : Ask) where
 
 -- The record of a path is that of a target with this path
 
-found-target : (book : List Record) (p : List ℕ) (r : Record) → record_at book p ≡ Some r → r.target ≡ p
+pub found-target : (book : List Record) (p : List ℕ) (r : Record) → record_at book p ≡ Some r → r.target ≡ p
 found-target [] p r e = absurd cc
 found-target (x ∷ book) p r e = elim (cases_Bool (bytes_eq x.target p)) [
   | inl t ↦

@@ -5,6 +5,7 @@ pub mod StepLemmas
 pub mod SettledLemmas
 pub mod KnownLemmas
 pub mod BeginsLemmas
+pub mod StopLemmas
 pub mod SliceLemmas
 pub mod ComesLemmas
 pub mod WeightLemmas

@@ -1,5 +1,5 @@
 -- What the proofs of crates above may cite of scripts, beside the contracts. No other module of proofs is for them.
-use Rattle.std.specs.Prelude.{◌≡◌, ℕ, true, false, List, [], ◌∷◌, ◌++◌, Option, Some, None, Result}
+use Rattle.std.specs.Prelude.{◌≡◌, ℕ, true, false, List, [], ◌∷◌, ◌++◌, Option, Some, None, Result, filter}
 use Rattle.redo_tree.specs.Tree.{Tree, Directory, node_at}
 use Rattle.redo_which.specs.Candidates.{is_do_file}
 use Rattle.redo_which.specs.Rule.{Rule, Arguments, found_of, is_file, is_rule}
@@ -11,18 +11,22 @@ use Rattle.redo_record.specs.declared.deps.DepKind.TheVariants.{Always, Change, 
 use Rattle.redo_record.specs.declared.outcome.Outcome.TheVariants.{Built}
 use Rattle.redo_record.proofs.BehindLemmas.{IsBeginning}
 use Rattle.redo_step.specs.Setting.{is_source, Setting, setting_of}
-use Rattle.redo_record.specs.Progress.{IsLawful}
+use Rattle.redo_record.specs.Progress.{IsLawful, changes}
 use Rattle.redo_record.specs.Entries.{is_entered, search_deps}
 use Rattle.redo_record.specs.Answers.{Ask}
 use Rattle.redo_record.specs.Paths.{IsAmong, Path}
 use Rattle.redo_step.specs.Agreeing.{AreAlike, IsMet, AllAgree, IsFollowed, held_in}
+use Rattle.redo_step.specs.Declaring.{lacks}
 use Rattle.redo_step.specs.Results.{by_script}
+use Rattle.redo_step.specs.Runs.{State, ends, stopped}
+use Rattle.redo_step.specs.Statements.{meaning}
 use Rattle.redo_step.proofs.AgreeingLemmas as agreeing
 use Rattle.redo_step.proofs.DoFileLemmas as named
 use Rattle.redo_step.proofs.FollowedLemmas as followed
 use Rattle.redo_step.proofs.LawfulScriptLemmas as lawful
 use Rattle.redo_step.proofs.RecordLemmas as recorded
 use Rattle.redo_step.proofs.SameRuleLemmas as same
+use Rattle.redo_step.proofs.StopLemmas as stops
 use Rattle.redo_step.proofs.TopDirectoryLemmas as top
 
 -- a target's progress by its script follows the answers to what it asks for, where its .do file is a source
@@ -30,6 +34,11 @@ pub progress_is_lawful : (setting : Setting) (missing : List Path) (do_file : Pa
     (parsed : Result Script ScriptFault) → is_source setting do_file ≡ true →
     IsLawful (is_source setting) (by_script setting (search_deps missing do_file) parsed)
 progress_is_lawful = lawful.script-lawful
+
+-- a script that stops for want of answers lacks those that its entries lack, in their order
+pub stop_lacks : (setting : Setting) (ask : Ask) (script : Script) (paths : List Path) (t : State) →
+    meaning setting ask script ≡ ends (stopped paths) t → paths ≡ filter (lacks setting ask) (changes t.entries)
+stop_lacks = stops.stopped-lacks
 
 -- Records
 

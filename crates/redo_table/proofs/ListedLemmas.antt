@@ -1,9 +1,10 @@
 -- The lists of a schedule, while one target changes its stage.
-use Rattle.std.proofs.Common.{◌≡◌, inl, inr, ℕ, zero, suc, ◌+◌, ◌<◌, ◌≤◌, ◌^◌, Bool, true, false, cond, List, [], ◌∷◌, ◌++◌}
+use Rattle.std.proofs.Common.{◌≡◌, ◌⊎◌, inl, inr, ℕ, zero, suc, ◌+◌, ◌<◌, ◌≤◌, ◌^◌, Bool, true, false, cond, List, [], ◌∷◌, ◌++◌}
 use Rattle.std.proofs.Common.{Option, Some, None, length, slice_get, slice_set, refl, sym, ap, subst, ◌∙◌, arith, length-set, length-append, remove, ◌-◌, All, slice_index, ◌↔◌}
 use Rattle.std.proofs.lemmas.Bool.{cases_Bool}
-use Rattle.redo_table.specs.Schedule.{StageView, is_due, is_ready, is_out, times}
+use Rattle.redo_table.specs.Schedule.{ScheduleView, StageView, is_due, is_ready, is_out, times}
 use Rattle.redo_table.specs.Schedule.StageView.{Due, Ready, Out, InHand, Waiting}
+use Rattle.redo_table.specs.declared.schedule.Schedule.TheInside.{Inside}
 use Rattle.redo_table.specs.inside.Listed.{one_if, IsListed}
 use Rattle.std.specs.BTreeSet.{insert_key}
 use Rattle.std.specs.BTreeMap.Range.{IsLtBy}
@@ -255,3 +256,9 @@ module _ (stages : List StageView) (ready newly_ready due sorted : List ℕ) (ou
         (found.1 ∙ ap Some (ready-is found.0 found.2), omega (arith, h, as-before k, kept.queued k, most))),
     (λ h. omega (arith, as-before k, own-queued stages ready newly_ready due out kept k Ready h.0, h.1)),
   )
+
+-- a target that is out or in hand in the view is so inside
+pub is-open : (t : Inside) (v : ScheduleView) (at : ℕ) → record { stages = t.waits.stages; ready = t.ready.items } ≡ v →
+    (slice_get v.stages at ≡ Some Out) ⊎ (slice_get v.stages at ≡ Some InHand) →
+    (slice_get t.waits.stages at ≡ Some Out) ⊎ (slice_get t.waits.stages at ≡ Some InHand)
+is-open t v at is h = subst (λ (u : ScheduleView). (slice_get u.stages at ≡ Some Out) ⊎ (slice_get u.stages at ≡ Some InHand)) (sym is) h

@@ -13,7 +13,8 @@ use Rattle.redo_why.specs.Reasons.{Reason, Altered, Fallen}
 use Rattle.redo_why.specs.Verdicts.{Verdict, Keeps, Begins, Either}
 use Rattle.redo_why.specs.OutOfDate.{Stale, Maybe, Ring, Lost, word_by, word_intact, word_ruled, word_recorded}
 use Rattle.redo_why.specs.OutOfDate.{listed}
-use Rattle.redo_why.proofs.ReasonLemmas.{check_from, found-target}
+use Rattle.redo_why.proofs.ReasonLemmas.{check_from}
+use Rattle.redo_skip.proofs.NewBookLemmas.{found-target}
 
 module _ (s : Sources) (last : LastRun) where
   -- the check of an intact target with a rule that isn't requested

@@ -3,9 +3,7 @@ use Rattle.std.proofs.Common.{◌≡◌, ◌↔◌, ℕ, Bool, true, false, not,
 use Rattle.std.proofs.Common.{Option, Some, None, refl, sym, ap, ◌∙◌}
 use Rattle.std.specs.Prelude.{option_and_then}
 use Rattle.std.specs.List.{AllByRecursion}
-use Rattle.std.specs.Str.{bytes_eq}
 use Rattle.std.proofs.lemmas.Bool.{cases_Bool}
-use Rattle.std.proofs.lemmas.Slice.Eq.{bytes_eq-Decides}
 use Rattle.redo_record.specs.Paths.{IsAmong, is_among}
 use Rattle.redo_book.specs.declared.book.BookEntry.{BookEntry}
 use Rattle.redo_book.specs.Book.{Record, record_at}
@@ -19,6 +17,7 @@ use Rattle.redo_skip.proofs.CheckLemmas.{cases_Standing, finding-stays, found-fi
 use Rattle.redo_why.specs.Reasons.{Reason, Requested, Unrecorded, Altered, Fallen, first_by, first_fallen}
 use Rattle.redo_why.specs.Reasons.{reason_fallen, reason_recorded, reason_of, IsFirstFallen}
 use Rattle.redo_why.proofs.StandingLemmas.{begins_checked, is_fallen}
+use Rattle.redo_skip.proofs.NewBookLemmas.{found-target}
 
 -- Of entries
 
@@ -258,16 +257,6 @@ module _ (s : Sources) (last : LastRun) (a : Ask) where
         (refl, (r, refl, t, first-is s a r.entries e (found.1 ∙ ap (λ (x : BookEntry). Some x) (sym same))))
     | inr f ↦ absurd (let bad : Some Altered ≡ Some (Fallen e) = sym (altered-reason r f) ∙ is in cc)
   ]
-
-pub found-target : (book : List Record) (p : List ℕ) (r : Record) → record_at book p ≡ Some r → r.target ≡ p
-found-target [] p r e = absurd cc
-found-target (x ∷ book) p r e = elim (cases_Bool (bytes_eq x.target p)) [
-  | inl t ↦
-      let here : Some x ≡ Some r = rw t at e in
-      let same : x ≡ r = cc in
-      ap (λ (y : Record). y.target) (sym same) ∙ (bytes_eq-Decides x.target p).0 t
-  | inr f ↦ found-target book p r (rw f at e)
-]
 
 module _ (s : Sources) (last : LastRun) (request : List (List ℕ)) where
   -- a script is begun exactly where there is a reason

@@ -14,7 +14,7 @@ use Rattle.redo_skip.specs.Sources.{File, Sources, without_book}
 use Rattle.redo_skip.specs.Checks.{Check, Checks, asks, AreChecks}
 use Rattle.redo_skip.specs.NewBook.{LastRun, IsGood, check_by, checks_of}
 use Rattle.redo_skip.proofs.CheckLemmas.{not-or}
-use Rattle.redo_skip.proofs.NewBookLemmas.{are-checks, honest-checks}
+use Rattle.redo_skip.proofs.NewBookLemmas.{are-checks, honest-checks, found-target}
 use Rattle.redo_why.specs.Reasons.{Reason, Altered, Fallen, first_fallen, reason_of}
 use Rattle.redo_why.specs.Verdicts.{Verdict, Keeps, Begins, Either, verdict, verdict_checked, verdict_at}
 use Rattle.redo_why.specs.OutOfDate.{first_drop, first_unsure, Word, Stale, Maybe, Ring, Lost, word_by, checks_left}
@@ -28,7 +28,7 @@ use Rattle.redo_why.proofs.KeptLemmas.{needed-target, kept, begun, dropped, ring
 use Rattle.redo_why.proofs.ListedLemmas.{check-intact, check-altered, Cases, is_lost, is_altered, is_checked, cases}
 use Rattle.redo_why.proofs.ListedLemmas.{word-kept, word-ring, word-stale, word-maybe}
 use Rattle.redo_why.proofs.MarkLemmas.{drop-same, begins-drop, either-unsure, IsUnsureAt, IsOpenVerdict}
-use Rattle.redo_why.proofs.ReasonLemmas.{first-falls-all, found-target, reason-altered, reason-recorded}
+use Rattle.redo_why.proofs.ReasonLemmas.{first-falls-all, reason-altered, reason-recorded}
 use Rattle.redo_why.proofs.StandingLemmas.{begins_checked, is_fallen}
 
 module _ (s : Sources) (last : LastRun) (request : List (List ℕ)) (limit : ℕ) (lawful : AreLawful (without_book s))

@@ -1,6 +1,6 @@
 -- The check of a target, as far as it has come.
-use Rattle.std.specs.Prelude.{◌≡◌, ◌+◌, ◌<◌, ◌≤◌, ℕ, true, List, [], ◌∷◌, ◌++◌, Option, Some, None, map, take}
-use Rattle.std.specs.Prelude.{MatchOption, flat_map, length, option_and_then, slice_get}
+use Rattle.std.specs.Prelude.{◌≡◌, ◌+◌, ◌≤◌, ℕ, true, List, [], ◌∷◌, ◌++◌, Option, Some, None, map, take}
+use Rattle.std.specs.Prelude.{MatchOption, length, option_and_then, slice_get}
 use Rattle.std.specs.List.{IsDistinct}
 use Rattle.redo_digest.specs.Digest.{State}
 use Rattle.redo_record.specs.declared.deps.Dep.{Dep}
@@ -11,9 +11,10 @@ use Rattle.redo_book.specs.declared.book.BookEntry.TheVariants.{Change}
 use Rattle.redo_book.specs.Book.{Record, same_entry}
 use Rattle.redo_build.specs.Rules.{Ask, Rules, operands}
 use Rattle.redo_build.specs.Schedule.{nothing_known}
-use Rattle.redo_skip.specs.Checks.{Standing, asking, asks, falls, is_asked, lacks, shown, standing, stands}
+use Rattle.redo_skip.specs.Checks.{Standing, asking, falls, is_asked, lacks, shown, standing, stands}
 use Rattle.redo_skip.specs.NewBook.{check_by}
 use Rattle.redo_skip.specs.Sources.{Sources}
+use Rattle.redo_skip.specs.inside.Stood.{HaveStood, StandAlone, asked_by}
 use Rattle.redo_rules.specs.Build.{GivenView, rules_for, sources_for, checks_for, last_run_of}
 use Rattle.redo_core.specs.declared.check.Check.{Check}
 use Rattle.redo_core.specs.declared.check.Alone.{Alone}
@@ -24,15 +25,6 @@ abbrev pub standing_of : Alone → Standing
 standing_of Stands = stands
 standing_of Asks = lacks
 standing_of Falls = falls
-
--- the paths that entries ask for
-abbrev pub asked_by : Sources → List BookEntry → List (List ℕ)
-asked_by s es = flat_map (asks s) es
-
--- the entries from one index up to another stand without any answer
-abbrev pub StandAlone : Sources → List BookEntry → ℕ → ℕ → Type 0
-StandAlone s es from to =
-    (k : ℕ) (e : BookEntry) → from ≤ k → k < to → slice_get es k ≡ Some e → standing s nothing_known e ≡ stands
 
 -- the entries from one index up to another stand without any answer; the next one asks for a path, or there is none
 pub record IsWalkedTo (s : Sources) (es : List BookEntry) (from to : ℕ) : Type 0 where
@@ -49,11 +41,6 @@ pub record FallsBehind (s : Sources) (es : List BookEntry) (from : ℕ) : Type 0
   pub there : slice_get es at ≡ Some entry
   pub alone : StandAlone s es from at
   pub fallen : standing s nothing_known entry ≡ falls
-
--- the first n entries stand, given these answers
-pub record HaveStood (s : Sources) (a : Ask) (es : List BookEntry) (n : ℕ) : Type 0 where
-  pub within : n ≤ length es
-  pub each : (k : ℕ) (e : BookEntry) → k < n → slice_get es k ≡ Some e → standing s a e ≡ stands
 
 -- the check of a target is by the record with this number
 pub record IsCheckedBy (given : GivenView) (p : List ℕ) (number : ℕ) : Type 0 where

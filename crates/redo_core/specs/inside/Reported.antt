@@ -1,17 +1,15 @@
 -- How a report is made of a table whose targets wait or are decided.
-use Rattle.std.specs.Prelude.{◌≡◌, ◌⊎◌, Bool, true, false, ℕ, List, [], ◌∷◌, ◌++◌, ◌<◌, length, Option, Some}
-use Rattle.std.specs.Prelude.{MatchOption, filter, flat_map, fold, is_some, map, slice_get, if◌then◌else◌}
+use Rattle.std.specs.Prelude.{◌≡◌, ◌⊎◌, ◌↔◌, Bool, true, false, ℕ, List, [], ◌∷◌, ◌++◌, ◌<◌, length, Option, Some}
+use Rattle.std.specs.Prelude.{MatchOption, filter, flat_map, is_some, map, slice_get, if◌then◌else◌}
 use Rattle.std.specs.Arc.{arc_value}
 use Rattle.std.specs.Borrow.{Bor}
-use Rattle.std.specs.BTreeSet.{insert_key}
-use Rattle.std.specs.Cmp.Lexicographic.{slice_cmp}
-use Rattle.std.specs.Ordering.{nat_cmp}
 use Rattle.redo_tree.specs.Tree.{Tree, file_at}
 use Rattle.redo_step.specs.JobView.{record_so_far}
 use Rattle.redo_record.specs.declared.deps.Dep.{Dep}
 use Rattle.redo_record.specs.declared.outcome.Outcome.{Outcome}
 use Rattle.redo_record.specs.declared.outcome.Outcome.TheVariants.{Source, Built, Cyclic}
 use Rattle.redo_record.specs.Paths.{IsAmong}
+use Rattle.redo_report.specs.Reports.{AreAscending, row_paths}
 use Rattle.redo_report.specs.declared.report.Report.{Report}
 use Rattle.redo_report.specs.declared.report.Row.{Row}
 use Rattle.redo_rules.specs.Build.{GivenView}
@@ -22,16 +20,14 @@ use Rattle.redo_core.specs.declared.table.Stage.{Stage}
 use Rattle.redo_core.specs.declared.table.Stage.TheVariants.{Checking, Waiting, Decided}
 use Rattle.redo_core.specs.declared.table.Table.{Table}
 
--- these paths with more of them at their places in path order, each once
-abbrev pub placed : List (List ℕ) → List (List ℕ) → List (List ℕ)
-placed ps qs = fold (insert_key (slice_cmp nat_cmp)) ps qs
-
 abbrev pub sources_among : Tree → List (List ℕ) → List (List ℕ)
 sources_among tree ps = filter (λ p. is_some (file_at tree p)) ps
 
--- the targets of a table and the requested sources in path order, each once
-abbrev pub reported_paths : Tree → List (List ℕ) → Table → List (List ℕ)
-reported_paths tree request t = placed (placed [] t.targets) (sources_among tree request)
+-- these paths are the targets and the requested sources, in path order, each once
+pub record AreReported (tree : Tree) (request targets paths : List (List ℕ)) : Type 0 where
+  pub members : (p : List ℕ) → IsAmong paths p ↔
+      (IsAmong targets p ⊎ (IsAmong request p × (is_some (file_at tree p) ≡ true)))
+  pub ordered : AreAscending paths
 
 -- the paths of what is made into rows; each comes with its number if it is a target
 abbrev pub listed_paths : List (Bor (List ℕ) × Option ℕ) → List (List ℕ)
@@ -124,7 +120,7 @@ pub record AddsRow (row : Row) (is_begun : Bool) (old new : Report) : Type 0 whe
 
 -- the report is made of the rows of the table's targets and of the requested sources
 pub record IsReportOf (given : GivenView) (t : Table) (report : Report) : Type 0 where
-  pub paths : map (λ row. row.path) report.rows.items ≡ reported_paths given.past.sources given.request t
+  pub paths : AreReported given.past.sources given.request t.targets (row_paths report)
   pub bits : List Bool
   pub rows : AreRowsOf given t report.rows.items bits
   pub files : report.files.items ≡ row_files report.rows.items

@@ -18,7 +18,7 @@ use Rattle.redo_record.specs.Paths.{IsAmong, AreDistinct}
 use Rattle.redo_core.specs.declared.board.Stop.TheVariants.{TooMany}
 use Rattle.redo_build.specs.Outcomes.{outcome_at, IsTooMany}
 use Rattle.redo_build.specs.Schedule.{Entry, State, outcomes_of, entry_of, nothing_known, entered, handed_in, only}
-use Rattle.redo_build.specs.Schedule.{opening, put}
+use Rattle.redo_build.specs.Schedule.{IsReached, opening, put}
 use Rattle.redo_build.specs.Looking.{looked, looked_once}
 use Rattle.redo_which.specs.Rule.{found_of}
 use Rattle.redo_core.specs.inside.Checking.{IsBegunBehind, IsDueCheck, IsWaitingCheck}
@@ -33,7 +33,7 @@ use Rattle.redo_core.specs.declared.work.Work.{Work}
 use Rattle.redo_core.specs.declared.work.Begun.{Begun}
 use Rattle.redo_build.specs.inside.Standing.{AreStanding}
 use Rattle.redo_build.specs.inside.Turns.{deps_at_turn, IsWork}
-use Rattle.redo_core.specs.Views.{IsReached, WorkView, FactView}
+use Rattle.redo_core.specs.Views.{WorkView, FactView}
 use Rattle.redo_core.specs.declared.table.Slot.{Slot}
 use Rattle.redo_core.specs.declared.table.Stage.{Stage}
 use Rattle.redo_core.specs.declared.table.Stage.TheVariants.{Due, Checking, Waiting, Ready, Out, Decided}

@@ -2,7 +2,8 @@ use Rattle.std.proofs.Common.{◌≡◌, ◌∙◌, ap, arith, length, sym, subs
 use Rattle.redo_skip.specs.Checks.{standing, stands}
 use Rattle.redo_build.specs.Schedule.{nothing_known}
 use Rattle.redo_rules.specs.Build.{sources_for}
-use Rattle.redo_core.specs.inside.Checking.{standing_of, StandAlone}
+use Rattle.redo_skip.specs.inside.Stood.{StandAlone}
+use Rattle.redo_core.specs.inside.Checking.{standing_of}
 use Rattle.redo_core.proofs.CheckSteps.{walk-end, walk-more}
 use Rattle.redo_core.proofs.check.walk.Goals as goal
 

@@ -1,6 +1,6 @@
 use Rattle.std.proofs.Common.{◌≤◌}
 use Rattle.redo_rules.specs.Build.{sources_for}
-use Rattle.redo_core.specs.inside.Checking.{StandAlone}
+use Rattle.redo_skip.specs.inside.Stood.{StandAlone}
 use Rattle.redo_core.proofs.check.walk.Given as goal
 
 -- the entries so far stand, whatever is known

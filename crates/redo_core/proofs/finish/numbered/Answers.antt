@@ -2,13 +2,13 @@ use Rattle.std.proofs.Common.{◌++◌, ◌∷◌, [], ◌<◌, length, take, sy
 use Rattle.std.proofs.lemmas.List.{map-append, take_more}
 use Rattle.std.proofs.lemmas.List.Elements.{All-push}
 use Rattle.redo_core.specs.inside.Reported.{listed_paths, IsNumberOf}
-use Rattle.redo_core.proofs.SlotLemmas.{slice_get-item}
+use Rattle.redo_table.proofs.TargetLemmas.{read-there}
 use Rattle.redo_core.proofs.finish.numbered.Goals as goal
 
 pub loop-at-preserved : goal.loop-at-preserved
 loop-at-preserved c =
     let below : c.loop-at.at < length c.args.targets.now = omega (arith, c.loop-at-test.true, c.loop-at.auto.at-end) in
-    let here = slice_get-item c.args.targets.now c.loop-at.at c.index-targets-at.result below c.index-targets-at.is in
+    let here = read-there c.args.targets.now c.loop-at.at c.index-targets-at.result below c.index-targets-at.is in
     record {
       paths =
           ap listed_paths c.in_ok-push.ensures.items

@@ -1,7 +1,7 @@
-use Rattle.std.proofs.Common.{◌≡◌, List, ℕ, take}
-use Rattle.redo_names.specs.Paths.{is_among}
+use Rattle.std.proofs.Common.{◌≡◌, [], drop}
+use Rattle.redo_record.specs.Paths.{with_new}
 use Rattle.redo_core.proofs.given.set_of.Given as goal
 
--- the paths so far
+-- the paths so far, with those that are left, are all
 abbrev pub invariant-loop-path : goal.invariant-loop-path
-invariant-loop-path l = (p : List ℕ) → is_among l.set p ≡ is_among (take l.path-index l.paths) p
+invariant-loop-path l = with_new l.set (drop l.path-index l.paths) ≡ with_new [] l.paths

@@ -1,6 +1,6 @@
 use Rattle.std.proofs.Common.{◌≡◌, List, ℕ, [], sym, ap, subst, ◌∙◌}
 use Rattle.std.specs.List.{list_any}
-use Rattle.redo_core.specs.inside.Reported.{placed}
+use Rattle.redo_record.specs.Paths.{with_new}
 use Rattle.redo_report.specs.declared.report.Row.{Row}
 use Rattle.redo_rules.specs.Build.{GivenView, rules_for}
 use Rattle.redo_rules.specs.Results.{IsResult}
@@ -11,12 +11,12 @@ use Rattle.redo_run.proofs.exit.exit_after.Goals.{After-has_failed}
 
 -- what was looked for is whether a row of the build's own report tells of no success
 found : (c : After-has_failed) (given : GivenView) → given.request ≡ c.args.request.now → (is : IsResult given c.args.report.now) →
-    list_any (fails (placed [] given.request)) is.report.rows.items ≡ c.has_failed.result
+    list_any (fails (with_new [] given.request)) is.report.rows.items ≡ c.has_failed.result
 found c given same is =
     let A : List (List ℕ) → Type 0 = λ keys. c.has_failed.result ≡ list_any (fails keys) c.rows.result.now in
-    let B : List Row → Type 0 = λ rows. c.has_failed.result ≡ list_any (fails (placed [] c.args.request.now)) rows in
-    ap (λ rows. list_any (fails (placed [] given.request)) rows) (sym is.with_book.rows)
-    ∙ ap (λ ps. list_any (fails (placed [] ps)) c.args.report.now.rows.items) same
+    let B : List Row → Type 0 = λ rows. c.has_failed.result ≡ list_any (fails (with_new [] c.args.request.now)) rows in
+    ap (λ rows. list_any (fails (with_new [] given.request)) rows) (sym is.with_book.rows)
+    ∙ ap (λ ps. list_any (fails (with_new [] ps)) c.args.report.now.rows.items) same
     ∙ sym (subst B c.rows.ensures (subst A c.in_ok-wanted.ensures c.has_failed.ensures))
 
 pub returns-then-has_failed : goal.returns-then-has_failed

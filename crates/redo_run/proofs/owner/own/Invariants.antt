@@ -1,6 +1,4 @@
-use Rattle.std.proofs.Common.{◌≡◌, ◌+◌, ◌≤◌, ℕ, length, map}
-use Rattle.std.specs.Prelude.{IsNone}
-use Rattle.redo_core.specs.Taken.{HasTaken}
+use Rattle.std.proofs.Common.{◌+◌, ◌≤◌, ℕ, length, map}
 use Rattle.redo_sync.specs.Relay.{RelayId}
 use Rattle.redo_run.specs.inside.Workers.{HasKeptUp, IsManned, IsSameOwner}
 use Rattle.redo_run.proofs.owner.own.Given as goal

@@ -1,11 +1,10 @@
 use Rattle.std.proofs.Common.{rules, ◌≡◌, [], ℕ, List, sym, subst}
-use Rattle.redo_build.specs.Takes.{AreBegun, AreCountedOnce}
+use Rattle.redo_build.specs.Takes.{AreBegun}
 use Rattle.redo_build.specs.Theorems.{ShowsBuild}
 use Rattle.redo_core.specs.Views.{IsQuietBoard, limit_on, request_on, rules_on}
 use Rattle.redo_report.specs.declared.report.Report.{Report}
-use Rattle.redo_rules.specs.Build.{GivenView}
 use Rattle.redo_rules.specs.Results.{IsResult}
-use Rattle.redo_sync.specs.Relay.{Pair, Shares, SharesOut}
+use Rattle.redo_sync.specs.Relay.{Pair, SharesOut}
 use Rattle.redo_run.proofs.LedgerLemmas.{begun_shared, once_shared, without_memory}
 use Rattle.redo_run.proofs.workers.answer_of.Goals as goal
 

@@ -1,5 +1,4 @@
-use Rattle.std.proofs.Common.{rules, ◌≡◌, [], ℕ, List, Err, ap, ◌∙◌}
-use Rattle.std.specs.Prelude.{IfOk}
+use Rattle.std.proofs.Common.{rules, ℕ, List, Err, ap, ◌∙◌}
 use Rattle.redo_rules.specs.Results.{IsGiven, IsResultOn, NeedsTooMany}
 use Rattle.redo_step.specs.Limits.{LimitsView}
 use Rattle.redo_tree.specs.Tree.{IsTree, Tree}

@@ -1,4 +1,4 @@
-use Rattle.std.proofs.Common.{◌≡◌, ◌∷◌, [], List, ap, arith, length, subst}
+use Rattle.std.proofs.Common.{◌∷◌, [], List, ap, arith, length, subst}
 use Rattle.std.specs.Prelude.{All}
 use Rattle.std.proofs.lemmas.List.{length-append}
 use Rattle.redo_sync.specs.Relay.{Taker}

@@ -1,7 +1,7 @@
 use Rattle.std.proofs.Common.{◌≡◌, ◌<◌, cond, map, is_some, length, slice_get, Some, sym, ap, subst, ◌∙◌, refl}
 use Rattle.redo_table.specs.Schedule.{ScheduleView}
 use Rattle.redo_core.specs.inside.Slots.{IsKept, path_at, state_of}
-use Rattle.redo_core.proofs.SlotLemmas.{slice_get-item}
+use Rattle.redo_table.proofs.TargetLemmas.{read-there}
 use Rattle.redo_core.proofs.TakeLemmas.{found_job, taken_state, work_taken, running}
 use Rattle.redo_core.proofs.TakeLemmas.{kept-taken, below_items, staged-below, turn_small, part-inside}
 use Rattle.redo_core.specs.Views.{BoardView, WorkView, IsWorkTaken, jobs_out}
@@ -18,7 +18,7 @@ kept : (c : After-replace) → IsKept c.self.inside
 kept c = c.self.invariant.kept (running c.self.inside.stopped _ c.args.which (count c))
 
 there : (c : After-replace) → slice_get c.self.inside.table.slots.items c.take-at.result ≡ Some c.index_mut-slot.result.now
-there c = slice_get-item c.self.inside.table.slots.items c.take-at.result c.index_mut-slot.result.now
+there c = read-there c.self.inside.table.slots.items c.take-at.result c.index_mut-slot.result.now
     (staged-below c.self.inside (kept c) c.take-at.result c.take-at.ensures.was) c.index_mut-slot.ensures.value
 
 below : (c : After-replace) → c.args.which < length (state_of c.self.inside).ready

@@ -1,7 +1,6 @@
 use Rattle.std.proofs.lemmas.Result.{on_ok_weaker}
 use Rattle.redo_core.proofs.ConcludeSteps.{concluded-settled, concluded-standing, concluded-table}
 use Rattle.redo_core.proofs.table.Table.conclude.Goals as goal
-use Rattle.redo_core.proofs.table.Table.conclude.Goals.{In_ok-decide}
 
 pub settle-requires-clause-table : goal.settle-requires-clause-table
 settle-requires-clause-table c =

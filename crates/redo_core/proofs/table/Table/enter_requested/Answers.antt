@@ -2,7 +2,7 @@ use Rattle.std.proofs.Common.{◌≡◌, ℕ, List, [], ◌∷◌, ◌++◌, Err
 use Rattle.std.proofs.Common.{true}
 use Rattle.redo_rules.specs.Build.{GivenView, rules_for}
 use Rattle.redo_core.specs.inside.Slots.{AreEnteredInto, table_entries, targets_in}
-use Rattle.redo_core.proofs.SlotLemmas.{slice_get-item}
+use Rattle.redo_table.proofs.TargetLemmas.{read-there}
 use Rattle.redo_core.proofs.EnterAllLemmas.{enter-more}
 use Rattle.redo_core.proofs.OpeningLemmas.{targets-more, one-target, no-target, too-many-requested}
 use Rattle.redo_core.proofs.table.Table.enter_requested.Goals as goal
@@ -13,7 +13,7 @@ returns-in_err-enter-clause-too_many c = λ is.
     let made = rw is at c.from_residual.ensures in
     let given : GivenView = c.args.build.now in
     let i = c.loop-path.path-index in
-    let get = slice_get-item c.args.request.now i c.path-item.result c.loop-path-test.true c.path-item.is in
+    let get = read-there c.args.request.now i c.path-item.result c.loop-path-test.true c.path-item.is in
     let err = c.in_err-enter.was ∙ ap Err (sym made.1) in
     let target : not ((rules_for given).is_source c.path-item.result) ≡ true = ap (λ (g : GivenView). not ((rules_for g).is_source c.path-item.result)) (sym c.given.ensures) ∙ sym c.if-is_target.ensures in
     too-many-requested (rules_for given) (table_entries given c.args.self.now) (table_entries given c.loop-path.self)
@@ -23,7 +23,7 @@ pub loop-path-preserved : goal.loop-path-preserved
 loop-path-preserved c =
     let given : GivenView = c.args.build.now in
     let i = c.loop-path.path-index in
-    let get = slice_get-item c.args.request.now i c.path-item.result c.loop-path-test.true c.path-item.is in
+    let get = read-there c.args.request.now i c.path-item.result c.loop-path-test.true c.path-item.is in
     let more = targets-more (rules_for given) c.args.request.now i c.path-item.result get in
     let P : List (List ℕ) → Type 0 = λ ps. AreEnteredInto given c.args.self.now c.if-is_target.self ps in
     let here = ap (λ (g : GivenView). not ((rules_for g).is_source c.path-item.result)) (sym c.given.ensures) in

@@ -1,14 +1,13 @@
 use Rattle.std.proofs.Common.{◌≡◌, ◌<◌, length, slice_get, Some, rules}
 use Rattle.std.proofs.lemmas.Result.{on_ok_weaker}
-use Rattle.redo_table.proofs.TargetLemmas.{index-there}
+use Rattle.redo_table.proofs.TargetLemmas.{index-there, read-there}
 use Rattle.redo_core.proofs.GoOnSteps.{answered-below, answered-check, answered-else, answered-fed, answered-in_hand, answered-long}
 use Rattle.redo_core.proofs.GoOnSteps.{made_ready-gone_on, resumed-gone_on}
-use Rattle.redo_core.proofs.SlotLemmas.{slice_get-item}
 use Rattle.redo_core.proofs.table.Table.go_on.Goals as goal
 use Rattle.redo_core.proofs.table.Table.go_on.Goals.{After-index}
 
 there : (c : After-index) → slice_get c.args.self.now.slots.items c.args.at ≡ Some c.index.result.now
-there c = slice_get-item c.args.self.now.slots.items c.args.at c.index.result.now
+there c = read-there c.args.self.now.slots.items c.args.at c.index.result.now
     (answered-below c.args.build.now c.args.self.now c.args.at c.args.on.now c.requires) c.index.ensures
 
 pub make_ready-requires-clause-fed : goal.make_ready-requires-clause-fed

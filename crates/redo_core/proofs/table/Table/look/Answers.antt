@@ -3,7 +3,7 @@ use Rattle.redo_build.specs.Looking.{looked_once}
 use Rattle.redo_build.specs.Schedule.{State}
 use Rattle.redo_build.specs.Schedule.Phase.{Check}
 use Rattle.redo_rules.specs.Build.{GivenView, rules_for}
-use Rattle.redo_core.specs.Views.{IsReached}
+use Rattle.redo_build.specs.Schedule.{IsReached}
 use Rattle.redo_core.specs.inside.Slots.{IsPutBackThere, MayLook, state_after}
 use Rattle.redo_core.specs.declared.table.InCheck.{InCheck}
 use Rattle.redo_core.proofs.CheckingLemmas.{number-within}

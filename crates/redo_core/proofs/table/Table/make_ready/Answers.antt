@@ -10,15 +10,16 @@ use Rattle.redo_core.specs.declared.work.Begun.{Begun}
 use Rattle.redo_core.specs.Views.{WorkView}
 use Rattle.redo_core.specs.declared.table.Slot.{Slot}
 use Rattle.redo_core.specs.declared.table.Stage.TheVariants.{Ready}
-use Rattle.redo_core.proofs.SlotLemmas.{slice_get-item, slice_get-below_some}
+use Rattle.std.proofs.lemmas.Option.{slice_get_within}
+use Rattle.redo_table.proofs.TargetLemmas.{read-there}
 use Rattle.redo_core.proofs.TableLemmas.{put-again}
 use Rattle.redo_core.proofs.MakeReadySteps.{fed-here, gain-decided, fed-work}
 use Rattle.redo_core.proofs.table.Table.make_ready.Goals as goal
 use Rattle.redo_core.proofs.table.Table.make_ready.Goals.{After-replace-stage}
 
 there : (c : After-replace-stage) → slice_get c.args.self.now.slots.items c.args.at ≡ Some c.index_mut-slot.result.now
-there c = slice_get-item c.args.self.now.slots.items c.args.at c.index_mut-slot.result.now
-    (slice_get-below_some c.args.self.now.slots.items c.args.at c.requires.fed.0 c.requires.fed.2.there) c.index_mut-slot.ensures.value
+there c = read-there c.args.self.now.slots.items c.args.at c.index_mut-slot.result.now
+    (slice_get_within c.args.self.now.slots.items c.args.at c.requires.fed.0 c.requires.fed.2.there) c.index_mut-slot.ensures.value
 
 gone : (c : After-replace-stage) → Slot
 gone c = record { looks = c.index_mut-slot.result.now.looks; turn = c.index_mut-slot.result.now.turn; stage = c.replace-stage.new.dest }
@@ -36,7 +37,7 @@ gain-requires c =
 
 pub index_mut-slot-requires-2 : goal.index_mut-slot-requires-2
 index_mut-slot-requires-2 c =
-    let below : c.args.at < length c.args.self.now.slots.items = slice_get-below_some c.args.self.now.slots.items c.args.at c.requires.fed.0 c.requires.fed.2.there in
+    let below : c.args.at < length c.args.self.now.slots.items = slice_get_within c.args.self.now.slots.items c.args.at c.requires.fed.0 c.requires.fed.2.there in
     search rules
 
 pub of-requires : goal.of-requires
@@ -61,8 +62,8 @@ returns c =
     let slot = c.index_mut-slot.result.now in
     let d = (goal.at-returns c).After-replace-stage in
     let len = length-set t.slots.items c.args.at (gone d) in
-    let again = slice_get-item (slice_set t.slots.items c.args.at (gone d)) c.args.at c.index_mut-slot-2.result.now
-    (omega (arith, len, slice_get-below_some t.slots.items c.args.at slot (there d))) c.index_mut-slot-2.ensures.value in
+    let again = read-there (slice_set t.slots.items c.args.at (gone d)) c.args.at c.index_mut-slot-2.result.now
+    (omega (arith, len, slice_get_within t.slots.items c.args.at slot (there d))) c.index_mut-slot-2.ensures.value in
     on_ok_weaker c.make_ready.result (λ now. record {
       old = slot;
       begun = c.in-Waiting.begun;

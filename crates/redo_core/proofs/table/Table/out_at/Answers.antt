@@ -1,7 +1,8 @@
 use Rattle.std.proofs.Common.{◌≡◌, ◌<◌, ℕ, rules, length, slice_get, Some, true, sym, ap, subst, ◌∙◌, arith}
 use Rattle.redo_core.specs.declared.table.Slot.{Slot}
 use Rattle.redo_build.proofs.QueueLemmas.{slice_get-among}
-use Rattle.redo_core.proofs.SlotLemmas.{slice_get-item, slice_get-below_some}
+use Rattle.std.proofs.lemmas.Option.{slice_get_within}
+use Rattle.redo_table.proofs.TargetLemmas.{read-there}
 use Rattle.redo_core.proofs.NewlyReadyLemmas.{distinct-place}
 use Rattle.std.proofs.lemmas.Bool.{both_ways}
 use Rattle.redo_core.specs.inside.Slots.{is_stage_out}
@@ -15,17 +16,17 @@ returns-in_default c = λ at o. c.in_default.ensures (slice_get-among c.args.sel
 pub index-slot-requires : goal.index-slot-requires
 index-slot-requires c =
     let below : c.in-Some.at < length c.args.self.now.slots.items =
-    omega (arith, c.requires.one_each, slice_get-below_some c.args.self.now.targets c.in-Some.at c.args.target.now c.in-Some.ensures) in
+    omega (arith, c.requires.one_each, slice_get_within c.args.self.now.targets c.in-Some.at c.args.target.now c.in-Some.ensures) in
     search rules
 
 pub returns-then-slot-turn : goal.returns-then-slot-turn
 returns-then-slot-turn c =
     let below : c.in-Some.at < length c.args.self.now.slots.items =
-    omega (arith, c.requires.one_each, slice_get-below_some c.args.self.now.targets c.in-Some.at c.args.target.now c.in-Some.ensures) in
+    omega (arith, c.requires.one_each, slice_get_within c.args.self.now.targets c.in-Some.at c.args.target.now c.in-Some.ensures) in
     record {
       slot = c.index-slot.result.now;
       path = c.in-Some.ensures;
-      there = slice_get-item c.args.self.now.slots.items c.in-Some.at c.index-slot.result.now below c.index-slot.ensures;
+      there = read-there c.args.self.now.slots.items c.in-Some.at c.index-slot.result.now below c.index-slot.ensures;
       is_out = out-stage c.index-slot.result.now.stage (sym c.if-is_out.ensures);
       at_turn = c.if-slot-turn.true;
     }
@@ -33,8 +34,8 @@ returns-then-slot-turn c =
 pub returns : goal.returns
 returns c = λ at o.
     let below : c.in-Some.at < length c.args.self.now.slots.items =
-    omega (arith, c.requires.one_each, slice_get-below_some c.args.self.now.targets c.in-Some.at c.args.target.now c.in-Some.ensures) in
-    let there = slice_get-item c.args.self.now.slots.items c.in-Some.at c.index-slot.result.now below c.index-slot.ensures in
+    omega (arith, c.requires.one_each, slice_get_within c.args.self.now.targets c.in-Some.at c.args.target.now c.in-Some.ensures) in
+    let there = read-there c.args.self.now.slots.items c.in-Some.at c.index-slot.result.now below c.index-slot.ensures in
     let same : at ≡ c.in-Some.at = distinct-place c.args.self.now.targets at c.in-Some.at c.args.target.now c.requires.distinct o.path c.in-Some.ensures in
     let P : ℕ → Type 0 = λ k. slice_get c.args.self.now.slots.items k ≡ Some o.slot in
     let both : Some o.slot ≡ Some c.index-slot.result.now = sym (subst P same o.there) ∙ there in

@@ -8,7 +8,8 @@ use Rattle.redo_core.specs.declared.table.InCheck.{InCheck}
 use Rattle.redo_core.specs.declared.table.Slot.{Slot}
 use Rattle.redo_core.specs.declared.table.Stage.TheVariants.{Due, Ready}
 use Rattle.redo_core.specs.declared.table.Table.{Table}
-use Rattle.redo_core.proofs.SlotLemmas.{slice_get-item, slice_get-below_some}
+use Rattle.std.proofs.lemmas.Option.{slice_get_within}
+use Rattle.redo_table.proofs.TargetLemmas.{read-there}
 use Rattle.redo_core.proofs.ResumeSteps.{answer-there, answered-here, check-within, held-due, held-fallen, held-ready}
 use Rattle.redo_core.proofs.TableLemmas.{put-again}
 use Rattle.redo_core.proofs.table.Table.resume.Goals as goal
@@ -26,9 +27,9 @@ left c = record c.args.self.now { slots = with_item c.args.self.now.slots c.args
 
 answer : (c : In-Checking) → IsAnsweredAs c.args.build.now c.args.self.now c.args.at c.args.place c.index_mut.result.now c.in-Checking.awaiting
 answer c =
-    let below = slice_get-below_some c.args.self.now.slots.items c.args.at c.requires.answered.0 c.requires.answered.2.there in
+    let below = slice_get_within c.args.self.now.slots.items c.args.at c.requires.answered.0 c.requires.answered.2.there in
     answered-here c.args.build.now c.args.self.now c.args.at c.args.place c.index_mut.result.now c.in-Checking.awaiting c.requires.answered
-    (slice_get-item c.args.self.now.slots.items c.args.at c.index_mut.result.now below c.index_mut.ensures.value)
+    (read-there c.args.self.now.slots.items c.args.at c.index_mut.result.now below c.index_mut.ensures.value)
     (sym c.replace-stage.ensures.value ∙ c.in-Checking.is)
 
 -- the slot that is written to
@@ -36,7 +37,7 @@ within : (c : In-Checking) → c.args.at < length (slice_set c.args.self.now.slo
 within c = omega (
   arith,
   length-set c.args.self.now.slots.items c.args.at (gone (goal.at-In-Checking c).After-replace-stage),
-  slice_get-below_some c.args.self.now.slots.items c.args.at c.index_mut.result.now (answer c).there,
+  slice_get_within c.args.self.now.slots.items c.args.at c.index_mut.result.now (answer c).there,
 )
 
 -- the check with its answer
@@ -81,7 +82,7 @@ returns-then-stands c =
     let f = (goal.at-returns-then-stands c).In-Checking in
     let answered = answer f in
     let rule = ap (λ (h : InCheck). h.rule) c.deref_mut.ensures.value in
-    let again = slice_get-item (slice_set t.slots.items c.args.at (gone d)) c.args.at c.index_mut-then-stands.result.now (within f) c.index_mut-then-stands.ensures.value in
+    let again = read-there (slice_set t.slots.items c.args.at (gone d)) c.args.at c.index_mut-then-stands.result.now (within f) c.index_mut-then-stands.ensures.value in
     let box = with_value awaiting.held (held e) in
     on_ok_weaker c.make_due.result (λ now. record {
       old = slot;
@@ -102,7 +103,7 @@ returns-then-stands c =
 pub at-requires : goal.at-requires
 at-requires c =
     let path = (answer (goal.at-at-requires c).In-Checking).path in
-    let below : c.args.at < length c.args.self.now.targets = slice_get-below_some c.args.self.now.targets c.args.at (path_at c.args.self.now.targets c.args.at) path in
+    let below : c.args.at < length c.args.self.now.targets = slice_get_within c.args.self.now.targets c.args.at (path_at c.args.self.now.targets c.args.at) path in
     below
 
 pub fallen-requires : goal.fallen-requires
@@ -121,7 +122,7 @@ fallen-requires c =
 
 pub index_mut-requires-2 : goal.index_mut-requires-2
 index_mut-requires-2 c =
-    let below : c.args.at < length c.args.self.now.slots.items = slice_get-below_some c.args.self.now.slots.items c.args.at c.requires.answered.0 c.requires.answered.2.there in
+    let below : c.args.at < length c.args.self.now.slots.items = slice_get_within c.args.self.now.slots.items c.args.at c.requires.answered.0 c.requires.answered.2.there in
     search rules
 
 pub returns : goal.returns
@@ -135,7 +136,7 @@ returns c =
     let f = (goal.at-returns c).In-Checking in
     let answered = answer f in
     let rule = ap (λ (h : InCheck). h.rule) c.deref_mut.ensures.value in
-    let again = slice_get-item (slice_set t.slots.items c.args.at (gone d)) c.args.at c.index_mut-2.result.now (within f) c.index_mut-2.ensures.value in
+    let again = read-there (slice_set t.slots.items c.args.at (gone d)) c.args.at c.index_mut-2.result.now (within f) c.index_mut-2.ensures.value in
     let paths : Some c.at.result.now ≡ Some (path_at t.targets c.args.at) = sym c.at.ensures ∙ answered.path in
     let path : c.at.result.now ≡ path_at t.targets c.args.at = cc in
     let work = c.in_ok-work.work in

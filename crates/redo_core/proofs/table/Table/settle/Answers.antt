@@ -4,7 +4,7 @@ use Rattle.redo_table.specs.Schedule.StageView.{InHand}
 use Rattle.redo_core.specs.inside.Slots.{IsAnsweredAt}
 use Rattle.redo_core.proofs.GoOnSteps.{settling-answered, settling-fewer, settling-more}
 use Rattle.redo_core.proofs.table.Table.settle.Goals as goal
-use Rattle.redo_core.proofs.table.Table.settle.Goals.{In-Some, In_ok-go_on}
+use Rattle.redo_core.proofs.table.Table.settle.Goals.{In-Some}
 
 answered : (c : In-Some) → IsAnswered c.loop-answered.self.schedule.stages c.in-Some.answered.at c.in-Some.answered.on.items ×
     (c.next_answered.new.self ≡ with_stage c.loop-answered.self.schedule c.in-Some.answered.at InHand)

@@ -18,5 +18,5 @@ returns-in_ok-fact-in-Ended-clause-end c =
 pub returns-in_ok-begun-in-Asks-clause-end : goal.returns-in_ok-begun-in-Asks-clause-end
 returns-in_ok-begun-in-Asks-clause-end c =
     stopped-end c.args.given.now c.args.self.job c.args.self.facts c.requires.work c.in-Asks.job c.in-Asks.paths.items
-    (rw c.in-Asks.is at c.in_ok-done.ensures) c.more_answers.ensures c.args.self.loops_long c.in_ok-begun-in-Asks.begun c.in-Asks.paths
+    (rw c.in-Asks.is at c.in_ok-done.ensures) c.args.self.loops_long c.in_ok-begun-in-Asks.begun c.in-Asks.paths
     c.in_ok-begun-in-Asks.ensures.ok refl

@@ -1,4 +1,4 @@
-use Rattle.std.proofs.Common.{◌≡◌, sym, subst}
+use Rattle.std.proofs.Common.{sym, subst}
 use Rattle.std.specs.Prelude.{OnOk}
 use Rattle.redo_rules.specs.Results.{IsGiven}
 use Rattle.redo_run.specs.inside.Workers.{OwnerView, HasKeptUp, NeedsMany}

@@ -1,4 +1,4 @@
-use Rattle.std.proofs.Common.{◌≡◌, ◌∙◌, Err, Option, Result, sym, subst}
+use Rattle.std.proofs.Common.{◌∙◌, Option, Result, sym, subst}
 use Rattle.std.specs.Prelude.{IsNone, OnOk}
 use Rattle.redo_core.specs.declared.board.Stop.{Stop}
 use Rattle.redo_run.specs.inside.Workers.{OwnerView, HasKeptUp, NeedsMany}

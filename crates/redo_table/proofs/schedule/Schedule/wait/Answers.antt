@@ -1,15 +1,8 @@
-use Rattle.std.proofs.Common.{◌≡◌, ◌⊎◌, inl, inr, ℕ, slice_get, Some, sym, subst, refl}
+use Rattle.std.proofs.Common.{◌≡◌, inl, inr, slice_get, Some, refl}
 use Rattle.std.proofs.lemmas.Bool.{both_ways}
-use Rattle.redo_table.specs.Schedule.{ScheduleView}
 use Rattle.redo_table.specs.Schedule.StageView.{Out, InHand, Waiting}
-use Rattle.redo_table.specs.declared.schedule.Schedule.TheInside.{Inside}
-use Rattle.redo_table.proofs.ListedLemmas.{back-listed, left-listed, out-there}
+use Rattle.redo_table.proofs.ListedLemmas.{back-listed, is-open, left-listed, out-there}
 use Rattle.redo_table.proofs.schedule.Schedule.wait.Goals as goal
-
-is-open : (t : Inside) (v : ScheduleView) (at : ℕ) → record { stages = t.waits.stages; ready = t.ready.items } ≡ v →
-    (slice_get v.stages at ≡ Some Out) ⊎ (slice_get v.stages at ≡ Some InHand) →
-    (slice_get t.waits.stages at ≡ Some Out) ⊎ (slice_get t.waits.stages at ≡ Some InHand)
-is-open t v at is h = subst (λ (u : ScheduleView). (slice_get u.stages at ≡ Some Out) ⊎ (slice_get u.stages at ≡ Some InHand)) (sym is) h
 
 pub overflow_sub-self : goal.overflow_sub-self
 overflow_sub-self c =

@@ -29,8 +29,7 @@ use Rattle.redo_skip.specs.Checks.{standing, stands, stands_if, told}
 use Rattle.redo_skip.specs.Sources.{Sources}
 use Rattle.redo_skip.proofs.CheckLemmas.{asks-among, asks-this, by_answer, not-or, standing-asked, standing-fixed}
 use Rattle.redo_skip.proofs.CheckLemmas.{standing-same, stands_if-lacks}
-use Rattle.redo_core.specs.inside.Checking.{HaveStood}
-use Rattle.redo_core.specs.inside.Checking.{StandAlone, asked_by}
+use Rattle.redo_skip.specs.inside.Stood.{HaveStood, StandAlone, asked_by}
 
 -- ---- lists of entries
 

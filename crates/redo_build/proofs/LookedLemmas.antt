@@ -1,7 +1,7 @@
 -- What so many looks lead to: a state that is reached, with as many jobs out and no more takes left; and a state that
 -- shows the build leaves nothing to look at.
-use Rattle.std.proofs.Common.{◌≡◌, ℕ, zero, suc, ◌≤◌, inl, inr, List, [], ◌∷◌, length, Option, Some, None}
-use Rattle.std.proofs.Common.{true, refl, sym, ap, subst, ◌∙◌, arith}
+use Rattle.std.proofs.Common.{◌≡◌, ℕ, zero, suc, ◌≤◌, inl, inr, List, length, Option, Some, None}
+use Rattle.std.proofs.Common.{true, sym, ap, subst, ◌∙◌, arith}
 use Rattle.std.proofs.lemmas.Bool.{cases_Bool, and_parts}
 use Rattle.redo_record.specs.Paths.{IsAmong}
 use Rattle.redo_record.specs.Progress.{Progress}
@@ -9,7 +9,7 @@ use Rattle.redo_record.specs.declared.deps.Dep.{Dep}
 use Rattle.redo_build.specs.Rules.{Ask, Rules, AreLawful, operands}
 use Rattle.redo_build.specs.Outcomes.{outcome_at}
 use Rattle.redo_build.specs.Schedule.{Entry, State, Phase, advanced, entered, entry_of, handed_in, happens}
-use Rattle.redo_build.specs.Schedule.{is_able_to_go_on, is_due, moved_on, opening, paths_of, put}
+use Rattle.redo_build.specs.Schedule.{is_able_to_go_on, is_due, moved_on}
 use Rattle.redo_build.specs.Schedule.Event.{Look}
 use Rattle.redo_build.specs.Schedule.Phase.{Check}
 use Rattle.redo_build.specs.Looking.{NoneDue, first_due, looked, looked_once}
@@ -19,17 +19,8 @@ use Rattle.redo_build.proofs.CountLemmas.{look-left}
 use Rattle.redo_build.proofs.DepthLemmas.{cases_Option, outcome_at-step, settled}
 use Rattle.redo_build.proofs.DueLemmas.{none-due-from}
 use Rattle.redo_build.proofs.LookingLemmas.{first-look, first-open}
-use Rattle.redo_build.proofs.SeenLemmas.{entered-longer, entry_of-among, outcomes_of-at, paths_of-put}
+use Rattle.redo_build.proofs.SeenLemmas.{entered-longer, entry_of-among, length-put, outcomes_of-at}
 use Rattle.redo_build.proofs.SoundLemmas.{IsSound, happens-sound, is_able_to_go_on-parts, lacks_none-true}
-use Rattle.redo_build.proofs.SoundLemmas.{opening-sound, run-sound}
-use Rattle.redo_core.specs.Views.{IsReached}
-
-length-paths : (es : List Entry) → length (paths_of es) ≡ length es
-length-paths [] = refl
-length-paths (e ∷ es) = ap suc (length-paths es)
-
-pub length-put : (es : List Entry) (e : Entry) → length (put es e) ≡ length es
-length-put es e = sym (length-paths (put es e)) ∙ ap length (paths_of-put es e) ∙ length-paths es
 
 handed-longer : (r : Rules) (phase : Phase) (s : State) (o : Option Entry) →
     length s.entries ≤ length (handed_in r phase s o).entries
@@ -46,13 +37,6 @@ looked-longer r (suc n) s =
     omega (arith, handed-longer r Check s (first_due r s), looked-longer r n (looked_once r s))
 
 module _ (r : Rules) (lawful : AreLawful r) (request : List (List ℕ)) where
-  pub reached-sound : (s : State) → IsReached r request s → IsSound r request s
-  reached-sound s reached =
-      let P : State → Type 0 = IsSound r request in
-      subst P (sym reached.ends)
-      (run-sound r lawful request (opening r request) reached.events
-      (opening-sound r lawful request) reached.all_open)
-
   -- looks leave no more to take
   pub looked-left : (limit looks : ℕ) (s : State) → IsSound r request s → length (looked r looks s).entries ≤ limit →
       takes_left limit (looked r looks s) ≤ takes_left limit s

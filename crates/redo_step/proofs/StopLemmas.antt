@@ -5,7 +5,7 @@ use Rattle.std.proofs.lemmas.Bool.{cases_Bool, both_ways}
 use Rattle.std.proofs.lemmas.List.Elements.{filter_map-append, filter-append}
 use Rattle.std.proofs.lemmas.Slice.Eq.{bytes_eq-Decides}
 use Rattle.std.specs.Cmp.Lexicographic.{nat_list_eq_equiv}
-use Rattle.redo_script.specs.Syntax.{Command, write, test, change, create, always, always_true, always_false, exit}
+use Rattle.redo_script.specs.Syntax.{Command, write, test, change, create}
 use Rattle.redo_script.specs.Syntax.{Condition, Script, finish, simple, choice, loop}
 use Rattle.redo_record.specs.declared.deps.Dep.{Dep}
 use Rattle.redo_record.specs.declared.deps.DepKind.{DepKind}
@@ -23,16 +23,10 @@ use Rattle.redo_step.specs.Setting.{Setting, with_value}
 use Rattle.redo_step.specs.Statements.{chosen, command_run, condition_result, looped, meaning, run, then_run, turns}
 use Rattle.redo_step.specs.Statements.{with_state, with_status}
 use Rattle.redo_step.specs.Words.{texts_of}
-
--- A run under an ask is a beginning of the run under each ask that keeps its answers. What stops at a command other
--- than redo-ifchange lacks nothing that was declared before, so by this law there is no such stop.
-abbrev pub MoreAnswers : Type 0
-MoreAnswers = (setting : Setting) (ask later : Ask) (script : Script) (s : State) → AreKnown setting ask s.entries →
-    Keeps setting (end_state (run setting ask script s)).entries ask later →
-    Begins setting ask later (run setting ask script s) (run setting later script s)
+use Rattle.redo_step.proofs.BeginsLemmas.{run_begins}
 
 -- an ask keeps its own answers
-pub keeps-itself : (setting : Setting) (es : List Dep) (ask : Ask) → Keeps setting es ask ask
+keeps-itself : (setting : Setting) (es : List Dep) (ask : Ask) → Keeps setting es ask ask
 keeps-itself setting es ask = record { same = λ p o source asked is. is }
 
 -- what these entries ask for that lacks an answer, in their order
@@ -141,14 +135,15 @@ Tells setting ask (ends e t) = TellsEnd setting ask e t
 abbrev pub StopsAt : Setting → Ask → State → List Path → State → Type 0
 StopsAt setting ask s ps t = (t ≡ s) ⊎ ((qs : List Path) × (ps ≡ lacking setting ask [] qs) × (t ≡ declaring s Change qs))
 
-module _ (law : MoreAnswers) (setting : Setting) (ask : Ask) where
+module _ (setting : Setting) (ask : Ask) where
   then-tells : (r : Run) (f : State → Run) → Tells setting ask r → ((t : State) → AreKnown setting ask t.entries → Tells setting ask (f t)) → Tells setting ask (then_run r f)
   then-tells (goes t) f now next = next t now
   then-tells (ends e t) f now next = now
 
-  -- a script under its own ask
+  -- A script under its own ask. What stops at a command other than redo-ifchange lacks nothing that was declared before,
+  -- so by this there is no such stop.
   own-begins : (c : Script) (s : State) → AreKnown setting ask s.entries → Begins setting ask ask (run setting ask c s) (run setting ask c s)
-  own-begins c s known = law setting ask ask c s known (keeps-itself setting (end_state (run setting ask c s)).entries ask)
+  own-begins c s known = run_begins setting ask ask c s known (keeps-itself setting (end_state (run setting ask c s)).entries ask)
 
   -- none stops where nothing lacks
   no-stop : (s : State) (ps : List Path) → AreKnown setting ask s.entries → Begins setting ask ask (ends (stopped ps) s) (ends (stopped ps) s) → ⊥
@@ -241,26 +236,26 @@ turn-tells setting ask name value (goes t) h = record { known = h.known }
 turn-tells setting ask name value (ends (stopped ps) t) h = h
 turn-tells setting ask name value _ h = tt
 
-pub run-tells : MoreAnswers → (setting : Setting) (ask : Ask) (c : Script) (s : State) → AreKnown setting ask s.entries → Tells setting ask (run setting ask c s)
+run-tells : (setting : Setting) (ask : Ask) (c : Script) (s : State) → AreKnown setting ask s.entries → Tells setting ask (run setting ask c s)
 unfolding run
-run-tells law setting ask finish s known = known
-run-tells law setting ask (simple line c rest) s known =
-    then-tells law setting ask (command_run setting ask line c s) (run setting ask rest) (command-tells law setting ask line c s known) (run-tells law setting ask rest)
-run-tells law setting ask (choice line c first second rest) s known =
-    then-tells law setting ask (chosen (condition_result setting ask line c s) (run setting ask first) (run setting ask second) s) (run setting ask rest)
-    (chosen-tells law setting ask line c (run setting ask first) (run setting ask second) s known (run-tells law setting ask first s known) (run-tells law setting ask second s known))
-    (run-tells law setting ask rest)
-run-tells law setting ask (loop line name ws body rest) s known =
-    then-tells law setting ask (looped (texts_of setting line ws) (λ value. run (with_value setting name value) ask body) s) (run setting ask rest)
-    (looped-tells law setting ask line name ws (λ value. run (with_value setting name value) ask body)
+run-tells setting ask finish s known = known
+run-tells setting ask (simple line c rest) s known =
+    then-tells setting ask (command_run setting ask line c s) (run setting ask rest) (command-tells setting ask line c s known) (run-tells setting ask rest)
+run-tells setting ask (choice line c first second rest) s known =
+    then-tells setting ask (chosen (condition_result setting ask line c s) (run setting ask first) (run setting ask second) s) (run setting ask rest)
+    (chosen-tells setting ask line c (run setting ask first) (run setting ask second) s known (run-tells setting ask first s known) (run-tells setting ask second s known))
+    (run-tells setting ask rest)
+run-tells setting ask (loop line name ws body rest) s known =
+    then-tells setting ask (looped (texts_of setting line ws) (λ value. run (with_value setting name value) ask body) s) (run setting ask rest)
+    (looped-tells setting ask line name ws (λ value. run (with_value setting name value) ask body)
     (λ value t there. turn-tells setting ask name value (run (with_value setting name value) ask body t)
-    (run-tells law (with_value setting name value) ask body t (record { known = there.known }))) s known)
-    (run-tells law setting ask rest)
+    (run-tells (with_value setting name value) ask body t (record { known = there.known }))) s known)
+    (run-tells setting ask rest)
 
 -- a whole script that stops names what its entries lack
-pub stopped-lacks : MoreAnswers → (setting : Setting) (ask : Ask) (script : Script) (ps : List Path) (t : State) →
+pub stopped-lacks : (setting : Setting) (ask : Ask) (script : Script) (ps : List Path) (t : State) →
     meaning setting ask script ≡ ends (stopped ps) t → ps ≡ lacked setting ask t.entries
 unfolding meaning
-stopped-lacks law setting ask script ps t h =
+stopped-lacks setting ask script ps t h =
     let P : Run → Type 0 = Tells setting ask in
-    subst P h (run-tells law setting ask script start (record { known = λ p bad. absurd cc }))
+    subst P h (run-tells setting ask script start (record { known = λ p bad. absurd cc }))
