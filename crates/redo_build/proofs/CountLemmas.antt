@@ -3,6 +3,7 @@ use Rattle.std.proofs.Common.{◌≡◌, ℕ, suc, ◌+◌, ◌*◌, ◌-◌, �
 use Rattle.std.proofs.Common.{length, length-append, filter, Option, Some, None, is_some, slice_get, option_and_then}
 use Rattle.std.proofs.Common.{refl, sym, ap, subst, ◌∙◌, arith, bytes_eq}
 use Rattle.std.proofs.lemmas.Bool.{cases_Bool, and_parts}
+use Rattle.redo_names.proofs.PathLemmas.{place-among}
 use Rattle.redo_record.specs.Paths.{is_among}
 use Rattle.redo_build.specs.Rules.{Rules, AreLawful, operands}
 use Rattle.redo_build.specs.Outcomes.{requested_targets}
@@ -14,7 +15,7 @@ use Rattle.redo_build.specs.Schedule.Phase.{Check, Script}
 use Rattle.redo_build.specs.TakesLeft.{turns_left, turns_of, takes_left}
 use Rattle.redo_build.proofs.SeenLemmas.{length-paths, length-put, new-inside, entry_of-path, entry_of-among, entry_of-put_same}
 use Rattle.redo_build.proofs.SeenLemmas.{entry_of-entered_old, entered-longer}
-use Rattle.redo_build.proofs.QueueLemmas.{slice_get-among, slice_get-below}
+use Rattle.redo_build.proofs.QueueLemmas.{slice_get-below}
 use Rattle.redo_build.proofs.SoundLemmas.{IsSound, due-parts, is_able_to_go_on-parts}
 use Rattle.redo_build.proofs.TurnBoundLemmas.{turn-below}
 
@@ -125,7 +126,7 @@ module _ (r : Rules) (lawful : AreLawful r) (request : List (List ℕ)) (s : Sta
   ready-there : (which : ℕ) → which < length s.ready → IsReadyThere which
   ready-there which below =
       let spot = slice_get-below s.ready which below in
-      let among = slice_get-among s.ready which spot.0 spot.1 in
+      let among = place-among s.ready which spot.0 spot.1 in
       let fed = sound.queued.ready_fed spot.0 among in
       let turn = turn-below r lawful request s.entries sound.standing spot.0 fed.0 fed.1 fed.2 fed.3 in
       record {

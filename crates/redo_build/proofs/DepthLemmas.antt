@@ -3,12 +3,11 @@ use Rattle.std.proofs.Common.{◌≡◌, ℕ, zero, suc, ◌+◌, ◌<◌, ◌�
 use Rattle.std.proofs.Common.{filter, filter_map, flat_map, Option, Some, None, is_some, refl, sym, ap, subst, ◌∙◌}
 use Rattle.std.proofs.Common.{arith}
 use Rattle.std.proofs.lemmas.Bool.{cases_Bool, cases_lt, not-true}
+use Rattle.redo_names.proofs.ListLemmas.{with_new-first, with_new-cases, with_new-length, with_new-still, with_new-distinct, flat_map-among, flat_map-from, filter-passes}
 use Rattle.redo_record.specs.Paths.{IsAmong, AreDistinct}
 use Rattle.redo_record.specs.Progress.{Progress}
 use Rattle.redo_build.specs.Rules.{Ask, Rules, AreLawful, Extends, operands, changed}
 use Rattle.redo_build.specs.Outcomes.{outcome_at, asked_at, requested_targets, reached_in, needed_at, IsSettled}
-use Rattle.redo_build.proofs.PathLemmas.{with_new-first, with_new-cases, with_new-length, with_new-still}
-use Rattle.redo_build.proofs.PathLemmas.{with_new-distinct, flat_map-among, flat_map-from, filter-passes}
 use Rattle.redo_record.specs.declared.deps.Dep.{Dep}
 use Rattle.redo_record.specs.declared.outcome.Outcome.{Outcome}
 

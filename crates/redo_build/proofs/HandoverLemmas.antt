@@ -2,6 +2,7 @@
 use Rattle.std.proofs.Common.{◌≡◌, ℕ, ◌&&◌, max, inl, inr, List, Some, None, refl, sym, ap, subst, ◌∙◌, arith, ◌+◌, ◌<◌}
 use Rattle.std.proofs.Common.{true, false}
 use Rattle.std.proofs.lemmas.Bool.{cases_Bool, cases_lt, both_ways}
+use Rattle.redo_names.proofs.PathLemmas.{among-told}
 use Rattle.redo_record.specs.Paths.{IsAmong, is_among}
 use Rattle.redo_record.specs.Progress.{Progress}
 use Rattle.redo_record.specs.declared.deps.Dep.{Dep}
@@ -12,7 +13,6 @@ use Rattle.redo_build.specs.Schedule.{Entry, State, IsOutAt, entry_of, outcomes_
 use Rattle.redo_build.specs.inside.Turns.{deps_at_turn, progress_at_turn, CameTo, IsPiece, IsWork, IsFact, begins_at}
 use Rattle.redo_build.specs.inside.Turns.{IsBegunAt}
 use Rattle.redo_build.specs.inside.Standing.{decided_count, AreStanding, rounds}
-use Rattle.redo_build.proofs.PathLemmas.{is_among-true}
 use Rattle.redo_build.proofs.DepthLemmas.{cases_Option, operand-target, deeper, ended_stays}
 use Rattle.redo_build.proofs.SeenLemmas.{entry_of-path}
 use Rattle.redo_build.proofs.TurnLemmas.{CameTo-more, deps_at_turn-more, turns_agree, Extends-trans', only-Extends}
@@ -153,7 +153,7 @@ module _ (r : Rules) (lawful : AreLawful r) (p : List ℕ) (turn : ℕ) where
       let same : r.progress p (only (operands r deps) a) ≡ r.progress p (only (operands r deps) (outcome_at r work.depth)) =
       (lawful.each p).local (only (operands r deps) a) (only (operands r deps) (outcome_at r work.depth)) (λ q m.
       elim (cases_Bool (is_among (operands r deps) q)) [
-        | inl t ↦ rw t (agree q (is_among-true (operands r deps) q t))
+        | inl t ↦ rw t (agree q (among-told (operands r deps) q t))
         | inr f ↦ rw f refl
       ]) in
       let P : List Dep → Type 0 = λ ds. r.progress p (only (operands r deps) a) ≡ r.progress p (only (operands r ds) (outcome_at r work.depth)) in

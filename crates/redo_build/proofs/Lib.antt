@@ -8,7 +8,6 @@ pub mod HandoverLemmas
 pub mod LookedLemmas
 pub mod LookingLemmas
 pub mod OnceLemmas
-pub mod PathLemmas
 pub mod QueueLemmas
 pub mod QuietLemmas
 pub mod ReachedLemmas

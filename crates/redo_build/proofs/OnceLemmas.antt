@@ -3,6 +3,7 @@ use Rattle.std.proofs.Common.{◌≡◌, ℕ, ◌<◌, ◌≤◌, true, ◌⊎�
 use Rattle.std.proofs.Common.{option_and_then, refl, sym, ap, subst, ◌∙◌, arith, bytes_eq, false}
 use Rattle.std.proofs.lemmas.Bool.{cases_Bool, both_ways, and_parts}
 use Rattle.std.proofs.lemmas.Slice.Eq.{bytes_eq-Decides}
+use Rattle.redo_names.proofs.PathLemmas.{place-among}
 use Rattle.redo_build.specs.Rules.{Rules, AreLawful, operands}
 use Rattle.redo_build.specs.Schedule.{Entry, State, Event, entry_of, entered, put, sent_out, taken, advanced, moved_on}
 use Rattle.redo_build.specs.Schedule.{handed_in, happens, IsOpen, AllOpen, is_able_to_go_on}
@@ -11,7 +12,7 @@ use Rattle.redo_build.specs.Schedule.Phase.{Check, Script}
 use Rattle.redo_build.specs.Takes.{place_of, takes, IsTaken, AreOnce}
 use Rattle.redo_build.proofs.SeenLemmas.{entry_of-path, entry_of-among, entry_of-entered_old, entry_of-put_same}
 use Rattle.redo_build.proofs.SeenLemmas.{entry_of-put_other}
-use Rattle.redo_build.proofs.QueueLemmas.{slice_get-among, slice_get-below}
+use Rattle.redo_build.proofs.QueueLemmas.{slice_get-below}
 use Rattle.redo_build.proofs.SoundLemmas.{IsSound, happens-sound, due-parts, is_able_to_go_on-parts}
 
 -- how an entry may change
@@ -61,7 +62,7 @@ module _ (r : Rules) (lawful : AreLawful r) (request : List (List ℕ)) where
       entry_of s.entries p ≡ Some e → (f : Entry) × (entry_of (happens r s event).entries p ≡ Some f) × Evolves e f
   happens-evolves s (Take which) sound open' p e h =
       let at = slice_get-below s.ready which open' in
-      let fed = sound.queued.ready_fed at.0 (slice_get-among s.ready which at.0 at.1) in
+      let fed = sound.queued.ready_fed at.0 (place-among s.ready which at.0 at.1) in
       let P : Option (List ℕ) → Type 0 = λ x. (f : Entry) × (entry_of (taken s (option_and_then (entry_of s.entries) x) which).entries p ≡ Some f) × Evolves e f in
       let Q : Option Entry → Type 0 = λ x. (f : Entry) × (entry_of (taken s x which).entries p ≡ Some f) × Evolves e f in
       subst P (sym at.1) (subst Q (sym fed.1)
@@ -116,7 +117,7 @@ module _ (r : Rules) (lawful : AreLawful r) (request : List (List ℕ)) where
   taken-later [] s sound open' p turn m e h = absurd m
   taken-later (Take which ∷ events) s sound open' p turn m e h =
       let at = slice_get-below s.ready which open'.0 in
-      let among = slice_get-among s.ready which at.0 at.1 in
+      let among = place-among s.ready which at.0 at.1 in
       let fed = sound.queued.ready_fed at.0 among in
       let P : Option (List ℕ) → Type 0 = λ x. IsTaken (place_of (option_and_then (entry_of s.entries) x) ++ takes r events (happens r s (Take which))) p turn in
       let Q : Option Entry → Type 0 = λ x. IsTaken (place_of x ++ takes r events (happens r s (Take which))) p turn in
@@ -146,7 +147,7 @@ module _ (r : Rules) (lawful : AreLawful r) (request : List (List ℕ)) where
   takes-once [] s sound open' = tt
   takes-once (Take which ∷ events) s sound open' =
       let at = slice_get-below s.ready which open'.0 in
-      let fed = sound.queued.ready_fed at.0 (slice_get-among s.ready which at.0 at.1) in
+      let fed = sound.queued.ready_fed at.0 (place-among s.ready which at.0 at.1) in
       let next = happens-sound r lawful request s (Take which) sound open'.0 in
       let P : Option (List ℕ) → Type 0 = λ x. AreOnce (place_of (option_and_then (entry_of s.entries) x) ++ takes r events (happens r s (Take which))) in
       let Q : Option Entry → Type 0 = λ x. AreOnce (place_of x ++ takes r events (happens r s (Take which))) in

@@ -3,15 +3,11 @@ use Rattle.std.proofs.Common.{◌≡◌, ℕ, zero, suc, ◌<◌, Bool, true, �
 use Rattle.std.proofs.Common.{Some, remove, slice_get, refl, sym, ap, ◌∙◌, arith, bytes_eq}
 use Rattle.std.proofs.lemmas.Bool.{cases_Bool}
 use Rattle.std.proofs.lemmas.Slice.Eq.{bytes_eq-Decides}
+use Rattle.redo_names.proofs.ListLemmas.{IsAmong-append, IsAmong-same, filter-from}
+use Rattle.redo_names.proofs.PathLemmas.{place-among}
 use Rattle.redo_record.specs.Paths.{IsAmong, AreDistinct}
 use Rattle.redo_build.specs.Schedule.{Entry, paths_of, entry_of}
-use Rattle.redo_build.proofs.PathLemmas.{IsAmong-append, IsAmong-same, filter-from}
 use Rattle.redo_build.proofs.SeenLemmas.{entry_of-among}
-
-pub slice_get-among : (ps : List (List ℕ)) (i : ℕ) (p : List ℕ) → slice_get ps i ≡ Some p → IsAmong ps p
-slice_get-among [] i p h = cc
-slice_get-among (x ∷ ps) zero p h = inl (cc)
-slice_get-among (x ∷ ps) (suc i) p h = inr (slice_get-among ps i p h)
 
 pub slice_get-below : (ps : List (List ℕ)) (i : ℕ) → i < length ps → (p : List ℕ) × (slice_get ps i ≡ Some p)
 slice_get-below [] i h = absurd (omega arith)
@@ -43,7 +39,7 @@ pub remove-gone : (ps : List (List ℕ)) (i : ℕ) (p : List ℕ) → AreDistinc
 remove-gone [] i p d h m = cc
 remove-gone (x ∷ ps) zero p d h m = let e : x ≡ p = cc in d.0 (IsAmong-same ps p x (sym e) m)
 remove-gone (x ∷ ps) (suc i) p d h m = elim m [
-  | inl here ↦ d.0 (IsAmong-same ps p x (sym here) (slice_get-among ps i p h))
+  | inl here ↦ d.0 (IsAmong-same ps p x (sym here) (place-among ps i p h))
   | inr later ↦ remove-gone ps i p d.1 h later
 ]
 

@@ -2,6 +2,8 @@
 use Rattle.std.proofs.Common.{◌≡◌, ℕ, zero, suc, ◌<◌, ◌≤◌, max, false, inl, inr, List, [], ◌∷◌, length, filter, Some}
 use Rattle.std.proofs.Common.{None, refl, sym, ap, subst, ◌∙◌, arith, bytes_eq, true, is_none}
 use Rattle.std.proofs.lemmas.Bool.{cases_Bool, cases_lt, and_from, not_from_false, both_ways}
+use Rattle.redo_names.proofs.ListLemmas.{within-length}
+use Rattle.redo_names.proofs.PathLemmas.{among-told}
 use Rattle.redo_record.specs.Paths.{is_among, IsAmong}
 use Rattle.redo_record.specs.Progress.{Progress}
 use Rattle.redo_record.specs.declared.deps.Dep.{Dep}
@@ -14,7 +16,6 @@ use Rattle.redo_build.specs.Looking.{NoneDue}
 use Rattle.redo_build.specs.Theorems.{IsPartOfBuild, ShowsBuild}
 use Rattle.redo_build.specs.inside.Turns.{deps_at_turn, CameTo}
 use Rattle.redo_build.specs.inside.Standing.{decided_count, rounds}
-use Rattle.redo_build.proofs.PathLemmas.{within-length, is_among-true}
 use Rattle.redo_build.proofs.DepthLemmas.{cases_Option, deeper, ended_stays, outcome_at-step, outcome_at-zero}
 use Rattle.redo_build.proofs.DepthLemmas.{asked_at-grows, reached-within, reached-more, reached-distinct, settled}
 use Rattle.redo_build.proofs.SeenLemmas.{entry_of-path, outcomes_of-entry, entry_of-among, among-entry_of, outcomes_of-at}
@@ -175,7 +176,7 @@ module _ (r : Rules) (lawful : AreLawful r) (request : List (List ℕ)) where
       same-on_entries n less p e at open' =
           let more : Extends r (on_entries n) (outcomes_of s.entries) = λ q o t h.
           elim (cases_Bool (is_among (paths_of s.entries) q)) [
-            | inl in' ↦ less q o (is_among-true (paths_of s.entries) q in') (rw in' at h)
+            | inl in' ↦ less q o (among-told (paths_of s.entries) q in') (rw in' at h)
             | inr out ↦ absurd (let now = rw out at h in cc)
           ] in
           let inside : (q : List ℕ) → IsAmong (asked_under r p (on_entries n)) q → IsAmong (paths_of s.entries) q = λ q m.

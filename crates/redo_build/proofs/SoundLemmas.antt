@@ -5,6 +5,8 @@ use Rattle.std.specs.List.{list_any}
 use Rattle.std.proofs.lemmas.Bool.{cases_Bool, both_ways, and_parts, or_parts, or_cases, not-true, not-false}
 use Rattle.std.proofs.lemmas.Bool.{not_from_false, and_from}
 use Rattle.std.proofs.lemmas.Slice.Eq.{bytes_eq-Decides}
+use Rattle.redo_names.proofs.ListLemmas.{IsAmong-same, IsAmong-append, IsAmong-left, IsAmong-right}
+use Rattle.redo_names.proofs.PathLemmas.{among-told, place-among, told-among}
 use Rattle.redo_record.specs.Paths.{is_among, IsAmong, AreDistinct}
 use Rattle.redo_record.specs.Progress.{Progress}
 use Rattle.redo_record.specs.declared.outcome.Outcome.{Outcome}
@@ -17,13 +19,11 @@ use Rattle.redo_build.specs.Schedule.{is_due, Phase}
 use Rattle.redo_build.specs.Schedule.Event.{Take, Hand_in, Look}
 use Rattle.redo_build.specs.Schedule.Phase.{Check, Script}
 use Rattle.redo_build.specs.inside.Standing.{AreStanding, IsNeeded, decided_count, is_script}
-use Rattle.redo_build.proofs.PathLemmas.{IsAmong-same, IsAmong-append, IsAmong-left, IsAmong-right, is_among-true}
-use Rattle.redo_build.proofs.PathLemmas.{is_among-from}
 use Rattle.redo_build.proofs.DepthLemmas.{cases_Option, operand-target, requested-target}
 use Rattle.redo_build.proofs.SeenLemmas.{entry_of-path, entry_of-among, paths_of-put}
 use Rattle.redo_build.proofs.SeenLemmas.{entry_of-entered_old, entry_of-entered_cases, entry_of-put_other}
 use Rattle.redo_build.proofs.SeenLemmas.{entry_of-put_same, new-inside, nowhere}
-use Rattle.redo_build.proofs.QueueLemmas.{slice_get-among, slice_get-below, remove-cases, remove-from, remove-distinct}
+use Rattle.redo_build.proofs.QueueLemmas.{slice_get-below, remove-cases, remove-from, remove-distinct}
 use Rattle.redo_build.proofs.QueueLemmas.{remove-gone, AreDistinct-append, paths_of-filter_from, paths_of-filter_to}
 use Rattle.redo_build.proofs.QueueLemmas.{paths_of-filter_distinct}
 use Rattle.redo_build.proofs.TurnLemmas.{only-Extends, progress-more, begins-more}
@@ -123,7 +123,7 @@ module _ (r : Rules) where
 pub only-same : (ps : List (List ℕ)) (a b : Ask) → ((q : List ℕ) → IsAmong ps q → a q ≡ b q) → (q : List ℕ) →
     only ps a q ≡ only ps b q
 only-same ps a b same q = elim (cases_Bool (is_among ps q)) [
-  | inl t ↦ rw t (same q (is_among-true ps q t))
+  | inl t ↦ rw t (same q (among-told ps q t))
   | inr f ↦ rw f refl
 ]
 
@@ -153,7 +153,7 @@ module _ (r : Rules) (lawful : AreLawful r) (request : List (List ℕ)) where
           (paths_of-filter_distinct (may_run r s) s.entries standing.distinct)
           (λ p old new.
           let found = paths_of-filter_from (may_run r s) s.entries p standing.distinct new in
-          both_ways _ (not_ready-at p found.0 found.1 found.2) (is_among-from s.ready p old));
+          both_ways _ (not_ready-at p found.0 found.1 found.2) (told-among s.ready p old));
       apart = λ p e m at. elim (IsAmong-append s.ready (paths_of (filter (may_run r s) s.entries)) p m) [
         | inl old ↦ queued.apart p e old at
         | inr new ↦
@@ -190,7 +190,7 @@ module _ (r : Rules) (lawful : AreLawful r) (request : List (List ℕ)) where
 
       not_among : (ps : List (List ℕ)) (p : List ℕ) → (IsAmong ps p → ⊥) → is_among ps p ≡ false
       not_among ps p h = elim (cases_Bool (is_among ps p)) [
-        | inl t ↦ absurd (h (is_among-true ps p t))
+        | inl t ↦ absurd (h (among-told ps p t))
         | inr f ↦ f
       ]
 
@@ -238,7 +238,7 @@ module _ (r : Rules) (lawful : AreLawful r) (request : List (List ℕ)) where
 
     take_open : e.outcome ≡ None
     take_open =
-        let fed = sound.queued.ready_fed p (slice_get-among s.ready which p at) in
+        let fed = sound.queued.ready_fed p (place-among s.ready which p at) in
         let same : fed.0 ≡ e = let both : Some fed.0 ≡ Some e = sym fed.1 ∙ entry in cc in
         sym (ap (λ (x : Entry). x.outcome) same) ∙ fed.2
 
@@ -288,7 +288,7 @@ module _ (r : Rules) (lawful : AreLawful r) (request : List (List ℕ)) where
       queued = record {
         ready_fed = λ q m. take_fed q (sound.queued.ready_fed q (remove-from s.ready which q m));
         out_fed = λ q x h out. elim (take_cases q x h) [
-          | inl new ↦ take_fed q (sound.queued.ready_fed q (IsAmong-same s.ready p q (sym take_path ∙ new.0) (slice_get-among s.ready which p at)))
+          | inl new ↦ take_fed q (sound.queued.ready_fed q (IsAmong-same s.ready p q (sym take_path ∙ new.0) (place-among s.ready which p at)))
           | inr old ↦ take_fed q (sound.queued.out_fed q x old out)
         ];
         ready_distinct = remove-distinct s.ready which sound.queued.ready_distinct;
@@ -487,7 +487,7 @@ module _ (r : Rules) (lawful : AreLawful r) (request : List (List ℕ)) where
       let parts = is_able_to_go_on-parts r s e both.0 in (
         (parts.0, lacks_none-true r s.entries e parts.1),
         (λ m. both_ways _ parts.3
-            (is_among-from s.ready e.path (IsAmong-same s.ready p e.path (sym (entry_of-path s.entries p e at)) m))),
+            (told-among s.ready e.path (IsAmong-same s.ready p e.path (sym (entry_of-path s.entries p e at)) m))),
         not-true _ both.1,
       )
 
@@ -495,7 +495,7 @@ module _ (r : Rules) (lawful : AreLawful r) (request : List (List ℕ)) where
       IsSound r request (happens r s event)
   happens-sound s (Take which) sound open' =
       let at = slice_get-below s.ready which open' in
-      let fed = sound.queued.ready_fed at.0 (slice_get-among s.ready which at.0 at.1) in
+      let fed = sound.queued.ready_fed at.0 (place-among s.ready which at.0 at.1) in
       let P : Option (List ℕ) → Type 0 = λ x. IsSound r request (taken s (option_and_then (entry_of s.entries) x) which) in
       let Q : Option Entry → Type 0 = λ x. IsSound r request (taken s x which) in
       subst P (sym at.1) (subst Q (sym fed.1) (taken-sound s sound which at.0 fed.0 at.1 fed.1))

@@ -3,6 +3,7 @@ use Rattle.std.proofs.Common.{◌≡◌, ℕ, zero, suc, ◌≤◌, max, false, 
 use Rattle.std.proofs.Common.{is_some, flat_map, refl, sym, ap, subst, ◌∙◌, arith, bytes_eq, ◌+◌, ◌<◌, true}
 use Rattle.std.proofs.lemmas.Bool.{cases_Bool, cases_lt, both_ways}
 use Rattle.std.proofs.lemmas.Slice.Eq.{bytes_eq-Decides}
+use Rattle.redo_names.proofs.ListLemmas.{with_new-first, with_new-second, with_new-cases, with_new-distinct, flat_map-among, flat_map-from}
 use Rattle.redo_record.specs.Paths.{IsAmong, AreDistinct, with_new}
 use Rattle.redo_record.specs.Progress.{Progress}
 use Rattle.redo_record.specs.declared.deps.Dep.{Dep}
@@ -15,8 +16,6 @@ use Rattle.redo_build.specs.Schedule.Phase.{Check}
 use Rattle.redo_build.specs.inside.Turns.{deps_at_turn, progress_at_turn, CameTo, begins_at}
 use Rattle.redo_build.specs.inside.Standing.{decided_count, IsNeeded, IsDecidedAs, IsUnderWay, AreStanding, rounds}
 use Rattle.redo_build.specs.inside.Standing.{is_script}
-use Rattle.redo_build.proofs.PathLemmas.{with_new-first, with_new-second, with_new-cases, with_new-distinct}
-use Rattle.redo_build.proofs.PathLemmas.{flat_map-among, flat_map-from}
 use Rattle.redo_build.proofs.DepthLemmas.{deeper, ended_stays, outcome_at-step, asked_at-grows, reached-once}
 use Rattle.redo_build.proofs.DepthLemmas.{reached-more}
 use Rattle.redo_build.proofs.SeenLemmas.{entry_of-path, entry_of-among, outcomes_of-entry, outcomes_of-at, paths_of-put}

@@ -3,6 +3,7 @@ use Rattle.std.proofs.Common.{◌≡◌, ℕ, ◌<◌, ◌≤◌, true, false, �
 use Rattle.std.proofs.Common.{slice_get, option_and_then, refl, sym, ap, subst, ◌∙◌, arith, bytes_eq}
 use Rattle.std.proofs.lemmas.Bool.{cases_Bool, cases_lt, both_ways, and_parts}
 use Rattle.std.proofs.lemmas.Slice.Eq.{bytes_eq-Decides}
+use Rattle.redo_names.proofs.PathLemmas.{place-among}
 use Rattle.redo_record.specs.Progress.{Progress}
 use Rattle.redo_record.specs.declared.deps.Dep.{Dep}
 use Rattle.redo_record.specs.declared.outcome.Outcome.{Outcome}
@@ -18,7 +19,7 @@ use Rattle.redo_build.specs.inside.Standing.{AreStanding, decided_count, rounds}
 use Rattle.redo_build.proofs.DepthLemmas.{cases_Option, operand-target, deeper}
 use Rattle.redo_build.proofs.SeenLemmas.{entry_of-among, entry_of-put_same, entry_of-put_other, entry_of-entered_old}
 use Rattle.redo_build.proofs.SeenLemmas.{entry_of-entered_cases, decided_count-put, decided_count-entered}
-use Rattle.redo_build.proofs.QueueLemmas.{slice_get-among, slice_get-below}
+use Rattle.redo_build.proofs.QueueLemmas.{slice_get-below}
 use Rattle.redo_build.proofs.TurnLemmas.{only-Extends, begun-later}
 use Rattle.redo_build.proofs.StandingLemmas.{outcomes_of-deep}
 use Rattle.redo_build.proofs.SoundLemmas.{IsSound, out-parts, due-parts, is_able_to_go_on-parts}
@@ -206,7 +207,7 @@ module _ (r : Rules) (lawful : AreLawful r) where
     pub take-of : (which : ℕ) → IsOpen r s (Take which) → IsTakeOf which
     take-of which open' =
         let at = slice_get-below s.ready which open' in
-        let fed = sound.queued.ready_fed at.0 (slice_get-among s.ready which at.0 at.1) in
+        let fed = sound.queued.ready_fed at.0 (place-among s.ready which at.0 at.1) in
         let P : Option (List ℕ) → Type 0 = λ x.
         (taken s (option_and_then (entry_of s.entries) x) which).entries ≡ put s.entries (sent_out fed.0) in
         let Q : Option Entry → Type 0 = λ x. (taken s x which).entries ≡ put s.entries (sent_out fed.0) in

@@ -4,6 +4,7 @@ use Rattle.std.proofs.Common.{Some, None, is_none, slice_get, option_and_then, r
 use Rattle.std.proofs.Common.{bytes_eq}
 use Rattle.std.proofs.lemmas.Bool.{cases_Bool, both_ways, and_parts, and_from, not-true, not_from_false}
 use Rattle.std.proofs.lemmas.Slice.Eq.{bytes_eq-Decides}
+use Rattle.redo_names.proofs.PathLemmas.{among-told, place-among, told-among}
 use Rattle.redo_record.specs.Paths.{is_among}
 use Rattle.redo_build.specs.Rules.{Rules, AreLawful, operands}
 use Rattle.redo_build.specs.Schedule.{Entry, State, Event, entry_of, outcomes_of, entered, put, sent_out}
@@ -13,11 +14,10 @@ use Rattle.redo_build.specs.Schedule.Event.{Take, Hand_in, Look}
 use Rattle.redo_build.specs.Schedule.Phase.{Check}
 use Rattle.redo_build.specs.Looking.{first_due, looked_once, looked, AreLooks, NoneDue}
 use Rattle.redo_build.specs.Takes.{place_of, takes}
-use Rattle.redo_build.proofs.PathLemmas.{is_among-true, is_among-from}
 use Rattle.redo_build.proofs.DepthLemmas.{cases_Option}
 use Rattle.redo_build.proofs.SeenLemmas.{entry_of-path, entry_of-among, entry_of-put_same, entry_of-put_other}
 use Rattle.redo_build.proofs.SeenLemmas.{entry_of-entered_old, entry_of-entered_cases, new-inside}
-use Rattle.redo_build.proofs.QueueLemmas.{slice_get-among, slice_get-below, remove-cases}
+use Rattle.redo_build.proofs.QueueLemmas.{slice_get-below, remove-cases}
 use Rattle.redo_build.proofs.DueLemmas.{none-due, none-due-from}
 use Rattle.redo_build.proofs.StandingLemmas.{sent-cases, sent-outcomes}
 use Rattle.redo_build.proofs.SoundLemmas.{IsSound, happens-sound, is_able_to_go_on-parts, lacks_none-true}
@@ -187,9 +187,9 @@ module _ (r : Rules) (lawful : AreLawful r) (request : List (List ℕ)) where
         let fed : lacks_none r s.entries x ≡ true = lacks_none-from r s.entries x (λ y m missing.
         lacks_none-true r then'.entries x parts.1 y m (same y ∙ missing)) in
         let waits : is_among s.ready x.path ≡ false = (elim (cases_Bool (is_among s.ready x.path)) [
-          | inl t ↦ absurd (elim (remove-cases s.ready which p x.path ready (is_among-true s.ready x.path t)) [
+          | inl t ↦ absurd (elim (remove-cases s.ready which p x.path ready (among-told s.ready x.path t)) [
             | inl taken' ↦ not-sent q x there parts.2 (sym taken' ∙ sym (entry_of-path s.entries p e at))
-            | inr left ↦ both_ways _ parts.3 (is_among-from (remove s.ready which) x.path left)
+            | inr left ↦ both_ways _ parts.3 (told-among (remove s.ready which) x.path left)
           ])
           | inr f ↦ f
         ]) in
@@ -208,7 +208,7 @@ module _ (r : Rules) (lawful : AreLawful r) (request : List (List ℕ)) where
       NoneDue r (happens r s (Take which))
   take-none-due s sound none which below =
       let at = slice_get-below s.ready which below in
-      let fed = sound.queued.ready_fed at.0 (slice_get-among s.ready which at.0 at.1) in
+      let fed = sound.queued.ready_fed at.0 (place-among s.ready which at.0 at.1) in
       let next = happens-sound r lawful request s (Take which) sound below in
       let P : Option (List ℕ) → Type 0 = λ x. taken s (option_and_then (entry_of s.entries) x) which ≡ taken s
       (Some fed.0) which in

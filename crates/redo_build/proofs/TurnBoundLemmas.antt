@@ -1,13 +1,13 @@
 -- A target's turn stays below the number of entries.
 use Rattle.std.proofs.Common.{◌≡◌, ℕ, zero, suc, ◌<◌, inl, inr, List, [], ◌∷◌, length, Some, None, refl, sym, ap, subst}
 use Rattle.std.proofs.Common.{◌∙◌, arith}
+use Rattle.redo_names.proofs.ListLemmas.{within-length, IsAmong-same}
 use Rattle.redo_record.specs.Paths.{IsAmong, AreDistinct}
 use Rattle.redo_record.specs.declared.deps.Dep.{Dep}
 use Rattle.redo_build.specs.Rules.{Ask, Rules, AreLawful, operands}
 use Rattle.redo_build.specs.Schedule.{Entry, paths_of, entry_of, outcomes_of, only}
 use Rattle.redo_build.specs.inside.Turns.{deps_at_turn, CameTo}
 use Rattle.redo_build.specs.inside.Standing.{AreStanding, rounds}
-use Rattle.redo_build.proofs.PathLemmas.{within-length, IsAmong-same}
 use Rattle.redo_build.proofs.SeenLemmas.{entry_of-among, outcomes_of-at}
 use Rattle.redo_build.proofs.TurnLemmas.{only-among, CameTo-before, asked-more}
 

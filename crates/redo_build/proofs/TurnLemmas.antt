@@ -2,6 +2,7 @@
 use Rattle.std.proofs.Common.{◌≡◌, ℕ, zero, suc, ◌≤◌, inl, inr, List, Some, None, refl, sym, ap, subst, ◌∙◌, arith}
 use Rattle.std.proofs.Common.{true}
 use Rattle.std.proofs.lemmas.Bool.{cases_Bool, cases_lt}
+use Rattle.redo_names.proofs.PathLemmas.{among-told, told-among}
 use Rattle.redo_record.specs.Paths.{is_among, IsAmong}
 use Rattle.redo_record.specs.Progress.{Progress}
 use Rattle.redo_record.specs.declared.deps.Dep.{Dep}
@@ -9,7 +10,6 @@ use Rattle.redo_record.specs.declared.outcome.Outcome.{Outcome}
 use Rattle.redo_build.specs.Rules.{Ask, Rules, AreLawful, Extends, operands}
 use Rattle.redo_build.specs.Schedule.{only}
 use Rattle.redo_build.specs.inside.Turns.{deps_at_turn, progress_at_turn, CameTo, begins_at}
-use Rattle.redo_build.proofs.PathLemmas.{is_among-true, is_among-from}
 use Rattle.redo_build.proofs.DepthLemmas.{cases_Option, operand-target}
 
 -- one of the answers alone
@@ -20,7 +20,7 @@ only-some ps a q o h = elim (cases_Bool (is_among ps q)) [
 ]
 
 pub only-among : (ps : List (List ℕ)) (a : Ask) (q : List ℕ) → IsAmong ps q → only ps a q ≡ a q
-only-among ps a q m = let t = is_among-from ps q m in rw t refl
+only-among ps a q m = let t = told-among ps q m in rw t refl
 
 pub only-Extends : (r : Rules) (ps : List (List ℕ)) (a b : Ask) → Extends r a b → Extends r (only ps a) b
 only-Extends r ps a b h q o s e = h q o s (only-some ps a q o e)
@@ -36,7 +36,7 @@ module _ (r : Rules) (lawful : AreLawful r) where
   progress-more p ds a b more all = (lawful.each p).local (only (operands r ds) a) (only (operands r ds) b) (λ q m.
       elim (cases_Bool (is_among (operands r ds) q)) [
         | inl t ↦ rw t (
-            let among = is_among-true (operands r ds) q t in
+            let among = among-told (operands r ds) q t in
             elim (cases_Option (a q)) [
               | inl none ↦ absurd (all q among none)
               | inr some ↦ some.1 ∙ sym (more q some.0 (operand-target r lawful ds q among) some.1)
@@ -82,7 +82,7 @@ module _ (r : Rules) (lawful : AreLawful r) where
   begins-more p ds a b more all = lawful.begins_local p (only (operands r ds) a) (only (operands r ds) b) (λ q m.
       elim (cases_Bool (is_among (operands r ds) q)) [
         | inl t ↦ rw t (
-            let among = is_among-true (operands r ds) q t in
+            let among = among-told (operands r ds) q t in
             elim (cases_Option (a q)) [
               | inl none ↦ absurd (all q among none)
               | inr some ↦ some.1 ∙ sym (more q some.0 (operand-target r lawful ds q among) some.1)
@@ -112,7 +112,7 @@ module _ (r : Rules) (lawful : AreLawful r) where
           Extends r (only (operands r (deps_at_turn r p a k)) a) (only (operands r (deps_at_turn r p a (suc k))) a)
       known-more p a k wider x o s h = elim (cases_Bool (is_among (operands r (deps_at_turn r p a k)) x)) [
         | inl t ↦
-            let there = wider x (is_among-true (operands r (deps_at_turn r p a k)) x t) in
+            let there = wider x (among-told (operands r (deps_at_turn r p a k)) x t) in
             only-among (operands r (deps_at_turn r p a (suc k))) a x there
             ∙ only-some (operands r (deps_at_turn r p a k)) a x o h
         | inr f ↦ absurd (let now = rw f at h in cc)
@@ -122,7 +122,7 @@ module _ (r : Rules) (lawful : AreLawful r) where
       Extends r (only (operands r (deps_at_turn r p a k)) a) (only (operands r (deps_at_turn r p a (suc k))) a)
   turn-more p a k came x o s h = elim (cases_Bool (is_among (operands r (deps_at_turn r p a k)) x)) [
     | inl t ↦
-        let there = asked-more p a k came x (is_among-true (operands r (deps_at_turn r p a k)) x t) in
+        let there = asked-more p a k came x (among-told (operands r (deps_at_turn r p a k)) x t) in
         only-among (operands r (deps_at_turn r p a (suc k))) a x there ∙ only-some (operands r (deps_at_turn r p a k)) a
         x o h
     | inr f ↦ absurd (let now = rw f at h in cc)

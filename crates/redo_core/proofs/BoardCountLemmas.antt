@@ -1,5 +1,6 @@
 -- What a board's events do to the number of jobs that are out, and to that of those that may still be taken.
 use Rattle.std.proofs.Common.{◌≡◌, ℕ, ◌+◌, ◌<◌, ◌≤◌, ◌∙◌, false, List, length, is_some, sym, ap, arith, subst}
+use Rattle.redo_names.proofs.PathLemmas.{place-among}
 use Rattle.redo_build.specs.Schedule.{State, happens, IsOutAt}
 use Rattle.redo_build.specs.Schedule.Event.{Take, Hand_in}
 use Rattle.redo_rules.proofs.Public.{lawful_for}
@@ -8,7 +9,6 @@ use Rattle.redo_build.specs.TakesLeft.{takes_left}
 use Rattle.redo_core.specs.Views.{after, jobs_out, BoardView, WorkView, IsWorkTaken}
 use Rattle.redo_core.specs.declared.board.Board.TheInside.{Inside}
 use Rattle.redo_build.proofs.CountLemmas.{take-out, take-at, take-left, hand_in-out, hand_in-left}
-use Rattle.redo_build.proofs.QueueLemmas.{slice_get-among}
 use Rattle.redo_build.specs.Looking.{looked}
 use Rattle.redo_build.proofs.SoundLemmas.{IsSound, happens-sound}
 use Rattle.redo_build.proofs.StillLemmas.{looked-count}
@@ -35,7 +35,7 @@ module _ (b : Inside) (kept : IsKept b) (on : is_some b.stopped ≡ false) where
         here : IsWorkTaken (view_of b) which w → IsOutAt (happens (rules_inside b) (state_of b) (Take which)) w.target w.turn
         here is_taken =
             let sound = sound-inside b kept in
-            let fed = sound.queued.ready_fed w.target (slice_get-among (state_of b).ready which w.target is_taken.target) in
+            let fed = sound.queued.ready_fed w.target (place-among (state_of b).ready which w.target is_taken.target) in
             let out = take-at (rules_inside b) (lawful_for b.build) b.build.request (state_of b) sound which w.target fed.0 below is_taken.target fed.1 in
             let Q : ℕ → Type 0 = λ n. IsOutAt (happens (rules_inside b) (state_of b) (Take which)) w.target n in
             subst Q (sym (is_taken.turn fed.0 fed.1).0) out

@@ -1,4 +1,5 @@
 -- What the check of a target has come to, and what follows for the target.
+use Rattle.redo_names.proofs.ListLemmas.{IsAmong-left, IsAmong-right}
 use Rattle.redo_skip.proofs.NewBookLemmas.{found-target}
 use Rattle.std.proofs.Common.{◌≡◌, ◌∙◌, ◌<◌, ℕ, true, false, not, ◌&&◌, inl, inr, List, [], ◌∷◌}
 use Rattle.std.proofs.Common.{◌++◌, Option, Some, None, refl, sym, ap, subst, length, map, take, slice_get}
@@ -15,7 +16,6 @@ use Rattle.redo_book.specs.declared.book.BookEntry.TheVariants.{Change}
 use Rattle.redo_book.specs.Book.{Record, record_at}
 use Rattle.redo_build.specs.Rules.{Ask, operands}
 use Rattle.redo_build.specs.Schedule.{nothing_known, only}
-use Rattle.redo_build.proofs.PathLemmas.{IsAmong-left, IsAmong-right}
 use Rattle.redo_build.proofs.TurnLemmas.{only-among}
 use Rattle.redo_skip.specs.Checks.{Finding, asking, asks, built, falls, finding}
 use Rattle.redo_skip.specs.Checks.{is_asked, lacks, progress_checked, progress_found, record_by, record_checked}

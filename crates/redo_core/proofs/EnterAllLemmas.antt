@@ -4,6 +4,8 @@ use Rattle.std.proofs.Common.{length, take, drop, take-append-drop, slice_get, f
 use Rattle.std.proofs.Common.{◌∙◌, arith}
 use Rattle.std.proofs.lemmas.Bool.{cases_Bool}
 use Rattle.std.proofs.lemmas.List.Elements.{filter_map-append, filter-append}
+use Rattle.redo_names.proofs.ListLemmas.{with_new-first}
+use Rattle.redo_names.proofs.PathLemmas.{told-among}
 use Rattle.redo_record.specs.declared.deps.Dep.{Dep}
 use Rattle.redo_record.specs.Paths.{IsAmong, is_among}
 use Rattle.redo_build.specs.Rules.{Rules, operands, changed}
@@ -11,7 +13,6 @@ use Rattle.redo_rules.specs.Build.{GivenView, rules_for}
 use Rattle.redo_build.specs.Schedule.{Entry, paths_of, entered, new_entry}
 use Rattle.redo_core.specs.inside.Slots.{table_entries, AreEnteredInto}
 use Rattle.redo_core.specs.declared.table.Table.{Table}
-use Rattle.redo_build.proofs.PathLemmas.{is_among-from, with_new-first}
 use Rattle.redo_build.proofs.SeenLemmas.{entered-longer, paths_of-entered}
 
 pub entered-append : (r : Rules) (es : List Entry) (ps qs : List (List ℕ)) → entered r es (ps ++ qs) ≡ entered r (entered r es ps) qs
@@ -21,7 +22,7 @@ entered-append r es (p ∷ ps) qs = entered-append r (cond (is_among (paths_of e
 -- paths that were seen add nothing
 pub entered-seen : (r : Rules) (es : List Entry) (ps : List (List ℕ)) → ((q : List ℕ) → IsAmong ps q → IsAmong (paths_of es) q) → entered r es ps ≡ es
 entered-seen r es [] h = refl
-entered-seen r es (p ∷ ps) h = rw (is_among-from (paths_of es) p (h p (inl refl))) (entered-seen r es ps (λ q m. h q (inr m)))
+entered-seen r es (p ∷ ps) h = rw (told-among (paths_of es) p (h p (inl refl))) (entered-seen r es ps (λ q m. h q (inr m)))
 
 pub operands-append : (r : Rules) (ds es : List Dep) → operands r (ds ++ es) ≡ operands r ds ++ operands r es
 operands-append r ds es =
@@ -38,7 +39,7 @@ entered-passed r f es (p ∷ ps) h = elim (cases_Bool (f p)) [
       let A : List (List ℕ) → Type 0 = λ xs. (q : List ℕ) → IsAmong ps q → f q ≡ false → IsAmong xs q in
       let wider = subst A (sym (paths_of-entered r es (p ∷ []))) (λ q m n. with_new-first (paths_of es) (p ∷ []) q (h q (inr m) n)) in
       rw t (entered-passed r f (entered r es (p ∷ [])) ps wider)
-  | inr n ↦ rw (n, is_among-from (paths_of es) p (h p (inl refl) n)) (entered-passed r f es ps (λ q m. h q (inr m)))
+  | inr n ↦ rw (n, told-among (paths_of es) p (h p (inl refl) n)) (entered-passed r f es ps (λ q m. h q (inr m)))
 ]
 
 -- some paths and one more

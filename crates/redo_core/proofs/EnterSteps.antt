@@ -1,5 +1,5 @@
 -- Entering a path that is new.
-use Rattle.redo_names.proofs.PathLemmas.{told-absent}
+use Rattle.redo_names.proofs.PathLemmas.{told-absent, told-among}
 use Rattle.std.proofs.Common.{slice_get, slice_set, ◌≡◌, ℕ, ◌+◌, ◌<◌, ◌≤◌, true, false, ◌⊎◌, inl, inr, List, []}
 use Rattle.std.proofs.Common.{◌∷◌, ◌++◌, length, length-append, Some, None, refl, sym, ap, subst}
 use Rattle.std.proofs.Common.{◌∙◌, arith}
@@ -20,7 +20,6 @@ use Rattle.redo_core.specs.declared.table.Table.{Table}
 use Rattle.redo_core.specs.declared.table.Stage.{Stage}
 use Rattle.redo_core.specs.declared.table.Stage.TheVariants.{Due, Ready, Decided}
 use Rattle.redo_core.proofs.NumberLemmas.{agrees-kept}
-use Rattle.redo_build.proofs.PathLemmas.{is_among-from}
 use Rattle.redo_build.proofs.SeenLemmas.{outcomes_of-entry, outcomes_of-at, entry_of-entered_old}
 use Rattle.redo_core.proofs.SlotLemmas.{length-slots, paths_of-slots}
 use Rattle.std.proofs.lemmas.Option.{slice_get_within}
@@ -218,7 +217,7 @@ entered-old given t p table m = record {
   entries =
       let P : List (List ℕ) → Type 0 = λ xs. is_among xs p ≡ true in
       let yes' : is_among (paths_of (table_entries given t)) p ≡ true =
-      subst P (sym (paths_of-slots (rules_for given) (outcomes_at_limit given) t.targets t.slots.items table.one_each)) (is_among-from t.targets p m) in
+      subst P (sym (paths_of-slots (rules_for given) (outcomes_at_limit given) t.targets t.slots.items table.one_each)) (told-among t.targets p m) in
       sym (rw yes' refl);
   ready = refl;
   keys_kept = λ k q h. h;

@@ -1,9 +1,9 @@
 -- What stays as it is while paths are entered into a table.
 use Rattle.std.proofs.Common.{slice_get, ◌≡◌, ℕ, ◌<◌, inl, inr, List, length, Some, refl, sym, ap, subst, ◌∙◌, arith}
+use Rattle.redo_names.proofs.ListLemmas.{with_new-distinct}
 use Rattle.redo_record.specs.declared.outcome.Outcome.{Outcome}
 use Rattle.redo_record.specs.Paths.{AreDistinct}
 use Rattle.redo_build.specs.Schedule.{Entry, entered, outcomes_of, paths_of}
-use Rattle.redo_build.proofs.PathLemmas.{with_new-distinct}
 use Rattle.redo_build.proofs.SeenLemmas.{entry_of-entered_old, outcomes_of-at, outcomes_of-entry, paths_of-entered}
 use Rattle.redo_rules.specs.Build.{GivenView, rules_for}
 use Rattle.redo_table.specs.Schedule.{stage_at}

@@ -1,6 +1,7 @@
 -- A work holds the outcomes of all that it asked for, and no others.
 use Rattle.std.proofs.Common.{◌≡◌, ℕ, ◌+◌, inl, inr, List, refl, sym, ◌∙◌, arith}
 use Rattle.std.proofs.lemmas.Bool.{cases_Bool}
+use Rattle.redo_names.proofs.PathLemmas.{among-told}
 use Rattle.redo_record.specs.declared.deps.Dep.{Dep}
 use Rattle.redo_record.specs.Paths.{is_among}
 use Rattle.redo_build.specs.Rules.{Rules, AreLawful, operands}
@@ -14,7 +15,6 @@ use Rattle.redo_core.specs.inside.Works.{HoldsOutcomes}
 use Rattle.redo_core.specs.declared.work.ScriptStage.{ScriptStage}
 use Rattle.redo_core.specs.declared.work.ScriptStage.TheVariants.{Unread, Begun}
 use Rattle.redo_build.proofs.DepthLemmas.{cases_Option, deeper, operand-target}
-use Rattle.redo_build.proofs.PathLemmas.{is_among-true}
 use Rattle.redo_build.proofs.StandingLemmas.{outcomes_of-deep}
 
 pub script-holds : (given : GivenView) (s : ScriptStage) → IsScriptOf given s →
@@ -28,7 +28,7 @@ pub same-answers : (r : Rules) (lawful : AreLawful r) (request : List (List ℕ)
     only (operands r deps) (outcome_at r depth) q ≡ only (operands r deps) (outcomes_of es) q
 same-answers r lawful request es standing depth deps fed all q = elim (cases_Bool (is_among (operands r deps) q)) [
   | inl t ↦ rw t (
-      let m = is_among-true (operands r deps) q t in
+      let m = among-told (operands r deps) q t in
       let target = operand-target r lawful deps q m in
       elim (cases_Option (outcomes_of es q)) [
         | inl none ↦ absurd (all q m none)

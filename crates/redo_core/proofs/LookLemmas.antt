@@ -3,6 +3,7 @@ use Rattle.std.proofs.Common.{slice_get, ◌≡◌, ℕ, zero, suc, ◌<◌, Boo
 use Rattle.std.proofs.Common.{find, length, Option, Some, None, is_none, Global, Vec, refl, sym, ap, subst, ◌∙◌, arith, ◌≤◌}
 use Rattle.std.specs.Prelude.{Box}
 use Rattle.std.proofs.lemmas.Bool.{cases_Bool, both_ways, and_from, and_parts, not-true, not_from_false}
+use Rattle.redo_names.proofs.PathLemmas.{among-told}
 use Rattle.redo_record.specs.Paths.{IsAmong, AreDistinct, is_among}
 use Rattle.redo_build.specs.Rules.{Ask, Rules, operands}
 use Rattle.redo_build.specs.Outcomes.{outcome_at}
@@ -16,7 +17,6 @@ use Rattle.redo_build.specs.Schedule.{Entry, State, is_able_to_go_on, is_due, kn
 use Rattle.redo_build.specs.Schedule.{outcomes_of}
 use Rattle.redo_record.specs.declared.deps.Dep.{Dep}
 use Rattle.redo_record.specs.declared.outcome.Outcome.{Outcome}
-use Rattle.redo_build.proofs.PathLemmas.{is_among-true}
 use Rattle.redo_build.proofs.SoundLemmas.{is_able_to_go_on-parts, lacks_none-from, lacks_none-true}
 use Rattle.redo_rules.specs.Build.{GivenView, rules_for}
 use Rattle.redo_rules.proofs.Public.{lawful_for}
@@ -155,7 +155,7 @@ module _ (given : GivenView) (t : Table) (rest : IsAtRest given t) where
       (lack.0, subst D here lack.1, lack.2))
       (λ due. elim (cases_Bool (is_among s.ready p)) [
         | inl yes' ↦ absurd (
-            let found = among-map (path_at t.targets) t.schedule.ready p (is_among-true s.ready p yes') in
+            let found = among-map (path_at t.targets) t.schedule.ready p (among-told s.ready p yes') in
             let staged = rest.resting.queue.are_ready found.0 (place-times t.schedule.ready found.0 found.1) in
             let other = agreed-slot r t.targets t.slots.items t.schedule.stages rest.table.agreed found.0 AtReady staged in
             let same : found.0 ≡ k = distinct-place t.targets found.0 k p distinct

@@ -5,6 +5,7 @@ use Rattle.std.proofs.Common.{subst, ◌∙◌, arith, bytes_eq, Global, Vec}
 use Rattle.std.specs.Prelude.{Box}
 use Rattle.std.proofs.lemmas.Bool.{cases_Bool, both_ways}
 use Rattle.std.proofs.lemmas.Slice.Eq.{bytes_eq-Decides}
+use Rattle.redo_names.proofs.ListLemmas.{IsAmong-left}
 use Rattle.redo_record.specs.declared.deps.Dep.{Dep}
 use Rattle.redo_record.specs.declared.outcome.Outcome.{Outcome}
 use Rattle.redo_record.specs.Paths.{IsAmong, AreDistinct, is_among}
@@ -19,7 +20,6 @@ use Rattle.redo_build.specs.Schedule.Phase.{Check}
 use Rattle.redo_build.specs.Looking.{first_due, looked_once}
 use Rattle.redo_build.proofs.LookingLemmas.{first-look, first-open}
 use Rattle.redo_build.proofs.QuietLemmas.{is_part}
-use Rattle.redo_build.proofs.PathLemmas.{IsAmong-left}
 use Rattle.redo_build.proofs.SeenLemmas.{paths_of-push, entry_of-put_same, paths_of-put}
 use Rattle.redo_build.proofs.SoundLemmas.{IsSound, happens-sound, only-same}
 use Rattle.redo_rules.specs.Build.{GivenView, rules_for}

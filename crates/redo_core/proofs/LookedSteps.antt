@@ -3,6 +3,8 @@ use Rattle.std.proofs.Common.{map, slice_get, ◌≡◌, ℕ, ◌+◌, ◌<◌, 
 use Rattle.std.proofs.Common.{Some, None, refl, sym, ap, subst, ◌∙◌, Global}
 use Rattle.std.specs.Prelude.{Box, ◌&&◌}
 use Rattle.std.proofs.lemmas.Bool.{cases_Bool, both_ways, and_right}
+use Rattle.redo_names.proofs.ListLemmas.{IsAmong-append, IsAmong-left}
+use Rattle.redo_names.proofs.PathLemmas.{among-told, told-among}
 use Rattle.redo_record.specs.declared.deps.Dep.{Dep}
 use Rattle.redo_record.specs.declared.deps.DepKind.TheVariants as kinds
 use Rattle.redo_record.specs.declared.outcome.Outcome.{Outcome}
@@ -15,7 +17,6 @@ use Rattle.redo_build.specs.Schedule.{Entry, advanced, entered, moved_on, only, 
 use Rattle.redo_build.specs.Schedule.Phase.{Check as In_check}
 use Rattle.redo_build.specs.inside.Standing.{AreStanding}
 use Rattle.redo_build.proofs.DepthLemmas.{cases_Option, ended_stays, operand-target}
-use Rattle.redo_build.proofs.PathLemmas.{IsAmong-append, IsAmong-left, is_among-true, is_among-from}
 use Rattle.redo_build.proofs.TurnLemmas.{only-Extends, only-among, Extends-trans'}
 use Rattle.redo_skip.specs.Checks.{built, shown}
 use Rattle.redo_tree.specs.Tree.{file_at}
@@ -244,17 +245,17 @@ module _ (given : GivenView) (u : Table) (at : ℕ) (held : Box InCheck Global) 
               exact = λ x other. due.exact x ∙ elim (cases_Bool (is_among (operands r asked) x)) as
                   (λ _. only (operands r asked) (outcomes_of ew) x ≡ only (operands r more) (outcomes_of (table_entries given v)) x) [
                     | inl t ↦
-                        let m = is_among-true (operands r asked) x t in
+                        let m = among-told (operands r asked) x t in
                         only-among (operands r asked) (outcomes_of ew) x m ∙ asked-same x m ∙ sym (only-among (operands r more) (outcomes_of (table_entries given v)) x (asked-still x m))
                     | inr f ↦
                         let no' : is_among (operands r more) x ≡ false = elim (cases_Bool (is_among (operands r more) x)) [
-                          | inl t ↦ absurd (both_ways _ f (is_among-from (operands r asked) x (other-asked x (is_among-true (operands r more) x t) other)))
+                          | inl t ↦ absurd (both_ways _ f (told-among (operands r asked) x (other-asked x (among-told (operands r more) x t) other)))
                           | inr n ↦ n
                         ] in
                         rw (f, no') refl
                   ];
               lacks = due.exact q ∙ elim (cases_Bool (is_among (operands r asked) q)) as (λ _. only (operands r asked) (outcomes_of ew) q ≡ None) [
-                | inl t ↦ absurd (asks.3 (is_among-true (operands r asked) q t))
+                | inl t ↦ absurd (asks.3 (among-told (operands r asked) q t))
                 | inr f ↦ rw f refl
               ];
             }

@@ -3,6 +3,7 @@ use Rattle.std.proofs.Common.{slice_get, slice_set, ◌≡◌, ℕ, zero, suc, f
 use Rattle.std.proofs.Common.{Some, None, refl, sym, ap, subst, ◌∙◌, arith, bytes_eq, Global}
 use Rattle.std.proofs.lemmas.Bool.{cases_Bool, both_ways}
 use Rattle.std.proofs.lemmas.Slice.Eq.{bytes_eq-Decides}
+use Rattle.redo_names.proofs.PathLemmas.{among-told, place-among}
 use Rattle.redo_record.specs.declared.outcome.Outcome.{Outcome}
 use Rattle.redo_sync.specs.Shown.{Shown}
 use Rattle.redo_step.specs.JobView.{JobView}
@@ -29,7 +30,6 @@ use Rattle.redo_core.specs.declared.table.Slot.{Slot}
 use Rattle.redo_core.specs.declared.table.Stage.{Stage}
 use Rattle.redo_core.specs.declared.table.Table.{Table}
 use Rattle.redo_core.specs.declared.table.Stage.TheVariants.{Waiting, Out, Decided}
-use Rattle.redo_build.proofs.PathLemmas.{is_among-true}
 use Rattle.redo_build.proofs.DepthLemmas.{cases_Option, operand-target}
 use Rattle.redo_core.proofs.JobLemmas.{asked_of_job, asked_by_job}
 use Rattle.redo_build.proofs.TurnLemmas.{only-among}
@@ -40,7 +40,6 @@ use Rattle.redo_table.proofs.TargetLemmas.{get-other}
 use Rattle.redo_core.proofs.TableSteps.{waited-declared, waited-place}
 use Rattle.redo_core.proofs.GainSteps.{decided-fact}
 use Rattle.redo_core.proofs.NumberLemmas.{numbers-number, numbers-path}
-use Rattle.redo_build.proofs.QueueLemmas.{slice_get-among}
 use Rattle.redo_core.specs.Views.{FactView}
 
 -- the slot of an entry
@@ -140,7 +139,7 @@ module _ (given : GivenView) (t : Table) (at : ℕ) (on : List ℕ) (slot : Slot
             subst P same (
               asked-second r begun.value.facts.asked (job_deps begun.value.job) path.0
                   (asked_of_job given begun.value.job fed.waits.is_job (omega (arith, fed.waits.at_turn, fed.waits.stopped)) path.0
-                  (waited-declared r begun.value path.0 (slice_get-among (waited_by r begun.value) new.k path.0 path.1))),
+                  (waited-declared r begun.value path.0 (place-among (waited_by r begun.value) new.k path.0 path.1))),
               known.1 ∙ ap Some new.outcome,
             )
       ]
@@ -169,7 +168,7 @@ module _ (given : GivenView) (t : Table) (at : ℕ) (on : List ℕ) (slot : Slot
           only (operands (rules_for given) (all_asked begun.value.job begun.value.facts)) (outcome_at (rules_for given) fed.is_work.depth) q
       exact q = elim (cases_Option (told_in facts q)) [
         | inl none ↦ elim (cases_Bool (is_among (operands r asked) q)) [
-          | inl t' ↦ absurd (complete q (is_among-true (operands r asked) q t') none)
+          | inl t' ↦ absurd (complete q (among-told (operands r asked) q t') none)
           | inr f ↦ none ∙ sym (rw f refl)
         ]
         | inr some ↦

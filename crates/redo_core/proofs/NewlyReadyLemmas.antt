@@ -3,6 +3,8 @@ use Rattle.std.proofs.Common.{map, slice_get, ◌≡◌, ℕ, zero, suc, ◌+◌
 use Rattle.std.proofs.Common.{[], ◌∷◌, length, filter, ◌↔◌, Option, Some, None, refl, sym, ap, subst, ◌∙◌, arith}
 use Rattle.std.specs.List.{list_any}
 use Rattle.std.proofs.lemmas.Bool.{cases_Bool, cases_lt, both_ways, and_from, not_from_false}
+use Rattle.redo_names.proofs.ListLemmas.{IsAmong-same}
+use Rattle.redo_names.proofs.PathLemmas.{among-told, place-among, told-among}
 use Rattle.redo_record.specs.Paths.{IsAmong, AreDistinct, is_among}
 use Rattle.redo_build.specs.Rules.{Ask, Rules, operands}
 use Rattle.redo_rules.specs.Build.{GivenView, rules_for}
@@ -26,8 +28,6 @@ use Rattle.std.proofs.Common.{Global}
 use Rattle.redo_core.specs.declared.table.Table.{Table}
 use Rattle.redo_core.specs.declared.table.Stage.{Stage}
 use Rattle.redo_core.specs.declared.table.Stage.TheVariants.{Due, Checking, Waiting, Ready, Out, Decided}
-use Rattle.redo_build.proofs.PathLemmas.{is_among-true, is_among-from, IsAmong-same}
-use Rattle.redo_build.proofs.QueueLemmas.{slice_get-among}
 use Rattle.redo_build.proofs.SoundLemmas.{may_run-parts, lacks_none-true}
 use Rattle.redo_core.proofs.EntryLemmas.{path-below}
 use Rattle.redo_core.proofs.SlotLemmas.{length-slots, ready-job}
@@ -38,8 +38,8 @@ use Rattle.redo_record.specs.declared.deps.Dep.{Dep}
 pub distinct-place : (ps : List (List ℕ)) (i j : ℕ) (p : List ℕ) → AreDistinct ps → slice_get ps i ≡ Some p → slice_get ps j ≡ Some p → i ≡ j
 distinct-place [] i j p d h g = cc
 distinct-place (x ∷ ps) zero zero p d h g = refl
-distinct-place (x ∷ ps) zero (suc j) p d h g = absurd (let is : p ≡ x = cc in d.0 (IsAmong-same ps p x is (slice_get-among ps j p g)))
-distinct-place (x ∷ ps) (suc i) zero p d h g = absurd (let is : p ≡ x = cc in d.0 (IsAmong-same ps p x is (slice_get-among ps i p h)))
+distinct-place (x ∷ ps) zero (suc j) p d h g = absurd (let is : p ≡ x = cc in d.0 (IsAmong-same ps p x is (place-among ps j p g)))
+distinct-place (x ∷ ps) (suc i) zero p d h g = absurd (let is : p ≡ x = cc in d.0 (IsAmong-same ps p x is (place-among ps i p h)))
 distinct-place (x ∷ ps) (suc i) (suc j) p d h g = ap suc (distinct-place ps i j p d.1 h g)
 
 pub slot-of-entry : (r : Rules) (a : Ask) (ps : List (List ℕ)) (slots : List Slot) (i : ℕ) (e : Entry) → slice_get (slot_entries r a ps slots) i ≡ Some e →
@@ -110,7 +110,7 @@ module _ (given : GivenView) (t : Table) (more : List ℕ) (table : IsTableOf gi
       let all : lacks_none r s.entries e ≡ true = not_from_false _ (none-lacks (outcomes_of s.entries) (operands r e.deps) (subst P (sym deps) job.3)) in
       let away : is_among s.ready e.path ≡ false = elim (cases_Bool (is_among s.ready e.path)) [
         | inl yes' ↦ absurd (
-            let at = among-map (path_at t.targets) t.schedule.ready e.path (is_among-true s.ready e.path yes') in
+            let at = among-map (path_at t.targets) t.schedule.ready e.path (among-told s.ready e.path yes') in
             let same : at.0 ≡ i = distinct-place t.targets at.0 i p distinct
             (path-below given t t.schedule.stages table at.0 (staged-below at.0 (queue.are_ready at.0 (place-times t.schedule.ready at.0 at.1))) ∙ ap Some (at.2 ∙ path)) found.3 in
             let Q : ℕ → Type 0 = IsPlace t.schedule.ready in
@@ -145,7 +145,7 @@ module _ (given : GivenView) (t : Table) (more : List ℕ) (table : IsTableOf gi
               let stage = agreed-stage r t.targets t.slots.items t.schedule.stages table.agreed i slot found.2 in
               let staged = stage.1 ∙ ap Some (ready-agrees r t.targets slot.stage stage.0 stage.2 ready) in
               elim (cases_lt 0 (times i t.schedule.ready)) [
-                | inl queued ↦ absurd (both_ways _ parts.3 (is_among-from s.ready e.path
+                | inl queued ↦ absurd (both_ways _ parts.3 (told-among s.ready e.path
                     (IsAmong-same s.ready (path_at t.targets i) e.path (here ∙ sym path) (map-among (path_at t.targets) t.schedule.ready i (times-place t.schedule.ready i queued)))))
                 | inr none ↦ (are_more i).1 (staged, omega (arith, none))
               ]

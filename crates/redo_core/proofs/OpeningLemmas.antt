@@ -4,6 +4,8 @@ use Rattle.std.proofs.Common.{◌++◌, Some, inl, inr, length, take, drop, take
 use Rattle.std.proofs.Common.{◌∙◌, arith}
 use Rattle.std.proofs.lemmas.Bool.{cases_Bool}
 use Rattle.std.proofs.lemmas.List.Elements.{filter-append}
+use Rattle.redo_names.proofs.ListLemmas.{with_new-second}
+use Rattle.redo_names.proofs.PathLemmas.{among-told}
 use Rattle.redo_record.specs.Paths.{IsAmong, is_among, with_new}
 use Rattle.redo_build.specs.Rules.{Rules}
 use Rattle.redo_build.specs.Outcomes.{IsTooMany}
@@ -24,7 +26,6 @@ use Rattle.redo_core.specs.inside.Slots.{AreEnteredInto, AreEnqueued, IsFirstTab
 use Rattle.redo_core.proofs.LookLemmas.{none_due}
 use Rattle.redo_build.proofs.LookedLemmas.{looked-left, looked-longer}
 use Rattle.redo_core.specs.declared.table.Table.{Table}
-use Rattle.redo_build.proofs.PathLemmas.{is_among-true, with_new-second}
 use Rattle.redo_build.proofs.SeenLemmas.{paths_of-entered, entered-longer}
 use Rattle.redo_build.proofs.SoundLemmas.{IsSound, opening-sound}
 use Rattle.redo_core.proofs.EnterAllLemmas.{entered-append, entered-seen, path-take}
@@ -59,7 +60,7 @@ entered-new r es ps (q ∷ qs) =
     let one : entered r es (cond (is_among ps q) ps (ps ++ q ∷ [])) ≡ entered r E (q ∷ []) = elim (cases_Bool (is_among ps q)) [
       | inl t ↦
           let A : List (List ℕ) → Type 0 = λ xs. IsAmong xs q in
-          let there = subst A (sym (paths_of-entered r es ps)) (with_new-second (paths_of es) ps q (is_among-true ps q t)) in
+          let there = subst A (sym (paths_of-entered r es ps)) (with_new-second (paths_of es) ps q (among-told ps q t)) in
           rw t (sym (entered-seen r E (q ∷ []) (λ x m. elim m [ inl here ↦ (let B : List ℕ → Type 0 = IsAmong (paths_of E) in subst B here there) | inr none ↦ absurd none ])))
       | inr f ↦ rw f (entered-append r es ps (q ∷ []))
     ] in

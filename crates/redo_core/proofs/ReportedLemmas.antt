@@ -6,6 +6,7 @@ use Rattle.std.specs.Arc.{arc_value}
 use Rattle.std.specs.List.{AllByRecursion}
 use Rattle.std.specs.Prelude.{Contains, unwrap_or}
 use Rattle.std.proofs.lemmas.Bool.{and_from, and_parts, cases_Bool}
+use Rattle.redo_names.proofs.PathLemmas.{place-among}
 use Rattle.redo_tree.specs.Tree.{file_at}
 use Rattle.redo_record.specs.declared.outcome.Outcome.{Outcome}
 use Rattle.redo_record.specs.declared.outcome.Outcome.TheVariants.{Built, Cyclic, Source as Is_source}
@@ -37,7 +38,6 @@ use Rattle.redo_core.specs.declared.table.Stage.TheVariants.{Due, Checking, Wait
 use Rattle.redo_core.specs.declared.table.Table.{Table}
 use Rattle.redo_core.proofs.CheckingLemmas.{number-within}
 use Rattle.redo_core.proofs.OrderLemmas.{AreSorted, ascending-sorted, sorted-ascending}
-use Rattle.redo_build.proofs.QueueLemmas.{slice_get-among}
 use Rattle.redo_past.proofs.ItemLemmas.{IsItem, item-contained, contained-item, of-item}
 use Rattle.redo_core.proofs.RowLemmas.{all_rows, path_row, row_path}
 use Rattle.redo_core.proofs.RowLemmas.{begun-from, begun-sorted, begun-to, file_row, files_sorted, row_file}
@@ -94,7 +94,7 @@ module _ (given : GivenView) (t : Table) (s : State)
   target-shown row bit is =
       let p = row.path in
       let stage = is.slot.stage in
-      let key = slice_get-among t.targets is.at p is.path in
+      let key = place-among t.targets is.at p is.path in
       let among : IsAmong (paths_of s.entries) p = let Q : List (List ℕ) → Type 0 = λ ps. IsAmong ps p in subst Q (sym keys) key in
       let same : outcomes_of s.entries ≡ outcomes_of es = ap outcomes_of entries in
       let R : Ask → Type 0 = λ a. r.recorded p a ≡ record_of r given.limits.targets p in
@@ -116,7 +116,7 @@ module _ (given : GivenView) (t : Table) (s : State)
   target-right : (row : Row) (bit : Bool) → IsTargetRow given t row bit → IsRight row
   target-right row bit is =
       let shown = target-shown row bit is in
-      let source : is_some (file_at given.past.sources row.path) ≡ false = targets row.path (slice_get-among t.targets is.at row.path is.path) in
+      let source : is_some (file_at given.past.sources row.path) ≡ false = targets row.path (place-among t.targets is.at row.path is.path) in
       (shown.0.outcome_is ∙ ap (λ (o : Option Outcome). unwrap_or o Cyclic) shown.1, shown.0.deps_is ∙ sym (rw source refl))
 
   source-right : (row : Row) (bit : Bool) → is_some (file_at given.past.sources row.path) ≡ true → IsSourceRow t row bit → IsRight row
@@ -132,7 +132,7 @@ module _ (given : GivenView) (t : Table) (s : State)
   begun-row row (inl is) =
       let both : (r.has_rule row.path && r.begins row.path (outcomes_at_limit given)) ≡ true = sym (target-shown row true is).0.begun_is in
       let parts = and_parts (r.has_rule row.path) (r.begins row.path (outcomes_at_limit given)) both in
-      (key-needed row.path (slice_get-among t.targets is.at row.path is.path), parts.0, parts.1)
+      (key-needed row.path (place-among t.targets is.at row.path is.path), parts.0, parts.1)
   begun-row row (inr is) = let bad : true ≡ false = is.begun in cc
 
   -- and the row of such a target says so

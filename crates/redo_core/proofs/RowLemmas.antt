@@ -16,6 +16,7 @@ use Rattle.std.specs.Ordering.{nat_cmp, eq_by_cmp}
 use Rattle.std.specs.Prelude.{All, ◌↔◌, is_some}
 use Rattle.std.specs.declared.cmp.Ordering.{Ordering}
 use Rattle.std.specs.declared.cmp.Ordering.TheVariants.{Less}
+use Rattle.redo_names.proofs.ListLemmas.{IsAmong-append, IsAmong-left, IsAmong-right, filter-from, filter-passes}
 use Rattle.redo_record.specs.declared.outcome.Outcome.{Outcome}
 use Rattle.redo_record.specs.declared.outcome.Outcome.TheVariants.{Built}
 use Rattle.redo_record.specs.Paths.{IsAmong}
@@ -24,7 +25,6 @@ use Rattle.redo_core.specs.inside.Reported.{AreRowsOf, IsRowOf, file_of, row_fil
 use Rattle.redo_report.specs.declared.report.Row.{Row}
 use Rattle.redo_rules.specs.Build.{GivenView}
 use Rattle.redo_core.proofs.OrderLemmas.{IsBefore, AreSorted, sorted-ascending}
-use Rattle.redo_build.proofs.PathLemmas.{IsAmong-append, IsAmong-left, IsAmong-right, filter-from, filter-passes}
 use Rattle.redo_build.proofs.QueueLemmas.{filter-keeps}
 use Rattle.redo_past.proofs.ItemLemmas.{IsItem, contained-item, item-contained}
 use Rattle.redo_report.specs.Reports.{AreAscending}

@@ -5,6 +5,8 @@ use Rattle.std.proofs.Common.{is_some, IsNone, rules, refl, sym, ap, subst, ◌�
 use Rattle.std.specs.Prelude.{count_by}
 use Rattle.std.proofs.lemmas.Bool.{cases_Bool}
 use Rattle.std.proofs.lemmas.List.Sums.{length-filter}
+use Rattle.redo_names.proofs.ListLemmas.{IsAmong-same}
+use Rattle.redo_names.proofs.PathLemmas.{place-among}
 use Rattle.redo_build.specs.Rules.{Ask, Rules, AreLawful, operands}
 use Rattle.redo_build.specs.Outcomes.{outcome_at}
 use Rattle.redo_build.proofs.SeenLemmas.{entry_of-path, decided_count-length}
@@ -23,8 +25,6 @@ use Rattle.redo_core.specs.declared.work.Work.{Work}
 use Rattle.redo_record.specs.Paths.{AreDistinct}
 use Rattle.redo_build.specs.Schedule.Event.{Take}
 use Rattle.redo_build.specs.inside.Turns.{deps_at_turn}
-use Rattle.redo_build.proofs.PathLemmas.{IsAmong-same}
-use Rattle.redo_build.proofs.QueueLemmas.{slice_get-among}
 use Rattle.redo_build.proofs.SoundLemmas.{IsSound}
 use Rattle.redo_record.specs.declared.deps.Dep.{Dep}
 use Rattle.redo_record.specs.declared.outcome.Outcome.{Outcome}
@@ -91,7 +91,7 @@ entry_of-slots r a (q ∷ ps) (s ∷ slots) zero p slot d here there =
     let same : bytes_eq q p ≡ true = (bytes_eq-Decides q p).1 path in
     rw same (rw (path, is) refl)
 entry_of-slots r a (q ∷ ps) (s ∷ slots) (suc i) p slot d here there = elim (cases_Bool (bytes_eq q p)) [
-  | inl t ↦ absurd (d.0 (IsAmong-same ps p q (sym ((bytes_eq-Decides q p).0 t)) (slice_get-among ps i p here)))
+  | inl t ↦ absurd (d.0 (IsAmong-same ps p q (sym ((bytes_eq-Decides q p).0 t)) (place-among ps i p here)))
   | inr f ↦ rw f (entry_of-slots r a ps slots i p slot d.1 here there)
 ]
 entry_of-slots r a _ _ i p slot d here there = cc
@@ -104,7 +104,7 @@ slot_entries-set r a (q ∷ ps) (s ∷ slots) zero p slot new d here there =
     let same : bytes_eq q p ≡ true = (bytes_eq-Decides q p).1 path in
     rw same (ap (λ x. slot_entry r a x new ∷ slot_entries r a ps slots) path)
 slot_entries-set r a (q ∷ ps) (s ∷ slots) (suc i) p slot new d here there = elim (cases_Bool (bytes_eq q p)) [
-  | inl t ↦ absurd (d.0 (IsAmong-same ps p q (sym ((bytes_eq-Decides q p).0 t)) (slice_get-among ps i p here)))
+  | inl t ↦ absurd (d.0 (IsAmong-same ps p q (sym ((bytes_eq-Decides q p).0 t)) (place-among ps i p here)))
   | inr f ↦ rw f (ap (λ x. slot_entry r a q s ∷ x) (slot_entries-set r a ps slots i p slot new d.1 here there))
 ]
 slot_entries-set r a _ _ i p slot new d here there = cc

@@ -1,4 +1,5 @@
 -- What changes of single slots keep.
+use Rattle.redo_names.proofs.PathLemmas.{among-told}
 use Rattle.redo_build.proofs.SoundLemmas.{only-same}
 use Rattle.std.proofs.Common.{slice_get, slice_set, ◌≡◌, ℕ, zero, suc, ◌⊎◌, inl, inr, List, []}
 use Rattle.std.proofs.Common.{◌∷◌, Some, None, refl, sym, ap, subst, ◌∙◌, arith, bytes_eq}
@@ -22,7 +23,6 @@ use Rattle.redo_core.specs.declared.table.Stage.TheVariants.{Due, Checking, Wait
 use Rattle.redo_build.proofs.DepthLemmas.{cases_Option, operand-target}
 use Rattle.redo_core.proofs.SlotLemmas.{entry_of-slots, slot_entries-set}
 use Rattle.std.proofs.lemmas.Slice.Eq.{bytes_eq-Decides}
-use Rattle.redo_build.proofs.PathLemmas.{is_among-true}
 use Rattle.redo_core.proofs.CheckingLemmas.{due-moves, waiting-moves}
 
 pub get-set_cases : (xs : List Slot) (at i : ℕ) (new found : Slot) → slice_get (slice_set xs at new) i ≡ Some found →
@@ -72,7 +72,7 @@ Fits-more given a b p turn (Checking awaiting) more h =
       answered = λ q m other none. h.answered q m other (alike q m other ∙ none);
       exact = λ q other. h.exact q other ∙ elim (cases_Bool (is_among (operands r check.asked) q)) as
           (λ _. only (operands r check.asked) a q ≡ only (operands r check.asked) b q) [
-            | inl t ↦ rw t (alike q (is_among-true (operands r check.asked) q t) other)
+            | inl t ↦ rw t (alike q (among-told (operands r check.asked) q t) other)
             | inr f ↦ rw f refl
           ];
       lacks = h.lacks;

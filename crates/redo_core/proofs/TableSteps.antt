@@ -19,13 +19,13 @@ use Rattle.redo_core.specs.declared.table.Slot.{Slot}
 use Rattle.redo_core.specs.declared.table.Table.{Table}
 use Rattle.redo_core.specs.declared.table.Stage.{Stage}
 use Rattle.redo_core.specs.declared.table.Stage.TheVariants.{Due, Checking, Waiting, Ready, Out, Decided}
-use Rattle.redo_build.proofs.PathLemmas.{filter-from}
 use Rattle.redo_build.proofs.QueueLemmas.{filter-keeps}
 use Rattle.redo_build.proofs.HandoverLemmas.{taken-work, taken-deep}
 use Rattle.redo_build.specs.inside.Turns.{IsWork}
 use Rattle.redo_build.proofs.DepthLemmas.{cases_Option}
 use Rattle.redo_core.proofs.AgreeLemmas.{agreed-set}
 use Rattle.redo_core.proofs.NumberLemmas.{numbers-path}
+use Rattle.redo_names.proofs.ListLemmas.{filter-from}
 use Rattle.redo_names.proofs.PathLemmas.{among-place}
 use Rattle.redo_core.proofs.AllAskedLemmas.{asked-cases, asked-second, first-alike, told-alike}
 use Rattle.redo_core.proofs.TableLemmas.{fits-set}

@@ -3,6 +3,8 @@ use Rattle.std.proofs.Common.{map, slice_get, ◌≡◌, ℕ, suc, ◌+◌, ◌<
 use Rattle.std.proofs.Common.{inl, inr, List, [], ◌∷◌, length}
 use Rattle.std.proofs.Common.{Some, None, refl, sym, ap, subst, ◌∙◌, arith, Global}
 use Rattle.std.proofs.lemmas.Bool.{cases_Bool, cases_lt}
+use Rattle.redo_names.proofs.ListLemmas.{with_new-second}
+use Rattle.redo_names.proofs.PathLemmas.{among-told}
 use Rattle.redo_record.specs.declared.deps.Dep.{Dep}
 use Rattle.redo_record.specs.declared.deps.DepKind.TheVariants.{Change}
 use Rattle.redo_record.specs.declared.outcome.Outcome.{Outcome}
@@ -43,7 +45,6 @@ use Rattle.redo_core.specs.declared.table.Stage.TheVariants.{Waiting}
 use Rattle.redo_core.specs.declared.table.Table.{Table}
 use Rattle.redo_core.specs.declared.work.End.{End}
 use Rattle.redo_core.specs.declared.work.End.TheVariants.{Ended, Stopped}
-use Rattle.redo_build.proofs.PathLemmas.{is_among-true, with_new-second}
 use Rattle.redo_build.proofs.DepthLemmas.{cases_Option, ended_stays, operand-target, deeper}
 use Rattle.redo_build.proofs.SeenLemmas.{paths_of-entered}
 use Rattle.redo_core.proofs.JobLemmas.{found_sources}
@@ -181,7 +182,7 @@ module _ (given : GivenView) (t : Table) (at : ℕ) (end : End) (may : MayTakeIn
         let D : Progress → Type 0 = λ x. IsAmong (operands r x.deps) q in
         let asked' = subst D fact-now m in
         elim (cases_Bool (is_among (operands r e.deps) q)) [
-          | inl yes' ↦ sound.standing.closed target q e entry-at (is_among-true (operands r e.deps) q yes')
+          | inl yes' ↦ sound.standing.closed target q e entry-at (among-told (operands r e.deps) q yes')
           | inr no' ↦ absurd ((lawful.each target).answered q ask fact.outcome outcome asked' (rw no' refl))
         ]
 
@@ -290,7 +291,7 @@ module _ (given : GivenView) (t : Table) (at : ℕ) (end : End) (may : MayTakeIn
         let value = only-some (operands r (deps_at_turn r target (outcome_at r n) (may.is_end.is_piece.looks + may.slot.turn))) (outcome_at r n) q o held in
         elim (cases_Bool (is_among (operands r (deps_at_turn r target (outcome_at r n) (may.is_end.is_piece.looks + may.slot.turn))) q)) [
           | inl yes' ↦
-              let there = is_among-true (operands r (deps_at_turn r target (outcome_at r n) (may.is_end.is_piece.looks + may.slot.turn))) q yes' in
+              let there = among-told (operands r (deps_at_turn r target (outcome_at r n) (may.is_end.is_piece.looks + may.slot.turn))) q yes' in
               let D : List Dep → Type 0 = λ ds. IsAmong (operands r ds) q in
               let asked = subst D (sym same-deps) there in
               let source = operand-target r lawful e.deps q asked in

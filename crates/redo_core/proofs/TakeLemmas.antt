@@ -2,6 +2,7 @@
 use Rattle.std.proofs.Common.{Bool, true, false, not, suc, map, Vec, Global, length-set, ◌≡◌, ℕ, ◌<◌}
 use Rattle.std.proofs.Common.{◌≤◌, true, false, cond, inl, inr, List, [], ◌∷◌, length, Option, Some, None}
 use Rattle.std.proofs.Common.{is_some, slice_get, slice_set, remove, refl, sym, ap, subst, ◌∙◌, arith}
+use Rattle.redo_names.proofs.PathLemmas.{place-among}
 use Rattle.redo_build.specs.Rules.{Rules, operands, AreLawful}
 use Rattle.redo_record.specs.Paths.{AreDistinct}
 use Rattle.redo_rules.specs.Build.{rules_for}
@@ -12,7 +13,6 @@ use Rattle.redo_table.specs.Schedule.StageView.{Waiting as AtWaiting, Decided as
 use Rattle.redo_table.proofs.NumberLemmas.{at-other, times-taken}
 use Rattle.redo_table.proofs.TargetLemmas.{set-cases, there-below}
 use Rattle.redo_core.proofs.AgreeLemmas.{agreed-set, agrees-ready}
-use Rattle.redo_build.proofs.QueueLemmas.{slice_get-among}
 use Rattle.redo_build.proofs.ReachedLemmas.{reached-more}
 use Rattle.redo_build.specs.Schedule.{IsReached, Entry, State, entry_of, happens}
 use Rattle.redo_build.specs.Schedule.{outcomes_of, only, IsQuiet}
@@ -223,7 +223,7 @@ turn_small b kept which at slot first staged there work is =
     let at_path : path_at b.table.targets at ≡ path.0 = rw path.1 refl in
     let spot : slice_get (state_of b).ready which ≡ Some path.0 =
     slice_get-map (path_at b.table.targets) b.table.schedule.ready which at first ∙ ap Some at_path in
-    let fed = sound.queued.ready_fed path.0 (slice_get-among (state_of b).ready which path.0 spot) in
+    let fed = sound.queued.ready_fed path.0 (place-among (state_of b).ready which path.0 spot) in
     let entry_is : fed.0 ≡ slot_entry r (outcomes_at_limit b.build) path.0 slot = let both = sym fed.1 ∙ known in cc in
     let below = turn-below r (lawful_for b.build) b.build.request (state_of b).entries sound.standing path.0 fed.0 fed.1 fed.2 fed.3 in
     let turn = ap (λ (x : Entry). x.turn) entry_is in

@@ -2,6 +2,7 @@
 use Rattle.std.proofs.Common.{◌≡◌, ℕ, ◌<◌, cond, is_some, length, List, [], ◌∷◌, ◌++◌, Option, Some, None}
 use Rattle.std.proofs.Common.{true, option_and_then, append-nil, refl, sym, ap, subst, ◌∙◌, arith}
 use Rattle.std.specs.Prelude.{IsNone}
+use Rattle.redo_names.proofs.PathLemmas.{place-among}
 use Rattle.redo_record.specs.Paths.{IsAmong}
 use Rattle.redo_build.specs.Schedule.{Entry, State, Event, IsOpen, IsQuiet, entry_of, opening, out_count, paths_of}
 use Rattle.redo_build.specs.Schedule.{AllOpen, outcomes_of, run}
@@ -21,7 +22,6 @@ use Rattle.redo_build.proofs.BegunLemmas.{begun-seen}
 use Rattle.redo_build.proofs.CountedLemmas.{once-counted}
 use Rattle.redo_build.proofs.LookingLemmas.{looks-lead}
 use Rattle.redo_build.proofs.OnceLemmas.{takes-once}
-use Rattle.redo_build.proofs.QueueLemmas.{slice_get-among}
 use Rattle.redo_build.proofs.SoundLemmas.{IsSound, opening-sound}
 use Rattle.redo_build.proofs.StillLemmas.{AllOpen-behind, run-behind, takes-looks}
 use Rattle.redo_build.proofs.LookedLemmas.{shown-none_due}
@@ -53,7 +53,7 @@ pub taken-take : (b : BoardView) (taken : List ((List ℕ) × ℕ)) (which : ℕ
     IsWorkTaken b which w → HasTaken (after b (Take which)) (taken ++ (w.target, w.turn) ∷ [])
 taken-take b taken which w had below work =
     let r = rules_on b in
-    let fed = (sound-taken b taken had).queued.ready_fed w.target (slice_get-among b.state.ready which w.target work.target) in
+    let fed = (sound-taken b taken had).queued.ready_fed w.target (place-among b.state.ready which w.target work.target) in
     let P : Option (List ℕ) → Type 0 = λ p. place_of (option_and_then (entry_of b.state.entries) p) ++ [] ≡ (w.target, w.turn) ∷ [] in
     let Q : Option Entry → Type 0 = λ e. place_of e ++ [] ≡ (w.target, w.turn) ∷ [] in
     let path : fed.0.path ≡ w.target = entry_of-path b.state.entries w.target fed.0 fed.1 in

@@ -2,10 +2,10 @@
 use Rattle.std.proofs.Common.{slice_get, ◌≡◌, ℕ, zero, suc, true, inl, inr, List, [], ◌∷◌, Some, None, refl}
 use Rattle.std.proofs.Common.{ap, subst, ◌∙◌, arith}
 use Rattle.std.proofs.lemmas.Bool.{cases_Bool}
+use Rattle.redo_names.proofs.PathLemmas.{place-among}
 use Rattle.redo_record.specs.Paths.{IsAmong, AreDistinct}
 use Rattle.redo_build.specs.Rules.{Ask, Rules, operands}
 use Rattle.redo_build.specs.Schedule.{outcome_of, outcomes_of}
-use Rattle.redo_build.proofs.QueueLemmas.{slice_get-among}
 use Rattle.redo_rules.specs.Build.{GivenView, rules_for}
 use Rattle.redo_table.specs.Schedule.{StageView, EachLacks}
 use Rattle.redo_table.specs.Schedule.StageView.{Waiting as AtWaiting, Decided as AtDecided}
@@ -74,7 +74,7 @@ module _ (given : GivenView) (t : Table) (stages : List StageView) (table : IsTa
         let lack = lacks k agrees.0 (s.1 ∙ ap Some agrees.1) in
         let path = numbers-number t.targets agrees.0 (waited_by r begun.value) lack.i lack.k agrees.2 lack.there in (
           path.0,
-          waited_asked given a p slot.turn begun.value fits path.0 (slice_get-among (waited_by r begun.value) lack.i path.0 path.1),
+          waited_asked given a p slot.turn begun.value fits path.0 (place-among (waited_by r begun.value) lack.i path.0 path.1),
           undecided lack.k path.0 path.2 lack.undecided,
         )
     by-stage _ is waits = cc

@@ -62,7 +62,7 @@ impl Given {
         ensures { IfOk result (λ g. arc_value g ≡
             record { past = past; request = request.now; limits = limits }) }
     {
-        let requested = set_of(alloc, request)?;
+        let requested = PathSet::of_paths(alloc, request)?;
         let request = copied(alloc, request)?;
         let readings = Cells::new(alloc, past.sources().len())?;
         let given = Given {
@@ -131,7 +131,7 @@ impl Given {
     pub(crate) fn is_requested(&self, path: &Path) -> bool
         ensures { result ≡ is_among self.now.request path.now }
     {
-        self.requested.number_of(path).is_some()
+        self.requested.contains(path)
     }
 
     /// The limits of the build.
@@ -172,17 +172,6 @@ impl Given {
         a_tree_has_one_past();
         self.is(other.past.tree(), &other.request, other.limits)
     }
-}
-
-/// The set of some paths.
-fn set_of(alloc: Global, paths: &[Path]) -> Result<PathSet, AllocError>
-    ensures { IfOk result (λ set. (p : List ℕ) → is_among set p ≡ is_among paths.now p) }
-{
-    let mut set = PathSet::with_capacity(alloc, paths.len())?;
-    for path in paths {
-        set.insert(path.clone()?)?;
-    }
-    Ok(set)
 }
 
 /// Copies of some paths.

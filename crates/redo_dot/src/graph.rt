@@ -1,6 +1,6 @@
 //! The whole text.
 
-ghost use Rattle.std.specs.Prelude.{◌≡◌, ◌++◌, List, ℕ, IfOk, OnOk, flat_map};
+ghost use Rattle.std.specs.Prelude.{◌≡◌, ◌++◌, IfOk, OnOk, flat_map};
 ghost use Rattle.redo_names.specs.Paths.{is_among};
 ghost use Rattle.redo_dot.specs.Dot.{graph_of as graph_of_rows, graph_text, look_of as look_of_outcome};
 ghost use Rattle.redo_dot.specs.Dot.{node_line, row_lines};
@@ -12,24 +12,6 @@ use redo_path::Path;
 use redo_record::Outcome;
 use redo_report::{Report, Row};
 use std::alloc::{AllocError, Global};
-
-/// The set of some paths.
-fn set_of(alloc: Global, paths: &[Path]) -> Result<PathSet, AllocError>
-    ensures { IfOk result (λ set. (p : List ℕ) → is_among set p ≡ is_among paths.now p) }
-{
-    let mut set = PathSet::with_capacity(alloc, paths.len())?;
-    for path in paths {
-        set.insert(path.clone()?)?;
-    }
-    Ok(set)
-}
-
-/// Whether a path is one of these.
-pub(crate) fn has(paths: &PathSet, path: &Path) -> bool
-    ensures { result ≡ is_among paths.now path.now }
-{
-    paths.number_of(path).is_some()
-}
 
 /// The look of a row's node, by what became of it and whether its script was begun.
 fn look_of(outcome: &Outcome, begun: bool) -> &'static [u8]
@@ -54,7 +36,7 @@ fn push_node(text: &mut Vec<u8>, begun: &PathSet, row: &Row) -> Result<(), Alloc
     ensures { OnOk result (text.new.items ≡ text.old.items ++ node_line (is_among begun.now) row.now) }
 {
     push_name(text, &row.path)?;
-    text.extend_from_slice(look_of(&row.outcome, has(begun, &row.path)))?;
+    text.extend_from_slice(look_of(&row.outcome, begun.contains(&row.path)))?;
     text.extend_from_slice(b";\n")
 }
 
@@ -110,7 +92,7 @@ fn graph_of(
 pub fn dot(alloc: Global, report: &Report, with_rules: bool) -> Result<Vec<u8>, AllocError>
     ensures { IfOk result (λ text. text.items ≡ graph_text report.now with_rules) }
 {
-    let begun = set_of(alloc, &report.begun)?;
+    let begun = PathSet::of_paths(alloc, &report.begun)?;
     let text = graph_of(alloc, &begun, with_rules, &report.rows)?;
     Ok(text)
 }

@@ -8,7 +8,6 @@ ghost use Rattle.redo_dot.specs.Lists.{is_listed, list_graph, list_text, listed_
 ghost use Rattle.redo_dot.specs.Lists.{look_of_state as look_by, record_edges};
 
 use crate::edges::{change_look, create_look, push_edge};
-use crate::graph::has;
 use crate::names::push_name;
 use redo_book::{Book, BookEntry, BookRecord};
 use redo_list::{Listed, State};
@@ -59,10 +58,10 @@ fn push_entry(
         listed_edge (is_among targets.now) target.now entry.now) }
 {
     match entry {
-        BookEntry::Change(_, path) if has(targets, path) => {
+        BookEntry::Change(_, path) if targets.contains(path) => {
             push_edge(text, target, path, change_look(false))
         }
-        BookEntry::Create(path) if has(targets, path) => {
+        BookEntry::Create(path) if targets.contains(path) => {
             push_edge(text, target, path, create_look(false))
         }
         BookEntry::Change(..) | BookEntry::Create(_) | BookEntry::Always => Ok(()),

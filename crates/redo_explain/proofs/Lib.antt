@@ -1,4 +1,3 @@
 pub mod AlteredLemmas
-pub mod AmongLemmas
 pub mod BegunLemmas
 pub mod RowLemmas

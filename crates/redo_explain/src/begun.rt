@@ -1,9 +1,8 @@
 //! The scripts that a build began, and why.
 
-ghost use Rattle.std.specs.Prelude.{◌≡◌, IfOk, List, map, option_map, ℕ};
+ghost use Rattle.std.specs.Prelude.{◌≡◌, IfOk, map, option_map};
 ghost use Rattle.redo_book.specs.Book.{record_at, record_of};
 ghost use Rattle.redo_book.specs.Intact.{is_intact as stands_as_left};
-ghost use Rattle.redo_names.specs.Paths.{is_among};
 ghost use Rattle.redo_rules.specs.Build.{GivenView, last_run_of};
 ghost use Rattle.redo_rules.specs.Results.{IsGiven, IsResult};
 ghost use Rattle.redo_step.specs.Limits.{LimitsView};
@@ -42,24 +41,6 @@ pub enum Reason<'a> {
 pub struct Begun<'a> {
     pub target: &'a Path,
     pub reason: Reason<'a>,
-}
-
-/// The set of some paths.
-fn set_of(alloc: Global, paths: &[Path]) -> Result<PathSet, AllocError>
-    ensures { IfOk result (λ set. (p : List ℕ) → is_among set p ≡ is_among paths.now p) }
-{
-    let mut set = PathSet::with_capacity(alloc, paths.len())?;
-    for path in paths {
-        set.insert(path.clone()?)?;
-    }
-    Ok(set)
-}
-
-/// Whether a path is one of these.
-fn has(paths: &PathSet, path: &Path) -> bool
-    ensures { result ≡ is_among paths.now path.now }
-{
-    paths.number_of(path).is_some()
 }
 
 /// Whether a record's target is as the last run left it.
@@ -103,7 +84,7 @@ fn why_begun<'a>(
     ensures { IfOk result (λ reason. AreRows rows.now → option_map reason_view reason ≡
         reason_of (sources_in past.now) (last_run_of past.now) requested.now (told_by rows.now) target.now) }
 {
-    if has(requested, target) {
+    if requested.contains(target) {
         return Ok(Some(Reason::Requested));
     }
     reason_by_record(alloc, past, rows, target)
@@ -144,6 +125,6 @@ pub fn reasons<'a>(
     past.is_past();
     a_tree_has_one_past();
     reports_give_reasons();
-    let requested = set_of(alloc, request)?;
+    let requested = PathSet::of_paths(alloc, request)?;
     begun_by(alloc, past, &requested, report)
 }

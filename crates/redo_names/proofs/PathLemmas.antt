@@ -1,8 +1,8 @@
 -- Lists of paths, by places.
-use Rattle.std.proofs.Common.{◌≡◌, ◌⊎◌, ◌||◌, ℕ, Bool, zero, suc, true, false, cond, List, [], ◌∷◌, ◌++◌, Some, refl, sym, ap, subst, ◌∙◌, inl, inr, not, slice_get, true≢false}
-use Rattle.std.specs.Cmp.Lexicographic.{bytes_decides}
-use Rattle.std.specs.Prelude.{bytes_eq}
-use Rattle.redo_names.specs.Paths.{AreDistinct, IsAmong, is_among, with_path}
+use Rattle.std.proofs.Common.{◌≡◌, ◌⊎◌, ◌||◌, ℕ, Bool, zero, suc, true, false, cond, List, [], ◌∷◌, ◌++◌, Option, Some, None, refl, sym, ap, subst, ◌∙◌, inl, inr, not, slice_get, true≢false}
+use Rattle.std.specs.Cmp.Lexicographic.{bytes_decides, same_text}
+use Rattle.std.specs.Prelude.{MatchOption, bytes_eq, is_some}
+use Rattle.redo_names.specs.Paths.{AreDistinct, IsAmong, is_among, with_new, with_path}
 
 pub among-place : (ps : List (List ℕ)) (p : List ℕ) → IsAmong ps p → (n : ℕ) × (slice_get ps n ≡ Some p)
 among-place [] p none = elim none [ ]
@@ -66,6 +66,55 @@ put-there ps p m = ap (λ b. cond b ps (ps ++ p ∷ [])) (told-among ps p m)
 
 pub put-new : (ps : List (List ℕ)) (p : List ℕ) → (IsAmong ps p → ⊥) → with_path ps p ≡ ps ++ p ∷ []
 put-new ps p none = ap (λ b. cond b ps (ps ++ p ∷ [])) (told-absent ps p none)
+
+-- ---- what is among the paths once others were put in
+
+pub or-assoc : (a b c : Bool) → ((a || b) || c) ≡ (a || (b || c))
+or-assoc true b c = refl
+or-assoc false b c = refl
+
+pub or-false : (a : Bool) → (a || false) ≡ a
+or-false true = refl
+or-false false = refl
+
+kept-or : (a b : Bool) → (b ≡ true → a ≡ true) → a ≡ (a || b)
+kept-or true b h = refl
+kept-or false true h = h refl
+kept-or false false h = refl
+
+pub is_among-append : (ps qs : List (List ℕ)) (p : List ℕ) → is_among (ps ++ qs) p ≡ (is_among ps p || is_among qs p)
+is_among-append [] qs p = refl
+is_among-append (x ∷ ps) qs p =
+    ap (λ b. bytes_eq x p || b) (is_among-append ps qs p) ∙ sym (or-assoc (bytes_eq x p) (is_among ps p) (is_among qs p))
+
+pub is_among-last : (ps : List (List ℕ)) (q p : List ℕ) → is_among (ps ++ q ∷ []) p ≡ (is_among ps p || bytes_eq q p)
+is_among-last ps q p =
+    is_among-append ps (q ∷ []) p ∙ ap (λ b. is_among ps p || b) (or-false (bytes_eq q p))
+
+pub is_among-with : (ps : List (List ℕ)) (q p : List ℕ) → is_among (with_path ps q) p ≡ (is_among ps p || bytes_eq q p)
+is_among-with ps q p = elim (is_among ps q) as (λ b. is_among ps q ≡ b → is_among (cond b ps (ps ++ q ∷ [])) p ≡ (is_among ps p || bytes_eq q p)) [
+  | true ↦ λ there. kept-or (is_among ps p) (bytes_eq q p) (λ same. ap (is_among ps) (sym (same_text q p (sym same))) ∙ there)
+  | false ↦ λ absent. is_among-last ps q p
+] refl
+
+pub with_path-cases : (ps : List (List ℕ)) (q p : List ℕ) → IsAmong (with_path ps q) p → IsAmong ps p ⊎ (q ≡ p)
+with_path-cases ps q p m =
+    elim (is_among ps p) as (λ b. is_among ps p ≡ b → (b || bytes_eq q p) ≡ true → IsAmong ps p ⊎ (q ≡ p)) [
+      | true ↦ λ there h. inl (among-told ps p there)
+      | false ↦ λ absent same. inr ((bytes_decides q p).0 same)
+    ] refl (sym (is_among-with ps q p) ∙ told-among (with_path ps q) p m)
+
+pub is_among-new : (ps qs : List (List ℕ)) (p : List ℕ) → is_among (with_new ps qs) p ≡ (is_among ps p || is_among qs p)
+is_among-new ps [] p = sym (or-false (is_among ps p))
+is_among-new ps (q ∷ qs) p =
+    is_among-new (with_path ps q) qs p ∙ ap (λ b. b || is_among qs p) (is_among-with ps q p)
+    ∙ or-assoc (is_among ps p) (bytes_eq q p) (is_among qs p)
+
+-- a path has a number where it is one of them
+pub numbered : (ps : List (List ℕ)) (p : List ℕ) (o : Option ℕ) →
+    MatchOption o (IsAmong ps p → ⊥) (λ n. slice_get ps n ≡ Some p) → is_some o ≡ is_among ps p
+numbered ps p None none = sym (told-absent ps p none)
+numbered ps p (Some n) found = sym (told-among ps p (place-among ps n p found))
 
 -- what has no place is not among them
 pub absent-among : (ps qs : List (List ℕ)) (p t : List ℕ) → ps ≡ qs → t ≡ p → ((n : ℕ) → slice_get ps n ≡ Some t → ⊥) → IsAmong qs p → ⊥

@@ -23,3 +23,8 @@ is_among (q ∷ qs) p = bytes_eq q p || is_among qs p
 -- the paths, followed by this path unless it is one of them
 abbrev pub with_path : List (List ℕ) → List ℕ → List (List ℕ)
 with_path ps p = if is_among ps p then ps else ps ++ p ∷ []
+
+-- the paths, then those of the others that are new, each once
+abbrev pub with_new : List (List ℕ) → List (List ℕ) → List (List ℕ)
+with_new ps [] = ps
+with_new ps (q ∷ qs) = with_new (with_path ps q) qs

@@ -1,9 +1,9 @@
 //! Sets of paths.
 
-ghost use Rattle.std.specs.Prelude.{◌≡◌, ◌==◌, ◌<◌, ◌^◌, [], Some, IfNone, IfOk, IfSome, IsTrue, OnErr, OnOk, length};
+ghost use Rattle.std.specs.Prelude.{◌≡◌, ◌==◌, ◌<◌, ◌^◌, [], ℕ, List, Some, IfNone, IfOk, IfSome, IsTrue, OnErr, OnOk, length};
 ghost use Rattle.std.specs.Prelude.{not};
 ghost use Rattle.std.specs.Prelude.{slice_get, MatchOption};
-ghost use Rattle.redo_names.specs.Paths.{AreDistinct, IsAmong, is_among, with_path};
+ghost use Rattle.redo_names.specs.Paths.{AreDistinct, IsAmong, is_among, with_new, with_path};
 
 use crate::index::{Index, Spot};
 use redo_path::Path;
@@ -51,6 +51,18 @@ impl PathSet {
         })
     }
 
+    /// The set of these paths, in their order.
+    pub fn of_paths(alloc: Global, paths: &[Path]) -> Result<PathSet, AllocError>
+        ensures paths { IfOk result (λ set. set ≡ with_new [] paths.now) }
+        ensures among { IfOk result (λ set. (p : List ℕ) → is_among set p ≡ is_among paths.now p) }
+    {
+        let mut set = PathSet::with_capacity(alloc, paths.len())?;
+        for path in paths {
+            set.insert(path.clone()?)?;
+        }
+        Ok(set)
+    }
+
     /// How many paths there are.
     pub fn len(&self) -> usize
         ensures count { result ≡ length self.now }
@@ -78,6 +90,13 @@ impl PathSet {
         ensures { slice_get self.now number ≡ Some result.now }
     {
         &self.paths[number]
+    }
+
+    /// Whether a path is in the set.
+    pub fn contains(&self, path: &Path) -> bool
+        ensures { result ≡ is_among self.now path.now }
+    {
+        self.number_of(path).is_some()
     }
 
     /// The number of a path; `None` if it isn't in the set.

@@ -13,13 +13,6 @@ use redo_record::{Dep, DepKind};
 use redo_report::Row;
 use std::alloc::{AllocError, Global};
 
-/// Whether a path is one of these.
-pub(crate) fn has(paths: &PathSet, path: &Path) -> bool
-    ensures { result ≡ is_among paths.now path.now }
-{
-    paths.number_of(path).is_some()
-}
-
 /// Adds the path of an entry, if it is a change entry.
 fn add_change(asked: &mut PathSet, dep: &Dep) -> Result<(), AllocError>
     ensures { OnOk result ((path : List ℕ) → is_among asked.new path ≡ (is_among asked.old path || is_change_of path dep.now)) }
@@ -68,23 +61,12 @@ fn add_row(asked: &mut PathSet, row: &Row) -> Result<(), AllocError>
     Ok(())
 }
 
-/// The paths that were requested.
-fn requested(alloc: Global, request: &[Path]) -> Result<PathSet, AllocError>
-    ensures { IfOk result (λ asked. (path : List ℕ) → is_among asked path ≡ is_among request.now path) }
-{
-    let mut asked = PathSet::new(alloc);
-    for path in request {
-        asked.insert(path.clone()?)?;
-    }
-    Ok(asked)
-}
-
 /// The paths that a build has asked for: those that were requested, and those that the rows' records have in change
 /// entries.
 pub(crate) fn asked_by(alloc: Global, request: &[Path], rows: &[Row]) -> Result<PathSet, AllocError>
     ensures { IfOk result (λ asked. (path : List ℕ) → is_among asked path ≡ is_asked request.now rows.now path) }
 {
-    let mut asked = requested(alloc, request)?;
+    let mut asked = PathSet::of_paths(alloc, request)?;
     for row in rows {
         add_row(&mut asked, row)?;
     }

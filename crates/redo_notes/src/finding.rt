@@ -1,15 +1,15 @@
 //! What is found of each kind of note.
 
-ghost use Rattle.std.specs.Prelude.{◌≡◌, ◌++◌, [], List, ℕ, IfOk, OnOk};
+ghost use Rattle.std.specs.Prelude.{◌≡◌, ◌++◌, [], IfOk, OnOk};
 ghost use Rattle.std.specs.List.{cons_option};
 ghost use Rattle.redo_names.specs.Paths.{is_among};
 ghost use Rattle.redo_tree.specs.Tree.{node_of};
 ghost use Rattle.redo_book.specs.Book.{record_of};
 ghost use Rattle.redo_past.specs.Past.{is_generated as was_generated};
-ghost use Rattle.redo_notes.specs.Notes.{do_file_of as file_of_rule, is_asked, is_ruleless as has_no_rule, is_unmade as was_unmade};
+ghost use Rattle.redo_notes.specs.Notes.{do_file_of as file_of_rule, is_ruleless as has_no_rule, is_unmade as was_unmade};
 ghost use Rattle.redo_notes.specs.Notes.{ruleless as ruleless_in, unbuilt as unbuilt_in, unbuilt_at as unbuilt_by, unmade as unmade_in};
 
-use crate::asked::{asked_by, has};
+use crate::asked::asked_by;
 use crate::kinds::{Notes, Unbuilt};
 use redo_book::BookRecord;
 use redo_names::PathSet;
@@ -43,7 +43,7 @@ fn unbuilt_at(
 ) -> Result<Option<Unbuilt>, AllocError>
     ensures { IfOk result (λ note. note ≡ unbuilt_by sources.now (is_among asked.now) (path.now, node_of entry.now)) }
 {
-    if !matches!(entry, Entry::File(_)) || !has(asked, path) {
+    if !matches!(entry, Entry::File(_)) || !asked.contains(path) {
         return Ok(None);
     }
     match do_file_of(alloc, sources, path)? {

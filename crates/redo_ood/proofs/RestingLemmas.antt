@@ -1,13 +1,14 @@
 -- The paths that were found, and what they rest on.
-use Rattle.std.proofs.Common.{◌≡◌, ◌∙◌, ◌+◌, ◌<◌, ◌≤◌, ◌⊎◌, ◌↔◌, ◌++◌, ℕ, zero, suc, true, false, inl, inr, List, [], ◌∷◌}
-use Rattle.std.proofs.Common.{Option, Some, None, arith, refl, sym, ap, subst, length, is_some, slice_get, slice_index_or, take}
+use Rattle.std.proofs.Common.{◌≡◌, ◌∙◌, ◌+◌, ◌<◌, ◌≤◌, ◌↔◌, ◌++◌, ℕ, zero, suc, true, false, inl, inr, List, [], ◌∷◌}
+use Rattle.std.proofs.Common.{Some, None, arith, refl, sym, ap, subst, length, slice_get, slice_index_or, take}
 use Rattle.std.proofs.lemmas.Bool.{cases_Bool, cases_lt}
 use Rattle.std.proofs.lemmas.List.{take_more}
 use Rattle.std.proofs.lemmas.List.Concat.{flat_map-append}
 use Rattle.std.proofs.lemmas.Option.{slice_get_within}
-use Rattle.std.specs.Prelude.{MatchOption, flat_map}
+use Rattle.std.specs.Prelude.{flat_map}
 use Rattle.redo_names.specs.Paths.{IsAmong, is_among, with_path}
-use Rattle.redo_names.proofs.PathLemmas.{among-place, among-told, place-among, put-new, put-there, told-absent, told-among}
+use Rattle.redo_names.proofs.ListLemmas.{IsAmong-append, IsAmong-left, IsAmong-right}
+use Rattle.redo_names.proofs.PathLemmas.{among-place, among-told, place-among, put-new, put-there, told-among}
 use Rattle.redo_which.specs.Rule.{found_of, is_rule}
 use Rattle.redo_book.specs.declared.book.BookEntry.{BookEntry}
 use Rattle.redo_book.specs.declared.book.BookEntry.TheVariants.{Change, Create, Always}
@@ -17,27 +18,7 @@ use Rattle.redo_rules.specs.Build.{GivenView}
 use Rattle.redo_ood.specs.Listing.{RestsOn, Itself, Through, changed}
 use Rattle.redo_ood.specs.inside.Resting.{AreFound, IsGrown, changes_in, changes_of}
 
--- whether a number is found tells whether a path is one of these
-pub number-tells : (ps : List (List ℕ)) (p : List ℕ) (o : Option ℕ) →
-    MatchOption o (IsAmong ps p → ⊥) (λ n. slice_get ps n ≡ Some p) → is_some o ≡ is_among ps p
-number-tells ps p None none = sym (told-absent ps p none)
-number-tells ps p (Some n) found = sym (told-among ps p (place-among ps n p found))
-
 -- Lists that grow
-
-among-append : (ps qs : List (List ℕ)) (p : List ℕ) → IsAmong (ps ++ qs) p → IsAmong ps p ⊎ IsAmong qs p
-among-append [] qs p m = inr m
-among-append (x ∷ ps) qs p (inl e) = inl (inl e)
-among-append (x ∷ ps) qs p (inr m) = elim (among-append ps qs p m) [ inl l ↦ inl (inr l) | inr r ↦ inr r ]
-
-pub among-left : (ps qs : List (List ℕ)) (p : List ℕ) → IsAmong ps p → IsAmong (ps ++ qs) p
-among-left [] qs p m = absurd m
-among-left (x ∷ ps) qs p (inl e) = inl e
-among-left (x ∷ ps) qs p (inr m) = inr (among-left ps qs p m)
-
-pub among-right : (ps qs : List (List ℕ)) (p : List ℕ) → IsAmong qs p → IsAmong (ps ++ qs) p
-among-right [] qs p m = m
-among-right (x ∷ ps) qs p m = inr (among-right ps qs p m)
 
 kept-left : (ps qs : List (List ℕ)) (i : ℕ) (p : List ℕ) → slice_get ps i ≡ Some p → slice_get (ps ++ qs) i ≡ Some p
 kept-left [] qs i p h = absurd (let bad : None ≡ Some p = h in cc)
@@ -56,8 +37,8 @@ grown-there qs x there = record {
 
 grown-new : (qs : List (List ℕ)) (x : List ℕ) → IsGrown qs (x ∷ []) (qs ++ x ∷ [])
 grown-new qs x = record {
-  only = λ p m. among-append qs (x ∷ []) p m;
-  more = λ p m. among-right qs (x ∷ []) p m;
+  only = λ p m. IsAmong-append qs (x ∷ []) p m;
+  more = λ p m. IsAmong-right qs (x ∷ []) p m;
   kept = λ i p h. kept-left qs (x ∷ []) i p h;
 }
 
@@ -77,27 +58,15 @@ grown-among ps xs qs grown p m =
 pub grown-more : (ps xs qs ys rs : List (List ℕ)) → IsGrown ps xs qs → IsGrown qs ys rs → IsGrown ps (xs ++ ys) rs
 grown-more ps xs qs ys rs one two = record {
   only = λ p m. elim (two.only p m) [
-    | inl b ↦ elim (one.only p b) [ inl a ↦ inl a | inr x ↦ inr (among-left xs ys p x) ]
-    | inr y ↦ inr (among-right xs ys p y)
+    | inl b ↦ elim (one.only p b) [ inl a ↦ inl a | inr x ↦ inr (IsAmong-left xs ys p x) ]
+    | inr y ↦ inr (IsAmong-right xs ys p y)
   ];
-  more = λ p m. elim (among-append xs ys p m) [
+  more = λ p m. elim (IsAmong-append xs ys p m) [
     | inl x ↦ grown-among qs ys rs two p (one.more p x)
     | inr y ↦ two.more p y
   ];
   kept = λ i p h. two.kept i p (one.kept i p h);
 }
-
--- a list that has grown from none has these paths
-pub grown-same : (paths set : List (List ℕ)) → IsGrown [] paths set → (p : List ℕ) → is_among set p ≡ is_among paths p
-grown-same paths set grown p = elim (cases_Bool (is_among paths p)) [
-  | inl t ↦ told-among set p (grown.more p (among-told paths p t)) ∙ sym t
-  | inr f ↦
-      told-absent set p (λ m. elim (grown.only p m) [
-        | inl none ↦ absurd none
-        | inr there ↦ let bad : true ≡ false = sym (told-among paths p there) ∙ f in absurd cc
-      ])
-      ∙ sym f
-]
 
 -- one more entry
 pub changes-more : (es : List BookEntry) (i : ℕ) (e : BookEntry) → i < length es → e ≡ slice_index_or es i e →

@@ -4,6 +4,7 @@ use Rattle.std.proofs.Common.{refl, sym, ap, subst}
 use Rattle.std.proofs.lemmas.Bool.{cases_Bool}
 use Rattle.std.specs.Prelude.{flat_map}
 use Rattle.redo_names.specs.Paths.{IsAmong, is_among}
+use Rattle.redo_names.proofs.ListLemmas.{IsAmong-left, IsAmong-right}
 use Rattle.redo_digest.specs.Digest.{State, state_of}
 use Rattle.redo_book.specs.declared.book.BookEntry.{BookEntry}
 use Rattle.redo_book.specs.declared.book.BookEntry.TheVariants.{Change, Create, Always}
@@ -20,7 +21,6 @@ use Rattle.redo_why.specs.Verdicts.{Verdict, Keeps, Begins, Either, Verdicts, Ma
 use Rattle.redo_why.specs.Verdicts.{holds_if, mark, mark_asked, mark_checked, verdict}
 use Rattle.redo_ood.specs.Listing.{IsRingOf, changed, first_waiting, waits_by, word_with}
 use Rattle.redo_ood.proofs.ItemLemmas.{requested-unchecked}
-use Rattle.redo_ood.proofs.RestingLemmas.{among-left, among-right}
 use Rattle.redo_ood.proofs.WordLemmas.{checked-word, ring-verdict}
 
 -- an entry that waits is a `change` of a target in check without a verdict
@@ -80,7 +80,7 @@ module _ (s : Sources) (k : Checks) (v : Verdicts) where
           let rest = further (rw is at h) in
           subst (IsWaiting s k v (flat_map changed (e ∷ es))) (sym (ap (λ m. waits_by e m (first_waiting s k v es)) is))
           (record {
-            named = among-right (changed e) (flat_map changed es) (first_waiting s k v es) rest.named;
+            named = IsAmong-right (changed e) (flat_map changed es) (first_waiting s k v es) rest.named;
             other = rest.other;
             check = rest.check;
             checked = rest.checked;
@@ -92,7 +92,7 @@ module _ (s : Sources) (k : Checks) (v : Verdicts) where
           let here = waiting e is in
           subst (IsWaiting s k v (flat_map changed (e ∷ es))) (sym (ap (λ m. waits_by e m (first_waiting s k v es)) is))
           (record {
-            named = among-left (changed e) (flat_map changed es) (entry_path e) here.named;
+            named = IsAmong-left (changed e) (flat_map changed es) (entry_path e) here.named;
             other = here.other;
             check = here.check;
             checked = here.checked;

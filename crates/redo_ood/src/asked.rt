@@ -7,7 +7,7 @@ ghost use Rattle.redo_ood.specs.Listing.{AreAskedAbout, RestsOn, changed, run_ov
 ghost use Rattle.redo_ood.specs.inside.Lines.{asks};
 ghost use Rattle.redo_ood.specs.inside.Resting.{IsGrown, changes_in};
 
-use crate::items::{has, has_rule};
+use crate::items::has_rule;
 use redo_book::BookEntry;
 use redo_names::PathSet;
 use redo_past::Past;
@@ -30,20 +30,9 @@ impl Asked {
     {
         match self {
             Asked::All => true,
-            Asked::These(paths) => has(paths, target),
+            Asked::These(paths) => paths.contains(target),
         }
     }
-}
-
-/// The set of some paths.
-pub(crate) fn set_of(alloc: Global, paths: &[Path]) -> Result<PathSet, AllocError>
-    ensures { IfOk result (λ set. (p : List ℕ) → is_among set p ≡ is_among paths.now p) }
-{
-    let mut set = PathSet::with_capacity(alloc, paths.len())?;
-    for path in paths {
-        set.insert(path.clone()?)?;
-    }
-    Ok(set)
 }
 
 /// Adds the path of a `change`.
@@ -90,7 +79,7 @@ fn resting(alloc: Global, past: &Past, request: &[Path]) -> Result<PathSet, Allo
     ensures { IfOk result (λ found. (limits : LimitsView) (p : List ℕ) →
         (is_among found p ≡ true) ↔ RestsOn (run_over past.now request.now limits) p) }
 {
-    let mut found = set_of(alloc, request)?;
+    let mut found = PathSet::of_paths(alloc, request)?;
     for number in 0..usize::MAX {
         if number >= found.len() {
             return Ok(found);

@@ -1,7 +1,6 @@
 //! What the tree alone tells of each entry of a book.
 
 ghost use Rattle.std.specs.Prelude.{◌≡◌, IfOk, false, true};
-ghost use Rattle.redo_names.specs.Paths.{is_among};
 ghost use Rattle.redo_tree.specs.Tree.{file_at};
 ghost use Rattle.redo_which.specs.Candidates.{is_do_file};
 ghost use Rattle.redo_which.specs.Rule.{found_of, is_rule};
@@ -50,13 +49,6 @@ fn holds_if(holds: bool) -> RowItem
     }
 }
 
-/// Whether a path is one of these.
-pub(crate) fn has(paths: &PathSet, path: &Path) -> bool
-    ensures { result ≡ is_among paths.now path.now }
-{
-    paths.number_of(path).is_some()
-}
-
 /// A `change` of a target with a rule. Its script is begun unless it is in check: it isn't requested, and is as the last
 /// run left it.
 fn target_item(past: &Past, requested: &PathSet, state: &Option<Digest>, path: &Path) -> RowItem
@@ -65,7 +57,7 @@ fn target_item(past: &Past, requested: &PathSet, state: &Option<Digest>, path: &
     requires rule { is_rule (found_of past.now.sources path.now) ≡ true }
     ensures { InRun past.now requested.now (λ s k book. IsItem s k book (Change state.now path.now) result) }
 {
-    if has(requested, path) {
+    if requested.contains(path) {
         return RowItem::Unsure;
     }
     match past.intact(path) {

@@ -7,12 +7,13 @@ ghost use Rattle.redo_ood.specs.Listing.{IsList, run_over};
 ghost use Rattle.redo_ood.specs.inside.Lines.{HaveItems, asks, listed_in};
 ghost use Rattle.redo_ood.specs.inside.Verdicts.{in_table};
 
-use crate::asked::{Asked, asked_about, set_of};
+use crate::asked::{Asked, asked_about};
 use crate::items::rows_of;
 use crate::told::push_told;
 use crate::verdicts::{Row, Verdict, verdicts};
 use crate::words::word_of;
 use redo_list::Listed;
+use redo_names::PathSet;
 use redo_past::Past;
 use redo_path::Path;
 use std::alloc::{AllocError, Global};
@@ -50,7 +51,7 @@ pub fn out_of_date(alloc: Global, past: &Past, request: &[Path]) -> Result<Vec<L
     ensures { IfOk result (λ listed. (limits : LimitsView) →
         IsList (run_over past.now request.now limits) (map listed_view listed.items)) }
 {
-    let requested = set_of(alloc, request)?;
+    let requested = PathSet::of_paths(alloc, request)?;
     let rows = rows_of(alloc, past, &requested)?;
     let table = verdicts(alloc, &rows)?;
     let asked = asked_about(alloc, past, request)?;

@@ -2,17 +2,16 @@
 use Rattle.std.proofs.Common.{◌≡◌, ◌∙◌, ◌+◌, ◌<◌, ℕ, zero, suc, Bool, true, false, ◌||◌, List, [], ◌∷◌, ◌++◌, Option}
 use Rattle.std.proofs.Common.{Some, None}
 use Rattle.std.proofs.Common.{refl, sym, ap, subst}
-use Rattle.std.proofs.Common.{arith, inl, inr, length, length-take, slice_get, slice_index_or, take}
+use Rattle.std.proofs.Common.{arith, inl, inr, length, length-take, slice_index_or, take}
 use Rattle.std.proofs.lemmas.Bool.{cases_Bool}
 use Rattle.std.proofs.lemmas.List.{map-append, take_more}
 use Rattle.std.proofs.lemmas.Slice.Eq.{bytes_eq-Decides}
 use Rattle.std.specs.Map.{lookup}
 use Rattle.std.specs.Option.{option_or}
-use Rattle.std.specs.Prelude.{MatchOption, Vec, bytes_eq, cond, if◌then◌else◌, is_some}
+use Rattle.std.specs.Prelude.{Vec, bytes_eq, cond, if◌then◌else◌, is_some}
 use Rattle.std.specs.declared.alloc.Global.{Global}
-use Rattle.redo_build.proofs.PathLemmas.{is_among-from, is_among-true}
-use Rattle.redo_build.proofs.QueueLemmas.{slice_get-among}
-use Rattle.redo_names.specs.Paths.{IsAmong, is_among, with_path}
+use Rattle.redo_names.proofs.PathLemmas.{is_among-last, is_among-with}
+use Rattle.redo_names.specs.Paths.{is_among, with_path}
 use Rattle.redo_record.proofs.SearchLemmas.{same_way}
 use Rattle.redo_report.specs.declared.report.Row.{Row}
 use Rattle.redo_diagnose.specs.declared.diagnosis.Diagnosis.{Diagnosis}
@@ -102,47 +101,14 @@ number-new rows i x old new copy found within is are tells missing copied put q 
 
 -- The targets of diagnoses
 
--- whether a number is found tells whether a path is one of these
-pub number-tells : (ps : List (List ℕ)) (p : List ℕ) (o : Option ℕ) →
-    MatchOption o (IsAmong ps p → ⊥) (λ n. slice_get ps n ≡ Some p) → is_some o ≡ is_among ps p
-number-tells ps p None none = elim (cases_Bool (is_among ps p)) [
-  | inl t ↦ absurd (none (is_among-true ps p t))
-  | inr f ↦ sym f
-]
-number-tells ps p (Some n) found = sym (is_among-from ps p (slice_get-among ps n p found))
-
-or-more : (qs : List (List ℕ)) (x p : List ℕ) → is_among (qs ++ x ∷ []) p ≡ (is_among qs p || bytes_eq x p)
-or-more [] x p = elim (bytes_eq x p) as (λ b. (b || false) ≡ b) [ true ↦ refl | false ↦ refl ]
-or-more (q ∷ qs) x p =
-    elim (bytes_eq q p) as (λ b. (b || is_among (qs ++ x ∷ []) p) ≡ ((b || is_among qs p) || bytes_eq x p)) [
-      | true ↦ refl
-      | false ↦ or-more qs x p
-    ]
-
-kept-or : (a b : Bool) → (b ≡ true → a ≡ true) → a ≡ (a || b)
-kept-or true b h = refl
-kept-or false true h = h refl
-kept-or false false h = refl
-
-with-path-tells : (qs : List (List ℕ)) (x p : List ℕ) → is_among (with_path qs x) p ≡ (is_among qs p || bytes_eq x p)
-with-path-tells qs x p = elim (cases_Bool (is_among qs x)) [
-  | inl t ↦
-      let kept : with_path qs x ≡ qs = rw t refl in
-      ap (λ ps. is_among ps p) kept ∙
-      kept-or (is_among qs p) (bytes_eq x p) (λ same. subst (λ y. is_among qs y ≡ true) ((bytes_eq-Decides x p).0 same) t)
-  | inr f ↦
-      let new : with_path qs x ≡ qs ++ x ∷ [] = rw f refl in
-      ap (λ ps. is_among ps p) new ∙ or-more qs x p
-]
-
 -- one diagnosis more
 pub target-more : (ds : List Diagnosis) (qs : List (List ℕ)) (i : ℕ) (x : Diagnosis) (copy p : List ℕ) → i < length ds →
     x ≡ slice_index_or ds i x → copy ≡ x.target → is_among qs p ≡ is_among (targets_of (take i ds)) p →
     is_among (with_path qs copy) p ≡ is_among (targets_of (take (i + 1) ds)) p
 target-more ds qs i x copy p within is copied same =
     ap (λ c. is_among (with_path qs c) p) copied
-    ∙ with-path-tells qs x.target p ∙ ap (λ b. b || bytes_eq x.target p) same
-    ∙ sym (or-more (targets_of (take i ds)) x.target p)
+    ∙ is_among-with qs x.target p ∙ ap (λ b. b || bytes_eq x.target p) same
+    ∙ sym (is_among-last (targets_of (take i ds)) x.target p)
     ∙ ap (λ (l : List (List ℕ)). is_among l p) (sym (map-append (λ (d : Diagnosis). d.target) (take i ds) (x ∷ [])))
     ∙ ap (λ y. is_among (targets_of (take i ds ++ y ∷ [])) p) is
     ∙ ap (λ l. is_among (targets_of l) p) (sym (take_more ds i x within))

@@ -83,7 +83,7 @@ impl<'a> Links<'a> {
     pub(crate) fn is_told(&self, path: &Path) -> bool
         ensures { result ≡ (known_by self.now).is_told path.now }
     {
-        has(&self.diagnosed, path)
+        self.diagnosed.contains(path)
     }
 
     /// Whether a target's script was begun.
@@ -102,13 +102,6 @@ impl<'a> Links<'a> {
             None => None,
         }
     }
-}
-
-/// Whether a path is in a set.
-fn has(paths: &PathSet, path: &Path) -> bool
-    ensures { result ≡ is_among paths.now path.now }
-{
-    paths.number_of(path).is_some()
 }
 
 /// The targets of diagnoses.

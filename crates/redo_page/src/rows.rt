@@ -1,7 +1,6 @@
 //! The rows of a report.
 
-ghost use Rattle.std.specs.Prelude.{◌≡◌, ◌++◌, ◌∷◌, OnOk, flat_map, option_copied, slice_get};
-ghost use Rattle.std.specs.Arc.{arc_value};
+ghost use Rattle.std.specs.Prelude.{◌≡◌, ◌++◌, ◌∷◌, OnOk, flat_map, option_copied};
 ghost use Rattle.redo_page.specs.Pages.{cells_pieces, entry_pieces, failed_pieces, front_pieces, kind_pieces};
 ghost use Rattle.redo_page.specs.Pages.{outcome_pieces, reason_pieces, record_pieces, rows_pieces};
 ghost use Rattle.redo_page.specs.Pages.{size_pieces, user_pieces, users_pieces, why_pieces};

@@ -1,4 +1,4 @@
-pub mod AmongLemmas
+pub mod AnyLemmas
 pub mod NearLemmas
 pub mod NeedLemmas
 pub mod PlaceLemmas

@@ -38,13 +38,6 @@ pub(crate) fn names(made: &BookRecord, path: &Path) -> bool
     made.entries.iter().any(|entry| is_of(entry, path))
 }
 
-/// Whether a path is one of these.
-pub(crate) fn has(paths: &PathSet, path: &Path) -> bool
-    ensures { result ≡ is_among paths.now path.now }
-{
-    paths.number_of(path).is_some()
-}
-
 /// Adds the path that an entry names, if it names one.
 fn add_path(named: &mut PathSet, entry: &BookEntry) -> Result<(), AllocError>
     ensures { OnOk result ((path : List ℕ) → is_among named.new path ≡

@@ -11,7 +11,7 @@ ghost use Rattle.redo_query.specs.Names.{AreNeeding, names as names_path, users}
 ghost use Rattle.redo_query.specs.inside.Found.{AllNeed, IsClosed, NeedsBy, names_one};
 
 use crate::index::Index;
-use crate::named::{has, names, path_in};
+use crate::named::{names, path_in};
 use redo_book::{Book, BookEntry, BookRecord};
 use redo_names::PathSet;
 use redo_path::Path;
@@ -84,7 +84,7 @@ fn names_found(found: &PathSet, entry: &BookEntry) -> bool
     ensures { result ≡ names_one found.now entry.now }
 {
     match path_in(entry) {
-        Some(path) => has(found, path),
+        Some(path) => found.contains(path),
         None => false,
     }
 }
@@ -160,7 +160,7 @@ fn in_order<'a>(alloc: Global, book: &'a Book, found: &PathSet) -> Result<Vec<&'
 {
     let mut targets = Vec::new(alloc);
     for made in book.records() {
-        if has(found, &made.target) {
+        if found.contains(&made.target) {
             targets.push(&made.target)?;
         }
     }

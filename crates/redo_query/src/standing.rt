@@ -7,7 +7,7 @@ ghost use Rattle.redo_names.specs.Paths.{is_among};
 ghost use Rattle.redo_tree.specs.Tree.{bytes_of, file_at, node_of};
 ghost use Rattle.redo_query.specs.Names.{named_sources, standing as standing_in, standing_targets};
 
-use crate::named::{has, named_by};
+use crate::named::named_by;
 use redo_book::BookRecord;
 use redo_names::PathSet;
 use redo_past::{Past, has_state};
@@ -52,7 +52,7 @@ pub(crate) fn targets<'a>(alloc: Global, past: &'a Past) -> Result<Vec<&'a Path>
 fn is_named_file(named: &PathSet, path: &Path, entry: &Entry) -> bool
     ensures { result ≡ (is_some (bytes_of (node_of entry.now)) && is_among named.now path.now) }
 {
-    matches!(entry, Entry::File(_)) && has(named, path)
+    matches!(entry, Entry::File(_)) && named.contains(path)
 }
 
 /// The sources that these targets depend on, in path order.

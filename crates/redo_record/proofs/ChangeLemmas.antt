@@ -1,6 +1,7 @@
 -- Paths that are entered as changes, one after another.
 use Rattle.std.proofs.Common.{◌≡◌, Bool, true, false, not, ◌⊎◌, inl, inr, List, [], ◌∷◌, subst}
 use Rattle.std.proofs.lemmas.Bool.{not-true}
+use Rattle.redo_names.proofs.ListLemmas.{filter-passes}
 use Rattle.redo_record.specs.declared.deps.Dep.{Dep}
 use Rattle.redo_record.specs.declared.deps.DepKind.TheVariants.{Change}
 use Rattle.redo_record.specs.Entries.{is_entered, with_entry, with_entries}
@@ -8,7 +9,6 @@ use Rattle.redo_record.specs.Paths.{Path, IsAmong}
 use Rattle.redo_record.specs.Progress.{changes, operands}
 use Rattle.redo_record.proofs.EntryLemmas.{Extends-with_entries, is_entered-with_entry}
 use Rattle.redo_record.proofs.FoundLemmas.{entered_cases}
-use Rattle.redo_record.proofs.OperandLemmas.{filter-passes}
 
 -- what is entered is one of them, or was entered before
 pub change-cases : (ds : List Dep) (ps : List Path) (q : Path) →

@@ -1,14 +1,13 @@
 -- Entries are looked up among the paths of their kind.
-use Rattle.std.proofs.Common.{◌≡◌, ◌&&◌, ◌||◌, ◌++◌, ◌∷◌, ℕ, Bool, true, false, cond, not, List, [], Option, Some, None, refl, sym, ap, ◌∙◌}
+use Rattle.std.proofs.Common.{◌≡◌, ◌&&◌, ◌||◌, ◌++◌, ◌∷◌, Bool, true, false, cond, not, List, [], refl, sym, ap, ◌∙◌}
 use Rattle.std.proofs.lemmas.List.{append-nil}
-use Rattle.std.specs.Prelude.{bytes_eq, is_some, slice_get, MatchOption}
+use Rattle.std.specs.Prelude.{bytes_eq}
 use Rattle.redo_names.specs.Paths.{with_path}
-use Rattle.redo_names.proofs.PathLemmas.{place-among, told-absent, told-among}
 use Rattle.redo_record.specs.declared.deps.Dep.{Dep}
 use Rattle.redo_record.specs.declared.deps.DepKind.{DepKind}
 use Rattle.redo_record.specs.declared.deps.DepKind.TheVariants as kinds
 use Rattle.redo_record.specs.Entries.{same_kind, is_entered, with_entry}
-use Rattle.redo_record.specs.Paths.{Path, IsAmong, is_among}
+use Rattle.redo_record.specs.Paths.{Path, is_among}
 use Rattle.redo_record.specs.inside.Kinds.{paths_with}
 use Rattle.redo_record.proofs.SearchLemmas.{same_way}
 
@@ -28,11 +27,6 @@ last-step false c q p rest = refl
 pub paths-last : (k : DepKind) (es : List Dep) (d : Dep) → paths_with k (es ++ d ∷ []) ≡ paths_with k es ++ cond (same_kind k d.kind) (d.path ∷ []) []
 paths-last k [] d = refl
 paths-last k (e ∷ es) d = ap (λ ps. cond (same_kind k e.kind) (e.path ∷ ps) ps) (paths-last k es d) ∙ last-step (same_kind k e.kind) (same_kind k d.kind) e.path d.path (paths_with k es)
-
--- a look-up by number tells whether a path is there
-pub told-number : (ps : List Path) (p : Path) (o : Option ℕ) → MatchOption o (IsAmong ps p → ⊥) (λ n. slice_get ps n ≡ Some p) → is_some o ≡ is_among ps p
-told-number ps p None told = sym (told-absent ps p told)
-told-number ps p (Some n) told = sym (told-among ps p (place-among ps n p told))
 
 -- ---- an entry that is put in
 

@@ -1,6 +1,7 @@
 -- What the search enters, and what ends at once.
 use Rattle.std.proofs.Common.{◌≡◌, Bool, true, false, not, inl, inr, List, [], ◌∷◌, refl}
 use Rattle.std.proofs.lemmas.Bool.{both_ways, not-true}
+use Rattle.redo_names.proofs.ListLemmas.{filter-passes}
 use Rattle.redo_record.specs.declared.deps.Dep.{Dep}
 use Rattle.redo_record.specs.declared.deps.DepKind.TheVariants.{Change, Create}
 use Rattle.redo_record.specs.declared.outcome.Outcome.{Outcome}
@@ -8,7 +9,7 @@ use Rattle.redo_record.specs.Paths.{Path, AreDistinct}
 use Rattle.redo_record.specs.Entries.{is_entered, with_entry, with_entries, search_deps}
 use Rattle.redo_record.specs.Progress.{at_once, changes, operands, IsLawful}
 use Rattle.redo_record.proofs.FoundLemmas.{entered_cases}
-use Rattle.redo_record.proofs.OperandLemmas.{filter-passes, distinct-entries, operand-entered, none_among}
+use Rattle.redo_record.proofs.OperandLemmas.{distinct-entries, operand-entered, none_among}
 
 -- one that ends at once and asks for nothing
 pub at_once-lawful : (source : Path → Bool) (o : Outcome) (deps : List Dep) → operands source deps ≡ [] → IsLawful source (λ a. at_once o deps)

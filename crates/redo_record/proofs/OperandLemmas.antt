@@ -5,6 +5,8 @@ use Rattle.std.specs.List.{cons_option}
 use Rattle.std.specs.Str.{bytes_eq}
 use Rattle.std.proofs.lemmas.Bool.{cases_Bool, or_cases, or_left, or_right, both_ways}
 use Rattle.std.proofs.lemmas.List.Elements.{filter_map-append}
+use Rattle.redo_names.proofs.ListLemmas.{filter-from}
+use Rattle.redo_names.proofs.PathLemmas.{distinct-last}
 use Rattle.redo_record.specs.declared.deps.Dep.{Dep}
 use Rattle.redo_record.specs.declared.deps.DepKind.{DepKind}
 use Rattle.redo_record.specs.declared.deps.DepKind.TheVariants.{Change, Create, Always}
@@ -13,43 +15,6 @@ use Rattle.redo_record.specs.Entries.{same_kind, is_entered, with_entry, with_en
 use Rattle.redo_record.specs.Progress.{changed, changes, operands}
 use Rattle.redo_record.proofs.EntryLemmas.{bytes_eq-refl, Extends-with_entry, is_entered-with_entry}
 use Rattle.redo_record.proofs.FoundLemmas.{bytes_eq-true, same_kind-true, entered_cases}
-
-IsAmong-append : (ps qs : List Path) (p : Path) → IsAmong (ps ++ qs) p → IsAmong ps p ⊎ IsAmong qs p
-IsAmong-append [] qs p m = inr m
-IsAmong-append (x ∷ ps) qs p m = elim m [
-  | inl here ↦ inl (inl here)
-  | inr later ↦ elim (IsAmong-append ps qs p later) [ inl l ↦ inl (inr l) | inr r ↦ inr r ]
-]
-
-pub AreDistinct-push : (ps : List Path) (q : Path) → AreDistinct ps → (IsAmong ps q → ⊥) → AreDistinct (ps ++ q ∷ [])
-AreDistinct-push [] q d new = (λ none. none, tt)
-AreDistinct-push (p ∷ ps) q d new = (
-  λ m. elim (IsAmong-append ps (q ∷ []) p m) [
-    | inl old ↦ d.0 old
-    | inr at_end ↦ elim at_end [ inl here ↦ new (inl (sym here)) | inr none ↦ none ]
-  ],
-  AreDistinct-push ps q d.1 (λ m. new (inr m)),
-)
-
-pub filter-passes : (f : Path → Bool) (ps : List Path) (p : Path) → IsAmong (filter f ps) p → f p ≡ true
-filter-passes f [] p m = absurd m
-filter-passes f (x ∷ ps) p m = elim (cases_Bool (f x)) [
-  | inl e ↦ elim (rw e at m) as (λ _. f p ≡ true) [
-    | inl here ↦ ap f (sym here) ∙ e
-    | inr later ↦ filter-passes f ps p later
-  ]
-  | inr e ↦ filter-passes f ps p (rw e at m)
-]
-
-pub filter-from : (f : Path → Bool) (ps : List Path) (p : Path) → IsAmong (filter f ps) p → IsAmong ps p
-filter-from f [] p m = absurd m
-filter-from f (x ∷ ps) p m = elim (cases_Bool (f x)) [
-  | inl e ↦ elim (rw e at m) as (λ _. IsAmong (x ∷ ps) p) [
-    | inl here ↦ inl here
-    | inr later ↦ inr (filter-from f ps p later)
-  ]
-  | inr e ↦ inr (filter-from f ps p (rw e at m))
-]
 
 pub among-changes : (ds : List Dep) (q : Path) → IsAmong (changes ds) q → is_entered ds Change q ≡ true
 among-changes [] q m = absurd m
@@ -117,7 +82,7 @@ all_second ds (e ∷ es) k p h = elim (or_cases (same_kind k e.kind && bytes_eq 
 -- Each path once
 
 changes-append : (ds : List Dep) (k : DepKind) (p : Path) → AreDistinct (changes ds) → is_entered ds k p ≡ false → AreDistinct (changes (ds ++ record { kind = k; path = p } ∷ []))
-changes-append ds Change p d new = rw (filter_map-append (λ (e : Dep). changed e.kind e.path) ds (record { kind = Change; path = p } ∷ [])) (AreDistinct-push (changes ds) p d (λ m. both_ways _ new (among-changes ds p m)))
+changes-append ds Change p d new = rw (filter_map-append (λ (e : Dep). changed e.kind e.path) ds (record { kind = Change; path = p } ∷ [])) (distinct-last (changes ds) p d (λ m. both_ways _ new (among-changes ds p m)))
 changes-append ds Create p d new = rw (filter_map-append (λ (e : Dep). changed e.kind e.path) ds (record { kind = Create; path = p } ∷ [])) (rw (append_nil (changes ds)) d)
 changes-append ds Always p d new = rw (filter_map-append (λ (e : Dep). changed e.kind e.path) ds (record { kind = Always; path = p } ∷ [])) (rw (append_nil (changes ds)) d)
 

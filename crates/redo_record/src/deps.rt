@@ -83,7 +83,7 @@ impl Many {
     fn contains(&self, dep: &Dep) -> bool
         ensures { result ≡ is_entered self.now dep.now.kind dep.now.path }
     {
-        self.of_kind(dep.kind).number_of(&dep.path).is_some()
+        self.of_kind(dep.kind).contains(&dep.path)
     }
 
     /// Adds an entry after the others, unless it is there already.

@@ -6,8 +6,8 @@ use Rattle.std.proofs.lemmas.List.{get_or-set_same, length-set, map-append, take
 use Rattle.std.proofs.lemmas.List.Elements.{Contains-append_right, filter-append, filter_map-append}
 use Rattle.std.proofs.lemmas.Option.{slice_get-get_or}
 use Rattle.std.specs.Str.{bytes_eq}
-use Rattle.redo_names.specs.Paths.{AreDistinct, IsAmong, is_among, with_path}
-use Rattle.redo_names.proofs.PathLemmas.{place-among, told-absent, told-among}
+use Rattle.redo_names.specs.Paths.{AreDistinct, IsAmong, is_among}
+use Rattle.redo_names.proofs.PathLemmas.{is_among-append, or-false, place-among, told-absent, told-among}
 use Rattle.std.proofs.lemmas.Slice.Eq.{bytes_eq-Decides}
 use Rattle.redo_record.specs.Progress.{changed, changes}
 use Rattle.redo_record.specs.declared.deps.Dep.{Dep}
@@ -16,40 +16,9 @@ use Rattle.redo_rings.specs.Rings.{is_cyclic}
 use Rattle.redo_rings.specs.inside.Graph.{IsNumbering, asks_at, cyclic_among}
 use Rattle.redo_rings.specs.declared.graph.Asks.{Asks}
 
-pub or-none : (b : Bool) → (b || false) ≡ b
-or-none true = refl
-or-none false = refl
-
-pub or-assoc : (a b d : Bool) → ((a || b) || d) ≡ (a || (b || d))
-or-assoc true b d = refl
-or-assoc false b d = refl
-
-pub among-append : (ps qs : List (List ℕ)) (p : List ℕ) → is_among (ps ++ qs) p ≡ (is_among ps p || is_among qs p)
-among-append [] qs p = refl
-among-append (x ∷ ps) qs p = elim (bytes_eq x p) as (λ b. (b || is_among (ps ++ qs) p) ≡ ((b || is_among ps p) || is_among qs p)) [
-  | true ↦ refl
-  | false ↦ among-append ps qs p
-]
-
-kept-or : (a b : Bool) → (b ≡ true → a ≡ true) → a ≡ (a || b)
-kept-or true b h = refl
-kept-or false true h = h refl
-kept-or false false h = refl
-
-pub with-path-tells : (qs : List (List ℕ)) (x p : List ℕ) → is_among (with_path qs x) p ≡ (is_among qs p || bytes_eq x p)
-with-path-tells qs x p = elim (cases_Bool (is_among qs x)) [
-  | inl t ↦
-      let kept : with_path qs x ≡ qs = rw t refl in
-      ap (λ ps. is_among ps p) kept ∙
-      kept-or (is_among qs p) (bytes_eq x p) (λ same. subst (λ y. is_among qs y ≡ true) ((bytes_eq-Decides x p).0 same) t)
-  | inr f ↦
-      let new : with_path qs x ≡ qs ++ x ∷ [] = rw f refl in
-      ap (λ ps. is_among ps p) new ∙ among-append qs (x ∷ []) p ∙ ap (λ b. is_among qs p || b) (or-none (bytes_eq x p))
-]
-
 -- one row, if it is cyclic
 row-tells : (b : Bool) (row : Row) (p : List ℕ) → is_among (map (λ (r : Row). r.path) (cond b (row ∷ []) [])) p ≡ (b && bytes_eq row.path p)
-row-tells true row p = or-none (bytes_eq row.path p)
+row-tells true row p = or-false (bytes_eq row.path p)
 row-tells false row p = refl
 
 pub cyclic-more : (rows : List Row) (i : ℕ) (row : Row) (p : List ℕ) → i < length rows → row ≡ slice_index_or rows i row →
@@ -61,7 +30,7 @@ cyclic-more rows i row p under is =
     ap (λ rs. is_among (paths (cyclic_among rs)) p) (take_more rows i row under)
     ∙ ap (λ rs. is_among (paths rs) p) (filter-append (λ (r : Row). is_cyclic r.outcome) (take i rows) (here ∷ []))
     ∙ ap (λ ps. is_among ps p) (map-append (λ (r : Row). r.path) (cyclic_among (take i rows)) (cyclic_among (here ∷ [])))
-    ∙ among-append (paths (cyclic_among (take i rows))) (paths (cyclic_among (here ∷ []))) p
+    ∙ is_among-append (paths (cyclic_among (take i rows))) (paths (cyclic_among (here ∷ []))) p
     ∙ ap (λ r. is_among (paths (cyclic_among (take i rows))) p || is_among (paths (cyclic_among (r ∷ []))) p) (sym is)
     ∙ ap (λ b. is_among (paths (cyclic_among (take i rows))) p || b) (row-tells (is_cyclic row.outcome) row p)
 

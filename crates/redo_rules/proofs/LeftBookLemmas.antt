@@ -11,6 +11,7 @@ use Rattle.std.proofs.lemmas.List.Elements.{All-cons, All-contains, All-contains
 use Rattle.std.proofs.lemmas.List.Elements.{All-weaker}
 use Rattle.std.proofs.lemmas.Slice.Eq.{bytes_eq-Decides}
 use Rattle.redo_digest.specs.Digest.{state_of}
+use Rattle.redo_names.proofs.PathLemmas.{told-among}
 use Rattle.redo_tree.specs.Tree.{Tree, IsTree, file_at}
 use Rattle.redo_which.specs.Candidates.{is_do_file}
 use Rattle.redo_record.specs.declared.deps.Dep.{Dep}
@@ -29,7 +30,6 @@ use Rattle.redo_book.specs.Book.{Record, record_at}
 use Rattle.redo_build.specs.Rules.{Ask, Rules, AreLawful, operands}
 use Rattle.redo_build.specs.Outcomes.{final_outcome, needed_at, outcome_at, record_of}
 use Rattle.redo_build.proofs.DepthLemmas.{cases_Option, outcome_at-step, outcome_at-zero, settled}
-use Rattle.redo_build.proofs.PathLemmas.{is_among-from}
 use Rattle.redo_book.specs.Noted.{entry_as, is_notable, new_record, noted}
 use Rattle.redo_skip.specs.Checks.{Check, Checks, Finding, stands, built, finding, is_asked, known_file}
 use Rattle.redo_skip.specs.Checks.{progress_checked, record_checked, standing, told}
@@ -339,7 +339,7 @@ module _ (given : GivenView) (is_tree : IsTree given.past.sources) (report : Rep
       made_file entries in
       let needed : List Path = needed_at r request limit in
       let built_file : (cond (is_among needed p) (option_and_then skip.built_with (end p)) None) ≡ Some file =
-      ap (λ (v : Bool). cond v (option_and_then skip.built_with (end p)) None) (is_among-from needed p m)
+      ap (λ (v : Bool). cond v (option_and_then skip.built_with (end p)) None) (told-among needed p m)
       ∙ ap (λ (o : Option Outcome). option_and_then skip.built_with o) came.1 in
       ap (λ (o : Option File). skip.record_with s (last_run_of given.past) k limit p o) built_file
       ∙ ap (λ (x : Record). Some x) (sym new)

@@ -5,6 +5,8 @@ use Rattle.std.specs.Prelude.{All, flat_map}
 use Rattle.std.specs.List.{list_any}
 use Rattle.std.proofs.lemmas.Bool.{cases_Bool, both_ways}
 use Rattle.std.specs.Arc.{arc_value}
+use Rattle.redo_names.proofs.ListLemmas.{with_new-cases, with_new-first, with_new-second}
+use Rattle.redo_names.proofs.PathLemmas.{among-told, told-among}
 use Rattle.redo_build.specs.Outcomes.{asked_at, final_outcome, needed_at, reached_in, requested_targets}
 use Rattle.redo_record.specs.Paths.{IsAmong, is_among, with_new}
 use Rattle.redo_report.specs.Reports.{IsReport, deps_of, row_paths}
@@ -12,7 +14,6 @@ use Rattle.redo_build.specs.Rules.{Rules}
 use Rattle.redo_report.specs.declared.report.Report.{Report}
 use Rattle.redo_report.specs.declared.report.Row.{Row}
 use Rattle.redo_build.proofs.QueueLemmas.{filter-keeps}
-use Rattle.redo_build.proofs.PathLemmas.{is_among-from, is_among-true, with_new-cases, with_new-first, with_new-second}
 use Rattle.redo_run.specs.declared.exit.Exit.TheVariants.{Good, SomeFailed}
 use Rattle.redo_run.specs.Exits.{AllAreMade, IsExit, fails, is_made}
 
@@ -67,7 +68,7 @@ module _ (r : Rules) (limit : ℕ) (request : List (List ℕ)) (report : Report)
     λ _ p m.
         let found = none-passes IsTrueRow (fails keys) report.rows.items is.outcomes none p (has-row p m) in
         let F : List ℕ → Type 0 = λ x. IsAmong keys x in
-        let listed = is_among-from keys found.0.path (subst F (sym found.3) (with_new-second [] request p m)) in
+        let listed = told-among keys found.0.path (subst F (sym found.3) (with_new-second [] request p m)) in
         let outcome : found.0.outcome ≡ final_outcome r limit p = found.1.0 ∙ ap (final_outcome r limit) found.3 in
         elim (cases_Bool (is_made found.0.outcome)) [
           | inl t ↦ sym (ap is_made outcome) ∙ t
@@ -92,7 +93,7 @@ module _ (r : Rules) (limit : ℕ) (request : List (List ℕ)) (report : Report)
         | inl t ↦ (let now = rw t at h in cc)
         | inr f ↦
             let listed : is_among keys row.path ≡ true = rw f at h in
-            elim (with_new-cases [] request row.path (is_among-true keys row.path listed)) [
+            elim (with_new-cases [] request row.path (among-told keys row.path listed)) [
               | inl none ↦ absurd none
               | inr m ↦ both_ways _ f (ap is_made outcome ∙ all row.path m)
             ]

@@ -1,8 +1,7 @@
 //! Whether a run went well.
 
-ghost use Rattle.std.specs.Prelude.{◌≡◌, [], IfOk};
+ghost use Rattle.std.specs.Prelude.{◌≡◌, IfOk};
 ghost use Rattle.std.specs.List.{list_any};
-ghost use Rattle.redo_record.specs.Paths.{is_among, with_new};
 ghost use Rattle.redo_rules.specs.Build.{GivenView};
 ghost use Rattle.redo_rules.specs.Results.{IsResult};
 ghost use Rattle.redo_run.specs.Exits.{IsExitOf, fails, is_made};
@@ -28,29 +27,11 @@ fn is_made_by(outcome: &Outcome) -> bool
     matches!(outcome, Outcome::Source | Outcome::Built(_))
 }
 
-/// The set of some paths.
-fn set_of(alloc: Global, paths: &[Path]) -> Result<PathSet, AllocError>
-    ensures { IfOk result (λ set. set ≡ with_new [] paths.now) }
-{
-    let mut set = PathSet::new(alloc);
-    for path in paths {
-        set.insert(path.clone()?)?;
-    }
-    Ok(set)
-}
-
-/// Whether a path is in a set.
-fn contains(set: &PathSet, path: &Path) -> bool
-    ensures { result ≡ is_among set.now path.now }
-{
-    set.number_of(path).is_some()
-}
-
 /// Whether one of these paths has a row that is neither source nor built.
 fn has_failed(wanted: &PathSet, rows: &[Row]) -> bool
     ensures { result ≡ list_any (fails wanted.now) rows.now }
 {
-    rows.iter().any(|row| !is_made_by(&row.outcome) && contains(wanted, &row.path))
+    rows.iter().any(|row| !is_made_by(&row.outcome) && wanted.contains(&row.path))
 }
 
 /// Whether every requested path is a source or built.
@@ -62,7 +43,7 @@ pub(crate) fn exit_after(
     ensures { (given : GivenView) → given.request ≡ request.now → IsResult given report.now →
         IfOk result (IsExitOf given) }
 {
-    let wanted = set_of(alloc, request)?;
+    let wanted = PathSet::of_paths(alloc, request)?;
     if has_failed(&wanted, report.rows()) {
         Ok(Exit::SomeFailed)
     } else {

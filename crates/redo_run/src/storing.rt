@@ -1,8 +1,7 @@
 //! What a run over a directory stores.
 
 ghost use Rattle.std.specs.Prelude.{◌≡◌, ◌++◌, bytes_eq, filter, IfErr, IfOk, OnOk, option_map};
-ghost use Rattle.redo_dir.specs.Storing.{paths_to_clear, steps_to_clear, steps_to_store};
-ghost use Rattle.redo_run.specs.Storing.{if_new, new_book_in, others_from, stands_in, to_store as what_to_store};
+ghost use Rattle.redo_run.specs.Storing.{if_new, others_from, stands_in, to_store as what_to_store};
 ghost use Rattle.redo_run.specs.inside.Storing.{IsPart, LeavesPart, StoresPart, steps_left, steps_new, view_of};
 ghost use Rattle.redo_which.specs.Candidates.{book_path};
 

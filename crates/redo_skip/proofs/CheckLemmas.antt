@@ -4,13 +4,13 @@ use Rattle.std.proofs.Common.{None}
 use Rattle.std.proofs.Common.{is_none, refl, sym, ap, subst, ◌∙◌}
 use Rattle.std.proofs.lemmas.Bool.{cases_Bool}
 use Rattle.redo_digest.specs.Digest.{State}
+use Rattle.redo_names.proofs.ListLemmas.{IsAmong-left, IsAmong-right, IsAmong-append}
 use Rattle.redo_record.specs.declared.outcome.Outcome.{Outcome}
 use Rattle.redo_record.specs.Paths.{IsAmong}
 use Rattle.redo_book.specs.declared.book.BookEntry.{BookEntry}
 use Rattle.redo_book.specs.declared.book.BookEntry.TheVariants.{Change, Create, Always}
 use Rattle.redo_build.specs.Rules.{Ask, Extends}
 use Rattle.redo_build.proofs.DepthLemmas.{cases_Option}
-use Rattle.redo_build.proofs.PathLemmas.{IsAmong-left, IsAmong-right, IsAmong-append}
 use Rattle.redo_skip.specs.Sources.{Sources, without_book}
 use Rattle.redo_skip.specs.Checks.{is_asked, told, source_file, known_file, has_state, Standing, stands}
 use Rattle.redo_skip.specs.Checks.{lacks}

@@ -1,6 +1,8 @@
 -- With an honest book no more targets are needed than without one.
 use Rattle.std.proofs.Common.{◌≡◌, ℕ, ◌≤◌, false, inl, inr, List, length, Option, Some, None, refl, sym, subst, arith}
 use Rattle.std.proofs.lemmas.Bool.{cases_Bool}
+use Rattle.redo_names.proofs.ListLemmas.{within-length}
+use Rattle.redo_names.proofs.PathLemmas.{among-told}
 use Rattle.redo_record.specs.declared.outcome.Outcome.{Outcome}
 use Rattle.redo_record.specs.Paths.{IsAmong, is_among}
 use Rattle.redo_record.specs.Progress.{Progress, operands}
@@ -8,7 +10,6 @@ use Rattle.redo_build.specs.Rules.{Ask, AreLawful, Extends, Rules, asked_under}
 use Rattle.redo_build.specs.Outcomes.{outcome_at, needed_at, IsSettled}
 use Rattle.redo_build.specs.Schedule.{only}
 use Rattle.redo_build.proofs.DepthLemmas.{reached-target, reached-within, reached-more, reached-distinct, settled}
-use Rattle.redo_build.proofs.PathLemmas.{is_among-true, within-length}
 use Rattle.redo_build.proofs.TurnLemmas.{only-some, only-among}
 use Rattle.redo_skip.specs.Sources.{Sources, without_book}
 use Rattle.redo_skip.specs.Checks.{finding, Check, Checks, progress_checked, with_book, AreChecks}
@@ -56,7 +57,7 @@ module _ (s : Sources) (k : Checks) (lawful : AreLawful (without_book s)) (are :
   script-needed p q m asks =
       let known : Ask = only (needed_at plain request limit) (outcome_at booked limit) in
       let more : Extends plain known (outcome_at plain limit) = λ x o t e. elim (cases_Bool (is_among (needed_at plain request limit) x)) [
-        | inl there ↦ sound-end x o (is_among-true (needed_at plain request limit) x there)
+        | inl there ↦ sound-end x o (among-told (needed_at plain request limit) x there)
             (only-some (needed_at plain request limit) (outcome_at booked limit) x o e)
         | inr away ↦ absurd (let bad : None ≡ Some o = rw away at e in cc)
       ] in

@@ -8,6 +8,7 @@ use Rattle.std.specs.Str.{bytes_eq}
 use Rattle.std.proofs.lemmas.Bool.{cases_Bool, both_ways, and_parts}
 use Rattle.std.proofs.lemmas.Slice.Eq.{bytes_eq-Decides}
 use Rattle.redo_digest.specs.Digest.{State, state_of}
+use Rattle.redo_names.proofs.PathLemmas.{among-told}
 use Rattle.redo_record.specs.declared.deps.Dep.{Dep}
 use Rattle.redo_record.specs.declared.deps.DepKind.{DepKind}
 use Rattle.redo_record.specs.declared.deps.DepKind.TheVariants as kinds
@@ -20,7 +21,6 @@ use Rattle.redo_book.specs.declared.book.BookEntry.TheVariants.{Change, Create, 
 use Rattle.redo_book.specs.Book.{Record, record_at}
 use Rattle.redo_build.specs.Rules.{Ask, AreLawful, Rules}
 use Rattle.redo_build.specs.Outcomes.{outcome_at, needed_at, record_of}
-use Rattle.redo_build.proofs.PathLemmas.{is_among-true}
 use Rattle.redo_build.proofs.DepthLemmas.{cases_Option, outcome_at-step, outcome_at-zero, reached-target, settled}
 use Rattle.redo_skip.specs.Sources.{File, Sources, without_book}
 use Rattle.redo_skip.specs.Checks.{told, stands, standing, shown, finding, Check}
@@ -299,7 +299,7 @@ module _ (s : Sources) (last : LastRun) (request : List (List ℕ)) (limit : ℕ
   pub all-here : (p : List ℕ) (r : Record) → new_book s last request limit p ≡ Some r → IsHere p r
   all-here p r e = elim (cases_Bool (is_among (needed_at rules request limit) p)) [
     | inl t ↦
-        let m = is_among-true (needed_at rules request limit) p t in
+        let m = among-told (needed_at rules request limit) p t in
         new-here p (option_and_then built_with (end p)) r
         (λ file is. (target p m, needed-end p m ∙ built_with-built (end p) file is)) (rw t at e)
     | inr f ↦ carried-here p r (rw f at e)

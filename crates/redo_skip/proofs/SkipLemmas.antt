@@ -3,6 +3,8 @@ use Rattle.std.proofs.Common.{◌≡◌, ℕ, zero, suc, ◌≤◌, true, false,
 use Rattle.std.proofs.Common.{refl, sym, ap}
 use Rattle.std.proofs.Common.{subst, ◌∙◌, arith}
 use Rattle.std.proofs.lemmas.Bool.{cases_Bool}
+use Rattle.redo_names.proofs.ListLemmas.{within-length}
+use Rattle.redo_names.proofs.PathLemmas.{among-told, told-among}
 use Rattle.redo_record.specs.declared.deps.Dep.{Dep}
 use Rattle.redo_record.specs.declared.outcome.Outcome.{Outcome}
 use Rattle.redo_record.specs.declared.outcome.Outcome.TheVariants.{Built}
@@ -11,7 +13,6 @@ use Rattle.redo_record.specs.Paths.{IsAmong, is_among}
 use Rattle.redo_build.specs.Rules.{Ask, Rules, AreLawful, Extends, asked_under, operands}
 use Rattle.redo_build.specs.Outcomes.{outcome_at, needed_at, IsSettled}
 use Rattle.redo_build.specs.Schedule.{only}
-use Rattle.redo_build.proofs.PathLemmas.{is_among-true, is_among-from, within-length}
 use Rattle.redo_build.proofs.DepthLemmas.{cases_Option, ended_stays, deeper, outcome_at-step, outcome_at-zero}
 use Rattle.redo_build.proofs.DepthLemmas.{reached-target}
 use Rattle.redo_build.proofs.DepthLemmas.{reached-within, reached-more, reached-distinct, settled}
@@ -29,12 +30,12 @@ use Rattle.redo_skip.proofs.AgreeLemmas.{finding-seen, finding-all, check-asked,
 only-known : (ps : List (List ℕ)) (a : Ask) (q : List ℕ) (o : Outcome) → only ps a q ≡ Some o →
     IsAmong ps q × (a q ≡ Some o)
 only-known ps a q o e = elim (cases_Bool (is_among ps q)) [
-  | inl t ↦ (is_among-true ps q t, rw t at e)
+  | inl t ↦ (among-told ps q t, rw t at e)
   | inr f ↦ absurd (let bad : None ≡ Some o = rw f at e in cc)
 ]
 
 only-among : (ps : List (List ℕ)) (a : Ask) (q : List ℕ) → IsAmong ps q → only ps a q ≡ a q
-only-among ps a q m = rw (is_among-from ps q m) refl
+only-among ps a q m = rw (told-among ps q m) refl
 
 record_by-kept : (seen own : List Dep) (v : Standing) → v ≡ stands → record_by seen own v ≡ seen
 record_by-kept seen own v e = rw e refl

@@ -10,6 +10,8 @@ use Rattle.std.proofs.lemmas.Slice.Eq.{bytes_eq-Decides}
 use Rattle.std.specs.List.{AllByRecursion, IsDistinct}
 use Rattle.std.specs.Str.{bytes_eq}
 use Rattle.redo_digest.specs.Digest.{State}
+use Rattle.redo_names.proofs.ListLemmas.{IsAmong-append, IsAmong-left, IsAmong-right}
+use Rattle.redo_names.proofs.PathLemmas.{among-told}
 use Rattle.redo_record.specs.declared.deps.Dep.{Dep}
 use Rattle.redo_record.specs.declared.deps.DepKind.TheVariants as kinds
 use Rattle.redo_record.specs.declared.outcome.Outcome.{Outcome}
@@ -22,7 +24,6 @@ use Rattle.redo_book.specs.declared.book.BookEntry.TheVariants.{Change, Create, 
 use Rattle.redo_book.specs.Book.{same_entry}
 use Rattle.redo_build.specs.Rules.{Ask}
 use Rattle.redo_build.specs.Schedule.{nothing_known, only}
-use Rattle.redo_build.proofs.PathLemmas.{IsAmong-left, IsAmong-right, IsAmong-append, is_among-true}
 use Rattle.redo_skip.specs.Checks.{Finding, Standing, asking, asks, falls, finding, found_by, has_state, is_asked}
 use Rattle.redo_skip.specs.Checks.{lacks, shown}
 use Rattle.redo_skip.specs.Checks.{standing, stands, stands_if, told}
@@ -90,7 +91,7 @@ module _ (source : List ℕ → Bool) where
 
 pub only-none : (ps : List (List ℕ)) (a : Ask) (q : List ℕ) → (IsAmong ps q → ⊥) → only ps a q ≡ None
 only-none ps a q other = elim (cases_Bool (is_among ps q)) [
-  | inl t ↦ absurd (other (is_among-true ps q t))
+  | inl t ↦ absurd (other (among-told ps q t))
   | inr f ↦ rw f refl
 ]
 

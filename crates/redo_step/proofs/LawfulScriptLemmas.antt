@@ -3,6 +3,7 @@ use Rattle.std.proofs.Common.{◌≡◌, ℕ, zero, suc, true, false, ◌&&◌, 
 use Rattle.std.proofs.Common.{Err, refl, sym, ◌∙◌}
 use Rattle.std.specs.Prelude.{is_some, is_none}
 use Rattle.std.proofs.lemmas.Bool.{both_ways, not-true}
+use Rattle.redo_names.proofs.ListLemmas.{filter-passes}
 use Rattle.redo_script.specs.Syntax.{Script}
 use Rattle.redo_script.specs.declared.fault.ScriptFault.{ScriptFault}
 use Rattle.redo_record.specs.declared.deps.Dep.{Dep}
@@ -24,7 +25,7 @@ use Rattle.redo_record.specs.Progress.{changes, operands, Gains, IsLawful}
 use Rattle.redo_step.proofs.RunLemmas.{Keeps-refl}
 use Rattle.redo_record.proofs.EntryLemmas.{Extends-refl}
 use Rattle.redo_step.proofs.BeginsLemmas.{run_begins}
-use Rattle.redo_record.proofs.OperandLemmas.{filter-passes, all_cases, all_second, distinct-all, distinct-operands}
+use Rattle.redo_record.proofs.OperandLemmas.{all_cases, all_second, distinct-all, distinct-operands}
 use Rattle.redo_record.proofs.OperandLemmas.{operand-entered, entered-operand}
 use Rattle.redo_record.proofs.LawfulLemmas.{at_once-lawful, search_distinct, search_entry, sources-asked}
 

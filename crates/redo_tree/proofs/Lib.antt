@@ -1,5 +1,4 @@
 pub mod AlikeLemmas
-pub mod AmongLemmas
 mod FileDigestLemmas
 pub mod GrowLemmas
 pub mod KeptLemmas

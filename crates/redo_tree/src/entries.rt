@@ -14,7 +14,7 @@ ghost use Rattle.redo_tree.specs.Tree.{tree_of, AreAmong, HasEntry, HasFileOf, I
 ghost use Rattle.redo_tree.specs.inside.Lengths.{is_long};
 
 use crate::digests::{keep_digests, keep_digests_by};
-use crate::parting::{kept_of, set_of};
+use crate::parting::kept_of;
 use crate::{Content, FileDigests, TreeFault};
 use redo_names::{PathMap, PathSet};
 use redo_path::Path;
@@ -210,7 +210,7 @@ impl Tree {
     pub fn without(&self, alloc: Global, out: &[Path]) -> Result<Tree, AllocError>
         ensures { IfOk result (λ tree. tree ≡ without self.now out.now) }
     {
-        let names = set_of(alloc, out)?;
+        let names = PathSet::of_paths(alloc, out)?;
         self.without_named(alloc, &names)
     }
 
@@ -222,7 +222,7 @@ impl Tree {
         let entries = kept_of(alloc, &self.entries, names)?;
         entries.each_once();
         // A directory whose file `default*.do` is taken out stays among these, which makes searches there no less right.
-        let defaults = set_of(alloc, self.defaults.as_slice())?;
+        let defaults = PathSet::of_paths(alloc, self.defaults.as_slice())?;
         Ok(Tree::of_entries(alloc, entries, defaults))
     }
 

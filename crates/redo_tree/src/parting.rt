@@ -1,8 +1,7 @@
 //! Taking files out of a tree.
 
-ghost use Rattle.std.specs.Prelude.{◌≡◌, ◌++◌, ◌∷◌, [], ℕ, List, IfOk, None, OnOk, bytes_eq, false};
+ghost use Rattle.std.specs.Prelude.{◌≡◌, ◌++◌, ◌∷◌, [], IfOk, None, OnOk, bytes_eq, false};
 ghost use Rattle.std.specs.Map.{lookup};
-ghost use Rattle.redo_names.specs.Paths.{is_among};
 ghost use Rattle.redo_tree.specs.Tree.{is_file_among, node_of, without};
 ghost use Rattle.redo_tree.specs.inside.Parting.{nodes_of};
 
@@ -10,24 +9,6 @@ use crate::Entry;
 use redo_names::{PathMap, PathSet};
 use redo_path::Path;
 use std::alloc::{AllocError, Global};
-
-/// The set of these paths.
-pub(crate) fn set_of(alloc: Global, paths: &[Path]) -> Result<PathSet, AllocError>
-    ensures { IfOk result (λ set. (path : List ℕ) → is_among set path ≡ is_among paths.now path) }
-{
-    let mut set = PathSet::with_capacity(alloc, paths.len())?;
-    for path in paths {
-        set.insert(path.clone()?)?;
-    }
-    Ok(set)
-}
-
-/// Whether a path is one of these.
-fn is_named(names: &PathSet, path: &Path) -> bool
-    ensures { result ≡ is_among names.now path.now }
-{
-    names.number_of(path).is_some()
-}
 
 /// A clone of an entry.
 fn share(entry: &Entry) -> Result<Entry, AllocError>
@@ -61,7 +42,7 @@ fn pass(
         nodes_of kept.old ++ without ((path.now, node_of entry.now) ∷ []) names.now) }
 {
     match entry {
-        Entry::File(_) if is_named(names, path) => Ok(()),
+        Entry::File(_) if names.contains(path) => Ok(()),
         _ => keep(kept, path, entry),
     }
 }

@@ -5,10 +5,10 @@ use Rattle.std.specs.Str.{bytes_eq}
 use Rattle.std.proofs.lemmas.Bool.{cases_Bool, cases_lt}
 use Rattle.std.proofs.lemmas.List.{length-map}
 use Rattle.std.proofs.lemmas.Slice.Eq.{bytes_eq-Decides}
+use Rattle.redo_names.proofs.ListLemmas.{flat_map-among}
 use Rattle.redo_record.specs.Paths.{IsAmong, is_among}
 use Rattle.redo_book.specs.Book.{Record, record_at, targets_of}
 use Rattle.redo_build.proofs.DepthLemmas.{cases_Option, stands_still}
-use Rattle.redo_build.proofs.PathLemmas.{flat_map-among}
 use Rattle.redo_skip.specs.Sources.{Sources}
 use Rattle.redo_skip.specs.Checks.{Check, Checks}
 use Rattle.redo_skip.specs.NewBook.{LastRun, checks_of}

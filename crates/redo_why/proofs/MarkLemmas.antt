@@ -3,6 +3,7 @@ use Rattle.std.proofs.Common.{◌≡◌, ℕ, Bool, true, false, ◌⊎◌, inl,
 use Rattle.std.proofs.Common.{flat_map, refl, sym, ap, ◌∙◌}
 use Rattle.std.proofs.lemmas.Bool.{cases_Bool}
 use Rattle.redo_digest.specs.Digest.{State, state_of}
+use Rattle.redo_names.proofs.ListLemmas.{IsAmong-left, IsAmong-right}
 use Rattle.redo_record.specs.declared.outcome.Outcome.{Outcome}
 use Rattle.redo_record.specs.declared.outcome.Outcome.TheVariants.{Built}
 use Rattle.redo_record.specs.Paths.{IsAmong}
@@ -14,7 +15,6 @@ use Rattle.redo_skip.specs.Checks.{is_asked, file_told, source_file, has_state, 
 use Rattle.redo_skip.specs.Checks.{falls, stands_if, standing, asks, finding, Check, Checks}
 use Rattle.redo_skip.proofs.CheckLemmas.{by_answer, standing-asked, standing-fixed, among-asks, found-first}
 use Rattle.redo_skip.proofs.CheckLemmas.{found-later, found-stands}
-use Rattle.redo_build.proofs.PathLemmas.{IsAmong-left, IsAmong-right}
 use Rattle.redo_build.proofs.DepthLemmas.{cases_Option}
 use Rattle.redo_why.specs.Verdicts.{Verdict, Keeps, Begins, Either, Verdicts, Mark, Holds, Drops, Unsure, Waits}
 use Rattle.redo_why.specs.Verdicts.{holds_if, mark_checked, mark_asked, mark, verdict_by, verdict, verdict_checked}

@@ -16,6 +16,6 @@ returns c =
     let same : given.past ≡ past =
     c.a_tree_has_one_past.ensures given.past past is_given.of_tree.is_past c.is_past.ensures is_given.of_tree.of_tree in
     are-reasons given report built (c.reports_give_reasons.ensures given) requested
-    (λ p. c.in_ok-requested.ensures p ∙ ap (λ ps. is_among ps p) (sym is_given.requested)) (map begun_view begun.items)
+    (λ p. c.in_ok-requested.ensures.among p ∙ ap (λ ps. is_among ps p) (sym is_given.requested)) (map begun_view begun.items)
     (told (in-order given report built)
     ∙ ap (λ (v : PastView). begun_in v requested report.rows.items report.begun.items) (sym same))) c.begun_by.ensures

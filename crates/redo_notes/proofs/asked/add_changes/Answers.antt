@@ -1,8 +1,9 @@
 use Rattle.std.proofs.Common.{◌∙◌, ◌||◌, ap, sym, take}
 use Rattle.redo_names.specs.Paths.{is_among}
+use Rattle.redo_names.proofs.PathLemmas.{or-assoc}
 use Rattle.redo_record.specs.Progress.{changes}
 use Rattle.redo_notes.specs.inside.Changes.{is_change_of}
-use Rattle.redo_notes.proofs.AskedLemmas.{change-more, or-assoc}
+use Rattle.redo_notes.proofs.AskedLemmas.{change-more}
 use Rattle.redo_notes.proofs.asked.add_changes.Goals as goal
 
 pub loop-dep-preserved : goal.loop-dep-preserved

@@ -2,9 +2,10 @@ use Rattle.std.proofs.Common.{◌≡◌, ◌∙◌, ◌||◌, ap, rules, sym}
 use Rattle.std.specs.Arc.{arc_value}
 use Rattle.std.specs.Prelude.{option_copied}
 use Rattle.redo_names.specs.Paths.{is_among}
+use Rattle.redo_names.proofs.PathLemmas.{or-assoc}
 use Rattle.redo_record.specs.Entries.{change_of, entries_of}
 use Rattle.redo_record.specs.Progress.{changes}
-use Rattle.redo_notes.proofs.AskedLemmas.{or-assoc, record-asks}
+use Rattle.redo_notes.proofs.AskedLemmas.{record-asks}
 use Rattle.redo_notes.proofs.asked.add_row.Goals as goal
 
 pub returns : goal.returns

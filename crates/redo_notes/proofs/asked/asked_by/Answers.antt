@@ -1,8 +1,9 @@
 use Rattle.std.proofs.Common.{◌∙◌, ◌||◌, ap, sym, take}
 use Rattle.std.specs.List.{list_any}
 use Rattle.redo_names.specs.Paths.{is_among}
+use Rattle.redo_names.proofs.PathLemmas.{or-assoc}
 use Rattle.redo_notes.specs.Notes.{asks_for}
-use Rattle.redo_notes.proofs.AskedLemmas.{any-more, or-assoc}
+use Rattle.redo_notes.proofs.AskedLemmas.{any-more}
 use Rattle.redo_notes.proofs.asked.asked_by.Goals as goal
 
 pub loop-row-preserved : goal.loop-row-preserved

@@ -4,7 +4,7 @@ use Rattle.redo_ood.proofs.RestingLemmas.{first-found, is-found, more-found}
 use Rattle.redo_ood.proofs.asked.resting.Goals as goal
 
 pub loop-number-init : goal.loop-number-init
-loop-number-init c = λ limits. first-found (run_over c.args.past.now c.args.request.now limits) c.in_ok-found.found c.in_ok-found.ensures
+loop-number-init c = λ limits. first-found (run_over c.args.past.now c.args.request.now limits) c.in_ok-found.found c.in_ok-found.ensures.among
 
 pub loop-number-preserved : goal.loop-number-preserved
 loop-number-preserved c = λ limits.

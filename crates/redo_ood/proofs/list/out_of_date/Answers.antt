@@ -18,7 +18,7 @@ list_of-requires c =
     let s = sources_for (run_over past request limits) in
     let k = checks_for (run_over past request limits) in
     subst (HaveItems past.book) (sym c.deref-2.ensures.value)
-    (have-items s k past.book past.book c.in_ok-rows.rows.items (c.in_ok-rows.ensures request limits c.in_ok-requested.ensures))
+    (have-items s k past.book past.book c.in_ok-rows.rows.items (c.in_ok-rows.ensures request limits c.in_ok-requested.ensures.among))
 
 pub returns : goal.returns
 returns c =
@@ -31,7 +31,7 @@ returns c =
     let s = sources_for (run_over past request limits) in
     let k = checks_for (run_over past request limits) in
     let rows = subst (AreRows s k past.book past.book) (sym c.deref-2.ensures.value)
-    (c.in_ok-rows.ensures request limits c.in_ok-requested.ensures) in
+    (c.in_ok-rows.ensures request limits c.in_ok-requested.ensures.among) in
     let table = subst (AreVerdicts c.deref-2.result.now) (sym c.deref-3.ensures.value)
     (subst (λ ys. AreVerdicts ys c.in_ok-table.table.items) (c.deref.ensures.value ∙ sym c.deref-2.ensures.value) c.in_ok-table.ensures) in
     is-list (run_over past request limits) c.deref-2.result.now c.deref-3.result.now rows table (asks c.in_ok-asked.asked) (map listed_view listed.items)

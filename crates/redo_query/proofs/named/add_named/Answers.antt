@@ -1,8 +1,9 @@
 use Rattle.std.proofs.Common.{◌∙◌, ◌||◌, ap, sym, take}
 use Rattle.std.specs.List.{list_any}
 use Rattle.redo_names.specs.Paths.{is_among}
+use Rattle.redo_names.proofs.PathLemmas.{or-assoc}
 use Rattle.redo_query.specs.Names.{is_of}
-use Rattle.redo_query.proofs.AmongLemmas.{any-more, or-assoc}
+use Rattle.redo_query.proofs.AnyLemmas.{any-more}
 use Rattle.redo_query.proofs.named.add_named.Goals as goal
 
 pub loop-entry-preserved : goal.loop-entry-preserved

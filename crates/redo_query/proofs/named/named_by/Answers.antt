@@ -1,7 +1,7 @@
 use Rattle.std.proofs.Common.{◌∙◌, ◌||◌, ap, sym}
 use Rattle.redo_book.specs.Book.{record_of}
 use Rattle.redo_query.specs.Names.{names}
-use Rattle.redo_query.proofs.AmongLemmas.{any-more-map}
+use Rattle.redo_query.proofs.AnyLemmas.{any-more-map}
 use Rattle.redo_query.proofs.named.named_by.Goals as goal
 
 pub loop-made-preserved : goal.loop-made-preserved

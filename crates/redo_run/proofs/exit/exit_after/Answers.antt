@@ -17,7 +17,7 @@ found c given same is =
     let B : List Row → Type 0 = λ rows. c.has_failed.result ≡ list_any (fails (with_new [] c.args.request.now)) rows in
     ap (λ rows. list_any (fails (with_new [] given.request)) rows) (sym is.with_book.rows)
     ∙ ap (λ ps. list_any (fails (with_new [] ps)) c.args.report.now.rows.items) same
-    ∙ sym (subst B c.rows.ensures (subst A c.in_ok-wanted.ensures c.has_failed.ensures))
+    ∙ sym (subst B c.rows.ensures (subst A c.in_ok-wanted.ensures.paths c.has_failed.ensures))
 
 pub returns-then-has_failed : goal.returns-then-has_failed
 returns-then-has_failed c = λ given same is.

@@ -1,18 +1,18 @@
 use Rattle.std.proofs.Common.{rules, ◌≡◌, ◌<◌, ◌≤◌, length, refl}
-use Rattle.redo_build.proofs.QueueLemmas.{slice_get-among}
+use Rattle.redo_names.proofs.PathLemmas.{place-among}
 use Rattle.redo_core.proofs.EnterSteps.{entered-new, entered-old, entered-room, number-new, full, room-left}
 use Rattle.redo_core.proofs.table.Table.enter.Goals as goal
 
 pub returns-in-Some-clause-ok : goal.returns-in-Some-clause-ok
 returns-in-Some-clause-ok c = entered-old c.args.build.now c.args.self.now c.args.path.now c.requires.table
-    (slice_get-among c.args.self.now.targets c.in-Some.at c.args.path.now c.in-Some.ensures)
+    (place-among c.args.self.now.targets c.in-Some.at c.args.path.now c.in-Some.ensures)
 
 pub returns-in-Some-clause-too_many : goal.returns-in-Some-clause-too_many
 returns-in-Some-clause-too_many c = (
   λ is. absurd cc,
   λ many. absurd (entered-room c.args.build.now c.args.self.now c.args.self.now c.args.path.now
       (entered-old c.args.build.now c.args.self.now c.args.path.now c.requires.table
-      (slice_get-among c.args.self.now.targets c.in-Some.at c.args.path.now c.in-Some.ensures)) many),
+      (place-among c.args.self.now.targets c.in-Some.at c.args.path.now c.in-Some.ensures)) many),
 )
 
 pub returns-then-len-targets-clause-too_many : goal.returns-then-len-targets-clause-too_many

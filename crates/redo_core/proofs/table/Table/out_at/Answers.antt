@@ -1,6 +1,6 @@
 use Rattle.std.proofs.Common.{◌≡◌, ◌<◌, ℕ, rules, length, slice_get, Some, true, sym, ap, subst, ◌∙◌, arith}
+use Rattle.redo_names.proofs.PathLemmas.{place-among}
 use Rattle.redo_core.specs.declared.table.Slot.{Slot}
-use Rattle.redo_build.proofs.QueueLemmas.{slice_get-among}
 use Rattle.std.proofs.lemmas.Option.{slice_get_within}
 use Rattle.redo_table.proofs.TargetLemmas.{read-there}
 use Rattle.redo_core.proofs.NewlyReadyLemmas.{distinct-place}
@@ -11,7 +11,7 @@ use Rattle.redo_core.proofs.table.Table.out_at.Goals as goal
 use Rattle.redo_core.proofs.table.Table.out_at.Goals.{else-is_out-via-then-is_out+else-slot-turn, else-is_out-via-else-is_out}
 
 pub returns-in_default : goal.returns-in_default
-returns-in_default c = λ at o. c.in_default.ensures (slice_get-among c.args.self.now.targets at c.args.target.now o.path)
+returns-in_default c = λ at o. c.in_default.ensures (place-among c.args.self.now.targets at c.args.target.now o.path)
 
 pub index-slot-requires : goal.index-slot-requires
 index-slot-requires c =

@@ -16,7 +16,7 @@ of_entries-requires c =
     IsKept-distinct kept c.in_ok-defaults.defaults k
     (subst IsTree (sym same) (IsTree-without (tree_of es) names c.self.invariant.tree))
     (noted-without c.self.inside.defaults c.in_ok-defaults.defaults (tree_of es) (tree_of kept) names c.self.invariant.tree same
-    (λ d. c.in_ok-defaults.ensures d ∙ ap (λ ds. is_among ds d) c.as_slice.ensures) c.self.invariant.noted)
+    (λ d. c.in_ok-defaults.ensures.among d ∙ ap (λ ds. is_among ds d) c.as_slice.ensures) c.self.invariant.noted)
 
 pub returns : goal.returns
 returns c =

@@ -1,6 +1,6 @@
 use Rattle.std.proofs.Common.{◌≡◌, [], drop}
-use Rattle.redo_record.specs.Paths.{with_new}
-use Rattle.redo_core.proofs.given.set_of.Given as goal
+use Rattle.redo_names.specs.Paths.{with_new}
+use Rattle.redo_names.proofs.set.PathSet.of_paths.Given as goal
 
 -- the paths so far, with those that are left, are all
 abbrev pub invariant-loop-path : goal.invariant-loop-path

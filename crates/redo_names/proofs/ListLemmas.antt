@@ -1,23 +1,10 @@
--- Lemmas on lists of paths.
+-- Lemmas on lists of paths, each once.
 use Rattle.std.proofs.Common.{◌≡◌, ℕ, suc, ◌≤◌, Bool, true, cond, ◌⊎◌, inl, inr, List, [], ◌∷◌, ◌++◌, length, filter}
 use Rattle.std.proofs.Common.{flat_map, refl, sym, ap, subst, ◌∙◌, arith, bytes_eq, length-append}
-use Rattle.std.proofs.lemmas.Bool.{cases_Bool, or_cases, or_left, or_right, both_ways}
+use Rattle.std.proofs.lemmas.Bool.{cases_Bool, both_ways}
 use Rattle.std.proofs.lemmas.Slice.Eq.{bytes_eq-Decides}
-use Rattle.redo_record.specs.Paths.{is_among, with_new, IsAmong, AreDistinct}
-
-pub is_among-true : (ps : List (List ℕ)) (p : List ℕ) → is_among ps p ≡ true → IsAmong ps p
-is_among-true [] p e = cc
-is_among-true (q ∷ qs) p e = elim (or_cases (bytes_eq q p) (is_among qs p) e) [
-  | inl here ↦ inl ((bytes_eq-Decides q p).0 here)
-  | inr later ↦ inr (is_among-true qs p later)
-]
-
-pub is_among-from : (ps : List (List ℕ)) (p : List ℕ) → IsAmong ps p → is_among ps p ≡ true
-is_among-from [] p m = absurd m
-is_among-from (q ∷ qs) p m = elim m [
-  | inl here ↦ or_left _ _ ((bytes_eq-Decides q p).1 here)
-  | inr later ↦ or_right _ _ (is_among-from qs p later)
-]
+use Rattle.redo_names.specs.Paths.{is_among, with_new, IsAmong, AreDistinct}
+use Rattle.redo_names.proofs.PathLemmas.{among-told, distinct-last, told-among}
 
 pub IsAmong-left : (ps qs : List (List ℕ)) (p : List ℕ) → IsAmong ps p → IsAmong (ps ++ qs) p
 IsAmong-left [] qs p m = absurd m
@@ -48,7 +35,7 @@ pub with_new-second : (ps qs : List (List ℕ)) (p : List ℕ) → IsAmong qs p 
 with_new-second ps [] p m = absurd m
 with_new-second ps (q ∷ qs) p m = elim m [
   | inl here ↦ elim (cases_Bool (is_among ps q)) [
-    | inl e ↦ rw e (with_new-first ps qs p (IsAmong-same ps q p here (is_among-true ps q e)))
+    | inl e ↦ rw e (with_new-first ps qs p (IsAmong-same ps q p here (among-told ps q e)))
     | inr e ↦ rw e (with_new-first (ps ++ q ∷ []) qs p (IsAmong-right ps (q ∷ []) p (inl here)))
   ]
   | inr later ↦ elim (cases_Bool (is_among ps q)) [
@@ -70,21 +57,11 @@ with_new-cases ps (q ∷ qs) p m = elim (cases_Bool (is_among ps q)) [
   ]
 ]
 
-pub AreDistinct-push : (ps : List (List ℕ)) (q : List ℕ) → AreDistinct ps → (IsAmong ps q → ⊥) → AreDistinct (ps ++ q ∷ [])
-AreDistinct-push [] q d new = (λ none. none, tt)
-AreDistinct-push (p ∷ ps) q d new = (
-  λ m. elim (IsAmong-append ps (q ∷ []) p m) [
-    | inl old ↦ d.0 old
-    | inr at_end ↦ elim at_end [ inl here ↦ new (inl (sym here)) | inr none ↦ none ]
-  ],
-  AreDistinct-push ps q d.1 (λ m. new (inr m)),
-)
-
 pub with_new-distinct : (ps qs : List (List ℕ)) → AreDistinct ps → AreDistinct (with_new ps qs)
 with_new-distinct ps [] d = d
 with_new-distinct ps (q ∷ qs) d = elim (cases_Bool (is_among ps q)) [
   | inl e ↦ rw e (with_new-distinct ps qs d)
-  | inr e ↦ rw e (with_new-distinct (ps ++ q ∷ []) qs (AreDistinct-push ps q d (λ m. both_ways _ e (is_among-from ps q m))))
+  | inr e ↦ rw e (with_new-distinct (ps ++ q ∷ []) qs (distinct-last ps q d (λ m. both_ways _ e (told-among ps q m))))
 ]
 
 pub with_new-length : (ps qs : List (List ℕ)) → length ps ≤ length (with_new ps qs)
@@ -99,7 +76,7 @@ pub with_new-still : (ps qs : List (List ℕ)) (q : List ℕ) → length (with_n
 with_new-still ps [] q short m = absurd m
 with_new-still ps (x ∷ qs) q short m = elim (cases_Bool (is_among ps x)) [
   | inl e ↦ elim m [
-    | inl here ↦ IsAmong-same ps x q here (is_among-true ps x e)
+    | inl here ↦ IsAmong-same ps x q here (among-told ps x e)
     | inr later ↦ with_new-still ps qs q (rw e at short) later
   ]
   | inr e ↦ absurd (
