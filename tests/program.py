@@ -3,6 +3,7 @@ tests. A script runs by itself, too: `tests/builds -k ring -v` runs what has `ri
 
 import os
 import re
+import shutil
 import signal
 import subprocess
 import sys
@@ -12,6 +13,7 @@ from collections import namedtuple
 from threading import Timer
 
 from reports import BOOK, all_bytes, as_bytes, became, book_of, kept, new_book, parts, states, with_book, without_begun
+from tracked import TOP
 
 # What a run came to: its exit status, and what it wrote on standard output and on standard error.
 Run = namedtuple("Run", "status out said")
@@ -26,7 +28,6 @@ Took = namedtuple("Took", "seconds mib")
 SPINNING = 5
 
 
-TOP = os.path.dirname(os.path.dirname(os.path.abspath(__file__)))
 # Whether a script is to say more than what failed.
 IS_TOLD = bool({"-v", "--verbose"} & {*sys.argv[1:]})
 
@@ -51,6 +52,13 @@ def run(words, text=b"", program=REDO, **more):
     more = {"stdout": subprocess.PIPE, "stderr": subprocess.PIPE, "timeout": 60, **more}
     done = subprocess.run([program, *words], check=False, **more)
     return Run(done.returncode, done.stdout, done.stderr)
+
+
+def put_program(place):
+    """Makes the program under test the one that bin/redo runs in a copy of the repository, as if it was built there."""
+    os.makedirs(f"{place}/built", exist_ok=True)
+    shutil.copy(REDO, f"{place}/built/redo")
+    put(place, {"built/redo.sources": run(["--code"], program=f"{place}/bin/sources").out})
 
 
 def measured(words, text, seconds, **more):

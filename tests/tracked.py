@@ -1,0 +1,58 @@
+"""The files of the repository as git has them, and copies of them. A test reads and runs a copy: so what somebody built,
+edited or left in the tree that he works in changes nothing of what the test says, and the test leaves nothing there.
+Nothing here needs the program."""
+
+import os
+import shutil
+import subprocess
+
+TOP = os.path.dirname(os.path.dirname(os.path.abspath(__file__)))
+# Documents invite their reader to change what stands here. So a copy has of it what git has, committed or staged.
+PLAYED_WITH = "examples/"
+# By these, as a hook has them, git would look at another repository than at that of the folder.
+ELSEWHERE = {"GIT_DIR", "GIT_WORK_TREE", "GIT_INDEX_FILE", "GIT_PREFIX", "GIT_COMMON_DIR", "GIT_OBJECT_DIRECTORY"}
+# What a user has set for git has no effect on a clone.
+WITHOUT_SETTINGS = {
+    "GIT_CONFIG_GLOBAL": os.devnull,
+    "GIT_CONFIG_NOSYSTEM": "1",
+    **{f"GIT_{who}_{what}": "tests" for who in ("AUTHOR", "COMMITTER") for what in ("NAME", "EMAIL")},
+}
+
+
+def git(place, *words, **more):
+    """What git prints in a folder."""
+    environment = {name: value for name, value in os.environ.items() if name not in ELSEWHERE}
+    environment.update(more.pop("env", {}))
+    done = subprocess.run(["git", "-C", place, *words], env=environment, stdout=subprocess.PIPE, check=True, **more)
+    return done.stdout.decode()
+
+
+def tracked(*paths):
+    """The names of the repository's files: all, or those at and below these paths. One that was removed isn't there."""
+    names = git(TOP, "ls-files", "-z", "--", *paths).split("\0")[:-1]
+    return [name for name in names if name.startswith(PLAYED_WITH) or os.path.lexists(f"{TOP}/{name}")]
+
+
+def copy(place, *paths):
+    """Copies the repository's files to a folder: all, or those at and below these paths. What was changed and not yet
+    committed is copied as it stands, but for examples: there a change counts once it is staged."""
+    names = tracked(*paths)
+    played = [name for name in names if name.startswith(PLAYED_WITH)]
+    if played:
+        git(TOP, "checkout-index", "-z", "--stdin", f"--prefix={place}/", input="\0".join(played).encode())
+    for name in names:
+        if not name.startswith(PLAYED_WITH):
+            os.makedirs(os.path.dirname(f"{place}/{name}"), exist_ok=True)
+            shutil.copy(f"{TOP}/{name}", f"{place}/{name}")
+
+
+def origin(place):
+    """Makes a repository with one commit of what `copy` copies, to be cloned."""
+    copy(place)
+    for words in ["init", "-q"], ["add", "-A", "-f"], ["commit", "-q", "-m", "all"]:
+        git(place, *words, env=WITHOUT_SETTINGS)
+
+
+def clone(place, source):
+    """Clones a repository into a new folder."""
+    git(".", "clone", "-q", "--shared", source, place, env=WITHOUT_SETTINGS)
