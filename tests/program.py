@@ -145,10 +145,12 @@ def room():
     return tempfile.TemporaryDirectory()
 
 
-def room_in_memory():
-    """The same in memory, where the system has a place for it: a test that waits for the disk often takes long."""
+def room_in_memory(runs_programs=False):
+    """The same in memory, where the system has a place for it: a test that waits for the disk often takes long. Some
+    systems have one from which no program may be run."""
     place = "/dev/shm"
-    return tempfile.TemporaryDirectory(dir=place if os.access(place, os.W_OK) else None)
+    is_good = os.access(place, os.W_OK) and not (runs_programs and os.statvfs(place).f_flag & os.ST_NOEXEC)
+    return tempfile.TemporaryDirectory(dir=place if is_good else None)
 
 
 def redo(words):

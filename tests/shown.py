@@ -6,6 +6,11 @@ import re
 import subprocess
 from collections import namedtuple
 
+from tracked import tracked
+
+# Documents of which a clone runs the commands as they stand there.
+DOCUMENTS = ["README.md", "docs/MANUAL.md", *(it for it in tracked("examples") if it.endswith("/README.md"))]
+
 # A command: the number of its line, its text, and the lines that it prints.
 Command = namedtuple("Command", "number text lines")
 
