@@ -1,14 +1,22 @@
 """The files of the repository as git has them, and copies of them. A test reads and runs a copy: so what somebody built,
 edited or left in the tree that he works in changes nothing of what the test says, and the test leaves nothing there.
-Nothing here needs the program."""
+Where git doesn't know the tree, as in an unpacked archive, a list names the files of the examples, and all else counts
+that no build leaves. Nothing here needs the program."""
 
 import os
+import re
 import shutil
 import subprocess
+from fnmatch import fnmatch
+from functools import cache
 
 TOP = os.path.dirname(os.path.dirname(os.path.abspath(__file__)))
 # Documents invite their reader to change what stands here. So a copy has of it what git has, committed or staged.
 PLAYED_WITH = "examples/"
+# Its files, for where git doesn't know the tree. tests/examples compares the list with what git has.
+LIST = "examples/files.txt"
+# Other folders that aren't the repository's.
+LEFT = re.compile(r"examples|built|\.proving|\.trying|crates/\w+/out|(?:.*/)?__pycache__")
 # By these, as a hook has them, git would look at another repository than at that of the folder.
 ELSEWHERE = {"GIT_DIR", "GIT_WORK_TREE", "GIT_INDEX_FILE", "GIT_PREFIX", "GIT_COMMON_DIR", "GIT_OBJECT_DIRECTORY"}
 # What a user has set for git has no effect on a clone.
@@ -27,23 +35,53 @@ def git(place, *words, **more):
     return done.stdout.decode()
 
 
+@cache
+def has_git():
+    """Whether git knows this tree. It doesn't answer where another user owns the clone."""
+    if not os.path.exists(f"{TOP}/.git"):
+        return False
+    try:
+        git(TOP, "rev-parse", stderr=subprocess.DEVNULL)
+    except (OSError, subprocess.CalledProcessError):
+        return False
+    return True
+
+
+def listed():
+    """The names of the examples' files by the list."""
+    with open(f"{TOP}/{LIST}", encoding="utf-8") as file:
+        return file.read().splitlines()
+
+
+def found():
+    """The names of all files where git doesn't know the tree."""
+    yield from listed()
+    for above, folders, names in os.walk(TOP):
+        inside = os.path.relpath(above, TOP)
+        folders[:] = [it for it in folders if not LEFT.fullmatch(os.path.normpath(f"{inside}/{it}"))]
+        yield from (os.path.normpath(f"{inside}/{name}") for name in names)
+
+
 def tracked(*paths):
-    """The names of the repository's files: all, or those at and below these paths. One that was removed isn't there."""
-    names = git(TOP, "ls-files", "-z", "--", *paths).split("\0")[:-1]
-    return [name for name in names if name.startswith(PLAYED_WITH) or os.path.lexists(f"{TOP}/{name}")]
+    """The names of the repository's files, in order: all, or those at and below these paths, in which a * stands for
+    anything. One that was removed isn't there."""
+    if has_git():
+        names = git(TOP, "ls-files", "-z", "--", *paths).split("\0")[:-1]
+        return [name for name in names if name.startswith(PLAYED_WITH) or os.path.lexists(f"{TOP}/{name}")]
+    names = sorted(found())
+    return [name for name in names if not paths or any(fnmatch(name, it) or fnmatch(name, f"{it}/*") for it in paths)]
 
 
 def copy(place, *paths):
     """Copies the repository's files to a folder: all, or those at and below these paths. What was changed and not yet
     committed is copied as it stands, but for examples: there a change counts once it is staged."""
     names = tracked(*paths)
-    played = [name for name in names if name.startswith(PLAYED_WITH)]
-    if played:
-        git(TOP, "checkout-index", "-z", "--stdin", f"--prefix={place}/", input="\0".join(played).encode())
-    for name in names:
-        if not name.startswith(PLAYED_WITH):
-            os.makedirs(os.path.dirname(f"{place}/{name}"), exist_ok=True)
-            shutil.copy(f"{TOP}/{name}", f"{place}/{name}")
+    staged = [name for name in names if name.startswith(PLAYED_WITH) and has_git()]
+    if staged:
+        git(TOP, "checkout-index", "-z", "--stdin", f"--prefix={place}/", input="\0".join(staged).encode())
+    for name in {*names} - {*staged}:
+        os.makedirs(os.path.dirname(f"{place}/{name}"), exist_ok=True)
+        shutil.copy(f"{TOP}/{name}", f"{place}/{name}")
 
 
 def origin(place):
