@@ -13,7 +13,7 @@ from collections import namedtuple
 from threading import Timer
 
 from reports import BOOK, all_bytes, as_bytes, became, book_of, kept, new_book, parts, states, with_book, without_begun
-from tracked import TOP
+from tracked import TOP, room, room_in_memory
 
 # What a run came to: its exit status, and what it wrote on standard output and on standard error.
 Run = namedtuple("Run", "status out said")
@@ -138,19 +138,6 @@ def standing(place):
             with open(f"{above}/{name}", "rb") as file:
                 found[os.path.relpath(f"{above}/{name}", place)] = file.read()
     return found
-
-
-def room():
-    """A new directory, for `with`: it is removed at the end."""
-    return tempfile.TemporaryDirectory()
-
-
-def room_in_memory(runs_programs=False):
-    """The same in memory, where the system has a place for it: a test that waits for the disk often takes long. Some
-    systems have one from which no program may be run."""
-    place = "/dev/shm"
-    is_good = os.access(place, os.W_OK) and not (runs_programs and os.statvfs(place).f_flag & os.ST_NOEXEC)
-    return tempfile.TemporaryDirectory(dir=place if is_good else None)
 
 
 def redo(words):

@@ -1,12 +1,13 @@
-"""The files of the repository as git has them, and copies of them. A test reads and runs a copy: so what somebody built,
-edited or left in the tree that he works in changes nothing of what the test says, and the test leaves nothing there.
-Where git doesn't know the tree, as in an unpacked archive, a list names the files of the examples, and all else counts
-that no build leaves. Nothing here needs the program."""
+"""The files of the repository as git has them, copies of them, and room for copies. A test reads and runs a copy: so
+what somebody built, edited or left in the tree that he works in changes nothing of what the test says, and the test
+leaves nothing there. Where git doesn't know the tree, as in an unpacked archive, a list names the files of the examples,
+and all else counts that no build leaves. Nothing here needs the program."""
 
 import os
 import re
 import shutil
 import subprocess
+import tempfile
 from fnmatch import fnmatch
 from functools import cache
 
@@ -33,6 +34,19 @@ def git(place, *words, **more):
     environment.update(more.pop("env", {}))
     done = subprocess.run(["git", "-C", place, *words], env=environment, stdout=subprocess.PIPE, check=True, **more)
     return done.stdout.decode()
+
+
+def room():
+    """A new directory, for `with`: it is removed at the end."""
+    return tempfile.TemporaryDirectory()
+
+
+def room_in_memory(runs_programs=False):
+    """The same in memory, where the system has a place for it: a test that waits for the disk often takes long. Some
+    systems have one from which no program may be run."""
+    place = "/dev/shm"
+    is_good = os.access(place, os.W_OK) and not (runs_programs and os.statvfs(place).f_flag & os.ST_NOEXEC)
+    return tempfile.TemporaryDirectory(dir=place if is_good else None)
 
 
 @cache
