@@ -1,0 +1,247 @@
+"""The functions of a crate, read off its text: their names as a check prints them, and which ones each may call. The
+text is laid out by `rt fmt`, so a function ends at a brace that stands as far in as the function does.
+
+A function that may be called and isn't seen here costs time, and no verdict: two edits of which one function calls the
+other come into one round, and the one that then shows nothing is tried alone."""
+
+import re
+from dataclasses import dataclass, field
+
+HEAD = re.compile(r"( *)(?:pub(?:\([a-z]+\))? )?(?:const |unsafe |async )*fn (\w+)")
+TYPE = re.compile(r"^(?:pub(?:\([a-z]+\))? )?(?:struct|enum) (\w+)", re.M)
+# What a function may stand in: an impl of a type, or of a trait for a type, or a trait.
+IMPL = re.compile(r"(?:unsafe )?impl\b")
+TRAIT = re.compile(r"(?:pub(?:\([a-z]+\))? )?(?:unsafe )?trait (\w+)")
+TEXT = re.compile(r'//[^\n]*|b?r#"[\s\S]*?"#|b?"(?:\\[\s\S]|[^"\\])*"|b?\'(?:\\.[^\']*|[^\\\'\n])\'')
+# A name in code, with the path before it, what stands in front, and whether a bracket follows.
+NAME = re.compile(r"(\.\s*)?((?:\w+(?:::<[^<>;(){}]*>)?::)*)(\w+)(?:::<[^;(){}]*?>)?(\()?")
+
+# What calls a method that the text doesn't name.
+UNSEEN = {
+    "eq": r"[=!]=|\bcontains\b|\bstarts_with\b|\bmatches!",
+    "cmp": r" [<>]=? |\bsort|\bbinary_search|\bmin\b|\bmax\b|\bBTree|\bpartition_point\b",
+    "partial_cmp": r" [<>]=? ",
+    "fmt": r"\b\w*(?:format|write|print)\w*!|\bto_string\b",
+    "from": r"\?|\binto\b",
+    "next": r"\bfor\b|\.(?:map|filter\w*|collect|any|all|find|position|count|fold|zip|chain|rev|enumerate|extend)\b",
+    "into_iter": r"\bfor\b|\bextend\b",
+    "clone": r"\bcloned\b|\bclone\b",
+    "drop": r"",
+}
+
+
+def without_texts(text):
+    """Code without its comments, strings and characters, each replaced by as many spaces; lines stay where they are."""
+    return TEXT.sub(lambda it: re.sub(r"[^\n]", " ", it[0]), text)
+
+
+@dataclass
+class Function:
+    """A function: its full name, its last name, the type and the trait that it stands in (or ""), its file, the number
+    of its first line and of the one behind its last, the number of the line where its body begins, its body, the name
+    under which it is proved if it calls itself, and the names of those that it may call."""
+
+    name: str
+    last: str
+    of_type: str
+    of_trait: str
+    path: str
+    first: int
+    end: int
+    body: int
+    code: str
+    cycle: str
+    called: set = field(default_factory=set)
+
+
+def module_of(crate, path):
+    """The path of the module that a file of src/ is, as in `redo_script::lexer::runs`."""
+    inside = path[len("src/") : -len(".rt")].removesuffix("/mod")
+    return "::".join([crate, *([] if inside in ("lib", "main") else inside.split("/"))])
+
+
+def bare(text):
+    """A type's text without references, lifetimes and what stands in angle brackets."""
+    text = re.sub(r"'\w+\s*", "", text).replace("&", " ").replace("mut ", " ")
+    while "<" in text:
+        shorter = re.sub(r"<[^<>]*>", "", text)
+        if shorter == text:
+            break
+        text = shorter
+    return text.strip()
+
+
+def last_of(text):
+    """The last name of a type's path: `Error` of `io::Error`."""
+    return bare(text).split("::")[-1].strip()
+
+
+def arguments(text):
+    """The types in a trait's own angle brackets, in order."""
+    inner = text.partition("<")[2].rpartition(">")[0]
+    found, depth, start = [], 0, 0
+    for at, sign in enumerate(inner + ","):
+        depth += (sign == "<") - (sign == ">")
+        if sign == "," and not depth:
+            found.append(inner[start:at])
+            start = at + 1
+    return [it.strip() for it in found if it.strip() and not it.strip().startswith("'")]
+
+
+def split_impl(head):
+    """The text of the trait ("" where there is none) and of the type of an impl's head."""
+    rest = head.partition("impl")[2]
+    if rest.startswith("<"):
+        depth = 0
+        for at, sign in enumerate(rest):
+            # (an arrow's bracket closes nothing)
+            depth += (sign == "<") - (sign == ">" and rest[at - 1] != "-")
+            if not depth:
+                rest = rest[at + 1 :]
+                break
+    rest = re.split(r"\bwhere\b|\{", rest)[0]
+    trait, found, of = rest.partition(" for ")
+    return (trait.strip(), of.strip()) if found else ("", rest.strip())
+
+
+def owner_of_impl(head):
+    """The name under which a check prints the methods of an impl, its type, and its trait."""
+    trait, of = split_impl(head)
+    kind = last_of(of)
+    if not trait:
+        return kind, kind, ""
+    name = last_of(trait)
+    if name == "Drop":
+        return kind, kind, name
+    parts = [part for it in arguments(trait) for part in bare(it).split("::")]
+    return kind + name + "".join(it[:1].upper() + it[1:] for it in parts), kind, name
+
+
+def head_of(rows, number):
+    """The text of an item's head, which may take several lines."""
+    for end in range(number, len(rows)):
+        if "{" in rows[end] or rows[end].endswith(";"):
+            break
+    return " ".join(it.strip() for it in rows[number : end + 1])
+
+
+def end_of(rows, number, indent):
+    """The number of the line behind a function that begins at this line, and of the line where its body begins, which
+    is the end where it has none."""
+    body = None
+    for at in range(number, len(rows)):
+        row = rows[at]
+        depth = len(row) - len(row.lstrip())
+        if not row.strip() or depth > indent:
+            continue
+        if at > number and (depth < indent or HEAD.match(row)):
+            return at, at if body is None else body
+        if row.strip() == "}":
+            return at + 1, at if body is None else body
+        if row.rstrip().endswith(("{}", "}")):
+            return at + 1, at
+        if row.rstrip().endswith("{"):
+            body = at if row.strip() == "{" else at + 1
+    return len(rows), len(rows) if body is None else body
+
+
+def functions_in(crate, path, text):
+    """The functions of a file of src/, in order."""
+    module, found = module_of(crate, path), []
+    code = without_texts(text)
+    rows, owner = code.split("\n"), ("", "", "")
+    for number, row in enumerate(rows):
+        if row and not row[0].isspace():
+            if IMPL.match(row):
+                owner = owner_of_impl(head_of(rows, number))
+            elif TRAIT.match(row):
+                owner = TRAIT.match(row)[1], "", TRAIT.match(row)[1]
+            elif row.startswith("}"):
+                owner = "", "", ""
+        head = HEAD.match(row)
+        if head:
+            end, body = end_of(rows, number, len(head[1]))
+            inside, of, trait = owner if head[1] else ("", "", "")
+            name = "::".join([module, *([inside] if inside else []), head[2]])
+            code, cycle = "\n".join(rows[body:end]), cycle_of(rows, number) or head[2]
+            found.append(Function(name, head[2], of, trait, path, number, end, body, code, cycle))
+    return found
+
+
+def cycle_of(rows, number):
+    """The name that the attributes above a function give to its cycle of calls, or ""."""
+    while number and re.match(r"\s*(#\[.*)?$", rows[number - 1]):
+        number -= 1
+        found = re.search(r"#\[cycle\((\w+)\)\]", rows[number])
+        if found:
+            return found[1]
+    return ""
+
+
+class Functions:
+    """The functions of a crate, from the texts of src/ by their paths."""
+
+    def __init__(self, crate, texts):
+        self.crate = crate
+        texts = {path: text for path, text in sorted(texts.items()) if path.startswith("src/")}
+        self.all = [it for path, text in texts.items() for it in functions_in(crate, path, text)]
+        self.name_by_types(texts)
+        self.by_name, self.by_last = {}, {}
+        for it in self.all:
+            self.by_name.setdefault(it.name, []).append(it)
+            self.by_last.setdefault(it.last, []).append(it)
+        self.types = {it.of_type for it in self.all if it.of_type}
+        self.modules = {part for it in texts for part in module_of(crate, it).split("::")} | {"crate", "self", "super"}
+        for it in self.all:
+            it.called = self.called_by(it.code, it.of_type)
+
+    def name_by_types(self, texts):
+        """Names the methods of types by the modules of the types, wherever their impls stand, as a check does."""
+        homes = {}
+        for path, text in texts.items():
+            for of_type in TYPE.findall(without_texts(text)):
+                homes.setdefault(of_type, set()).add(module_of(self.crate, path))
+        for it in self.all:
+            if it.of_type and it.of_trait in ("", "Drop") and len(homes.get(it.of_type, ())) == 1:
+                it.name = "::".join([*homes[it.of_type], it.of_type, it.last])
+
+    def at(self, path, line):
+        """The function in whose text this line of a file stands, or None. Functions are told apart by their names."""
+        found = next((it for it in self.all if it.path == path and it.first <= line < it.end), None)
+        return found if found and len(self.by_name[found.name]) == 1 else None
+
+    def called_by(self, code, of_type=""):
+        """The names of all functions that code may call, written in a method of this type."""
+        found = set()
+        for dot, way, name, bracket in NAME.findall(code):
+            for it in self.by_last.get(name, ()):
+                if self.may_be(it, dot, way, bracket, of_type):
+                    found.add(it.name)
+        for name, sign in UNSEEN.items():
+            if re.search(sign, code):
+                found.update(it.name for it in self.by_last.get(name, ()) if it.of_trait)
+        return found
+
+    def may_be(self, function, dot, way, bracket, of_type):
+        """Whether a name in code may be that of a function with this last name."""
+        is_method = bool(function.of_type or function.of_trait)
+        if dot:
+            return is_method and bool(bracket)
+        before = re.sub(r"::<.*?>", "", way).rstrip(":").split("::")[-1]
+        if not before or before in self.modules:
+            return not is_method
+        before = of_type if before == "Self" else before
+        if before in self.types:
+            # (a trait's own function is each type's)
+            return is_method and function.of_type in ("", before)
+        # (a trait, or a type parameter)
+        return before == function.of_trait or bool(function.of_trait) and len(before) == 1
+
+    def reach(self, names):
+        """The names of all functions that these call, or that those call in turn."""
+        seen, left = set(), [*names]
+        while left:
+            new = {called for it in self.by_name.get(left.pop(), ()) for called in it.called} - seen
+            seen |= new
+            left += new
+        return seen
