@@ -1,12 +1,16 @@
 -- The laws of reasons and lists, over a tree.
-use Rattle.std.proofs.Common.{◌≡◌, ℕ, inl, inr, List, [], ◌∷◌, map, Some, None}
-use Rattle.std.proofs.Common.{All, ap, subst, ◌∙◌}
+use Rattle.std.proofs.Common.{◌≡◌, ℕ, true, false, inl, inr, List, [], ◌∷◌, map, Option, Some, None}
+use Rattle.std.proofs.Common.{All, ap, refl, subst, ◌∙◌}
+use Rattle.std.specs.Prelude.{unwrap_or}
 use Rattle.std.proofs.lemmas.Bool.{both_ways}
 use Rattle.std.proofs.lemmas.List.Elements.{All-head, All-tail}
+use Rattle.redo_past.proofs.ItemLemmas.{IsItem, item-contained}
 use Rattle.redo_record.specs.Paths.{IsAmong}
+use Rattle.redo_record.specs.declared.outcome.Outcome.{Outcome}
+use Rattle.redo_record.specs.declared.outcome.Outcome.TheVariants.{Built, Cyclic}
 use Rattle.redo_book.specs.Book.{Record, record_at}
 use Rattle.redo_build.specs.Rules.{Ask, AreLawful}
-use Rattle.redo_build.specs.Outcomes.{outcome_at, final_outcome}
+use Rattle.redo_build.specs.Outcomes.{outcome_at, final_outcome, needed_at}
 use Rattle.redo_report.specs.Reports.{IsReport, deps_of}
 use Rattle.std.specs.Arc.{arc_value}
 use Rattle.redo_report.specs.declared.report.Report.{Report}
@@ -15,15 +19,16 @@ use Rattle.redo_skip.specs.NewBook.{LastRun, IsGood, AreHonestRecords, IsHonestR
 use Rattle.redo_skip.specs.Sources.{Sources, without_book}
 use Rattle.redo_skip.specs.Truth.{IsBegun}
 use Rattle.redo_why.specs.Reasons.{Reason}
-use Rattle.redo_why.specs.OutOfDate.{Stale, Ring}
-use Rattle.redo_why.specs.Runs.{Needs}
+use Rattle.redo_why.specs.OutOfDate.{Stale, Ring, Word, may_begin}
+use Rattle.redo_why.specs.Runs.{IsKept, Needs}
 use Rattle.redo_why.proofs.ReasonLemmas.{begun-reason}
-use Rattle.redo_why.proofs.RunLemmas.{unlisted-kept, stale-begun, ring-cyclic}
+use Rattle.redo_why.proofs.RunLemmas.{begun-listed, unlisted-kept, stale-begun, ring-cyclic}
 use Rattle.redo_why.proofs.ScheduleLemmas.{reason-told}
 use Rattle.redo_rules.specs.Build.{GivenView, last_run_of, plain_rules_for, rules_for, sources_by, sources_for}
 use Rattle.redo_rules.specs.TreeSources.{HasHonestBook, IsTrueOfTrees, IsUnconfused}
 use Rattle.redo_rules.proofs.Public.{rules_lawful, trees-alike, trees-good}
-use Rattle.redo_why_trees.specs.TreeWhy.{IsNeededFor, TellsOf, listed_for, reason_for}
+use Rattle.redo_tree.specs.Tree.{file_at}
+use Rattle.redo_why_trees.specs.TreeWhy.{IsNeededFor, IsTold, IsToldCyclic, IsToldKept, TellsOf, listed_for, reason_for}
 
 module _ (given : GivenView) where
   abbrev s : Sources
@@ -55,7 +60,7 @@ module _ (given : GivenView) where
     apart = apart.met;
   }
 
-  honest-records : HasHonestBook given → AreHonestRecords s last (outcome_at (plain_rules_for given) limit)
+  pub honest-records : HasHonestBook given → AreHonestRecords s last (outcome_at (plain_rules_for given) limit)
   honest-records all p r e = let one = all p r e in honest-record r one.0 one.1
 
   module _ (report : Report) (is : IsReport (rules_for given) given.request limit report) where
@@ -74,11 +79,52 @@ module _ (given : GivenView) where
     begun-of p m =
         let parts = (is.begun p).0 m in record { needed = parts.0; ruled = parts.1; begins = parts.2 }
 
-    pub unlisted-report : (p : List ℕ) (r : Record) → record_at given.past.book p ≡ Some r → IsNeededFor given p →
-        listed_for given p ≡ None → IsAmong report.begun.items p → ⊥
-    unlisted-report p r at n none m =
-        let kept = unlisted-kept s last given.request limit lawful good p r at (needs p n) none in
-        both_ways _ kept.waits ((is.begun p).0 m).2
+    -- the row of a path that has one tells what became of it
+    row-of : (rows : List Row) (q : List ℕ) → All (λ row. (row.outcome ≡ final_outcome (rules_for given) limit row.path) ×
+        (arc_value row.deps ≡ deps_of (rules_for given) limit row.path)) rows → IsAmong (map (λ row. row.path) rows) q →
+        (row : Row) × IsItem rows row × (row.path ≡ q) × (row.outcome ≡ final_outcome (rules_for given) limit q)
+    row-of [] q ends m = absurd m
+    row-of (x ∷ xs) q ends m = elim m [
+      | inl here ↦
+          let ended = All-head (λ (row : Row). (row.outcome ≡ final_outcome (rules_for given) limit row.path) ×
+          (arc_value row.deps ≡ deps_of (rules_for given) limit row.path)) x xs ends in
+          (x, inl refl, here, ended.0 ∙ ap (final_outcome (rules_for given) limit) here)
+      | inr later ↦
+          let found = row-of xs q (All-tail (λ (row : Row). (row.outcome ≡ final_outcome (rules_for given) limit row.path) ×
+          (arc_value row.deps ≡ deps_of (rules_for given) limit row.path)) x xs ends) later in
+          (found.0, inr found.1, found.2, found.3)
+    ]
+
+    -- a report tells what became of a needed target
+    pub told-of : (p : List ℕ) → IsAmong (needed_at (rules_for given) given.request limit) p → (o : Outcome) →
+        final_outcome (rules_for given) limit p ≡ o → IsTold report p o
+    told-of p needed o e =
+        let found = row-of report.rows.items p is.outcomes ((is.rows p).1 (inl needed)) in
+        record {
+          row = found.0;
+          there = item-contained report.rows.items found.0 found.1;
+          path = found.2;
+          outcome = found.3 ∙ e;
+        }
+
+    pub told-kept : (p : List ℕ) → IsKept s last given.request limit p →
+        IsAmong (needed_at (rules_for given) given.request limit) p → IsToldKept given report p
+    told-kept p kept needed = record {
+      built = told-of p needed (Built (file_at given.past.tree p)) (ap (λ (o : Option Outcome). unwrap_or o Cyclic) kept.built);
+      unbegun = λ m. both_ways _ kept.waits ((is.begun p).0 m).2;
+    }
+
+    pub told-cyclic : (p : List ℕ) → end p ≡ None → (rules_for given).begins p end ≡ false →
+        IsAmong (needed_at (rules_for given) given.request limit) p → IsToldCyclic report p
+    told-cyclic p none waits needed = record {
+      cyclic = told-of p needed Cyclic (ap (λ (o : Option Outcome). unwrap_or o Cyclic) none);
+      unbegun = λ m. both_ways _ waits ((is.begun p).0 m).2;
+    }
+
+    pub kept-report : (p : List ℕ) (r : Record) → record_at given.past.book p ≡ Some r → IsNeededFor given p →
+        listed_for given p ≡ None → IsToldKept given report p
+    kept-report p r at n none =
+        told-kept p (unlisted-kept s last given.request limit lawful good p r at (needs p n) none) n.needed
 
     pub stale-report : (p : List ℕ) (r : Record) → record_at given.past.book p ≡ Some r → IsNeededFor given p →
         (why : Reason) → listed_for given p ≡ Some (Stale why) → (end p ≡ None → ⊥) → IsAmong report.begun.items p
@@ -87,10 +133,14 @@ module _ (given : GivenView) where
         (is.begun p).1 (begun.needed, begun.ruled, begun.begins)
 
     pub ring-report : (p : List ℕ) (r : Record) → record_at given.past.book p ≡ Some r → IsNeededFor given p →
-        listed_for given p ≡ Some Ring → IsAmong report.begun.items p → ⊥
-    ring-report p r at n ring m =
+        listed_for given p ≡ Some Ring → IsToldCyclic report p
+    ring-report p r at n ring =
         let cyclic = ring-cyclic s last given.request limit lawful good p r at (needs p n) ring in
-        both_ways _ cyclic.1 ((is.begun p).0 m).2
+        told-cyclic p cyclic.0 cyclic.1 n.needed
+
+    pub begun-report : (p : List ℕ) (r : Record) → record_at given.past.book p ≡ Some r → IsNeededFor given p →
+        IsAmong report.begun.items p → (w : Word) × (listed_for given p ≡ Some w) × (may_begin w ≡ true)
+    begun-report p r at n m = begun-listed s last given.request limit lawful good p r at (needs p n) (begun-of p m)
 
     told-row : (rows : List Row) (b : Ask) (q : List ℕ) → All (λ row. b row.path ≡ Some row.outcome) rows →
         All (λ row. (row.outcome ≡ final_outcome (rules_for given) limit row.path) ×

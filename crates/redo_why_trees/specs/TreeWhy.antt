@@ -1,9 +1,13 @@
 -- Reasons and lists over a tree as it was read.
-use Rattle.std.specs.Prelude.{◌≡◌, ◌⊎◌, ◌≤◌, ℕ, false, List, Option, Some, All, length}
+use Rattle.std.specs.Prelude.{◌≡◌, ◌⊎◌, ◌≤◌, ℕ, false, List, Option, Some, All, Contains, length}
 use Rattle.redo_record.specs.Paths.{IsAmong, is_among}
+use Rattle.redo_record.specs.declared.outcome.Outcome.{Outcome}
+use Rattle.redo_record.specs.declared.outcome.Outcome.TheVariants.{Built, Cyclic}
+use Rattle.redo_tree.specs.Tree.{file_at}
 use Rattle.redo_build.specs.Rules.{Ask}
 use Rattle.redo_build.specs.Outcomes.{needed_at}
 use Rattle.redo_report.specs.declared.report.Report.{Report}
+use Rattle.redo_report.specs.declared.report.Row.{Row}
 use Rattle.redo_why.specs.Reasons.{Reason, reason_of}
 use Rattle.redo_why.specs.OutOfDate.{IsLeftAlone, Word, listed}
 use Rattle.redo_rules.specs.Build.{GivenView, last_run_of, plain_rules_for, rules_for, sources_for}
@@ -31,3 +35,22 @@ pub record IsHonestFor (given : GivenView) (p : List ℕ) : Type 0 where
 pub record IsNeededFor (given : GivenView) (p : List ℕ) : Type 0 where
   pub needed : IsAmong (needed_at (rules_for given) given.request given.limits.targets) p
   pub free : IsLeftAlone (sources_for given) (last_run_of given.past) given.request p ⊎ IsHonestFor given p
+
+-- What a report says of a target
+
+-- what became of it
+pub record IsTold (report : Report) (p : List ℕ) (became : Outcome) : Type 0 where
+  pub row : Row
+  pub there : Contains report.rows.items row
+  pub path : row.path ≡ p
+  pub outcome : row.outcome ≡ became
+
+-- it was kept: it counts as built with the file that the tree has, and its script wasn't begun
+pub record IsToldKept (given : GivenView) (report : Report) (p : List ℕ) : Type 0 where
+  pub built : IsTold report p (Built (file_at given.past.tree p))
+  pub unbegun : IsAmong report.begun.items p → ⊥
+
+-- it is cyclic, and its script wasn't begun
+pub record IsToldCyclic (report : Report) (p : List ℕ) : Type 0 where
+  pub cyclic : IsTold report p Cyclic
+  pub unbegun : IsAmong report.begun.items p → ⊥
