@@ -6,7 +6,7 @@ use Rattle.redo_book.specs.declared.book.BookEntry.{BookEntry}
 use Rattle.redo_book.specs.declared.book.BookEntry.TheVariants.{Change, Create, Always}
 use Rattle.redo_list.specs.declared.listed.Listed.{Listed}
 use Rattle.redo_list.specs.declared.listed.State.{State}
-use Rattle.redo_list.specs.declared.listed.State.TheVariants.{Stale, Maybe, Ring, Lost}
+use Rattle.redo_list.specs.declared.listed.State.TheVariants.{Stale, Maybe, Ring, Lost, New, Unknown}
 use Rattle.redo_dot.specs.Dot.{change_look, create_look, edge_line, graph_with, name_of}
 
 -- the look of a target's node, by its state
@@ -15,6 +15,8 @@ look_of_state Stale = codes " [shape=box color=black]"
 look_of_state Maybe = codes " [shape=box color=grey]"
 look_of_state Ring = codes " [shape=box color=orange]"
 look_of_state Lost = codes " [shape=box color=red]"
+look_of_state New = codes " [shape=box color=black]"
+look_of_state Unknown = codes " [shape=box color=red]"
 
 -- the edge of a recorded entry, if it leads to a listed target
 abbrev pub listed_edge : (List ℕ → Bool) → List ℕ → BookEntry → List ℕ

@@ -20,10 +20,10 @@ fn look_of_state(state: State) -> &'static [u8]
     ensures { result.now ≡ look_by state }
 {
     match state {
-        State::Stale => b" [shape=box color=black]",
+        State::Stale | State::New => b" [shape=box color=black]",
         State::Maybe => b" [shape=box color=grey]",
         State::Ring => b" [shape=box color=orange]",
-        State::Lost => b" [shape=box color=red]",
+        State::Lost | State::Unknown => b" [shape=box color=red]",
     }
 }
 

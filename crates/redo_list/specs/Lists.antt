@@ -20,6 +20,8 @@ state_word states.Stale = codes "stale"
 state_word states.Maybe = codes "maybe"
 state_word states.Ring = codes "ring"
 state_word states.Lost = codes "lost"
+state_word states.New = codes "new"
+state_word states.Unknown = codes "unknown"
 
 -- the line of a target
 abbrev pub line_of : ListedView → List ℕ

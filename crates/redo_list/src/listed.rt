@@ -16,6 +16,10 @@ pub enum State {
     Ring,
     /// No rule makes it any more.
     Lost,
+    /// It has a rule, and the book has no record of it.
+    New,
+    /// It is requested, and is neither a source nor a target.
+    Unknown,
 }
 
 impl State {
@@ -28,6 +32,8 @@ impl State {
             State::Maybe => "maybe",
             State::Ring => "ring",
             State::Lost => "lost",
+            State::New => "new",
+            State::Unknown => "unknown",
         }
     }
 }
