@@ -204,6 +204,12 @@ module _ (s : Sources) (k : Checks) (book : List Record) where
   items-length (e ∷ es) [] are = absurd are
   items-length (e ∷ es) (i ∷ is) are = ap suc (items-length es is are.1)
 
+  pub rows-long : (rs : List Record) (rows : List Row) → AreRows s k book rs rows → length rs ≡ length rows
+  rows-long [] [] are = refl
+  rows-long [] (row ∷ rows) are = absurd are
+  rows-long (r ∷ rs) [] are = absurd are
+  rows-long (r ∷ rs) (row ∷ rows) are = ap suc (rows-long rs rows are.1)
+
   pub rows-at : (rs : List Record) (rows : List Row) → AreRows s k book rs rows → (i : ℕ) (r : Record) →
       slice_get rs i ≡ Some r →
       (row : Row) × (slice_get rows i ≡ Some row) × AreItems s k book r.entries row.items.items

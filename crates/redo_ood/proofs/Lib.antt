@@ -1,6 +1,8 @@
+pub mod AskedLemmas
 pub mod GoneLemmas
 pub mod ItemLemmas
 pub mod ListedLemmas
+pub mod OrderLemmas
 pub mod RestingLemmas
 pub mod RingLemmas
 pub mod ScanLemmas

@@ -1,12 +1,13 @@
 -- What the code lists is what the definitions list.
-use Rattle.std.proofs.Common.{◌≡◌, ◌∙◌, ◌++◌, ℕ, Bool, true, false, inl, inr, List, [], ◌∷◌, Option, Some, None}
-use Rattle.std.proofs.Common.{refl, sym, ap, subst, filter}
-use Rattle.std.proofs.lemmas.Bool.{cases_Bool}
-use Rattle.std.specs.Prelude.{flat_map, if◌then◌else◌, is_some}
+use Rattle.std.proofs.Common.{◌≡◌, ◌∙◌, ℕ, Bool, true, false, List, [], ◌∷◌, Option, Some, None}
+use Rattle.std.proofs.Common.{◌<◌, refl, sym, ap, arith, length, map, slice_get, slice_index_or, subst}
+use Rattle.std.proofs.lemmas.List.{length-map}
+use Rattle.std.specs.Prelude.{if◌then◌else◌, is_some}
 use Rattle.redo_tree.specs.Tree.{Tree, file_at}
 use Rattle.redo_which.specs.Rule.{found_of, is_rule}
 use Rattle.redo_book.specs.declared.book.BookEntry.{BookEntry}
-use Rattle.redo_book.specs.Book.{Record}
+use Rattle.redo_book.specs.declared.book.BookRecord.{BookRecord}
+use Rattle.redo_book.specs.Book.{Record, record_of}
 use Rattle.redo_book.specs.Intact.{is_intact}
 use Rattle.redo_skip.specs.Sources.{Sources}
 use Rattle.redo_skip.specs.Checks.{Check, Checks}
@@ -16,10 +17,9 @@ use Rattle.redo_why.specs.OutOfDate.{drop_by, entry_path, first_drop, first_unsu
 use Rattle.redo_why.specs.Reasons.{Altered}
 use Rattle.redo_why.specs.Verdicts.{Verdict, Keeps, Begins, Either, Verdicts, Mark, Holds, Drops, Unsure, Waits}
 use Rattle.redo_why.specs.Verdicts.{mark, mark_checked, verdict, verdict_by}
-use Rattle.redo_ood.specs.Listing.{IsList, AreAskedAbout, first_waiting, listed_for, listed_if, verdicts_for, waits_by}
+use Rattle.redo_ood.specs.Listing.{first_waiting, listed_for, listed_if, verdicts_for, waits_by}
 use Rattle.redo_ood.specs.Listing.{word_of_entries}
-use Rattle.redo_list.specs.Lists.{ListedView}
-use Rattle.redo_ood.specs.inside.Lines.{HaveItems, Told, drop_in, listed_in, mark_in, open_by, open_in, told_in, listed_told}
+use Rattle.redo_ood.specs.inside.Lines.{Told, drop_in, mark_in, open_by, open_in, told_in, listed_told}
 use Rattle.redo_ood.specs.inside.Lines.{told_of, told_open}
 use Rattle.redo_ood.specs.inside.Rows.{AreItems, AreRows, IsAt, IsItem, told_as}
 use Rattle.redo_ood.specs.inside.Verdicts.{AreVerdicts, Known, in_table}
@@ -27,7 +27,8 @@ use Rattle.redo_ood.specs.declared.verdicts.RowItem.{RowItem}
 use Rattle.redo_ood.specs.declared.verdicts.RowItem.TheVariants as items
 use Rattle.redo_ood.specs.declared.verdicts.Verdict.{Verdict as CodeVerdict}
 use Rattle.redo_ood.specs.declared.verdicts.Row.{Row}
-use Rattle.redo_ood.proofs.ItemLemmas.{items-length}
+use Rattle.redo_ood.proofs.ItemLemmas.{rows-at, rows-long}
+use Rattle.redo_ood.proofs.ScanLemmas.{got, got-mapped}
 use Rattle.redo_ood.proofs.TableLemmas.{table-told}
 
 -- what the first entry that isn't known to hold tells: the verdict, the first that drops, the path of the first that is
@@ -103,13 +104,6 @@ module _ (s : Sources) (k : Checks) (book : List Record) (known : Known) (v : Ve
       ∙ listed-opened tree target (open_in known es is) (verdict s k v es) (first_drop s k v es) (first_unsure s k v es)
       (first_waiting s k v es) (opened es is are)
 
-pub have-items : (s : Sources) (k : Checks) (book rs : List Record) (rows : List Row) → AreRows s k book rs rows → HaveItems rs rows
-have-items s k book [] [] are = tt
-have-items s k book [] (row ∷ rows) are = absurd are
-have-items s k book (r ∷ rs) [] are = absurd are
-have-items s k book (r ∷ rs) (row ∷ rows) are =
-    (items-length s k book r.entries row.items.items are.0, have-items s k book rs rows are.1)
-
 module _ (given : GivenView) (rows : List Row) (table : List (Option CodeVerdict))
     (are : AreRows (sources_for given) (checks_for given) given.past.book given.past.book rows) (verdicts : AreVerdicts rows table) where
   abbrev s : Sources
@@ -118,7 +112,8 @@ module _ (given : GivenView) (rows : List Row) (table : List (Option CodeVerdict
   abbrev k : Checks
   k = checks_for given
 
-  record-told : (r : Record) (is : List RowItem) → AreItems s k given.past.book r.entries is →
+  -- what the code tells of a record is what is listed of it
+  pub record-told : (r : Record) (is : List RowItem) → AreItems s k given.past.book r.entries is →
       listed_told given.past.sources r.target (told_of given.past (in_table table) r is) ≡ listed_for given r
   record-told r is items =
       listed-tested given.past.sources r.target (first_waiting s k (verdicts_for given) r.entries)
@@ -129,24 +124,24 @@ module _ (given : GivenView) (rows : List Row) (table : List (Option CodeVerdict
       (λ j q c check at. table-told s (last_run_of given.past) given.request rows are table verdicts q c check j at)
       given.past.sources r.target r.entries is items)
 
-  listed-told : (asked : List ℕ → Bool) (rs : List Record) (ys : List Row) → AreRows s k given.past.book rs ys →
-      listed_in given.past (in_table table) asked rs ys ≡ flat_map (listed_for given) (filter (λ r. asked r.target) rs)
-  listed-told asked [] [] rs-are = refl
-  listed-told asked [] (y ∷ ys) rs-are = absurd rs-are
-  listed-told asked (r ∷ rs) [] rs-are = absurd rs-are
-  listed-told asked (r ∷ rs) (y ∷ ys) rs-are = elim (cases_Bool (asked r.target)) [
-    | inl t ↦
-        let head : listed_told given.past.sources r.target (told_of given.past (in_table table) r y.items.items) ≡ listed_for given r =
-        record-told r y.items.items rs-are.0 in
-        rw t (ap (λ l. l ++ listed_in given.past (in_table table) asked rs ys) head
-        ∙ ap (λ l. listed_for given r ++ l) (listed-told asked rs ys rs-are.1))
-    | inr f ↦ rw f (listed-told asked rs ys rs-are.1)
-  ]
+-- the record and the items with a number
+module _ (given : GivenView) (rows : List Row)
+    (are : AreRows (sources_for given) (checks_for given) given.past.book given.past.book rows) (rs : List BookRecord) (n : ℕ)
+    (made : BookRecord) (row : Row) (same : map record_of rs ≡ given.past.book) (below : n < length given.past.book)
+    (at : made ≡ slice_index_or rs n made) (there : row ≡ slice_index_or rows n row) where
+  pub numbered-record : slice_get given.past.book n ≡ Some (record_of made)
+  numbered-record =
+      let long : length rs ≡ length given.past.book = sym (length-map rs record_of) ∙ ap length same in
+      let within : n < length rs = omega (arith, long, below) in
+      sym (ap (λ b. slice_get b n) same) ∙ got-mapped record_of rs n made (got rs n made within at)
 
-  pub is-list : (asked : List ℕ → Bool) (listed : List ListedView) → AreAskedAbout given given.request asked →
-      listed ≡ listed_in given.past (in_table table) asked given.past.book rows → IsList given listed
-  is-list asked listed about told = record {
-    asked = asked;
-    are = about;
-    targets = told ∙ listed-told asked given.past.book rows are;
-  }
+  pub numbered-items : AreItems (sources_for given) (checks_for given) given.past.book made.entries.items row.items.items
+  numbered-items =
+      let long = rows-long (sources_for given) (checks_for given) given.past.book given.past.book rows are in
+      let within : n < length rows = omega (arith, long, below) in
+      let found = rows-at (sources_for given) (checks_for given) given.past.book given.past.book rows are n (record_of made)
+      numbered-record in
+      let both : Some found.0 ≡ Some row = sym found.1 ∙ got rows n row within there in
+      let one : found.0 ≡ row = cc in
+      subst (λ (y : Row). AreItems (sources_for given) (checks_for given) given.past.book made.entries.items y.items.items)
+      one found.2

@@ -1,17 +1,20 @@
--- What is listed of the targets that have a record, and why.
-use Rattle.std.specs.Prelude.{◌≡◌, ◌↔◌, ℕ, Bool, true, List, [], ◌∷◌, ◌++◌, Option, Some, None}
-use Rattle.std.specs.Prelude.{codes, filter, flat_map, if◌then◌else◌}
-use Rattle.redo_names.specs.Paths.{IsAmong}
+-- What is listed, and why: of the targets that have a record, and of paths that have none.
+use Rattle.std.specs.Prelude.{◌≡◌, ◌↔◌, ℕ, true, List, [], ◌∷◌, ◌++◌, Option, Some, None}
+use Rattle.std.specs.Prelude.{codes, flat_map, if◌then◌else◌}
+use Rattle.std.specs.Cmp.Lexicographic.{slice_cmp}
+use Rattle.std.specs.List.Sorted.{IsStrictlySortedBy}
+use Rattle.std.specs.Ordering.{nat_cmp}
+use Rattle.redo_names.specs.Paths.{IsAmong, is_among}
 use Rattle.redo_tree.specs.Tree.{Tree}
 use Rattle.redo_which.specs.Rule.{found_of}
 use Rattle.redo_book.specs.declared.book.BookEntry.{BookEntry}
 use Rattle.redo_book.specs.declared.book.BookEntry.TheVariants.{Change, Create, Always}
-use Rattle.redo_book.specs.Book.{Record, record_at}
+use Rattle.redo_book.specs.Book.{Record, record_at, targets_of}
 use Rattle.redo_book.specs.Intact.{is_intact}
 use Rattle.redo_skip.specs.Checks.{Checks}
 use Rattle.redo_skip.specs.NewBook.{LastRun, checks_of}
 use Rattle.redo_skip.specs.Sources.{Sources}
-use Rattle.redo_why.specs.Reasons.{Altered}
+use Rattle.redo_why.specs.Reasons.{Altered, Unrecorded}
 use Rattle.redo_explain.specs.Words.{reason_words}
 use Rattle.redo_why.specs.Verdicts.{Verdicts, Mark, Holds, Drops, Unsure, Waits, mark, verdict}
 use Rattle.redo_why.specs.OutOfDate.{Word, Stale, Maybe, Ring, Lost, entry_path, first_drop, first_unsure, word_by}
@@ -58,11 +61,14 @@ why_words tree waited (Maybe on) = on ++ codes " may come out otherwise"
 why_words tree waited Ring = codes "it waits for " ++ waited ++ codes ", which waits for itself or a ring"
 why_words tree waited Lost = codes "no rule makes it any more"
 
+-- a path, in this state and for this reason
+abbrev pub as_listed : List ℕ → State → List ℕ → List ListedView
+as_listed path state why = record { target = path; state = state; why = why } ∷ []
+
 -- nothing, or the target
 abbrev pub listed_if : Tree → List ℕ → List ℕ → Option Word → List ListedView
 listed_if tree target waited None = []
-listed_if tree target waited (Some word) =
-    record { target = target; state = state_by word; why = why_words tree waited word } ∷ []
+listed_if tree target waited (Some word) = as_listed target (state_by word) (why_words tree waited word)
 
 -- the path of an entry if it waits, else what the further ones have
 abbrev pub waits_by : BookEntry → Mark → List ℕ → List ℕ
@@ -115,13 +121,36 @@ pub data RestsOn (given : GivenView) : List ℕ → Type 0 where
       (sources_for given).has_rule path ≡ true → record_at given.past.book path ≡ Some r →
       IsAmong (flat_map changed r.entries) on → RestsOn given on
 
--- these are the targets that a run is asked about: all, where nothing is requested; else those that the request rests on
-abbrev pub AreAskedAbout : GivenView → List (List ℕ) → (List ℕ → Bool) → Type 0
-AreAskedAbout given [] asked = (path : List ℕ) → asked path ≡ true
-AreAskedAbout given (q ∷ qs) asked = (path : List ℕ) → (asked path ≡ true) ↔ RestsOn given path
+-- of a path without a record: nothing of a source; what has a rule is new; what has neither is unknown, if it is requested
+abbrev pub unrecorded : GivenView → List ℕ → List ListedView
+unrecorded given path =
+    if (sources_for given).is_source path then []
+    else if (sources_for given).has_rule path
+    then as_listed path states.New (reason_words (found_of given.past.sources) Unrecorded)
+    else if is_among given.request path then as_listed path states.Unknown (codes "it is no file, and no rule makes it")
+    else []
 
--- the list: what is listed of the records whose targets the run is asked about, in path order
+-- of a path, by its record, if it has one
+abbrev pub listed_by : GivenView → List ℕ → Option Record → List ListedView
+listed_by given path None = unrecorded given path
+listed_by given path (Some r) = listed_for given r
+
+-- of a path
+abbrev pub listed_at : GivenView → List ℕ → List ListedView
+listed_at given path = listed_by given path (record_at given.past.book path)
+
+-- the run is asked about a path: a target of the book, where nothing is requested; else what the request rests on
+abbrev pub IsAskedAbout : GivenView → List (List ℕ) → List ℕ → Type 0
+IsAskedAbout given [] path = IsAmong (targets_of given.past.book) path
+IsAskedAbout given (q ∷ qs) path = RestsOn given path
+
+-- these are the paths that the run is asked about, in path order
+pub record AreAskedAbout (given : GivenView) (asked : List (List ℕ)) : Type 0 where
+  pub each : (path : List ℕ) → IsAmong asked path ↔ IsAskedAbout given given.request path
+  pub ordered : IsStrictlySortedBy (slice_cmp nat_cmp) asked
+
+-- the list: what is listed of the paths that the run is asked about, in path order
 pub record IsList (given : GivenView) (listed : List ListedView) : Type 0 where
-  pub asked : List ℕ → Bool
-  pub are : AreAskedAbout given given.request asked
-  pub targets : listed ≡ flat_map (listed_for given) (filter (λ r. asked r.target) given.past.book)
+  pub asked : List (List ℕ)
+  pub about : AreAskedAbout given asked
+  pub targets : listed ≡ flat_map (listed_at given) asked

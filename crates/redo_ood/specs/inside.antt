@@ -1,5 +1,6 @@
 pub mod Items
 pub mod Lines
+pub mod Outlooks
 pub mod Resting
 pub mod Rows
 pub mod Verdicts

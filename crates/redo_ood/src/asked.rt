@@ -1,10 +1,13 @@
-//! Which targets a run is asked about.
+//! Which paths a run is asked about.
 
 ghost use Rattle.std.specs.Prelude.{◌≡◌, ◌↔◌, IfOk, List, OnOk, ℕ, flat_map, true};
-ghost use Rattle.redo_names.specs.Paths.{is_among};
+ghost use Rattle.std.specs.Cmp.Lexicographic.{slice_cmp};
+ghost use Rattle.std.specs.List.Sorted.{IsStrictlySortedBy};
+ghost use Rattle.std.specs.Ordering.{nat_cmp};
+ghost use Rattle.redo_names.specs.Paths.{IsAmong, is_among};
+ghost use Rattle.redo_book.specs.Book.{IsBook, targets_of};
 ghost use Rattle.redo_step.specs.Limits.{LimitsView};
 ghost use Rattle.redo_ood.specs.Listing.{AreAskedAbout, RestsOn, changed, run_over};
-ghost use Rattle.redo_ood.specs.inside.Lines.{asks};
 ghost use Rattle.redo_ood.specs.inside.Resting.{IsGrown, changes_in};
 
 use crate::items::has_rule;
@@ -13,27 +16,6 @@ use redo_names::PathSet;
 use redo_past::Past;
 use redo_path::Path;
 use std::alloc::{AllocError, Global};
-
-/// Which targets a run is asked about.
-#[derive(Drop)]
-pub(crate) enum Asked {
-    /// All of the book.
-    All,
-    /// Those among these paths.
-    These(PathSet),
-}
-
-impl Asked {
-    /// Whether it is asked about a target.
-    pub(crate) fn has(&self, target: &Path) -> bool
-        ensures { result ≡ asks self.now target.now }
-    {
-        match self {
-            Asked::All => true,
-            Asked::These(paths) => paths.contains(target),
-        }
-    }
-}
 
 /// Adds the path of a `change`.
 fn add_path(found: &mut PathSet, entry: &BookEntry) -> Result<(), AllocError>
@@ -91,13 +73,42 @@ fn resting(alloc: Global, past: &Past, request: &[Path]) -> Result<PathSet, Allo
     Err(AllocError)
 }
 
-/// Which targets a run is asked about that requests these paths.
-pub(crate) fn asked_about(alloc: Global, past: &Past, request: &[Path]) -> Result<Asked, AllocError>
+/// The paths of a set, in their order.
+fn in_order(set: PathSet) -> Vec<Path>
+    ensures among { (p : List ℕ) → IsAmong result.items p ↔ IsAmong set p }
+    ensures ordered { IsStrictlySortedBy (slice_cmp nat_cmp) result.items }
+{
+    set.each_once();
+    let mut paths = set.into_paths();
+    paths.sort_unstable();
+    paths
+}
+
+/// The targets of a book, in path order.
+fn targets(alloc: Global, past: &Past) -> Result<Vec<Path>, AllocError>
+    ensures { IfOk result (λ paths. (paths.items ≡ targets_of past.now.book) × IsBook past.now.book) }
+{
+    let records = past.book().records();
+    let mut paths = Vec::with_capacity(alloc, records.len())?;
+    for made in records {
+        let target = made.target.clone()?;
+        paths.push(target)?;
+    }
+    Ok(paths)
+}
+
+/// The paths that a run is asked about that requests these paths, in path order.
+pub(crate) fn asked_about(
+    alloc: Global,
+    past: &Past,
+    request: &[Path],
+) -> Result<Vec<Path>, AllocError>
     ensures { IfOk result (λ asked. (limits : LimitsView) →
-        AreAskedAbout (run_over past.now request.now limits) request.now (asks asked)) }
+        AreAskedAbout (run_over past.now request.now limits) asked.items) }
 {
     if request.is_empty() {
-        return Ok(Asked::All);
+        Ok(targets(alloc, past)?)
+    } else {
+        Ok(in_order(resting(alloc, past, request)?))
     }
-    Ok(Asked::These(resting(alloc, past, request)?))
 }

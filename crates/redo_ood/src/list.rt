@@ -1,15 +1,15 @@
 //! The list of what is out of date.
 
-ghost use Rattle.std.specs.Prelude.{◌≡◌, IfOk, map};
+ghost use Rattle.std.specs.Prelude.{◌≡◌, ◌<◌, ◌++◌, IfOk, OnOk, Some, flat_map, length, map, slice_get};
+ghost use Rattle.redo_book.specs.Book.{Record};
 ghost use Rattle.redo_list.specs.Lists.{listed_view};
 ghost use Rattle.redo_step.specs.Limits.{LimitsView};
-ghost use Rattle.redo_ood.specs.Listing.{IsList, run_over};
-ghost use Rattle.redo_ood.specs.inside.Lines.{HaveItems, asks, listed_in};
-ghost use Rattle.redo_ood.specs.inside.Verdicts.{in_table};
+ghost use Rattle.redo_ood.specs.Listing.{IsList, listed_at, listed_for, run_over};
+ghost use Rattle.redo_ood.specs.inside.Outlooks.{AreKnown, InEachRun};
 
-use crate::asked::{Asked, asked_about};
+use crate::asked::asked_about;
 use crate::items::rows_of;
-use crate::told::push_told;
+use crate::told::{push_told, push_unrecorded};
 use crate::verdicts::{Row, Verdict, verdicts};
 use crate::words::word_of;
 use redo_list::Listed;
@@ -18,35 +18,78 @@ use redo_past::Past;
 use redo_path::Path;
 use std::alloc::{AllocError, Global};
 
-/// What is listed of the targets that a run is asked about.
-fn list_of(
+/// What is known of a run before any script is begun: the past that it goes on from, what it requests, and the rows and
+/// verdicts of the book.
+#[derive(Clone, Copy)]
+struct Outlook<'a> {
+    past: &'a Past,
+    requested: &'a PathSet,
+    rows: &'a [Row],
+    table: &'a [Option<Verdict>],
+}
+
+/// Adds the target of the record with this number, if it is listed.
+fn push_recorded(
     alloc: Global,
-    past: &Past,
-    rows: &[Row],
-    table: &[Option<Verdict>],
-    asked: &Asked,
-) -> Result<Vec<Listed>, AllocError>
-    requires { HaveItems past.now.book rows.now }
-    ensures { IfOk result (λ listed. map listed_view listed.items ≡
-        listed_in past.now (in_table table.now) (asks asked.now) past.now.book rows.now) }
+    listed: &mut Vec<Listed>,
+    outlook: &Outlook<'_>,
+    number: usize,
+) -> Result<(), AllocError>
+    requires known { AreKnown outlook.now }
+    requires number { number < length outlook.now.past.now.book }
+    ensures { OnOk result (InEachRun outlook.now.past.now outlook.now.requested.now (λ given. (r : Record) →
+        slice_get given.past.book number ≡ Some r → map listed_view listed.new.items ≡
+        map listed_view listed.old.items ++ listed_for given r)) }
 {
-    let records = past.book().records();
+    let made = &outlook.past.book().records()[number];
+    let items = &outlook.rows[number].items;
+    let word = word_of(alloc, outlook.past, made, items, outlook.table)?;
+    push_told(alloc, listed, outlook.past.sources(), &made.target, word)?;
+    Ok(())
+}
+
+/// Adds a path, if it is listed.
+fn push_path(
+    alloc: Global,
+    listed: &mut Vec<Listed>,
+    outlook: &Outlook<'_>,
+    path: &Path,
+) -> Result<(), AllocError>
+    requires { AreKnown outlook.now }
+    ensures { OnOk result (InEachRun outlook.now.past.now outlook.now.requested.now (λ given.
+        map listed_view listed.new.items ≡ map listed_view listed.old.items ++ listed_at given path.now)) }
+{
+    match outlook.past.book().number_of(path) {
+        Some(number) => push_recorded(alloc, listed, outlook, number)?,
+        None => push_unrecorded(
+            alloc,
+            listed,
+            outlook.past.sources(),
+            outlook.requested,
+            path,
+        )?,
+    }
+    Ok(())
+}
+
+/// What is listed of these paths.
+fn list_of(alloc: Global, outlook: &Outlook<'_>, asked: &[Path]) -> Result<Vec<Listed>, AllocError>
+    requires { AreKnown outlook.now }
+    ensures { IfOk result (λ listed. InEachRun outlook.now.past.now outlook.now.requested.now (λ given.
+        map listed_view listed.items ≡ flat_map (listed_at given) asked.now)) }
+{
     let mut listed = Vec::new(alloc);
-    for number in 0..records.len() {
-        let made = &records[number];
-        if asked.has(&made.target) {
-            let word = word_of(alloc, past, made, &rows[number].items, table)?;
-            push_told(alloc, &mut listed, past.sources(), &made.target, word)?;
-        }
+    for path in asked {
+        push_path(alloc, &mut listed, outlook, path)?;
     }
     Ok(listed)
 }
 
-/// Lists the targets of the book that the next run begins if it needs them, or may, and those that can't be made, in path
-/// order; nothing if all are up to date. Without a request it tells of every run and of all targets, each of which is
-/// taken not to be requested. With a request it tells of the run that requests these paths, and of what they rest on by
-/// the records: a requested target is listed by its own record, as any other, though the run begins it in any case, and
-/// what rests on one may come out otherwise.
+/// Lists the targets that the next run begins if it needs them, or may, and those that can't be made, in path order;
+/// nothing if all are up to date. Without a request it tells of every run and of all targets of the book, each of which is
+/// taken not to be requested. With a request it tells of the run that requests these paths, of these paths and of what
+/// they rest on by the records: a requested target is listed by its own record, as any other, though the run begins it in
+/// any case, and what rests on one may come out otherwise; and what has no record is listed, too.
 pub fn out_of_date(alloc: Global, past: &Past, request: &[Path]) -> Result<Vec<Listed>, AllocError>
     ensures { IfOk result (λ listed. (limits : LimitsView) →
         IsList (run_over past.now request.now limits) (map listed_view listed.items)) }
@@ -55,5 +98,12 @@ pub fn out_of_date(alloc: Global, past: &Past, request: &[Path]) -> Result<Vec<L
     let rows = rows_of(alloc, past, &requested)?;
     let table = verdicts(alloc, &rows)?;
     let asked = asked_about(alloc, past, request)?;
-    list_of(alloc, past, &rows, &table, &asked)
+    let outlook = Outlook {
+        past,
+        requested: &requested,
+        rows: &rows,
+        table: &table,
+    };
+    let listed = list_of(alloc, &outlook, &asked)?;
+    Ok(listed)
 }

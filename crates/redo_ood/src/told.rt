@@ -1,13 +1,15 @@
-//! What is told of a record, as a list has it.
+//! What is told of a record, or of a path without one, as a list has it.
 
 ghost use Rattle.std.specs.Prelude.{◌≡◌, ◌++◌, OnOk, map, option_map};
 ghost use Rattle.redo_list.specs.Lists.{listed_view};
-ghost use Rattle.redo_ood.specs.Listing.{state_by};
-ghost use Rattle.redo_ood.specs.inside.Lines.{listed_told, word_as};
+ghost use Rattle.redo_ood.specs.Listing.{as_listed, state_by};
+ghost use Rattle.redo_ood.specs.inside.Lines.{listed_told, unrecorded_in, word_as};
 
+use crate::items::has_rule;
 use crate::whys::why_text;
 use crate::words::Word;
 use redo_list::{Listed, State};
+use redo_names::PathSet;
 use redo_path::Path;
 use redo_tree::Tree;
 use std::alloc::{AllocError, Global};
@@ -44,5 +46,62 @@ pub(crate) fn push_told(
         state: state_of(word),
         why,
     })?;
+    Ok(())
+}
+
+/// Adds a path, with its state and why it is listed.
+fn push_listed(
+    alloc: Global,
+    listed: &mut Vec<Listed>,
+    path: &Path,
+    state: State,
+    words: &[u8],
+) -> Result<(), AllocError>
+    ensures { OnOk result (map listed_view listed.new.items ≡
+        map listed_view listed.old.items ++ as_listed path.now state words.now) }
+{
+    let mut why = Vec::new(alloc);
+    why.extend_from_slice(words)?;
+    listed.push(Listed {
+        target: path.clone()?,
+        state,
+        why,
+    })?;
+    Ok(())
+}
+
+/// Adds a path without a record, if it is listed, in a run that requests these paths.
+pub(crate) fn push_unrecorded(
+    alloc: Global,
+    listed: &mut Vec<Listed>,
+    sources: &Tree,
+    requested: &PathSet,
+    path: &Path,
+) -> Result<(), AllocError>
+    ensures { OnOk result (map listed_view listed.new.items ≡
+        map listed_view listed.old.items ++ unrecorded_in sources.now requested.now path.now) }
+{
+    if sources.content(path).is_some() {
+        return Ok(());
+    }
+    if has_rule(alloc, sources, path)? {
+        push_listed(
+            alloc,
+            listed,
+            path,
+            State::New,
+            b"the book has no record of it",
+        )?;
+        return Ok(());
+    }
+    if requested.contains(path) {
+        push_listed(
+            alloc,
+            listed,
+            path,
+            State::Unknown,
+            b"it is no file, and no rule makes it",
+        )?;
+    }
     Ok(())
 }

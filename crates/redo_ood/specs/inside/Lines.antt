@@ -1,6 +1,6 @@
 -- What is told of a record by its items, under a table of verdicts.
-use Rattle.std.specs.Prelude.{◌≡◌, ℕ, Bool, true, false, List, [], ◌∷◌, ◌++◌, Option, Some, None}
-use Rattle.std.specs.Prelude.{if◌then◌else◌, is_some, length}
+use Rattle.std.specs.Prelude.{ℕ, Bool, true, false, List, [], ◌∷◌, ◌++◌, Option, Some, None}
+use Rattle.std.specs.Prelude.{codes, if◌then◌else◌, is_some}
 use Rattle.redo_names.specs.Paths.{is_among}
 use Rattle.redo_tree.specs.Tree.{Tree, file_at}
 use Rattle.redo_which.specs.Rule.{found_of, is_rule}
@@ -12,15 +12,13 @@ use Rattle.redo_why.specs.OutOfDate.{entry_path}
 use Rattle.redo_why.specs.OutOfDate as why
 use Rattle.redo_why.specs.Reasons.{Altered, Fallen}
 use Rattle.redo_why.specs.Verdicts.{Mark, Holds, Drops, Unsure, Waits, mark_checked}
-use Rattle.redo_ood.specs.Listing.{listed_if}
+use Rattle.redo_ood.specs.Listing.{as_listed, listed_if}
 use Rattle.redo_list.specs.Lists.{ListedView}
+use Rattle.redo_list.specs.declared.listed.State.TheVariants as states
 use Rattle.redo_ood.specs.inside.Rows.{told_as}
 use Rattle.redo_ood.specs.inside.Verdicts.{Known}
 use Rattle.redo_ood.specs.declared.verdicts.RowItem.{RowItem}
 use Rattle.redo_ood.specs.declared.verdicts.RowItem.TheVariants as items
-use Rattle.redo_ood.specs.declared.verdicts.Row.{Row}
-use Rattle.redo_ood.specs.declared.asked.Asked.{Asked}
-use Rattle.redo_ood.specs.declared.asked.Asked.TheVariants as askeds
 use Rattle.redo_ood.specs.declared.whys.Why.{Why}
 use Rattle.redo_ood.specs.declared.words.Mark.{Mark as CodeMark}
 use Rattle.redo_ood.specs.declared.words.Mark.TheVariants as marks
@@ -121,22 +119,10 @@ abbrev pub listed_told : Tree → List ℕ → Option Told → List ListedView
 listed_told tree target None = []
 listed_told tree target (Some told) = listed_if tree target told.1 (Some told.0)
 
--- each record has as many items as entries
-abbrev pub HaveItems : List Record → List Row → Type 0
-HaveItems [] [] = Unit {0}
-HaveItems [] (row ∷ rows) = ⊥
-HaveItems (r ∷ rs) [] = ⊥
-HaveItems (r ∷ rs) (row ∷ rows) = (length r.entries ≡ length row.items.items) × HaveItems rs rows
-
--- a path is one of those that are asked about
-abbrev pub asks : Asked → List ℕ → Bool
-asks askeds.All path = true
-asks (askeds.These paths) path = is_among paths path
-
--- what is listed of records that are asked about
-abbrev pub listed_in : PastView → Known → (List ℕ → Bool) → List Record → List Row → List ListedView
-listed_in past v asked [] rows = []
-listed_in past v asked (r ∷ rs) [] = []
-listed_in past v asked (r ∷ rs) (row ∷ rows) =
-    (if asked r.target then listed_told past.sources r.target (told_of past v r row.items.items) else [])
-    ++ listed_in past v asked rs rows
+-- what is listed of a path without a record, by the sources and by what is requested
+abbrev pub unrecorded_in : Tree → List (List ℕ) → List ℕ → List ListedView
+unrecorded_in sources requested path =
+    if is_some (file_at sources path) then []
+    else if is_rule (found_of sources path) then as_listed path states.New (codes "the book has no record of it")
+    else if is_among requested path then as_listed path states.Unknown (codes "it is no file, and no rule makes it")
+    else []

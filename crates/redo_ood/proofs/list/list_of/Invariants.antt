@@ -1,12 +1,12 @@
-use Rattle.std.proofs.Common.{◌≡◌, ◌++◌, drop, map}
-use Rattle.redo_book.specs.Book.{record_of}
+use Rattle.std.proofs.Common.{◌≡◌, map, take}
+use Rattle.std.specs.Prelude.{flat_map}
 use Rattle.redo_list.specs.Lists.{listed_view}
-use Rattle.redo_ood.specs.inside.Lines.{asks, listed_in}
-use Rattle.redo_ood.specs.inside.Verdicts.{in_table}
+use Rattle.redo_ood.specs.Listing.{listed_at}
+use Rattle.redo_ood.specs.inside.Outlooks.{InEachRun}
 use Rattle.redo_ood.proofs.list.list_of.Given as goal
 
--- what is listed so far, with what is left, is all
-abbrev pub invariant-loop-number : goal.invariant-loop-number
-invariant-loop-number l =
-    map listed_view l.listed.items ++ listed_in l.past (in_table l.table) (asks l.asked) (map record_of (drop l.number l.records)) (drop l.number l.rows)
-    ≡ listed_in l.past (in_table l.table) (asks l.asked) l.past.book l.rows
+-- what is listed of the paths so far
+abbrev pub invariant-loop-path : goal.invariant-loop-path
+invariant-loop-path l =
+    InEachRun l.outlook.past.now l.outlook.requested.now (λ given.
+    map listed_view l.listed.items ≡ flat_map (listed_at given) (take l.path-index l.asked))
