@@ -1,8 +1,12 @@
 pub mod AskedLemmas
+pub mod ForeseenLemmas
 pub mod GoneLemmas
+pub mod HonestListLemmas
 pub mod ItemLemmas
+pub mod ListLemmas
 pub mod ListedLemmas
 pub mod OrderLemmas
+pub mod ReportLemmas
 pub mod RestingLemmas
 pub mod RingLemmas
 pub mod ScanLemmas

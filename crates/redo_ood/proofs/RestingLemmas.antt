@@ -86,7 +86,7 @@ changes-more es i e below is =
 
 module _ (given : GivenView) where
   -- by its record a path that is rested on leads to others
-  through : (p : List ℕ) → RestsOn given p → (q : List ℕ) → IsAmong (changes_in given.past p) q → RestsOn given q
+  pub through : (p : List ℕ) → RestsOn given p → (q : List ℕ) → IsAmong (changes_in given.past p) q → RestsOn given q
   through p on q m = elim (cases_Bool (is_rule (found_of given.past.sources p))) [
     | inr f ↦ let none : IsAmong [] q = rw f at m in absurd none
     | inl t ↦

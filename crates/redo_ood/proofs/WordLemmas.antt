@@ -24,14 +24,14 @@ module _ (s : Sources) (last : LastRun) (request : List (List ℕ)) where
       ∙ book-still s last request r.target
 
   module _ (r : Record) (other : s.is_source r.target ≡ false) where
-    lost-word : s.has_rule r.target ≡ false → word_with s last request r ≡ Some Lost
+    pub lost-word : s.has_rule r.target ≡ false → word_with s last request r ≡ Some Lost
     lost-word none = rw (other, none) refl
 
-    altered-word : s.has_rule r.target ≡ true → is_intact last.file r ≡ false →
+    pub altered-word : s.has_rule r.target ≡ true → is_intact last.file r ≡ false →
         word_with s last request r ≡ Some (Stale Altered)
     altered-word rule altered = rw (other, rule, altered) refl
 
-    entries-word : s.has_rule r.target ≡ true → is_intact last.file r ≡ true →
+    pub entries-word : s.has_rule r.target ≡ true → is_intact last.file r ≡ true →
         word_with s last request r
         ≡ word_of_entries s (checks_of s last request) (verdict_with s last request) r.entries
     entries-word rule intact = rw (other, rule, intact) refl

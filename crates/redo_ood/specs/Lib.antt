@@ -1,2 +1,3 @@
+pub mod Foreseen
 pub mod Listing
 pub mod inside

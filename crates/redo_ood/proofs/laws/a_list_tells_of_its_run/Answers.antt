@@ -1,36 +1,28 @@
-use Rattle.std.proofs.Common.{◌≡◌, ◌∙◌, ap, inl, inr, sym, true, false, Some}
-use Rattle.redo_build.proofs.DepthLemmas.{cases_Option}
-use Rattle.redo_ood.specs.Listing.{word_with}
-use Rattle.redo_ood.proofs.WordLemmas.{keeps-by, may-words, never-lost, ring-by}
+use Rattle.redo_rules.specs.Build.{last_run_of, sources_for}
+use Rattle.redo_rules.proofs.Public.{rules_lawful, trees-good}
+use Rattle.redo_ood.proofs.ForeseenLemmas.{needed-known}
+use Rattle.redo_ood.proofs.ReportLemmas.{all-begun, rests-kept, ring-told}
 use Rattle.redo_ood.proofs.laws.a_list_tells_of_its_run.Goals as goal
 
-pub returns-clause-kept : goal.returns-clause-kept
-returns-clause-kept c = λ s last request limit lawful good few r in_check needed other none.
-    c.verdicts_tell_of_this_run.ensures.keeps s last request limit lawful good few r.target r in_check needed
-    (keeps-by s last request r other in_check none)
+pub returns-clause-known : goal.returns-clause-known
+returns-clause-known c = λ given report is p needed. needed-known given is.within p needed
 
 pub returns-clause-begun : goal.returns-clause-begun
-returns-clause-begun c = λ s last request limit lawful good few r in_check needed other begun.
-    elim (cases_Option (word_with s last request r)) [
-      | inl none ↦
-          let kept = c.verdicts_tell_of_this_run.ensures.keeps s last request limit lawful good few r.target r in_check needed
-          (keeps-by s last request r other in_check none) in
-          let bad : true ≡ false = sym begun.begins ∙ kept.waits in
-          absurd cc
-      | inr some ↦ (
-        some.0,
-        some.1,
-        may-words some.0
-            (λ ring.
-            let waits = c.verdicts_tell_of_this_run.ensures.waits s last request limit lawful good few r.target r in_check needed
-            (ring-by s last request r other in_check (some.1 ∙ ap Some ring)) in
-            let bad : true ≡ false = sym begun.begins ∙ waits.1 in
-            absurd cc)
-            (λ lost. never-lost s last request r other in_check (some.1 ∙ ap Some lost)),
-      )
-    ]
+returns-clause-begun c = λ given report listed is list p m.
+    all-begun given report is listed list
+    (c.a_word_tells_of_its_run.ensures.begun (sources_for given) (last_run_of given.past) given.request given.limits.targets
+    (rules_lawful given.past.sources given.limits) (trees-good given.past.sources given.limits) is.within) p m
+
+pub returns-clause-kept : goal.returns-clause-kept
+returns-clause-kept c = λ given report listed is list p needed on rule free unlisted.
+    rests-kept given report is listed list
+    (c.a_word_tells_of_its_run.ensures.kept (sources_for given) (last_run_of given.past) given.request given.limits.targets
+    (rules_lawful given.past.sources given.limits) (trees-good given.past.sources given.limits) is.within)
+    p needed on rule free unlisted
 
 pub returns-clause-ring : goal.returns-clause-ring
-returns-clause-ring c = λ s last request limit lawful good few r in_check needed other ring.
-    c.verdicts_tell_of_this_run.ensures.waits s last request limit lawful good few r.target r in_check needed
-    (ring-by s last request r other in_check ring)
+returns-clause-ring c = λ given report listed is list p needed free m.
+    ring-told given report is listed list
+    (c.a_word_tells_of_its_run.ensures.ring (sources_for given) (last_run_of given.past) given.request given.limits.targets
+    (rules_lawful given.past.sources given.limits) (trees-good given.past.sources given.limits) is.within)
+    p needed free m
