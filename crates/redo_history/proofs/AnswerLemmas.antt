@@ -13,7 +13,7 @@ use Rattle.redo_tree.specs.Tree.{Tree, file_at}
 use Rattle.redo_which.specs.Candidates.{book_path}
 use Rattle.redo_run.specs.declared.run_fault.RunFault.{RunFault}
 use Rattle.redo_run.specs.declared.run_fault.RunFault.TheVariants.{Book, TooMany, Memory}
-use Rattle.redo_history.specs.Answers.{AreSameAnswers, AreSameReports, MayAnswer}
+use Rattle.redo_history.specs.Answers.{AreSameAnswers, AreSameReports, MayAnswer, without_ledger}
 use Rattle.redo_history.proofs.ReportLemmas.{OnePast, one-given}
 
 -- what the laws of books say
@@ -55,6 +55,22 @@ module _ (tree : Tree) (request : List (List ℕ)) (limits : LimitsView) where
   may-answer (Err (Book n)) is refused many = refused n refl
   may-answer (Err TooMany) is refused many = many refl
   may-answer (Err Memory) is refused many = tt
+
+  -- and of one with a ledger
+  may-ledger : {L : Type 0} (a : Result (Report × L) RunFault) → IfOk a (λ r. IsResultOn tree request limits r.0) →
+      ((n : ℕ) → a ≡ Err (Book n) → IsRefused tree n) → (a ≡ Err TooMany → NeedsTooMany tree request limits) →
+      MayAnswer tree request limits (without_ledger a)
+  may-ledger (Ok made) is refused many = is
+  may-ledger (Err (Book n)) is refused many = refused n refl
+  may-ledger (Err TooMany) is refused many = many refl
+  may-ledger (Err Memory) is refused many = tt
+
+  -- of an equal tree, too
+  pub may-many : {L : Type 0} (other : Tree) → tree ≡ other → (a : Result (Report × L) RunFault) →
+      IfOk a (λ r. IsResultOn tree request limits r.0) → ((n : ℕ) → a ≡ Err (Book n) → IsRefused tree n) →
+      (a ≡ Err TooMany → NeedsTooMany tree request limits) → MayAnswer other request limits (without_ledger a)
+  may-many other same a is refused many =
+      subst (λ (t : Tree). MayAnswer t request limits (without_ledger a)) same (may-ledger a is refused many)
 
   module _ (same : (one other : Report) → IsResultOn tree request limits one → IsResultOn tree request limits other →
       AreSameReports one other) (no_fault : NoFault) (one_fault : OneFault) (one_past : OnePast) where

@@ -32,3 +32,8 @@ AreSameAnswers (Err TooMany) (Err TooMany) = Unit {0}
 AreSameAnswers (Err Memory) other = Unit {0}
 AreSameAnswers one (Err Memory) = Unit {0}
 AreSameAnswers one other = ⊥
+
+-- what a build by many answers, without its ledger
+abbrev pub without_ledger : {L : Type 0} → Result (Report × L) RunFault → Result Report RunFault
+without_ledger (Ok made) = Ok made.0
+without_ledger (Err fault) = Err fault
