@@ -13,6 +13,7 @@ ghost use Rattle.redo_run.specs.declared.options.Options.{Options};
 ghost use Rattle.redo_run.specs.declared.run_fault.RunFault.{RunFault};
 ghost use Rattle.redo_history.specs.Answers.{AreSameAnswers, AreSameReports, MayAnswer};
 ghost use Rattle.redo_history.specs.Histories.{HasBookOf, HasRecordsOf, IsAfter, IsPlainOn, NoneConfused, Run};
+ghost use Rattle.redo_history.specs.SmallHistory.{IsSmallHistory};
 ghost use Rattle.redo_run.specs.Skipping.{Agrees};
 ghost use Rattle.redo_step.specs.Limits.{LimitsView};
 ghost use Rattle.redo_tree.specs.Tree.{Tree};
@@ -104,3 +105,11 @@ pub fn recovered_books_are_of_runs()
 {
     a_text_has_one_book();
 }
+
+/// What these laws ask for can be met. In a small history a first run builds `all`, which depends on `head` and `text`. Its
+/// files are stored, and somebody writes `text` a rule of its own. The next run begins `all`, which is requested, and
+/// `text`, since its record told that there is no such rule, and keeps `head`; the build of the sources alone begins all
+/// three.
+pub fn small_histories_are_met()
+    ensures { (first : Report) × (next : Report) × (plain : Report) × IsSmallHistory first next plain }
+{}
