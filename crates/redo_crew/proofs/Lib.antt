@@ -6,5 +6,7 @@ pub mod CountLemmas
 pub mod RoomLemmas
 pub mod StockLemmas
 pub mod StuckLemmas
+pub mod TrackLemmas
+pub mod TallyLemmas
 pub mod TakenLemmas
 pub mod Examples

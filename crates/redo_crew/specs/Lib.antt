@@ -1,2 +1,7 @@
 pub mod Word
 pub mod Runs
+pub mod Tally
+pub mod Tracks
+pub mod Deeds
+pub mod Crews
+pub mod Offers

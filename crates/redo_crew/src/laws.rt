@@ -1,7 +1,8 @@
 //! Laws of the owner and its workers, as a machine. Each is the contract of a function that does nothing. Of the
-//! running code it is proved that the word keeps its rule at each moment, and that a step of
-//! [`Counts`](crate::Counts) is the machine's. That the threads make the other moves, and in the machine's order,
-//! isn't proved.
+//! running code it is proved that the word is what the steps of the threads make of it, that a step of
+//! [`Counts`](crate::Counts) is the machine's, which of them each call takes.
+//! That the threads make the moves on the relay, the channel of pieces and the board, and in the machine's order, isn't
+//! proved.
 
 ghost use Rattle.std.specs.Prelude.{◌≡◌, ℕ, ◌+◌, ◌*◌, ◌<◌, ◌≤◌, List, false, length};
 ghost use Rattle.redo_crew.specs.Word.{IsKept, most_workers, out_for_each, places};

@@ -4,7 +4,7 @@ ghost use Rattle.std.specs.Prelude.{◌≡◌, ◌≤◌, [], length, map, vec_c
 
 use crate::observer::Observer;
 use crossbeam_channel::Sender;
-use redo_crew::{Crew, Looking};
+use redo_crew::{Ended, Looking};
 use redo_sync::{JobTaker, Numbered, Taken};
 use std::snapshot::Snapshot;
 use std::sync::Wait;
@@ -36,7 +36,6 @@ pub(crate) type WorkerHandle<J> = PromisedHandle<JobTaker<J>, OwnTaker<J>>;
 pub(crate) struct Shared<'s, R, O> {
     pub rt: &'s R,
     pub observer: &'s O,
-    pub crew: &'s Crew,
 }
 
 /// The job to which a worker, or the owner, has a right. Others may be faster at the one it looks at, but as many wait as
@@ -55,31 +54,33 @@ pub(crate) fn claimed<J: Numbered + Drop, R: Wait>(rt: &R, taker: &mut JobTaker<
 /// Takes jobs and sends what they came to, until the run is over. Then nobody reads what is sent.
 pub(crate) fn work<J: Advance<M, O>, M: Drop, R: Wait, O: Observer>(
     shared: Shared<'_, R, O>,
-    looking: Looking,
+    looking: Looking<'_>,
     mut taker: JobTaker<J>,
     pieces: Sender<M>,
 ) -> JobTaker<J>
     ensures { result.relay ≡ taker.relay }
 {
-    let Shared { rt, observer, crew } = shared;
-    let mut next = crew.find(rt, looking);
+    let Shared { rt, observer } = shared;
+    let mut next = looking.find(rt);
     'jobs: for _ in rt.forever() {
-        let Some(holding) = next else {
+        let Ok(holding) = next else {
             break;
         };
         let job = claimed(rt, &mut taker);
         let _ = pieces.send(rt, job.advance(observer));
-        next = match crew.back(rt, holding) {
-            Some(looking) => crew.find(rt, looking),
-            None => None,
+        next = match holding.back(rt) {
+            Ok(looking) => looking.find(rt),
+            Err(leaving) => Err(leaving),
         };
     }
     taker
 }
 
-/// Waits for all workers to end, and returns their takers in `takers`, which has room for them.
+/// Waits for all workers to end, once they are told that the run is over. Returns their takers in `takers`, which has
+/// room for them.
 pub(crate) fn join_all<J: Numbered + Drop, R: Threads>(
     rt: &R,
+    _ended: &Ended<'_>,
     handles: Vec<WorkerHandle<J>>,
     mut takers: Vec<JobTaker<J>>,
 ) -> Vec<JobTaker<J>>

@@ -147,7 +147,7 @@ fn build_newest<'s, E, B: BuildBrand + Send + Sync + 's, R: Threads + Wait + Syn
 {
     let is_for_worker = owner.give_newest(pool.observer, pool.most_out)?;
     if is_for_worker {
-        match pool.crew.offer(pool.rt) {
+        match pool.lead.offer(pool.rt) {
             Offer::Called => return Ok(()),
             Offer::Hire(looking) => return Ok(pool.start(looking)?),
             Offer::Spared => {
@@ -188,7 +188,7 @@ fn turn<'s, E, B: BuildBrand + Send + Sync + 's, R: Threads + Wait + Sync, O: Ob
         build_newest(owner, pool)?;
         return Ok(true);
     }
-    if pool.crew.claim(pool.rt) {
+    if pool.lead.claim(pool.rt) {
         owner.pace.forget_trial();
         owner.advance_claimed(pool.rt, pool.observer)?;
         return Ok(true);

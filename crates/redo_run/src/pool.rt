@@ -8,7 +8,7 @@ ghost use Rattle.redo_run.specs.inside.Workers.{IsManned};
 use crate::crew::{Advance, OwnTaker, Shared, WorkerHandle, join_all, work};
 use crate::observer::Observer;
 use crossbeam_channel::{Receiver, Sender};
-use redo_crew::{Crew, Looking, OUT_FOR_EACH, PLACES};
+use redo_crew::{Lead, Looking, OUT_FOR_EACH, PLACES};
 use redo_sync::{JobTaker, Numbered};
 use std::alloc::{AllocError, Global};
 use std::snapshot::Snapshot;
@@ -22,7 +22,8 @@ pub(crate) struct Pool<'r, 's, E, J: Numbered + Drop, M: Drop, R, O> {
     pub scope: &'r Scope<'s, E>,
     pub rt: &'s R,
     pub observer: &'s O,
-    pub crew: &'s Crew,
+    /// The owner's part in the crew of these workers.
+    pub lead: Lead<'s>,
     /// Where workers send their pieces, and where the owner reads them.
     pub sender: Sender<M>,
     pub pieces: Receiver<M>,
@@ -53,6 +54,7 @@ impl<'r, 's, E, J: Numbered + Drop, M: Drop, R: Threads + Wait, O> Pool<'r, 's, 
     pub fn new(
         scope: &'r Scope<'s, E>,
         shared: Shared<'s, R, O>,
+        lead: Lead<'s>,
         alloc: Global,
         takers: Vec<JobTaker<J>>,
     ) -> Result<Pool<'r, 's, E, J, M, R, O>, AllocError>
@@ -61,14 +63,14 @@ impl<'r, 's, E, J: Numbered + Drop, M: Drop, R: Threads + Wait, O> Pool<'r, 's, 
         ensures none_started { IfOk result (λ pool. pool.handles.items ≡ []) }
         ensures most_out { IfOk result (λ pool. pool.most_out ≡ length takers.items * out_for_each) }
     {
-        let Shared { rt, observer, crew } = shared;
+        let Shared { rt, observer } = shared;
         let (sender, pieces) = channel(alloc)?;
         let most_out = most_out(takers.len());
         Ok(Pool {
             scope,
             rt,
             observer,
-            crew,
+            lead,
             sender,
             pieces,
             idle: takers,
@@ -89,15 +91,15 @@ impl<'r, 's, E, J: Numbered + Drop, M: Drop, R: Threads + Wait, O> Pool<'r, 's, 
             scope: _,
             rt,
             observer: _,
-            crew,
+            lead,
             sender: _,
             pieces: _,
             mut idle,
             handles,
             most_out: _,
         } = self;
-        crew.end(rt);
-        let mut takers = join_all(rt, handles, back);
+        let ended = lead.end(rt);
+        let mut takers = join_all(rt, &ended, handles, back);
         takers.append(&mut idle)?;
         Ok(takers)
     }
@@ -113,7 +115,7 @@ impl<
     O: Observer,
 > Pool<'r, 's, E, J, M, R, O> {
     /// Starts one more worker, which looks for a job. Fails if there is no memory, or no thread can be started.
-    pub fn start(&mut self, looking: Looking) -> Result<(), AllocError>
+    pub fn start(&mut self, looking: Looking<'s>) -> Result<(), AllocError>
         ensures manned { OnOk result ((relay : RelayId) (count : ℕ) →
             IsManned relay count self.old.idle.items (map (λ h. h.promise.0.value.relay) self.old.handles.items) →
             IsManned relay count self.new.idle.items (map (λ h. h.promise.0.value.relay) self.new.handles.items)) }
@@ -128,7 +130,6 @@ impl<
         let shared = Shared {
             rt: self.rt,
             observer: self.observer,
-            crew: self.crew,
         };
         self.handles.reserve(1)?;
         let promise = OwnTaker(Snapshot::of(&taker));

@@ -28,7 +28,7 @@ use crate::run_fault::RunFault;
 use redo_build::laws::counts_tell;
 use redo_core::board::{Board, Stop};
 use redo_core::laws::what_was_taken;
-use redo_crew::Crew;
+use redo_crew::{Crew, Lead};
 use redo_past::{Past, RunReport};
 use redo_path::Path;
 use redo_report::Report;
@@ -80,6 +80,7 @@ fn answer_of<B: BuildBrand, R: Threads + Wait + Sync>(
 fn run_crew<'s, E, B: BuildBrand + Send + Sync + 's, R: Threads + Wait + Sync, O: Observer>(
     scope: &Scope<'s, E>,
     shared: Shared<'s, R, O>,
+    lead: Lead<'s>,
     alloc: Global,
     mut owner: Owner<B>,
     takers: Vec<JobTaker<JobOf<B>>>,
@@ -91,7 +92,7 @@ fn run_crew<'s, E, B: BuildBrand + Send + Sync + 's, R: Threads + Wait + Sync, O
     ensures too_many { result ≡ Err Stop.TooMany → NeedsMany owner }
 {
     let back = Vec::with_capacity(alloc, takers.len())?;
-    let mut pool = Pool::new(scope, shared, alloc, takers)?;
+    let mut pool = Pool::new(scope, shared, lead, alloc, takers)?;
     let ended = own(&mut owner, &mut pool);
     let takers = pool.end(back);
     ended?;
@@ -114,6 +115,7 @@ fn run_crew<'s, E, B: BuildBrand + Send + Sync + 's, R: Threads + Wait + Sync, O
 /// through a channel.
 fn run_in_scope<B: BuildBrand + Send + Sync, R: Threads + Wait + Sync, O: Observer>(
     shared: Shared<'_, R, O>,
+    lead: Lead<'_>,
     alloc: Global,
     owner: Owner<B>,
     takers: Vec<JobTaker<JobOf<B>>>,
@@ -124,7 +126,7 @@ fn run_in_scope<B: BuildBrand + Send + Sync, R: Threads + Wait + Sync, O: Observ
     requires taken { HasTaken owner.board owner.source.given }
     ensures too_many { result ≡ Err Stop.TooMany → NeedsMany owner }
 {
-    let Shared { rt, observer, crew } = shared;
+    let Shared { rt, observer } = shared;
     let (out, left) = crossbeam_channel::bounded(alloc, 1)?;
     thread::scope(
         thread::scope_env(),
@@ -134,8 +136,8 @@ fn run_in_scope<B: BuildBrand + Send + Sync, R: Threads + Wait + Sync, O: Observ
                 AreOtherTakers owner takers.items × HasTaken owner.board owner.source.given }
             ensures { result ≡ Err Stop.TooMany → NeedsMany owner }
         {
-            let shared = Shared { rt, observer, crew };
-            let ended = run_crew(scope, shared, alloc, owner, takers)?;
+            let shared = Shared { rt, observer };
+            let ended = run_crew(scope, shared, lead, alloc, owner, takers)?;
             hand_out(rt, &out, ended);
             Ok(())
         },
@@ -170,13 +172,13 @@ fn run_build<B: BuildBrand + Send + Sync, R: Threads + Wait + Sync, O: Observer>
         taker,
         pace: Pace::new(),
     };
-    let crew = Crew::new((workers - 1) as u8);
+    let (crew, first) = Crew::new(host.alloc, (workers - 1) as u8)?;
+    let lead = Lead::new(&crew, first);
     let shared = Shared {
         rt: host.rt,
         observer: host.observer,
-        crew: &crew,
     };
-    let ended = run_in_scope(shared, host.alloc, owner, takers)?;
+    let ended = run_in_scope(shared, lead, host.alloc, owner, takers)?;
     answer_of(host.rt, host.alloc, ended, workers)
 }
 
