@@ -5,7 +5,7 @@ use Rattle.redo_crew.specs.Runs.Stage.{Decides, Gave, Hires, Claims, Advances, S
 use Rattle.redo_crew.specs.Runs.Move.{Give, Spare, Call, Hire, Start, Keep, Claim, Pick_up, Hand_in, Receive, Stop, Break, Close, Take, Steal, Send, Return, Rest, Wake, Leave}
 use Rattle.redo_crew.proofs.RunLemmas.{at, is_at_job}
 
-less : (most : ℕ) (move : Move) (stage : Stage) (s : State) → IsAt most move stage (at stage s) →
+pub less : (most : ℕ) (move : Move) (stage : Stage) (s : State) → IsAt most move stage (at stage s) →
     cost (moved move (at stage s)) < cost (at stage s)
 less most (Give left) Decides s h = omega (arith, h.1)
 less most Spare Gave s h = omega arith

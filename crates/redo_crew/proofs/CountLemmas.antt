@@ -73,7 +73,7 @@ counted workers most Leave Stops s h few k e = absurd (true≢false e)
 counted workers most _ _ s h few k e = absurd h
 
 -- no more sleepers are called than there are
-few_called : (most : ℕ) (move : Move) (stage : Stage) (s : State) → IsAt most move stage (at stage s) →
+pub few_called : (most : ℕ) (move : Move) (stage : Stage) (s : State) → IsAt most move stage (at stage s) →
     s.word.calls ≤ s.word.asleep → (moved move (at stage s)).word.calls ≤ (moved move (at stage s)).word.asleep
 few_called most Call Gave s h few = let some = h.1.1.2 in omega (arith, some)
 few_called most Rest stage s h few = omega (arith, few)

@@ -7,6 +7,7 @@ pub mod RoomLemmas
 pub mod StockLemmas
 pub mod StuckLemmas
 pub mod TrackLemmas
+pub mod BellLemmas
 pub mod TallyLemmas
 pub mod TakenLemmas
 pub mod Examples

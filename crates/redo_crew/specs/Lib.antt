@@ -1,5 +1,6 @@
 pub mod Word
 pub mod Runs
+pub mod Bell
 pub mod Tally
 pub mod Tracks
 pub mod Deeds

@@ -1,13 +1,14 @@
 //! Laws of the owner and its workers, as a machine. Each is the contract of a function that does nothing. Of the
 //! running code it is proved that the word is what the steps of the threads make of it, that a step of
-//! [`Counts`](crate::Counts) is the machine's, which of them each call takes.
+//! [`Counts`](crate::Counts) is the machine's, which of them each call takes, and that its rings are as the machine's.
 //! That the threads make the moves on the relay, the channel of pieces and the board, and in the machine's order, isn't
 //! proved.
 
-ghost use Rattle.std.specs.Prelude.{◌≡◌, ℕ, ◌+◌, ◌*◌, ◌<◌, ◌≤◌, List, false, length};
+ghost use Rattle.std.specs.Prelude.{◌≡◌, ℕ, ◌+◌, ◌*◌, ◌<◌, ◌≤◌, List, false, length, true};
 ghost use Rattle.redo_crew.specs.Word.{IsKept, most_workers, out_for_each, places};
 ghost use Rattle.redo_crew.specs.Runs.{AreOwn, CanMove, IsOwn, Leads, Move, State, cost, opening, out};
-ghost use Rattle.redo_crew.specs.Runs.Move.{Pick_up, Return, Send, Steal};
+ghost use Rattle.redo_crew.specs.Bell.{Act, Belled, Brings, CanAct, IsOwnAct, moves_of, opened};
+ghost use Rattle.redo_crew.specs.Runs.Move.{Pick_up, Return, Send, Steal, Wake};
 ghost use Rattle.redo_crew.specs.Runs.Stage.{Claims, Ended};
 
 /// However the steps of the threads fall, there are no more of them than the opening costs: nine for each job that may
@@ -81,4 +82,45 @@ pub fn what_is_given_is_taken()
     ensures { (workers ready left : ℕ) (moves : List Move) (s : State) → AreOwn moves →
         Leads (workers * out_for_each) moves (opening workers ready left) s → s.stage ≡ Ended →
         (out s ≡ 0) × (s.queued ≡ 0) × (s.ready ≡ 0) }
+{}
+
+/// The machine with its bell makes the machine's moves, and no others; it gets on wherever the machine does; and there
+/// are at most three acts for each move that a run may have.
+pub fn the_bell_stops_nobody()
+    ensures moves { (workers ready left : ℕ) (acts : List Act) (b : Belled) →
+        Brings (workers * out_for_each) acts (opened workers ready left) b →
+        Leads (workers * out_for_each) (moves_of acts) (opening workers ready left) b.state }
+    ensures goes_on { (workers ready left : ℕ) (acts : List Act) (b : Belled) → ready ≤ left →
+        Brings (workers * out_for_each) acts (opened workers ready left) b → (b.state.stage ≡ Ended → ⊥) →
+        (act : Act) × IsOwnAct act × CanAct (workers * out_for_each) act b }
+    ensures bounded { (workers ready left : ℕ) (acts : List Act) (b : Belled) →
+        Brings (workers * out_for_each) acts (opened workers ready left) b →
+        length acts ≤ 3 * (9 * left + workers + 2) }
+{}
+
+/// Until the run is over, each call of the word is one ring: the owner is about to send it, it lies in the channel, or a
+/// sleeper has heard it and is about to wake. Then each sleeper that hasn't left has one.
+pub fn each_call_is_a_ring()
+    ensures going { (workers ready left : ℕ) (acts : List Act) (b : Belled) →
+        Brings (workers * out_for_each) acts (opened workers ready left) b → b.state.word.over ≡ false →
+        b.state.word.calls ≡ b.owed + b.rings + b.heard }
+    ensures over { (workers ready left : ℕ) (acts : List Act) (b : Belled) →
+        Brings (workers * out_for_each) acts (opened workers ready left) b → b.state.word.over ≡ true →
+        b.state.word.asleep ≡ b.owed + b.rings + b.heard + b.gone }
+{}
+
+/// Until the run is over, whoever has heard a ring may wake.
+pub fn who_has_heard_may_wake()
+    ensures { (workers ready left : ℕ) (acts : List Act) (b : Belled) →
+        Brings (workers * out_for_each) acts (opened workers ready left) b → b.state.word.over ≡ false → 0 < b.heard →
+        CanMove (workers * out_for_each) Wake b.state }
+{}
+
+/// There is room for each ring, and behind each ring in the channel somebody sleeps who has heard none.
+pub fn each_ring_is_heard()
+    ensures room { (workers ready left : ℕ) (acts : List Act) (b : Belled) → workers ≤ most_workers →
+        Brings (workers * out_for_each) acts (opened workers ready left) b → 0 < b.owed → b.rings < most_workers }
+    ensures sleeper { (workers ready left : ℕ) (acts : List Act) (b : Belled) →
+        Brings (workers * out_for_each) acts (opened workers ready left) b → 0 < b.rings →
+        b.heard + b.gone < b.state.word.asleep }
 {}
