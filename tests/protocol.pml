@@ -1,6 +1,7 @@
 /* The owner of a board and its workers: how they share out jobs, sleep, are called, and come to their end. It follows
- * owner.rt, pool.rt, crew.rt and workers.rt of redo_run, crew.rt and counts.rt of redo_crew, and the event count of
- * crossbeam_utils step by step. tests/protocol lists the runs.
+ * owner.rt, pool.rt, crew.rt and workers.rt of redo_run, and lead.rt, worker.rt, member.rt and counts.rt of redo_crew
+ * step by step. What the kit's channel does is one step: a ring that is sent, and one that is heard. tests/protocol lists
+ * the runs.
  *
  *   N        workers beside the owner, one fewer than `-j` says
  *   J        how many jobs become ready at most
@@ -13,9 +14,9 @@
  *            1    a worker goes to sleep though a job waits
  *            2    a call is spared though nobody looks
  *            3    the end is told to nobody
- *            4    a sleeper doesn't look for a call, or for the end, after it has said that it listens
+ *            4    a sleeper that has heard a ring doesn't look for the end
  *            5    three jobs may be out for each worker, with places for two
- *            6    the bell doesn't move its epoch
+ *            6    a call is rung twice
  *            7    the bell is rung before the call stands in the word
  *            8    the owner takes a job that it has offered, without a claim
  *            9    a worker that is started is still counted as one that isn't
@@ -47,8 +48,8 @@
 /* The word. */
 byte waiting = 0, looking = 0, asleep = 0, calls = 0, holding = 0, unborn = N;
 bool over = false;
-/* The event count, and who is parked in the kernel, a bit for each worker. */
-byte epoch = 0, waiters = 0, parked = 0;
+/* Rings in the channel, and those that the owner has to send because the run is over. */
+byte rings = 0, owed = 0;
 /* How many jobs were taken out of the relay, and put into it. */
 byte front = 0, back = 0;
 /* What is on its way to the owner: pieces, and messages that memory was refused. */
@@ -58,9 +59,9 @@ byte ready = 0, out = 0, later = J;
 /* Threads that were started and haven't ended. */
 byte running = 0;
 bool is_refused = false, has_ended = false;
-/* For assertions alone: jobs that workers have or have a right to, jobs that the owner has, and whether it has called a
- * sleeper and not rung yet. */
-byte carried = 0, own = 0;
+/* For assertions alone: jobs that workers have or have a right to, jobs that the owner has, sleepers that have heard a
+ * ring and neither woken nor left, those that have left, and whether the owner has called a sleeper and not rung yet. */
+byte carried = 0, own = 0, heard = 0, gone = 0;
 bool is_to_ring = false;
 
 /* What holds of the word at each moment: `IsKept` of redo_crew. */
@@ -73,9 +74,10 @@ bool is_to_ring = false;
 /* Each job that is out is somewhere. */
 #define COUNTED assert(out == own + waiting + carried + pieces + refusals)
 
-/* For each call that was rung for there is a sleeper that isn't parked, and comes to hear it. */
-#define PARKED ((parked & 1) + ((parked >> 1) & 1) + ((parked >> 2) & 1))
-#define HEARD assert(over || calls + PARKED <= asleep + is_to_ring)
+/* Each call is one ring. Once the run is over, there is a ring for each sleeper that hasn't left. */
+#define HEARD \
+  assert(over || calls == is_to_ring + rings + heard); \
+  assert(!over || asleep == is_to_ring + owed + rings + heard + gone)
 
 /* Takes a step of the word, if it may happen. `done` tells whether it did. */
 #if FINE
@@ -109,33 +111,15 @@ bool is_to_ring = false;
 #define MAY_BE_REFUSED skip
 #endif
 
-/* `notify_one` and `notify_all`. */
-inline wake_one() {
-  if
-  :: parked == 0
-  :: parked & 1 -> parked = parked & 6
-  :: parked & 2 -> parked = parked & 5
-  :: parked & 4 -> parked = parked & 3
-  fi
-}
-inline wake_all() { parked = 0 }
+/* Rings for the sleeper that was called. There is a place for the ring. */
 #if BAD == 6
-#define MOVE_EPOCH skip
+#define RING atomic { rings = rings + 2; is_to_ring = false; HEARD }
 #else
-#define MOVE_EPOCH epoch++
+#define RING atomic { assert(rings < N); rings++; is_to_ring = false; HEARD }
 #endif
-#define RING(wake) \
-  if \
-  :: waiters > 0 -> MOVE_EPOCH; atomic { wake(); is_to_ring = false; HEARD } \
-  :: atomic { else -> is_to_ring = false; HEARD } \
-  fi
-
-/* What a sleeper looks for. */
-#define LOOK_FOR_A_CALL STEP(calls > 0, calls--; asleep--; looking++)
 
 proctype worker(byte me) {
   bool done = false, is_short = false;
-  byte key = 0;
 #if FINE
   byte at = 0;
   short seen = 0;
@@ -149,31 +133,18 @@ finds:
   STEP(waiting == 0 && looking > 0, looking--; asleep++);
 #endif
   if :: atomic { done -> done = false; goto sleeps } :: else fi;
-looks_for_the_end:
   if :: atomic { over -> goto ends } :: atomic { else -> goto finds } fi;
 
 sleeps:
+  atomic { rings > 0 -> rings--; heard++; HEARD };
+  STEP(calls > 0, calls--; asleep--; looking++; heard--; HEARD);
+  if :: atomic { done -> done = false; goto finds } :: else fi;
 #if BAD == 4
-  LOOK_FOR_A_CALL;
-  if :: atomic { done -> done = false; goto looks_for_the_end } :: else fi;
-  if :: atomic { over -> goto ends } :: else fi;
-  waiters++;
-  key = epoch;
+  goto sleeps;
 #else
-  waiters++;
-  key = epoch;
-  LOOK_FOR_A_CALL;
-  if :: atomic { done -> done = false; key = 0; waiters--; goto looks_for_the_end } :: else fi;
-  if :: atomic { over -> key = 0; waiters--; goto ends } :: else fi;
+  /* whoever has heard a ring may wake, unless the run is over */
+  atomic { over -> heard--; gone++; HEARD; goto ends };
 #endif
-  do
-  :: atomic { epoch != key -> break }
-  :: else ->
-     /* the kernel compares and parks in one */
-     atomic { if :: epoch == key -> parked = parked | (1 << me); HEARD :: else fi };
-     (parked & (1 << me)) == 0
-  od;
-  atomic { key = 0; waiters--; goto sleeps };
 
 has_right:
   TAKE_OUT;
@@ -244,7 +215,7 @@ builds:
   back++;
   if :: atomic { is_for_worker -> is_for_worker = false } :: atomic { else -> goto has_right } fi;
 #if BAD == 7
-  RING(wake_one);
+  RING;
 #endif
   STEP(true, OFFER);
   done = false;
@@ -252,7 +223,7 @@ builds:
 #if BAD == 7
   atomic { is_to_ring = false; HEARD };
 #else
-  if :: is_to_ring -> RING(wake_one) :: else fi;
+  if :: is_to_ring -> RING :: else fi;
 #endif
   if
   :: atomic { is_hired -> is_hired = false };
@@ -285,10 +256,12 @@ hands_in:
   goto turns;
 
 stops:
+#if BAD == 3
   STEP(true, over = true);
-#if BAD != 3
-  RING(wake_all);
+#else
+  STEP(true, over = true; owed = asleep - calls; HEARD);
 #endif
+  do :: owed > 0 -> atomic { assert(rings < N); owed--; rings++; HEARD } :: else -> break od;
   running == 0;
   assert(is_refused || (ready == 0 && out == 0 && waiting == 0 && front == back));
   has_ended = true
