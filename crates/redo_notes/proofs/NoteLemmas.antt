@@ -13,10 +13,14 @@ abbrev pub seen : List (Bor (List ℕ) × Bor Entry) → Tree
 seen es = map (λ e. (e.0.now, node_of e.1.now)) es
 
 -- it depends on whether the entry's own path was asked for
-pub same-note : (sources : Tree) (asked others : List ℕ → Bool) (e : List ℕ × Node) → asked e.0 ≡ others e.0 → unbuilt_at sources asked e ≡ unbuilt_at sources others e
-same-note sources asked others e same =
-    ap (λ b. if is_some (bytes_of e.1) && b then option_map (λ file. record { path = e.0; do_file = file }) (do_file_of sources e.0) else None) same
+pub same-note : (sources : Tree) (asked others known : List ℕ → Bool) (e : List ℕ × Node) → asked e.0 ≡ others e.0 →
+    unbuilt_at sources asked known e ≡ unbuilt_at sources others known e
+same-note sources asked others known e same =
+    ap (λ b. if is_some (bytes_of e.1) && b
+    then option_map (λ file. record { path = e.0; do_file = file; recorded = known e.0 }) (do_file_of sources e.0)
+    else None) same
 
--- the note of one more entry
-pub note-more : (f : List ℕ × Node → Option Unbuilt) (es : Tree) (e : List ℕ × Node) → filter_map f (es ++ e ∷ []) ≡ filter_map f es ++ cons_option (f e) []
+-- the note of one more entry, or its path
+pub note-more : {A : Type 0} (f : List ℕ × Node → Option A) (es : Tree) (e : List ℕ × Node) →
+    filter_map f (es ++ e ∷ []) ≡ filter_map f es ++ cons_option (f e) []
 note-more f es e = filter_map-append f es (e ∷ [])

@@ -9,7 +9,7 @@ use Rattle.redo_which.specs.Rule.{chosen_of}
 use Rattle.redo_record.specs.Progress.{changes}
 use Rattle.redo_record.specs.declared.outcome.Outcome.{Outcome}
 use Rattle.redo_record.specs.declared.outcome.Outcome.TheVariants.{Source, Built, Failed, Cyclic}
-use Rattle.redo_book.specs.Book.{Record, targets_of}
+use Rattle.redo_book.specs.Book.{Record, record_at, targets_of}
 use Rattle.redo_report.specs.declared.report.Report.{Report}
 use Rattle.redo_report.specs.declared.report.Row.{Row}
 use Rattle.redo_past.specs.Past.{PastView, is_generated}
@@ -27,16 +27,29 @@ asks_for path row = is_among (changes (arc_value row.deps)) path
 abbrev pub is_asked : List (List ℕ) → List Row → List ℕ → Bool
 is_asked request rows path = is_among request path || list_any (asks_for path) rows
 
--- a file that was asked for and has a rule, with the rule's .do file
-abbrev pub unbuilt_at : Tree → (List ℕ → Bool) → List ℕ × Node → Option Unbuilt
-unbuilt_at sources asked e =
-    if is_some (bytes_of e.1) && asked e.0 then option_map (λ file. record { path = e.0; do_file = file }) (do_file_of sources e.0)
+-- a file that was asked for and has a rule, with the rule's .do file, and whether it is recorded
+abbrev pub unbuilt_at : Tree → (List ℕ → Bool) → (List ℕ → Bool) → List ℕ × Node → Option Unbuilt
+unbuilt_at sources asked known e =
+    if is_some (bytes_of e.1) && asked e.0
+    then option_map (λ file. record { path = e.0; do_file = file; recorded = known e.0 }) (do_file_of sources e.0)
     else None
+
+-- the book has a record of a path
+abbrev pub has_record : List Record → List ℕ → Bool
+has_record book path = is_some (record_at book path)
 
 -- the sources that were asked for and have a rule, in path order
 abbrev pub unbuilt : PastView → List (List ℕ) → Report → List Unbuilt
 unbuilt past request report =
-    filter_map (unbuilt_at past.sources (is_asked request report.rows.items)) past.sources
+    filter_map (unbuilt_at past.sources (is_asked request report.rows.items) (has_record past.book)) past.sources
+
+-- a file that has a rule
+abbrev pub shadowed_at : Tree → List ℕ × Node → Option (List ℕ)
+shadowed_at sources e = if is_some (bytes_of e.1) && is_some (do_file_of sources e.0) then Some e.0 else None
+
+-- all sources that have a rule, in path order, whether they are asked for or not
+abbrev pub shadowed : PastView → List (List ℕ)
+shadowed past = filter_map (shadowed_at past.sources) past.sources
 
 -- built without a file
 abbrev pub is_bare : Outcome → Bool

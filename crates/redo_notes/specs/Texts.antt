@@ -1,13 +1,22 @@
 -- What is printed of notes.
-use Rattle.std.specs.Prelude.{◌-◌, ◌==◌, ◌++◌, ℕ, List, [], codes, decimal, flat_map, if◌then◌else◌, length, take}
+use Rattle.std.specs.Prelude.{◌-◌, ◌==◌, ◌++◌, Bool, true, false, ℕ, List, [], ◌∷◌, codes, decimal, flat_map, if◌then◌else◌, length, take}
 use Rattle.redo_notes.specs.declared.kinds.Notes.{Notes}
 use Rattle.redo_notes.specs.declared.kinds.Unbuilt.{Unbuilt}
+
+-- what the book tells of a source that has a rule
+abbrev pub known_words : Bool → List ℕ
+known_words true = codes ": it isn't as the last run left it"
+known_words false = codes ": the book has no record of it"
 
 -- the line of a source that has a rule
 abbrev pub unbuilt_line : Unbuilt → List ℕ
 unbuilt_line note =
-    note.path ++ codes ": no run left it so, so it counts as yours and isn't built; remove it to have " ++ note.do_file
-    ++ codes " make it\n"
+    note.path ++ known_words note.recorded ++ codes ", so it counts as yours and isn't built; remove it to have "
+    ++ note.do_file ++ codes " make it\n"
+
+-- the line of a path
+abbrev pub shadowed_line : List ℕ → List ℕ
+shadowed_line path = path ++ 10 ∷ []
 
 -- the line of a target that was built without a file
 abbrev pub unmade_line : List ℕ → List ℕ

@@ -7,11 +7,12 @@ ghost use Rattle.redo_tree.specs.Tree.{node_of};
 ghost use Rattle.redo_book.specs.Book.{record_of};
 ghost use Rattle.redo_past.specs.Past.{is_generated as was_generated};
 ghost use Rattle.redo_notes.specs.Notes.{do_file_of as file_of_rule, is_ruleless as has_no_rule, is_unmade as was_unmade};
+ghost use Rattle.redo_notes.specs.Notes.{has_record as is_recorded, shadowed as shadowed_in, shadowed_at as shadowed_by};
 ghost use Rattle.redo_notes.specs.Notes.{ruleless as ruleless_in, unbuilt as unbuilt_in, unbuilt_at as unbuilt_by, unmade as unmade_in};
 
 use crate::asked::asked_by;
 use crate::kinds::{Notes, Unbuilt};
-use redo_book::BookRecord;
+use redo_book::{Book, BookRecord};
 use redo_names::PathSet;
 use redo_past::Past;
 use redo_path::Path;
@@ -33,23 +34,32 @@ fn do_file_of(alloc: Global, sources: &Tree, path: &Path) -> Result<Option<Path>
     }
 }
 
+/// Whether the book has a record of a path.
+fn has_record(book: &Book, path: &Path) -> bool
+    ensures { result ≡ is_recorded book.now path.now }
+{
+    book.find(path).is_some()
+}
+
 /// The note of an entry of the sources, if it is a file that was asked for and has a rule.
 fn unbuilt_at(
     alloc: Global,
-    sources: &Tree,
+    past: &Past,
     asked: &PathSet,
     path: &Path,
     entry: &Entry,
 ) -> Result<Option<Unbuilt>, AllocError>
-    ensures { IfOk result (λ note. note ≡ unbuilt_by sources.now (is_among asked.now) (path.now, node_of entry.now)) }
+    ensures { IfOk result (λ note. note ≡
+        unbuilt_by past.now.sources (is_among asked.now) (is_recorded past.now.book) (path.now, node_of entry.now)) }
 {
     if !matches!(entry, Entry::File(_)) || !asked.contains(path) {
         return Ok(None);
     }
-    match do_file_of(alloc, sources, path)? {
+    match do_file_of(alloc, past.sources(), path)? {
         Some(do_file) => Ok(Some(Unbuilt {
             path: path.clone()?,
             do_file,
+            recorded: has_record(past.book(), path),
         })),
         None => Ok(None),
     }
@@ -78,13 +88,55 @@ fn unbuilt(
     ensures { IfOk result (λ notes. notes.items ≡ unbuilt_in past.now request.now report.now) }
 {
     let asked = asked_by(alloc, request, &report.rows)?;
-    let sources = past.sources();
     let mut notes = Vec::new(alloc);
-    for (path, entry) in sources.in_order(alloc)? {
-        let note = unbuilt_at(alloc, sources, &asked, path, entry)?;
+    for (path, entry) in past.sources().in_order(alloc)? {
+        let note = unbuilt_at(alloc, past, &asked, path, entry)?;
         add_note(&mut notes, note)?;
     }
     Ok(notes)
+}
+
+/// The path of an entry of the sources, if it is a file that has a rule.
+fn shadowed_at(
+    alloc: Global,
+    sources: &Tree,
+    path: &Path,
+    entry: &Entry,
+) -> Result<Option<Path>, AllocError>
+    ensures { IfOk result (λ found. found ≡ shadowed_by sources.now (path.now, node_of entry.now)) }
+{
+    if !matches!(entry, Entry::File(_)) {
+        return Ok(None);
+    }
+    match do_file_of(alloc, sources, path)? {
+        Some(_) => Ok(Some(path.clone()?)),
+        None => Ok(None),
+    }
+}
+
+/// Adds a path, if there is one.
+fn add_path(paths: &mut Vec<Path>, path: Option<Path>) -> Result<(), AllocError>
+    ensures { OnOk result (paths.new.items ≡ paths.old.items ++ cons_option path []) }
+{
+    match path {
+        Some(path) => {
+            paths.push(path)?;
+            Ok(())
+        }
+        None => Ok(()),
+    }
+}
+
+/// All sources that have a rule, in path order: no build makes them, whoever asks for them.
+pub fn shadowed(alloc: Global, past: &Past) -> Result<Vec<Path>, AllocError>
+    ensures { IfOk result (λ paths. paths.items ≡ shadowed_in past.now) }
+{
+    let mut paths = Vec::new(alloc);
+    for (path, entry) in past.sources().in_order(alloc)? {
+        let found = shadowed_at(alloc, past.sources(), path, entry)?;
+        add_path(&mut paths, found)?;
+    }
+    Ok(paths)
 }
 
 /// Whether a row was built without a file, where the tree has one at its path.

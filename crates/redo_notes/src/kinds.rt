@@ -4,12 +4,14 @@ ghost use Rattle.std.specs.Prelude.{◌≡◌, ◌↔◌, [], IsTrue};
 
 use redo_path::Path;
 
-/// A file that counts as a source, since no run left it so, although a rule would make it.
+/// A file that counts as a source although a rule would make it: by the book no run left it so.
 #[derive(Debug, Drop)]
 pub struct Unbuilt {
     pub path: Path,
     /// The .do file of the rule.
     pub do_file: Path,
+    /// Whether the book has a record of it, as it was left once.
+    pub recorded: bool,
 }
 
 /// What is stale after a build, or soon will be. Each list is in path order.

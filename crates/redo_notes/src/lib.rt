@@ -1,7 +1,8 @@
 //! What is stale after a build, or soon will be.
 //!
 //! [`notes`] compares what a run took over from the last one with what the build came to: files that were taken for
-//! sources although a rule would make them, and files of earlier runs that no run makes any more. The crate stands on
+//! sources although a rule would make them, and files of earlier runs that no run makes any more. [`shadowed`] has all
+//! sources that have a rule, without a build. The crate stands on
 //! redo_past for the former and on redo_report for the latter, on redo_which for the search for a rule, and on the crates
 //! below for what these hold.
 //!
@@ -14,6 +15,6 @@ mod finding;
 mod kinds;
 mod text;
 
-pub use finding::notes;
+pub use finding::{notes, shadowed};
 pub use kinds::{Notes, Unbuilt};
-pub use text::text_of;
+pub use text::{text_of, text_of_shadowed};

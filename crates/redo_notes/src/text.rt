@@ -1,15 +1,14 @@
 //! The lines of notes.
 
 ghost use Rattle.std.specs.Prelude.{◌≡◌, ◌-◌, ◌++◌, IfOk, OnOk, codes, decimal, flat_map, length, string_bytes, take};
-ghost use Rattle.redo_notes.specs.Texts.{more_line, note_lines, ruleless_line, some_lines, unbuilt_line, unmade_line};
+ghost use Rattle.redo_notes.specs.Texts.{known_words, more_line, note_lines, ruleless_line, some_lines, shadowed_line, unbuilt_line, unmade_line};
 
 use crate::kinds::{Notes, Unbuilt};
 use redo_path::Path;
 use std::alloc::{AllocError, Global};
 
 /// What is said of a source that has a rule, before the name of the rule's .do file.
-const UNBUILT: &[u8] =
-    b": no run left it so, so it counts as yours and isn't built; remove it to have ";
+const UNBUILT: &[u8] = b", so it counts as yours and isn't built; remove it to have ";
 
 /// What is said of a target that was built without a file.
 const UNMADE: &[u8] = b": it was built without a file now, but the file of an earlier run stays; \
@@ -56,12 +55,26 @@ fn push_said(text: &mut Vec<u8>, path: &Path, said: &[u8]) -> Result<(), AllocEr
     Ok(())
 }
 
+/// What the book tells of a source that has a rule.
+fn words_of_known(recorded: bool) -> &'static [u8]
+    ensures { result.now ≡ known_words recorded }
+{
+    if recorded {
+        b": it isn't as the last run left it"
+    } else {
+        b": the book has no record of it"
+    }
+}
+
 /// Adds the line of a source that has a rule.
 fn push_unbuilt(text: &mut Vec<u8>, note: &Unbuilt) -> Result<(), AllocError>
     ensures { OnOk result (text.new.items ≡ text.old.items ++ unbuilt_line note.now) }
 {
-    push_said(text, &note.path, UNBUILT)?;
-    push_said(text, &note.do_file, b" make it\n")?;
+    text.extend_from_slice(note.path.text())?;
+    text.extend_from_slice(words_of_known(note.recorded))?;
+    text.extend_from_slice(UNBUILT)?;
+    text.extend_from_slice(note.do_file.text())?;
+    text.extend_from_slice(b" make it\n")?;
     Ok(())
 }
 
@@ -122,5 +135,25 @@ pub fn text_of(alloc: Global, notes: &Notes, most: usize) -> Result<Vec<u8>, All
     push_more(alloc, &mut text, notes.unmade.len(), most)?;
     push_all_ruleless(&mut text, first(&notes.ruleless, most))?;
     push_more(alloc, &mut text, notes.ruleless.len(), most)?;
+    Ok(text)
+}
+
+/// Adds the line of a path.
+fn push_path(text: &mut Vec<u8>, path: &Path) -> Result<(), AllocError>
+    ensures { OnOk result (text.new.items ≡ text.old.items ++ shadowed_line path.now) }
+{
+    text.extend_from_slice(path.text())?;
+    text.extend_from_slice(b"\n")?;
+    Ok(())
+}
+
+/// Paths, one a line.
+pub fn text_of_shadowed(alloc: Global, paths: &[Path]) -> Result<Vec<u8>, AllocError>
+    ensures { IfOk result (λ text. text.items ≡ flat_map shadowed_line paths.now) }
+{
+    let mut text = Vec::new(alloc);
+    for path in paths {
+        push_path(&mut text, path)?;
+    }
     Ok(text)
 }

@@ -3,7 +3,7 @@ use Rattle.std.specs.List.{cons_option}
 use Rattle.std.specs.Prelude.{filter_map}
 use Rattle.redo_names.specs.Paths.{is_among}
 use Rattle.redo_tree.specs.Tree.{Node, node_of}
-use Rattle.redo_notes.specs.Notes.{is_asked, unbuilt_at}
+use Rattle.redo_notes.specs.Notes.{has_record, is_asked, unbuilt_at}
 use Rattle.redo_notes.specs.declared.kinds.Unbuilt.{Unbuilt}
 use Rattle.redo_notes.proofs.NoteLemmas.{note-more, same-note, seen}
 use Rattle.redo_notes.proofs.finding.unbuilt.Goals as goal
@@ -16,11 +16,11 @@ loop-path-preserved c =
     let sources = c.args.past.now.sources in
     let request = c.args.request.now in
     let asked = is_asked request c.args.report.now.rows.items in
-    let f = unbuilt_at sources asked in
+    let kept = has_record c.args.past.now.book in
+    let f = unbuilt_at sources asked kept in
     let known = is_among c.in_ok-asked.asked in
     let told : known e.0 ≡ asked e.0 = c.in_ok-asked.ensures e.0 ∙ ap (λ rows. is_asked request rows e.0) c.deref.ensures.value in
-    let over = c.deref-in-loop-path.ensures ∙ c.sources-sources.ensures.sources in
-    let note = c.in_ok-note.ensures ∙ ap (λ s. unbuilt_at s known e) over ∙ same-note sources known asked e told in
+    let note = c.in_ok-note.ensures ∙ same-note sources known asked kept e told in
     let put = λ (o : Option Unbuilt). filter_map f before.done ++ cons_option o [] in
     record {
       done = before.done ++ e ∷ [];

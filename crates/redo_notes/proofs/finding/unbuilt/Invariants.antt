@@ -1,7 +1,7 @@
 use Rattle.std.proofs.Common.{◌≡◌, ◌++◌}
 use Rattle.std.specs.Prelude.{filter_map}
 use Rattle.redo_tree.specs.Tree.{Tree}
-use Rattle.redo_notes.specs.Notes.{is_asked, unbuilt_at}
+use Rattle.redo_notes.specs.Notes.{has_record, is_asked, unbuilt_at}
 use Rattle.redo_notes.proofs.NoteLemmas.{seen}
 use Rattle.redo_notes.proofs.finding.unbuilt.Given as goal
 
@@ -10,5 +10,5 @@ abbrev pub invariant-loop-path : goal.invariant-loop-path
 invariant-loop-path l = record {
   done : Tree;
   split : l.past.sources ≡ done ++ seen l.path-iterator;
-  found : l.notes.items ≡ filter_map (unbuilt_at l.past.sources (is_asked l.request l.report.rows.items)) done;
+  found : l.notes.items ≡ filter_map (unbuilt_at l.past.sources (is_asked l.request l.report.rows.items) (has_record l.past.book)) done;
 }

@@ -1,9 +1,0 @@
-use Rattle.std.proofs.Common.{◌∙◌, ◌++◌, ap, codes}
-use Rattle.redo_notes.proofs.TextLemmas.{two-said}
-use Rattle.redo_notes.proofs.text.push_unbuilt.Goals as goal
-
-pub returns : goal.returns
-returns c =
-    let note = c.args.note.now in
-    c.in_ok-push_said-2.ensures ∙ ap (λ text. text ++ note.do_file ++ codes " make it\n") c.in_ok-push_said.ensures
-    ∙ two-said c.args.text.now.items note.path (codes ": no run left it so, so it counts as yours and isn't built; remove it to have ") note.do_file (codes " make it\n")
