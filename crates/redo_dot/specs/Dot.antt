@@ -15,11 +15,13 @@ use Rattle.redo_which.specs.Candidates.{is_do_file}
 
 -- Names
 
--- what stands for a byte between quotes: `"` would end the name, `\` begin an escape, and `&` an entity of the label
+-- what stands for a byte between quotes: `"` would end the name, `\` begin an escape, and `&` an entity of the label; a
+-- name that begins with `%` is drawn as another, since graphviz gives such names to nodes without one
 abbrev pub plain_byte : ℕ → List ℕ
 plain_byte byte =
     if byte == 34 then 92 ∷ 34 ∷ [] else
     if byte == 92 then 92 ∷ 92 ∷ [] else
+    if byte == 37 then codes "&#37;" else
     if byte == 38 then codes "&amp;" else byte ∷ []
 
 -- the entity of the character with this number

@@ -23,6 +23,7 @@ fn push_plain(text: &mut Vec<u8>, byte: u8) -> Result<(), AllocError>
     match byte {
         b'"' => text.extend_from_slice(b"\\\""),
         b'\\' => text.extend_from_slice(b"\\\\"),
+        b'%' => text.extend_from_slice(b"&#37;"),
         b'&' => text.extend_from_slice(b"&amp;"),
         _ => text.extend_from_slice(&[byte]),
     }
